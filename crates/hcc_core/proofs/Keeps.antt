@@ -1,0 +1,195 @@
+-- Every outcome keeps the law: a step that is allowed leads from a lawful world to a lawful one.
+use Rattle.std.proofs.Common.{◌≡◌, ℕ, ◌+◌, ◌-◌, ◌&&◌, ◌==◌, nat_lt, nat_le, Bool, true, false, cond, not, List, [], ◌∷◌, Option, Some, None, Result, Ok, Err, slice_get, slice_set, refl, sym, ap, ◌∙◌}
+use Rattle.std.specs.Option.{ok_or}
+use Rattle.hcc_core.specs.declared.limits.TheConstants.{MOST_USAGE}
+use Rattle.hcc_core.specs.declared.state.Client.{Client}
+use Rattle.hcc_core.specs.declared.state.Slot.{Slot}
+use Rattle.hcc_core.specs.declared.state.Slot.TheVariants as slots
+use Rattle.hcc_core.specs.declared.event.CoreError.{CoreError}
+use Rattle.hcc_core.specs.declared.event.CoreError.TheVariants.{NoSuchSlot, NoSuchClient, NotAllowed, OutOfMemory}
+use Rattle.hcc_core.specs.declared.event.Event.{Event}
+use Rattle.hcc_core.specs.declared.event.Event.TheVariants as events
+use Rattle.hcc_core.specs.declared.event.Reply.{Reply}
+use Rattle.hcc_core.specs.World.{State, references_of, reference_in, is_placed, usage_of}
+use Rattle.hcc_core.specs.Steps.{Outcome, ◌>>=◌, allow, slot_at, client_at, live_at, holding, start_of, look_of, acquire_of, may_acquire, give_of, use_of, occupied, occupy_of, owns_nothing, show_of, built_by, may_show, hide_of, free_of, may_free, empty_of, freed_by, has_no_member, write_of, is_building, read_of, entry_read, enter_of, is_absent, slots_of, charge_by, settle_of, in_range, rule_of, outcome_of, Follows}
+use Rattle.hcc_core.specs.Lawful.{Lawful, IsLawful}
+use Rattle.hcc_core.proofs.Opening.{lawful_is, is_lawful}
+use Rattle.hcc_core.proofs.LawfulReferences.{lawful_start, lawful_look, lawful_acquire, lawful_give, lawful_use, lawful_hide}
+use Rattle.hcc_core.proofs.LawfulEntries.{lawful_occupy, lawful_show, lawful_free, lawful_empty}
+use Rattle.hcc_core.proofs.LawfulLedgers.{lawful_enter, lawful_slots, lawful_charge, lawful_settle}
+
+-- the world after is lawful, where the step is made
+abbrev pub KeepsLaw : Outcome → Type 0
+KeepsLaw (Ok done) = Lawful done.1
+KeepsLaw (Err error) = Unit {0}
+
+-- a reading on the way, and what it found
+chain : {A : Type 0} (r : Result A CoreError) (f : A → Outcome) → ((x : A) → r ≡ Ok x → KeepsLaw (f x)) → KeepsLaw (r >>= f)
+chain (Ok x) f h = h x refl
+chain (Err e) f h = tt
+
+found_ok : {A : Type 0} (o : Option A) (e : CoreError) (x : A) → ok_or o e ≡ Ok x → o ≡ Some x
+found_ok None e x h = cc
+found_ok (Some y) e x h = cc
+
+allowed_is : (b : Bool) (y x : Client) → (allow b >>= λ live. Ok y) ≡ Ok x → y ≡ x
+allowed_is true y x h = cc
+allowed_is false y x h = cc
+
+live_found : (o : Option Client) (x : Client)
+    → (ok_or o NoSuchClient >>= λ found. allow found.live >>= λ live. Ok found) ≡ Ok x → o ≡ Some x
+live_found None x h = cc
+live_found (Some y) x h = ap Some (allowed_is y.live y x h)
+
+live_ok : (w : State) (client : ℕ) (x : Client) → live_at w client ≡ Ok x → slice_get w.clients client ≡ Some x
+live_ok w client x h = live_found (slice_get w.clients client) x h
+
+may_ok : (b : Bool) (u : Unit {0}) → allow b ≡ Ok u → b ≡ true
+may_ok true u h = refl
+may_ok false u h = cc
+
+start_keeps : (w : State) (client : ℕ) → Lawful w → KeepsLaw (start_of w client)
+start_keeps w client l =
+    chain (client_at w client) _ (λ found at. chain (allow (not found.live)) _ (λ u may.
+    lawful_start w client found l (found_ok _ _ found at)))
+
+look_keeps : (w : State) (client slot : ℕ) → Lawful w → KeepsLaw (look_of w client slot)
+look_keeps w client slot l =
+    chain (slot_at w slot) _ (λ seen at. chain (live_at w client) _ (λ found live.
+    lawful_look w client slot found seen l (found_ok _ _ seen at) (live_ok w client found live)))
+
+acquire_keeps : (w : State) (client slot weight name : ℕ) → Lawful w → KeepsLaw (acquire_of w client slot weight name)
+unfolding acquire_of
+acquire_keeps w client slot weight name l =
+    chain (slot_at w slot) _ (λ seen at. chain (live_at w client) _ (λ found live.
+    chain (allow (may_acquire w.setup w.slots client found slot seen weight name)) _ (λ u may.
+    lawful_acquire w client slot weight name found seen l (found_ok _ _ seen at) (live_ok w client found live) (may_ok _ u may))))
+
+give_keeps : (w : State) (client name : ℕ) → Lawful w → KeepsLaw (give_of w client name)
+unfolding give_of
+give_keeps w client name l =
+    chain (live_at w client) _ (λ found live. chain (holding w client name) _ (λ slot held. chain (slot_at w slot) _ (λ seen at.
+    lawful_give w client name slot found seen l (found_ok _ _ seen at) (live_ok w client found live))))
+
+use_keeps : (w : State) (client name : ℕ) → Lawful w → KeepsLaw (use_of w client name)
+unfolding use_of
+use_keeps w client name l =
+    chain (live_at w client) _ (λ found live. chain (holding w client name) _ (λ slot held. chain (slot_at w slot) _ (λ seen at.
+    chain (ok_or (reference_in client name (references_of seen)) NotAllowed) _ (λ k there. chain (allow k.counting) _ (λ u counts.
+    lawful_use w client name slot found seen k l (found_ok _ _ seen at) (live_ok w client found live)
+        (found_ok _ _ k there) (may_ok _ u counts))))))
+
+occupied_keeps : (w : State) (client slot : ℕ) (found : Client) (seen : Slot) → Lawful w
+    → slice_get w.slots slot ≡ Some seen → slice_get w.clients client ≡ Some found → owns_nothing found.owned ≡ true
+    → KeepsLaw (occupied w client found slot seen)
+occupied_keeps w client slot found (slots.Empty strays) l at_slot at_client free = lawful_occupy w client slot strays found l at_slot at_client free
+occupied_keeps w client slot found (slots.Building other strays) l at_slot at_client free = look_keeps w client slot l
+occupied_keeps w client slot found (slots.Shareable r) l at_slot at_client free = look_keeps w client slot l
+
+occupy_keeps : (w : State) (client slot : ℕ) → Lawful w → KeepsLaw (occupy_of w client slot)
+occupy_keeps w client slot l =
+    chain (slot_at w slot) _ (λ seen at. chain (live_at w client) _ (λ found live. chain (allow (owns_nothing found.owned)) _ (λ u free.
+    occupied_keeps w client slot found seen l (found_ok _ _ seen at) (live_ok w client found live) (may_ok _ u free))))
+
+show_keeps : (w : State) (client key0 key1 charge countdown : ℕ) (name : Option ℕ) (value : List ℕ) → Lawful w
+    → KeepsLaw (show_of w client key0 key1 charge countdown name value)
+unfolding show_of
+show_keeps w client key0 key1 charge countdown name value l =
+    chain (live_at w client) _ (λ found live. chain (ok_or (built_by found.owned) NotAllowed) _ (λ slot builds.
+    chain (allow (may_show w.slots client found charge countdown name)) _ (λ u may.
+    lawful_show w client slot key0 key1 charge countdown name value found l (live_ok w client found live)
+        (found_ok _ _ slot builds) (may_ok _ u may))))
+
+hide_keeps : (w : State) (client name : ℕ) → Lawful w → KeepsLaw (hide_of w client name)
+unfolding hide_of
+hide_keeps w client name l =
+    chain (live_at w client) _ (λ found live. chain (holding w client name) _ (λ slot held. chain (slot_at w slot) _ (λ seen at.
+    lawful_hide w client slot found seen l (found_ok _ _ seen at) (live_ok w client found live))))
+
+free_keeps : (w : State) (client slot : ℕ) (name : Option ℕ) → Lawful w → KeepsLaw (free_of w client slot name)
+unfolding free_of
+free_keeps w client slot name l =
+    chain (slot_at w slot) _ (λ seen at. chain (live_at w client) _ (λ found live. chain (allow (may_free client found seen name)) _ (λ u may.
+    lawful_free w client slot name found seen l (found_ok _ _ seen at) (live_ok w client found live) (may_ok _ u may))))
+
+empty_keeps : (w : State) (client : ℕ) → Lawful w → KeepsLaw (empty_of w client)
+unfolding empty_of
+empty_keeps w client l =
+    chain (live_at w client) _ (λ found live. chain (ok_or (freed_by found.owned) NotAllowed) _ (λ slot frees.
+    chain (allow (has_no_member found.trail)) _ (λ u back.
+    lawful_empty w client slot found l (live_ok w client found live) (found_ok _ _ slot frees))))
+
+write_keeps : (w : State) (client : ℕ) → Lawful w → KeepsLaw (write_of w client)
+write_keeps w client l =
+    chain (live_at w client) _ (λ found live. chain (allow (is_building found.owned)) _ (λ u builds. l))
+
+read_keeps : (w : State) (client name : ℕ) → Lawful w → KeepsLaw (read_of w client name)
+unfolding read_of
+read_keeps w client name l =
+    chain (live_at w client) _ (λ found live. chain (holding w client name) _ (λ slot held. chain (slot_at w slot) _ (λ seen at.
+    chain (entry_read seen) _ (λ entry is. l))))
+
+enter_keeps : (w : State) (client : ℕ) → Lawful w → KeepsLaw (enter_of w client)
+unfolding enter_of
+enter_keeps w client l =
+    chain (live_at w client) _ (λ found live. chain (allow (is_absent found.place)) _ (λ u absent.
+    lawful_enter w client found l (live_ok w client found live) (may_ok _ u absent)))
+
+charge_keeps : (w : State) (client charge : ℕ) → Lawful w → KeepsLaw (charge_by w client charge)
+unfolding charge_by
+charge_keeps w client charge l =
+    chain (live_at w client) _ (λ found live.
+    chain (allow (found.granted == 0 && found.needed == 0 && nat_le (usage_of w + charge) MOST_USAGE)) _ (λ u may.
+    lawful_charge w client charge found l (live_ok w client found live) (may_ok _ u may)))
+
+slots_keeps : (w : State) (client : ℕ) → Lawful w → KeepsLaw (slots_of w client)
+unfolding slots_of
+slots_keeps w client l =
+    chain (live_at w client) _ (λ found live. chain (allow (nat_lt 0 found.freed_slots)) _ (λ u some.
+    lawful_slots w client found l (live_ok w client found live) (may_ok _ u some)))
+
+settle_keeps : (w : State) (client : ℕ) → Lawful w → KeepsLaw (settle_of w client)
+unfolding settle_of
+settle_keeps w client l =
+    chain (live_at w client) _ (λ found live. chain (allow (nat_lt 0 found.freed && nat_le found.needed found.freed)) _ (λ u may.
+    lawful_settle w client found l (live_ok w client found live) (may_ok _ u may)))
+
+rule_keeps : (w : State) (event : Event) → Lawful w → KeepsLaw (rule_of w event)
+rule_keeps w (events.Start client) l = start_keeps w client l
+rule_keeps w (events.Look client slot) l = look_keeps w client slot l
+rule_keeps w (events.Acquire client slot weight name) l = acquire_keeps w client slot weight name l
+rule_keeps w (events.Give client name) l = give_keeps w client name l
+rule_keeps w (events.Use client name) l = use_keeps w client name l
+rule_keeps w (events.Occupy client slot) l = occupy_keeps w client slot l
+rule_keeps w (events.Show client key0 key1 charge countdown name value) l = show_keeps w client key0 key1 charge countdown name value l
+rule_keeps w (events.Hide client name) l = hide_keeps w client name l
+rule_keeps w (events.Free client slot name) l = free_keeps w client slot name l
+rule_keeps w (events.Empty client) l = empty_keeps w client l
+rule_keeps w (events.Write client) l = write_keeps w client l
+rule_keeps w (events.Read client name) l = read_keeps w client name l
+rule_keeps w (events.Enter client) l = enter_keeps w client l
+rule_keeps w (events.Charge client charge) l = charge_keeps w client charge l
+rule_keeps w (events.Slots client) l = slots_keeps w client l
+rule_keeps w (events.Settle client) l = settle_keeps w client l
+
+if_keeps : (b : Bool) (outcome : Outcome) → KeepsLaw outcome → KeepsLaw (cond b outcome (Err NotAllowed))
+if_keeps true outcome h = h
+if_keeps false outcome h = tt
+
+-- any event that is allowed keeps a lawful world lawful
+pub outcome_keeps : (w : State) (event : Event) → Lawful w → KeepsLaw (outcome_of w event)
+unfolding outcome_of
+outcome_keeps w event l = if_keeps (in_range event) (rule_of w event) (rule_keeps w event l)
+
+ok_lawful : (outcome : Outcome) (reply : Reply) (new : State) → KeepsLaw outcome → outcome ≡ Ok (reply, new) → Lawful new
+ok_lawful (Ok done) reply new l h = let e : done ≡ (reply, new) = cc in rw (ap (λ (d : Reply × State). d.1) e) at l
+ok_lawful (Err error) reply new l h = cc
+
+-- what follows an outcome is lawful
+pub follows_lawful : (w : State) (event : Event) (result : Result Reply CoreError) (new : State) → IsLawful w
+    → Follows (outcome_of w event) w result new → IsLawful new
+follows_lawful w event (Ok reply) new l f = lawful_is new (ok_lawful (outcome_of w event) reply new (outcome_keeps w event (is_lawful w l)) f)
+follows_lawful w event (Err NoSuchSlot) new l f = rw f.1 l
+follows_lawful w event (Err NoSuchClient) new l f = rw f.1 l
+follows_lawful w event (Err NotAllowed) new l f = rw f.1 l
+follows_lawful w event (Err OutOfMemory) new l f = rw f l

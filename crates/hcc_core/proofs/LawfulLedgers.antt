@@ -1,0 +1,145 @@
+-- The events on the ledgers keep a world lawful: enter, slots, charge, settle.
+use Rattle.std.proofs.Common.{◌≡◌, ◌⊎◌, inl, inr, ℕ, zero, suc, ◌+◌, ◌-◌, ◌*◌, ◌/◌, min, ◌<◌, ◌≤◌, ◌&&◌, ◌||◌, ◌==◌, Bool, true, false, cond, not, nat_le, nat_lt, is_none, List, [], ◌∷◌, ◌++◌, Option, Some, None, length, slice_set, slice_get, refl, ap, sym, ◌∙◌, arith}
+use Rattle.std.proofs.lemmas.List.{length-set}
+use Rattle.std.proofs.lemmas.Option.{slice_get_within}
+use Rattle.std.proofs.lemmas.Bool.{and_parts, or_cases, leb-true, ltb-true, eqb-true, false≢true, cases_eq, ne_eqb}
+use Rattle.hcc_core.specs.declared.limits.TheConstants.{MOST_WEIGHT, REFERENCES_PER_CLIENT, MOST_CLIENTS, MOST_REFERENCES, NEAR, MOST_USAGE, STAMPS_PER_CLIENT, OCCUPANCY_PERCENT}
+use Rattle.hcc_core.specs.declared.state.Client.{Client}
+use Rattle.hcc_core.specs.declared.state.Reference.{Reference}
+use Rattle.hcc_core.specs.declared.state.Resident.{Resident}
+use Rattle.hcc_core.specs.declared.state.Setup.{Setup}
+use Rattle.hcc_core.specs.declared.state.Stamp.{Stamp}
+use Rattle.hcc_core.specs.declared.state.Owned.{Owned}
+use Rattle.hcc_core.specs.declared.state.Owned.TheVariants as owned
+use Rattle.hcc_core.specs.declared.state.Place.{Place}
+use Rattle.hcc_core.specs.declared.state.Place.TheVariants as places
+use Rattle.hcc_core.specs.declared.state.Slot.{Slot}
+use Rattle.hcc_core.specs.declared.state.Slot.TheVariants as slots
+use Rattle.hcc_core.specs.Sums.{when, total}
+use Rattle.hcc_core.specs.World.{State, is_shareable, strays_of, references_of, uses_of, charge_of, trail_of, taken_by_slot, weight, weight_of, counted, counts_in, reference_in, has_client, slot_holding, charged_to, is_placed, is_granted, occupied_by, usage_of, occupancy_of, limit_of}
+use Rattle.hcc_core.specs.Steps.{with_client, with_both, looked_at, looks_at, client_looked, most_weight, may_acquire, new_reference, slot_acquired, client_acquired, client_noticed, without, slot_given, slot_used, slot_hidden, owns_nothing, built_by, freed_by, may_show, first_uses, first_references, resident_new, client_shown, may_free, is_free_for, has_no_member, client_freeing, is_absent, place_granted, grant_of}
+use Rattle.hcc_core.specs.Lawful.{Lawful, Sized, IsBounded, Bounded, Strayed, Owners, Stamped, Trailed, Ledgers, lookers, owner_of, owner_in, owned_slot, owned_by, stamp_of, stamp_in, stamps_by, taken_by, taken_in}
+use Rattle.hcc_core.proofs.ListLemmas.{read_same, read_here, read_other, set_same}
+use Rattle.hcc_core.proofs.SumLemmas.{total-set, total-append, total-le, total-member}
+use Rattle.hcc_core.proofs.ReferenceLemmas.{without-total, without-le, counted-le, first-weight}
+use Rattle.hcc_core.proofs.LawfulParts.{looking, sized_kept, bounded_set, strayed_client, strayed_both, owners_same, owners_taken, owners_left, stamped_fewer, stamped_shown, trailed_slot, trailed_client, ledgers_client, ledgers_both}
+use Rattle.hcc_core.proofs.LawfulQuiet.{QuietSlot, QuietClient, quiet, in_ledgers}
+
+
+absent_place : (place : Place) → is_absent place ≡ true → (when (is_placed place) 1 ≡ 0) × (when (is_granted place) 1 ≡ 0)
+absent_place places.Absent h = (refl, refl)
+absent_place places.Open h = absurd (false≢true h)
+absent_place places.Granted h = absurd (false≢true h)
+
+granted_is_placed : (place : Place) → when (is_granted place) 1 ≤ when (is_placed place) 1
+granted_is_placed places.Absent = omega arith
+granted_is_placed places.Open = omega arith
+granted_is_placed places.Granted = omega arith
+
+-- the places taken are within the occupancy
+taken-le-occupied : (w : State) → taken_in w.slots w.clients ≤ occupancy_of w
+taken-le-occupied w =
+    let each = total-le taken_by occupied_by w.clients (λ i c h. let one = granted_is_placed c.place in taken_here c one) in
+    omega arith
+  where
+    taken_here : (c : Client) → when (is_granted c.place) 1 ≤ when (is_placed c.place) 1 → taken_by c ≤ occupied_by c
+    taken_here c one = omega arith
+
+-- the place that an enter gets
+place_of : Bool → Place
+place_of room = cond room places.Granted places.Open
+
+enter_ledgers : (w : State) (client : ℕ) (found : Client) (room : Bool) → Ledgers w → slice_get w.clients client ≡ Some found
+    → is_absent found.place ≡ true → nat_lt (occupancy_of w) (limit_of w.setup) ≡ room
+    → Ledgers (with_client w client (record found { place = cond room places.Granted places.Open }))
+enter_ledgers w client found true l at_client absent e =
+    let new : Client = record found { place = places.Granted } in
+    let before = absent_place found.place absent in
+    let ungranted = before.1 in
+    let below : occupancy_of w < limit_of w.setup = ltb-true (occupancy_of w) (limit_of w.setup) e in
+    let within = taken-le-occupied w in
+    record {
+      usage = let u = l.usage in let change = total-set charged_to w.clients client found new at_client in omega arith;
+      places = let change = total-set taken_by w.clients client found new at_client in omega arith;
+    }
+enter_ledgers w client found false l at_client absent e =
+    ledgers_client w client found (record found { place = places.Open }) l at_client (omega arith) (omega arith)
+
+pub lawful_enter : (w : State) (client : ℕ) (found : Client) → Lawful w → slice_get w.clients client ≡ Some found
+    → is_absent found.place ≡ true
+    → Lawful (with_client w client (record found { place = cond (nat_lt (occupancy_of w) (limit_of w.setup)) places.Granted places.Open }))
+lawful_enter w client found l at_client absent =
+    in_ledgers w client found _ l at_client refl refl refl refl
+    (enter_ledgers w client found (nat_lt (occupancy_of w) (limit_of w.setup)) l.ledgers at_client absent refl)
+
+-- an open place takes one of the slots that were freed
+granted_by_slots : (place : Place) (freed : ℕ) → nat_lt 0 freed ≡ true
+    → when (is_granted (place_granted place)) 1 + 0 ≤ when (is_granted place) 1 + freed
+granted_by_slots places.Absent freed some = omega arith
+granted_by_slots places.Open freed some = let one : 0 < freed = ltb-true 0 freed some in omega arith
+granted_by_slots places.Granted freed some = omega arith
+
+pub lawful_slots : (w : State) (client : ℕ) (found : Client) → Lawful w → slice_get w.clients client ≡ Some found
+    → nat_lt 0 found.freed_slots ≡ true
+    → Lawful (with_client w client (record found { freed_slots = 0; place = place_granted found.place }))
+lawful_slots w client found l at_client some =
+    let new : Client = record found { freed_slots = 0; place = place_granted found.place } in
+    in_ledgers w client found new l at_client refl refl refl refl
+    (ledgers_client w client found new l.ledgers at_client (omega arith) (granted_by_slots found.place found.freed_slots some))
+
+-- what is granted at once is no more than what is asked
+pub grant-le : (setup : Setup) (usage charge : ℕ) → grant_of setup usage charge ≤ charge
+grant-le setup usage charge = by setup.strict
+  where
+    by : (strict : Bool) → cond strict (min charge (setup.capacity - min usage setup.capacity)) charge ≤ charge
+    by true = omega arith
+    by false = omega arith
+
+-- what the test of a charge says
+pub record MayCharge (w : State) (found : Client) (charge : ℕ) : Type 0 where
+  pub nothing_granted : found.granted ≡ 0
+  pub nothing_needed : found.needed ≡ 0
+  pub room : usage_of w + charge ≤ MOST_USAGE
+
+pub may_charge_parts : (w : State) (found : Client) (charge : ℕ)
+    → (found.granted == 0 && found.needed == 0 && nat_le (usage_of w + charge) MOST_USAGE) ≡ true → MayCharge w found charge
+may_charge_parts w found charge h =
+    let a = and_parts _ (nat_le (usage_of w + charge) MOST_USAGE) h in
+    let b = and_parts (found.granted == 0) (found.needed == 0) a.0 in
+    record {
+      nothing_granted = eqb-true found.granted 0 b.0;
+      nothing_needed = eqb-true found.needed 0 b.1;
+      room = leb-true (usage_of w + charge) MOST_USAGE a.1;
+    }
+
+pub lawful_charge : (w : State) (client charge : ℕ) (found : Client) → Lawful w → slice_get w.clients client ≡ Some found
+    → (found.granted == 0 && found.needed == 0 && nat_le (usage_of w + charge) MOST_USAGE) ≡ true
+    → Lawful (with_client w client (record found {
+        granted = grant_of w.setup (usage_of w) charge;
+        needed = charge - grant_of w.setup (usage_of w) charge;
+      }))
+lawful_charge w client charge found l at_client may =
+    let granted : ℕ = grant_of w.setup (usage_of w) charge in
+    let new : Client = record found { granted = granted; needed = charge - granted } in
+    let parts = may_charge_parts w found charge may in
+    let within : granted ≤ charge = grant-le w.setup (usage_of w) charge in
+    in_ledgers w client found new l at_client refl refl refl refl (record {
+      usage =
+        let change = total-set charged_to w.clients client found new at_client in
+        let room = parts.room in
+        let none = parts.nothing_granted in
+        let no_need = parts.nothing_needed in
+        omega arith;
+      places =
+        let before = l.ledgers.places in
+        let change = total-set taken_by w.clients client found new at_client in
+        omega arith;
+    })
+
+pub lawful_settle : (w : State) (client : ℕ) (found : Client) → Lawful w → slice_get w.clients client ≡ Some found
+    → (nat_lt 0 found.freed && nat_le found.needed found.freed) ≡ true
+    → Lawful (with_client w client (record found { granted = found.granted + found.needed; needed = 0; freed = 0 }))
+lawful_settle w client found l at_client may =
+    let new : Client = record found { granted = found.granted + found.needed; needed = 0; freed = 0 } in
+    in_ledgers w client found new l at_client refl refl refl refl
+    (ledgers_client w client found new l.ledgers at_client (omega arith) (omega arith))

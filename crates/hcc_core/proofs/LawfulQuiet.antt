@@ -1,0 +1,84 @@
+-- Changes that move no entry and nothing in hand, and changes within the ledgers alone.
+use Rattle.std.proofs.Common.{◌≡◌, ◌⊎◌, inl, inr, ℕ, zero, suc, ◌+◌, ◌-◌, ◌*◌, ◌/◌, min, ◌<◌, ◌≤◌, ◌&&◌, ◌||◌, ◌==◌, Bool, true, false, cond, not, nat_le, nat_lt, is_none, List, [], ◌∷◌, ◌++◌, Option, Some, None, length, slice_set, slice_get, refl, ap, sym, ◌∙◌, arith}
+use Rattle.std.proofs.lemmas.List.{length-set}
+use Rattle.std.proofs.lemmas.Bool.{and_parts, or_cases, leb-true, ltb-true, false≢true, cases_eq, ne_eqb}
+use Rattle.hcc_core.specs.declared.limits.TheConstants.{MOST_WEIGHT, REFERENCES_PER_CLIENT, MOST_CLIENTS, MOST_REFERENCES, NEAR, MOST_USAGE, STAMPS_PER_CLIENT, OCCUPANCY_PERCENT}
+use Rattle.hcc_core.specs.declared.state.Client.{Client}
+use Rattle.hcc_core.specs.declared.state.Reference.{Reference}
+use Rattle.hcc_core.specs.declared.state.Resident.{Resident}
+use Rattle.hcc_core.specs.declared.state.Setup.{Setup}
+use Rattle.hcc_core.specs.declared.state.Stamp.{Stamp}
+use Rattle.hcc_core.specs.declared.state.Owned.{Owned}
+use Rattle.hcc_core.specs.declared.state.Owned.TheVariants as owned
+use Rattle.hcc_core.specs.declared.state.Place.{Place}
+use Rattle.hcc_core.specs.declared.state.Place.TheVariants as places
+use Rattle.hcc_core.specs.declared.state.Slot.{Slot}
+use Rattle.hcc_core.specs.declared.state.Slot.TheVariants as slots
+use Rattle.hcc_core.specs.Sums.{when, total}
+use Rattle.hcc_core.specs.World.{State, is_shareable, strays_of, references_of, uses_of, charge_of, trail_of, taken_by_slot, weight, weight_of, counted, counts_in, reference_in, has_client, slot_holding, charged_to, is_placed, is_granted, occupied_by, usage_of, occupancy_of, limit_of}
+use Rattle.hcc_core.specs.Steps.{with_client, with_both, looked_at, looks_at, client_looked, most_weight, may_acquire, new_reference, slot_acquired, client_acquired, client_noticed, without, slot_given, slot_used, slot_hidden, owns_nothing, built_by, freed_by, may_show, first_uses, first_references, resident_new, client_shown, may_free, is_free_for, has_no_member, client_freeing, is_absent, place_granted, grant_of}
+use Rattle.hcc_core.specs.Lawful.{Lawful, Sized, IsBounded, Bounded, Strayed, Owners, Stamped, Trailed, Ledgers, lookers, owner_of, owner_in, owned_slot, owned_by, stamp_of, stamp_in, stamps_by, taken_by, taken_in}
+use Rattle.hcc_core.proofs.ListLemmas.{read_same, read_here, set_same}
+use Rattle.hcc_core.proofs.SumLemmas.{total-set, total-append, total-le, total-member}
+use Rattle.hcc_core.proofs.ReferenceLemmas.{without-total, without-le, counted-le, first-weight}
+use Rattle.hcc_core.proofs.LawfulParts.{looking, sized_kept, bounded_set, strayed_client, strayed_both, owners_same, owners_taken, owners_left, stamped_fewer, stamped_shown, trailed_slot, trailed_client, ledgers_client, ledgers_both}
+
+-- A change of one slot that moves no entry, and of one client that moves nothing in hand.
+pub record QuietSlot (seen left : Slot) : Type 0 where
+  pub owner : owner_of left ≡ owner_of seen
+  pub stamp : stamp_of left ≡ stamp_of seen
+  pub trail : trail_of left ≡ trail_of seen
+  pub charge : charge_of left ≡ charge_of seen
+  pub taken : taken_by_slot left ≡ taken_by_slot seen
+
+pub record QuietClient (old new : Client) : Type 0 where
+  pub owned : owned_slot new.owned ≡ owned_slot old.owned
+  pub stamps : new.stamps ≡ old.stamps
+  pub trail : new.trail ≡ old.trail
+  pub charged : charged_to new ≡ charged_to old
+  pub taken : taken_by new ≡ taken_by old
+
+-- one slot and one client change, and neither an entry nor anything in hand moves
+pub quiet : (w : State) (slot client : ℕ) (seen left : Slot) (old new : Client) → Lawful w
+    → slice_get w.slots slot ≡ Some seen → slice_get w.clients client ≡ Some old
+    → QuietSlot seen left → QuietClient old new → IsBounded w.setup left
+    → (strays_of left + 3 * looking new slot ≤ strays_of seen + 3 * looking old slot) ⊎ (strays_of left ≡ 0)
+    → ((s : ℕ) → (s ≡ slot → ⊥) → looking new s ≤ looking old s)
+    → Lawful (with_both w slot left client new)
+quiet w slot client seen left old new l at_slot at_client calm hand bound first fewer = record {
+  sized = sized_kept w _ _ l.sized (length-set w.slots slot left) (length-set w.clients client new);
+  bounded = bounded_set w.setup w.slots slot left l.bounded bound;
+  strayed = strayed_both w.setup w.slots w.clients slot client seen left old new l.strayed l.sized.client_count at_slot at_client first fewer;
+  owners = owners_same w.slots _ w.clients _ l.owners
+      (λ s. read_same owner_in w.slots slot s seen left at_slot calm.owner)
+      (λ c. read_same owned_by w.clients client c old new at_client hand.owned);
+  stamped = stamped_fewer w.slots _ w.clients _ l.stamped
+      (λ s m h. sym (read_same stamp_in w.slots slot s seen left at_slot calm.stamp) ∙ h)
+      (λ c. read_same stamps_by w.clients client c old new at_client hand.stamps);
+  trailed =
+    let entry = l.trailed.entries slot seen at_slot in
+    let own = l.trailed.hands client old at_client in
+    trailed_client _ _ _ client new (trailed_slot _ _ _ slot left l.trailed (rw calm.trail entry)) (rw hand.trail own);
+  ledgers =
+    let charge = calm.charge in
+    let charged = hand.charged in
+    let taken = calm.taken in
+    let places = hand.taken in
+    ledgers_both w slot client seen left old new l.ledgers at_slot at_client (omega arith) (omega arith);
+}
+
+-- one client changes in its amounts or its place, within the ledgers
+pub in_ledgers : (w : State) (client : ℕ) (old new : Client) → Lawful w → slice_get w.clients client ≡ Some old
+    → new.looked ≡ old.looked → new.owned ≡ old.owned → new.stamps ≡ old.stamps → new.trail ≡ old.trail
+    → Ledgers (with_client w client new) → Lawful (with_client w client new)
+in_ledgers w client old new l at_client looked owned stamps trail ledgers = record {
+  sized = sized_kept w _ _ l.sized refl (length-set w.clients client new);
+  bounded = l.bounded;
+  strayed = strayed_client w.setup w.slots w.clients client old new l.strayed at_client (λ s. rw looked (omega arith));
+  owners = owners_same w.slots _ w.clients _ l.owners (λ s. refl)
+      (λ c. read_same owned_by w.clients client c old new at_client (ap owned_slot owned));
+  stamped = stamped_fewer w.slots _ w.clients _ l.stamped (λ s m h. h)
+      (λ c. read_same stamps_by w.clients client c old new at_client stamps);
+  trailed = trailed_client _ _ _ client new l.trailed (rw trail (l.trailed.hands client old at_client));
+  ledgers = ledgers;
+}

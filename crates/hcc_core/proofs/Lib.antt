@@ -1,0 +1,12 @@
+pub mod ListLemmas
+pub mod SumLemmas
+pub mod ReaderLemmas
+pub mod ReferenceLemmas
+pub mod LawfulParts
+pub mod LawfulQuiet
+pub mod LawfulReferences
+pub mod LawfulEntries
+pub mod LawfulLedgers
+pub mod Opening
+pub mod Keeps
+pub mod Readable

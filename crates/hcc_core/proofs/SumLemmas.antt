@@ -1,0 +1,54 @@
+-- Laws of sums over lists.
+use Rattle.std.proofs.Common.{◌≡◌, ℕ, zero, suc, ◌+◌, ◌<◌, ◌≤◌, drop, length, get_or, add-one, List, [], ◌∷◌, ◌++◌, Option, Some, None, slice_get, slice_set, sum_by, replicate, refl, sym, ◌∙◌, ap, arith}
+use Rattle.std.proofs.lemmas.List.Sums.{sum_by-cons}
+use Rattle.hcc_core.specs.Sums.{when, total}
+
+-- std's sum of a chain is the total
+pub sum_by_total : {X : Type 0} (f : X → ℕ) (xs : List X) → sum_by f xs ≡ total f xs
+sum_by_total f [] = refl
+sum_by_total f (x ∷ xs) = sum_by-cons f x xs ∙ ap (λ n. f x + n) (sum_by_total f xs)
+
+-- a change of one member changes the total by that member's change
+pub total-set : {X : Type 0} (f : X → ℕ) (xs : List X) (i : ℕ) (old new : X)
+    → slice_get xs i ≡ Some old → total f (slice_set xs i new) + f old ≡ total f xs + f new
+total-set f [] i old new h = cc
+total-set f (x ∷ xs) zero old new h = let e : f x ≡ f old = ap f (let q : x ≡ old = cc in q) in omega arith
+total-set f (x ∷ xs) (suc i) old new h = let rest = total-set f xs i old new h in omega arith
+
+pub total-append : {X : Type 0} (f : X → ℕ) (xs ys : List X) → total f (xs ++ ys) ≡ total f xs + total f ys
+total-append f [] ys = omega arith
+total-append f (x ∷ xs) ys = let rest = total-append f xs ys in omega arith
+
+-- a total of nothing but zeros
+pub total-zero : {X : Type 0} (f : X → ℕ) (n : ℕ) (x : X) → f x ≡ 0 → total f (replicate n x) ≡ 0
+total-zero f zero x h = refl
+total-zero f (suc n) x h = let rest = total-zero f n x h in omega arith
+
+-- one total is within another where each member is
+pub total-le : {X : Type 0} (f g : X → ℕ) (xs : List X)
+    → ((i : ℕ) (x : X) → slice_get xs i ≡ Some x → f x ≤ g x) → total f xs ≤ total g xs
+total-le f g [] h = omega arith
+total-le f g (x ∷ xs) h =
+    let first = h 0 x refl in
+    let rest = total-le f g xs (λ i y e. h (suc i) y e) in
+    omega arith
+
+-- a member is within the total
+pub total-member : {X : Type 0} (f : X → ℕ) (xs : List X) (i : ℕ) (x : X) → slice_get xs i ≡ Some x → f x ≤ total f xs
+total-member f [] i x h = cc
+total-member f (y ∷ ys) zero x h = let e : f y ≡ f x = ap f (let q : y ≡ x = cc in q) in omega arith
+total-member f (y ∷ ys) (suc i) x h = let rest = total-member f ys i x h in omega arith
+
+-- the rest of a list from one member on
+pub total-drop : {X : Type 0} (f : X → ℕ) (xs : List X) (i : ℕ) (x : X)
+    → i < length xs → x ≡ get_or xs i x → total f (drop i xs) ≡ f x + total f (drop (i + 1) xs)
+total-drop f [] i x h e = absurd (omega arith)
+total-drop f (y ∷ ys) zero x h e = rw e refl
+total-drop f (y ∷ ys) (suc i) x h e = rw (add-one, total-drop f ys i x (omega arith) e) (rw add-one refl)
+
+-- nothing is left behind the last member
+pub total-none : {X : Type 0} (f : X → ℕ) (xs : List X) (i : ℕ) → length xs ≤ i → total f (drop i xs) ≡ 0
+total-none f [] zero h = refl
+total-none f [] (suc i) h = refl
+total-none f (y ∷ ys) zero h = absurd (omega arith)
+total-none f (y ∷ ys) (suc i) h = total-none f ys i (omega arith)

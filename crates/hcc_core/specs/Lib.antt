@@ -1,0 +1,4 @@
+pub mod Sums
+pub mod World
+pub mod Steps
+pub mod Lawful
