@@ -1,8 +1,8 @@
 -- Every outcome keeps the law: a step that is allowed leads from a lawful world to a lawful one.
-use Rattle.std.proofs.Common.{◌≡◌, ℕ, ◌+◌, ◌-◌, ◌&&◌, ◌==◌, nat_lt, nat_le, Bool, true, false, cond, not, List, [], ◌∷◌, Option, Some, None, Result, Ok, Err, slice_get, slice_set, refl, sym, ap, ◌∙◌}
+use Rattle.std.proofs.Common.{◌≡◌, ℕ, nat_lt, Bool, true, false, cond, not, List, Option, Some, None, Result, Ok, Err, slice_get, refl, sym, ap, ◌∙◌}
 use Rattle.std.specs.Option.{ok_or}
-use Rattle.hcc_core.specs.declared.limits.TheConstants.{MOST_USAGE}
 use Rattle.hcc_core.specs.declared.state.Client.{Client}
+use Rattle.hcc_core.specs.declared.state.Reference.{Reference}
 use Rattle.hcc_core.specs.declared.state.Slot.{Slot}
 use Rattle.hcc_core.specs.declared.state.Slot.TheVariants as slots
 use Rattle.hcc_core.specs.declared.event.CoreError.{CoreError}
@@ -10,8 +10,8 @@ use Rattle.hcc_core.specs.declared.event.CoreError.TheVariants.{NoSuchSlot, NoSu
 use Rattle.hcc_core.specs.declared.event.Event.{Event}
 use Rattle.hcc_core.specs.declared.event.Event.TheVariants as events
 use Rattle.hcc_core.specs.declared.event.Reply.{Reply}
-use Rattle.hcc_core.specs.World.{State, references_of, reference_in, is_placed, usage_of}
-use Rattle.hcc_core.specs.Steps.{Outcome, ◌>>=◌, allow, slot_at, client_at, live_at, holding, start_of, look_of, acquire_of, may_acquire, give_of, use_of, occupied, occupy_of, owns_nothing, show_of, built_by, may_show, hide_of, free_of, may_free, empty_of, freed_by, has_no_member, write_of, is_building, read_of, entry_read, enter_of, is_absent, slots_of, charge_by, settle_of, in_range, rule_of, outcome_of, Follows}
+use Rattle.hcc_core.specs.World.{State, references_of, reference_in, usage_of}
+use Rattle.hcc_core.specs.Steps.{Outcome, ◌>>=◌, allow, slot_at, client_at, live_at, holding, start_of, look_of, acquire_of, may_acquire, give_of, use_of, counting_in, if_counting, occupied, occupy_of, owns_nothing, show_of, built_by, may_show, hide_of, free_of, may_free, empty_of, freed_by, has_no_member, write_of, is_building, read_of, entry_read, enter_of, is_absent, slots_of, charge_by, may_charge, settle_of, may_settle, in_range, rule_of, outcome_of, Follows}
 use Rattle.hcc_core.specs.Lawful.{Lawful, IsLawful}
 use Rattle.hcc_core.proofs.Opening.{lawful_is, is_lawful}
 use Rattle.hcc_core.proofs.LawfulReferences.{lawful_start, lawful_look, lawful_acquire, lawful_give, lawful_use, lawful_hide}
@@ -71,13 +71,22 @@ give_keeps w client name l =
     chain (live_at w client) _ (λ found live. chain (holding w client name) _ (λ slot held. chain (slot_at w slot) _ (λ seen at.
     lawful_give w client name slot found seen l (found_ok _ _ seen at) (live_ok w client found live))))
 
+-- a counting reference is that reference, and counts
+pub counting-is : (o : Option Reference) (k : Reference) → if_counting o ≡ Some k → (o ≡ Some k) × (k.counting ≡ true)
+counting-is None k h = cc
+counting-is (Some j) k h = by j.counting refl h
+  where
+    by : (b : Bool) → j.counting ≡ b → cond b (Some j) None ≡ Some k → (Some j ≡ Some k) × (k.counting ≡ true)
+    by true counts h = let e : j ≡ k = cc in (h, ap (λ (r : Reference). r.counting) (sym e) ∙ counts)
+    by false counts h = cc
+
 use_keeps : (w : State) (client name : ℕ) → Lawful w → KeepsLaw (use_of w client name)
 unfolding use_of
 use_keeps w client name l =
     chain (live_at w client) _ (λ found live. chain (holding w client name) _ (λ slot held. chain (slot_at w slot) _ (λ seen at.
-    chain (ok_or (reference_in client name (references_of seen)) NotAllowed) _ (λ k there. chain (allow k.counting) _ (λ u counts.
-    lawful_use w client name slot found seen k l (found_ok _ _ seen at) (live_ok w client found live)
-        (found_ok _ _ k there) (may_ok _ u counts))))))
+    chain (ok_or (counting_in client name (references_of seen)) NotAllowed) _ (λ k there.
+    let counts = counting-is (reference_in client name (references_of seen)) k (found_ok _ _ k there) in
+    lawful_use w client name slot found seen k l (found_ok _ _ seen at) (live_ok w client found live) counts.0 counts.1))))
 
 occupied_keeps : (w : State) (client slot : ℕ) (found : Client) (seen : Slot) → Lawful w
     → slice_get w.slots slot ≡ Some seen → slice_get w.clients client ≡ Some found → owns_nothing found.owned ≡ true
@@ -98,7 +107,7 @@ show_keeps w client key0 key1 charge countdown name value l =
     chain (live_at w client) _ (λ found live. chain (ok_or (built_by found.owned) NotAllowed) _ (λ slot builds.
     chain (allow (may_show w.slots client found charge countdown name)) _ (λ u may.
     lawful_show w client slot key0 key1 charge countdown name value found l (live_ok w client found live)
-        (found_ok _ _ slot builds) (may_ok _ u may))))
+    (found_ok _ _ slot builds) (may_ok _ u may))))
 
 hide_keeps : (w : State) (client name : ℕ) → Lawful w → KeepsLaw (hide_of w client name)
 unfolding hide_of
@@ -138,8 +147,7 @@ enter_keeps w client l =
 charge_keeps : (w : State) (client charge : ℕ) → Lawful w → KeepsLaw (charge_by w client charge)
 unfolding charge_by
 charge_keeps w client charge l =
-    chain (live_at w client) _ (λ found live.
-    chain (allow (found.granted == 0 && found.needed == 0 && nat_le (usage_of w + charge) MOST_USAGE)) _ (λ u may.
+    chain (live_at w client) _ (λ found live. chain (allow (may_charge found (usage_of w) charge)) _ (λ u may.
     lawful_charge w client charge found l (live_ok w client found live) (may_ok _ u may)))
 
 slots_keeps : (w : State) (client : ℕ) → Lawful w → KeepsLaw (slots_of w client)
@@ -151,7 +159,7 @@ slots_keeps w client l =
 settle_keeps : (w : State) (client : ℕ) → Lawful w → KeepsLaw (settle_of w client)
 unfolding settle_of
 settle_keeps w client l =
-    chain (live_at w client) _ (λ found live. chain (allow (nat_lt 0 found.freed && nat_le found.needed found.freed)) _ (λ u may.
+    chain (live_at w client) _ (λ found live. chain (allow (may_settle found)) _ (λ u may.
     lawful_settle w client found l (live_ok w client found live) (may_ok _ u may)))
 
 rule_keeps : (w : State) (event : Event) → Lawful w → KeepsLaw (rule_of w event)

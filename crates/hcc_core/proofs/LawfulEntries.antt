@@ -1,30 +1,23 @@
 -- The events that move entries keep a world lawful: occupy, show, free, empty.
-use Rattle.std.proofs.Common.{◌≡◌, ◌⊎◌, inl, inr, ℕ, zero, suc, ◌+◌, ◌-◌, ◌*◌, ◌/◌, min, ◌<◌, ◌≤◌, ◌&&◌, ◌||◌, ◌==◌, Bool, true, false, cond, not, nat_le, nat_lt, is_none, List, [], ◌∷◌, ◌++◌, Option, Some, None, length, slice_set, slice_get, refl, ap, sym, ◌∙◌, arith}
+use Rattle.std.proofs.Common.{◌≡◌, inl, inr, ℕ, ◌<◌, ◌≤◌, ◌==◌, true, nat_le, nat_lt, List, Option, Some, None, slice_set, slice_get, refl, ap, sym, ◌∙◌, arith}
 use Rattle.std.proofs.lemmas.List.{length-set}
 use Rattle.std.proofs.lemmas.Option.{slice_get_within}
-use Rattle.std.proofs.lemmas.Bool.{and_parts, or_cases, leb-true, ltb-true, eqb-true, false≢true, cases_eq, ne_eqb}
-use Rattle.hcc_core.specs.declared.limits.TheConstants.{MOST_WEIGHT, REFERENCES_PER_CLIENT, MOST_CLIENTS, MOST_REFERENCES, NEAR, MOST_USAGE, STAMPS_PER_CLIENT, OCCUPANCY_PERCENT}
+use Rattle.std.proofs.lemmas.Bool.{and_parts, leb-true, ltb-true, false≢true, cases_eq}
+use Rattle.hcc_core.specs.declared.limits.TheConstants.{MOST_WEIGHT, STAMPS_PER_CLIENT}
 use Rattle.hcc_core.specs.declared.state.Client.{Client}
-use Rattle.hcc_core.specs.declared.state.Reference.{Reference}
-use Rattle.hcc_core.specs.declared.state.Resident.{Resident}
 use Rattle.hcc_core.specs.declared.state.Setup.{Setup}
 use Rattle.hcc_core.specs.declared.state.Stamp.{Stamp}
 use Rattle.hcc_core.specs.declared.state.Owned.{Owned}
 use Rattle.hcc_core.specs.declared.state.Owned.TheVariants as owned
 use Rattle.hcc_core.specs.declared.state.Place.{Place}
-use Rattle.hcc_core.specs.declared.state.Place.TheVariants as places
 use Rattle.hcc_core.specs.declared.state.Slot.{Slot}
 use Rattle.hcc_core.specs.declared.state.Slot.TheVariants as slots
-use Rattle.hcc_core.specs.Sums.{when, total}
-use Rattle.hcc_core.specs.World.{State, is_shareable, strays_of, references_of, uses_of, charge_of, trail_of, taken_by_slot, weight, weight_of, counted, counts_in, reference_in, has_client, slot_holding, charged_to, is_placed, is_granted, occupied_by, usage_of, occupancy_of, limit_of}
-use Rattle.hcc_core.specs.Steps.{with_client, with_both, looked_at, looks_at, client_looked, most_weight, may_acquire, new_reference, slot_acquired, client_acquired, client_noticed, without, slot_given, slot_used, slot_hidden, owns_nothing, built_by, freed_by, may_show, first_uses, first_references, resident_new, client_shown, may_free, is_free_for, has_no_member, client_freeing, is_absent, place_granted, grant_of}
-use Rattle.hcc_core.specs.Lawful.{Lawful, Sized, IsBounded, Bounded, Strayed, Owners, Stamped, Trailed, Ledgers, lookers, owner_of, owner_in, owned_slot, owned_by, stamp_of, stamp_in, stamps_by, taken_by, taken_in}
-use Rattle.hcc_core.proofs.ListLemmas.{read_same, read_here, read_other, set_same}
-use Rattle.hcc_core.proofs.SumLemmas.{total-set, total-append, total-le, total-member}
-use Rattle.hcc_core.proofs.ReferenceLemmas.{without-total, without-le, counted-le, first-weight}
-use Rattle.hcc_core.proofs.LawfulParts.{looking, sized_kept, bounded_set, strayed_client, strayed_both, owners_same, owners_taken, owners_left, stamped_fewer, stamped_shown, trailed_slot, trailed_client, ledgers_client, ledgers_both}
-use Rattle.hcc_core.proofs.LawfulQuiet.{QuietSlot, QuietClient, quiet, in_ledgers}
-
+use Rattle.hcc_core.specs.Sums.{when}
+use Rattle.hcc_core.specs.World.{State, is_shareable, stamp_of, references_of, charge_of, taken_by_slot, is_granted}
+use Rattle.hcc_core.specs.Steps.{with_both, owns_nothing, built_by, freed_by, may_show, resident_new, client_shown, may_free, is_free_for, has_no_member, client_freeing}
+use Rattle.hcc_core.specs.Lawful.{Lawful, IsBounded, owner_of, owner_in, owned_slot, owned_by, stamp_in, stamps_by}
+use Rattle.hcc_core.proofs.ListLemmas.{read_same, read_here, read_other}
+use Rattle.hcc_core.proofs.LawfulParts.{sized_kept, bounded_set, strayed_both, owners_taken, owners_left, stamped_fewer, stamped_shown, trailed_slot, trailed_client, ledgers_both}
 
 owns_none : (o : Owned) → owns_nothing o ≡ true → owned_slot o ≡ None
 owns_none owned.Nothing h = refl
@@ -154,11 +147,11 @@ lawful_show w client slot key0 key1 charge countdown name value found l at_clien
       stamped = stamped_shown w.slots w.clients slot client seen left found new l.stamped at_slot at_client refl refl;
       trailed = trailed_client _ _ _ client new (trailed_slot _ _ _ slot left l.trailed (l.trailed.hands client found at_client)) (omega arith);
       ledgers =
-        let no_charge = bare.0 in
-        let no_place = bare.1 in
-        let placed = granted_placed found.place parts.placed in
-        let enough = parts.granted in
-        ledgers_both w slot client seen left found new l.ledgers at_slot at_client (omega arith) (omega arith);
+          let no_charge = bare.0 in
+          let no_place = bare.1 in
+          let placed = granted_placed found.place parts.placed in
+          let enough = parts.granted in
+          ledgers_both w slot client seen left found new l.ledgers at_slot at_client (omega arith) (omega arith);
     }
 
 -- what the test of a free says
@@ -215,8 +208,8 @@ lawful_free w client slot name found seen l at_slot at_client may =
           (λ c. read_same stamps_by w.clients client c found new at_client refl);
       trailed = trailed_client _ _ _ client new (trailed_slot _ _ _ slot left l.trailed (omega arith)) (l.trailed.entries slot seen at_slot);
       ledgers =
-        let one = one_place seen parts.shareable in
-        ledgers_both w slot client seen left found new l.ledgers at_slot at_client (omega arith) (omega arith);
+          let one = one_place seen parts.shareable in
+          ledgers_both w slot client seen left found new l.ledgers at_slot at_client (omega arith) (omega arith);
     }
 
 pub lawful_empty : (w : State) (client slot : ℕ) (found : Client) → Lawful w → slice_get w.clients client ≡ Some found

@@ -1,30 +1,18 @@
 -- The events on the ledgers keep a world lawful: enter, slots, charge, settle.
-use Rattle.std.proofs.Common.{◌≡◌, ◌⊎◌, inl, inr, ℕ, zero, suc, ◌+◌, ◌-◌, ◌*◌, ◌/◌, min, ◌<◌, ◌≤◌, ◌&&◌, ◌||◌, ◌==◌, Bool, true, false, cond, not, nat_le, nat_lt, is_none, List, [], ◌∷◌, ◌++◌, Option, Some, None, length, slice_set, slice_get, refl, ap, sym, ◌∙◌, arith}
-use Rattle.std.proofs.lemmas.List.{length-set}
-use Rattle.std.proofs.lemmas.Option.{slice_get_within}
-use Rattle.std.proofs.lemmas.Bool.{and_parts, or_cases, leb-true, ltb-true, eqb-true, false≢true, cases_eq, ne_eqb}
-use Rattle.hcc_core.specs.declared.limits.TheConstants.{MOST_WEIGHT, REFERENCES_PER_CLIENT, MOST_CLIENTS, MOST_REFERENCES, NEAR, MOST_USAGE, STAMPS_PER_CLIENT, OCCUPANCY_PERCENT}
+use Rattle.std.proofs.Common.{◌≡◌, ℕ, ◌+◌, ◌-◌, min, ◌<◌, ◌≤◌, ◌==◌, Bool, true, false, cond, nat_le, nat_lt, Some, slice_get, refl, arith}
+use Rattle.std.proofs.lemmas.Bool.{and_parts, leb-true, ltb-true, eqb-true, false≢true}
+use Rattle.hcc_core.specs.declared.limits.TheConstants.{MOST_USAGE}
 use Rattle.hcc_core.specs.declared.state.Client.{Client}
-use Rattle.hcc_core.specs.declared.state.Reference.{Reference}
-use Rattle.hcc_core.specs.declared.state.Resident.{Resident}
 use Rattle.hcc_core.specs.declared.state.Setup.{Setup}
-use Rattle.hcc_core.specs.declared.state.Stamp.{Stamp}
-use Rattle.hcc_core.specs.declared.state.Owned.{Owned}
-use Rattle.hcc_core.specs.declared.state.Owned.TheVariants as owned
 use Rattle.hcc_core.specs.declared.state.Place.{Place}
 use Rattle.hcc_core.specs.declared.state.Place.TheVariants as places
-use Rattle.hcc_core.specs.declared.state.Slot.{Slot}
-use Rattle.hcc_core.specs.declared.state.Slot.TheVariants as slots
-use Rattle.hcc_core.specs.Sums.{when, total}
-use Rattle.hcc_core.specs.World.{State, is_shareable, strays_of, references_of, uses_of, charge_of, trail_of, taken_by_slot, weight, weight_of, counted, counts_in, reference_in, has_client, slot_holding, charged_to, is_placed, is_granted, occupied_by, usage_of, occupancy_of, limit_of}
-use Rattle.hcc_core.specs.Steps.{with_client, with_both, looked_at, looks_at, client_looked, most_weight, may_acquire, new_reference, slot_acquired, client_acquired, client_noticed, without, slot_given, slot_used, slot_hidden, owns_nothing, built_by, freed_by, may_show, first_uses, first_references, resident_new, client_shown, may_free, is_free_for, has_no_member, client_freeing, is_absent, place_granted, grant_of}
-use Rattle.hcc_core.specs.Lawful.{Lawful, Sized, IsBounded, Bounded, Strayed, Owners, Stamped, Trailed, Ledgers, lookers, owner_of, owner_in, owned_slot, owned_by, stamp_of, stamp_in, stamps_by, taken_by, taken_in}
-use Rattle.hcc_core.proofs.ListLemmas.{read_same, read_here, read_other, set_same}
-use Rattle.hcc_core.proofs.SumLemmas.{total-set, total-append, total-le, total-member}
-use Rattle.hcc_core.proofs.ReferenceLemmas.{without-total, without-le, counted-le, first-weight}
-use Rattle.hcc_core.proofs.LawfulParts.{looking, sized_kept, bounded_set, strayed_client, strayed_both, owners_same, owners_taken, owners_left, stamped_fewer, stamped_shown, trailed_slot, trailed_client, ledgers_client, ledgers_both}
-use Rattle.hcc_core.proofs.LawfulQuiet.{QuietSlot, QuietClient, quiet, in_ledgers}
-
+use Rattle.hcc_core.specs.Sums.{when}
+use Rattle.hcc_core.specs.World.{State, charged_to, is_placed, is_granted, occupied_by, usage_of, occupancy_of, limit_of}
+use Rattle.hcc_core.specs.Steps.{with_client, is_absent, place_granted, grant_of, may_charge, may_settle}
+use Rattle.hcc_core.specs.Lawful.{Lawful, Ledgers, taken_by, taken_in}
+use Rattle.hcc_core.proofs.SumLemmas.{total-set, total-le}
+use Rattle.hcc_core.proofs.LawfulParts.{ledgers_client}
+use Rattle.hcc_core.proofs.LawfulQuiet.{in_ledgers}
 
 absent_place : (place : Place) → is_absent place ≡ true → (when (is_placed place) 1 ≡ 0) × (when (is_granted place) 1 ≡ 0)
 absent_place places.Absent h = (refl, refl)
@@ -102,7 +90,7 @@ pub record MayCharge (w : State) (found : Client) (charge : ℕ) : Type 0 where
   pub room : usage_of w + charge ≤ MOST_USAGE
 
 pub may_charge_parts : (w : State) (found : Client) (charge : ℕ)
-    → (found.granted == 0 && found.needed == 0 && nat_le (usage_of w + charge) MOST_USAGE) ≡ true → MayCharge w found charge
+    → may_charge found (usage_of w) charge ≡ true → MayCharge w found charge
 may_charge_parts w found charge h =
     let a = and_parts _ (nat_le (usage_of w + charge) MOST_USAGE) h in
     let b = and_parts (found.granted == 0) (found.needed == 0) a.0 in
@@ -113,11 +101,11 @@ may_charge_parts w found charge h =
     }
 
 pub lawful_charge : (w : State) (client charge : ℕ) (found : Client) → Lawful w → slice_get w.clients client ≡ Some found
-    → (found.granted == 0 && found.needed == 0 && nat_le (usage_of w + charge) MOST_USAGE) ≡ true
+    → may_charge found (usage_of w) charge ≡ true
     → Lawful (with_client w client (record found {
-        granted = grant_of w.setup (usage_of w) charge;
-        needed = charge - grant_of w.setup (usage_of w) charge;
-      }))
+      granted = grant_of w.setup (usage_of w) charge;
+      needed = charge - grant_of w.setup (usage_of w) charge;
+    }))
 lawful_charge w client charge found l at_client may =
     let granted : ℕ = grant_of w.setup (usage_of w) charge in
     let new : Client = record found { granted = granted; needed = charge - granted } in
@@ -125,19 +113,19 @@ lawful_charge w client charge found l at_client may =
     let within : granted ≤ charge = grant-le w.setup (usage_of w) charge in
     in_ledgers w client found new l at_client refl refl refl refl (record {
       usage =
-        let change = total-set charged_to w.clients client found new at_client in
-        let room = parts.room in
-        let none = parts.nothing_granted in
-        let no_need = parts.nothing_needed in
-        omega arith;
+          let change = total-set charged_to w.clients client found new at_client in
+          let room = parts.room in
+          let none = parts.nothing_granted in
+          let no_need = parts.nothing_needed in
+          omega arith;
       places =
-        let before = l.ledgers.places in
-        let change = total-set taken_by w.clients client found new at_client in
-        omega arith;
+          let before = l.ledgers.places in
+          let change = total-set taken_by w.clients client found new at_client in
+          omega arith;
     })
 
 pub lawful_settle : (w : State) (client : ℕ) (found : Client) → Lawful w → slice_get w.clients client ≡ Some found
-    → (nat_lt 0 found.freed && nat_le found.needed found.freed) ≡ true
+    → may_settle found ≡ true
     → Lawful (with_client w client (record found { granted = found.granted + found.needed; needed = 0; freed = 0 }))
 lawful_settle w client found l at_client may =
     let new : Client = record found { granted = found.granted + found.needed; needed = 0; freed = 0 } in

@@ -1,18 +1,17 @@
 -- How each part of a lawful world is kept. A part that the step leaves alone has a frame law;
 -- the others say what the step owes.
-use Rattle.std.proofs.Common.{◌≡◌, ◌⊎◌, inl, inr, ℕ, zero, suc, ◌+◌, ◌*◌, ◌<◌, ◌≤◌, Bool, true, false, List, [], ◌∷◌, Option, Some, None, length, slice_set, slice_get, refl, ap, sym, ◌∙◌, arith}
+use Rattle.std.proofs.Common.{◌≡◌, ◌⊎◌, inl, inr, ℕ, ◌+◌, ◌*◌, ◌≤◌, Bool, true, false, List, [], ◌∷◌, Option, Some, None, length, slice_set, slice_get, ap, sym, ◌∙◌, arith}
 use Rattle.std.proofs.lemmas.List.{length-set}
-use Rattle.std.proofs.lemmas.Bool.{cases_eq, ne_eqb}
-use Rattle.hcc_core.specs.declared.limits.TheConstants.{MOST_USAGE}
+use Rattle.std.proofs.lemmas.Bool.{cases_eq}
 use Rattle.hcc_core.specs.declared.state.Client.{Client}
 use Rattle.hcc_core.specs.declared.state.Setup.{Setup}
 use Rattle.hcc_core.specs.declared.state.Stamp.{Stamp}
 use Rattle.hcc_core.specs.declared.state.Slot.{Slot}
-use Rattle.hcc_core.specs.Sums.{when, total}
-use Rattle.hcc_core.specs.World.{State, strays_of, charge_of, taken_by_slot, charged_to, trail_of, usage_of, limit_of}
+use Rattle.hcc_core.specs.Sums.{when}
+use Rattle.hcc_core.specs.World.{State, strays_of, charge_of, stamp_of, taken_by_slot, charged_to, trail_of}
 use Rattle.hcc_core.specs.Steps.{looks_at, with_client, with_both}
-use Rattle.hcc_core.specs.Lawful.{Sized, IsBounded, Bounded, Strayed, Owners, Stamped, Trailed, Ledgers, lookers, owner_of, owner_in, owned_slot, owned_by, stamp_of, stamp_in, stamps_by, taken_by, taken_in}
-use Rattle.hcc_core.proofs.ListLemmas.{get_at_set, read_same, read_here, read_other}
+use Rattle.hcc_core.specs.Lawful.{Sized, IsBounded, Bounded, Strayed, Owners, Stamped, Trailed, Ledgers, lookers, owner_of, owner_in, owned_slot, owned_by, stamp_in, stamps_by, taken_by}
+use Rattle.hcc_core.proofs.ListLemmas.{get_at_set, read_here, read_other}
 use Rattle.hcc_core.proofs.SumLemmas.{total-set}
 
 -- 1 where the client looks at the slot
@@ -305,13 +304,13 @@ pub ledgers_both : (w : State) (slot client : ℕ) (seen left : Slot) (old new :
     → Ledgers (with_both w slot left client new)
 ledgers_both w slot client seen left old new l at_slot at_client charged taken = record {
   usage =
-    let before = l.usage in
-    let here = total-set charge_of w.slots slot seen left at_slot in
-    let change = total-set charged_to w.clients client old new at_client in
-    omega arith;
+      let before = l.usage in
+      let here = total-set charge_of w.slots slot seen left at_slot in
+      let change = total-set charged_to w.clients client old new at_client in
+      omega arith;
   places =
-    let before = l.places in
-    let here = total-set taken_by_slot w.slots slot seen left at_slot in
-    let change = total-set taken_by w.clients client old new at_client in
-    omega arith;
+      let before = l.places in
+      let here = total-set taken_by_slot w.slots slot seen left at_slot in
+      let change = total-set taken_by w.clients client old new at_client in
+      omega arith;
 }

@@ -1,27 +1,13 @@
 -- Changes that move no entry and nothing in hand, and changes within the ledgers alone.
-use Rattle.std.proofs.Common.{◌≡◌, ◌⊎◌, inl, inr, ℕ, zero, suc, ◌+◌, ◌-◌, ◌*◌, ◌/◌, min, ◌<◌, ◌≤◌, ◌&&◌, ◌||◌, ◌==◌, Bool, true, false, cond, not, nat_le, nat_lt, is_none, List, [], ◌∷◌, ◌++◌, Option, Some, None, length, slice_set, slice_get, refl, ap, sym, ◌∙◌, arith}
+use Rattle.std.proofs.Common.{◌≡◌, ◌⊎◌, ℕ, ◌+◌, ◌*◌, ◌≤◌, Some, slice_get, refl, ap, sym, ◌∙◌, arith}
 use Rattle.std.proofs.lemmas.List.{length-set}
-use Rattle.std.proofs.lemmas.Bool.{and_parts, or_cases, leb-true, ltb-true, false≢true, cases_eq, ne_eqb}
-use Rattle.hcc_core.specs.declared.limits.TheConstants.{MOST_WEIGHT, REFERENCES_PER_CLIENT, MOST_CLIENTS, MOST_REFERENCES, NEAR, MOST_USAGE, STAMPS_PER_CLIENT, OCCUPANCY_PERCENT}
 use Rattle.hcc_core.specs.declared.state.Client.{Client}
-use Rattle.hcc_core.specs.declared.state.Reference.{Reference}
-use Rattle.hcc_core.specs.declared.state.Resident.{Resident}
-use Rattle.hcc_core.specs.declared.state.Setup.{Setup}
-use Rattle.hcc_core.specs.declared.state.Stamp.{Stamp}
-use Rattle.hcc_core.specs.declared.state.Owned.{Owned}
-use Rattle.hcc_core.specs.declared.state.Owned.TheVariants as owned
-use Rattle.hcc_core.specs.declared.state.Place.{Place}
-use Rattle.hcc_core.specs.declared.state.Place.TheVariants as places
 use Rattle.hcc_core.specs.declared.state.Slot.{Slot}
-use Rattle.hcc_core.specs.declared.state.Slot.TheVariants as slots
-use Rattle.hcc_core.specs.Sums.{when, total}
-use Rattle.hcc_core.specs.World.{State, is_shareable, strays_of, references_of, uses_of, charge_of, trail_of, taken_by_slot, weight, weight_of, counted, counts_in, reference_in, has_client, slot_holding, charged_to, is_placed, is_granted, occupied_by, usage_of, occupancy_of, limit_of}
-use Rattle.hcc_core.specs.Steps.{with_client, with_both, looked_at, looks_at, client_looked, most_weight, may_acquire, new_reference, slot_acquired, client_acquired, client_noticed, without, slot_given, slot_used, slot_hidden, owns_nothing, built_by, freed_by, may_show, first_uses, first_references, resident_new, client_shown, may_free, is_free_for, has_no_member, client_freeing, is_absent, place_granted, grant_of}
-use Rattle.hcc_core.specs.Lawful.{Lawful, Sized, IsBounded, Bounded, Strayed, Owners, Stamped, Trailed, Ledgers, lookers, owner_of, owner_in, owned_slot, owned_by, stamp_of, stamp_in, stamps_by, taken_by, taken_in}
-use Rattle.hcc_core.proofs.ListLemmas.{read_same, read_here, set_same}
-use Rattle.hcc_core.proofs.SumLemmas.{total-set, total-append, total-le, total-member}
-use Rattle.hcc_core.proofs.ReferenceLemmas.{without-total, without-le, counted-le, first-weight}
-use Rattle.hcc_core.proofs.LawfulParts.{looking, sized_kept, bounded_set, strayed_client, strayed_both, owners_same, owners_taken, owners_left, stamped_fewer, stamped_shown, trailed_slot, trailed_client, ledgers_client, ledgers_both}
+use Rattle.hcc_core.specs.World.{State, stamp_of, strays_of, charge_of, trail_of, taken_by_slot, charged_to}
+use Rattle.hcc_core.specs.Steps.{with_client, with_both}
+use Rattle.hcc_core.specs.Lawful.{Lawful, IsBounded, Ledgers, owner_of, owner_in, owned_slot, owned_by, stamp_in, stamps_by, taken_by}
+use Rattle.hcc_core.proofs.ListLemmas.{read_same}
+use Rattle.hcc_core.proofs.LawfulParts.{looking, sized_kept, bounded_set, strayed_client, strayed_both, owners_same, stamped_fewer, trailed_slot, trailed_client, ledgers_both}
 
 -- A change of one slot that moves no entry, and of one client that moves nothing in hand.
 pub record QuietSlot (seen left : Slot) : Type 0 where
@@ -56,15 +42,15 @@ quiet w slot client seen left old new l at_slot at_client calm hand bound first 
       (λ s m h. sym (read_same stamp_in w.slots slot s seen left at_slot calm.stamp) ∙ h)
       (λ c. read_same stamps_by w.clients client c old new at_client hand.stamps);
   trailed =
-    let entry = l.trailed.entries slot seen at_slot in
-    let own = l.trailed.hands client old at_client in
-    trailed_client _ _ _ client new (trailed_slot _ _ _ slot left l.trailed (rw calm.trail entry)) (rw hand.trail own);
+      let entry = l.trailed.entries slot seen at_slot in
+      let own = l.trailed.hands client old at_client in
+      trailed_client _ _ _ client new (trailed_slot _ _ _ slot left l.trailed (rw calm.trail entry)) (rw hand.trail own);
   ledgers =
-    let charge = calm.charge in
-    let charged = hand.charged in
-    let taken = calm.taken in
-    let places = hand.taken in
-    ledgers_both w slot client seen left old new l.ledgers at_slot at_client (omega arith) (omega arith);
+      let charge = calm.charge in
+      let charged = hand.charged in
+      let taken = calm.taken in
+      let places = hand.taken in
+      ledgers_both w slot client seen left old new l.ledgers at_slot at_client (omega arith) (omega arith);
 }
 
 -- one client changes in its amounts or its place, within the ledgers

@@ -1,28 +1,21 @@
 -- The events on references keep a world lawful: start, look, acquire, give, use, hide.
-use Rattle.std.proofs.Common.{◌≡◌, ◌⊎◌, inl, inr, ℕ, zero, suc, ◌+◌, ◌-◌, ◌*◌, ◌/◌, min, ◌<◌, ◌≤◌, ◌&&◌, ◌||◌, ◌==◌, Bool, true, false, cond, not, nat_le, nat_lt, is_none, List, [], ◌∷◌, ◌++◌, Option, Some, None, length, slice_set, slice_get, refl, ap, sym, ◌∙◌, arith}
-use Rattle.std.proofs.lemmas.List.{length-set}
-use Rattle.std.proofs.lemmas.Bool.{and_parts, or_cases, leb-true, ltb-true, false≢true, cases_eq, ne_eqb}
-use Rattle.hcc_core.specs.declared.limits.TheConstants.{MOST_WEIGHT, REFERENCES_PER_CLIENT, MOST_CLIENTS, MOST_REFERENCES, NEAR, MOST_USAGE, STAMPS_PER_CLIENT, OCCUPANCY_PERCENT}
+use Rattle.std.proofs.Common.{◌≡◌, ◌⊎◌, inl, inr, ℕ, ◌+◌, ◌*◌, ◌<◌, ◌≤◌, ◌||◌, ◌==◌, Bool, true, false, nat_le, nat_lt, is_none, List, [], ◌∷◌, ◌++◌, Some, slice_get, refl, sym, arith}
+use Rattle.std.proofs.lemmas.Bool.{and_parts, or_cases, leb-true, ltb-true, false≢true, ne_eqb}
+use Rattle.hcc_core.specs.declared.limits.TheConstants.{MOST_WEIGHT, MOST_CLIENTS, MOST_REFERENCES, NEAR}
 use Rattle.hcc_core.specs.declared.state.Client.{Client}
 use Rattle.hcc_core.specs.declared.state.Reference.{Reference}
-use Rattle.hcc_core.specs.declared.state.Resident.{Resident}
 use Rattle.hcc_core.specs.declared.state.Setup.{Setup}
-use Rattle.hcc_core.specs.declared.state.Stamp.{Stamp}
-use Rattle.hcc_core.specs.declared.state.Owned.{Owned}
-use Rattle.hcc_core.specs.declared.state.Owned.TheVariants as owned
-use Rattle.hcc_core.specs.declared.state.Place.{Place}
-use Rattle.hcc_core.specs.declared.state.Place.TheVariants as places
 use Rattle.hcc_core.specs.declared.state.Slot.{Slot}
 use Rattle.hcc_core.specs.declared.state.Slot.TheVariants as slots
-use Rattle.hcc_core.specs.Sums.{when, total}
-use Rattle.hcc_core.specs.World.{State, is_shareable, strays_of, references_of, uses_of, charge_of, trail_of, taken_by_slot, weight, weight_of, counted, counts_in, reference_in, has_client, slot_holding, charged_to, is_placed, is_granted, occupied_by, usage_of, occupancy_of, limit_of}
-use Rattle.hcc_core.specs.Steps.{with_client, with_both, looked_at, looks_at, client_looked, most_weight, may_acquire, new_reference, slot_acquired, client_acquired, client_noticed, without, slot_given, slot_used, slot_hidden, owns_nothing, built_by, freed_by, may_show, first_uses, first_references, resident_new, client_shown, may_free, is_free_for, has_no_member, client_freeing, is_absent, place_granted, grant_of}
-use Rattle.hcc_core.specs.Lawful.{Lawful, Sized, IsBounded, Bounded, Strayed, Owners, Stamped, Trailed, Ledgers, lookers, owner_of, owner_in, owned_slot, owned_by, stamp_of, stamp_in, stamps_by, taken_by, taken_in}
-use Rattle.hcc_core.proofs.ListLemmas.{read_same, read_here, set_same}
-use Rattle.hcc_core.proofs.SumLemmas.{total-set, total-append, total-le, total-member}
-use Rattle.hcc_core.proofs.ReferenceLemmas.{without-total, without-le, counted-le, first-weight}
-use Rattle.hcc_core.proofs.LawfulParts.{looking, sized_kept, bounded_set, strayed_client, strayed_both, owners_same, owners_taken, owners_left, stamped_fewer, stamped_shown, trailed_slot, trailed_client, ledgers_client, ledgers_both}
-use Rattle.hcc_core.proofs.LawfulQuiet.{QuietSlot, QuietClient, quiet, in_ledgers}
+use Rattle.hcc_core.specs.Sums.{when}
+use Rattle.hcc_core.specs.World.{State, strays_of, references_of, weight, weight_of, reference_in, has_client, slot_holding}
+use Rattle.hcc_core.specs.Steps.{with_client, with_both, looks_at, client_looked, most_weight, may_acquire, new_reference, slot_acquired, client_acquired, client_noticed, slot_given, slot_used, slot_hidden}
+use Rattle.hcc_core.specs.Lawful.{Lawful, IsBounded}
+use Rattle.hcc_core.proofs.ListLemmas.{set_same}
+use Rattle.hcc_core.proofs.SumLemmas.{total-append}
+use Rattle.hcc_core.proofs.ReferenceLemmas.{without-total, without-le, counted-le}
+use Rattle.hcc_core.proofs.LawfulParts.{looking, ledgers_client}
+use Rattle.hcc_core.proofs.LawfulQuiet.{QuietSlot, quiet, in_ledgers}
 
 pub lawful_start : (w : State) (client : ℕ) (found : Client) → Lawful w → slice_get w.clients client ≡ Some found
     → Lawful (with_client w client (record found { live = true }))
@@ -57,9 +50,9 @@ pub lawful_look : (w : State) (client slot : ℕ) (found : Client) (seen : Slot)
 lawful_look w client slot found seen l at_slot at_client =
     let new : Client = client_looked client slot seen found in
     let both : Lawful (with_both w slot seen client new) =
-      quiet w slot client seen seen found new l at_slot at_client (calm seen)
-      (record { owned = refl; stamps = refl; trail = refl; charged = refl; taken = refl })
-      (l.bounded slot seen at_slot) (look_first client slot seen found) (λ s n. look_else client slot s seen found n) in
+    quiet w slot client seen seen found new l at_slot at_client (calm seen)
+    (record { owned = refl; stamps = refl; trail = refl; charged = refl; taken = refl })
+    (l.bounded slot seen at_slot) (look_first client slot seen found) (λ s n. look_else client slot s seen found n) in
     rw (set_same w.slots slot seen at_slot) at both
 
 -- Acquires.
@@ -136,7 +129,7 @@ pub lawful_acquire : (w : State) (client slot weight name : ℕ) (found : Client
     → slice_get w.slots slot ≡ Some seen → slice_get w.clients client ≡ Some found
     → may_acquire w.setup w.slots client found slot seen weight name ≡ true
     → Lawful (with_both w slot (slot_acquired seen (new_reference client name weight seen)) client
-        (client_acquired client (slot_acquired seen (new_reference client name weight seen)) found))
+    (client_acquired client (slot_acquired seen (new_reference client name weight seen)) found))
 lawful_acquire w client slot weight name found seen l at_slot at_client may =
     let k : Reference = new_reference client name weight seen in
     let parts = may_acquire_parts w.setup w.slots client found slot seen weight name may in
@@ -157,7 +150,7 @@ given_strays client name (slots.Empty strays) = refl
 given_strays client name (slots.Building other strays) = refl
 given_strays client name (slots.Shareable r) = refl
 
-given_bounded : (setup : Setup) (client name : ℕ) (seen : Slot) → IsBounded setup seen → IsBounded setup (slot_given client name seen)
+pub given_bounded : (setup : Setup) (client name : ℕ) (seen : Slot) → IsBounded setup seen → IsBounded setup (slot_given client name seen)
 given_bounded setup client name (slots.Empty strays) b = b
 given_bounded setup client name (slots.Building other strays) b = b
 given_bounded setup client name (slots.Shareable r) b =
@@ -187,7 +180,7 @@ used_strays client name k (slots.Building other strays) = refl
 used_strays client name k (slots.Shareable r) = refl
 
 -- what a use adds to the uses was counting before
-used_bounded : (setup : Setup) (client name : ℕ) (k : Reference) (seen : Slot)
+pub used_bounded : (setup : Setup) (client name : ℕ) (k : Reference) (seen : Slot)
     → reference_in client name (references_of seen) ≡ Some k → k.counting ≡ true
     → IsBounded setup seen → IsBounded setup (slot_used client name k seen)
 used_bounded setup client name k (slots.Empty strays) there counts b = b

@@ -10,3 +10,4 @@ pub mod LawfulLedgers
 pub mod Opening
 pub mod Keeps
 pub mod Readable
+pub mod StepLemmas

@@ -1,13 +1,12 @@
 -- The opening world is lawful, and the name that tactics do not open.
-use Rattle.std.proofs.Common.{◌≡◌, ℕ, zero, suc, ◌+◌, ◌*◌, ◌/◌, ◌<◌, ◌≤◌, List, [], ◌∷◌, Option, Some, None, length, slice_get, replicate, refl, ap, sym, ◌∙◌, arith}
+use Rattle.std.proofs.Common.{refl, arith}
 use Rattle.std.proofs.lemmas.List.{length-replicate}
-use Rattle.hcc_core.specs.declared.limits.TheConstants.{MOST_SLOTS, MOST_CLIENTS, MOST_USAGE}
 use Rattle.hcc_core.specs.declared.state.Setup.{Setup}
 use Rattle.hcc_core.specs.declared.state.Client.{Client}
-use Rattle.hcc_core.specs.Sums.{when, total}
-use Rattle.hcc_core.specs.World.{State, charge_of, taken_by_slot, charged_to, usage_of, limit_of}
+use Rattle.hcc_core.specs.Sums.{when}
+use Rattle.hcc_core.specs.World.{State, charge_of, taken_by_slot, charged_to}
 use Rattle.hcc_core.specs.Steps.{looks_at, opening_of, CanOpen, new_slot, new_client}
-use Rattle.hcc_core.specs.Lawful.{Lawful, IsLawful, Sized, IsBounded, Owners, Stamped, Trailed, Ledgers, owner_in, owned_by, stamp_in, taken_by}
+use Rattle.hcc_core.specs.Lawful.{Lawful, IsLawful, owner_in, owned_by, stamp_in, taken_by}
 use Rattle.hcc_core.proofs.ListLemmas.{nothing_in, replicate_is}
 use Rattle.hcc_core.proofs.SumLemmas.{total-zero}
 
@@ -30,8 +29,8 @@ lawful_opening setup can = record {
   };
   bounded = λ s slot h. rw (replicate_is setup.slots s new_slot slot h) (record { references = omega arith; uses = omega arith });
   strayed = λ s slot h.
-    let none = total-zero (λ (c : Client). when (looks_at c s) 1) setup.clients new_client refl in
-    rw (replicate_is setup.slots s new_slot slot h) (omega arith);
+      let none = total-zero (λ (c : Client). when (looks_at c s) 1) setup.clients new_client refl in
+      rw (replicate_is setup.slots s new_slot slot h) (omega arith);
   owners = record {
     owns = λ s c h. absurd (nothing_in owner_in setup.slots s new_slot c refl refl h);
     owned = λ s c h. absurd (nothing_in owned_by setup.clients c new_client s refl refl h);
@@ -46,12 +45,12 @@ lawful_opening setup can = record {
   };
   ledgers = record {
     usage =
-      let entries = total-zero charge_of setup.slots new_slot refl in
-      let amounts = total-zero charged_to setup.clients new_client refl in
-      omega arith;
+        let entries = total-zero charge_of setup.slots new_slot refl in
+        let amounts = total-zero charged_to setup.clients new_client refl in
+        omega arith;
     places =
-      let entries = total-zero taken_by_slot setup.slots new_slot refl in
-      let places = total-zero taken_by setup.clients new_client refl in
-      omega arith;
+        let entries = total-zero taken_by_slot setup.slots new_slot refl in
+        let places = total-zero taken_by setup.clients new_client refl in
+        omega arith;
   };
 }

@@ -1,14 +1,16 @@
--- In a lawful world no sum that a reader makes wraps.
-use Rattle.std.proofs.Common.{◌≡◌, ℕ, zero, suc, ◌+◌, ◌*◌, ◌/◌, ◌<◌, ◌≤◌, ◌==◌, Bool, true, false, List, [], ◌∷◌, Option, Some, None, length, slice_get, refl, arith}
-use Rattle.hcc_core.specs.declared.limits.TheConstants.{MOST_SLOTS, MOST_CLIENTS, MOST_USAGE, OCCUPANCY_PERCENT}
+-- In a lawful world no sum that a reader or a step makes wraps.
+use Rattle.std.proofs.Common.{◌≡◌, ℕ, suc, ◌+◌, ◌*◌, ◌<◌, ◌≤◌, ◌==◌, Bool, true, false, List, [], ◌∷◌, Some, length, slice_get, refl, arith}
+use Rattle.hcc_core.specs.declared.limits.TheConstants.{MOST_SLOTS, MOST_CLIENTS, MOST_USAGE}
 use Rattle.hcc_core.specs.declared.state.Client.{Client}
+use Rattle.hcc_core.specs.declared.state.Reference.{Reference}
 use Rattle.hcc_core.specs.declared.state.Place.{Place}
 use Rattle.hcc_core.specs.declared.state.Place.TheVariants as places
 use Rattle.hcc_core.specs.declared.state.Slot.{Slot}
 use Rattle.hcc_core.specs.Sums.{when, total}
-use Rattle.hcc_core.specs.World.{State, charge_of, trail_of, taken_by_slot, charged_to, standing_of, is_placed, is_granted, occupied_by, times, passed_by, usage_of, occupancy_of, standing_in, limit_of}
-use Rattle.hcc_core.specs.Lawful.{Lawful, IsLawful, taken_by}
-use Rattle.hcc_core.proofs.SumLemmas.{total-le}
+use Rattle.hcc_core.specs.World.{State, strays_of, references_of, reference_in, uses_of, weight_of, charge_of, trail_of, charged_to, standing_of, is_placed, is_granted, occupied_by, times, passed_by, usage_of, occupancy_of, standing_in, limit_of}
+use Rattle.hcc_core.specs.Lawful.{Lawful, IsLawful, IsBounded, taken_by}
+use Rattle.hcc_core.proofs.SumLemmas.{total-le, total-member}
+use Rattle.hcc_core.proofs.ReferenceLemmas.{without-total}
 use Rattle.hcc_core.proofs.Opening.{is_lawful}
 
 pub usage_fits : (w : State) → IsLawful w → usage_of w ≤ MOST_USAGE
@@ -85,4 +87,51 @@ passed_fits w l slot =
     let clients_few = few_clients w l in
     let entries = total-few (λ s. times slot (trail_of s)) w.slots (λ i s e. let short = law.trailed.entries i s e in let some = times-le slot (trail_of s) in omega arith) in
     let hands = total-few (λ (c : Client). times slot c.trail) w.clients (λ i c e. let short = law.trailed.hands i c e in let some = times-le slot c.trail in omega arith) in
+    omega arith
+
+-- Of one slot and one client.
+
+-- a slot's references weigh what a word can say
+pub bounded_weight : (w : State) (slot : Slot) → Lawful w → IsBounded w.setup slot → weight_of slot < 4294967296
+bounded_weight w slot l b =
+    let few = l.sized.few_clients in
+    let references = b.references in
+    omega arith
+
+pub strays_few : (w : State) (s : ℕ) (slot : Slot) → Lawful w → slice_get w.slots s ≡ Some slot → strays_of slot ≤ 3 * MOST_CLIENTS
+strays_few w s slot l at_slot =
+    let few = l.sized.few_clients in
+    let strays = l.strayed s slot at_slot in
+    omega arith
+
+-- what a use adds was counted before
+pub used_fits : (w : State) (client name : ℕ) (k : Reference) (slot : Slot) → IsBounded w.setup slot
+    → reference_in client name (references_of slot) ≡ Some k → k.counting ≡ true → uses_of slot + k.weight < 4294967296
+used_fits w client name k slot b there counts =
+    let whole : when k.counting k.weight ≡ k.weight = rw counts refl in
+    let part = without-total (λ (k : Reference). when k.counting k.weight) client name (references_of slot) k there in
+    let uses = b.uses in
+    omega arith
+
+-- a client's amounts are part of the usage, and so is a slot's charge beside them
+pub charged_fits : (w : State) (c : ℕ) (client : Client) → Lawful w → slice_get w.clients c ≡ Some client → charged_to client ≤ MOST_USAGE
+charged_fits w c client l at_client =
+    let part = total-member charged_to w.clients c client at_client in
+    let usage = l.ledgers.usage in
+    omega arith
+
+pub both_charged_fit : (w : State) (s c : ℕ) (slot : Slot) (client : Client) → Lawful w
+    → slice_get w.slots s ≡ Some slot → slice_get w.clients c ≡ Some client → charge_of slot + charged_to client ≤ MOST_USAGE
+both_charged_fit w s c slot client l at_slot at_client =
+    let entry = total-member charge_of w.slots s slot at_slot in
+    let part = total-member charged_to w.clients c client at_client in
+    let usage = l.ledgers.usage in
+    omega arith
+
+pub freed_slots_few : (w : State) (c : ℕ) (client : Client) → Lawful w → slice_get w.clients c ≡ Some client
+    → client.freed_slots ≤ MOST_SLOTS
+freed_slots_few w c client l at_client =
+    let part = total-member taken_by w.clients c client at_client in
+    let places = l.ledgers.places in
+    let few = l.sized.few_slots in
     omega arith

@@ -1,10 +1,10 @@
 -- What the readers add up is what the definitions say.
-use Rattle.std.proofs.Common.{◌≡◌, ℕ, ◌+◌, ◌==◌, Bool, true, false, cond, List, [], ◌∷◌, sum_by, count_by, refl, sym, ◌∙◌, ap, arith}
+use Rattle.std.proofs.Common.{◌≡◌, ℕ, ◌+◌, ◌==◌, Bool, true, false, cond, List, [], ◌∷◌, sum_by, count_by, refl, ◌∙◌, arith}
 use Rattle.hcc_core.specs.declared.state.Client.{Client}
 use Rattle.hcc_core.specs.declared.state.Slot.{Slot}
 use Rattle.hcc_core.specs.declared.state.Slot.TheVariants as slots
 use Rattle.hcc_core.specs.Sums.{when, total}
-use Rattle.hcc_core.specs.World.{charge_of, is_shareable, taken_by_slot, is_placed, trail_of, standing_of, charged_to, occupied_by, times, passed_by}
+use Rattle.hcc_core.specs.World.{is_shareable, taken_by_slot, is_placed, trail_of, standing_of, charged_to, occupied_by, times, passed_by}
 use Rattle.hcc_core.proofs.SumLemmas.{sum_by_total}
 
 -- totals of two functions that agree
@@ -30,7 +30,7 @@ total-plus f g (x ∷ xs) = let rest = total-plus f g xs in omega arith
 -- what clients are charged, amount by amount
 pub amounts_total : (clients : List Client)
     → sum_by (λ (c : Client). c.granted) clients + sum_by (λ (c : Client). c.needed) clients
-      + sum_by (λ (c : Client). c.freed) clients + total standing_of clients ≡ total charged_to clients
+    + sum_by (λ (c : Client). c.freed) clients + total standing_of clients ≡ total charged_to clients
 amounts_total clients =
     let granted = sum_by_total (λ (c : Client). c.granted) clients in
     let needed = sum_by_total (λ (c : Client). c.needed) clients in
@@ -54,7 +54,7 @@ residents_total all =
 -- what clients occupy
 pub occupied_total : (clients : List Client)
     → count_by (λ (c : Client). is_placed c.place) clients + sum_by (λ (c : Client). c.freed_slots) clients
-      ≡ total occupied_by clients
+    ≡ total occupied_by clients
 occupied_total clients =
     let placed = count_by_total (λ (c : Client). is_placed c.place) clients in
     let freed = sum_by_total (λ (c : Client). c.freed_slots) clients in
@@ -71,7 +71,7 @@ trails_total f xs slot =
 -- how often it stands in the trails of entries and clients
 pub passed_total : (all : List Slot) (clients : List Client) (slot : ℕ)
     → sum_by (λ s. count_by (λ t. t == slot) (trail_of s)) all
-      + sum_by (λ (c : Client). count_by (λ t. t == slot) c.trail) clients ≡ passed_by all clients slot
+    + sum_by (λ (c : Client). count_by (λ t. t == slot) c.trail) clients ≡ passed_by all clients slot
 passed_total all clients slot =
     let entries = trails_total trail_of all slot in
     let hands = trails_total (λ (c : Client). c.trail) clients slot in

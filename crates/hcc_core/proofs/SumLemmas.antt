@@ -1,7 +1,7 @@
 -- Laws of sums over lists.
-use Rattle.std.proofs.Common.{◌≡◌, ℕ, zero, suc, ◌+◌, ◌<◌, ◌≤◌, drop, length, get_or, add-one, List, [], ◌∷◌, ◌++◌, Option, Some, None, slice_get, slice_set, sum_by, replicate, refl, sym, ◌∙◌, ap, arith}
+use Rattle.std.proofs.Common.{◌≡◌, ℕ, zero, suc, ◌+◌, ◌<◌, ◌≤◌, drop, length, get_or, add-one, List, [], ◌∷◌, ◌++◌, Some, slice_get, slice_set, sum_by, replicate, refl, ◌∙◌, ap, arith}
 use Rattle.std.proofs.lemmas.List.Sums.{sum_by-cons}
-use Rattle.hcc_core.specs.Sums.{when, total}
+use Rattle.hcc_core.specs.Sums.{total}
 
 -- std's sum of a chain is the total
 pub sum_by_total : {X : Type 0} (f : X → ℕ) (xs : List X) → sum_by f xs ≡ total f xs

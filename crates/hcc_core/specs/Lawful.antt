@@ -1,6 +1,6 @@
 -- The lawful worlds: those that events can lead to. Each part speaks of some readings alone,
 -- so a step that leaves these readings keeps the part.
-use Rattle.std.specs.Prelude.{◌≡◌, ℕ, ◌+◌, ◌*◌, ◌<◌, ◌≤◌, Bool, true, List, [], ◌∷◌, Option, Some, None, length, slice_get, option_and_then, Contains}
+use Rattle.std.specs.Prelude.{◌≡◌, ℕ, ◌+◌, ◌*◌, ◌<◌, ◌≤◌, List, Option, Some, None, length, slice_get, option_and_then}
 use Rattle.hcc_core.specs.declared.limits.TheConstants.{MOST_SLOTS, MOST_CLIENTS, MOST_REFERENCES, NEAR, MOST_USAGE}
 use Rattle.hcc_core.specs.declared.state.Setup.{Setup}
 use Rattle.hcc_core.specs.declared.state.Stamp.{Stamp}
@@ -10,7 +10,7 @@ use Rattle.hcc_core.specs.declared.state.Owned.TheVariants as owned
 use Rattle.hcc_core.specs.declared.state.Slot.{Slot}
 use Rattle.hcc_core.specs.declared.state.Slot.TheVariants as slots
 use Rattle.hcc_core.specs.Sums.{when, total}
-use Rattle.hcc_core.specs.World.{State, taken_by_slot, strays_of, references_of, uses_of, weight_of, counted, trail_of, charge_of, standing_of, is_granted, usage_of, limit_of}
+use Rattle.hcc_core.specs.World.{State, taken_by_slot, strays_of, references_of, uses_of, stamp_of, weight_of, counted, trail_of, is_granted, usage_of, limit_of}
 use Rattle.hcc_core.specs.Steps.{looks_at, most_weight}
 
 -- Readings of a slot or a client that may not be there.
@@ -34,11 +34,6 @@ abbrev pub owned_by : Option Client → Option ℕ
 owned_by o = option_and_then (λ client. owned_slot client.owned) o
 
 -- the stamp of a slot's entry
-abbrev pub stamp_of : Slot → Option Stamp
-stamp_of (slots.Empty strays) = None
-stamp_of (slots.Building client strays) = None
-stamp_of (slots.Shareable r) = Some r.entry.stamp
-
 abbrev pub stamp_in : Option Slot → Option Stamp
 stamp_in o = option_and_then stamp_of o
 

@@ -21,7 +21,7 @@ use Rattle.hcc_core.specs.declared.event.Reply.{Reply}
 use Rattle.hcc_core.specs.declared.event.Reply.TheVariants as replies
 use Rattle.hcc_core.specs.declared.event.CoreError.{CoreError}
 use Rattle.hcc_core.specs.declared.event.CoreError.TheVariants.{NoSuchSlot, NoSuchClient, NotAllowed, OutOfMemory}
-use Rattle.hcc_core.specs.World.{State, phase_of, is_shareable, references_of, charge_of, trail_of, weight_of, counts_in, is_named, reference_in, has_client, slot_holding, is_granted, usage_of, occupancy_of, limit_of}
+use Rattle.hcc_core.specs.World.{State, phase_of, is_shareable, references_of, charge_of, hidden_stamp, trail_of, weight_of, counts_in, is_named, reference_in, has_client, slot_holding, is_granted, usage_of, occupancy_of, limit_of}
 
 -- a refusal, or the reply and the world after it
 abbrev pub Outcome : Type 0
@@ -53,6 +53,14 @@ live_at world client = do
   live ← allow found.live
   Ok found
 
+-- why no live client has this number
+abbrev pub why_not : Option Client → Option CoreError
+why_not None = Some NoSuchClient
+why_not (Some found) = if found.live then None else Some NotAllowed
+
+abbrev pub why_not_live : List Client → ℕ → Option CoreError
+why_not_live clients client = why_not (slice_get clients client)
+
 -- the slot on which a client holds a name
 abbrev pub holding : State → ℕ → ℕ → Result ℕ CoreError
 holding world client name = ok_or (slot_holding world.slots client name) NotAllowed
@@ -66,12 +74,9 @@ abbrev pub with_both : State → ℕ → Slot → ℕ → Client → State
 with_both world slot left client changed =
     record world { slots = slice_set world.slots slot left; clients = slice_set world.clients client changed }
 
--- the stamp of an entry that is hidden and on which this client holds a reference
+-- the stamp of an entry that is hidden, where this client holds a reference on it
 abbrev pub dead_to : ℕ → Slot → Option Stamp
-dead_to client (slots.Empty strays) = None
-dead_to client (slots.Building other strays) = None
-dead_to client (slots.Shareable r) =
-    if not r.shown && list_any (λ (k : Reference). k.client == client) r.references then Some r.entry.stamp else None
+dead_to client slot = if has_client client slot then hidden_stamp slot else None
 
 abbrev pub is_stamp : Stamp → Stamp → Bool
 is_stamp a b = (a.client == b.client) && (a.number == b.number)
@@ -187,13 +192,20 @@ slot_used client name k (slots.Building other strays) = slots.Building other str
 slot_used client name k (slots.Shareable r) =
     slots.Shareable (record r { references = without client name r.references; uses = r.uses + k.weight })
 
+abbrev pub if_counting : Option Reference → Option Reference
+if_counting None = None
+if_counting (Some k) = if k.counting then Some k else None
+
+-- this client's reference of this name, if it counts
+abbrev pub counting_in : ℕ → ℕ → List Reference → Option Reference
+counting_in client name references = if_counting (reference_in client name references)
+
 unfoldable pub use_of : State → ℕ → ℕ → Outcome
 use_of world client name = do
   found ← live_at world client
   slot ← holding world client name
   seen ← slot_at world slot
-  reference ← ok_or (reference_in client name (references_of seen)) NotAllowed
-  counts ← allow reference.counting
+  reference ← ok_or (counting_in client name (references_of seen)) NotAllowed
   let left = slot_used client name reference seen
   Ok (left_on left, with_both world slot left client (client_noticed client seen found))
 
@@ -203,6 +215,12 @@ abbrev pub owns_nothing : Owned → Bool
 owns_nothing owned.Nothing = true
 owns_nothing (owned.ForBuilding slot) = false
 owns_nothing (owned.ForFreeing slot) = false
+
+-- the strays of an empty slot
+abbrev pub strays_if_empty : Slot → Option ℕ
+strays_if_empty (slots.Empty strays) = Some strays
+strays_if_empty (slots.Building client strays) = None
+strays_if_empty (slots.Shareable r) = None
 
 -- an empty slot is taken, and any other is looked at
 abbrev pub occupied : State → ℕ → Client → ℕ → Slot → Outcome
@@ -236,6 +254,12 @@ may_show all client found charge countdown name =
     is_granted found.place && found.needed == 0 && nat_le charge found.granted
     && nat_le 1 countdown && nat_le countdown MOST_WEIGHT && is_fresh all client name
     && nat_lt found.stamps STAMPS_PER_CLIENT
+
+-- what a client must have to show an entry
+pub record AllowsShow (found : Client) (charge countdown : ℕ) : Type 0 where
+  pub granted : charge ≤ found.granted
+  pub some_use : 1 ≤ countdown
+  pub stamps : found.stamps < STAMPS_PER_CLIENT
 
 -- the references of an entry that is shown with this name
 abbrev pub first_references : ℕ → Option ℕ → List Reference
@@ -413,20 +437,28 @@ slots_of world client = do
 abbrev pub grant_of : Setup → ℕ → ℕ → ℕ
 grant_of setup usage charge = if setup.strict then min charge (setup.capacity - min usage setup.capacity) else charge
 
+-- nothing granted is left over, and the usage stays within its bound
+abbrev pub may_charge : Client → ℕ → ℕ → Bool
+may_charge found usage charge = found.granted == 0 && found.needed == 0 && nat_le (usage + charge) MOST_USAGE
+
 unfoldable pub charge_by : State → ℕ → ℕ → Outcome
 charge_by world client charge = do
   found ← live_at world client
-  may ← allow (found.granted == 0 && found.needed == 0 && nat_le (usage_of world + charge) MOST_USAGE)
+  may ← allow (may_charge found (usage_of world) charge)
   let granted = grant_of world.setup (usage_of world) charge
   Ok (
     replies.Split granted (charge - granted),
     with_client world client (record found { granted = granted; needed = charge - granted }),
   )
 
+-- something was freed, and it covers the need
+abbrev pub may_settle : Client → Bool
+may_settle found = nat_lt 0 found.freed && nat_le found.needed found.freed
+
 unfoldable pub settle_of : State → ℕ → Outcome
 settle_of world client = do
   found ← live_at world client
-  may ← allow (nat_lt 0 found.freed && nat_le found.needed found.freed)
+  may ← allow (may_settle found)
   Ok (
     replies.Ok,
     with_client world client (record found { granted = found.granted + found.needed; needed = 0; freed = 0 }),

@@ -1,12 +1,10 @@
 -- What a world is, and what is read of it. Nothing here is stored but the world itself.
-use Rattle.std.specs.Prelude.{ℕ, ◌+◌, ◌*◌, ◌/◌, Bool, true, false, ◌&&◌, ◌==◌, not, nat_lt, List, [], ◌∷◌, Option, Some, None, find, length, position, if◌then◌else◌}
+use Rattle.std.specs.Prelude.{ℕ, ◌+◌, ◌*◌, ◌/◌, Bool, true, false, ◌&&◌, ◌==◌, nat_lt, List, [], Option, Some, None, find, length, position, if◌then◌else◌}
 use Rattle.std.specs.List.{list_any}
 use Rattle.hcc_core.specs.declared.limits.TheConstants.{OCCUPANCY_PERCENT, NEAR}
 use Rattle.hcc_core.specs.declared.state.Setup.{Setup}
 use Rattle.hcc_core.specs.declared.state.Stamp.{Stamp}
-use Rattle.hcc_core.specs.declared.state.Entry.{Entry}
 use Rattle.hcc_core.specs.declared.state.Reference.{Reference}
-use Rattle.hcc_core.specs.declared.state.Resident.{Resident}
 use Rattle.hcc_core.specs.declared.state.Standalone.{Standalone}
 use Rattle.hcc_core.specs.declared.state.Client.{Client}
 use Rattle.hcc_core.specs.declared.state.Slot.{Slot}
@@ -67,6 +65,17 @@ abbrev pub charge_of : Slot → ℕ
 charge_of (slots.Empty strays) = 0
 charge_of (slots.Building client strays) = 0
 charge_of (slots.Shareable r) = r.entry.charge
+
+-- the stamp of a slot's entry, and of one that is hidden
+abbrev pub stamp_of : Slot → Option Stamp
+stamp_of (slots.Empty strays) = None
+stamp_of (slots.Building client strays) = None
+stamp_of (slots.Shareable r) = Some r.entry.stamp
+
+abbrev pub hidden_stamp : Slot → Option Stamp
+hidden_stamp (slots.Empty strays) = None
+hidden_stamp (slots.Building client strays) = None
+hidden_stamp (slots.Shareable r) = if r.shown then None else Some r.entry.stamp
 
 abbrev pub trail_of : Slot → List ℕ
 trail_of (slots.Empty strays) = []

@@ -1,9 +1,12 @@
 //! What a step reads of a client, and what it leaves of one.
-ghost use Rattle.std.specs.Prelude.{◌≡◌, ◌<◌, ◌^◌, sum_by};
+ghost use Rattle.std.specs.Prelude.{◌≡◌, ◌<◌, ◌^◌, IfOk, unwrap_or, sum_by};
+ghost use Rattle.std.specs.List.{list_any};
 ghost use Rattle.hcc_core.specs.World.{standing_of, is_placed, is_granted};
-ghost use Rattle.hcc_core.specs.Steps.{owns_nothing, built_by, freed_by, is_building, is_absent, place_granted};
+ghost use Rattle.hcc_core.specs.Steps.{owns_nothing, built_by, freed_by, is_building, is_absent, place_granted, is_stamp, joined};
 
-use crate::state::{Client, Owned, Place, Standalone};
+use crate::listed::Listed;
+use crate::state::{Client, Owned, Place, Stamp, Standalone};
+use std::alloc::{AllocError, Global};
 
 impl Owned {
     /// Whether no slot is owned.
@@ -105,6 +108,43 @@ impl Client {
     {
         charges(self.standalones.as_slice())
     }
+
+    /// Its dead list with this stamp, where that is new.
+    ///
+    /// It takes memory for the new list and leaves the client as it is.
+    pub fn with_dead(
+        &self,
+        alloc: Global,
+        stamp: Option<Stamp>,
+    ) -> Result<Option<Listed<Stamp>>, AllocError>
+        ensures { IfOk result (λ list. unwrap_or list self.now.dead ≡ joined self.now.dead stamp) }
+    {
+        let Some(stamp) = stamp else {
+            return Ok(None);
+        };
+        let dead = self.dead.as_slice();
+        if has_stamp(dead, stamp) {
+            return Ok(None);
+        }
+        let mut all = Listed::copied(alloc, dead)?;
+        all.push(stamp)?;
+        Ok(Some(all))
+    }
+
+    /// Puts a new dead list in the place of the old one, where there is one.
+    pub fn note(&mut self, dead: Option<Listed<Stamp>>)
+        ensures { self.new ≡ record self.old { dead = unwrap_or dead self.old.dead } }
+    {
+        if let Some(dead) = dead {
+            self.dead = dead;
+        }
+    }
+}
+
+fn has_stamp(stamps: &[Stamp], stamp: Stamp) -> bool
+    ensures { result ≡ list_any (is_stamp stamp) stamps.now }
+{
+    stamps.iter().any(|known| stamp.client == known.client && stamp.number == known.number)
 }
 
 fn charges(standalones: &[Standalone]) -> u64

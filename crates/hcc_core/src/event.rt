@@ -5,9 +5,14 @@ use crate::listed::Listed;
 #[derive(Drop)]
 pub enum Event {
     /// The client comes to life.
-    Start { client: u32 },
+    Start {
+        client: u32,
+    },
     /// It looks at a slot.
-    Look { client: u32, slot: u32 },
+    Look {
+        client: u32,
+        slot: u32,
+    },
     /// It adds to a slot's acquires: a reference where the slot has an entry, else strays.
     Acquire {
         client: u32,
@@ -16,11 +21,20 @@ pub enum Event {
         name: u64,
     },
     /// It takes a reference back, as if it had never been used.
-    Give { client: u32, name: u64 },
+    Give {
+        client: u32,
+        name: u64,
+    },
     /// It takes a counting reference back as a use.
-    Use { client: u32, name: u64 },
+    Use {
+        client: u32,
+        name: u64,
+    },
     /// It takes an empty slot, to build an entry in it.
-    Occupy { client: u32, slot: u32 },
+    Occupy {
+        client: u32,
+        slot: u32,
+    },
     /// It shows the entry that it has built, and keeps a reference where a name is given.
     Show {
         client: u32,
@@ -32,7 +46,10 @@ pub enum Event {
         value: Listed<u8>,
     },
     /// It hides an entry on which it holds a reference.
-    Hide { client: u32, name: u64 },
+    Hide {
+        client: u32,
+        name: u64,
+    },
     /// It takes a slot that is not referenced, but perhaps by its own reference alone, to free it.
     Free {
         client: u32,
@@ -40,19 +57,35 @@ pub enum Event {
         name: Option<u64>,
     },
     /// It empties the slot that it is freeing.
-    Empty { client: u32 },
+    Empty {
+        client: u32,
+    },
     /// It writes a word of the slot that it is building.
-    Write { client: u32 },
+    Write {
+        client: u32,
+    },
     /// It reads the entry on which it holds a reference.
-    Read { client: u32, name: u64 },
+    Read {
+        client: u32,
+        name: u64,
+    },
     /// It asks for a place in the table.
-    Enter { client: u32 },
+    Enter {
+        client: u32,
+    },
     /// It asks for charge.
-    Charge { client: u32, charge: u32 },
+    Charge {
+        client: u32,
+        charge: u32,
+    },
     /// It gives the slots that it freed to the table, or one of them to its open place.
-    Slots { client: u32 },
+    Slots {
+        client: u32,
+    },
     /// It spends what it freed on what it needs, and gives up the rest.
-    Settle { client: u32 },
+    Settle {
+        client: u32,
+    },
 }
 
 /// What a slot is, without what it holds.
@@ -72,24 +105,35 @@ pub enum Reply {
     /// An empty slot was taken for building.
     Taken,
     /// A reference was made.
-    Got { shown: bool, counting: bool },
+    Got {
+        shown: bool,
+        counting: bool,
+    },
     /// Acquires went astray in a slot with no entry.
     Stray,
     /// What the references left on the slot weigh, and what it is.
-    Left { references: u64, phase: Phase },
+    Left {
+        references: u64,
+        phase: Phase,
+    },
     /// The entry was hidden by this event.
     Hid,
     /// The entry was hidden before.
     Again,
     /// The charge of the entry that goes.
-    Freed { charge: u64 },
+    Freed {
+        charge: u64,
+    },
     Entry {
         key0: u64,
         key1: u64,
         value: Listed<u8>,
     },
     /// What a charge was given at once, and what has to be freed for it.
-    Split { granted: u64, needed: u64 },
+    Split {
+        granted: u64,
+        needed: u64,
+    },
     Granted,
     /// There is no place but one that freeing gives.
     Open,

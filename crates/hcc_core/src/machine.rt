@@ -1,14 +1,24 @@
-//! The slots and clients of a world, and the steps on them.
-ghost use Rattle.std.specs.Prelude.{◌≡◌, IfOk, replicate};
-ghost use Rattle.hcc_core.specs.World.{usage_of, occupancy_of, standing_in, passed_at};
-ghost use Rattle.hcc_core.specs.Steps.{opening_of, new_slot, new_client};
+//! The slots and clients of a world, what is read of them, and how a step finds its own.
+//!
+//! The steps stand in the modules below, by what they are about.
+ghost use Rattle.std.specs.Prelude.{◌≡◌, ◌<◌, IfOk, MatchResult, length, replicate, slice_get, true};
+ghost use Rattle.hcc_core.specs.declared.event.CoreError.TheVariants.{NoSuchSlot, NoSuchClient, NotAllowed};
+ghost use Rattle.hcc_core.specs.World.{usage_of, occupancy_of, standing_in, passed_at, slot_holding};
+ghost use Rattle.hcc_core.specs.Steps.{opening_of, new_slot, new_client, why_not_live, Follows, outcome_of, fits, name_fits};
+ghost use Rattle.std.specs.List.{list_all};
 ghost use Rattle.hcc_core.specs.Lawful.{IsLawful};
 
+use crate::event::{CoreError, Event, Reply};
 use crate::listed::Listed;
+use crate::slot::slot_holding;
 use crate::state::{Client, Owned, Place, Setup, Slot};
 use crate::sums;
 use std::alloc::{AllocError, Global};
 use std::marker::Model;
+
+mod entries;
+mod ledgers;
+mod references;
 
 /// The parts of a world. Each step requires that the world is lawful.
 #[derive(Drop)]
@@ -44,6 +54,52 @@ impl Machine {
         })
     }
 
+    /// The step of this event.
+    #[tactic(auto, unfolding(crate::specs::Steps::outcome_of))]
+    pub(crate) fn step(&mut self, event: Event) -> Result<Reply, CoreError>
+        requires { IsLawful self.old }
+        ensures { Follows (outcome_of self.old event) self.old result self.new }
+    {
+        match event {
+            Event::Start { client } => self.start(client),
+            Event::Look { client, slot } => self.look(client, slot),
+            Event::Acquire {
+                client,
+                slot,
+                weight,
+                name,
+            } => self.acquire(client, slot, weight, name),
+            Event::Give { client, name } => self.give(client, name),
+            Event::Use { client, name } => self.spend(client, name),
+            Event::Occupy { client, slot } => self.occupy(client, slot),
+            Event::Show {
+                client,
+                key0,
+                key1,
+                charge,
+                countdown,
+                name,
+                value,
+            } => {
+                name_fits(name);
+                bytes_fit(value.as_slice());
+                self.show(client, (key0, key1), charge, countdown, name, value)
+            }
+            Event::Hide { client, name } => self.hide(client, name),
+            Event::Free { client, slot, name } => {
+                name_fits(name);
+                self.free(client, slot, name)
+            }
+            Event::Empty { client } => self.empty(client),
+            Event::Write { client } => self.write(client),
+            Event::Read { client, name } => self.read(client, name),
+            Event::Enter { client } => self.enter(client),
+            Event::Charge { client, charge } => self.charge(client, charge),
+            Event::Slots { client } => self.slots(client),
+            Event::Settle { client } => self.settle(client),
+        }
+    }
+
     pub(crate) fn usage(&self) -> u64
         requires { IsLawful self.now }
         ensures { result ≡ usage_of self.now }
@@ -74,6 +130,47 @@ impl Machine {
         }
         sums::passed(&self.slots, &self.clients, slot)
     }
+}
+
+/// The slot of this number.
+fn slot_at(slots: &[Slot], slot: u32) -> Result<&Slot, CoreError>
+    ensures within { IfOk result (λ _. slot < length slots.now) }
+    ensures found { MatchResult result (λ found. slice_get slots.now slot ≡ Some found.now)
+        (λ error. (slice_get slots.now slot ≡ None) × (error ≡ CoreError.NoSuchSlot)) }
+{
+    slots.get(slot as usize).ok_or(CoreError::NoSuchSlot)
+}
+
+/// The client of this number.
+fn client_at(clients: &[Client], client: u32) -> Result<&Client, CoreError>
+    ensures within { IfOk result (λ _. client < length clients.now) }
+    ensures found { MatchResult result (λ found. slice_get clients.now client ≡ Some found.now)
+        (λ error. (slice_get clients.now client ≡ None) × (error ≡ CoreError.NoSuchClient)) }
+{
+    clients.get(client as usize).ok_or(CoreError::NoSuchClient)
+}
+
+/// The client of this number, which is live.
+fn live_at(clients: &[Client], client: u32) -> Result<&Client, CoreError>
+    ensures within { IfOk result (λ _. client < length clients.now) }
+    ensures found { MatchResult result
+        (λ found. (slice_get clients.now client ≡ Some found.now) × (found.now.live ≡ true))
+        (λ error. why_not_live clients.now client ≡ Some error) }
+{
+    let found = client_at(clients, client)?;
+    if !found.live {
+        return Err(CoreError::NotAllowed);
+    }
+    Ok(found)
+}
+
+/// The number of the slot on which this client holds this name.
+fn holding(slots: &[Slot], client: u32, name: u64) -> Result<usize, CoreError>
+    ensures within { IfOk result (λ slot. slot < length slots.now) }
+    ensures found { MatchResult result (λ slot. slot_holding slots.now client name ≡ Some slot)
+        (λ error. (slot_holding slots.now client name ≡ None) × (error ≡ CoreError.NotAllowed)) }
+{
+    slot_holding(slots, client, name).ok_or(CoreError::NotAllowed)
 }
 
 fn new_slots(alloc: Global, count: usize) -> Result<Vec<Slot>, AllocError>
@@ -113,4 +210,18 @@ fn new_client(alloc: Global) -> Client
         stamps: 0,
         dead: Listed::new(alloc),
     }
+}
+
+/// A name that was given is in its range.
+fn name_fits(name: Option<u64>)
+    ensures { name_fits name ≡ true }
+{
+    if let Some(_name) = name {}
+}
+
+/// The bytes of a value are bytes.
+fn bytes_fit(bytes: &[u8])
+    ensures { list_all (fits 8) bytes.now ≡ true }
+{
+    let _bytes = bytes;
 }

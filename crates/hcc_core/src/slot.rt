@@ -1,14 +1,15 @@
 //! What a step reads of a slot, and what it leaves in one.
-ghost use Rattle.std.specs.Prelude.{◌≡◌, ◌<◌, ◌+◌, ◌^◌, ◌∷◌, [], IfOk, OnOk, OnErr, IfSome, length, unwrap_or, sum_by};
+ghost use Rattle.std.specs.Prelude.{◌≡◌, ◌<◌, ◌+◌, ◌^◌, ◌⊎◌, IfOk, IfErr, OnOk, OnErr, IfSome, length, position, sum_by};
+ghost use Rattle.hcc_core.specs.declared.event.CoreError.TheVariants.{OutOfMemory};
 ghost use Rattle.std.specs.Option.{option_copied};
-ghost use Rattle.hcc_core.specs.World.{phase_of, phase_if, is_shareable, strays_of, references_of, uses_of, charge_of, trail_of, weight, weight_of, counts_in, is_named, reference_in, has_reference, has_client, slot_holding, times};
-ghost use Rattle.hcc_core.specs.Steps.{acquired, slot_acquired, without, slot_given, slot_used, slot_hidden, is_shown, hidden, dead_to, is_free_for};
+ghost use Rattle.hcc_core.specs.World.{phase_of, phase_if, is_shareable, strays_of, references_of, uses_of, charge_of, stamp_of, hidden_stamp, trail_of, weight_of, counts_in, is_named, reference_in, has_reference, has_client, slot_holding};
+ghost use Rattle.hcc_core.specs.Steps.{acquired, slot_acquired, without, slot_given, slot_used, slot_hidden, left_on, is_shown, dead_to, is_free_for, entry_read, counting_in};
 
-use crate::event::{Phase, Reply};
+use crate::event::{CoreError, Phase, Reply};
 use crate::limits::NEAR;
 use crate::listed::Listed;
 use crate::state::{Reference, Slot, Stamp};
-use std::alloc::AllocError;
+use std::alloc::{AllocError, Global};
 
 impl Slot {
     /// Its phase.
@@ -89,18 +90,26 @@ impl Slot {
     pub fn reference(&self, client: u32, name: u64) -> Option<&Reference>
         ensures { option_copied result ≡ reference_in client name (references_of self.now) }
     {
-        self.references()
-            .iter()
-            .find(|reference| reference.client == client && reference.name == name)
+        self.references().iter().find(|reference| reference.client == client
+            && reference.name == name)
+    }
+
+    /// This client's reference of this name, if it counts.
+    pub fn counting_reference(&self, client: u32, name: u64) -> Option<Reference>
+        ensures { result ≡ counting_in client name (references_of self.now) }
+    {
+        match self.reference(client, name) {
+            Some(reference) if reference.counting => Some(*reference),
+            _ => None,
+        }
     }
 
     /// Whether it has this client's reference of this name.
     pub fn has_reference(&self, client: u32, name: u64) -> bool
         ensures { result ≡ has_reference client name self.now }
     {
-        self.references()
-            .iter()
-            .any(|reference| reference.client == client && reference.name == name)
+        self.references().iter().any(|reference| reference.client == client
+            && reference.name == name)
     }
 
     /// Whether it has a reference of this client.
@@ -122,6 +131,155 @@ impl Slot {
             Slot::Shareable(resident) => resident.uses < NEAR,
         }
     }
+
+    /// What its references weigh, and what it is.
+    pub fn left(&self) -> Reply
+        requires { weight_of self.now < 2 ^ 64 }
+        ensures { result ≡ left_on self.now }
+    {
+        Reply::Left {
+            references: self.weight(),
+            phase: self.phase(),
+        }
+    }
+
+    /// The reply to an acquire here.
+    pub fn acquired(&self, counting: bool) -> Reply
+        ensures { result ≡ acquired self.now counting }
+    {
+        match self {
+            Slot::Empty { .. } => Reply::Stray,
+            Slot::Building { .. } => Reply::Stray,
+            Slot::Shareable(resident) => Reply::Got {
+                shown: resident.shown,
+                counting,
+            },
+        }
+    }
+
+    /// The stamp of its entry.
+    pub fn stamp(&self) -> Option<Stamp>
+        ensures { result ≡ stamp_of self.now }
+    {
+        match self {
+            Slot::Empty { .. } => None,
+            Slot::Building { .. } => None,
+            Slot::Shareable(resident) => Some(resident.entry.stamp),
+        }
+    }
+
+    /// The stamp of its entry, if that is hidden.
+    pub fn hidden_stamp(&self) -> Option<Stamp>
+        ensures { result ≡ hidden_stamp self.now }
+    {
+        match self {
+            Slot::Empty { .. } => None,
+            Slot::Building { .. } => None,
+            Slot::Shareable(resident) => {
+                if resident.shown {
+                    None
+                } else {
+                    Some(resident.entry.stamp)
+                }
+            }
+        }
+    }
+
+    /// The stamp of its entry, if that is hidden and this client holds a reference on it.
+    pub fn dead_to(&self, client: u32) -> Option<Stamp>
+        ensures { result ≡ dead_to client self.now }
+    {
+        if self.has_client(client) {
+            self.hidden_stamp()
+        } else {
+            None
+        }
+    }
+
+    /// Whether it has no reference but perhaps this client's, of weight 1 and this name.
+    pub fn is_free_for(&self, client: u32, name: Option<u64>) -> bool
+        ensures { result ≡ is_free_for client name (references_of self.now) }
+    {
+        is_free_for(self.references(), client, name)
+    }
+
+    /// Adds a reference, or strays. Where memory runs out the slot is unchanged.
+    pub fn acquire(&mut self, reference: Reference) -> Result<(), AllocError>
+        requires { strays_of self.old + reference.weight < 2 ^ 64 }
+        ensures ok { OnOk result (self.new ≡ slot_acquired self.old reference) }
+        ensures err { OnErr result (self.new ≡ self.old) }
+    {
+        match self {
+            Slot::Empty { strays } => *strays += reference.weight,
+            Slot::Building { strays, .. } => *strays += reference.weight,
+            Slot::Shareable(resident) => resident.references.push(reference)?,
+        }
+        Ok(())
+    }
+
+    /// Takes this client's reference of this name away.
+    pub fn give(&mut self, client: u32, name: u64)
+        ensures { self.new ≡ slot_given client name self.old }
+    {
+        match self {
+            Slot::Empty { .. } => {}
+            Slot::Building { .. } => {}
+            Slot::Shareable(resident) => take_away(&mut resident.references, client, name),
+        }
+    }
+
+    /// Takes this client's reference of this name away, as a use of its weight.
+    pub fn spend(&mut self, client: u32, name: u64, reference: Reference)
+        requires { uses_of self.old + reference.weight < 2 ^ 64 }
+        ensures { self.new ≡ slot_used client name reference self.old }
+    {
+        match self {
+            Slot::Empty { .. } => {}
+            Slot::Building { .. } => {}
+            Slot::Shareable(resident) => {
+                take_away(&mut resident.references, client, name);
+                resident.uses += reference.weight;
+            }
+        }
+    }
+
+    /// Hides its entry.
+    pub fn hide(&mut self)
+        ensures { self.new ≡ slot_hidden self.old }
+    {
+        match self {
+            Slot::Empty { .. } => {}
+            Slot::Building { .. } => {}
+            Slot::Shareable(resident) => resident.shown = false,
+        }
+    }
+
+    /// The trail of its entry, which goes.
+    pub fn into_trail(self, alloc: Global) -> Listed<u32>
+        ensures { result ≡ trail_of self }
+    {
+        match self {
+            Slot::Empty { .. } => Listed::new(alloc),
+            Slot::Building { .. } => Listed::new(alloc),
+            Slot::Shareable(resident) => resident.trail,
+        }
+    }
+
+    /// The key and value of its entry.
+    pub fn read(&self, alloc: Global) -> Result<Reply, CoreError>
+        ensures ok { IfOk result (λ reply. entry_read self.now ≡ Ok reply) }
+        ensures err { IfErr result (λ e. (e ≡ CoreError.OutOfMemory) ⊎ (entry_read self.now ≡ Err e)) }
+    {
+        match self {
+            Slot::Empty { .. } => Err(CoreError::NotAllowed),
+            Slot::Building { .. } => Err(CoreError::NotAllowed),
+            Slot::Shareable(resident) => Ok(Reply::Entry {
+                key0: resident.entry.key0,
+                key1: resident.entry.key1,
+                value: Listed::copied(alloc, resident.entry.value.as_slice())?,
+            }),
+        }
+    }
 }
 
 fn weight(references: &[Reference]) -> u64
@@ -135,4 +293,40 @@ fn phase_if(shown: bool) -> Phase
     ensures { result ≡ phase_if shown }
 {
     if shown { Phase::Shown } else { Phase::Hidden }
+}
+
+fn is_free_for(references: &[Reference], client: u32, name: Option<u64>) -> bool
+    ensures { result ≡ is_free_for client name references.now }
+{
+    match (name, references) {
+        (None, []) => true,
+        (Some(name), [only]) => only.client == client && only.name == name && only.weight == 1,
+        _ => false,
+    }
+}
+
+/// The first reference of this client and name goes.
+fn take_away(references: &mut Listed<Reference>, client: u32, name: u64)
+    ensures { references.new ≡ without client name references.old }
+{
+    if let Some(place) = place_of(references.as_slice(), client, name) {
+        references.remove(place);
+    }
+}
+
+fn place_of(references: &[Reference], client: u32, name: u64) -> Option<usize>
+    ensures first { result ≡ position (is_named client name) references.now }
+    ensures within { IfSome result (λ place. place < length references.now) }
+{
+    references.iter().position(|reference| reference.client == client && reference.name == name)
+}
+
+/// The first slot on which this client holds this name.
+pub fn slot_holding(slots: &[Slot], client: u32, name: u64) -> Option<usize>
+    ensures first { result ≡ slot_holding slots.now client name }
+    ensures within { IfSome result (λ slot. slot < length slots.now) }
+{
+    slots
+        .iter()
+        .position(|slot| slot.has_reference(client, name))
 }

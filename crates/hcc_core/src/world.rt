@@ -60,8 +60,7 @@ impl World {
     pub fn step(&mut self, event: Event) -> Result<Reply, CoreError>
         ensures { Follows (outcome_of self.old event) self.old result self.new }
     {
-        let _event = event;
-        Err(CoreError::OutOfMemory)
+        self.machine.step(event)
     }
 
     /// The slot of this number, or `None` where there is none.

@@ -1,4 +1,4 @@
-use Rattle.std.proofs.Common.{◌≡◌, ◌∙◌, ap, arith}
+use Rattle.std.proofs.Common.{◌∙◌, ap, arith}
 use Rattle.hcc_core.specs.World.{State}
 use Rattle.hcc_core.proofs.Readable.{occupancy_fits, few_setup}
 use Rattle.hcc_core.proofs.machine.Machine.occupancy.Goals as goal

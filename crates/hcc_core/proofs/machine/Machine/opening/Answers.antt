@@ -1,4 +1,4 @@
-use Rattle.std.proofs.Common.{◌≡◌, refl}
+use Rattle.std.proofs.Common.{refl}
 use Rattle.hcc_core.specs.Steps.{opening_of}
 use Rattle.hcc_core.proofs.machine.Machine.opening.Goals as goal
 

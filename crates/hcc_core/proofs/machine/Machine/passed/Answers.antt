@@ -1,4 +1,4 @@
-use Rattle.std.proofs.Common.{◌≡◌, ◌∙◌, ap, arith}
+use Rattle.std.proofs.Common.{◌∙◌, ap, arith}
 use Rattle.hcc_core.specs.World.{State}
 use Rattle.hcc_core.proofs.Readable.{passed_fits}
 use Rattle.hcc_core.proofs.machine.Machine.passed.Goals as goal

@@ -1,5 +1,3 @@
-use Rattle.std.proofs.Common.{◌≡◌, ◌∙◌, ap, length, arith}
-use Rattle.hcc_core.specs.World.{State}
 use Rattle.hcc_core.proofs.Readable.{few_slots}
 use Rattle.hcc_core.proofs.world.World.slot.Goals as goal
 

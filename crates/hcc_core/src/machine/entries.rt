@@ -1,0 +1,230 @@
+//! The steps that move entries: occupy, show, free, empty and write.
+ghost use Rattle.std.specs.Prelude.{◌≡◌, ◌≤◌, IfOk, true};
+ghost use Rattle.hcc_core.specs.World.{references_of};
+ghost use Rattle.hcc_core.specs.Steps.{Follows, occupy_of, strays_if_empty, show_of, is_fresh, may_show, AllowsShow, first_references, first_uses, free_of, may_free, empty_of, has_no_member, write_of};
+ghost use Rattle.hcc_core.specs.Lawful.{IsLawful};
+
+use crate::event::{CoreError, Reply};
+use crate::limits::{MOST_WEIGHT, STAMPS_PER_CLIENT};
+use crate::listed::Listed;
+use crate::machine::{Machine, live_at, slot_at};
+use crate::slot::slot_holding;
+use crate::state::{Client, Entry, Owned, Place, Reference, Resident, Slot, Stamp};
+use std::alloc::{AllocError, Global};
+use std::mem;
+
+impl Machine {
+    pub(crate) fn occupy(&mut self, client: u32, slot: u32) -> Result<Reply, CoreError>
+        ensures { Follows (occupy_of self.old client slot) self.old result self.new }
+    {
+        let empty = strays_if_empty(slot_at(&self.slots, slot)?);
+        if !live_at(&self.clients, client)?.owned.is_nothing() {
+            return Err(CoreError::NotAllowed);
+        }
+        match empty {
+            None => self.look(client, slot),
+            Some(strays) => {
+                self.clients[client as usize].owned = Owned::ForBuilding(slot);
+                self.slots[slot as usize] = Slot::Building { client, strays };
+                Ok(Reply::Taken)
+            }
+        }
+    }
+
+    #[tactic(auto, unfolding(crate::specs::Steps::show_of))]
+    pub(crate) fn show(
+        &mut self,
+        client: u32,
+        key: (u64, u64),
+        charge: u32,
+        countdown: u64,
+        name: Option<u64>,
+        value: Listed<u8>,
+    ) -> Result<Reply, CoreError>
+        requires { IsLawful self.old }
+        ensures { Follows (show_of self.old client key.0 key.1 charge countdown name value) self.old result self.new }
+    {
+        let found = live_at(&self.clients, client)?;
+        let Some(slot) = found.owned.built() else {
+            return Err(CoreError::NotAllowed);
+        };
+        if !may_show(&self.slots, client, found, charge, countdown, name) {
+            return Err(CoreError::NotAllowed);
+        }
+        let references = first_references(self.alloc, client, name)?;
+        let stamps = found.stamps + 1;
+        let granted = found.granted - charge as u64;
+        let uses = first_uses(countdown, name);
+        let found = &mut self.clients[client as usize];
+        let resident = Resident {
+            shown: true,
+            entry: Entry {
+                key0: key.0,
+                key1: key.1,
+                stamp: Stamp {
+                    client,
+                    number: found.stamps,
+                },
+                value,
+                charge: charge as u64,
+            },
+            trail: mem::replace(&mut found.trail, Listed::new(self.alloc)),
+            references,
+            uses,
+            hit: false,
+        };
+        found.stamps = stamps;
+        found.granted = granted;
+        found.place = Place::Absent;
+        found.owned = Owned::Nothing;
+        self.slots[slot as usize] = Slot::Shareable(resident);
+        Ok(Reply::Ok)
+    }
+
+    #[tactic(auto, unfolding(crate::specs::Steps::free_of))]
+    pub(crate) fn free(
+        &mut self,
+        client: u32,
+        slot: u32,
+        name: Option<u64>,
+    ) -> Result<Reply, CoreError>
+        requires { IsLawful self.old }
+        ensures { Follows (free_of self.old client slot name) self.old result self.new }
+    {
+        let seen = slot_at(&self.slots, slot)?;
+        let found = live_at(&self.clients, client)?;
+        if !may_free(client, found, seen, name) {
+            return Err(CoreError::NotAllowed);
+        }
+        let charge = seen.charge();
+        let freed = found.freed + charge;
+        let freed_slots = found.freed_slots + 1;
+        let dead = found.with_dead(self.alloc, seen.dead_to(client))?;
+        let building = Slot::Building { client, strays: 0 };
+        let taken = mem::replace(&mut self.slots[slot as usize], building);
+        let found = &mut self.clients[client as usize];
+        found.owned = Owned::ForFreeing(slot);
+        found.trail = taken.into_trail(self.alloc);
+        found.freed = freed;
+        found.freed_slots = freed_slots;
+        found.note(dead);
+        Ok(Reply::Freed { charge })
+    }
+
+    #[tactic(auto, unfolding(crate::specs::Steps::empty_of))]
+    pub(crate) fn empty(&mut self, client: u32) -> Result<Reply, CoreError>
+        requires { IsLawful self.old }
+        ensures { Follows (empty_of self.old client) self.old result self.new }
+    {
+        let found = live_at(&self.clients, client)?;
+        let Some(slot) = found.owned.freed() else {
+            return Err(CoreError::NotAllowed);
+        };
+        if !is_empty(found.trail.as_slice()) {
+            return Err(CoreError::NotAllowed);
+        }
+        self.clients[client as usize].owned = Owned::Nothing;
+        self.slots[slot as usize] = Slot::Empty { strays: 0 };
+        Ok(Reply::Ok)
+    }
+
+    pub(crate) fn write(&mut self, client: u32) -> Result<Reply, CoreError>
+        ensures { Follows (write_of self.old client) self.old result self.new }
+    {
+        if !live_at(&self.clients, client)?.owned.is_building() {
+            return Err(CoreError::NotAllowed);
+        }
+        Ok(Reply::Ok)
+    }
+}
+
+/// The strays of an empty slot.
+fn strays_if_empty(slot: &Slot) -> Option<u64>
+    ensures { result ≡ strays_if_empty slot.now }
+{
+    match slot {
+        Slot::Empty { strays } => Some(*strays),
+        Slot::Building { .. } => None,
+        Slot::Shareable(_) => None,
+    }
+}
+
+/// Whether no reference of this client has the name.
+fn is_fresh(slots: &[Slot], client: u32, name: Option<u64>) -> bool
+    ensures { result ≡ is_fresh slots.now client name }
+{
+    match name {
+        None => true,
+        Some(name) => slot_holding(slots, client, name).is_none(),
+    }
+}
+
+/// Whether a client that is live may show an entry in the slot that it builds.
+#[tactic(auto, unfolding(crate::specs::Steps::may_show))]
+fn may_show(
+    slots: &[Slot],
+    client: u32,
+    found: &Client,
+    charge: u32,
+    countdown: u64,
+    name: Option<u64>,
+) -> bool
+    ensures test { result ≡ may_show slots.now client found.now charge countdown name }
+    ensures allowed { result ≡ true → AllowsShow found.now charge countdown }
+{
+    found.place.is_granted()
+        && found.needed == 0
+        && charge as u64 <= found.granted
+        && 1 <= countdown
+        && countdown <= MOST_WEIGHT
+        && is_fresh(slots, client, name)
+        && found.stamps < STAMPS_PER_CLIENT
+}
+
+fn first_references(
+    alloc: Global,
+    client: u32,
+    name: Option<u64>,
+) -> Result<Listed<Reference>, AllocError>
+    ensures { IfOk result (λ references. references ≡ first_references client name) }
+{
+    let mut references = Listed::new(alloc);
+    if let Some(name) = name {
+        references.push(Reference {
+            client,
+            name,
+            weight: 1,
+            counting: true,
+        })?;
+    }
+    Ok(references)
+}
+
+fn first_uses(countdown: u64, name: Option<u64>) -> u64
+    requires { 1 ≤ countdown }
+    ensures { result ≡ first_uses countdown name }
+{
+    match name {
+        None => countdown,
+        Some(_) => countdown - 1,
+    }
+}
+
+/// Whether a client that is live may take the slot to free it.
+fn may_free(client: u32, found: &Client, seen: &Slot, name: Option<u64>) -> bool
+    ensures { result ≡ may_free client found.now seen.now name }
+{
+    found.owned.is_nothing()
+        && is_empty(found.trail.as_slice())
+        && seen.is_shareable()
+        && seen.is_free_for(client, name)
+}
+
+fn is_empty(trail: &[u32]) -> bool
+    ensures { result ≡ has_no_member trail.now }
+{
+    match trail {
+        [] => true,
+        [_, ..] => false,
+    }
+}
