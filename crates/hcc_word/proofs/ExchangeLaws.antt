@@ -1,0 +1,79 @@
+-- What the clock and a correction make of the code of a slot.
+use Rattle.std.proofs.Common.{◌≡◌, ℕ, ◌+◌, ◌-◌, ◌^◌, ◌<◌, ◌≤◌, ◌↔◌, Bool, true, false, arith, sym, refl, ap, ◌∙◌, add-zero}
+use Rattle.std.specs.Prelude.{if◌then◌else◌}
+use Rattle.hcc_word.specs.declared.layout.TheConstants.{CORRECTION, NEAR, INVISIBLE, VISIBLE}
+use Rattle.hcc_word.specs.Word.{state_of, word_of}
+use Rattle.hcc_word.specs.Code.{code_of_empty, code_of_building, code_of_shareable}
+use Rattle.hcc_word.specs.Near.{IsNear}
+use Rattle.hcc_word.specs.Changes.{IsClockable, IsCorrectable, clocked_countdown, clocked_word, corrected_word}
+use Rattle.hcc_word.proofs.CodeLaws.{code_of_shareable-word_of, state_of-empty, state_of-building, acquires_of-shareable, releases_of-shareable, refs_of-shareable, hit_of-shareable, state_of-shareable}
+
+-- ---- the clock's exchange
+
+-- The clock counts no empty slot.
+pub IsClockable-empty : (strays : ℕ) → strays < 2 ^ 30 → IsClockable (code_of_empty strays) → ⊥
+IsClockable-empty strays few clockable =
+    let state : state_of (code_of_empty strays) ≡ 0 = state_of-empty strays few in
+    let visible : state_of (code_of_empty strays) ≡ 7 = clockable.visible in
+    omega arith
+
+-- The clock counts no slot under construction.
+pub IsClockable-building : (strays : ℕ) → strays < 2 ^ 30 → IsClockable (code_of_building strays) → ⊥
+IsClockable-building strays few clockable =
+    let state : state_of (code_of_building strays) ≡ 4 = state_of-building strays few in
+    let visible : state_of (code_of_building strays) ≡ 7 = clockable.visible in
+    omega arith
+
+visible_state : (visible : Bool) → (if visible then VISIBLE else INVISIBLE) ≡ VISIBLE → visible ≡ true
+visible_state true same = refl
+visible_state false same = absurd (omega arith)
+
+module _ {most uses refs counting : ℕ} (hit visible : Bool) (near : IsNear most uses refs counting) where
+  -- The clock counts a slot with an entry exactly where it is visible, unreferenced and has uses.
+  pub IsClockable-shareable : IsClockable (code_of_shareable uses refs hit visible)
+      ↔ ((visible ≡ true) × (refs ≡ 0) × (0 < uses))
+  IsClockable-shareable =
+      let state = state_of-shareable hit visible near in
+      let no_refs = refs_of-shareable hit visible near in
+      let count = releases_of-shareable hit visible near in (
+        (λ (c : IsClockable (code_of_shareable uses refs hit visible)).
+            (visible_state visible (sym state ∙ c.visible), sym no_refs ∙ c.unreferenced, rw count at c.counted)),
+        (λ (h : (visible ≡ true) × (refs ≡ 0) × (0 < uses)). record {
+          visible = state ∙ ap (λ (v : Bool). if v then VISIBLE else INVISIBLE) h.0;
+          unreferenced = no_refs ∙ h.1;
+          counted = rw count h.2;
+        }),
+      )
+
+  -- The clock's exchange that wins: the uses are those that the clock leaves, and the hit bit is kept.
+  pub clocked_word-shareable : clocked_word (code_of_shareable uses refs hit visible)
+      ≡ code_of_shareable (clocked_countdown uses) 0 hit true
+  clocked_word-shareable =
+      let count = releases_of-shareable hit visible near in
+      let bit = hit_of-shareable hit visible near in
+      let left : ℕ = clocked_countdown uses in
+      rw (count, bit) (ap (λ (acquires : ℕ). word_of acquires left hit VISIBLE) (sym (add-zero left))
+      ∙ sym (code_of_shareable-word_of left 0 hit true))
+
+  -- A correction is made at a slot with an entry exactly where its uses are at NEAR or above.
+  pub IsCorrectable-shareable : IsCorrectable (code_of_shareable uses refs hit visible) ↔ (NEAR ≤ uses)
+  IsCorrectable-shareable =
+      let acquired = acquires_of-shareable hit visible near in
+      let count = releases_of-shareable hit visible near in (
+        (λ (c : IsCorrectable (code_of_shareable uses refs hit visible)). rw count at c.near),
+        (λ (h : NEAR ≤ uses). record { near = rw count h; enough = rw acquired (omega arith) }),
+      )
+
+  -- The correction's exchange that wins: the uses are 2^29 fewer, and nothing else changes.
+  pub corrected_word-shareable : NEAR ≤ uses → corrected_word (code_of_shareable uses refs hit visible)
+      ≡ code_of_shareable (uses - CORRECTION) refs hit visible
+  corrected_word-shareable high =
+      let acquired = acquires_of-shareable hit visible near in
+      let count = releases_of-shareable hit visible near in
+      let bit = hit_of-shareable hit visible near in
+      let state = state_of-shareable hit visible near in
+      let fewer : ℕ = uses - CORRECTION in
+      let sum : uses + refs - CORRECTION ≡ fewer + refs = omega arith in
+      rw (acquired, count, bit, state)
+      (ap (λ (acquires : ℕ). word_of acquires fewer hit (if visible then VISIBLE else INVISIBLE)) sum
+      ∙ sym (code_of_shareable-word_of fewer refs hit visible))

@@ -1,0 +1,7 @@
+mod Bits
+pub mod FieldLaws
+pub mod NearLaws
+pub mod CodeLaws
+pub mod StepLaws
+pub mod ExchangeLaws
+pub mod SeedLaws

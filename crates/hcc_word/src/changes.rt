@@ -1,0 +1,72 @@
+//! The words that a client stores, or puts in place of the one that it found.
+
+ghost use Rattle.std.specs.Prelude.{◌≡◌, ◌-◌, ◌^◌, ◌<◌, ◌≤◌, true, false};
+ghost use Rattle.std.specs.Option.{SomeIff};
+ghost use Rattle.std.specs.Int.{from_bool};
+ghost use Rattle.hcc_word.specs.Word.{word_of};
+ghost use Rattle.hcc_word.specs.Code.{code_of_shareable};
+ghost use Rattle.hcc_word.specs.Changes.{IsClockable, clocked_word, IsCorrectable, corrected_word};
+
+use crate::fields::{acquires, hit, refs, releases, state};
+use crate::layout::{
+    CORRECTION, COUNTER_BITS, GREATEST_CLOCKED, GREATEST_START, HIT_PLACE, NEAR, STATE_PLACE,
+    VISIBLE,
+};
+
+/// The word of a new visible entry with this countdown, of which its maker keeps a reference or not.
+///
+/// Acquires begin at the countdown. So do releases where nothing is kept, and one below it otherwise.
+pub fn started(countdown: u32, keep: bool) -> u64
+    requires some { 0 < countdown }
+    requires in_range { countdown ≤ GREATEST_START }
+    ensures fields { result ≡ word_of countdown (countdown - from_bool keep) false VISIBLE }
+    ensures entry { result ≡ code_of_shareable (countdown - from_bool keep) (from_bool keep) false true }
+{
+    packed(countdown, countdown - u32::from(keep), false, VISIBLE)
+}
+
+/// What the clock puts in place of this word: the countdown is one less, and at most 2.
+///
+/// `None` exactly where the clock does not count: a slot that is not visible, or is referenced, or has
+/// countdown 0.
+pub fn clocked(word: u64) -> Option<u64>
+    ensures { SomeIff result (IsClockable word) (clocked_word word) }
+{
+    let countdown = releases(word);
+    if state(word) != VISIBLE || refs(word) != 0 || countdown == 0 {
+        return None;
+    }
+    let left = (countdown - 1).min(GREATEST_CLOCKED);
+    Some(packed(left, left, hit(word), VISIBLE))
+}
+
+/// What a correction puts in place of this word: 2^29 less in both counters.
+///
+/// `None` exactly where releases are below [`NEAR`] or acquires below 2^29.
+pub fn corrected(word: u64) -> Option<u64>
+    ensures { SomeIff result (IsCorrectable word) (corrected_word word) }
+{
+    let (acquires, releases) = (acquires(word), releases(word));
+    if releases < NEAR || acquires < CORRECTION {
+        return None;
+    }
+    Some(packed(
+        acquires - CORRECTION,
+        releases - CORRECTION,
+        hit(word),
+        state(word),
+    ))
+}
+
+/// The word with these four fields.
+fn packed(acquires: u32, releases: u32, hit: bool, state: u8) -> u64
+    requires acquires_fit { acquires < 2 ^ COUNTER_BITS }
+    requires releases_fit { releases < 2 ^ COUNTER_BITS }
+    requires state_fits { state < 8 }
+    ensures { result ≡ word_of acquires releases hit state }
+{
+    u64::from(state) << STATE_PLACE
+        | u64::from(hit) << HIT_PLACE
+        | u64::from(releases) << COUNTER_BITS
+        | u64::from(acquires)
+}
