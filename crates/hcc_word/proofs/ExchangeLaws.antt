@@ -1,9 +1,8 @@
 -- What the clock and a correction make of the code of a slot.
 use Rattle.std.proofs.Common.{◌≡◌, ℕ, ◌+◌, ◌-◌, ◌^◌, ◌<◌, ◌≤◌, ◌↔◌, Bool, true, false, arith, sym, refl, ap, ◌∙◌, add-zero}
-use Rattle.std.specs.Prelude.{if◌then◌else◌}
-use Rattle.hcc_word.specs.declared.layout.TheConstants.{CORRECTION, NEAR, INVISIBLE, VISIBLE}
+use Rattle.hcc_word.specs.declared.layout.TheConstants.{CORRECTION, NEAR, VISIBLE}
 use Rattle.hcc_word.specs.Word.{state_of, word_of}
-use Rattle.hcc_word.specs.Code.{code_of_empty, code_of_building, code_of_shareable}
+use Rattle.hcc_word.specs.Code.{code_of_empty, code_of_building, code_of_shareable, entry_state}
 use Rattle.hcc_word.specs.Near.{IsNear}
 use Rattle.hcc_word.specs.Changes.{IsClockable, IsCorrectable, clocked_countdown, clocked_word, corrected_word}
 use Rattle.hcc_word.proofs.CodeLaws.{code_of_shareable-word_of, state_of-empty, state_of-building, acquires_of-shareable, releases_of-shareable, refs_of-shareable, hit_of-shareable, state_of-shareable}
@@ -24,7 +23,7 @@ IsClockable-building strays few clockable =
     let visible : state_of (code_of_building strays) ≡ 7 = clockable.visible in
     omega arith
 
-visible_state : (visible : Bool) → (if visible then VISIBLE else INVISIBLE) ≡ VISIBLE → visible ≡ true
+visible_state : (visible : Bool) → entry_state visible ≡ VISIBLE → visible ≡ true
 visible_state true same = refl
 visible_state false same = absurd (omega arith)
 
@@ -39,7 +38,7 @@ module _ {most uses refs counting : ℕ} (hit visible : Bool) (near : IsNear mos
         (λ (c : IsClockable (code_of_shareable uses refs hit visible)).
             (visible_state visible (sym state ∙ c.visible), sym no_refs ∙ c.unreferenced, rw count at c.counted)),
         (λ (h : (visible ≡ true) × (refs ≡ 0) × (0 < uses)). record {
-          visible = state ∙ ap (λ (v : Bool). if v then VISIBLE else INVISIBLE) h.0;
+          visible = state ∙ ap entry_state h.0;
           unreferenced = no_refs ∙ h.1;
           counted = rw count h.2;
         }),
@@ -75,5 +74,5 @@ module _ {most uses refs counting : ℕ} (hit visible : Bool) (near : IsNear mos
       let fewer : ℕ = uses - CORRECTION in
       let sum : uses + refs - CORRECTION ≡ fewer + refs = omega arith in
       rw (acquired, count, bit, state)
-      (ap (λ (acquires : ℕ). word_of acquires fewer hit (if visible then VISIBLE else INVISIBLE)) sum
+      (ap (λ (acquires : ℕ). word_of acquires fewer hit (entry_state visible)) sum
       ∙ sym (code_of_shareable-word_of fewer refs hit visible))

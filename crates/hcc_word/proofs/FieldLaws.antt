@@ -1,19 +1,20 @@
 -- The fields of a word.
 use Rattle.std.proofs.Common.{◌≡◌, ℕ, zero, suc, ◌+◌, ◌*◌, ◌/◌, ◌%◌, ◌^◌, ◌<◌, Bool, true, false, arith, refl, ap, nat_eq}
 use Rattle.std.specs.Int.{from_bool}
+use Rattle.hcc_word.specs.declared.layout.TheConstants.{COUNTER_BITS, HIT_PLACE, STATE_PLACE}
 use Rattle.hcc_word.specs.Word.{acquires_of, releases_of, refs_of, hit_of, state_of, word_of}
 
 -- ---- ranges
 
-pub acquires_of-lt : (word : ℕ) → acquires_of word < 2 ^ 30
+pub acquires_of-lt : (word : ℕ) → acquires_of word < 2 ^ COUNTER_BITS
 unfolding acquires_of
 acquires_of-lt word = omega arith
 
-pub releases_of-lt : (word : ℕ) → releases_of word < 2 ^ 30
+pub releases_of-lt : (word : ℕ) → releases_of word < 2 ^ COUNTER_BITS
 unfolding releases_of
 releases_of-lt word = omega arith
 
-pub refs_of-lt : (word : ℕ) → refs_of word < 2 ^ 30
+pub refs_of-lt : (word : ℕ) → refs_of word < 2 ^ COUNTER_BITS
 unfolding refs_of
 refs_of-lt word = omega arith
 
@@ -25,14 +26,14 @@ state_of-lt word fits = omega arith
 pub refs_of-zero : (word : ℕ) → refs_of word ≡ 0 → acquires_of word ≡ releases_of word
 unfolding refs_of
 refs_of-zero word none =
-    let a : acquires_of word < 1073741824 = acquires_of-lt word in
-    let r : releases_of word < 1073741824 = releases_of-lt word in
+    let a : acquires_of word < 2 ^ COUNTER_BITS = acquires_of-lt word in
+    let r : releases_of word < 2 ^ COUNTER_BITS = releases_of-lt word in
     omega arith
 
 -- ---- the fields of the word that is made of them
 
-module _ (acquires releases : ℕ) (hit : Bool) (state : ℕ) (acquires_fit : acquires < 2 ^ 30)
-    (releases_fit : releases < 2 ^ 30) where
+module _ (acquires releases : ℕ) (hit : Bool) (state : ℕ) (acquires_fit : acquires < 2 ^ COUNTER_BITS)
+    (releases_fit : releases < 2 ^ COUNTER_BITS) where
   pub acquires_of-word_of : acquires_of (word_of acquires releases hit state) ≡ acquires
   unfolding acquires_of word_of
   acquires_of-word_of = let h : ℕ = from_bool hit in omega arith
@@ -45,23 +46,23 @@ module _ (acquires releases : ℕ) (hit : Bool) (state : ℕ) (acquires_fit : ac
   unfolding hit_of word_of
   hit_of-word_of = by_hit hit
     where
-      by_hit : (h : Bool) → nat_eq ((acquires + releases * 1073741824 + from_bool h * 1152921504606846976
-          + state * 2305843009213693952) / 1152921504606846976 % 2) 1 ≡ h
+      by_hit : (h : Bool) → nat_eq ((acquires + releases * 2 ^ COUNTER_BITS + from_bool h * 2 ^ HIT_PLACE
+          + state * 2 ^ STATE_PLACE) / 2 ^ HIT_PLACE % 2) 1 ≡ h
       by_hit true =
-          let set : (acquires + releases * 1073741824 + 1152921504606846976
-          + state * 2305843009213693952) / 1152921504606846976 % 2 ≡ 1 = omega arith in
+          let set : (acquires + releases * 2 ^ COUNTER_BITS + 2 ^ HIT_PLACE
+          + state * 2 ^ STATE_PLACE) / 2 ^ HIT_PLACE % 2 ≡ 1 = omega arith in
           ap (λ (x : ℕ). nat_eq x 1) set
       by_hit false =
-          let clear : (acquires + releases * 1073741824 + 0
-          + state * 2305843009213693952) / 1152921504606846976 % 2 ≡ 0 = omega arith in
+          let clear : (acquires + releases * 2 ^ COUNTER_BITS + 0
+          + state * 2 ^ STATE_PLACE) / 2 ^ HIT_PLACE % 2 ≡ 0 = omega arith in
           ap (λ (x : ℕ). nat_eq x 1) clear
 
   pub state_of-word_of : state_of (word_of acquires releases hit state) ≡ state
   unfolding state_of word_of
   state_of-word_of = by_hit hit
     where
-      by_hit : (h : Bool) → (acquires + releases * 1073741824 + from_bool h * 1152921504606846976
-          + state * 2305843009213693952) / 2305843009213693952 ≡ state
+      by_hit : (h : Bool) → (acquires + releases * 2 ^ COUNTER_BITS + from_bool h * 2 ^ HIT_PLACE
+          + state * 2 ^ STATE_PLACE) / 2 ^ STATE_PLACE ≡ state
       by_hit true = omega arith
       by_hit false = omega arith
 
@@ -74,7 +75,7 @@ bit_from_test (suc (suc more)) low = absurd (omega arith)
 pub word_of-fields : (word : ℕ) → word_of (acquires_of word) (releases_of word) (hit_of word) (state_of word) ≡ word
 unfolding acquires_of releases_of hit_of state_of word_of
 word_of-fields word =
-    let bit : ℕ = word / 1152921504606846976 % 2 in
+    let bit : ℕ = word / 2 ^ HIT_PLACE % 2 in
     let low : bit < 2 = omega arith in
     let tested : ℕ = from_bool (nat_eq bit 1) in
     let same : tested ≡ bit = bit_from_test bit low in

@@ -1,5 +1,6 @@
 mod Bits
 pub mod FieldLaws
+pub mod WordLaws
 pub mod NearLaws
 pub mod CodeLaws
 pub mod StepLaws

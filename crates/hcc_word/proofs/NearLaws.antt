@@ -1,10 +1,10 @@
 -- What the nearness bound gives, and that each step keeps it.
 use Rattle.std.proofs.Common.{◌≡◌, ℕ, ◌+◌, ◌*◌, ◌^◌, ◌<◌, ◌≤◌, arith}
-use Rattle.hcc_word.specs.declared.layout.TheConstants.{NEAR}
+use Rattle.hcc_word.specs.declared.layout.TheConstants.{COUNTER_BITS, NEAR}
 use Rattle.hcc_word.specs.Near.{IsNear}
 
 -- Both counters stay within their fields, however many steps were made: every step cites it by its code's law.
-pub uses_and_refs_fit : {most uses refs counting : ℕ} → IsNear most uses refs counting → uses + refs < 2 ^ 30
+pub uses_and_refs_fit : {most uses refs counting : ℕ} → IsNear most uses refs counting → uses + refs < 2 ^ COUNTER_BITS
 uses_and_refs_fit near = omega arith
 
 -- An acquire that found releases below NEAR keeps the bound: its references are counting.

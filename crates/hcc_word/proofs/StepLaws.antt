@@ -1,171 +1,127 @@
 -- What each kind of step makes of the code of a slot.
-use Rattle.std.proofs.Common.{◌≡◌, ℕ, ◌+◌, ◌-◌, ◌*◌, ◌%◌, ◌^◌, ◌<◌, ◌≤◌, Bool, true, false, arith, refl, bit_or, bit_and}
-use Rattle.std.specs.Prelude.{if◌then◌else◌}
+use Rattle.std.proofs.Common.{◌≡◌, ℕ, ◌+◌, ◌-◌, ◌*◌, ◌%◌, ◌^◌, ◌<◌, ◌≤◌, Bool, true, false, arith, refl, sym, ap, ◌∙◌, bit_or, bit_and}
 use Rattle.std.specs.Int.{from_bool}
-use Rattle.hcc_word.specs.declared.layout.TheConstants.{HIT_PLACE, STATE_PLACE, ONE_RELEASE, HIT_BIT, OCCUPIED_BIT, HIDING_MASK, CONSTRUCTION_WORD, EMPTY_WORD, INVISIBLE, VISIBLE}
+use Rattle.hcc_word.specs.declared.layout.TheConstants.{COUNTER_BITS, ONE_RELEASE, HIT_BIT, OCCUPIED_BIT, HIDING_MASK, CONSTRUCTION, CONSTRUCTION_WORD, EMPTY_WORD, VISIBLE}
 use Rattle.hcc_word.specs.Word.{word_of}
-use Rattle.hcc_word.specs.Code.{code_of_empty, code_of_building, code_of_shareable}
+use Rattle.hcc_word.specs.Code.{code_of_empty, code_of_building, code_of_shareable, entry_state}
 use Rattle.hcc_word.specs.Near.{IsNear}
-use Rattle.hcc_word.proofs.Bits.{from_bool-le, or-occupied_bit_low, or-occupied_bit_high, and-not_visible_bit, or-hit_bit}
+use Rattle.hcc_word.proofs.Bits.{from_bool-le, or-occupied_bit_low, or-occupied_bit_high}
+use Rattle.hcc_word.proofs.WordLaws.{word_of-lt, add_acquires-word_of, take_acquires-word_of, add_releases-word_of, or_occupied-word_of, and_hide-word_of, or_hit-word_of}
+use Rattle.hcc_word.proofs.CodeLaws.{code_of_shareable-word_of}
 use Rattle.hcc_word.proofs.NearLaws.{uses_and_refs_fit}
 
--- a state has three bits, and that of a slot with an entry has the upper two
-state_bounds : (visible : Bool)
-    → (INVISIBLE ≤ (if visible then VISIBLE else INVISIBLE)) × ((if visible then VISIBLE else INVISIBLE) ≤ VISIBLE)
-state_bounds true = (omega arith, omega arith)
-state_bounds false = (omega arith, omega arith)
+-- ---- the steps at an empty slot, and at one under construction
 
--- ---- steps that add to acquires
+module _ (strays : ℕ) where
+  -- An acquire of n that finds an empty slot: the acquires stray there.
+  pub add_acquires-empty : (n : ℕ) → strays + n < 2 ^ COUNTER_BITS
+      → (code_of_empty strays + n) % 2 ^ 64 ≡ code_of_empty (strays + n)
+  unfolding code_of_empty
+  add_acquires-empty n few = omega arith
 
--- An acquire of n that finds an empty slot: the acquires stray there.
-pub add_acquires-empty : (strays n : ℕ) → strays + n < 2 ^ 30
-    → (code_of_empty strays + n) % 2 ^ 64 ≡ code_of_empty (strays + n)
-unfolding code_of_empty
-add_acquires-empty strays n few = omega arith
+  -- An acquire of n that finds a slot under construction: the acquires stray there.
+  pub add_acquires-building : (n : ℕ) → strays + n < 2 ^ COUNTER_BITS
+      → (code_of_building strays + n) % 2 ^ 64 ≡ code_of_building (strays + n)
+  unfolding code_of_building
+  add_acquires-building n few = omega arith
 
--- An acquire of n that finds a slot under construction: the acquires stray there.
-pub add_acquires-building : (strays n : ℕ) → strays + n < 2 ^ 30
-    → (code_of_building strays + n) % 2 ^ 64 ≡ code_of_building (strays + n)
-unfolding code_of_building
-add_acquires-building strays n few = omega arith
+  -- The or of the occupied bit at an empty slot: it is under construction, and keeps its strays.
+  pub or_occupied-empty : strays < 2 ^ COUNTER_BITS
+      → bit_or (code_of_empty strays) OCCUPIED_BIT ≡ code_of_building strays
+  unfolding code_of_empty code_of_building
+  or_occupied-empty few = or-occupied_bit_low strays (omega arith)
 
--- An acquire of n that finds a slot with an entry: it has n references more.
-pub add_acquires-shareable : {most uses refs counting : ℕ} (n after : ℕ) (hit visible : Bool)
-    → IsNear most uses refs counting → after ≡ refs + n → after ≤ most
-    → (code_of_shareable uses refs hit visible + n) % 2 ^ 64 ≡ code_of_shareable uses after hit visible
-unfolding code_of_shareable
-add_acquires-shareable {uses = u} {refs = r} n after hit visible near sum few =
-    let h : ℕ = from_bool hit in
-    let h_low : h ≤ 1 = from_bool-le hit in
-    let s : ℕ = if visible then VISIBLE else INVISIBLE in
-    let s_low : s ≤ 7 = (state_bounds visible).1 in
-    let fits : u + after < 2 ^ 30 = omega arith in
-    omega arith
+  -- The or of the occupied bit at a slot under construction: nothing changes.
+  pub or_occupied-building : strays < 2 ^ COUNTER_BITS
+      → bit_or (code_of_building strays) OCCUPIED_BIT ≡ code_of_building strays
+  unfolding code_of_building
+  or_occupied-building few = or-occupied_bit_high (strays + OCCUPIED_BIT) (omega arith) (omega arith)
 
--- ---- the step that takes from acquires
+-- ---- the steps at a slot with an entry
 
--- A give-back of n references that are there: they go.
-pub take_acquires-shareable : {most uses refs counting : ℕ} (n left : ℕ) (hit visible : Bool)
-    → IsNear most uses refs counting → left + n ≡ refs
-    → (code_of_shareable uses refs hit visible + (2 ^ 64 - n)) % 2 ^ 64 ≡ code_of_shareable uses left hit visible
-unfolding code_of_shareable
-take_acquires-shareable {uses = u} {refs = r} n left hit visible near sum =
-    let h : ℕ = from_bool hit in
-    let h_low : h ≤ 1 = from_bool-le hit in
-    let s : ℕ = if visible then VISIBLE else INVISIBLE in
-    let s_low : s ≤ 7 = (state_bounds visible).1 in
-    let fits : u + r < 2 ^ 30 = uses_and_refs_fit near in
-    omega arith
+entry_state-lt : (visible : Bool) → entry_state visible < 8
+entry_state-lt true = omega arith
+entry_state-lt false = omega arith
 
--- ---- the step that adds to releases
+entry_state-occupied : (visible : Bool) → CONSTRUCTION ≤ entry_state visible
+entry_state-occupied true = omega arith
+entry_state-occupied false = omega arith
 
--- A useful release of n counting references: they become uses.
-pub add_releases-shareable : {most uses refs counting : ℕ} (n left : ℕ) (hit visible : Bool)
-    → IsNear most uses refs counting → left + n ≡ refs → n ≤ counting
-    → (code_of_shareable uses refs hit visible + n * ONE_RELEASE) % 2 ^ 64
-    ≡ code_of_shareable (uses + n) left hit visible
-unfolding code_of_shareable
-add_releases-shareable {uses = u} {refs = r} n left hit visible near sum counted =
-    let h : ℕ = from_bool hit in
-    let h_low : h ≤ 1 = from_bool-le hit in
-    let s : ℕ = if visible then VISIBLE else INVISIBLE in
-    let s_low : s ≤ 7 = (state_bounds visible).1 in
-    let fits : u + n + left < 2 ^ 30 = omega arith in
-    let near_again : u + n < 2 ^ 30 = omega arith in
-    omega arith
+entry_state-hidden : (visible : Bool) → bit_and (entry_state visible) 6 ≡ entry_state false
+entry_state-hidden true = refl
+entry_state-hidden false = refl
 
--- ---- the or of the occupied bit
+module _ {most uses refs counting : ℕ} (hit visible : Bool) (near : IsNear most uses refs counting) where
+  as_word : code_of_shareable uses refs hit visible ≡ word_of (uses + refs) uses hit (entry_state visible)
+  as_word = code_of_shareable-word_of uses refs hit visible
 
--- At an empty slot: it is under construction, and keeps its strays.
-pub or_occupied-empty : (strays : ℕ) → strays < 2 ^ 30
-    → bit_or (code_of_empty strays) OCCUPIED_BIT ≡ code_of_building strays
-unfolding code_of_empty code_of_building
-or_occupied-empty strays few = or-occupied_bit_low strays (omega arith)
+  acquires_fit : uses + refs < 2 ^ COUNTER_BITS
+  acquires_fit = uses_and_refs_fit near
 
--- At a slot under construction: nothing changes.
-pub or_occupied-building : (strays : ℕ) → strays < 2 ^ 30
-    → bit_or (code_of_building strays) OCCUPIED_BIT ≡ code_of_building strays
-unfolding code_of_building
-or_occupied-building strays few = or-occupied_bit_high (strays + OCCUPIED_BIT) (omega arith) (omega arith)
+  releases_fit : uses < 2 ^ COUNTER_BITS
+  releases_fit = let fits = uses_and_refs_fit near in omega arith
 
--- the word of a slot with an entry has the occupied bit, and is a word
-shareable_bounds : {most uses refs counting : ℕ} (hit visible : Bool) → IsNear most uses refs counting
-    → (OCCUPIED_BIT ≤ code_of_shareable uses refs hit visible) × (code_of_shareable uses refs hit visible < 2 ^ 64)
-unfolding code_of_shareable
-shareable_bounds {uses = u} {refs = r} hit visible near =
-    let h : ℕ = from_bool hit in
-    let h_low : h ≤ 1 = from_bool-le hit in
-    let s : ℕ = if visible then VISIBLE else INVISIBLE in
-    let s_high : 6 ≤ s = (state_bounds visible).0 in
-    let s_low : s ≤ 7 = (state_bounds visible).1 in
-    let fits : u + r < 2 ^ 30 = uses_and_refs_fit near in
-    (omega arith, omega arith)
+  -- Any step: the code is a word.
+  pub code_of_shareable-lt : code_of_shareable uses refs hit visible < 2 ^ 64
+  code_of_shareable-lt =
+      rw as_word (word_of-lt (uses + refs) uses hit (entry_state visible) acquires_fit releases_fit
+      (entry_state-lt visible))
 
--- At a slot with an entry: nothing changes.
-pub or_occupied-shareable : {most uses refs counting : ℕ} (hit visible : Bool) → IsNear most uses refs counting
-    → bit_or (code_of_shareable uses refs hit visible) OCCUPIED_BIT ≡ code_of_shareable uses refs hit visible
-or_occupied-shareable {uses = u} {refs = r} hit visible near =
-    let bounds = shareable_bounds hit visible near in
-    or-occupied_bit_high (code_of_shareable u r hit visible) bounds.0 bounds.1
+  -- An acquire of n: there are n references more.
+  pub add_acquires-shareable : (n after : ℕ) → after ≡ refs + n → after ≤ most
+      → (code_of_shareable uses refs hit visible + n) % 2 ^ 64 ≡ code_of_shareable uses after hit visible
+  add_acquires-shareable n after sum few =
+      let fits : uses + refs + n < 2 ^ COUNTER_BITS = omega arith in
+      let acquires : uses + refs + n ≡ uses + after = omega arith in
+      rw as_word (add_acquires-word_of (uses + refs) uses hit (entry_state visible) acquires_fit releases_fit
+      (entry_state-lt visible) n fits)
+      ∙ (ap (λ (a : ℕ). word_of a uses hit (entry_state visible)) acquires
+      ∙ sym (code_of_shareable-word_of uses after hit visible))
 
--- Any step that finds a slot with an entry: its code is a word.
-pub code_of_shareable-lt : {most uses refs counting : ℕ} (hit visible : Bool) → IsNear most uses refs counting
-    → code_of_shareable uses refs hit visible < 2 ^ 64
-code_of_shareable-lt hit visible near = (shareable_bounds hit visible near).1
+  -- A give-back of n references that are there: they go.
+  pub take_acquires-shareable : (n left : ℕ) → left + n ≡ refs
+      → (code_of_shareable uses refs hit visible + (2 ^ 64 - n)) % 2 ^ 64 ≡ code_of_shareable uses left hit visible
+  take_acquires-shareable n left there =
+      let acquires : uses + left + n ≡ uses + refs = omega arith in
+      rw as_word (take_acquires-word_of (uses + refs) uses hit (entry_state visible) acquires_fit releases_fit
+      (entry_state-lt visible) n (uses + left) acquires)
+      ∙ sym (code_of_shareable-word_of uses left hit visible)
 
--- ---- the and that hides
+  -- A useful release of n counting references: they become uses.
+  pub add_releases-shareable : (n left : ℕ) → left + n ≡ refs → n ≤ counting
+      → (code_of_shareable uses refs hit visible + n * ONE_RELEASE) % 2 ^ 64
+      ≡ code_of_shareable (uses + n) left hit visible
+  add_releases-shareable n left there counted =
+      let fits : uses + n < 2 ^ COUNTER_BITS = omega arith in
+      let acquires : uses + refs ≡ uses + n + left = omega arith in
+      rw as_word (add_releases-word_of (uses + refs) uses hit (entry_state visible) acquires_fit releases_fit
+      (entry_state-lt visible) n fits)
+      ∙ (ap (λ (a : ℕ). word_of a (uses + n) hit (entry_state visible)) acquires
+      ∙ sym (code_of_shareable-word_of (uses + n) left hit visible))
 
--- At a slot with an entry, visible or not: it is invisible, and nothing else changes.
-pub and_hide-shareable : {most uses refs counting : ℕ} (hit visible : Bool) → IsNear most uses refs counting
-    → bit_and (code_of_shareable uses refs hit visible) HIDING_MASK ≡ code_of_shareable uses refs hit false
-unfolding code_of_shareable
-and_hide-shareable {uses = u} {refs = r} hit visible near =
-    let h : ℕ = from_bool hit in
-    let h_low : h ≤ 1 = from_bool-le hit in
-    let fits : u + r < 2 ^ 30 = uses_and_refs_fit near in
-    let rest : ℕ = (u + r) + u * 1073741824 + h * 1152921504606846976 in
-    let rest_low : rest < 2305843009213693952 = omega arith in
-    elim visible as (λ (v : Bool). bit_and (rest + (if v then VISIBLE else INVISIBLE) * 2305843009213693952)
-    HIDING_MASK ≡ rest + INVISIBLE * 2305843009213693952)
-    [ true ↦ cleared 7 refl rest rest_low | false ↦ cleared 6 refl rest rest_low ]
-  where
-    cleared : (s : ℕ) → bit_and s 6 ≡ 6 → (rest : ℕ) → rest < 2305843009213693952
-        → bit_and (rest + s * 2305843009213693952) 16140901064495857663 ≡ rest + 6 * 2305843009213693952
-    cleared s upper rest low =
-        let turned : rest + s * 2305843009213693952 ≡ s * 2305843009213693952 + rest = omega arith in
-        let e = and-not_visible_bit s rest low in
-        let back : 6 * 2305843009213693952 + rest ≡ rest + 6 * 2305843009213693952 = omega arith in
-        cc
+  -- The or of the occupied bit: nothing changes.
+  pub or_occupied-shareable :
+      bit_or (code_of_shareable uses refs hit visible) OCCUPIED_BIT ≡ code_of_shareable uses refs hit visible
+  or_occupied-shareable =
+      rw as_word (or_occupied-word_of (uses + refs) uses hit (entry_state visible) acquires_fit releases_fit
+      (entry_state-lt visible) (entry_state-occupied visible))
 
--- ---- the or of the hit bit
+  -- The and that hides: the entry is invisible, whether or not it was.
+  pub and_hide-shareable :
+      bit_and (code_of_shareable uses refs hit visible) HIDING_MASK ≡ code_of_shareable uses refs hit false
+  and_hide-shareable =
+      rw as_word (and_hide-word_of (uses + refs) uses hit (entry_state visible) acquires_fit releases_fit
+      (entry_state-lt visible))
+      ∙ (ap (λ (state : ℕ). word_of (uses + refs) uses hit state) (entry_state-hidden visible)
+      ∙ sym (code_of_shareable-word_of uses refs hit false))
 
-set_hit : (hit state rest : ℕ) → bit_or (state * 2 + hit) 1 ≡ state * 2 + 1 → rest < 2 ^ HIT_PLACE → hit ≤ 1
-    → bit_or (rest + hit * 2 ^ HIT_PLACE + state * 2 ^ STATE_PLACE) HIT_BIT
-    ≡ rest + 2 ^ HIT_PLACE + state * 2 ^ STATE_PLACE
-set_hit h s rest upper low h_low =
-    let top : ℕ = s * 2 + h in
-    let word : ℕ = rest + h * 1152921504606846976 + s * 2305843009213693952 in
-    let turned : word ≡ top * 1152921504606846976 + rest = omega arith in
-    let set = or-hit_bit top rest low in
-    let back : (s * 2 + 1) * 1152921504606846976 + rest
-    ≡ rest + 1152921504606846976 + s * 2305843009213693952 = omega arith in
-    cc
-
-set_hit_of : (hit visible : Bool) (rest : ℕ) → rest < 2 ^ HIT_PLACE
-    → bit_or (rest + from_bool hit * 2 ^ HIT_PLACE + (if visible then VISIBLE else INVISIBLE) * 2 ^ STATE_PLACE) HIT_BIT
-    ≡ rest + 2 ^ HIT_PLACE + (if visible then VISIBLE else INVISIBLE) * 2 ^ STATE_PLACE
-set_hit_of true true rest low = set_hit 1 7 rest refl low (omega arith)
-set_hit_of true false rest low = set_hit 1 6 rest refl low (omega arith)
-set_hit_of false true rest low = set_hit 0 7 rest refl low (omega arith)
-set_hit_of false false rest low = set_hit 0 6 rest refl low (omega arith)
-
--- At a slot with an entry: it is marked, and nothing else changes.
-pub or_hit-shareable : {most uses refs counting : ℕ} (hit visible : Bool) → IsNear most uses refs counting
-    → bit_or (code_of_shareable uses refs hit visible) HIT_BIT ≡ code_of_shareable uses refs true visible
-unfolding code_of_shareable
-or_hit-shareable {uses = u} {refs = r} hit visible near =
-    let fits : u + r < 2 ^ 30 = uses_and_refs_fit near in
-    set_hit_of hit visible ((u + r) + u * 1073741824) (omega arith)
+  -- The or of the hit bit: the entry is marked, whether or not it was.
+  pub or_hit-shareable :
+      bit_or (code_of_shareable uses refs hit visible) HIT_BIT ≡ code_of_shareable uses refs true visible
+  or_hit-shareable =
+      rw as_word (or_hit-word_of (uses + refs) uses hit (entry_state visible) acquires_fit releases_fit
+      (entry_state-lt visible))
+      ∙ sym (code_of_shareable-word_of uses refs true visible)
 
 -- ---- the stores, and the exchange to construction
 
@@ -179,12 +135,15 @@ pub store_empty : EMPTY_WORD ≡ code_of_empty 0
 unfolding code_of_empty
 store_empty = refl
 
--- The store that shows an entry: its word is that of a visible slot with these uses, and the maker's reference or none.
+-- The store that shows an entry: its word is that of a visible slot with these uses, and the maker's reference
+-- or none.
 pub store_visible : (countdown : ℕ) (keep : Bool) → 0 < countdown
     → word_of countdown (countdown - from_bool keep) false VISIBLE
     ≡ code_of_shareable (countdown - from_bool keep) (from_bool keep) false true
-unfolding word_of code_of_shareable
 store_visible countdown keep some =
-    let k : ℕ = from_bool keep in
-    let k_low : k ≤ 1 = from_bool-le keep in
-    omega arith
+    let uses : ℕ = countdown - from_bool keep in
+    let kept : ℕ = from_bool keep in
+    let kept_low : kept ≤ 1 = from_bool-le keep in
+    let sum : countdown ≡ uses + kept = omega arith in
+    ap (λ (acquires : ℕ). word_of acquires uses false VISIBLE) sum
+    ∙ sym (code_of_shareable-word_of uses kept false true)

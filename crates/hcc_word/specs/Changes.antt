@@ -1,7 +1,21 @@
--- The words that the clock and a correction put in place of the one found.
+-- What a change of a word leaves of its fields.
 use Rattle.std.specs.Prelude.{ℕ, ◌-◌, ◌≡◌, ◌<◌, ◌≤◌, min}
 use Rattle.hcc_word.specs.declared.layout.TheConstants.{CORRECTION, GREATEST_CLOCKED, NEAR, VISIBLE}
 use Rattle.hcc_word.specs.Word.{acquires_of, releases_of, refs_of, hit_of, state_of, word_of}
+
+-- the new word has this acquire counter, and the old word's other fields
+pub record SetsAcquires (old new acquires : ℕ) : Type 0 where
+  pub changed : acquires_of new ≡ acquires
+  pub releases : releases_of new ≡ releases_of old
+  pub hit : hit_of new ≡ hit_of old
+  pub state : state_of new ≡ state_of old
+
+-- the new word has this release counter, and the old word's other fields
+pub record SetsReleases (old new releases : ℕ) : Type 0 where
+  pub changed : releases_of new ≡ releases
+  pub acquires : acquires_of new ≡ acquires_of old
+  pub hit : hit_of new ≡ hit_of old
+  pub state : state_of new ≡ state_of old
 
 -- the clock counts a visible entry with no references and a countdown above 0
 pub record IsClockable (word : ℕ) : Type 0 where

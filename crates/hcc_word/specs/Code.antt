@@ -11,8 +11,12 @@ code_of_empty strays = strays
 unfoldable pub code_of_building : (strays : ℕ) → ℕ
 code_of_building strays = strays + OCCUPIED_BIT
 
+-- the state of a slot with an entry
+abbrev pub entry_state : (visible : Bool) → ℕ
+entry_state visible = if visible then VISIBLE else INVISIBLE
+
 -- a slot with an entry: its uses in both counters and its references in the first, the hit bit, and the state
 unfoldable pub code_of_shareable : (uses refs : ℕ) (hit visible : Bool) → ℕ
 code_of_shareable uses refs hit visible =
     (uses + refs) + uses * 2 ^ COUNTER_BITS + from_bool hit * 2 ^ HIT_PLACE
-    + (if visible then VISIBLE else INVISIBLE) * 2 ^ STATE_PLACE
+    + entry_state visible * 2 ^ STATE_PLACE

@@ -1,17 +1,47 @@
-//! The words that a client stores, or puts in place of the one that it found.
+//! The words that steps leave of the one that they found, or put in its place.
 
-ghost use Rattle.std.specs.Prelude.{◌≡◌, ◌-◌, ◌^◌, ◌<◌, ◌≤◌, true, false};
+ghost use Rattle.std.specs.Prelude.{◌≡◌, ◌+◌, ◌-◌, ◌*◌, ◌%◌, ◌^◌, ◌<◌, ◌≤◌, true, false};
 ghost use Rattle.std.specs.Option.{SomeIff};
 ghost use Rattle.std.specs.Int.{from_bool};
-ghost use Rattle.hcc_word.specs.Word.{word_of};
+ghost use Rattle.hcc_word.specs.Word.{acquires_of, releases_of, word_of};
 ghost use Rattle.hcc_word.specs.Code.{code_of_shareable};
-ghost use Rattle.hcc_word.specs.Changes.{IsClockable, clocked_word, IsCorrectable, corrected_word};
+ghost use Rattle.hcc_word.specs.Changes.{SetsAcquires, SetsReleases, IsClockable, clocked_word, IsCorrectable, corrected_word};
 
 use crate::fields::{acquires, hit, refs, releases, state};
 use crate::layout::{
-    CORRECTION, COUNTER_BITS, GREATEST_CLOCKED, GREATEST_START, HIT_PLACE, NEAR, STATE_PLACE,
-    VISIBLE,
+    CORRECTION, COUNTER_BITS, GREATEST_CLOCKED, GREATEST_START, HIT_PLACE, NEAR, ONE_RELEASE,
+    STATE_PLACE, VISIBLE,
 };
+
+/// The word that an acquire of `n` leaves of this one.
+///
+/// It carries into no other field while the acquire counter stays below 2^30.
+pub fn acquired(word: u64, n: u32) -> u64
+    ensures sum { result ≡ (word + n) % 2 ^ 64 }
+    ensures no_carry { acquires_of word + n < 2 ^ COUNTER_BITS → SetsAcquires word result (acquires_of word + n) }
+{
+    word.wrapping_add(u64::from(n))
+}
+
+/// The word that giving `n` references back leaves of this one: they are taken from acquires.
+///
+/// It borrows from no other field where they are there.
+pub fn given_back(word: u64, n: u32) -> u64
+    ensures difference { result ≡ (word + (2 ^ 64 - n)) % 2 ^ 64 }
+    ensures no_borrow { n ≤ acquires_of word → SetsAcquires word result (acquires_of word - n) }
+{
+    word.wrapping_sub(u64::from(n))
+}
+
+/// The word that a useful release of `n` leaves of this one: they are added to releases.
+///
+/// It carries into no other field while the release counter stays below 2^30.
+pub fn released(word: u64, n: u32) -> u64
+    ensures sum { result ≡ (word + n * ONE_RELEASE) % 2 ^ 64 }
+    ensures no_carry { releases_of word + n < 2 ^ COUNTER_BITS → SetsReleases word result (releases_of word + n) }
+{
+    word.wrapping_add(u64::from(n) * ONE_RELEASE)
+}
 
 /// The word of a new visible entry with this countdown, of which its maker keeps a reference or not.
 ///
