@@ -30,7 +30,8 @@ or-fields a r hit s a_fits r_fits s_fits =
     let releases_is : r * 2 ^ COUNTER_BITS % 2 ^ 64 ≡ r * 2 ^ COUNTER_BITS = omega arith in
     let with_hit : bit_or (s * 2 ^ STATE_PLACE) (h * 2 ^ HIT_PLACE) ≡ top * 2 ^ HIT_PLACE =
     or_shifted s 61 (h * 2 ^ HIT_PLACE) (omega arith) ∙ omega arith in
-    let with_releases : bit_or (top * 2 ^ HIT_PLACE) (r * 2 ^ COUNTER_BITS) ≡ high * 2 ^ COUNTER_BITS =
+    let with_releases : bit_or (top * 2 ^ HIT_PLACE) (r * 2 ^ COUNTER_BITS)
+    ≡ high * 2 ^ COUNTER_BITS =
     or_shifted top 60 (r * 2 ^ COUNTER_BITS) (omega arith) ∙ omega arith in
     let with_acquires : bit_or (high * 2 ^ COUNTER_BITS) a ≡ high * 2 ^ COUNTER_BITS + a =
     or_shifted high 30 a (omega arith) in
@@ -42,7 +43,8 @@ or-fields a r hit s a_fits r_fits s_fits =
 pub test-hit_bit : (word : ℕ) → not (nat_eq (bit_and word HIT_BIT) 0) ≡ hit_of word
 unfolding hit_of
 test-hit_bit word =
-    ap (λ (x : ℕ). not (nat_eq x 0)) (and_pow word 60) ∙ by_bit (word / 2 ^ HIT_PLACE % 2) (omega arith)
+    ap (λ (x : ℕ). not (nat_eq x 0)) (and_pow word 60)
+    ∙ by_bit (word / 2 ^ HIT_PLACE % 2) (omega arith)
   where
     by_bit : (bit : ℕ) → bit < 2 → not (nat_eq (bit * 2 ^ HIT_PLACE) 0) ≡ nat_eq bit 1
     by_bit bit low = grind arith
@@ -103,7 +105,8 @@ or-hit_bit state hit rest low =
     below_two false = omega arith
 
 -- acquires less releases, where the program subtracts them as 32-bit words and masks the rest
-pub and-difference : (acquires releases : ℕ) → acquires < 2 ^ COUNTER_BITS → releases < 2 ^ COUNTER_BITS
+pub and-difference : (acquires releases : ℕ)
+    → acquires < 2 ^ COUNTER_BITS → releases < 2 ^ COUNTER_BITS
     → bit_and ((acquires + (2 ^ 32 - releases)) % 2 ^ 32) COUNTER_MASK
     ≡ (acquires + (2 ^ COUNTER_BITS - releases)) % 2 ^ COUNTER_BITS
 and-difference a r a_fits r_fits =

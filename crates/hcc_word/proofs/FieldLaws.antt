@@ -32,8 +32,8 @@ refs_of-zero word none =
 
 -- ---- the fields of the word that is made of them
 
-module _ (acquires releases : ℕ) (hit : Bool) (state : ℕ) (acquires_fit : acquires < 2 ^ COUNTER_BITS)
-    (releases_fit : releases < 2 ^ COUNTER_BITS) where
+module _ (acquires releases : ℕ) (hit : Bool) (state : ℕ)
+    (acquires_fit : acquires < 2 ^ COUNTER_BITS) (releases_fit : releases < 2 ^ COUNTER_BITS) where
   pub acquires_of-word_of : acquires_of (word_of acquires releases hit state) ≡ acquires
   unfolding acquires_of word_of
   acquires_of-word_of = let h : ℕ = from_bool hit in omega arith
@@ -72,7 +72,8 @@ bit_from_test (suc zero) low = refl
 bit_from_test (suc (suc more)) low = absurd (omega arith)
 
 -- a word is the word of its fields
-pub word_of-fields : (word : ℕ) → word_of (acquires_of word) (releases_of word) (hit_of word) (state_of word) ≡ word
+pub word_of-fields : (word : ℕ)
+    → word_of (acquires_of word) (releases_of word) (hit_of word) (state_of word) ≡ word
 unfolding acquires_of releases_of hit_of state_of word_of
 word_of-fields word =
     let bit : ℕ = word / 2 ^ HIT_PLACE % 2 in

@@ -2,6 +2,7 @@
 use Rattle.std.proofs.Common.{◌≡◌, ℕ, ◌+◌, ◌-◌, ◌*◌, ◌/◌, ◌%◌, ◌^◌, ◌<◌, Bool, true, false, arith, sym, refl, ap, ◌∙◌, nat_eq}
 use Rattle.std.proofs.lemmas.Nat.{xor_lt}
 use Rattle.std.specs.Prelude.{bit_xor, if◌then◌else◌}
+use Rattle.hcc_word.specs.declared.seeding.TheConstants.{SEED_MULTIPLIER}
 use Rattle.hcc_word.specs.Seeding.{folded, mixture, seeded_key, unseeded_key}
 
 folded-lt : (word : ℕ) → word < 2 ^ 64 → folded word < 2 ^ 64
@@ -12,7 +13,7 @@ folded-lt word fits = xor_lt 64 word (word / 2 ^ 32) fits (omega arith)
 pub mixture-lt : (seed word : ℕ) → mixture seed word < 2 ^ 64
 unfolding mixture
 mixture-lt seed word =
-    let product : ℕ = bit_xor word seed * 11400714819323198485 % 2 ^ 64 in
+    let product : ℕ = bit_xor word seed * SEED_MULTIPLIER % 2 ^ 64 in
     let product_fits : product < 2 ^ 64 = omega arith in
     elim (nat_eq seed 0) as (λ (none : Bool). (if none then 0 else folded product) < 2 ^ 64)
     [ true ↦ omega arith | false ↦ folded-lt product product_fits ]
@@ -54,12 +55,14 @@ seeded_key-unseeded_key seed h0 h1 fits0 fits1 =
     pair (ap (λ (h : ℕ). (k0 + mixture seed h) % 2 ^ 64) word1 ∙ word0) word1
 
 -- different keys stay different
-pub seeded_key-injective : (seed j0 j1 k0 k1 : ℕ) → j0 < 2 ^ 64 → j1 < 2 ^ 64 → k0 < 2 ^ 64 → k1 < 2 ^ 64
+pub seeded_key-injective : (seed j0 j1 k0 k1 : ℕ)
+    → j0 < 2 ^ 64 → j1 < 2 ^ 64 → k0 < 2 ^ 64 → k1 < 2 ^ 64
     → seeded_key seed (j0, j1) ≡ seeded_key seed (k0, k1) → (j0 ≡ k0) × (j1 ≡ k1)
 seeded_key-injective seed j0 j1 k0 k1 j0_fits j1_fits k0_fits k1_fits same =
     let back_j = unseeded_key-seeded_key seed j0 j1 j0_fits j1_fits in
     let back_k = unseeded_key-seeded_key seed k0 k1 k0_fits k1_fits in
-    let one_key : ◌≡◌ {A = ℕ × ℕ} (j0, j1) (k0, k1) = sym back_j ∙ (ap (unseeded_key seed) same ∙ back_k) in
+    let one_key : ◌≡◌ {A = ℕ × ℕ} (j0, j1) (k0, k1) =
+    sym back_j ∙ (ap (unseeded_key seed) same ∙ back_k) in
     (ap (λ (key : ℕ × ℕ). key.0) one_key, ap (λ (key : ℕ × ℕ). key.1) one_key)
 
 -- seed 0 changes no key

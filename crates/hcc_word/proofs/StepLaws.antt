@@ -35,7 +35,8 @@ module _ (strays : ℕ) where
   pub or_occupied-building : strays < 2 ^ COUNTER_BITS
       → bit_or (code_of_building strays) OCCUPIED_BIT ≡ code_of_building strays
   unfolding code_of_building
-  or_occupied-building few = or-occupied_bit_high (strays + OCCUPIED_BIT) (omega arith) (omega arith)
+  or_occupied-building few =
+      or-occupied_bit_high (strays + OCCUPIED_BIT) (omega arith) (omega arith)
 
 -- ---- the steps at a slot with an entry
 
@@ -51,8 +52,10 @@ entry_state-hidden : (visible : Bool) → bit_and (entry_state visible) 6 ≡ en
 entry_state-hidden true = refl
 entry_state-hidden false = refl
 
-module _ {most uses refs counting : ℕ} (hit visible : Bool) (near : IsNear most uses refs counting) where
-  as_word : code_of_shareable uses refs hit visible ≡ word_of (uses + refs) uses hit (entry_state visible)
+module _ {most uses refs counting : ℕ} (hit visible : Bool)
+    (near : IsNear most uses refs counting) where
+  as_word : code_of_shareable uses refs hit visible
+      ≡ word_of (uses + refs) uses hit (entry_state visible)
   as_word = code_of_shareable-word_of uses refs hit visible
 
   acquires_fit : uses + refs < 2 ^ COUNTER_BITS
@@ -64,27 +67,29 @@ module _ {most uses refs counting : ℕ} (hit visible : Bool) (near : IsNear mos
   -- Any step: the code is a word.
   pub code_of_shareable-lt : code_of_shareable uses refs hit visible < 2 ^ 64
   code_of_shareable-lt =
-      rw as_word (word_of-lt (uses + refs) uses hit (entry_state visible) acquires_fit releases_fit
-      (entry_state-lt visible))
+      rw as_word (word_of-lt (uses + refs) uses hit (entry_state visible)
+      acquires_fit releases_fit (entry_state-lt visible))
 
   -- An acquire of n: there are n references more.
   pub add_acquires-shareable : (n after : ℕ) → after ≡ refs + n → after ≤ most
-      → (code_of_shareable uses refs hit visible + n) % 2 ^ 64 ≡ code_of_shareable uses after hit visible
+      → (code_of_shareable uses refs hit visible + n) % 2 ^ 64
+      ≡ code_of_shareable uses after hit visible
   add_acquires-shareable n after sum few =
       let fits : uses + refs + n < 2 ^ COUNTER_BITS = omega arith in
       let acquires : uses + refs + n ≡ uses + after = omega arith in
-      rw as_word (add_acquires-word_of (uses + refs) uses hit (entry_state visible) acquires_fit releases_fit
-      (entry_state-lt visible) n fits)
+      rw as_word (add_acquires-word_of (uses + refs) uses hit (entry_state visible)
+      acquires_fit releases_fit (entry_state-lt visible) n fits)
       ∙ (ap (λ (a : ℕ). word_of a uses hit (entry_state visible)) acquires
       ∙ sym (code_of_shareable-word_of uses after hit visible))
 
   -- A give-back of n references that are there: they go.
   pub take_acquires-shareable : (n left : ℕ) → left + n ≡ refs
-      → (code_of_shareable uses refs hit visible + (2 ^ 64 - n)) % 2 ^ 64 ≡ code_of_shareable uses left hit visible
+      → (code_of_shareable uses refs hit visible + (2 ^ 64 - n)) % 2 ^ 64
+      ≡ code_of_shareable uses left hit visible
   take_acquires-shareable n left there =
       let acquires : uses + left + n ≡ uses + refs = omega arith in
-      rw as_word (take_acquires-word_of (uses + refs) uses hit (entry_state visible) acquires_fit releases_fit
-      (entry_state-lt visible) n (uses + left) acquires)
+      rw as_word (take_acquires-word_of (uses + refs) uses hit (entry_state visible)
+      acquires_fit releases_fit (entry_state-lt visible) n (uses + left) acquires)
       ∙ sym (code_of_shareable-word_of uses left hit visible)
 
   -- A useful release of n counting references: they become uses.
@@ -94,33 +99,36 @@ module _ {most uses refs counting : ℕ} (hit visible : Bool) (near : IsNear mos
   add_releases-shareable n left there counted =
       let fits : uses + n < 2 ^ COUNTER_BITS = omega arith in
       let acquires : uses + refs ≡ uses + n + left = omega arith in
-      rw as_word (add_releases-word_of (uses + refs) uses hit (entry_state visible) acquires_fit releases_fit
-      (entry_state-lt visible) n fits)
+      rw as_word (add_releases-word_of (uses + refs) uses hit (entry_state visible)
+      acquires_fit releases_fit (entry_state-lt visible) n fits)
       ∙ (ap (λ (a : ℕ). word_of a (uses + n) hit (entry_state visible)) acquires
       ∙ sym (code_of_shareable-word_of (uses + n) left hit visible))
 
   -- The or of the occupied bit: nothing changes.
   pub or_occupied-shareable :
-      bit_or (code_of_shareable uses refs hit visible) OCCUPIED_BIT ≡ code_of_shareable uses refs hit visible
+      bit_or (code_of_shareable uses refs hit visible) OCCUPIED_BIT
+      ≡ code_of_shareable uses refs hit visible
   or_occupied-shareable =
-      rw as_word (or_occupied-word_of (uses + refs) uses hit (entry_state visible) acquires_fit releases_fit
-      (entry_state-lt visible) (entry_state-occupied visible))
+      rw as_word (or_occupied-word_of (uses + refs) uses hit (entry_state visible)
+      acquires_fit releases_fit (entry_state-lt visible) (entry_state-occupied visible))
 
   -- The and that hides: the entry is invisible, whether or not it was.
   pub and_hide-shareable :
-      bit_and (code_of_shareable uses refs hit visible) HIDING_MASK ≡ code_of_shareable uses refs hit false
+      bit_and (code_of_shareable uses refs hit visible) HIDING_MASK
+      ≡ code_of_shareable uses refs hit false
   and_hide-shareable =
-      rw as_word (and_hide-word_of (uses + refs) uses hit (entry_state visible) acquires_fit releases_fit
-      (entry_state-lt visible))
+      rw as_word (and_hide-word_of (uses + refs) uses hit (entry_state visible)
+      acquires_fit releases_fit (entry_state-lt visible))
       ∙ (ap (λ (state : ℕ). word_of (uses + refs) uses hit state) (entry_state-hidden visible)
       ∙ sym (code_of_shareable-word_of uses refs hit false))
 
   -- The or of the hit bit: the entry is marked, whether or not it was.
   pub or_hit-shareable :
-      bit_or (code_of_shareable uses refs hit visible) HIT_BIT ≡ code_of_shareable uses refs true visible
+      bit_or (code_of_shareable uses refs hit visible) HIT_BIT
+      ≡ code_of_shareable uses refs true visible
   or_hit-shareable =
-      rw as_word (or_hit-word_of (uses + refs) uses hit (entry_state visible) acquires_fit releases_fit
-      (entry_state-lt visible))
+      rw as_word (or_hit-word_of (uses + refs) uses hit (entry_state visible)
+      acquires_fit releases_fit (entry_state-lt visible))
       ∙ sym (code_of_shareable-word_of uses refs true visible)
 
 -- ---- the stores, and the exchange to construction
@@ -135,8 +143,8 @@ pub store_empty : EMPTY_WORD ≡ code_of_empty 0
 unfolding code_of_empty
 store_empty = refl
 
--- The store that shows an entry: its word is that of a visible slot with these uses, and the maker's reference
--- or none.
+-- The store that shows an entry: its word is that of a visible slot with these uses, and its
+-- maker's reference or none.
 pub store_visible : (countdown : ℕ) (keep : Bool) → 0 < countdown
     → word_of countdown (countdown - from_bool keep) false VISIBLE
     ≡ code_of_shareable (countdown - from_bool keep) (from_bool keep) false true

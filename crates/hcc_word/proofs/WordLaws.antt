@@ -9,8 +9,9 @@ use Rattle.hcc_word.proofs.FieldLaws.{acquires_of-lt, releases_of-lt, state_of-l
 
 -- ---- the word of four fields
 
-module _ (acquires releases : ℕ) (hit : Bool) (state : ℕ) (acquires_fit : acquires < 2 ^ COUNTER_BITS)
-    (releases_fit : releases < 2 ^ COUNTER_BITS) (state_fits : state < 8) where
+module _ (acquires releases : ℕ) (hit : Bool) (state : ℕ)
+    (acquires_fit : acquires < 2 ^ COUNTER_BITS) (releases_fit : releases < 2 ^ COUNTER_BITS)
+    (state_fits : state < 8) where
   -- a word is below 2^64
   pub word_of-lt : word_of acquires releases hit state < 2 ^ 64
   unfolding word_of
@@ -21,7 +22,8 @@ module _ (acquires releases : ℕ) (hit : Bool) (state : ℕ) (acquires_fit : ac
 
   -- an add of n that stays within the acquire counter
   pub add_acquires-word_of : (n : ℕ) → acquires + n < 2 ^ COUNTER_BITS
-      → (word_of acquires releases hit state + n) % 2 ^ 64 ≡ word_of (acquires + n) releases hit state
+      → (word_of acquires releases hit state + n) % 2 ^ 64
+      ≡ word_of (acquires + n) releases hit state
   unfolding word_of
   add_acquires-word_of n fits =
       let h : ℕ = from_bool hit in
@@ -30,7 +32,8 @@ module _ (acquires releases : ℕ) (hit : Bool) (state : ℕ) (acquires_fit : ac
 
   -- a take of n that are there from the acquire counter
   pub take_acquires-word_of : (n left : ℕ) → left + n ≡ acquires
-      → (word_of acquires releases hit state + (2 ^ 64 - n)) % 2 ^ 64 ≡ word_of left releases hit state
+      → (word_of acquires releases hit state + (2 ^ 64 - n)) % 2 ^ 64
+      ≡ word_of left releases hit state
   unfolding word_of
   take_acquires-word_of n left there =
       let h : ℕ = from_bool hit in
@@ -39,7 +42,8 @@ module _ (acquires releases : ℕ) (hit : Bool) (state : ℕ) (acquires_fit : ac
 
   -- an add of n that stays within the release counter
   pub add_releases-word_of : (n : ℕ) → releases + n < 2 ^ COUNTER_BITS
-      → (word_of acquires releases hit state + n * ONE_RELEASE) % 2 ^ 64 ≡ word_of acquires (releases + n) hit state
+      → (word_of acquires releases hit state + n * ONE_RELEASE) % 2 ^ 64
+      ≡ word_of acquires (releases + n) hit state
   unfolding word_of
   add_releases-word_of n fits =
       let h : ℕ = from_bool hit in
@@ -48,12 +52,13 @@ module _ (acquires releases : ℕ) (hit : Bool) (state : ℕ) (acquires_fit : ac
 
   -- an or of the occupied bit, where the state has it
   pub or_occupied-word_of : CONSTRUCTION ≤ state
-      → bit_or (word_of acquires releases hit state) OCCUPIED_BIT ≡ word_of acquires releases hit state
+      → bit_or (word_of acquires releases hit state) OCCUPIED_BIT
+      ≡ word_of acquires releases hit state
   unfolding word_of
   or_occupied-word_of occupied =
       let h : ℕ = from_bool hit in
-      let high : OCCUPIED_BIT ≤ acquires + releases * 2 ^ COUNTER_BITS + h * 2 ^ HIT_PLACE + state * 2 ^ STATE_PLACE =
-      omega arith in
+      let rest : ℕ = acquires + releases * 2 ^ COUNTER_BITS + h * 2 ^ HIT_PLACE in
+      let high : OCCUPIED_BIT ≤ rest + state * 2 ^ STATE_PLACE = omega arith in
       or-occupied_bit_high (word_of acquires releases hit state) high word_of-lt
 
   -- an and that hides: the state loses its visible bit
@@ -71,16 +76,19 @@ module _ (acquires releases : ℕ) (hit : Bool) (state : ℕ) (acquires_fit : ac
       ap (λ (x : ℕ). bit_and x HIDING_MASK) turned ∙ (cleared ∙ back)
 
   -- an or of the hit bit
-  pub or_hit-word_of : bit_or (word_of acquires releases hit state) HIT_BIT ≡ word_of acquires releases true state
+  pub or_hit-word_of : bit_or (word_of acquires releases hit state) HIT_BIT
+      ≡ word_of acquires releases true state
   unfolding word_of
   or_hit-word_of =
       let h : ℕ = from_bool hit in
       let h_low : h ≤ 1 = from_bool-le hit in
       let rest : ℕ = acquires + releases * 2 ^ COUNTER_BITS in
-      let turned : rest + h * 2 ^ HIT_PLACE + state * 2 ^ STATE_PLACE ≡ (state * 2 + h) * 2 ^ HIT_PLACE + rest =
+      let turned : rest + h * 2 ^ HIT_PLACE + state * 2 ^ STATE_PLACE
+      ≡ (state * 2 + h) * 2 ^ HIT_PLACE + rest =
       omega arith in
       let set = or-hit_bit state hit rest (omega arith) in
-      let back : (state * 2 + 1) * 2 ^ HIT_PLACE + rest ≡ rest + 2 ^ HIT_PLACE + state * 2 ^ STATE_PLACE =
+      let back : (state * 2 + 1) * 2 ^ HIT_PLACE + rest
+      ≡ rest + 2 ^ HIT_PLACE + state * 2 ^ STATE_PLACE =
       omega arith in
       ap (λ (x : ℕ). bit_or x HIT_BIT) turned ∙ (set ∙ back)
 
@@ -89,23 +97,29 @@ module _ (acquires releases : ℕ) (hit : Bool) (state : ℕ) (acquires_fit : ac
 SetsAcquires-word_of : (word acquires : ℕ) → acquires < 2 ^ COUNTER_BITS
     → SetsAcquires word (word_of acquires (releases_of word) (hit_of word) (state_of word)) acquires
 SetsAcquires-word_of word acquires fits =
-    let releases_fit = releases_of-lt word in
+    let r = releases_of word in
+    let h = hit_of word in
+    let s = state_of word in
+    let r_fits = releases_of-lt word in
     record {
-      changed = acquires_of-word_of acquires (releases_of word) (hit_of word) (state_of word) fits releases_fit;
-      releases = releases_of-word_of acquires (releases_of word) (hit_of word) (state_of word) fits releases_fit;
-      hit = hit_of-word_of acquires (releases_of word) (hit_of word) (state_of word) fits releases_fit;
-      state = state_of-word_of acquires (releases_of word) (hit_of word) (state_of word) fits releases_fit;
+      changed = acquires_of-word_of acquires r h s fits r_fits;
+      releases = releases_of-word_of acquires r h s fits r_fits;
+      hit = hit_of-word_of acquires r h s fits r_fits;
+      state = state_of-word_of acquires r h s fits r_fits;
     }
 
 SetsReleases-word_of : (word releases : ℕ) → releases < 2 ^ COUNTER_BITS
     → SetsReleases word (word_of (acquires_of word) releases (hit_of word) (state_of word)) releases
 SetsReleases-word_of word releases fits =
-    let acquires_fit = acquires_of-lt word in
+    let a = acquires_of word in
+    let h = hit_of word in
+    let s = state_of word in
+    let a_fits = acquires_of-lt word in
     record {
-      changed = releases_of-word_of (acquires_of word) releases (hit_of word) (state_of word) acquires_fit fits;
-      acquires = acquires_of-word_of (acquires_of word) releases (hit_of word) (state_of word) acquires_fit fits;
-      hit = hit_of-word_of (acquires_of word) releases (hit_of word) (state_of word) acquires_fit fits;
-      state = state_of-word_of (acquires_of word) releases (hit_of word) (state_of word) acquires_fit fits;
+      changed = releases_of-word_of a releases h s a_fits fits;
+      acquires = acquires_of-word_of a releases h s a_fits fits;
+      hit = hit_of-word_of a releases h s a_fits fits;
+      state = state_of-word_of a releases h s a_fits fits;
     }
 
 module _ (word n : ℕ) (fits : word < 2 ^ 64) where
@@ -113,32 +127,42 @@ module _ (word n : ℕ) (fits : word < 2 ^ 64) where
   pub SetsAcquires-add : acquires_of word + n < 2 ^ COUNTER_BITS
       → SetsAcquires word ((word + n) % 2 ^ 64) (acquires_of word + n)
   SetsAcquires-add within =
-      let is : (word + n) % 2 ^ 64 ≡ word_of (acquires_of word + n) (releases_of word) (hit_of word) (state_of word) =
-      ap (λ (x : ℕ). (x + n) % 2 ^ 64) (sym (word_of-fields word))
-      ∙ add_acquires-word_of (acquires_of word) (releases_of word) (hit_of word) (state_of word)
-      (acquires_of-lt word) (releases_of-lt word) (state_of-lt word fits) n within in
-      rw is (SetsAcquires-word_of word (acquires_of word + n) within)
+      let a = acquires_of word in
+      let r = releases_of word in
+      let h = hit_of word in
+      let s = state_of word in
+      let sum = add_acquires-word_of a r h s (acquires_of-lt word) (releases_of-lt word)
+      (state_of-lt word fits) n within in
+      let is : (word + n) % 2 ^ 64 ≡ word_of (a + n) r h s =
+      ap (λ (x : ℕ). (x + n) % 2 ^ 64) (sym (word_of-fields word)) ∙ sum in
+      rw is (SetsAcquires-word_of word (a + n) within)
 
   -- A give-back of n that are there borrows from no other field.
   pub SetsAcquires-take : n ≤ acquires_of word
       → SetsAcquires word ((word + (2 ^ 64 - n)) % 2 ^ 64) (acquires_of word - n)
   SetsAcquires-take there =
-      let acquires_fit = acquires_of-lt word in
-      let there_again : acquires_of word - n + n ≡ acquires_of word = omega arith in
-      let is : (word + (2 ^ 64 - n)) % 2 ^ 64
-      ≡ word_of (acquires_of word - n) (releases_of word) (hit_of word) (state_of word) =
-      ap (λ (x : ℕ). (x + (2 ^ 64 - n)) % 2 ^ 64) (sym (word_of-fields word))
-      ∙ take_acquires-word_of (acquires_of word) (releases_of word) (hit_of word) (state_of word)
-      acquires_fit (releases_of-lt word) (state_of-lt word fits) n (acquires_of word - n) there_again in
-      rw is (SetsAcquires-word_of word (acquires_of word - n) (omega arith))
+      let a = acquires_of word in
+      let r = releases_of word in
+      let h = hit_of word in
+      let s = state_of word in
+      let a_fits = acquires_of-lt word in
+      let left_and_n : a - n + n ≡ a = omega arith in
+      let rest = take_acquires-word_of a r h s a_fits (releases_of-lt word)
+      (state_of-lt word fits) n (a - n) left_and_n in
+      let is : (word + (2 ^ 64 - n)) % 2 ^ 64 ≡ word_of (a - n) r h s =
+      ap (λ (x : ℕ). (x + (2 ^ 64 - n)) % 2 ^ 64) (sym (word_of-fields word)) ∙ rest in
+      rw is (SetsAcquires-word_of word (a - n) (omega arith))
 
   -- A release of n within its counter carries into no other field.
   pub SetsReleases-add : releases_of word + n < 2 ^ COUNTER_BITS
       → SetsReleases word ((word + n * ONE_RELEASE) % 2 ^ 64) (releases_of word + n)
   SetsReleases-add within =
-      let is : (word + n * ONE_RELEASE) % 2 ^ 64
-      ≡ word_of (acquires_of word) (releases_of word + n) (hit_of word) (state_of word) =
-      ap (λ (x : ℕ). (x + n * ONE_RELEASE) % 2 ^ 64) (sym (word_of-fields word))
-      ∙ add_releases-word_of (acquires_of word) (releases_of word) (hit_of word) (state_of word)
-      (acquires_of-lt word) (releases_of-lt word) (state_of-lt word fits) n within in
-      rw is (SetsReleases-word_of word (releases_of word + n) within)
+      let a = acquires_of word in
+      let r = releases_of word in
+      let h = hit_of word in
+      let s = state_of word in
+      let sum = add_releases-word_of a r h s (acquires_of-lt word) (releases_of-lt word)
+      (state_of-lt word fits) n within in
+      let is : (word + n * ONE_RELEASE) % 2 ^ 64 ≡ word_of a (r + n) h s =
+      ap (λ (x : ℕ). (x + n * ONE_RELEASE) % 2 ^ 64) (sym (word_of-fields word)) ∙ sum in
+      rw is (SetsReleases-word_of word (r + n) within)

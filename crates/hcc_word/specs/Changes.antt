@@ -40,4 +40,5 @@ pub record IsCorrectable (word : ℕ) : Type 0 where
 -- both counters have lost a correction
 abbrev pub corrected_word : ℕ → ℕ
 corrected_word word =
-    word_of (acquires_of word - CORRECTION) (releases_of word - CORRECTION) (hit_of word) (state_of word)
+    word_of (acquires_of word - CORRECTION) (releases_of word - CORRECTION)
+    (hit_of word) (state_of word)

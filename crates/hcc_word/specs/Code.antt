@@ -15,7 +15,8 @@ code_of_building strays = strays + OCCUPIED_BIT
 abbrev pub entry_state : (visible : Bool) → ℕ
 entry_state visible = if visible then VISIBLE else INVISIBLE
 
--- a slot with an entry: its uses in both counters and its references in the first, the hit bit, and the state
+-- a slot with an entry: its uses in both counters and its references in the first, the hit bit,
+-- and the state
 unfoldable pub code_of_shareable : (uses refs : ℕ) (hit visible : Bool) → ℕ
 code_of_shareable uses refs hit visible =
     (uses + refs) + uses * 2 ^ COUNTER_BITS + from_bool hit * 2 ^ HIT_PLACE

@@ -1,6 +1,6 @@
--- A key's two words under a seed: two rounds, in each of which one word gains a mixture of the other.
+-- A key's two words under a seed: in each of two rounds one word gains a mixture of the other.
 use Rattle.std.specs.Prelude.{ℕ, ◌+◌, ◌-◌, ◌*◌, ◌/◌, ◌%◌, ◌^◌, ◌==◌, if◌then◌else◌, bit_xor}
-use Rattle.hcc_word.specs.declared.layout.TheConstants.{SEED_MULTIPLIER}
+use Rattle.hcc_word.specs.declared.seeding.TheConstants.{SEED_MULTIPLIER}
 
 -- the high half is folded onto the low one
 unfoldable pub folded : ℕ → ℕ

@@ -18,7 +18,8 @@ use crate::layout::{
 /// It carries into no other field while the acquire counter stays below 2^30.
 pub fn acquired(word: u64, n: u32) -> u64
     ensures sum { result ≡ (word + n) % 2 ^ 64 }
-    ensures no_carry { acquires_of word + n < 2 ^ COUNTER_BITS → SetsAcquires word result (acquires_of word + n) }
+    ensures no_carry { acquires_of word + n < 2 ^ COUNTER_BITS
+        → SetsAcquires word result (acquires_of word + n) }
 {
     word.wrapping_add(u64::from(n))
 }
@@ -38,14 +39,15 @@ pub fn given_back(word: u64, n: u32) -> u64
 /// It carries into no other field while the release counter stays below 2^30.
 pub fn released(word: u64, n: u32) -> u64
     ensures sum { result ≡ (word + n * ONE_RELEASE) % 2 ^ 64 }
-    ensures no_carry { releases_of word + n < 2 ^ COUNTER_BITS → SetsReleases word result (releases_of word + n) }
+    ensures no_carry { releases_of word + n < 2 ^ COUNTER_BITS
+        → SetsReleases word result (releases_of word + n) }
 {
     word.wrapping_add(u64::from(n) * ONE_RELEASE)
 }
 
-/// The word of a new visible entry with this countdown, of which its maker keeps a reference or not.
+/// The word of a new visible entry with this countdown, 1 to 3. Its maker keeps a reference or not.
 ///
-/// Acquires begin at the countdown. So do releases where nothing is kept, and one below it otherwise.
+/// Acquires begin at the countdown. So do releases, or one below it where a reference is kept.
 pub fn started(countdown: u32, keep: bool) -> u64
     requires some { 0 < countdown }
     requires in_range { countdown ≤ GREATEST_START }
@@ -57,8 +59,8 @@ pub fn started(countdown: u32, keep: bool) -> u64
 
 /// What the clock puts in place of this word: the countdown is one less, and at most 2.
 ///
-/// `None` exactly where the clock does not count: a slot that is not visible, or is referenced, or has
-/// countdown 0.
+/// `None` exactly where the clock does not count: a slot that is not visible, or is referenced, or
+/// has countdown 0.
 pub fn clocked(word: u64) -> Option<u64>
     ensures { SomeIff result (IsClockable word) (clocked_word word) }
 {

@@ -21,7 +21,7 @@ pub const COUNTER_MASK: u64 = ONE_RELEASE - 1;
 pub const HIT_BIT: u64 = 1 << HIT_PLACE;
 
 /// The part of the state that only a visible slot has.
-pub const VISIBLE_BIT: u64 = 1 << 61;
+pub const VISIBLE_BIT: u64 = 1 << STATE_PLACE;
 
 /// All bits but the visible one: `and` with it hides an entry.
 pub const HIDING_MASK: u64 = !VISIBLE_BIT;
@@ -58,6 +58,3 @@ pub const CORRECTION: u32 = 1 << 29;
 
 /// A release counter from here on is near overflow: references got there are not counting.
 pub const NEAR: u32 = CORRECTION + 4;
-
-/// The odd factor of the mixture that seeds a key.
-pub const SEED_MULTIPLIER: u64 = 0x9e37_79b9_7f4a_7c15;

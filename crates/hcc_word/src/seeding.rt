@@ -3,7 +3,8 @@
 ghost use Rattle.std.specs.Prelude.{◌≡◌, ℕ, ◌^◌, ◌<◌};
 ghost use Rattle.hcc_word.specs.Seeding.{mixture, seeded_key, unseeded_key};
 
-use crate::layout::SEED_MULTIPLIER;
+/// The odd factor that spreads a word's low bits over its high ones.
+pub const SEED_MULTIPLIER: u64 = 0x9e37_79b9_7f4a_7c15;
 
 /// The key that stands for the key (`k0`, `k1`) under this seed. Seed 0 changes nothing.
 ///
