@@ -1,6 +1,6 @@
--- What the clock and a correction make of the code of a slot.
+-- What the clock's exchange and a correction's make of the code of a slot.
 use Rattle.std.proofs.Common.{◌≡◌, ℕ, ◌+◌, ◌-◌, ◌^◌, ◌<◌, ◌≤◌, ◌↔◌, Bool, true, false, arith, sym, refl, ap, ◌∙◌, add-zero}
-use Rattle.hcc_word.specs.declared.layout.TheConstants.{COUNTER_BITS, CORRECTION, NEAR, VISIBLE}
+use Rattle.hcc_word.specs.declared.layout.TheConstants.{COUNTER_BITS, CONSTRUCTION, CORRECTION, EMPTY, NEAR, VISIBLE}
 use Rattle.hcc_word.specs.Word.{state_of, word_of}
 use Rattle.hcc_word.specs.Code.{code_of_empty, code_of_building, code_of_shareable, entry_state}
 use Rattle.hcc_word.specs.Near.{IsNear}
@@ -13,16 +13,16 @@ use Rattle.hcc_word.proofs.CodeLaws.{code_of_shareable-word_of, state_of-empty, 
 pub IsClockable-empty : (strays : ℕ) → strays < 2 ^ COUNTER_BITS
     → IsClockable (code_of_empty strays) → ⊥
 IsClockable-empty strays few clockable =
-    let state : state_of (code_of_empty strays) ≡ 0 = state_of-empty strays few in
-    let visible : state_of (code_of_empty strays) ≡ 7 = clockable.visible in
+    let state : state_of (code_of_empty strays) ≡ EMPTY = state_of-empty strays few in
+    let visible : state_of (code_of_empty strays) ≡ VISIBLE = clockable.visible in
     omega arith
 
 -- The clock counts no slot under construction.
 pub IsClockable-building : (strays : ℕ) → strays < 2 ^ COUNTER_BITS
     → IsClockable (code_of_building strays) → ⊥
 IsClockable-building strays few clockable =
-    let state : state_of (code_of_building strays) ≡ 4 = state_of-building strays few in
-    let visible : state_of (code_of_building strays) ≡ 7 = clockable.visible in
+    let state : state_of (code_of_building strays) ≡ CONSTRUCTION = state_of-building strays few in
+    let visible : state_of (code_of_building strays) ≡ VISIBLE = clockable.visible in
     omega arith
 
 visible_state : (visible : Bool) → entry_state visible ≡ VISIBLE → visible ≡ true
@@ -39,7 +39,8 @@ module _ {most uses refs counting : ℕ} (hit visible : Bool)
       forth : IsClockable (code_of_shareable uses refs hit visible)
           → (visible ≡ true) × (refs ≡ 0) × (0 < uses)
       forth c =
-          let is_visible = visible_state visible (sym (state_of-shareable hit visible near) ∙ c.visible) in
+          let state = state_of-shareable hit visible near in
+          let is_visible = visible_state visible (sym state ∙ c.visible) in
           let no_refs = sym (refs_of-shareable hit visible near) ∙ c.unreferenced in
           let some_uses = rw (releases_of-shareable hit visible near) at c.counted in
           (is_visible, no_refs, some_uses)

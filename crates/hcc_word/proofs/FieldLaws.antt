@@ -1,5 +1,5 @@
 -- The fields of a word.
-use Rattle.std.proofs.Common.{◌≡◌, ℕ, zero, suc, ◌+◌, ◌*◌, ◌/◌, ◌%◌, ◌^◌, ◌<◌, Bool, true, false, arith, refl, ap, nat_eq}
+use Rattle.std.proofs.Common.{◌≡◌, ℕ, zero, suc, ◌+◌, ◌*◌, ◌/◌, ◌%◌, ◌^◌, ◌<◌, ◌↔◌, Bool, true, false, arith, refl, ap, nat_eq}
 use Rattle.std.specs.Int.{from_bool}
 use Rattle.hcc_word.specs.declared.layout.TheConstants.{COUNTER_BITS, HIT_PLACE, STATE_PLACE}
 use Rattle.hcc_word.specs.Word.{acquires_of, releases_of, refs_of, hit_of, state_of, word_of}
@@ -22,13 +22,13 @@ pub state_of-lt : (word : ℕ) → word < 2 ^ 64 → state_of word < 8
 unfolding state_of
 state_of-lt word fits = omega arith
 
--- no references are counted exactly where both counters are equal
-pub refs_of-zero : (word : ℕ) → refs_of word ≡ 0 → acquires_of word ≡ releases_of word
+-- no references are counted exactly where both counters are equal: they are the countdown
+pub refs_of-zero : (word : ℕ) → (refs_of word ≡ 0) ↔ (acquires_of word ≡ releases_of word)
 unfolding refs_of
-refs_of-zero word none =
+refs_of-zero word =
     let a : acquires_of word < 2 ^ COUNTER_BITS = acquires_of-lt word in
     let r : releases_of word < 2 ^ COUNTER_BITS = releases_of-lt word in
-    omega arith
+    ((λ none. omega arith), (λ same. omega arith))
 
 -- ---- the fields of the word that is made of them
 
@@ -46,8 +46,8 @@ module _ (acquires releases : ℕ) (hit : Bool) (state : ℕ)
   unfolding hit_of word_of
   hit_of-word_of = by_hit hit
     where
-      by_hit : (h : Bool) → nat_eq ((acquires + releases * 2 ^ COUNTER_BITS + from_bool h * 2 ^ HIT_PLACE
-          + state * 2 ^ STATE_PLACE) / 2 ^ HIT_PLACE % 2) 1 ≡ h
+      by_hit : (h : Bool) → nat_eq ((acquires + releases * 2 ^ COUNTER_BITS
+          + from_bool h * 2 ^ HIT_PLACE + state * 2 ^ STATE_PLACE) / 2 ^ HIT_PLACE % 2) 1 ≡ h
       by_hit true =
           let set : (acquires + releases * 2 ^ COUNTER_BITS + 2 ^ HIT_PLACE
           + state * 2 ^ STATE_PLACE) / 2 ^ HIT_PLACE % 2 ≡ 1 = omega arith in
@@ -71,7 +71,7 @@ bit_from_test zero low = refl
 bit_from_test (suc zero) low = refl
 bit_from_test (suc (suc more)) low = absurd (omega arith)
 
--- a word is the word of its fields
+-- a word is the word of its fields: what a step changes of one field leaves the others alone
 pub word_of-fields : (word : ℕ)
     → word_of (acquires_of word) (releases_of word) (hit_of word) (state_of word) ≡ word
 unfolding acquires_of releases_of hit_of state_of word_of

@@ -11,7 +11,8 @@ uses_and_refs_fit near = omega arith
 
 -- An acquire that found releases below NEAR keeps the bound: its references are counting.
 pub IsNear-acquire_counting : {most uses refs counting : ℕ} (n after : ℕ)
-    → IsNear most uses refs counting → after ≡ refs + n → after ≤ most → uses < NEAR → IsNear most uses after (counting + n)
+    → IsNear most uses refs counting → after ≡ refs + n → after ≤ most → uses < NEAR
+    → IsNear most uses after (counting + n)
 IsNear-acquire_counting n after near sum few below = record {
   few_refs = few;
   counting_are_refs = omega arith;
@@ -21,7 +22,8 @@ IsNear-acquire_counting n after near sum few below = record {
 
 -- An acquire that found releases at NEAR or above keeps the bound: its references are not counting.
 pub IsNear-acquire_uncounted : {most uses refs counting : ℕ} (n after : ℕ)
-    → IsNear most uses refs counting → after ≡ refs + n → after ≤ most → IsNear most uses after counting
+    → IsNear most uses refs counting → after ≡ refs + n → after ≤ most
+    → IsNear most uses after counting
 IsNear-acquire_uncounted n after near sum few = record {
   few_refs = few;
   counting_are_refs = omega arith;
@@ -31,7 +33,8 @@ IsNear-acquire_uncounted n after near sum few = record {
 
 -- A give-back of counting references keeps the bound.
 pub IsNear-give_counting : {most uses refs counting : ℕ} (n left kept : ℕ)
-    → IsNear most uses refs counting → left + n ≡ refs → kept + n ≡ counting → IsNear most uses left kept
+    → IsNear most uses refs counting → left + n ≡ refs → kept + n ≡ counting
+    → IsNear most uses left kept
 IsNear-give_counting n left kept near refs_left counting_left = record {
   few_refs = omega arith;
   counting_are_refs = omega arith;
@@ -41,7 +44,8 @@ IsNear-give_counting n left kept near refs_left counting_left = record {
 
 -- A give-back of references that are not counting keeps the bound.
 pub IsNear-give_uncounted : {most uses refs counting : ℕ} (n left : ℕ)
-    → IsNear most uses refs counting → left + n ≡ refs → counting ≤ left → IsNear most uses left counting
+    → IsNear most uses refs counting → left + n ≡ refs → counting ≤ left
+    → IsNear most uses left counting
 IsNear-give_uncounted n left near refs_left others = record {
   few_refs = omega arith;
   counting_are_refs = others;
@@ -51,7 +55,8 @@ IsNear-give_uncounted n left near refs_left others = record {
 
 -- A useful release of counting references keeps the bound: they become uses.
 pub IsNear-release : {most uses refs counting : ℕ} (n left kept : ℕ)
-    → IsNear most uses refs counting → left + n ≡ refs → kept + n ≡ counting → IsNear most (uses + n) left kept
+    → IsNear most uses refs counting → left + n ≡ refs → kept + n ≡ counting
+    → IsNear most (uses + n) left kept
 IsNear-release n left kept near refs_left counting_left = record {
   few_refs = omega arith;
   counting_are_refs = omega arith;

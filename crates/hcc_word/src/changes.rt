@@ -57,7 +57,8 @@ pub fn started(countdown: u32, keep: bool) -> u64
     packed(countdown, countdown - u32::from(keep), false, VISIBLE)
 }
 
-/// What the clock puts in place of this word: the countdown is one less, and at most 2.
+/// What the clock puts in place of this word: the countdown is one less, and at most 2. The hit bit
+/// is kept.
 ///
 /// `None` exactly where the clock does not count: a slot that is not visible, or is referenced, or
 /// has countdown 0.
@@ -72,7 +73,8 @@ pub fn clocked(word: u64) -> Option<u64>
     Some(packed(left, left, hit(word), VISIBLE))
 }
 
-/// What a correction puts in place of this word: 2^29 less in both counters.
+/// What a correction puts in place of this word: 2^29 less in both counters, so that neither comes to
+/// its end. The references stay the same.
 ///
 /// `None` exactly where releases are below [`NEAR`] or acquires below 2^29.
 pub fn corrected(word: u64) -> Option<u64>

@@ -5,7 +5,7 @@ ghost use Rattle.hcc_word.specs.Word.{acquires_of, releases_of, refs_of, hit_of,
 
 use crate::layout::{COUNTER_BITS, COUNTER_MASK, HIT_BIT, STATE_PLACE};
 
-/// The acquire counter, below 2^30.
+/// The acquire counter, bits 0 to 29: below 2^30.
 #[tactic(auto, using(std::proofs::lemmas::Nat::and_mask), unfolding(crate::specs::Word::acquires_of))]
 pub fn acquires(word: u64) -> u32
     ensures field { result ≡ acquires_of word }
@@ -14,7 +14,7 @@ pub fn acquires(word: u64) -> u32
     (word & COUNTER_MASK) as u32
 }
 
-/// The release counter, below 2^30.
+/// The release counter, bits 30 to 59: below 2^30.
 #[tactic(auto, using(std::proofs::lemmas::Nat::and_mask), unfolding(crate::specs::Word::releases_of))]
 pub fn releases(word: u64) -> u32
     ensures field { result ≡ releases_of word }
@@ -23,7 +23,9 @@ pub fn releases(word: u64) -> u32
     (word >> COUNTER_BITS & COUNTER_MASK) as u32
 }
 
-/// Acquires less releases, modulo 2^30: the references on a slot that is shareable.
+/// Acquires less releases, modulo 2^30: the references on a shareable slot.
+///
+/// Where there are none, both counters are the entry's countdown.
 pub fn refs(word: u64) -> u32
     ensures field { result ≡ refs_of word }
     ensures in_range { result < 2 ^ COUNTER_BITS }
@@ -31,14 +33,15 @@ pub fn refs(word: u64) -> u32
     acquires(word).wrapping_sub(releases(word)) & COUNTER_MASK as u32
 }
 
-/// The hit bit.
+/// The hit bit, bit 60: whether a lookup marked the entry.
 pub fn hit(word: u64) -> bool
     ensures { result ≡ hit_of word }
 {
     word & HIT_BIT != 0
 }
 
-/// The state, below 8.
+/// The state, bits 61 to 63: on a slot's word one of [`EMPTY`], [`CONSTRUCTION`], [`INVISIBLE`] and
+/// [`VISIBLE`] of the layout.
 #[tactic(auto, unfolding(crate::specs::Word::state_of))]
 pub fn state(word: u64) -> u8
     ensures field { result ≡ state_of word }

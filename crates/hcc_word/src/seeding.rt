@@ -1,4 +1,4 @@
-//! Seeded keys.
+//! Seeded keys: the 128 bits of a key go through two rounds that can be undone.
 
 ghost use Rattle.std.specs.Prelude.{◌≡◌, ℕ, ◌^◌, ◌<◌};
 ghost use Rattle.hcc_word.specs.Seeding.{mixture, seeded_key, unseeded_key};
@@ -8,7 +8,8 @@ pub const SEED_MULTIPLIER: u64 = 0x9e37_79b9_7f4a_7c15;
 
 /// The key that stands for the key (`k0`, `k1`) under this seed. Seed 0 changes nothing.
 ///
-/// Different keys stay different, for [`unseeded`] gives each one back.
+/// Word 1 gains a mixture of word 0, and then word 0 gains one of the new word 1. Different keys stay
+/// different, for [`unseeded`] gives each one back.
 pub fn seeded(seed: u64, k0: u64, k1: u64) -> (u64, u64)
     ensures words { result ≡ seeded_key seed (k0, k1) }
     ensures undone { unseeded_key seed result ≡ (k0, k1) }
@@ -31,7 +32,8 @@ pub fn unseeded(seed: u64, h0: u64, h1: u64) -> (u64, u64)
     (k0, k1)
 }
 
-/// What a round of the seeding adds for this word.
+/// What a round adds for this word: it is spread by the seed and a multiplier, and its high half is
+/// folded onto the low one. Under seed 0 it is 0.
 fn mixed(seed: u64, word: u64) -> u64
     ensures { result ≡ mixture seed word }
 {
