@@ -17,7 +17,7 @@ module _ (strays : ℕ) (few : strays < 2 ^ COUNTER_BITS) where
   unfolding code_of_empty
   code_of_empty-lt = omega arith
 
-  -- Its state is Empty: what tells the phase that was found cites it, by the three tests below.
+  -- Its state is Empty: what tells the phase that was found cites it, by the tests below.
   pub state_of-empty : state_of (code_of_empty strays) ≡ EMPTY
   unfolding state_of code_of_empty
   state_of-empty = omega arith
@@ -42,7 +42,7 @@ module _ (strays : ℕ) (few : strays < 2 ^ COUNTER_BITS) where
   unfolding code_of_building
   code_of_building-lt = omega arith
 
-  -- Its state is Construction: what tells the phase that was found cites it, by the three tests below.
+  -- Its state is Construction: what tells the phase that was found cites it, by the tests below.
   pub state_of-building : state_of (code_of_building strays) ≡ CONSTRUCTION
   unfolding state_of code_of_building
   state_of-building = omega arith
@@ -97,7 +97,7 @@ module _ {most uses refs counting : ℕ} (hit visible : Bool)
       rw as_word
       (hit_of-word_of (uses + refs) uses hit (entry_state visible) acquires_fit releases_fit)
 
-  -- What tells the phase that was found cites the state, by the three tests below.
+  -- What tells the phase that was found cites the state, by the tests below.
   pub state_of-shareable : state_of (code_of_shareable uses refs hit visible) ≡ entry_state visible
   state_of-shareable =
       rw as_word

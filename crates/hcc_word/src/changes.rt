@@ -73,8 +73,8 @@ pub fn clocked(word: u64) -> Option<u64>
     Some(packed(left, left, hit(word), VISIBLE))
 }
 
-/// What a correction puts in place of this word: 2^29 less in both counters, so that neither comes to
-/// its end. The references stay the same.
+/// What a correction puts in place of this word: 2^29 less in both counters, which are near overflow.
+/// The references stay the same.
 ///
 /// `None` exactly where releases are below [`NEAR`] or acquires below 2^29.
 pub fn corrected(word: u64) -> Option<u64>

@@ -1,14 +1,15 @@
 //! Where the fields of a meta word stand, and the numbers that its rules name.
 //!
-//! From the low bits: the acquire counter, the release counter, the hit bit, the state.
+//! From the low bits: the acquire counter, the release counter, the hit bit, the state. The state has
+//! three bits: visible (the lowest), shareable and occupied.
 
-/// Bits of each of the two counters. The release counter begins at this bit.
+/// Bits of each of the two counters. The release counter begins at the bit of this number.
 pub const COUNTER_BITS: u32 = 30;
 
-/// The bit of the hit flag.
+/// The place of the hit bit.
 pub const HIT_PLACE: u32 = 60;
 
-/// The lowest of the three bits of the state.
+/// The place of the lowest of the three bits of the state.
 pub const STATE_PLACE: u32 = 61;
 
 /// What one release adds to a word. One acquire adds 1.
@@ -20,16 +21,16 @@ pub const COUNTER_MASK: u64 = ONE_RELEASE - 1;
 /// Set in the word of an entry that a lookup marked.
 pub const HIT_BIT: u64 = 1 << HIT_PLACE;
 
-/// The part of the state that only a visible slot has.
+/// The bit of the state that only a visible slot has.
 pub const VISIBLE_BIT: u64 = 1 << STATE_PLACE;
 
 /// All bits but the visible one: `and` with it hides an entry.
 pub const HIDING_MASK: u64 = !VISIBLE_BIT;
 
-/// The part of the state that every slot has that is not empty.
+/// The bit of the state that every slot has that is not empty.
 pub const OCCUPIED_BIT: u64 = 1 << 63;
 
-/// The word of a slot that is taken over to be freed, before any acquire strays there.
+/// The word that a slot is taken over by, to be freed: no acquire has strayed there yet.
 pub const CONSTRUCTION_WORD: u64 = OCCUPIED_BIT;
 
 /// The word that a slot is emptied by.

@@ -8,8 +8,8 @@ pub const SEED_MULTIPLIER: u64 = 0x9e37_79b9_7f4a_7c15;
 
 /// The key that stands for the key (`k0`, `k1`) under this seed. Seed 0 changes nothing.
 ///
-/// Word 1 gains a mixture of word 0, and then word 0 gains one of the new word 1. Different keys stay
-/// different, for [`unseeded`] gives each one back.
+/// Word 1 gains a mixture of word 0, and then word 0 gains one of the new word 1. Different keys
+/// stay different, for [`unseeded`] gives each one back.
 pub fn seeded(seed: u64, k0: u64, k1: u64) -> (u64, u64)
     ensures words { result ≡ seeded_key seed (k0, k1) }
     ensures undone { unseeded_key seed result ≡ (k0, k1) }
