@@ -10,7 +10,7 @@ use std::alloc::{AllocError, Global};
 
 impl Owned {
     /// Whether no slot is owned.
-    pub fn is_nothing(self) -> bool
+    pub(crate) fn is_nothing(self) -> bool
         ensures { result ≡ owns_nothing self }
     {
         match self {
@@ -21,7 +21,7 @@ impl Owned {
     }
 
     /// The slot that is owned for building.
-    pub fn built(self) -> Option<u32>
+    pub(crate) fn built(self) -> Option<u32>
         ensures { result ≡ built_by self }
     {
         match self {
@@ -32,7 +32,7 @@ impl Owned {
     }
 
     /// The slot that is owned for freeing.
-    pub fn freed(self) -> Option<u32>
+    pub(crate) fn freed(self) -> Option<u32>
         ensures { result ≡ freed_by self }
     {
         match self {
@@ -43,7 +43,7 @@ impl Owned {
     }
 
     /// Whether a slot is owned for building.
-    pub fn is_building(self) -> bool
+    pub(crate) fn is_building(self) -> bool
         ensures { result ≡ is_building self }
     {
         match self {
@@ -56,7 +56,7 @@ impl Owned {
 
 impl Place {
     /// Whether it is none.
-    pub fn is_absent(self) -> bool
+    pub(crate) fn is_absent(self) -> bool
         ensures { result ≡ is_absent self }
     {
         match self {
@@ -67,7 +67,7 @@ impl Place {
     }
 
     /// Whether it is open or granted.
-    pub fn is_placed(self) -> bool
+    pub(crate) fn is_placed(self) -> bool
         ensures { result ≡ is_placed self }
     {
         match self {
@@ -78,7 +78,7 @@ impl Place {
     }
 
     /// Whether it is granted.
-    pub fn is_granted(self) -> bool
+    pub(crate) fn is_granted(self) -> bool
         ensures { result ≡ is_granted self }
     {
         match self {
@@ -89,7 +89,7 @@ impl Place {
     }
 
     /// The place once a slot was freed for it.
-    pub fn with_slot(self) -> Place
+    pub(crate) fn with_slot(self) -> Place
         ensures { result ≡ place_granted self }
     {
         match self {
@@ -102,7 +102,7 @@ impl Place {
 
 impl Client {
     /// The charges of its standalone entries.
-    pub fn standing(&self) -> u64
+    pub(crate) fn standing(&self) -> u64
         requires { standing_of self.now < 2 ^ 64 }
         ensures { result ≡ standing_of self.now }
     {
@@ -112,7 +112,7 @@ impl Client {
     /// Its dead list with this stamp, where that is new.
     ///
     /// It takes memory for the new list and leaves the client as it is.
-    pub fn with_dead(
+    pub(crate) fn with_dead(
         &self,
         alloc: Global,
         stamp: Option<Stamp>,
@@ -132,7 +132,7 @@ impl Client {
     }
 
     /// Puts a new dead list in the place of the old one, where there is one.
-    pub fn note(&mut self, dead: Option<Listed<Stamp>>)
+    pub(crate) fn note(&mut self, dead: Option<Listed<Stamp>>)
         ensures { self.new ≡ record self.old { dead = unwrap_or dead self.old.dead } }
     {
         if let Some(dead) = dead {

@@ -5,12 +5,14 @@
 //! after it, stands in this crate's definitions; [`world::World::step`] does just that.
 #![tactic(auto)]
 
-pub mod client;
+mod client;
 pub mod event;
 pub mod limits;
 pub mod listed;
 mod machine;
-pub mod slot;
+mod slot;
 pub mod state;
 mod sums;
+#[cfg(test)]
+mod tests;
 pub mod world;

@@ -13,7 +13,7 @@ use std::alloc::{AllocError, Global};
 
 impl Slot {
     /// Its phase.
-    pub fn phase(&self) -> Phase
+    pub(crate) fn phase(&self) -> Phase
         ensures { result ≡ phase_of self.now }
     {
         match self {
@@ -24,7 +24,7 @@ impl Slot {
     }
 
     /// Whether it is Shown or Hidden.
-    pub fn is_shareable(&self) -> bool
+    pub(crate) fn is_shareable(&self) -> bool
         ensures { result ≡ is_shareable self.now }
     {
         match self {
@@ -35,7 +35,7 @@ impl Slot {
     }
 
     /// Whether it is Shown.
-    pub fn is_shown(&self) -> bool
+    pub(crate) fn is_shown(&self) -> bool
         ensures { result ≡ is_shown self.now }
     {
         match self {
@@ -46,7 +46,7 @@ impl Slot {
     }
 
     /// The references on it, in the order of acquiring.
-    pub fn references(&self) -> &[Reference]
+    pub(crate) fn references(&self) -> &[Reference]
         ensures { result.now ≡ references_of self.now }
     {
         match self {
@@ -57,7 +57,7 @@ impl Slot {
     }
 
     /// The slots that were passed on the way to its entry.
-    pub fn trail(&self) -> &[u32]
+    pub(crate) fn trail(&self) -> &[u32]
         ensures { result.now ≡ trail_of self.now }
     {
         match self {
@@ -68,7 +68,7 @@ impl Slot {
     }
 
     /// The charge of its entry, or 0.
-    pub fn charge(&self) -> u64
+    pub(crate) fn charge(&self) -> u64
         ensures { result ≡ charge_of self.now }
     {
         match self {
@@ -79,7 +79,7 @@ impl Slot {
     }
 
     /// What its references weigh in sum.
-    pub fn weight(&self) -> u64
+    pub(crate) fn weight(&self) -> u64
         requires { weight_of self.now < 2 ^ 64 }
         ensures { result ≡ weight_of self.now }
     {
@@ -87,7 +87,7 @@ impl Slot {
     }
 
     /// This client's reference of this name.
-    pub fn reference(&self, client: u32, name: u64) -> Option<&Reference>
+    pub(crate) fn reference(&self, client: u32, name: u64) -> Option<&Reference>
         ensures { option_copied result ≡ reference_in client name (references_of self.now) }
     {
         self.references().iter().find(|reference| reference.client == client
@@ -95,7 +95,7 @@ impl Slot {
     }
 
     /// This client's reference of this name, if it counts.
-    pub fn counting_reference(&self, client: u32, name: u64) -> Option<Reference>
+    pub(crate) fn counting_reference(&self, client: u32, name: u64) -> Option<Reference>
         ensures { result ≡ counting_in client name (references_of self.now) }
     {
         match self.reference(client, name) {
@@ -105,7 +105,7 @@ impl Slot {
     }
 
     /// Whether it has this client's reference of this name.
-    pub fn has_reference(&self, client: u32, name: u64) -> bool
+    pub(crate) fn has_reference(&self, client: u32, name: u64) -> bool
         ensures { result ≡ has_reference client name self.now }
     {
         self.references().iter().any(|reference| reference.client == client
@@ -113,7 +113,7 @@ impl Slot {
     }
 
     /// Whether it has a reference of this client.
-    pub fn has_client(&self, client: u32) -> bool
+    pub(crate) fn has_client(&self, client: u32) -> bool
         ensures { result ≡ has_client client self.now }
     {
         self.references()
@@ -122,7 +122,7 @@ impl Slot {
     }
 
     /// Whether a reference made now counts.
-    pub fn counts(&self) -> bool
+    pub(crate) fn counts(&self) -> bool
         ensures { result ≡ counts_in self.now }
     {
         match self {
@@ -133,7 +133,7 @@ impl Slot {
     }
 
     /// What its references weigh, and what it is.
-    pub fn left(&self) -> Reply
+    pub(crate) fn left(&self) -> Reply
         requires { weight_of self.now < 2 ^ 64 }
         ensures { result ≡ left_on self.now }
     {
@@ -144,7 +144,7 @@ impl Slot {
     }
 
     /// The reply to an acquire here.
-    pub fn acquired(&self, counting: bool) -> Reply
+    pub(crate) fn acquired(&self, counting: bool) -> Reply
         ensures { result ≡ acquired self.now counting }
     {
         match self {
@@ -158,7 +158,7 @@ impl Slot {
     }
 
     /// The stamp of its entry.
-    pub fn stamp(&self) -> Option<Stamp>
+    pub(crate) fn stamp(&self) -> Option<Stamp>
         ensures { result ≡ stamp_of self.now }
     {
         match self {
@@ -169,7 +169,7 @@ impl Slot {
     }
 
     /// The stamp of its entry, if that is hidden.
-    pub fn hidden_stamp(&self) -> Option<Stamp>
+    pub(crate) fn hidden_stamp(&self) -> Option<Stamp>
         ensures { result ≡ hidden_stamp self.now }
     {
         match self {
@@ -186,7 +186,7 @@ impl Slot {
     }
 
     /// The stamp of its entry, if that is hidden and this client holds a reference on it.
-    pub fn dead_to(&self, client: u32) -> Option<Stamp>
+    pub(crate) fn dead_to(&self, client: u32) -> Option<Stamp>
         ensures { result ≡ dead_to client self.now }
     {
         if self.has_client(client) {
@@ -197,14 +197,14 @@ impl Slot {
     }
 
     /// Whether it has no reference but perhaps this client's, of weight 1 and this name.
-    pub fn is_free_for(&self, client: u32, name: Option<u64>) -> bool
+    pub(crate) fn is_free_for(&self, client: u32, name: Option<u64>) -> bool
         ensures { result ≡ is_free_for client name (references_of self.now) }
     {
         is_free_for(self.references(), client, name)
     }
 
     /// Adds a reference, or strays. Where memory runs out the slot is unchanged.
-    pub fn acquire(&mut self, reference: Reference) -> Result<(), AllocError>
+    pub(crate) fn acquire(&mut self, reference: Reference) -> Result<(), AllocError>
         requires { strays_of self.old + reference.weight < 2 ^ 64 }
         ensures ok { OnOk result (self.new ≡ slot_acquired self.old reference) }
         ensures err { OnErr result (self.new ≡ self.old) }
@@ -218,7 +218,7 @@ impl Slot {
     }
 
     /// Takes this client's reference of this name away.
-    pub fn give(&mut self, client: u32, name: u64)
+    pub(crate) fn give(&mut self, client: u32, name: u64)
         ensures { self.new ≡ slot_given client name self.old }
     {
         match self {
@@ -229,7 +229,7 @@ impl Slot {
     }
 
     /// Takes this client's reference of this name away, as a use of its weight.
-    pub fn spend(&mut self, client: u32, name: u64, reference: Reference)
+    pub(crate) fn spend(&mut self, client: u32, name: u64, reference: Reference)
         requires { uses_of self.old + reference.weight < 2 ^ 64 }
         ensures { self.new ≡ slot_used client name reference self.old }
     {
@@ -244,7 +244,7 @@ impl Slot {
     }
 
     /// Hides its entry.
-    pub fn hide(&mut self)
+    pub(crate) fn hide(&mut self)
         ensures { self.new ≡ slot_hidden self.old }
     {
         match self {
@@ -255,7 +255,7 @@ impl Slot {
     }
 
     /// The trail of its entry, which goes.
-    pub fn into_trail(self, alloc: Global) -> Listed<u32>
+    pub(crate) fn into_trail(self, alloc: Global) -> Listed<u32>
         ensures { result ≡ trail_of self }
     {
         match self {
@@ -266,7 +266,7 @@ impl Slot {
     }
 
     /// The key and value of its entry.
-    pub fn read(&self, alloc: Global) -> Result<Reply, CoreError>
+    pub(crate) fn read(&self, alloc: Global) -> Result<Reply, CoreError>
         ensures ok { IfOk result (λ reply. entry_read self.now ≡ Ok reply) }
         ensures err { IfErr result (λ e. (e ≡ CoreError.OutOfMemory) ⊎ (entry_read self.now ≡ Err e)) }
     {
@@ -322,7 +322,7 @@ fn place_of(references: &[Reference], client: u32, name: u64) -> Option<usize>
 }
 
 /// The first slot on which this client holds this name.
-pub fn slot_holding(slots: &[Slot], client: u32, name: u64) -> Option<usize>
+pub(crate) fn slot_holding(slots: &[Slot], client: u32, name: u64) -> Option<usize>
     ensures first { result ≡ slot_holding slots.now client name }
     ensures within { IfSome result (λ slot. slot < length slots.now) }
 {

@@ -7,7 +7,7 @@ use crate::state::{Client, Slot};
 
 /// The charges of all entries, and all that clients were granted, need, freed or keep in
 /// standalone entries.
-pub fn usage(slots: &[Slot], clients: &[Client]) -> u64
+pub(crate) fn usage(slots: &[Slot], clients: &[Client]) -> u64
     requires { total charge_of slots.now + total charged_to clients.now < 2 ^ 64 }
     ensures { result ≡ total charge_of slots.now + total charged_to clients.now }
 {
@@ -20,7 +20,7 @@ pub fn usage(slots: &[Slot], clients: &[Client]) -> u64
 }
 
 /// The entries, and what clients hold of places and freed slots.
-pub fn occupancy(slots: &[Slot], clients: &[Client]) -> u64
+pub(crate) fn occupancy(slots: &[Slot], clients: &[Client]) -> u64
     requires { total taken_by_slot slots.now + total occupied_by clients.now < 2 ^ 64 }
     ensures { result ≡ total taken_by_slot slots.now + total occupied_by clients.now }
 {
@@ -31,7 +31,7 @@ pub fn occupancy(slots: &[Slot], clients: &[Client]) -> u64
 }
 
 /// How often a slot stands in the trails of entries and clients.
-pub fn passed(slots: &[Slot], clients: &[Client], slot: u32) -> u64
+pub(crate) fn passed(slots: &[Slot], clients: &[Client], slot: u32) -> u64
     requires { passed_by slots.now clients.now slot < 2 ^ 64 }
     ensures { result ≡ passed_by slots.now clients.now slot }
 {
@@ -73,7 +73,7 @@ fn freed(clients: &[Client]) -> u64
 }
 
 /// The charges of all standalone entries.
-pub fn standing(clients: &[Client]) -> u64
+pub(crate) fn standing(clients: &[Client]) -> u64
     requires { total standing_of clients.now < 2 ^ 64 }
     ensures { result ≡ total standing_of clients.now }
 {
