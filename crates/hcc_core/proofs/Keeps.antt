@@ -1,5 +1,7 @@
 -- Every outcome keeps the law: a step that is allowed leads from a lawful world to a lawful one.
-use Rattle.std.proofs.Common.{◌≡◌, ℕ, nat_lt, Bool, true, false, cond, not, List, Option, Some, None, Result, Ok, Err, slice_get, refl, sym, ap, ◌∙◌}
+use Rattle.std.proofs.Common.{◌≡◌, ℕ, nat_lt, Bool, true, false, cond, not, List, Option, Some, None, Result, Ok, Err, slice_get, refl, sym, ap, ◌∙◌, ◌-◌, ◌≤◌, ◌&&◌, length, arith}
+use Rattle.std.specs.List.{find, list_any}
+use Rattle.hcc_core.specs.declared.limits.TheConstants.{CORRECTION}
 use Rattle.std.specs.Option.{ok_or}
 use Rattle.hcc_core.specs.declared.state.Client.{Client}
 use Rattle.hcc_core.specs.declared.state.Reference.{Reference}
@@ -10,13 +12,14 @@ use Rattle.hcc_core.specs.declared.event.CoreError.TheVariants.{NoSuchSlot, NoSu
 use Rattle.hcc_core.specs.declared.event.Event.{Event}
 use Rattle.hcc_core.specs.declared.event.Event.TheVariants as events
 use Rattle.hcc_core.specs.declared.event.Reply.{Reply}
-use Rattle.hcc_core.specs.World.{State, references_of, reference_in, usage_of}
-use Rattle.hcc_core.specs.Steps.{Outcome, ◌>>=◌, allow, slot_at, client_at, live_at, holding, start_of, look_of, acquire_of, may_acquire, give_of, use_of, counting_in, if_counting, occupied, occupy_of, owns_nothing, show_of, built_by, may_show, hide_of, free_of, may_free, empty_of, freed_by, has_no_member, write_of, is_building, read_of, entry_read, enter_of, is_absent, slots_of, charge_by, may_charge, settle_of, may_settle, in_range, rule_of, outcome_of, Follows}
+use Rattle.hcc_core.specs.World.{State, references_of, reference_in, usage_of, uses_of, is_placed, occupancy_of, standing_in}
+use Rattle.hcc_core.specs.Steps.{Outcome, ◌>>=◌, allow, slot_at, client_at, live_at, holding, start_of, look_of, acquire_of, may_acquire, give_of, use_of, counting_in, if_counting, occupied, occupy_of, owns_nothing, show_of, built_by, may_show, hide_of, free_of, may_free, empty_of, freed_by, has_no_member, write_of, is_building, read_of, entry_read, enter_of, is_absent, slots_of, charge_by, may_charge, settle_of, may_settle, in_range, rule_of, outcome_of, Follows, end_of, is_idle, holds_nothing, clock_of, may_clock, clocked, mark_of, correct_of, may_correct, waive_of, may_waive, quit_of, told, usage_told, occupancy_told, standing_told, stand_of, may_stand, fall_of, is_standing, count_of, pass_of, unpass_of, is_place, turn_of}
 use Rattle.hcc_core.specs.Lawful.{Lawful, IsLawful}
 use Rattle.hcc_core.proofs.Opening.{lawful_is, is_lawful}
 use Rattle.hcc_core.proofs.LawfulReferences.{lawful_start, lawful_look, lawful_acquire, lawful_give, lawful_use, lawful_hide}
+use Rattle.hcc_core.proofs.LawfulUses.{lawful_end, lawful_clock, lawful_mark, lawful_correct, lawful_pass, lawful_unpass, lawful_turn}
 use Rattle.hcc_core.proofs.LawfulEntries.{lawful_occupy, lawful_show, lawful_free, lawful_empty}
-use Rattle.hcc_core.proofs.LawfulLedgers.{lawful_enter, lawful_slots, lawful_charge, lawful_settle}
+use Rattle.hcc_core.proofs.LawfulLedgers.{lawful_enter, lawful_slots, lawful_charge, lawful_settle, lawful_waive, lawful_quit, lawful_stand, lawful_fall}
 
 -- the world after is lawful, where the step is made
 abbrev pub KeepsLaw : Outcome → Type 0
@@ -162,6 +165,97 @@ settle_keeps w client l =
     chain (live_at w client) _ (λ found live. chain (allow (may_settle found)) _ (λ u may.
     lawful_settle w client found l (live_ok w client found live) (may_ok _ u may)))
 
+end_keeps : (w : State) (client : ℕ) → Lawful w → KeepsLaw (end_of w client)
+unfolding end_of
+end_keeps w client l =
+    chain (live_at w client) _ (λ found live. chain (allow (is_idle found && holds_nothing w.slots client)) _ (λ u idle.
+    lawful_end w client found l (live_ok w client found live)))
+
+-- a clock visit and a correction leave no more uses
+clocked-le : (uses : ℕ) → clocked uses ≤ uses
+clocked-le uses = omega arith
+
+clock_keeps : (w : State) (client slot : ℕ) → Lawful w → KeepsLaw (clock_of w client slot)
+unfolding clock_of
+clock_keeps w client slot l =
+    chain (slot_at w slot) _ (λ seen at. chain (live_at w client) _ (λ found live. chain (allow (may_clock seen)) _ (λ u may.
+    lawful_clock w client slot (clocked (uses_of seen)) found seen l (found_ok _ _ seen at) (live_ok w client found live) (clocked-le (uses_of seen)))))
+
+mark_keeps : (w : State) (client name : ℕ) → Lawful w → KeepsLaw (mark_of w client name)
+unfolding mark_of
+mark_keeps w client name l =
+    chain (live_at w client) _ (λ found live. chain (holding w client name) _ (λ slot held. chain (slot_at w slot) _ (λ seen at.
+    lawful_mark w client slot found seen l (found_ok _ _ seen at) (live_ok w client found live))))
+
+correct_keeps : (w : State) (client name : ℕ) → Lawful w → KeepsLaw (correct_of w client name)
+unfolding correct_of
+correct_keeps w client name l =
+    chain (live_at w client) _ (λ found live. chain (holding w client name) _ (λ slot held. chain (slot_at w slot) _ (λ seen at.
+    chain (allow (may_correct client name seen)) _ (λ u may.
+    lawful_correct w client slot (uses_of seen - CORRECTION) found seen l (found_ok _ _ seen at) (live_ok w client found live) (omega arith)))))
+
+waive_keeps : (w : State) (client : ℕ) → Lawful w → KeepsLaw (waive_of w client)
+unfolding waive_of
+waive_keeps w client l =
+    chain (live_at w client) _ (λ found live. chain (allow (may_waive found)) _ (λ u may.
+    lawful_waive w client found l (live_ok w client found live)))
+
+quit_keeps : (w : State) (client : ℕ) → Lawful w → KeepsLaw (quit_of w client)
+unfolding quit_of
+quit_keeps w client l =
+    chain (live_at w client) _ (λ found live. chain (allow (is_placed found.place)) _ (λ u may.
+    lawful_quit w client found l (live_ok w client found live)))
+
+-- a world that is only told of stays
+told_keeps : (w : State) (client number : ℕ) → Lawful w → KeepsLaw (told w client number)
+told_keeps w client number l = chain (live_at w client) _ (λ found live. l)
+
+usage_keeps : (w : State) (client : ℕ) → Lawful w → KeepsLaw (usage_told w client)
+unfolding usage_told
+usage_keeps w client l = told_keeps w client (usage_of w) l
+
+occupancy_keeps : (w : State) (client : ℕ) → Lawful w → KeepsLaw (occupancy_told w client)
+unfolding occupancy_told
+occupancy_keeps w client l = told_keeps w client (occupancy_of w) l
+
+standing_keeps : (w : State) (client : ℕ) → Lawful w → KeepsLaw (standing_told w client)
+unfolding standing_told
+standing_keeps w client l = told_keeps w client (standing_in w) l
+
+stand_keeps : (w : State) (client charge name : ℕ) → Lawful w → KeepsLaw (stand_of w client charge name)
+unfolding stand_of
+stand_keeps w client charge name l =
+    chain (live_at w client) _ (λ found live. chain (allow (may_stand found charge name)) _ (λ u may.
+    lawful_stand w client charge name found l (live_ok w client found live) (may_ok _ u may)))
+
+fall_keeps : (w : State) (client name : ℕ) → Lawful w → KeepsLaw (fall_of w client name)
+unfolding fall_of
+fall_keeps w client name l =
+    chain (live_at w client) _ (λ found live. chain (ok_or (find (is_standing name) found.standalones) NotAllowed) _ (λ gone there.
+    lawful_fall w client name found gone l (live_ok w client found live) (found_ok _ _ gone there)))
+
+count_keeps : (w : State) (client slot : ℕ) → Lawful w → KeepsLaw (count_of w client slot)
+unfolding count_of
+count_keeps w client slot l = chain (slot_at w slot) _ (λ seen at. chain (live_at w client) _ (λ found live. l))
+
+pass_keeps : (w : State) (client slot : ℕ) → Lawful w → KeepsLaw (pass_of w client slot)
+unfolding pass_of
+pass_keeps w client slot l =
+    chain (slot_at w slot) _ (λ seen at. chain (live_at w client) _ (λ found live.
+    chain (allow (nat_lt (length found.trail) w.setup.slots)) _ (λ u room.
+    lawful_pass w client slot found l (live_ok w client found live) (may_ok _ u room))))
+
+unpass_keeps : (w : State) (client slot : ℕ) → Lawful w → KeepsLaw (unpass_of w client slot)
+unfolding unpass_of
+unpass_keeps w client slot l =
+    chain (slot_at w slot) _ (λ seen at. chain (live_at w client) _ (λ found live.
+    chain (allow (list_any (is_place slot) found.trail)) _ (λ u passed.
+    lawful_unpass w client slot found l (live_ok w client found live))))
+
+turn_keeps : (w : State) (client : ℕ) → Lawful w → KeepsLaw (turn_of w client)
+unfolding turn_of
+turn_keeps w client l = chain (live_at w client) _ (λ found live. lawful_turn w _ l)
+
 rule_keeps : (w : State) (event : Event) → Lawful w → KeepsLaw (rule_of w event)
 rule_keeps w (events.Start client) l = start_keeps w client l
 rule_keeps w (events.Look client slot) l = look_keeps w client slot l
@@ -179,6 +273,21 @@ rule_keeps w (events.Enter client) l = enter_keeps w client l
 rule_keeps w (events.Charge client charge) l = charge_keeps w client charge l
 rule_keeps w (events.Slots client) l = slots_keeps w client l
 rule_keeps w (events.Settle client) l = settle_keeps w client l
+rule_keeps w (events.End client) l = end_keeps w client l
+rule_keeps w (events.Clock client slot) l = clock_keeps w client slot l
+rule_keeps w (events.Mark client name) l = mark_keeps w client name l
+rule_keeps w (events.Correct client name) l = correct_keeps w client name l
+rule_keeps w (events.Waive client) l = waive_keeps w client l
+rule_keeps w (events.Quit client) l = quit_keeps w client l
+rule_keeps w (events.Usage client) l = usage_keeps w client l
+rule_keeps w (events.Occupancy client) l = occupancy_keeps w client l
+rule_keeps w (events.Standing client) l = standing_keeps w client l
+rule_keeps w (events.Stand client charge name) l = stand_keeps w client charge name l
+rule_keeps w (events.Fall client name) l = fall_keeps w client name l
+rule_keeps w (events.Count client slot) l = count_keeps w client slot l
+rule_keeps w (events.Pass client slot) l = pass_keeps w client slot l
+rule_keeps w (events.Unpass client slot) l = unpass_keeps w client slot l
+rule_keeps w (events.Turn client) l = turn_keeps w client l
 
 if_keeps : (b : Bool) (outcome : Outcome) → KeepsLaw outcome → KeepsLaw (cond b outcome (Err NotAllowed))
 if_keeps true outcome h = h

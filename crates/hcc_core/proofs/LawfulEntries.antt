@@ -14,9 +14,11 @@ use Rattle.hcc_core.specs.declared.state.Slot.{Slot}
 use Rattle.hcc_core.specs.declared.state.Slot.TheVariants as slots
 use Rattle.hcc_core.specs.Sums.{when}
 use Rattle.hcc_core.specs.World.{State, is_shareable, stamp_of, references_of, charge_of, taken_by_slot, is_granted}
-use Rattle.hcc_core.specs.Steps.{with_both, owns_nothing, built_by, freed_by, may_show, resident_new, client_shown, may_free, is_free_for, has_no_member, client_freeing}
+use Rattle.hcc_core.specs.Steps.{with_both, owns_nothing, built_by, freed_by, may_show, resident_new, client_shown, may_free, is_free_for, has_no_member, client_freeing, dead_to}
 use Rattle.hcc_core.specs.Lawful.{Lawful, IsBounded, owner_of, owner_in, owned_slot, owned_by, stamp_in, stamps_by}
 use Rattle.hcc_core.proofs.ListLemmas.{read_same, read_here, read_other}
+use Rattle.hcc_core.proofs.DeadParts.{in_joined, dead_is_stamp, grave, dead_kept, dead_shown, lists_changed}
+use Rattle.hcc_core.proofs.LawfulQuiet.{shown_fewer}
 use Rattle.hcc_core.proofs.LawfulParts.{sized_kept, bounded_set, strayed_both, owners_taken, owners_left, stamped_fewer, stamped_shown, trailed_slot, trailed_client, ledgers_both}
 
 owns_none : (o : Owned) → owns_nothing o ≡ true → owned_slot o ≡ None
@@ -76,8 +78,12 @@ lawful_occupy w client slot strays found l at_slot at_client free =
       stamped = stamped_fewer w.slots _ w.clients _ l.stamped
           (λ s m h. sym (read_same stamp_in w.slots slot s (slots.Empty strays) left at_slot refl) ∙ h)
           (λ c. read_same stamps_by w.clients client c found new at_client refl);
+      dead = dead_kept w.slots _ w.clients _ l.dead
+          (λ s m h. shown_fewer w.slots slot s (slots.Empty strays) left m at_slot (λ m h. h) h)
+          (λ c. read_same stamps_by w.clients client c found new at_client refl)
+          (lists_changed _ w.clients client found new at_client (λ m h. inl h));
       trailed = trailed_client _ _ _ client new (trailed_slot _ _ _ slot left l.trailed (omega arith)) (l.trailed.hands client found at_client);
-      ledgers = ledgers_both w slot client (slots.Empty strays) left found new l.ledgers at_slot at_client (omega arith) (omega arith);
+      ledgers = ledgers_both w slot client (slots.Empty strays) left found new l.ledgers at_slot at_client (omega arith) (omega arith) (omega arith);
     }
 
 -- what the test of a show says
@@ -145,13 +151,14 @@ lawful_show w client slot key0 key1 charge countdown name value found l at_clien
       owners = owners_left w.slots w.clients slot client seen left found new l.owners at_slot at_client
           there.2 refl (builds_slot found.owned slot builds) refl;
       stamped = stamped_shown w.slots w.clients slot client seen left found new l.stamped at_slot at_client refl refl;
+      dead = dead_shown w.slots w.clients slot client seen left found new l.dead at_slot at_client refl refl refl;
       trailed = trailed_client _ _ _ client new (trailed_slot _ _ _ slot left l.trailed (l.trailed.hands client found at_client)) (omega arith);
       ledgers =
           let no_charge = bare.0 in
           let no_place = bare.1 in
           let placed = granted_placed found.place parts.placed in
           let enough = parts.granted in
-          ledgers_both w slot client seen left found new l.ledgers at_slot at_client (omega arith) (omega arith);
+          ledgers_both w slot client seen left found new l.ledgers at_slot at_client (omega arith) (omega arith) (omega arith);
     }
 
 -- what the test of a free says
@@ -206,10 +213,17 @@ lawful_free w client slot name found seen l at_slot at_client may =
       stamped = stamped_fewer w.slots _ w.clients _ l.stamped
           (λ s m h. stamp_gone w.slots slot client seen s m at_slot h)
           (λ c. read_same stamps_by w.clients client c found new at_client refl);
+      dead = dead_kept w.slots _ w.clients _ l.dead
+          (λ s m h. shown_fewer w.slots slot s seen left m at_slot (λ m h. cc) h)
+          (λ c. read_same stamps_by w.clients client c found new at_client refl)
+          (lists_changed _ w.clients client found new at_client (λ m h. elim (in_joined m found.dead (dead_to client seen) h) [
+            | inl e ↦ inl e
+            | inr e ↦ inr (grave w.slots w.clients slot seen left m l.stamped at_slot (dead_is_stamp client seen m e).0 refl)
+          ]));
       trailed = trailed_client _ _ _ client new (trailed_slot _ _ _ slot left l.trailed (omega arith)) (l.trailed.entries slot seen at_slot);
       ledgers =
           let one = one_place seen parts.shareable in
-          ledgers_both w slot client seen left found new l.ledgers at_slot at_client (omega arith) (omega arith);
+          ledgers_both w slot client seen left found new l.ledgers at_slot at_client (omega arith) (omega arith) (omega arith);
     }
 
 pub lawful_empty : (w : State) (client slot : ℕ) (found : Client) → Lawful w → slice_get w.clients client ≡ Some found
@@ -231,8 +245,12 @@ lawful_empty w client slot found l at_client frees =
       stamped = stamped_fewer w.slots _ w.clients _ l.stamped
           (λ s m h. let e = sym (read_same stamp_in w.slots slot s seen left at_slot (unstamped seen client there.2)) in e ∙ h)
           (λ c. read_same stamps_by w.clients client c found new at_client refl);
+      dead = dead_kept w.slots _ w.clients _ l.dead
+          (λ s m h. shown_fewer w.slots slot s seen left m at_slot (λ m h. cc) h)
+          (λ c. read_same stamps_by w.clients client c found new at_client refl)
+          (lists_changed _ w.clients client found new at_client (λ m h. inl h));
       trailed = trailed_client _ _ _ client new (trailed_slot _ _ _ slot left l.trailed (omega arith)) (l.trailed.hands client found at_client);
-      ledgers = ledgers_both w slot client seen left found new l.ledgers at_slot at_client (omega arith) (omega arith);
+      ledgers = ledgers_both w slot client seen left found new l.ledgers at_slot at_client (omega arith) (omega arith) (omega arith);
     }
   where
     unstamped : (seen : Slot) (client : ℕ) → owner_of seen ≡ Some client → None ≡ stamp_of seen

@@ -10,7 +10,7 @@ use Rattle.hcc_core.specs.declared.state.Slot.{Slot}
 use Rattle.hcc_core.specs.Sums.{when}
 use Rattle.hcc_core.specs.World.{State, strays_of, charge_of, stamp_of, taken_by_slot, charged_to, trail_of}
 use Rattle.hcc_core.specs.Steps.{looks_at, with_client, with_both}
-use Rattle.hcc_core.specs.Lawful.{Sized, IsBounded, Bounded, Strayed, Owners, Stamped, Trailed, Ledgers, lookers, owner_of, owner_in, owned_slot, owned_by, stamp_in, stamps_by, taken_by}
+use Rattle.hcc_core.specs.Lawful.{Sized, IsBounded, Bounded, Strayed, Owners, Stamped, Trailed, Ledgers, lookers, owner_of, owner_in, owned_slot, owned_by, stamp_in, stamps_by, taken_by, real_to}
 use Rattle.hcc_core.proofs.ListLemmas.{get_at_set, read_here, read_other}
 use Rattle.hcc_core.proofs.SumLemmas.{total-set}
 
@@ -290,8 +290,10 @@ trailed_client n all clients client new t short = record {
 
 -- one client has no more charge and no more places than it had
 pub ledgers_client : (w : State) (client : ℕ) (old new : Client) → Ledgers w → slice_get w.clients client ≡ Some old
-    → charged_to new ≤ charged_to old → taken_by new ≤ taken_by old → Ledgers (with_client w client new)
-ledgers_client w client old new l at_client charged taken = record {
+    → charged_to new ≤ charged_to old → real_to new ≤ real_to old → taken_by new ≤ taken_by old
+    → Ledgers (with_client w client new)
+ledgers_client w client old new l at_client charged real taken = record {
+  real = λ strict. let before = l.real strict in let change = total-set real_to w.clients client old new at_client in omega arith;
   usage = let before = l.usage in let change = total-set charged_to w.clients client old new at_client in omega arith;
   places = let before = l.places in let change = total-set taken_by w.clients client old new at_client in omega arith;
 }
@@ -300,9 +302,15 @@ ledgers_client w client old new l at_client charged taken = record {
 pub ledgers_both : (w : State) (slot client : ℕ) (seen left : Slot) (old new : Client) → Ledgers w
     → slice_get w.slots slot ≡ Some seen → slice_get w.clients client ≡ Some old
     → charge_of left + charged_to new ≤ charge_of seen + charged_to old
+    → charge_of left + real_to new ≤ charge_of seen + real_to old
     → taken_by_slot left + taken_by new ≤ taken_by_slot seen + taken_by old
     → Ledgers (with_both w slot left client new)
-ledgers_both w slot client seen left old new l at_slot at_client charged taken = record {
+ledgers_both w slot client seen left old new l at_slot at_client charged real taken = record {
+  real = λ strict.
+      let before = l.real strict in
+      let here = total-set charge_of w.slots slot seen left at_slot in
+      let change = total-set real_to w.clients client old new at_client in
+      omega arith;
   usage =
       let before = l.usage in
       let here = total-set charge_of w.slots slot seen left at_slot in

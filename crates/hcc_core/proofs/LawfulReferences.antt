@@ -1,33 +1,53 @@
 -- The events on references keep a world lawful: start, look, acquire, give, use, hide.
-use Rattle.std.proofs.Common.{◌≡◌, ◌⊎◌, inl, inr, ℕ, ◌+◌, ◌*◌, ◌<◌, ◌≤◌, ◌||◌, ◌==◌, Bool, true, false, nat_le, nat_lt, is_none, List, [], ◌∷◌, ◌++◌, Some, slice_get, refl, sym, arith}
+use Rattle.std.proofs.Common.{Option, ◌≡◌, ◌⊎◌, inl, inr, ℕ, ◌+◌, ◌*◌, ◌<◌, ◌≤◌, ◌||◌, ◌==◌, Bool, true, false, nat_le, nat_lt, is_none, List, [], ◌∷◌, ◌++◌, Some, slice_get, refl, sym, arith, None, ◌∙◌}
 use Rattle.std.proofs.lemmas.Bool.{and_parts, or_cases, leb-true, ltb-true, false≢true, ne_eqb}
 use Rattle.hcc_core.specs.declared.limits.TheConstants.{MOST_WEIGHT, MOST_CLIENTS, MOST_REFERENCES, NEAR}
 use Rattle.hcc_core.specs.declared.state.Client.{Client}
 use Rattle.hcc_core.specs.declared.state.Reference.{Reference}
 use Rattle.hcc_core.specs.declared.state.Setup.{Setup}
+use Rattle.hcc_core.specs.declared.state.Stamp.{Stamp}
 use Rattle.hcc_core.specs.declared.state.Slot.{Slot}
 use Rattle.hcc_core.specs.declared.state.Slot.TheVariants as slots
 use Rattle.hcc_core.specs.Sums.{when}
-use Rattle.hcc_core.specs.World.{State, strays_of, references_of, weight, weight_of, reference_in, has_client, slot_holding}
-use Rattle.hcc_core.specs.Steps.{with_client, with_both, looks_at, client_looked, most_weight, may_acquire, new_reference, slot_acquired, client_acquired, client_noticed, slot_given, slot_used, slot_hidden}
-use Rattle.hcc_core.specs.Lawful.{Lawful, IsBounded}
+use Rattle.hcc_core.specs.World.{State, is_named, stamp_of, strays_of, references_of, weight, weight_of, reference_in, has_client, slot_holding}
+use Rattle.hcc_core.specs.Steps.{with_client, with_both, looks_at, client_looked, most_weight, may_acquire, new_reference, slot_acquired, client_acquired, client_noticed, slot_given, slot_used, slot_hidden, noticed, dead_to}
+use Rattle.hcc_core.specs.Lawful.{Lawful, IsBounded, shown_stamp, is_in}
 use Rattle.hcc_core.proofs.ListLemmas.{set_same}
 use Rattle.hcc_core.proofs.SumLemmas.{total-append}
-use Rattle.hcc_core.proofs.ReferenceLemmas.{without-total, without-le, counted-le}
+use Rattle.hcc_core.proofs.ReferenceLemmas.{counted-le}
+use Rattle.hcc_core.proofs.DroppedLemmas.{dropped-total, dropped-le}
 use Rattle.hcc_core.proofs.LawfulParts.{looking, ledgers_client}
+use Rattle.hcc_core.proofs.DeadParts.{in_joined, dead_is_stamp}
 use Rattle.hcc_core.proofs.LawfulQuiet.{QuietSlot, quiet, in_ledgers}
 
 pub lawful_start : (w : State) (client : ℕ) (found : Client) → Lawful w → slice_get w.clients client ≡ Some found
     → Lawful (with_client w client (record found { live = true }))
 lawful_start w client found l at_client =
     let new : Client = record found { live = true } in
-    in_ledgers w client found new l at_client refl refl refl refl
-    (ledgers_client w client found new l.ledgers at_client (omega arith) (omega arith))
+    in_ledgers w client found new l at_client refl refl refl refl refl
+    (ledgers_client w client found new l.ledgers at_client (omega arith) (omega arith) (omega arith))
+
+-- what joins a client's dead list is the stamp of a slot that shows nothing
+pub dies_here : (client : ℕ) (dead : List Stamp) (slot : Slot) (m : Stamp) → is_in m (noticed client slot dead) ≡ true
+    → (is_in m dead ≡ true) ⊎ ((stamp_of slot ≡ Some m) × (shown_stamp slot ≡ None))
+dies_here client dead slot m h = elim (in_joined m dead (dead_to client slot) h) [
+  | inl e ↦ inl e
+  | inr e ↦ inr (dead_is_stamp client slot m e)
+]
+
+-- a slot that shows nothing new shows nothing where it showed nothing
+pub still_hidden : (seen left : Slot) → shown_stamp seen ≡ None
+    → ((m : Stamp) → shown_stamp left ≡ Some m → shown_stamp seen ≡ Some m) → shown_stamp left ≡ None
+still_hidden seen left none fewer = by (shown_stamp left) refl
+  where
+    by : (o : Option Stamp) → shown_stamp left ≡ o → o ≡ None
+    by None e = refl
+    by (Some m) e = let bad : None ≡ Some m = sym none ∙ fewer m e in cc
 
 -- Looks.
 
 calm : (slot : Slot) → QuietSlot slot slot
-calm slot = record { owner = refl; stamp = refl; trail = refl; charge = refl; taken = refl }
+calm slot = record { owner = refl; stamp = refl; trail = refl; charge = refl; taken = refl; shown = λ m h. h }
 
 -- who looks now sees a slot without strays, or has looked nowhere
 look_first : (client slot : ℕ) (seen : Slot) (found : Client)
@@ -47,20 +67,21 @@ look_else client slot s (slots.Shareable r) found n =
 pub lawful_look : (w : State) (client slot : ℕ) (found : Client) (seen : Slot) → Lawful w
     → slice_get w.slots slot ≡ Some seen → slice_get w.clients client ≡ Some found
     → Lawful (with_client w client (client_looked client slot seen found))
-lawful_look w client slot found seen l at_slot at_client =
-    let new : Client = client_looked client slot seen found in
-    let both : Lawful (with_both w slot seen client new) =
-    quiet w slot client seen seen found new l at_slot at_client (calm seen)
-    (record { owned = refl; stamps = refl; trail = refl; charged = refl; taken = refl })
-    (l.bounded slot seen at_slot) (look_first client slot seen found) (λ s n. look_else client slot s seen found n) in
-    rw (set_same w.slots slot seen at_slot) at both
+lawful_look w client slot found seen l at_slot at_client = rw (set_same w.slots slot seen at_slot) at both
+  where
+    both : Lawful (with_both w slot seen client (client_looked client slot seen found))
+    both =
+        quiet w slot client seen seen found (client_looked client slot seen found) l at_slot at_client (calm seen)
+        (record { owned = refl; stamps = refl; trail = refl; charged = refl; real = refl; taken = refl })
+        (l.bounded slot seen at_slot) (look_first client slot seen found)
+        (λ s n. look_else client slot s seen found n) (λ m h. dies_here client found.dead seen m h)
 
 -- Acquires.
 
 calm_acquired : (seen : Slot) (k : Reference) → QuietSlot seen (slot_acquired seen k)
-calm_acquired (slots.Empty strays) k = record { owner = refl; stamp = refl; trail = refl; charge = refl; taken = refl }
-calm_acquired (slots.Building other strays) k = record { owner = refl; stamp = refl; trail = refl; charge = refl; taken = refl }
-calm_acquired (slots.Shareable r) k = record { owner = refl; stamp = refl; trail = refl; charge = refl; taken = refl }
+calm_acquired (slots.Empty strays) k = record { owner = refl; stamp = refl; trail = refl; charge = refl; taken = refl; shown = λ m h. h }
+calm_acquired (slots.Building other strays) k = record { owner = refl; stamp = refl; trail = refl; charge = refl; taken = refl; shown = λ m h. h }
+calm_acquired (slots.Shareable r) k = record { owner = refl; stamp = refl; trail = refl; charge = refl; taken = refl; shown = λ m h. h }
 
 -- what the test of an acquire says
 pub record MayAcquire (setup : Setup) (client slot : ℕ) (found : Client) (seen : Slot) (weight : ℕ) : Type 0 where
@@ -134,16 +155,20 @@ lawful_acquire w client slot weight name found seen l at_slot at_client may =
     let k : Reference = new_reference client name weight seen in
     let parts = may_acquire_parts w.setup w.slots client found slot seen weight name may in
     quiet w slot client seen (slot_acquired seen k) found (client_acquired client (slot_acquired seen k) found) l at_slot at_client
-    (calm_acquired seen k) (record { owned = refl; stamps = refl; trail = refl; charged = refl; taken = refl })
+    (calm_acquired seen k) (record { owned = refl; stamps = refl; trail = refl; charged = refl; real = refl; taken = refl })
     (acquired_bounded w.setup client name weight seen l.sized.few_clients (l.bounded slot seen at_slot) parts.room)
     (acquired_strays client slot found seen k parts.few parts.near) (λ s n. omega arith)
+    (λ m h. elim (dies_here client found.dead (slot_acquired seen k) m h) [
+      | inl e ↦ inl e
+      | inr e ↦ inr (sym (calm_acquired seen k).stamp ∙ e.0, e.1)
+    ])
 
 -- Gives and uses.
 
 calm_given : (client name : ℕ) (seen : Slot) → QuietSlot seen (slot_given client name seen)
-calm_given client name (slots.Empty strays) = record { owner = refl; stamp = refl; trail = refl; charge = refl; taken = refl }
-calm_given client name (slots.Building other strays) = record { owner = refl; stamp = refl; trail = refl; charge = refl; taken = refl }
-calm_given client name (slots.Shareable r) = record { owner = refl; stamp = refl; trail = refl; charge = refl; taken = refl }
+calm_given client name (slots.Empty strays) = record { owner = refl; stamp = refl; trail = refl; charge = refl; taken = refl; shown = λ m h. h }
+calm_given client name (slots.Building other strays) = record { owner = refl; stamp = refl; trail = refl; charge = refl; taken = refl; shown = λ m h. h }
+calm_given client name (slots.Shareable r) = record { owner = refl; stamp = refl; trail = refl; charge = refl; taken = refl; shown = λ m h. h }
 
 given_strays : (client name : ℕ) (seen : Slot) → strays_of (slot_given client name seen) ≡ strays_of seen
 given_strays client name (slots.Empty strays) = refl
@@ -154,8 +179,8 @@ pub given_bounded : (setup : Setup) (client name : ℕ) (seen : Slot) → IsBoun
 given_bounded setup client name (slots.Empty strays) b = b
 given_bounded setup client name (slots.Building other strays) b = b
 given_bounded setup client name (slots.Shareable r) b =
-    let lighter = without-le (λ (k : Reference). k.weight) client name r.references in
-    let fewer = without-le (λ (k : Reference). when k.counting k.weight) client name r.references in
+    let lighter = dropped-le (is_named client name) (λ (k : Reference). k.weight) r.references in
+    let fewer = dropped-le (is_named client name) (λ (k : Reference). when k.counting k.weight) r.references in
     let references = b.references in
     let uses = b.uses in
     record { references = omega arith; uses = omega arith }
@@ -165,14 +190,18 @@ pub lawful_give : (w : State) (client name slot : ℕ) (found : Client) (seen : 
     → Lawful (with_both w slot (slot_given client name seen) client (client_noticed client seen found))
 lawful_give w client name slot found seen l at_slot at_client =
     quiet w slot client seen (slot_given client name seen) found (client_noticed client seen found) l at_slot at_client
-    (calm_given client name seen) (record { owned = refl; stamps = refl; trail = refl; charged = refl; taken = refl })
+    (calm_given client name seen) (record { owned = refl; stamps = refl; trail = refl; charged = refl; real = refl; taken = refl })
     (given_bounded w.setup client name seen (l.bounded slot seen at_slot))
     (inl (let same = given_strays client name seen in omega arith)) (λ s n. omega arith)
+    (λ m h. elim (dies_here client found.dead seen m h) [
+      | inl e ↦ inl e
+      | inr e ↦ inr (e.0, still_hidden seen (slot_given client name seen) e.1 (calm_given client name seen).shown)
+    ])
 
 calm_used : (client name : ℕ) (k : Reference) (seen : Slot) → QuietSlot seen (slot_used client name k seen)
-calm_used client name k (slots.Empty strays) = record { owner = refl; stamp = refl; trail = refl; charge = refl; taken = refl }
-calm_used client name k (slots.Building other strays) = record { owner = refl; stamp = refl; trail = refl; charge = refl; taken = refl }
-calm_used client name k (slots.Shareable r) = record { owner = refl; stamp = refl; trail = refl; charge = refl; taken = refl }
+calm_used client name k (slots.Empty strays) = record { owner = refl; stamp = refl; trail = refl; charge = refl; taken = refl; shown = λ m h. h }
+calm_used client name k (slots.Building other strays) = record { owner = refl; stamp = refl; trail = refl; charge = refl; taken = refl; shown = λ m h. h }
+calm_used client name k (slots.Shareable r) = record { owner = refl; stamp = refl; trail = refl; charge = refl; taken = refl; shown = λ m h. h }
 
 used_strays : (client name : ℕ) (k : Reference) (seen : Slot) → strays_of (slot_used client name k seen) ≡ strays_of seen
 used_strays client name k (slots.Empty strays) = refl
@@ -186,8 +215,8 @@ pub used_bounded : (setup : Setup) (client name : ℕ) (k : Reference) (seen : S
 used_bounded setup client name k (slots.Empty strays) there counts b = b
 used_bounded setup client name k (slots.Building other strays) there counts b = b
 used_bounded setup client name k (slots.Shareable r) there counts b =
-    let lighter = without-total (λ (k : Reference). k.weight) client name r.references k there in
-    let fewer = without-total (λ (k : Reference). when k.counting k.weight) client name r.references k there in
+    let lighter = dropped-total (is_named client name) (λ (k : Reference). k.weight) r.references k there in
+    let fewer = dropped-total (is_named client name) (λ (k : Reference). when k.counting k.weight) r.references k there in
     let whole : when k.counting k.weight ≡ k.weight = rw counts refl in
     let references = b.references in
     let uses = b.uses in
@@ -199,16 +228,20 @@ pub lawful_use : (w : State) (client name slot : ℕ) (found : Client) (seen : S
     → Lawful (with_both w slot (slot_used client name k seen) client (client_noticed client seen found))
 lawful_use w client name slot found seen k l at_slot at_client there counts =
     quiet w slot client seen (slot_used client name k seen) found (client_noticed client seen found) l at_slot at_client
-    (calm_used client name k seen) (record { owned = refl; stamps = refl; trail = refl; charged = refl; taken = refl })
+    (calm_used client name k seen) (record { owned = refl; stamps = refl; trail = refl; charged = refl; real = refl; taken = refl })
     (used_bounded w.setup client name k seen there counts (l.bounded slot seen at_slot))
     (inl (let same = used_strays client name k seen in omega arith)) (λ s n. omega arith)
+    (λ m h. elim (dies_here client found.dead seen m h) [
+      | inl e ↦ inl e
+      | inr e ↦ inr (e.0, still_hidden seen (slot_used client name k seen) e.1 (calm_used client name k seen).shown)
+    ])
 
 -- Hides.
 
 calm_hidden : (seen : Slot) → QuietSlot seen (slot_hidden seen)
-calm_hidden (slots.Empty strays) = record { owner = refl; stamp = refl; trail = refl; charge = refl; taken = refl }
-calm_hidden (slots.Building other strays) = record { owner = refl; stamp = refl; trail = refl; charge = refl; taken = refl }
-calm_hidden (slots.Shareable r) = record { owner = refl; stamp = refl; trail = refl; charge = refl; taken = refl }
+calm_hidden (slots.Empty strays) = record { owner = refl; stamp = refl; trail = refl; charge = refl; taken = refl; shown = λ m h. h }
+calm_hidden (slots.Building other strays) = record { owner = refl; stamp = refl; trail = refl; charge = refl; taken = refl; shown = λ m h. h }
+calm_hidden (slots.Shareable r) = record { owner = refl; stamp = refl; trail = refl; charge = refl; taken = refl; shown = λ m h. cc }
 
 hidden_strays : (seen : Slot) → strays_of (slot_hidden seen) ≡ strays_of seen
 hidden_strays (slots.Empty strays) = refl
@@ -225,6 +258,10 @@ pub lawful_hide : (w : State) (client slot : ℕ) (found : Client) (seen : Slot)
     → Lawful (with_both w slot (slot_hidden seen) client (client_noticed client (slot_hidden seen) found))
 lawful_hide w client slot found seen l at_slot at_client =
     quiet w slot client seen (slot_hidden seen) found (client_noticed client (slot_hidden seen) found) l at_slot at_client
-    (calm_hidden seen) (record { owned = refl; stamps = refl; trail = refl; charged = refl; taken = refl })
+    (calm_hidden seen) (record { owned = refl; stamps = refl; trail = refl; charged = refl; real = refl; taken = refl })
     (hidden_bounded w.setup seen (l.bounded slot seen at_slot))
     (inl (let same = hidden_strays seen in omega arith)) (λ s n. omega arith)
+    (λ m h. elim (dies_here client found.dead (slot_hidden seen) m h) [
+      | inl e ↦ inl e
+      | inr e ↦ inr (sym (calm_hidden seen).stamp ∙ e.0, e.1)
+    ])

@@ -1,11 +1,14 @@
 pub mod ListLemmas
 pub mod SumLemmas
+pub mod DroppedLemmas
 pub mod ReaderLemmas
 pub mod ReferenceLemmas
 pub mod LawfulParts
+pub mod DeadParts
 pub mod LawfulQuiet
 pub mod LawfulReferences
 pub mod LawfulEntries
+pub mod LawfulUses
 pub mod LawfulLedgers
 pub mod Opening
 pub mod Keeps

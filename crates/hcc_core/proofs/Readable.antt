@@ -5,12 +5,15 @@ use Rattle.hcc_core.specs.declared.state.Client.{Client}
 use Rattle.hcc_core.specs.declared.state.Reference.{Reference}
 use Rattle.hcc_core.specs.declared.state.Place.{Place}
 use Rattle.hcc_core.specs.declared.state.Place.TheVariants as places
+use Rattle.hcc_core.specs.declared.state.Standalone.{Standalone}
 use Rattle.hcc_core.specs.declared.state.Slot.{Slot}
+use Rattle.hcc_core.specs.Steps.{is_standing}
+use Rattle.std.specs.List.{find}
 use Rattle.hcc_core.specs.Sums.{when, total}
-use Rattle.hcc_core.specs.World.{State, strays_of, references_of, reference_in, uses_of, weight_of, charge_of, trail_of, charged_to, standing_of, is_placed, is_granted, occupied_by, times, passed_by, usage_of, occupancy_of, standing_in, limit_of}
+use Rattle.hcc_core.specs.World.{State, is_named, strays_of, references_of, reference_in, uses_of, weight_of, charge_of, trail_of, charged_to, standing_of, is_placed, is_granted, occupied_by, times, passed_by, usage_of, occupancy_of, standing_in, limit_of}
 use Rattle.hcc_core.specs.Lawful.{Lawful, IsLawful, IsBounded, taken_by}
 use Rattle.hcc_core.proofs.SumLemmas.{total-le, total-member}
-use Rattle.hcc_core.proofs.ReferenceLemmas.{without-total}
+use Rattle.hcc_core.proofs.DroppedLemmas.{dropped-total}
 use Rattle.hcc_core.proofs.Opening.{is_lawful}
 
 pub usage_fits : (w : State) → IsLawful w → usage_of w ≤ MOST_USAGE
@@ -109,7 +112,7 @@ pub used_fits : (w : State) (client name : ℕ) (k : Reference) (slot : Slot) �
     → reference_in client name (references_of slot) ≡ Some k → k.counting ≡ true → uses_of slot + k.weight < 4294967296
 used_fits w client name k slot b there counts =
     let whole : when k.counting k.weight ≡ k.weight = rw counts refl in
-    let part = without-total (λ (k : Reference). when k.counting k.weight) client name (references_of slot) k there in
+    let part = dropped-total (is_named client name) (λ (k : Reference). when k.counting k.weight) (references_of slot) k there in
     let uses = b.uses in
     omega arith
 
@@ -134,4 +137,12 @@ freed_slots_few w c client l at_client =
     let part = total-member taken_by w.clients c client at_client in
     let places = l.ledgers.places in
     let few = l.sized.few_slots in
+    omega arith
+
+-- a standalone entry's charge is part of the usage
+pub fallen_fits : (w : State) (c name : ℕ) (client : Client) (gone : Standalone) → Lawful w → slice_get w.clients c ≡ Some client
+    → find (is_standing name) client.standalones ≡ Some gone → client.freed + gone.charge ≤ MOST_USAGE
+fallen_fits w c name client gone l at_client there =
+    let all = charged_fits w c client l at_client in
+    let one = dropped-total (is_standing name) (λ (s : Standalone). s.charge) client.standalones gone there in
     omega arith

@@ -1,18 +1,19 @@
 -- What each step does where it is allowed, by what the code read on the way.
 use Rattle.std.proofs.Common.{◌≡◌, ℕ, ◌+◌, ◌-◌, ◌&&◌, ◌||◌, ◌==◌, Bool, true, false, cond, not, nat_lt, List, [], ◌∷◌, ◌++◌, Option, Some, None, Ok, unwrap_or, slice_get, length, position, one-add, refl, sym, ap, ◌∙◌}
-use Rattle.std.specs.List.{list_any, position_or_len}
+use Rattle.std.specs.List.{list_any, position_or_len, find}
 use Rattle.std.proofs.lemmas.Bool.{eq-eqb}
 use Rattle.hcc_core.specs.declared.state.Client.{Client}
 use Rattle.hcc_core.specs.declared.state.Reference.{Reference}
 use Rattle.hcc_core.specs.declared.state.Resident.{Resident}
 use Rattle.hcc_core.specs.declared.state.Stamp.{Stamp}
+use Rattle.hcc_core.specs.declared.state.Standalone.{Standalone}
 use Rattle.hcc_core.specs.declared.state.Slot.{Slot}
 use Rattle.hcc_core.specs.declared.state.Slot.TheVariants as slots
 use Rattle.hcc_core.specs.declared.state.Owned.TheVariants as owned
 use Rattle.hcc_core.specs.declared.event.Reply.{Reply}
 use Rattle.hcc_core.specs.declared.event.Reply.TheVariants as replies
 use Rattle.hcc_core.specs.World.{State, references_of, charge_of, stamp_of, hidden_stamp, is_named, has_reference, has_client, slot_holding, counts_in, usage_of}
-use Rattle.hcc_core.specs.Steps.{live_at, with_client, with_both, dead_to, joined, may_acquire, acquired, new_reference, slot_acquired, client_acquired, acquire_of, slot_given, client_noticed, left_on, give_of, counting_in, slot_used, use_of, built_by, may_show, resident_new, client_shown, show_of, slot_hidden, hidden, hide_of, may_free, client_freeing, free_of, freed_by, has_no_member, empty_of, may_charge, grant_of, charge_by, may_settle, settle_of}
+use Rattle.hcc_core.specs.Steps.{live_at, with_client, with_both, dead_to, joined, may_acquire, acquired, new_reference, slot_acquired, client_acquired, acquire_of, slot_given, client_noticed, left_on, give_of, counting_in, slot_used, use_of, built_by, may_show, resident_new, client_shown, show_of, slot_hidden, hidden, hide_of, may_free, client_freeing, free_of, freed_by, has_no_member, empty_of, may_charge, grant_of, charge_by, may_settle, settle_of, dropped, is_standing, fall_of}
 
 live_is : (w : State) (client : ℕ) (found : Client) → slice_get w.clients client ≡ Some found → found.live ≡ true
     → live_at w client ≡ Ok found
@@ -171,3 +172,11 @@ pub settle_gives : (w : State) (client : ℕ) (found new : Client)
 unfolding settle_of
 settle_gives w client found new at_client live may becomes =
     rw (live_is w client found at_client live, may, becomes) refl
+
+pub fall_gives : (w : State) (client name : ℕ) (found new : Client) (gone : Standalone)
+    → slice_get w.clients client ≡ Some found → found.live ≡ true → find (is_standing name) found.standalones ≡ Some gone
+    → new ≡ record found { freed = found.freed + gone.charge; standalones = dropped (is_standing name) found.standalones }
+    → fall_of w client name ≡ Ok (replies.Ok, with_client w client new)
+unfolding fall_of
+fall_gives w client name found new gone at_client live there becomes =
+    rw (live_is w client found at_client live, there, becomes) refl

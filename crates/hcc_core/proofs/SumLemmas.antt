@@ -52,3 +52,8 @@ total-none f [] zero h = refl
 total-none f [] (suc i) h = refl
 total-none f (y ∷ ys) zero h = absurd (omega arith)
 total-none f (y ∷ ys) (suc i) h = total-none f ys i (omega arith)
+
+-- one more member at the end
+pub length-push : {X : Type 0} (xs : List X) (x : X) → length (xs ++ x ∷ []) ≡ length xs + 1
+length-push [] x = refl
+length-push (y ∷ ys) x = let rest = length-push ys x in omega arith

@@ -1,6 +1,7 @@
 -- The lawful worlds: those that events can lead to. Each part speaks of some readings alone,
 -- so a step that leaves these readings keeps the part.
-use Rattle.std.specs.Prelude.{◌≡◌, ℕ, ◌+◌, ◌*◌, ◌<◌, ◌≤◌, List, Option, Some, None, length, slice_get, option_and_then}
+use Rattle.std.specs.Prelude.{◌≡◌, ℕ, ◌+◌, ◌*◌, ◌<◌, ◌≤◌, List, Option, Some, None, length, slice_get, option_and_then, Bool, true, [], if◌then◌else◌}
+use Rattle.std.specs.List.{list_any}
 use Rattle.hcc_core.specs.declared.limits.TheConstants.{MOST_SLOTS, MOST_CLIENTS, MOST_REFERENCES, NEAR, MOST_USAGE}
 use Rattle.hcc_core.specs.declared.state.Setup.{Setup}
 use Rattle.hcc_core.specs.declared.state.Stamp.{Stamp}
@@ -10,8 +11,8 @@ use Rattle.hcc_core.specs.declared.state.Owned.TheVariants as owned
 use Rattle.hcc_core.specs.declared.state.Slot.{Slot}
 use Rattle.hcc_core.specs.declared.state.Slot.TheVariants as slots
 use Rattle.hcc_core.specs.Sums.{when, total}
-use Rattle.hcc_core.specs.World.{State, taken_by_slot, strays_of, references_of, uses_of, stamp_of, weight_of, counted, trail_of, is_granted, usage_of, limit_of}
-use Rattle.hcc_core.specs.Steps.{looks_at, most_weight}
+use Rattle.hcc_core.specs.World.{State, taken_by_slot, strays_of, references_of, uses_of, stamp_of, weight_of, counted, trail_of, is_granted, usage_of, limit_of, standing_of, charge_of}
+use Rattle.hcc_core.specs.Steps.{is_stamp, looks_at, most_weight}
 
 -- Readings of a slot or a client that may not be there.
 
@@ -77,6 +78,29 @@ pub record Stamped (all : List Slot) (clients : List Client) : Type 0 where
   pub made : (s : ℕ) (m : Stamp) → stamp_in (slice_get all s) ≡ Some m → m.number < stamps_by (slice_get clients m.client)
   pub apart : (s t : ℕ) (m : Stamp) → stamp_in (slice_get all s) ≡ Some m → stamp_in (slice_get all t) ≡ Some m → s ≡ t
 
+-- the dead list of a client that may not be there
+abbrev pub dead_by : Option Client → List Stamp
+dead_by None = []
+dead_by (Some client) = client.dead
+
+-- the stamp of an entry that is shown
+abbrev pub shown_stamp : Slot → Option Stamp
+shown_stamp (slots.Empty strays) = None
+shown_stamp (slots.Building client strays) = None
+shown_stamp (slots.Shareable r) = if r.shown then Some r.entry.stamp else None
+
+abbrev pub shown_in : Option Slot → Option Stamp
+shown_in o = option_and_then shown_stamp o
+
+-- whether a stamp stands in a list
+abbrev pub is_in : Stamp → List Stamp → Bool
+is_in stamp list = list_any (is_stamp stamp) list
+
+-- no stamp that a client has seen dead is shown, and each of them was made
+pub record Dead (all : List Slot) (clients : List Client) : Type 0 where
+  pub made : (c : ℕ) (m : Stamp) → is_in m (dead_by (slice_get clients c)) ≡ true → m.number < stamps_by (slice_get clients m.client)
+  pub unshown : (c s : ℕ) (m : Stamp) → is_in m (dead_by (slice_get clients c)) ≡ true → shown_in (slice_get all s) ≡ Some m → ⊥
+
 -- a trail has no more members than the world has slots
 pub record Trailed (slots : ℕ) (all : List Slot) (clients : List Client) : Type 0 where
   pub entries : (s : ℕ) (slot : Slot) → slice_get all s ≡ Some slot → length (trail_of slot) ≤ slots
@@ -90,9 +114,18 @@ taken_by client = when (is_granted client.place) 1 + client.freed_slots
 abbrev pub taken_in : List Slot → List Client → ℕ
 taken_in all clients = total taken_by_slot all + total taken_by clients
 
--- the usage has its bound, and the places taken theirs
+-- what of a client's amounts stands for entries, or did until it was freed
+abbrev pub real_to : Client → ℕ
+real_to client = client.granted + client.freed + standing_of client
+
+-- the charges of all entries, with what was granted and what was freed
+abbrev pub real_in : List Slot → List Client → ℕ
+real_in all clients = total charge_of all + total real_to clients
+
+-- the usage has its bound, the real charge under strict the capacity, and the places taken theirs
 pub record Ledgers (w : State) : Type 0 where
   pub usage : usage_of w ≤ MOST_USAGE
+  pub real : w.setup.strict ≡ true → real_in w.slots w.clients ≤ w.setup.capacity
   pub places : taken_in w.slots w.clients ≤ limit_of w.setup
 
 -- a world that steps lead to from an opening world
@@ -102,6 +135,7 @@ pub record Lawful (w : State) : Type 0 where
   pub strayed : Strayed w.setup w.slots w.clients
   pub owners : Owners w.slots w.clients
   pub stamped : Stamped w.slots w.clients
+  pub dead : Dead w.slots w.clients
   pub trailed : Trailed w.setup.slots w.slots w.clients
   pub ledgers : Ledgers w
 

@@ -1,13 +1,14 @@
 -- The steps: where an event is allowed, the world after it, and the reply to it.
 -- A step reads what it needs, in the order in which refusals are due, and then says both.
-use Rattle.std.specs.Prelude.{◌≡◌, ℕ, ◌+◌, ◌-◌, ◌*◌, ◌^◌, min, ◌<◌, ◌≤◌, Bool, true, false, ◌&&◌, ◌||◌, ◌==◌, not, nat_lt, nat_le, List, [], ◌∷◌, ◌++◌, Option, Some, None, Result, Ok, Err, is_none, replicate, slice_get, slice_set, if◌then◌else◌}
+use Rattle.std.specs.Prelude.{◌≡◌, ℕ, ◌+◌, ◌-◌, ◌*◌, ◌%◌, ◌^◌, min, ◌<◌, ◌≤◌, Bool, true, false, ◌&&◌, ◌||◌, ◌==◌, not, nat_lt, nat_le, List, [], ◌∷◌, ◌++◌, Option, Some, None, Result, Ok, Err, is_none, find, length, replicate, slice_get, slice_set, if◌then◌else◌}
 use Rattle.std.specs.Option.{ok_or}
 use Rattle.std.specs.List.{list_any, list_all}
-use Rattle.hcc_core.specs.declared.limits.TheConstants.{MOST_SLOTS, MOST_CLIENTS, REFERENCES_PER_CLIENT, MOST_WEIGHT, STAMPS_PER_CLIENT, MOST_USAGE}
+use Rattle.hcc_core.specs.declared.limits.TheConstants.{MOST_SLOTS, MOST_CLIENTS, REFERENCES_PER_CLIENT, MOST_WEIGHT, STAMPS_PER_CLIENT, MOST_USAGE, MOST_CLOCKED, NEAR, CORRECTION, SLOTS_PER_TURN}
 use Rattle.hcc_core.specs.declared.state.Setup.{Setup}
 use Rattle.hcc_core.specs.declared.state.Stamp.{Stamp}
 use Rattle.hcc_core.specs.declared.state.Reference.{Reference}
 use Rattle.hcc_core.specs.declared.state.Resident.{Resident}
+use Rattle.hcc_core.specs.declared.state.Standalone.{Standalone}
 use Rattle.hcc_core.specs.declared.state.Client.{Client}
 use Rattle.hcc_core.specs.declared.state.Slot.{Slot}
 use Rattle.hcc_core.specs.declared.state.Slot.TheVariants as slots
@@ -21,7 +22,7 @@ use Rattle.hcc_core.specs.declared.event.Reply.{Reply}
 use Rattle.hcc_core.specs.declared.event.Reply.TheVariants as replies
 use Rattle.hcc_core.specs.declared.event.CoreError.{CoreError}
 use Rattle.hcc_core.specs.declared.event.CoreError.TheVariants.{NoSuchSlot, NoSuchClient, NotAllowed, OutOfMemory}
-use Rattle.hcc_core.specs.World.{State, phase_of, is_shareable, references_of, charge_of, hidden_stamp, trail_of, weight_of, counts_in, is_named, reference_in, has_client, slot_holding, is_granted, usage_of, occupancy_of, limit_of}
+use Rattle.hcc_core.specs.World.{State, phase_of, is_shareable, references_of, uses_of, charge_of, hidden_stamp, trail_of, weight_of, counts_in, is_named, reference_in, has_client, slot_holding, is_placed, is_granted, usage_of, occupancy_of, standing_in, passed_at, limit_of}
 
 -- a refusal, or the reply and the world after it
 abbrev pub Outcome : Type 0
@@ -66,6 +67,11 @@ abbrev pub holding : State → ℕ → ℕ → Result ℕ CoreError
 holding world client name = ok_or (slot_holding world.slots client name) NotAllowed
 
 -- What a step leaves.
+
+-- the list without its first member that passes
+abbrev pub dropped : {A : Type 0} → (A → Bool) → List A → List A
+dropped test [] = []
+dropped test (x ∷ xs) = if test x then xs else x ∷ dropped test xs
 
 abbrev pub with_client : State → ℕ → Client → State
 with_client world client changed = record world { clients = slice_set world.clients client changed }
@@ -164,15 +170,10 @@ acquire_of world client slot weight name = do
 abbrev pub client_noticed : ℕ → Slot → Client → Client
 client_noticed client seen found = record found { dead = noticed client seen found.dead }
 
--- references without the first of this client and name
-abbrev pub without : ℕ → ℕ → List Reference → List Reference
-without client name [] = []
-without client name (k ∷ ks) = if is_named client name k then ks else k ∷ without client name ks
-
 abbrev pub slot_given : ℕ → ℕ → Slot → Slot
 slot_given client name (slots.Empty strays) = slots.Empty strays
 slot_given client name (slots.Building other strays) = slots.Building other strays
-slot_given client name (slots.Shareable r) = slots.Shareable (record r { references = without client name r.references })
+slot_given client name (slots.Shareable r) = slots.Shareable (record r { references = dropped (is_named client name) r.references })
 
 abbrev pub left_on : Slot → Reply
 left_on slot = replies.Left (weight_of slot) (phase_of slot)
@@ -190,7 +191,7 @@ abbrev pub slot_used : ℕ → ℕ → Reference → Slot → Slot
 slot_used client name k (slots.Empty strays) = slots.Empty strays
 slot_used client name k (slots.Building other strays) = slots.Building other strays
 slot_used client name k (slots.Shareable r) =
-    slots.Shareable (record r { references = without client name r.references; uses = r.uses + k.weight })
+    slots.Shareable (record r { references = dropped (is_named client name) r.references; uses = r.uses + k.weight })
 
 abbrev pub if_counting : Option Reference → Option Reference
 if_counting None = None
@@ -464,6 +465,175 @@ settle_of world client = do
     with_client world client (record found { granted = found.granted + found.needed; needed = 0; freed = 0 }),
   )
 
+-- End.
+
+-- no slot has a reference of this client
+abbrev pub holds_nothing : List Slot → ℕ → Bool
+holds_nothing all client = not (list_any (has_client client) all)
+
+abbrev pub is_idle : Client → Bool
+is_idle found =
+    owns_nothing found.owned && has_no_member found.trail && is_absent found.place && found.granted == 0
+    && found.needed == 0 && found.freed == 0 && found.freed_slots == 0 && has_no_member found.standalones
+
+unfoldable pub end_of : State → ℕ → Outcome
+end_of world client = do
+  found ← live_at world client
+  idle ← allow (is_idle found && holds_nothing world.slots client)
+  Ok (replies.Ok, with_client world client (record found { live = false; looked = None }))
+
+-- Clock, mark and correct.
+
+-- what a clock visit makes of the uses
+abbrev pub clocked : ℕ → ℕ
+clocked uses = min (uses - 1) MOST_CLOCKED
+
+abbrev pub may_clock : Slot → Bool
+may_clock (slots.Empty strays) = false
+may_clock (slots.Building client strays) = false
+may_clock (slots.Shareable r) = r.shown && has_no_member r.references && nat_lt 0 r.uses
+
+abbrev pub slot_with_uses : ℕ → Slot → Slot
+slot_with_uses uses (slots.Empty strays) = slots.Empty strays
+slot_with_uses uses (slots.Building client strays) = slots.Building client strays
+slot_with_uses uses (slots.Shareable r) = slots.Shareable (record r { uses = uses })
+
+abbrev pub with_slot : State → ℕ → Slot → State
+with_slot world slot left = record world { slots = slice_set world.slots slot left }
+
+unfoldable pub clock_of : State → ℕ → ℕ → Outcome
+clock_of world client slot = do
+  seen ← slot_at world slot
+  found ← live_at world client
+  may ← allow (may_clock seen)
+  let uses = clocked (uses_of seen)
+  Ok (replies.Uses uses, with_slot world slot (slot_with_uses uses seen))
+
+abbrev pub slot_marked : Slot → Slot
+slot_marked (slots.Empty strays) = slots.Empty strays
+slot_marked (slots.Building client strays) = slots.Building client strays
+slot_marked (slots.Shareable r) = slots.Shareable (record r { hit = true })
+
+unfoldable pub mark_of : State → ℕ → ℕ → Outcome
+mark_of world client name = do
+  found ← live_at world client
+  slot ← holding world client name
+  seen ← slot_at world slot
+  Ok (replies.Ok, with_both world slot (slot_marked seen) client (client_noticed client seen found))
+
+-- this client's reference of this name doesn't count, and the uses are near their bound
+abbrev pub may_correct : ℕ → ℕ → Slot → Bool
+may_correct client name seen =
+    is_none (counting_in client name (references_of seen)) && nat_le NEAR (uses_of seen)
+
+unfoldable pub correct_of : State → ℕ → ℕ → Outcome
+correct_of world client name = do
+  found ← live_at world client
+  slot ← holding world client name
+  seen ← slot_at world slot
+  may ← allow (may_correct client name seen)
+  let left = slot_with_uses (uses_of seen - CORRECTION) seen
+  Ok (replies.Ok, with_both world slot left client (client_noticed client seen found))
+
+-- Waive and quit.
+
+abbrev pub may_waive : Client → Bool
+may_waive found = nat_lt 0 found.granted || nat_lt 0 found.needed || nat_lt 0 found.freed
+
+unfoldable pub waive_of : State → ℕ → Outcome
+waive_of world client = do
+  found ← live_at world client
+  some ← allow (may_waive found)
+  Ok (replies.Ok, with_client world client (record found { granted = 0; needed = 0; freed = 0 }))
+
+unfoldable pub quit_of : State → ℕ → Outcome
+quit_of world client = do
+  found ← live_at world client
+  placed ← allow (is_placed found.place)
+  Ok (replies.Ok, with_client world client (record found { place = places.Absent; freed_slots = 0 }))
+
+-- What the ledgers say.
+
+-- a client that is live is told a number, and nothing changes
+abbrev pub told : State → ℕ → ℕ → Outcome
+told world client number = do
+  found ← live_at world client
+  Ok (replies.Count number, world)
+
+unfoldable pub usage_told : State → ℕ → Outcome
+usage_told world client = told world client (usage_of world)
+
+unfoldable pub occupancy_told : State → ℕ → Outcome
+occupancy_told world client = told world client (occupancy_of world)
+
+unfoldable pub standing_told : State → ℕ → Outcome
+standing_told world client = told world client (standing_in world)
+
+-- Standalone entries.
+
+abbrev pub is_standing : ℕ → Standalone → Bool
+is_standing name s = s.name == name
+
+abbrev pub may_stand : Client → ℕ → ℕ → Bool
+may_stand found charge name =
+    is_absent found.place && nat_le charge found.granted && not (list_any (is_standing name) found.standalones)
+
+unfoldable pub stand_of : State → ℕ → ℕ → ℕ → Outcome
+stand_of world client charge name = do
+  found ← live_at world client
+  may ← allow (may_stand found charge name)
+  Ok (
+    replies.Ok,
+    with_client world client (record found {
+      granted = found.granted - charge;
+      standalones = found.standalones ++ record { name = name; charge = charge } ∷ [];
+    }),
+  )
+
+unfoldable pub fall_of : State → ℕ → ℕ → Outcome
+fall_of world client name = do
+  found ← live_at world client
+  gone ← ok_or (find (is_standing name) found.standalones) NotAllowed
+  Ok (
+    replies.Ok,
+    with_client world client (record found {
+      freed = found.freed + gone.charge;
+      standalones = dropped (is_standing name) found.standalones;
+    }),
+  )
+
+-- Trails.
+
+unfoldable pub count_of : State → ℕ → ℕ → Outcome
+count_of world client slot = do
+  seen ← slot_at world slot
+  found ← live_at world client
+  Ok (replies.Count (passed_at world slot), world)
+
+unfoldable pub pass_of : State → ℕ → ℕ → Outcome
+pass_of world client slot = do
+  seen ← slot_at world slot
+  found ← live_at world client
+  room ← allow (nat_lt (length found.trail) world.setup.slots)
+  Ok (replies.Ok, with_client world client (record found { trail = found.trail ++ slot ∷ [] }))
+
+abbrev pub is_place : ℕ → ℕ → Bool
+is_place slot place = place == slot
+
+unfoldable pub unpass_of : State → ℕ → ℕ → Outcome
+unpass_of world client slot = do
+  seen ← slot_at world slot
+  found ← live_at world client
+  passed ← allow (list_any (is_place slot) found.trail)
+  Ok (replies.Ok, with_client world client (record found { trail = dropped (is_place slot) found.trail }))
+
+-- The hand.
+
+unfoldable pub turn_of : State → ℕ → Outcome
+turn_of world client = do
+  found ← live_at world client
+  Ok (replies.Count world.hand, record world { hand = (world.hand + SLOTS_PER_TURN) % 2 ^ 64 })
+
 -- Any event.
 
 abbrev pub fits : ℕ → ℕ → Bool
@@ -492,6 +662,21 @@ in_range (events.Enter client) = fits 32 client
 in_range (events.Charge client charge) = fits 32 client && fits 32 charge
 in_range (events.Slots client) = fits 32 client
 in_range (events.Settle client) = fits 32 client
+in_range (events.End client) = fits 32 client
+in_range (events.Clock client slot) = fits 32 client && fits 32 slot
+in_range (events.Mark client name) = fits 32 client && fits 64 name
+in_range (events.Correct client name) = fits 32 client && fits 64 name
+in_range (events.Waive client) = fits 32 client
+in_range (events.Quit client) = fits 32 client
+in_range (events.Usage client) = fits 32 client
+in_range (events.Occupancy client) = fits 32 client
+in_range (events.Standing client) = fits 32 client
+in_range (events.Stand client charge name) = fits 32 client && fits 32 charge && fits 64 name
+in_range (events.Fall client name) = fits 32 client && fits 64 name
+in_range (events.Count client slot) = fits 32 client && fits 32 slot
+in_range (events.Pass client slot) = fits 32 client && fits 32 slot
+in_range (events.Unpass client slot) = fits 32 client && fits 32 slot
+in_range (events.Turn client) = fits 32 client
 
 abbrev pub rule_of : State → Event → Outcome
 rule_of world (events.Start client) = start_of world client
@@ -510,6 +695,21 @@ rule_of world (events.Enter client) = enter_of world client
 rule_of world (events.Charge client charge) = charge_by world client charge
 rule_of world (events.Slots client) = slots_of world client
 rule_of world (events.Settle client) = settle_of world client
+rule_of world (events.End client) = end_of world client
+rule_of world (events.Clock client slot) = clock_of world client slot
+rule_of world (events.Mark client name) = mark_of world client name
+rule_of world (events.Correct client name) = correct_of world client name
+rule_of world (events.Waive client) = waive_of world client
+rule_of world (events.Quit client) = quit_of world client
+rule_of world (events.Usage client) = usage_told world client
+rule_of world (events.Occupancy client) = occupancy_told world client
+rule_of world (events.Standing client) = standing_told world client
+rule_of world (events.Stand client charge name) = stand_of world client charge name
+rule_of world (events.Fall client name) = fall_of world client name
+rule_of world (events.Count client slot) = count_of world client slot
+rule_of world (events.Pass client slot) = pass_of world client slot
+rule_of world (events.Unpass client slot) = unpass_of world client slot
+rule_of world (events.Turn client) = turn_of world client
 
 -- The outcome of an event: a refusal, or the reply and the world after it.
 unfoldable pub outcome_of : State → Event → Outcome

@@ -1,8 +1,9 @@
 //! What a step reads of a client, and what it leaves of one.
-ghost use Rattle.std.specs.Prelude.{◌≡◌, ◌<◌, ◌^◌, IfOk, unwrap_or, sum_by};
-ghost use Rattle.std.specs.List.{list_any};
+ghost use Rattle.std.specs.Prelude.{◌≡◌, ◌<◌, ◌^◌, IfOk, unwrap_or, sum_by, IfSome, length, position};
+ghost use Rattle.std.specs.List.{find, list_any};
+ghost use Rattle.std.specs.Option.{option_copied};
 ghost use Rattle.hcc_core.specs.World.{standing_of, is_placed, is_granted};
-ghost use Rattle.hcc_core.specs.Steps.{owns_nothing, built_by, freed_by, is_building, is_absent, place_granted, is_stamp, joined};
+ghost use Rattle.hcc_core.specs.Steps.{owns_nothing, built_by, freed_by, is_building, is_absent, place_granted, is_stamp, joined, dropped, has_no_member, is_idle, may_stand, is_standing, is_place};
 
 use crate::listed::Listed;
 use crate::state::{Client, Owned, Place, Stamp, Standalone};
@@ -109,6 +110,69 @@ impl Client {
         charges(self.standalones.as_slice())
     }
 
+    /// Whether it has nothing in hand but references.
+    pub(crate) fn is_idle(&self) -> bool
+        ensures { result ≡ is_idle self.now }
+    {
+        self.owned.is_nothing()
+            && is_empty(self.trail.as_slice())
+            && self.place.is_absent()
+            && self.granted == 0
+            && self.needed == 0
+            && self.freed == 0
+            && self.freed_slots == 0
+            && are_none(self.standalones.as_slice())
+    }
+
+    /// Whether it may make a standalone entry of this charge and name.
+    pub(crate) fn may_stand(&self, charge: u64, name: u64) -> bool
+        ensures { result ≡ may_stand self.now charge name }
+    {
+        self.place.is_absent()
+            && charge <= self.granted
+            && !has_standalone(self.standalones.as_slice(), name)
+    }
+
+    /// Its standalone entry of this name.
+    pub(crate) fn standalone(&self, name: u64) -> Option<&Standalone>
+        ensures { option_copied result ≡ find (is_standing name) self.now.standalones }
+    {
+        standalone_of(self.standalones.as_slice(), name)
+    }
+
+    /// Its standalone entry of this name goes.
+    pub(crate) fn fell(&mut self, name: u64)
+        ensures { self.new ≡ record self.old { standalones = dropped (is_standing name) self.old.standalones } }
+    {
+        if let Some(place) = place_of(self.standalones.as_slice(), name) {
+            self.standalones.remove(place);
+        }
+    }
+
+    /// It has no place from now on, and no freed slots.
+    pub(crate) fn leave(&mut self)
+        ensures { self.new ≡ record self.old { place = Place.Absent; freed_slots = 0 } }
+    {
+        self.place = Place::Absent;
+        self.freed_slots = 0;
+    }
+
+    /// Whether the slot stands in its trail.
+    pub(crate) fn has_passed(&self, slot: u32) -> bool
+        ensures { result ≡ list_any (is_place slot) self.now.trail }
+    {
+        has_place(self.trail.as_slice(), slot)
+    }
+
+    /// The slot leaves its trail once.
+    pub(crate) fn unpass(&mut self, slot: u32)
+        ensures { self.new ≡ record self.old { trail = dropped (is_place slot) self.old.trail } }
+    {
+        if let Some(place) = place_in(self.trail.as_slice(), slot) {
+            self.trail.remove(place);
+        }
+    }
+
     /// Its dead list with this stamp, where that is new.
     ///
     /// It takes memory for the new list and leaves the client as it is.
@@ -152,4 +216,58 @@ fn charges(standalones: &[Standalone]) -> u64
     ensures { result ≡ sum_by (λ s. s.charge) standalones.now }
 {
     standalones.iter().map(|standalone| standalone.charge).sum()
+}
+
+fn is_empty(trail: &[u32]) -> bool
+    ensures { result ≡ has_no_member trail.now }
+{
+    match trail {
+        [] => true,
+        [_, ..] => false,
+    }
+}
+
+fn are_none(standalones: &[Standalone]) -> bool
+    ensures { result ≡ has_no_member standalones.now }
+{
+    match standalones {
+        [] => true,
+        [_, ..] => false,
+    }
+}
+
+fn has_standalone(standalones: &[Standalone], name: u64) -> bool
+    ensures { result ≡ list_any (is_standing name) standalones.now }
+{
+    standalones.iter().any(|standalone| standalone.name == name)
+}
+
+fn standalone_of(standalones: &[Standalone], name: u64) -> Option<&Standalone>
+    ensures { option_copied result ≡ find (is_standing name) standalones.now }
+{
+    standalones
+        .iter()
+        .find(|standalone| standalone.name == name)
+}
+
+fn place_of(standalones: &[Standalone], name: u64) -> Option<usize>
+    ensures first { result ≡ position (is_standing name) standalones.now }
+    ensures within { IfSome result (λ place. place < length standalones.now) }
+{
+    standalones
+        .iter()
+        .position(|standalone| standalone.name == name)
+}
+
+fn has_place(trail: &[u32], slot: u32) -> bool
+    ensures { result ≡ list_any (is_place slot) trail.now }
+{
+    trail.iter().any(|passed| *passed == slot)
+}
+
+fn place_in(trail: &[u32], slot: u32) -> Option<usize>
+    ensures first { result ≡ position (is_place slot) trail.now }
+    ensures within { IfSome result (λ place. place < length trail.now) }
+{
+    trail.iter().position(|passed| *passed == slot)
 }

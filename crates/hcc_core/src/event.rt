@@ -86,6 +86,75 @@ pub enum Event {
     Settle {
         client: u32,
     },
+    /// The client, which has nothing in hand, ends its life.
+    End {
+        client: u32,
+    },
+    /// It counts an entry that is shown and not referenced down.
+    Clock {
+        client: u32,
+        slot: u32,
+    },
+    /// It marks the entry on which it holds a reference as hit.
+    Mark {
+        client: u32,
+        name: u64,
+    },
+    /// It takes the uses of an entry back from their bound.
+    Correct {
+        client: u32,
+        name: u64,
+    },
+    /// It gives up all that it was granted, needs and freed.
+    Waive {
+        client: u32,
+    },
+    /// It gives up its place and the slots that it freed.
+    Quit {
+        client: u32,
+    },
+    /// It asks for the usage.
+    Usage {
+        client: u32,
+    },
+    /// It asks for the occupancy.
+    Occupancy {
+        client: u32,
+    },
+    /// It asks what stands in standalone entries.
+    Standing {
+        client: u32,
+    },
+    /// It makes an entry outside the table, of this charge and name.
+    Stand {
+        client: u32,
+        charge: u32,
+        name: u64,
+    },
+    /// Its standalone entry of this name goes.
+    Fall {
+        client: u32,
+        name: u64,
+    },
+    /// It asks how often a slot stands in trails.
+    Count {
+        client: u32,
+        slot: u32,
+    },
+    /// It passes a slot, which joins its trail.
+    Pass {
+        client: u32,
+        slot: u32,
+    },
+    /// It takes back that it passed a slot.
+    Unpass {
+        client: u32,
+        slot: u32,
+    },
+    /// It moves the hand by four slots.
+    Turn {
+        client: u32,
+    },
 }
 
 /// What a slot is, without what it holds.
@@ -137,6 +206,9 @@ pub enum Reply {
     Granted,
     /// There is no place but one that freeing gives.
     Open,
+    /// What the uses are now.
+    Uses(u64),
+    Count(u64),
 }
 
 /// Why an event, or an opening, was refused. A refused event changes nothing.

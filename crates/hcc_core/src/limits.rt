@@ -33,3 +33,9 @@ pub const MOST_USAGE: u64 = 4_611_686_018_427_387_904;
 
 /// How many of a hundred slots may be taken.
 pub const OCCUPANCY_PERCENT: u64 = 84;
+
+/// The most uses that a clock visit leaves.
+pub const MOST_CLOCKED: u64 = 2;
+
+/// How many slots one turn of the hand visits.
+pub const SLOTS_PER_TURN: u64 = 4;

@@ -19,6 +19,8 @@ use std::marker::Model;
 mod entries;
 mod ledgers;
 mod references;
+mod trails;
+mod uses;
 
 /// The parts of a world. Each step requires that the world is lawful.
 #[derive(Drop)]
@@ -97,6 +99,25 @@ impl Machine {
             Event::Charge { client, charge } => self.charge(client, charge),
             Event::Slots { client } => self.slots(client),
             Event::Settle { client } => self.settle(client),
+            Event::End { client } => self.end(client),
+            Event::Clock { client, slot } => self.clock(client, slot),
+            Event::Mark { client, name } => self.mark(client, name),
+            Event::Correct { client, name } => self.correct(client, name),
+            Event::Waive { client } => self.waive(client),
+            Event::Quit { client } => self.quit(client),
+            Event::Usage { client } => self.tell_usage(client),
+            Event::Occupancy { client } => self.tell_occupancy(client),
+            Event::Standing { client } => self.tell_standing(client),
+            Event::Stand {
+                client,
+                charge,
+                name,
+            } => self.stand(client, charge, name),
+            Event::Fall { client, name } => self.fall(client, name),
+            Event::Count { client, slot } => self.count(client, slot),
+            Event::Pass { client, slot } => self.pass(client, slot),
+            Event::Unpass { client, slot } => self.unpass(client, slot),
+            Event::Turn { client } => self.turn(client),
         }
     }
 

@@ -3,7 +3,7 @@ ghost use Rattle.std.specs.Prelude.{◌≡◌, ◌<◌, ◌+◌, ◌^◌, ◌⊎
 ghost use Rattle.hcc_core.specs.declared.event.CoreError.TheVariants.{OutOfMemory};
 ghost use Rattle.std.specs.Option.{option_copied};
 ghost use Rattle.hcc_core.specs.World.{phase_of, phase_if, is_shareable, strays_of, references_of, uses_of, charge_of, stamp_of, hidden_stamp, trail_of, weight_of, counts_in, is_named, reference_in, has_reference, has_client, slot_holding};
-ghost use Rattle.hcc_core.specs.Steps.{acquired, slot_acquired, without, slot_given, slot_used, slot_hidden, left_on, is_shown, dead_to, is_free_for, entry_read, counting_in};
+ghost use Rattle.hcc_core.specs.Steps.{acquired, slot_acquired, dropped, slot_given, slot_used, slot_hidden, left_on, is_shown, dead_to, is_free_for, entry_read, counting_in, has_no_member, may_clock, may_correct, slot_with_uses, slot_marked};
 
 use crate::event::{CoreError, Phase, Reply};
 use crate::limits::NEAR;
@@ -254,6 +254,59 @@ impl Slot {
         }
     }
 
+    /// The uses of its entry, or 0.
+    pub(crate) fn uses(&self) -> u64
+        ensures { result ≡ uses_of self.now }
+    {
+        match self {
+            Slot::Empty { .. } => 0,
+            Slot::Building { .. } => 0,
+            Slot::Shareable(resident) => resident.uses,
+        }
+    }
+
+    /// Whether it is shown, not referenced, and has uses to count down.
+    pub(crate) fn may_clock(&self) -> bool
+        ensures { result ≡ may_clock self.now }
+    {
+        match self {
+            Slot::Empty { .. } => false,
+            Slot::Building { .. } => false,
+            Slot::Shareable(resident) => {
+                resident.shown && is_empty(resident.references.as_slice()) && 0 < resident.uses
+            }
+        }
+    }
+
+    /// Whether this reference doesn't count, and the uses are near their bound.
+    pub(crate) fn may_correct(&self, client: u32, name: u64) -> bool
+        ensures { result ≡ may_correct client name self.now }
+    {
+        self.counting_reference(client, name).is_none() && NEAR <= self.uses()
+    }
+
+    /// Puts these uses in the place of the entry's.
+    pub(crate) fn set_uses(&mut self, uses: u64)
+        ensures { self.new ≡ slot_with_uses uses self.old }
+    {
+        match self {
+            Slot::Empty { .. } => {}
+            Slot::Building { .. } => {}
+            Slot::Shareable(resident) => resident.uses = uses,
+        }
+    }
+
+    /// Marks its entry as hit.
+    pub(crate) fn mark(&mut self)
+        ensures { self.new ≡ slot_marked self.old }
+    {
+        match self {
+            Slot::Empty { .. } => {}
+            Slot::Building { .. } => {}
+            Slot::Shareable(resident) => resident.hit = true,
+        }
+    }
+
     /// The trail of its entry, which goes.
     pub(crate) fn into_trail(self, alloc: Global) -> Listed<u32>
         ensures { result ≡ trail_of self }
@@ -282,6 +335,15 @@ impl Slot {
     }
 }
 
+fn is_empty(references: &[Reference]) -> bool
+    ensures { result ≡ has_no_member references.now }
+{
+    match references {
+        [] => true,
+        [_, ..] => false,
+    }
+}
+
 fn weight(references: &[Reference]) -> u64
     requires { sum_by (λ r. r.weight) references.now < 2 ^ 64 }
     ensures { result ≡ sum_by (λ r. r.weight) references.now }
@@ -307,7 +369,7 @@ fn is_free_for(references: &[Reference], client: u32, name: Option<u64>) -> bool
 
 /// The first reference of this client and name goes.
 fn take_away(references: &mut Listed<Reference>, client: u32, name: u64)
-    ensures { references.new ≡ without client name references.old }
+    ensures { references.new ≡ dropped (is_named client name) references.old }
 {
     if let Some(place) = place_of(references.as_slice(), client, name) {
         references.remove(place);

@@ -25,6 +25,8 @@ enum Want {
     Split { granted: u64, needed: u64 },
     Granted,
     Open,
+    Uses(u64),
+    Count(u64),
     Refused(CoreError),
 }
 
@@ -79,6 +81,8 @@ impl Want {
             ) => { granted == *g && needed == *n }
             (Want::Granted, Reply::Granted) => true,
             (Want::Open, Reply::Open) => true,
+            (Want::Uses(wanted), Reply::Uses(uses)) => wanted == *uses,
+            (Want::Count(wanted), Reply::Count(count)) => wanted == *count,
             _ => false,
         }
     }
@@ -450,5 +454,90 @@ fn splits_a_charge_under_strict(rt: HostRuntime) -> Result<(), Fail> {
         0,
     ))?;
     play(&rt, &mut world, rows);
+    Ok(())
+}
+
+#[test]
+fn counts_down_and_ends(rt: HostRuntime) -> Result<(), Fail> {
+    let mut world = World::opening(rt.alloc(), SMALL)?;
+    let mut rows = building(rt.alloc())?;
+    let show = Event::Show {
+        client: 0,
+        key0: 7,
+        key1: 9,
+        charge: 5,
+        countdown: 3,
+        name: None,
+        value: Listed::from_vec(Vec::new(rt.alloc())),
+    };
+    let clock = Event::Clock { client: 0, slot: 1 };
+    rows.push(Row(show, Want::Ok, entry(3, None), 5, 1))?;
+    rows.push(Row(clock, Want::Uses(2), entry(2, None), 5, 1))?;
+    rows.push(Row(Event::End { client: 1 }, Want::Ok, entry(2, None), 5, 1))?;
+    rows.push(Row(
+        Event::Usage { client: 0 },
+        Want::Count(5),
+        entry(2, None),
+        5,
+        1,
+    ))?;
+    rows.push(Row(
+        Event::Occupancy { client: 0 },
+        Want::Count(1),
+        entry(2, None),
+        5,
+        1,
+    ))?;
+    play(&rt, &mut world, rows);
+    Ok(())
+}
+
+#[test]
+fn passes_and_stands(rt: HostRuntime) -> Result<(), Fail> {
+    let mut world = World::opening(rt.alloc(), SMALL)?;
+    let split = Want::Split {
+        granted: 5,
+        needed: 0,
+    };
+    let mut rows = Vec::new(rt.alloc());
+    rows.push(Row(Event::Start { client: 0 }, Want::Ok, NOTHING, 0, 0))?;
+    rows.push(Row(Event::Pass { client: 0, slot: 1 }, Want::Ok, NOTHING, 0, 0))?;
+    rows.push(Row(
+        Event::Count { client: 0, slot: 1 },
+        Want::Count(1),
+        NOTHING,
+        0,
+        0,
+    ))?;
+    rows.push(Row(
+        Event::Unpass { client: 0, slot: 1 },
+        Want::Ok,
+        NOTHING,
+        0,
+        0,
+    ))?;
+    rows.push(Row(Event::Turn { client: 0 }, Want::Count(0), NOTHING, 0, 0))?;
+    rows.push(Row(
+        Event::Charge {
+            client: 0,
+            charge: 5,
+        },
+        split,
+        NOTHING,
+        5,
+        0,
+    ))?;
+    let stand = Event::Stand {
+        client: 0,
+        charge: 5,
+        name: 7,
+    };
+    rows.push(Row(stand, Want::Ok, NOTHING, 5, 0))?;
+    rows.push(Row(Event::Standing { client: 0 }, Want::Count(5), NOTHING, 5, 0))?;
+    rows.push(Row(Event::Fall { client: 0, name: 7 }, Want::Ok, NOTHING, 5, 0))?;
+    rows.push(Row(Event::Waive { client: 0 }, Want::Ok, NOTHING, 0, 0))?;
+    rows.push(Row(Event::Turn { client: 0 }, Want::Count(4), NOTHING, 0, 0))?;
+    play(&rt, &mut world, rows);
+    assert_eq!(rt; world.hand(), 8);
     Ok(())
 }

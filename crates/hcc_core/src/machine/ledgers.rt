@@ -1,12 +1,13 @@
-//! The steps on the ledgers: enter, slots, charge and settle.
+//! The steps on the ledgers: enter, quit, slots, charge, settle, waive, stand and fall, and what
+//! the ledgers tell.
 ghost use Rattle.std.specs.Prelude.{◌≡◌, ◌<◌, ◌≤◌, ◌+◌, ◌^◌};
-ghost use Rattle.hcc_core.specs.Steps.{Follows, enter_of, slots_of, charge_by, grant_of, may_charge, settle_of, may_settle};
+ghost use Rattle.hcc_core.specs.Steps.{Follows, enter_of, slots_of, charge_by, grant_of, may_charge, settle_of, may_settle, waive_of, may_waive, quit_of, usage_told, occupancy_told, standing_told, stand_of, fall_of};
 ghost use Rattle.hcc_core.specs.Lawful.{IsLawful};
 
 use crate::event::{CoreError, Reply};
 use crate::limits::{MOST_USAGE, OCCUPANCY_PERCENT};
 use crate::machine::{Machine, live_at};
-use crate::state::{Client, Place, Setup};
+use crate::state::{Client, Place, Setup, Standalone};
 
 impl Machine {
     #[tactic(auto, unfolding(crate::specs::Steps::enter_of))]
@@ -74,6 +75,90 @@ impl Machine {
         found.freed = 0;
         Ok(Reply::Ok)
     }
+
+    #[tactic(auto, unfolding(crate::specs::Steps::waive_of))]
+    pub(crate) fn waive(&mut self, client: u32) -> Result<Reply, CoreError>
+        ensures { Follows (waive_of self.old client) self.old result self.new }
+    {
+        if !may_waive(live_at(&self.clients, client)?) {
+            return Err(CoreError::NotAllowed);
+        }
+        let found = &mut self.clients[client as usize];
+        found.granted = 0;
+        found.needed = 0;
+        found.freed = 0;
+        Ok(Reply::Ok)
+    }
+
+    #[tactic(auto, unfolding(crate::specs::Steps::quit_of))]
+    pub(crate) fn quit(&mut self, client: u32) -> Result<Reply, CoreError>
+        ensures { Follows (quit_of self.old client) self.old result self.new }
+    {
+        if !live_at(&self.clients, client)?.place.is_placed() {
+            return Err(CoreError::NotAllowed);
+        }
+        self.clients[client as usize].leave();
+        Ok(Reply::Ok)
+    }
+
+    #[tactic(auto, unfolding(crate::specs::Steps::usage_told))]
+    pub(crate) fn tell_usage(&mut self, client: u32) -> Result<Reply, CoreError>
+        requires { IsLawful self.old }
+        ensures { Follows (usage_told self.old client) self.old result self.new }
+    {
+        live_at(&self.clients, client)?;
+        Ok(Reply::Count(self.usage()))
+    }
+
+    #[tactic(auto, unfolding(crate::specs::Steps::occupancy_told))]
+    pub(crate) fn tell_occupancy(&mut self, client: u32) -> Result<Reply, CoreError>
+        requires { IsLawful self.old }
+        ensures { Follows (occupancy_told self.old client) self.old result self.new }
+    {
+        live_at(&self.clients, client)?;
+        Ok(Reply::Count(self.occupancy()))
+    }
+
+    #[tactic(auto, unfolding(crate::specs::Steps::standing_told))]
+    pub(crate) fn tell_standing(&mut self, client: u32) -> Result<Reply, CoreError>
+        requires { IsLawful self.old }
+        ensures { Follows (standing_told self.old client) self.old result self.new }
+    {
+        live_at(&self.clients, client)?;
+        Ok(Reply::Count(self.standing()))
+    }
+
+    #[tactic(auto, unfolding(crate::specs::Steps::stand_of))]
+    pub(crate) fn stand(&mut self, client: u32, charge: u32, name: u64) -> Result<Reply, CoreError>
+        ensures { Follows (stand_of self.old client charge name) self.old result self.new }
+    {
+        let charge = charge as u64;
+        let found = live_at(&self.clients, client)?;
+        if !found.may_stand(charge, name) {
+            return Err(CoreError::NotAllowed);
+        }
+        let granted = found.granted - charge;
+        let found = &mut self.clients[client as usize];
+        found.standalones.push(Standalone { name, charge })?;
+        found.granted = granted;
+        Ok(Reply::Ok)
+    }
+
+    #[tactic(auto, unfolding(crate::specs::Steps::fall_of))]
+    pub(crate) fn fall(&mut self, client: u32, name: u64) -> Result<Reply, CoreError>
+        requires { IsLawful self.old }
+        ensures { Follows (fall_of self.old client name) self.old result self.new }
+    {
+        let found = live_at(&self.clients, client)?;
+        let Some(gone) = found.standalone(name) else {
+            return Err(CoreError::NotAllowed);
+        };
+        let freed = found.freed + gone.charge;
+        let found = &mut self.clients[client as usize];
+        found.freed = freed;
+        found.fell(name);
+        Ok(Reply::Ok)
+    }
 }
 
 /// What a charge is given at once.
@@ -101,4 +186,11 @@ fn may_settle(found: &Client) -> bool
     ensures { result ≡ may_settle found.now }
 {
     0 < found.freed && found.needed <= found.freed
+}
+
+/// Whether a client that is live has amounts to give up.
+fn may_waive(found: &Client) -> bool
+    ensures { result ≡ may_waive found.now }
+{
+    0 < found.granted || 0 < found.needed || 0 < found.freed
 }
