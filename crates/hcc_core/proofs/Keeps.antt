@@ -309,4 +309,4 @@ follows_lawful w event (Ok reply) new l f = lawful_is new (ok_lawful (outcome_of
 follows_lawful w event (Err NoSuchSlot) new l f = rw f.1 l
 follows_lawful w event (Err NoSuchClient) new l f = rw f.1 l
 follows_lawful w event (Err NotAllowed) new l f = rw f.1 l
-follows_lawful w event (Err OutOfMemory) new l f = rw f l
+follows_lawful w event (Err OutOfMemory) new l (due, same) = rw same l

@@ -3,7 +3,7 @@ use Rattle.std.proofs.Common.{◌≡◌, inl, inr, ℕ, ◌<◌, ◌≤◌, ◌=
 use Rattle.std.proofs.lemmas.List.{length-set}
 use Rattle.std.proofs.lemmas.Option.{slice_get_within}
 use Rattle.std.proofs.lemmas.Bool.{and_parts, leb-true, ltb-true, false≢true, cases_eq}
-use Rattle.hcc_core.specs.declared.limits.TheConstants.{MOST_WEIGHT, STAMPS_PER_CLIENT}
+use Rattle.hcc_core.specs.declared.limits.TheConstants.{MOST_COUNTDOWN, STAMPS_PER_CLIENT}
 use Rattle.hcc_core.specs.declared.state.Client.{Client}
 use Rattle.hcc_core.specs.declared.state.Setup.{Setup}
 use Rattle.hcc_core.specs.declared.state.Stamp.{Stamp}
@@ -91,7 +91,7 @@ pub record MayShow (found : Client) (charge countdown : ℕ) : Type 0 where
   pub placed : is_granted found.place ≡ true
   pub granted : charge ≤ found.granted
   pub some_use : 1 ≤ countdown
-  pub few_uses : countdown ≤ MOST_WEIGHT
+  pub few_uses : countdown ≤ MOST_COUNTDOWN
   pub stamps : found.stamps < STAMPS_PER_CLIENT
 
 pub may_show_parts : (all : List Slot) (client : ℕ) (found : Client) (charge countdown : ℕ) (name : Option ℕ)
@@ -100,7 +100,7 @@ unfolding may_show
 may_show_parts all client found charge countdown name h =
     let a = and_parts _ (nat_lt found.stamps STAMPS_PER_CLIENT) h in
     let b = and_parts _ _ a.0 in
-    let d = and_parts _ (nat_le countdown MOST_WEIGHT) b.0 in
+    let d = and_parts _ (nat_le countdown MOST_COUNTDOWN) b.0 in
     let e = and_parts _ (nat_le 1 countdown) d.0 in
     let f = and_parts _ (nat_le charge found.granted) e.0 in
     let g = and_parts (is_granted found.place) (found.needed == 0) f.0 in
@@ -108,13 +108,13 @@ may_show_parts all client found charge countdown name h =
       placed = g.0;
       granted = leb-true charge found.granted f.1;
       some_use = leb-true 1 countdown e.1;
-      few_uses = leb-true countdown MOST_WEIGHT d.1;
+      few_uses = leb-true countdown MOST_COUNTDOWN d.1;
       stamps = ltb-true found.stamps STAMPS_PER_CLIENT a.1;
     }
 
 -- a new entry is within all bounds
 shown_bounded : (setup : Setup) (client : ℕ) (found : Client) (key0 key1 charge countdown : ℕ) (name : Option ℕ) (value : List ℕ)
-    → 1 ≤ setup.clients → countdown ≤ MOST_WEIGHT
+    → 1 ≤ setup.clients → countdown ≤ MOST_COUNTDOWN
     → IsBounded setup (slots.Shareable (resident_new client found key0 key1 charge countdown name value))
 shown_bounded setup client found key0 key1 charge countdown None value some few =
     record { references = omega arith; uses = omega arith }

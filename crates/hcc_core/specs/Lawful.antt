@@ -1,8 +1,8 @@
--- The lawful worlds: those that events can lead to. Each part speaks of some readings alone,
--- so a step that leaves these readings keeps the part.
+-- The lawful worlds: what holds of each world that events lead to from an opening world. Each part
+-- speaks of some readings alone, so a step that leaves these readings keeps the part.
 use Rattle.std.specs.Prelude.{◌≡◌, ℕ, ◌+◌, ◌*◌, ◌<◌, ◌≤◌, List, Option, Some, None, length, slice_get, option_and_then, Bool, true, [], if◌then◌else◌}
 use Rattle.std.specs.List.{list_any}
-use Rattle.hcc_core.specs.declared.limits.TheConstants.{MOST_SLOTS, MOST_CLIENTS, MOST_REFERENCES, NEAR, MOST_USAGE}
+use Rattle.hcc_core.specs.declared.limits.TheConstants.{MOST_SLOTS, MOST_CLIENTS, MOST_WEIGHT, MOST_REFERENCES, NEAR, MOST_USAGE}
 use Rattle.hcc_core.specs.declared.state.Setup.{Setup}
 use Rattle.hcc_core.specs.declared.state.Stamp.{Stamp}
 use Rattle.hcc_core.specs.declared.state.Client.{Client}
@@ -64,9 +64,9 @@ Bounded setup all = (s : ℕ) (slot : Slot) → slice_get all s ≡ Some slot �
 abbrev pub lookers : List Client → ℕ → ℕ
 lookers clients slot = total (λ client. when (looks_at client slot) 1) clients
 
--- each client that looked may still leave 3 strays
+-- each client that looked may still leave as many strays as one acquire adds
 abbrev pub Strayed : Setup → List Slot → List Client → Type 0
-Strayed setup all clients = (s : ℕ) (slot : Slot) → slice_get all s ≡ Some slot → strays_of slot + 3 * lookers clients s ≤ 3 * setup.clients
+Strayed setup all clients = (s : ℕ) (slot : Slot) → slice_get all s ≡ Some slot → strays_of slot + MOST_WEIGHT * lookers clients s ≤ MOST_WEIGHT * setup.clients
 
 -- a slot is Building by a client exactly where that client owns it
 pub record Owners (all : List Slot) (clients : List Client) : Type 0 where
@@ -128,7 +128,7 @@ pub record Ledgers (w : State) : Type 0 where
   pub real : w.setup.strict ≡ true → real_in w.slots w.clients ≤ w.setup.capacity
   pub places : taken_in w.slots w.clients ≤ limit_of w.setup
 
--- a world that steps lead to from an opening world
+-- what holds of each world that steps lead to from an opening world
 pub record Lawful (w : State) : Type 0 where
   pub sized : Sized w
   pub bounded : Bounded w.setup w.slots

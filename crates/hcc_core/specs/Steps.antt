@@ -3,7 +3,7 @@
 use Rattle.std.specs.Prelude.{◌≡◌, ℕ, ◌+◌, ◌-◌, ◌*◌, ◌%◌, ◌^◌, min, ◌<◌, ◌≤◌, Bool, true, false, ◌&&◌, ◌||◌, ◌==◌, not, nat_lt, nat_le, List, [], ◌∷◌, ◌++◌, Option, Some, None, Result, Ok, Err, is_none, find, length, replicate, slice_get, slice_set, if◌then◌else◌}
 use Rattle.std.specs.Option.{ok_or}
 use Rattle.std.specs.List.{list_any, list_all}
-use Rattle.hcc_core.specs.declared.limits.TheConstants.{MOST_SLOTS, MOST_CLIENTS, REFERENCES_PER_CLIENT, MOST_WEIGHT, STAMPS_PER_CLIENT, MOST_USAGE, MOST_CLOCKED, NEAR, CORRECTION, SLOTS_PER_TURN}
+use Rattle.hcc_core.specs.declared.limits.TheConstants.{MOST_SLOTS, MOST_CLIENTS, REFERENCES_PER_CLIENT, MOST_WEIGHT, MOST_COUNTDOWN, STAMPS_PER_CLIENT, MOST_USAGE, MOST_CLOCKED, NEAR, CORRECTION, SLOTS_PER_TURN}
 use Rattle.hcc_core.specs.declared.state.Setup.{Setup}
 use Rattle.hcc_core.specs.declared.state.Stamp.{Stamp}
 use Rattle.hcc_core.specs.declared.state.Reference.{Reference}
@@ -253,10 +253,10 @@ is_fresh all client (Some name) = is_none (slot_holding all client name)
 unfoldable pub may_show : List Slot → ℕ → Client → ℕ → ℕ → Option ℕ → Bool
 may_show all client found charge countdown name =
     is_granted found.place && found.needed == 0 && nat_le charge found.granted
-    && nat_le 1 countdown && nat_le countdown MOST_WEIGHT && is_fresh all client name
+    && nat_le 1 countdown && nat_le countdown MOST_COUNTDOWN && is_fresh all client name
     && nat_lt found.stamps STAMPS_PER_CLIENT
 
--- what a client must have to show an entry
+-- what of the test of a show the arithmetic of the step needs
 pub record AllowsShow (found : Client) (charge countdown : ℕ) : Type 0 where
   pub granted : charge ≤ found.granted
   pub some_use : 1 ≤ countdown
@@ -715,13 +715,18 @@ rule_of world (events.Turn client) = turn_of world client
 unfoldable pub outcome_of : State → Event → Outcome
 outcome_of world event = if in_range event then rule_of world event else Err NotAllowed
 
--- A step answers this outcome, or memory ran out. What is refused changes nothing.
+abbrev pub is_made : Outcome → Bool
+is_made (Ok done) = true
+is_made (Err error) = false
+
+-- A step answers this outcome, or memory ran out for one that was allowed. What is refused
+-- changes nothing, and so does want of memory.
 abbrev pub Follows : Outcome → State → Result Reply CoreError → State → Type 0
 Follows outcome old (Ok reply) new = outcome ≡ Ok (reply, new)
 Follows outcome old (Err NoSuchSlot) new = (outcome ≡ Err NoSuchSlot) × (new ≡ old)
 Follows outcome old (Err NoSuchClient) new = (outcome ≡ Err NoSuchClient) × (new ≡ old)
 Follows outcome old (Err NotAllowed) new = (outcome ≡ Err NotAllowed) × (new ≡ old)
-Follows outcome old (Err OutOfMemory) new = new ≡ old
+Follows outcome old (Err OutOfMemory) new = (is_made outcome ≡ true) × (new ≡ old)
 
 -- The opening world.
 

@@ -20,17 +20,17 @@ pub enum Event {
         weight: u64,
         name: u64,
     },
-    /// It takes a reference back, as if it had never been used.
+    /// It gives a reference back, as if it had never been used.
     Give {
         client: u32,
         name: u64,
     },
-    /// It takes a counting reference back as a use.
+    /// It gives a counting reference back as a use.
     Use {
         client: u32,
         name: u64,
     },
-    /// It takes an empty slot, to build an entry in it.
+    /// It takes an empty slot, to build an entry in it. Any other slot it looks at.
     Occupy {
         client: u32,
         slot: u32,
@@ -50,7 +50,8 @@ pub enum Event {
         client: u32,
         name: u64,
     },
-    /// It takes a slot that is not referenced, but perhaps by its own reference alone, to free it.
+    /// It takes a slot with an entry, to free it: one that is not referenced or, with a name, one
+    /// with that reference of weight 1 alone.
     Free {
         client: u32,
         slot: u32,
@@ -78,7 +79,7 @@ pub enum Event {
         client: u32,
         charge: u32,
     },
-    /// It gives the slots that it freed to the table, or one of them to its open place.
+    /// It gives the slots that it freed back. An open place of its own is then granted.
     Slots {
         client: u32,
     },

@@ -1,4 +1,4 @@
-//! Every limit of the product, stated once: code and definitions cite these constants.
+//! Every limit of the protocol, stated once: code and definitions cite these constants.
 
 /// The most slots of one world.
 pub const MOST_SLOTS: u32 = 65_536;
@@ -6,8 +6,8 @@ pub const MOST_SLOTS: u32 = 65_536;
 /// The most clients of one world.
 pub const MOST_CLIENTS: u32 = 1_024;
 
-/// The most that one client's references on one slot weigh: 16,384 handles, and three more
-/// for a call in flight.
+/// What each client of a world adds to the bound on the weight of one slot's references: its
+/// 16,384 handles, and three more for a call in flight.
 pub const REFERENCES_PER_CLIENT: u64 = 16_387;
 
 /// The most that the references on one slot weigh, with [`MOST_CLIENTS`] clients that each hold
@@ -22,8 +22,11 @@ pub const NEAR: u64 = 536_870_916;
 /// What a correction takes from the use counter, `2^29`.
 pub const CORRECTION: u64 = 536_870_912;
 
-/// The most that one acquire adds, and the highest first countdown.
+/// The most that one acquire adds.
 pub const MOST_WEIGHT: u64 = 3;
+
+/// The highest first countdown.
+pub const MOST_COUNTDOWN: u64 = 3;
 
 /// How many entries one client may show, `2^54`.
 pub const STAMPS_PER_CLIENT: u64 = 18_014_398_509_481_984;

@@ -22,7 +22,7 @@ mod references;
 mod trails;
 mod uses;
 
-/// The parts of a world. Each step requires that the world is lawful.
+/// The parts of a world. Steps that compute require that the world is lawful.
 #[derive(Drop)]
 pub(crate) struct Machine {
     pub(crate) alloc: Global,
@@ -233,14 +233,14 @@ fn new_client(alloc: Global) -> Client
     }
 }
 
-/// A name that was given is in its range.
+/// A name that was given is in its range. It only tells contracts what the type says.
 fn name_fits(name: Option<u64>)
     ensures { name_fits name ≡ true }
 {
     if let Some(_name) = name {}
 }
 
-/// The bytes of a value are bytes.
+/// The bytes of a value are bytes. It only tells contracts what the type says.
 fn bytes_fit(bytes: &[u8])
     ensures { list_all (fits 8) bytes.now ≡ true }
 {

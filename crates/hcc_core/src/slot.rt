@@ -1,5 +1,5 @@
 //! What a step reads of a slot, and what it leaves in one.
-ghost use Rattle.std.specs.Prelude.{◌≡◌, ◌<◌, ◌+◌, ◌^◌, ◌⊎◌, IfOk, IfErr, OnOk, OnErr, IfSome, length, position, sum_by};
+ghost use Rattle.std.specs.Prelude.{◌≡◌, ◌<◌, ◌+◌, ◌^◌, ◌⊎◌, IfOk, IfErr, OnOk, OnErr, IfSome, length, position, sum_by, true};
 ghost use Rattle.hcc_core.specs.declared.event.CoreError.TheVariants.{OutOfMemory};
 ghost use Rattle.std.specs.Option.{option_copied};
 ghost use Rattle.hcc_core.specs.World.{phase_of, phase_if, is_shareable, strays_of, references_of, uses_of, charge_of, stamp_of, hidden_stamp, trail_of, weight_of, counts_in, is_named, reference_in, has_reference, has_client, slot_holding};
@@ -321,7 +321,7 @@ impl Slot {
     /// The key and value of its entry.
     pub(crate) fn read(&self, alloc: Global) -> Result<Reply, CoreError>
         ensures ok { IfOk result (λ reply. entry_read self.now ≡ Ok reply) }
-        ensures err { IfErr result (λ e. (e ≡ CoreError.OutOfMemory) ⊎ (entry_read self.now ≡ Err e)) }
+        ensures err { IfErr result (λ e. ((e ≡ CoreError.OutOfMemory) × (is_shareable self.now ≡ true)) ⊎ (entry_read self.now ≡ Err e)) }
     {
         match self {
             Slot::Empty { .. } => Err(CoreError::NotAllowed),

@@ -10,7 +10,7 @@ pub struct Setup {
     pub clients: u32,
     /// The charge that the world is meant to hold.
     pub capacity: u64,
-    /// Whether the capacity is never exceeded.
+    /// Whether a charge is granted only within the capacity.
     pub strict: bool,
 }
 
@@ -103,13 +103,13 @@ pub struct Client {
     pub granted: u64,
     /// The charge that it has to free first.
     pub needed: u64,
-    /// The charge that it freed.
+    /// The charge that it freed and hasn't settled.
     pub freed: u64,
-    /// How many slots it freed.
+    /// How many slots it freed and hasn't given back.
     pub freed_slots: u64,
     pub standalones: Listed<Standalone>,
     /// How many entries it has shown.
     pub stamps: u64,
-    /// The entries that it has seen hidden, each once.
+    /// The entries that it has seen hidden while it held a reference there, or hid itself, each once.
     pub dead: Listed<Stamp>,
 }

@@ -14,15 +14,28 @@ enum Want {
     Ok,
     Saw(Phase),
     Taken,
-    Got { shown: bool, counting: bool },
+    Got {
+        shown: bool,
+        counting: bool,
+    },
     Stray,
-    Left { references: u64, phase: Phase },
+    Left {
+        references: u64,
+        phase: Phase,
+    },
     Hid,
     Again,
     Freed(u64),
-    /// Its key, and how long its value is.
-    Entry { key0: u64, key1: u64, bytes: usize },
-    Split { granted: u64, needed: u64 },
+    /// Its key and its value.
+    Entry {
+        key0: u64,
+        key1: u64,
+        bytes: &'static [u8],
+    },
+    Split {
+        granted: u64,
+        needed: u64,
+    },
     Granted,
     Open,
     Uses(u64),
@@ -71,7 +84,7 @@ impl Want {
                     key1: k1,
                     value,
                 },
-            ) => { key0 == *k0 && key1 == *k1 && bytes == value.len() }
+            ) => { key0 == *k0 && key1 == *k1 && bytes == value.as_slice() }
             (
                 Want::Split { granted, needed },
                 Reply::Split {
@@ -123,6 +136,8 @@ impl Seen {
                     && shown == resident.shown
                     && uses == resident.uses
                     && !resident.hit
+                    && resident.trail.is_empty()
+                    && resident.references.as_slice().len() == usize::from(reference.is_some())
                     && resident.references.as_slice().first().copied() == reference
             }
             _ => false,
@@ -188,6 +203,7 @@ fn play(rt: &impl Abort, world: &mut World, rows: Vec<Row>) {
         let Row(event, want, seen, usage, occupancy) = row;
         let got = world.step(event);
         assert!(rt; want.is_got(&got), "reply {number}");
+        assert!(rt; NOTHING.is_slot(world.slot(0)), "slot 0 after {number}");
         assert!(rt; seen.is_slot(world.slot(1)), "slot 1 after {number}");
         assert_eq!(rt; world.usage(), usage, "usage after {number}");
         assert_eq!(rt; world.occupancy(), occupancy, "occupancy after {number}");
@@ -385,7 +401,7 @@ fn keeps_a_reference_on_what_it_shows(rt: HostRuntime) -> Result<(), Fail> {
     let read = Want::Entry {
         key0: 7,
         key1: 9,
-        bytes: 0,
+        bytes: &[],
     };
     let three = held(0, 3);
     rows.push(Row(

@@ -56,14 +56,17 @@ impl World {
     /// `NoSuchClient`, `NotAllowed`. The world is unchanged after each refusal, and after
     /// `OutOfMemory` too.
     ///
-    /// It costs at most a pass over the slots, their references and the clients.
+    /// It costs at most a pass over the slots, their references and the clients, and of its own
+    /// client over the trail, the standalone entries and the dead list. That list is copied where
+    /// an entry joins it, and `Read` copies the value.
     pub fn step(&mut self, event: Event) -> Result<Reply, CoreError>
         ensures { Follows (outcome_of self.old event) self.old result self.new }
     {
         self.machine.step(event)
     }
 
-    /// The slot of this number, or `None` where there is none.
+    /// The slot of this number, or `None` where there is none. Beside it the contract tells callers
+    /// that count slots how many there are at most.
     pub fn slot(&self, slot: u32) -> Option<&Slot>
         ensures slot { option_copied result ≡ slice_get self.now.slots slot }
         ensures few { length self.now.slots ≤ MOST_SLOTS }

@@ -5,7 +5,7 @@ ghost use Rattle.hcc_core.specs.Steps.{Follows, occupy_of, strays_if_empty, show
 ghost use Rattle.hcc_core.specs.Lawful.{IsLawful};
 
 use crate::event::{CoreError, Reply};
-use crate::limits::{MOST_WEIGHT, STAMPS_PER_CLIENT};
+use crate::limits::{MOST_COUNTDOWN, STAMPS_PER_CLIENT};
 use crate::listed::Listed;
 use crate::machine::{Machine, live_at, slot_at};
 use crate::slot::slot_holding;
@@ -176,7 +176,7 @@ fn may_show(
         && found.needed == 0
         && charge as u64 <= found.granted
         && 1 <= countdown
-        && countdown <= MOST_WEIGHT
+        && countdown <= MOST_COUNTDOWN
         && is_fresh(slots, client, name)
         && found.stamps < STAMPS_PER_CLIENT
 }
