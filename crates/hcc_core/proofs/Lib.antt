@@ -14,3 +14,4 @@ pub mod Opening
 pub mod Keeps
 pub mod Readable
 pub mod StepLemmas
+pub mod Runs

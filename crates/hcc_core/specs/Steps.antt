@@ -728,6 +728,21 @@ Follows outcome old (Err NoSuchClient) new = (outcome ≡ Err NoSuchClient) × (
 Follows outcome old (Err NotAllowed) new = (outcome ≡ Err NotAllowed) × (new ≡ old)
 Follows outcome old (Err OutOfMemory) new = (is_made outcome ≡ true) × (new ≡ old)
 
+-- Runs.
+
+-- the world after an outcome: a refusal changes nothing
+abbrev pub world_after : State → Outcome → State
+world_after world (Ok done) = done.1
+world_after world (Err error) = world
+
+-- the world after an event, and after events in turn
+abbrev pub after : State → Event → State
+after world event = world_after world (outcome_of world event)
+
+abbrev pub after_all : State → List Event → State
+after_all world [] = world
+after_all world (event ∷ events) = after_all (after world event) events
+
 -- The opening world.
 
 abbrev pub new_slot : Slot

@@ -7,6 +7,7 @@
 
 mod client;
 pub mod event;
+pub mod laws;
 pub mod limits;
 pub mod listed;
 mod machine;

@@ -1,0 +1,123 @@
+//! The command line.
+ghost use Rattle.std.specs.Prelude.{IfSome};
+ghost use Rattle.hcc_core.specs.Steps.{CanOpen};
+
+use clap::{Arg, ArgAction, ArgMatches, Command, value_parser};
+use hcc_core::state::Setup;
+use std::alloc::{AllocError, Global};
+
+const ABOUT: &str = "Plays scripts of a block cache's protocol";
+
+const AFTER: &str = "\
+With no arguments the program does `core` with the defaults.
+
+Exit status: 0 done; 2 the arguments or the input were refused; 3 a read or a
+write failed; 5 out of memory.";
+
+const CORE_ABOUT: &str = "\
+Plays a script of protocol events from standard input in a new world, and
+writes a line for each event";
+
+const CORE_AFTER: &str = "\
+The world has slots, all empty, and clients, none live. A script has one event a
+line: its name, the client, and what else it needs, with one space between.
+
+  start 0               client 0 comes to life
+  enter 0               it asks for a place in the table
+  charge 0 5            it asks for a charge of 5
+  occupy 0 1            it takes the empty slot 1
+  show 0 7 9 5 2 - aa   it shows an entry: key 7.9, charge 5, countdown 2, value aa
+  look 0 1              it looks at slot 1
+  acquire 0 1 1 4       it takes a reference of weight 1, named 4
+  read 0 4              it reads the entry under that reference
+  use 0 4               it gives the reference back as used
+
+The others are give, hide, free, empty, write, slots and settle. Each line that
+is written has the answer, the slots, and then usage, occupancy, standing and
+hand. The whole script is judged first; at a fault nothing is played, and
+`line N: FAULT` is told.";
+
+fn slots_arg<'a>(alloc: Global) -> Arg<'a> {
+    Arg::new(alloc, "slots")
+        .long("slots")
+        .value_name("N")
+        .help("How many slots the world has, 1 to 16")
+        .value_parser(value_parser!(u32).range(1..=16))
+        .default_value("2")
+}
+
+fn clients_arg<'a>(alloc: Global) -> Arg<'a> {
+    Arg::new(alloc, "clients")
+        .long("clients")
+        .value_name("N")
+        .help("How many clients the world has, 1 to 1024")
+        .value_parser(value_parser!(u32).range(1..=1_024))
+        .default_value("2")
+}
+
+fn capacity_arg<'a>(alloc: Global) -> Arg<'a> {
+    Arg::new(alloc, "capacity")
+        .long("capacity")
+        .value_name("N")
+        .help("The charge that the world is meant to hold, 0 to 1099511627776")
+        .value_parser(value_parser!(u64).range(0..=1_099_511_627_776))
+        .default_value("600")
+}
+
+fn strict_arg<'a>(alloc: Global) -> Arg<'a> {
+    Arg::new(alloc, "strict")
+        .long("strict")
+        .help("Grants no charge beyond the capacity")
+        .action(ArgAction::SetTrue)
+}
+
+/// The subcommand `core`.
+fn core_command<'a>(alloc: Global) -> Result<Command<'a>, AllocError> {
+    Command::new(alloc, "core")
+        .about(CORE_ABOUT)
+        .after_help(CORE_AFTER)
+        .arg(slots_arg(alloc))?
+        .arg(clients_arg(alloc))?
+        .arg(capacity_arg(alloc))?
+        .arg(strict_arg(alloc))
+}
+
+/// The whole command line.
+pub fn command<'a>(alloc: Global) -> Result<Command<'a>, AllocError> {
+    let core = core_command(alloc)?;
+    Command::new(alloc, "hcc_play")
+        .about(ABOUT)
+        .after_help(AFTER)
+        .subcommand_required(true)
+        .subcommand(core)
+}
+
+/// The setup where no word is given.
+pub fn default_setup() -> Setup
+    ensures { CanOpen result }
+{
+    Setup {
+        slots: 2,
+        clients: 2,
+        capacity: 600,
+        strict: false,
+    }
+}
+
+/// The setup that the options of `core` tell, if each is in its range.
+pub fn setup_of(options: &ArgMatches<'_>) -> Option<Setup>
+    ensures { IfSome result CanOpen }
+{
+    let slots = options.get_one::<u32>("slots")?;
+    let clients = options.get_one::<u32>("clients")?;
+    let capacity = options.get_one::<u64>("capacity")?;
+    if !(1..=16).contains(&slots) || !(1..=1_024).contains(&clients) {
+        return None;
+    }
+    Some(Setup {
+        slots,
+        clients,
+        capacity,
+        strict: options.get_flag("strict"),
+    })
+}

@@ -1,0 +1,38 @@
+//! Plays scripts of a block cache's protocol from the command line.
+#![tactic(auto)]
+
+mod cli;
+mod run;
+mod status;
+#[cfg(test)]
+mod tests;
+
+use crate::run::run;
+use crate::status::Status;
+use std::io;
+use std::io::ErrorKind;
+use std::process::ExitCode;
+
+/// The words of the command line.
+fn words_of(rt: &HostRuntime) -> io::Result<Vec<String>> {
+    let words = std::env::args(rt)?.collect(rt.alloc())?;
+    Ok(words)
+}
+
+/// The status where the command line could not be read: a word of it is no text.
+fn unread(rt: &HostRuntime, error: &io::Error) -> Status {
+    if error.kind() == ErrorKind::OutOfMemory {
+        let _ = rt.eprintln("out of memory");
+        return Status::NoMemory;
+    }
+    let _ = rt.eprintln("error: the arguments are not text");
+    Status::Refused
+}
+
+fn main(rt: HostRuntime) -> ExitCode {
+    let status = match words_of(&rt) {
+        Ok(words) => run(&rt, words.as_slice()),
+        Err(error) => unread(&rt, &error),
+    };
+    ExitCode::from(status.code())
+}

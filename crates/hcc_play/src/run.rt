@@ -1,0 +1,73 @@
+//! Does what the words ask for, over any runtime.
+ghost use Rattle.hcc_core.specs.Steps.{CanOpen};
+
+use crate::cli::{command, default_setup, setup_of};
+use crate::status::{Status, status_of};
+use clap::Error;
+use clap::error::ErrorKind;
+use hcc_core::state::Setup;
+use hcc_player::fault::PlayError;
+use hcc_player::play::play_core;
+use std::io;
+
+/// Tells why a play ended.
+fn told<R: Eprint>(rt: &R, error: PlayError) -> Status {
+    let _ = rt.eprintln(error);
+    status_of(error)
+}
+
+/// Plays a script from standard input to standard output.
+fn core<R: AllocGlobal + Input + Print + Eprint>(rt: &R, setup: Setup) -> Status
+    requires { CanOpen setup }
+{
+    let mut reader = rt.reader();
+    let mut writer = io::writer(rt);
+    match play_core(rt.alloc(), &mut reader, &mut writer, setup) {
+        Ok(()) => Status::Done,
+        Err(error) => told(rt, error),
+    }
+}
+
+/// Tells what `clap` says of wrong arguments, or the help that was asked for.
+fn refused<R: Print + Eprint>(rt: &R, error: &Error) -> Status {
+    if error.kind() == ErrorKind::OutOfMemory {
+        let _ = rt.eprintln("out of memory");
+        return Status::NoMemory;
+    }
+    let printed = error.print(rt);
+    if error.use_stderr() {
+        return Status::Refused;
+    }
+    match printed {
+        Ok(()) => Status::Done,
+        Err(_) => {
+            let _ = rt.eprintln("write failed");
+            Status::Failed
+        }
+    }
+}
+
+/// Does what the words ask for: the first is the program's name.
+pub fn run<R: AllocGlobal + Input + Print + Eprint>(rt: &R, words: &[String]) -> Status {
+    if words.len() <= 1 {
+        return core(rt, default_setup());
+    }
+    let Ok(command) = command(rt.alloc()) else {
+        return told(rt, PlayError::OutOfMemory);
+    };
+    let matches = match command.try_get_matches_from(words) {
+        Ok(matches) => matches,
+        Err(error) => return refused(rt, &error),
+    };
+    let setup = match matches.subcommand() {
+        Some((_, options)) => setup_of(options),
+        None => None,
+    };
+    match setup {
+        Some(setup) => core(rt, setup),
+        None => {
+            let _ = rt.eprintln("error: a number is out of range");
+            Status::Refused
+        }
+    }
+}

@@ -1,0 +1,45 @@
+//! What the program's exit status tells.
+ghost use Rattle.std.specs.Prelude.{◌≡◌};
+ghost use Rattle.hcc_play.specs.Status.{code_of, status_of};
+
+use hcc_player::fault::PlayError;
+
+/// How a run ended.
+#[derive(Clone, Copy, Debug, PartialEq, Eq)]
+pub enum Status {
+    /// All is done, or help was asked for.
+    Done,
+    /// The arguments or the input were refused.
+    Refused,
+    /// A read or a write failed.
+    Failed,
+    /// Memory was refused.
+    NoMemory,
+}
+
+impl Status {
+    /// The number that the program exits with: 0, 2, 3 or 5.
+    pub fn code(self) -> u8
+        ensures { result ≡ code_of self }
+    {
+        match self {
+            Status::Done => 0,
+            Status::Refused => 2,
+            Status::Failed => 3,
+            Status::NoMemory => 5,
+        }
+    }
+}
+
+/// The status of a play that ended so.
+pub fn status_of(error: PlayError) -> Status
+    ensures { result ≡ status_of error }
+{
+    match error {
+        PlayError::ReadFailed => Status::Failed,
+        PlayError::TooLarge => Status::Refused,
+        PlayError::Text { .. } => Status::Refused,
+        PlayError::OutOfMemory => Status::NoMemory,
+        PlayError::WriteFailed => Status::Failed,
+    }
+}

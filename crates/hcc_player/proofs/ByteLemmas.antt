@@ -1,0 +1,63 @@
+-- Bytes that leave in parts.
+use Rattle.std.proofs.Common.{ℕ, List, [], ◌++◌, Option, Some, None, Result, Ok, Err, OnErr, take, drop, refl, sym, ap, ◌∙◌, append_assoc, append-nil, take-append-drop}
+use Rattle.std.specs.Io.KnownBytes.{Appends, Keeps}
+use Rattle.std.proofs.KnownBytes.{Appends-trans, Keeps-refl}
+use Rattle.hcc_player.specs.Bytes.{Leaves, AppendsPart}
+
+-- kept bytes gained none
+pub kept_gains_none : (a b : Option (List ℕ)) → Keeps a b → Appends a b []
+kept_gains_none None b kept = tt
+kept_gains_none (Some xs) None kept = absurd kept
+kept_gains_none (Some xs) (Some ys) kept = kept ∙ sym (append-nil xs)
+
+-- nothing was written yet
+pub leaves_all : (a b : Option (List ℕ)) (bytes : List ℕ) → Keeps a b → Leaves a b bytes bytes
+leaves_all a b bytes kept = record { front = []; cut = refl; appended = kept_gains_none a b kept }
+
+-- all was written
+pub leaves_none : (a b : Option (List ℕ)) (bytes : List ℕ) → Appends a b bytes → Leaves a b bytes []
+leaves_none a b bytes out = record { front = bytes; cut = append-nil bytes; appended = out }
+
+-- what was left is written in part
+pub leaves_less : (a b c : Option (List ℕ)) (bytes rest less : List ℕ)
+    → Leaves a b bytes rest → Leaves b c rest less → Leaves a c bytes less
+leaves_less a b c bytes rest less before then = record {
+  front = before.front ++ then.front;
+  cut = append_assoc before.front then.front less
+      ∙ ap (λ l. before.front ++ l) then.cut ∙ before.cut;
+  appended = Appends-trans a b c before.front then.front before.appended then.appended;
+}
+
+-- more bytes stand behind those that were left
+pub leaves_more : (a b : Option (List ℕ)) (bytes rest more : List ℕ)
+    → Leaves a b bytes rest → Leaves a b (bytes ++ more) (rest ++ more)
+leaves_more a b bytes rest more so_far = record {
+  front = so_far.front;
+  cut = sym (append_assoc so_far.front rest more) ∙ ap (λ l. l ++ more) so_far.cut;
+  appended = so_far.appended;
+}
+
+-- the next writes of a loop
+pub leaves_dropped : (a b : Option (List ℕ)) (rest : List ℕ) (n : ℕ)
+    → Appends a b (take n rest) → Leaves a b rest (drop n rest)
+leaves_dropped a b rest n out =
+    record { front = take n rest; cut = take-append-drop n rest; appended = out }
+
+-- nothing was written
+pub writes_nothing : (a : Option (List ℕ)) (bytes : List ℕ) → AppendsPart a a bytes
+writes_nothing a bytes = (bytes, leaves_all a a bytes (Keeps-refl a))
+
+-- what was kept since is written still
+pub leaves_kept : (a b c : Option (List ℕ)) (bytes rest : List ℕ)
+    → Leaves a b bytes rest → Keeps b c → Leaves a c bytes rest
+leaves_kept a b c bytes rest before kept =
+    leaves_less a b c bytes rest rest before (leaves_all b c rest kept)
+
+-- nothing is left: all was written
+pub all_out : (a b : Option (List ℕ)) (bytes : List ℕ) → Leaves a b bytes [] → Appends a b bytes
+all_out a b bytes out = rw (← out.cut, append-nil out.front) out.appended
+
+-- what holds anyway holds at an error
+pub on_error : {A E : Type 0} (result : Result A E) (P : Type 0) → P → OnErr result P
+on_error (Ok value) P holds = tt
+on_error (Err error) P holds = holds

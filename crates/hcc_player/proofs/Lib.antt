@@ -1,0 +1,6 @@
+pub mod ValueLemmas
+pub mod LineLemmas
+pub mod ByteLemmas
+pub mod TextLemmas
+pub mod PlayLemmas
+pub mod NumberLemmas

@@ -1,0 +1,123 @@
+//! What may be wrong with a script, and why a play ends early.
+ghost use Rattle.std.specs.Prelude.{◌≡◌};
+ghost use Rattle.hcc_player.specs.declared.fault.LineError.TheVariants as lines;
+ghost use Rattle.hcc_player.specs.declared.fault.PlayError.TheVariants as plays;
+
+use std::alloc::{AllocError, AllocFailed};
+use thiserror::Error;
+
+/// What is wrong with a line of a script.
+///
+/// The first fault of the first line at fault is told. The faults of a line stand here in the
+/// order in which they are looked for; from [`TextFault::BadNumber`] on, the words are looked at
+/// one after another from the left, and the first of them that is at fault decides.
+#[derive(Clone, Copy, Debug, PartialEq, Eq, Error)]
+pub enum TextFault {
+    /// The line has more than 8,400 bytes before its end.
+    #[error("TooLong")]
+    TooLong,
+    /// No line feed ends the line.
+    #[error("Unended")]
+    Unended,
+    /// A byte is neither a space nor a visible character of ASCII.
+    #[error("NotAscii")]
+    NotAscii,
+    /// The line or a word is empty, the first word names no event, or the event has another
+    /// number of words.
+    #[error("BadWord")]
+    BadWord,
+    /// A word is no decimal number below `2^64` without leading zeros.
+    #[error("BadNumber")]
+    BadNumber,
+    /// A number is outside the range that it has in this place.
+    #[error("OutOfRange")]
+    OutOfRange,
+    /// A word is none of those that may stand in its place. No word of a script is a choice, so
+    /// no script has this fault.
+    #[error("BadChoice")]
+    BadChoice,
+    /// A value is neither `-` nor pairs of lower-case hexadecimal digits.
+    #[error("BadValue")]
+    BadValue,
+    /// A value has more than 64 bytes.
+    #[error("ValueTooLong")]
+    ValueTooLong,
+}
+
+/// Why a line gives no event.
+#[derive(Clone, Copy, Debug, PartialEq, Eq)]
+pub enum LineError {
+    /// The line is at fault.
+    Fault(TextFault),
+    /// Memory was refused.
+    OutOfMemory,
+}
+
+impl From<TextFault> for LineError {
+    ghost from_gives = { λ fault e. e ≡ lines.Fault fault };
+
+    fn from(fault: TextFault) -> LineError {
+        LineError::Fault(fault)
+    }
+}
+
+impl From<AllocError> for LineError {
+    ghost from_gives = { λ _ e. e ≡ lines.OutOfMemory };
+
+    fn from(_error: AllocError) -> LineError {
+        LineError::OutOfMemory
+    }
+}
+
+impl<T: Drop> From<AllocFailed<T>> for LineError {
+    ghost from_gives = { λ _ e. e ≡ lines.OutOfMemory };
+
+    fn from(_error: AllocFailed<T>) -> LineError {
+        LineError::OutOfMemory
+    }
+}
+
+/// The first fault of a text.
+#[derive(Clone, Copy, Debug, PartialEq, Eq)]
+pub struct ScriptFault {
+    /// The number of the line at fault, counted from 1.
+    pub line: u64,
+    pub fault: TextFault,
+}
+
+/// Why a text is not known to be a script.
+#[derive(Clone, Copy, Debug, PartialEq, Eq)]
+pub enum ScriptError {
+    /// The text is at fault.
+    Fault(ScriptFault),
+    /// Memory was refused.
+    OutOfMemory,
+}
+
+/// Why a play ended early. Each is shown as the program tells it.
+#[derive(Clone, Copy, Debug, PartialEq, Eq, Error)]
+pub enum PlayError {
+    /// The reader failed; nothing was written.
+    #[error("read failed")]
+    ReadFailed,
+    /// The input has more than 67,108,864 bytes; nothing was written.
+    #[error("input too large")]
+    TooLarge,
+    /// The text is at fault in the line of this number, counted from 1; nothing was written.
+    #[error("line {line}: {fault}")]
+    Text { line: u64, fault: TextFault },
+    /// Memory was refused; a front part of the output may have been written.
+    #[error("out of memory")]
+    OutOfMemory,
+    /// The writer failed; a front part of the output may have been written.
+    #[error("write failed")]
+    WriteFailed,
+}
+
+impl From<AllocError> for PlayError {
+    ghost from_gives = { λ _ e. e ≡ plays.OutOfMemory };
+
+    fn from(_error: AllocError) -> PlayError {
+        PlayError::OutOfMemory
+    }
+}

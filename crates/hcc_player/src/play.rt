@@ -1,0 +1,243 @@
+//! Plays a script from a reader to a writer.
+ghost use Rattle.std.specs.Prelude.{◌≡◌, ◌++◌, ◌+◌, ◌<◌, ◌≤◌, [], Ok, IfOk, OnOk, OnErr, IfErr, IfSome, IsOk, length, false, string_bytes};
+ghost use Rattle.std.specs.Io.KnownBytes.{Appends, Keeps, Consumes, IsAtEnd};
+ghost use Rattle.hcc_core.specs.Steps.{CanOpen, outcome_of};
+ghost use Rattle.hcc_player.specs.Bytes.{Leaves, AppendsPart, TakesAtMost, GivesPart};
+ghost use Rattle.hcc_player.specs.Text.{answer_of, after, event_text};
+ghost use Rattle.hcc_player.specs.Line.{line_event};
+ghost use Rattle.hcc_player.specs.Script.{script_of};
+ghost use Rattle.hcc_player.specs.Play.{IsWhole, FailsInPart, FailsToRead, FailsToJudge, FailsToPlay, played, script_text, IsScript, EndsAt, WritesLate};
+
+use crate::fault::{LineError, PlayError, ScriptError};
+use crate::limits::MOST_INPUT;
+use crate::line::line_event;
+use crate::output::{flush, spill, write_out};
+use crate::print::push_line;
+use crate::script::{judge, next_line};
+use hcc_core::event::{CoreError, Event, Reply};
+use hcc_core::state::Setup;
+use hcc_core::world::World;
+use std::alloc::{AllocError, Global};
+use std::io::{ErrorKind, Read, Write};
+
+/// How many bytes are read at once.
+const CHUNK: usize = 65_536;
+
+/// Reads once, and adds the bytes that came: whether there may be more. A read that was
+/// interrupted gave none.
+fn read_part<R: Read>(
+    reader: &mut R,
+    chunk: &mut [u8],
+    bytes: &mut Vec<u8>,
+) -> Result<bool, PlayError>
+    requires { 0 < length chunk.old }
+    ensures part { GivesPart (R.remaining reader.old) (R.remaining reader.new)
+        (length chunk.old) bytes.old.items result bytes.new.items }
+    ensures end { IfOk result (λ more. more ≡ false →
+        IsAtEnd (R.remaining reader.new) × (bytes.new.items ≡ bytes.old.items)) }
+    ensures err { IfErr result FailsInPart }
+{
+    match reader.read(chunk) {
+        Ok(0) => Ok(false),
+        Ok(count) => {
+            bytes.extend_from_slice(&chunk[..count])?;
+            Ok(true)
+        }
+        Err(error) => {
+            if error.kind() == ErrorKind::Interrupted {
+                Ok(true)
+            } else {
+                Err(PlayError::ReadFailed)
+            }
+        }
+    }
+}
+
+/// Reads all there is, part by part, and ends with the first byte that is too many.
+fn read_by<R: Read>(alloc: Global, reader: &mut R, chunk: &mut [u8]) -> Result<Vec<u8>, PlayError>
+    requires { 0 < length chunk.old }
+    ensures whole { IfOk result (λ bytes. IsWhole (R.remaining reader.old) bytes.items) }
+    ensures bounded { TakesAtMost (MOST_INPUT + 1) (R.remaining reader.old) (R.remaining reader.new) }
+    ensures err { IfErr result (λ error. FailsToRead error (R.remaining reader.old)) }
+{
+    let mut bytes = Vec::new(alloc);
+    for _ in 0..u64::MAX {
+        let room = MOST_INPUT as usize + 1 - bytes.len();
+        if room == 0 {
+            return Err(PlayError::TooLarge);
+        }
+        let size = room.min(chunk.len());
+        if !read_part(reader, &mut chunk[..size], &mut bytes)? {
+            return Ok(bytes);
+        }
+    }
+    Err(PlayError::ReadFailed)
+}
+
+/// A buffer of this size.
+fn buffer(alloc: Global, size: usize) -> Result<Vec<u8>, AllocError>
+    ensures { IfOk result (λ buffer. length buffer.items ≡ size) }
+{
+    vec![in alloc; 0u8; size]
+}
+
+/// Reads all there is, and ends with the first byte that is too many.
+fn read_all<R: Read>(alloc: Global, reader: &mut R) -> Result<Vec<u8>, PlayError>
+    ensures whole { IfOk result (λ bytes. IsWhole (R.remaining reader.old) bytes.items) }
+    ensures bounded { TakesAtMost (MOST_INPUT + 1) (R.remaining reader.old) (R.remaining reader.new) }
+    ensures err { IfErr result (λ error. FailsToRead error (R.remaining reader.old)) }
+{
+    let mut chunk = buffer(alloc, CHUNK)?;
+    read_by(alloc, reader, &mut chunk)
+}
+
+/// Judges the whole text.
+fn judge_all(alloc: Global, text: &[u8]) -> Result<(), PlayError>
+    ensures ok { OnOk result (IsOk (script_of text.now)) }
+    ensures err { IfErr result (λ error. FailsToJudge error text.now) }
+{
+    match judge(alloc, text) {
+        Ok(()) => Ok(()),
+        Err(ScriptError::Fault(at)) => Err(PlayError::Text {
+            line: at.line,
+            fault: at.fault,
+        }),
+        Err(ScriptError::OutOfMemory) => Err(PlayError::OutOfMemory),
+    }
+}
+
+/// The event of a line that was judged.
+fn event_in(alloc: Global, line: &[u8]) -> Result<Event, PlayError>
+    requires { IsOk (line_event line.now) }
+    ensures ok { IfOk result (λ event. line_event line.now ≡ Ok event) }
+    ensures err { IfErr result (λ error. error ≡ PlayError.OutOfMemory) }
+{
+    match line_event(alloc, line) {
+        Ok(event) => Ok(event),
+        Err(LineError::Fault(_)) => unreachable!(),
+        Err(LineError::OutOfMemory) => Err(PlayError::OutOfMemory),
+    }
+}
+
+/// Makes one step: what it answered, if memory was not refused.
+fn answer(world: &mut World, event: Event) -> Result<Result<Reply, CoreError>, PlayError>
+    ensures answer { IfOk result (λ answer. answer ≡ answer_of (outcome_of world.old event)) }
+    ensures world { OnOk result (world.new ≡ after world.old event) }
+    ensures err { IfErr result (λ error. error ≡ PlayError.OutOfMemory) }
+{
+    match world.step(event) {
+        Ok(reply) => Ok(Ok(reply)),
+        Err(CoreError::OutOfMemory) => Err(PlayError::OutOfMemory),
+        Err(error) => Ok(Err(error)),
+    }
+}
+
+/// Makes one step, and adds its line to the output.
+#[tactic(auto, using(crate::proofs::ByteLemmas::writes_nothing))]
+fn play_event<W: Write>(
+    world: &mut World,
+    event: Event,
+    pending: &mut String,
+    writer: &mut W,
+) -> Result<(), PlayError>
+    ensures world { OnOk result (world.new ≡ after world.old event) }
+    ensures ok { OnOk result (Leaves (W.contents writer.old) (W.contents writer.new)
+        (string_bytes pending.old ++ event_text world.old event) (string_bytes pending.new)) }
+    ensures part { OnErr result (AppendsPart (W.contents writer.old) (W.contents writer.new)
+        (string_bytes pending.old ++ event_text world.old event)) }
+    ensures err { IfErr result FailsToPlay }
+{
+    let answer = answer(world, event)?;
+    push_line(pending, &answer, world)?;
+    spill(pending, writer)
+}
+
+/// Makes the steps of a script in turn, and adds their lines to the output.
+fn play_lines<W: Write>(
+    alloc: Global,
+    text: &[u8],
+    world: &mut World,
+    pending: &mut String,
+    writer: &mut W,
+) -> Result<(), PlayError>
+    requires { IsOk (script_of text.now) }
+    ensures ok { OnOk result (Leaves (W.contents writer.old) (W.contents writer.new)
+        (string_bytes pending.old ++ played world.old (script_of text.now))
+        (string_bytes pending.new)) }
+    ensures part { OnErr result (AppendsPart (W.contents writer.old) (W.contents writer.new)
+        (string_bytes pending.old ++ played world.old (script_of text.now))) }
+    ensures err { IfErr result FailsToPlay }
+{
+    let mut rest = text;
+    while let Some((line, after)) = next_line(rest) {
+        let event = event_in(alloc, line)?;
+        play_event(world, event, pending, writer)?;
+        rest = after;
+    }
+    Ok(())
+}
+
+/// Plays a script in a world, and writes all that it gives.
+fn play_text<W: Write>(
+    alloc: Global,
+    text: &[u8],
+    world: &mut World,
+    writer: &mut W,
+) -> Result<(), PlayError>
+    requires { IsOk (script_of text.now) }
+    ensures ok { OnOk result (Appends (W.contents writer.old) (W.contents writer.new)
+        (played world.old (script_of text.now))) }
+    ensures part { OnErr result (AppendsPart (W.contents writer.old) (W.contents writer.new)
+        (played world.old (script_of text.now))) }
+    ensures err { IfErr result FailsToPlay }
+{
+    let mut pending = String::new(alloc);
+    play_lines(alloc, text, world, &mut pending, writer)?;
+    write_out(writer, pending.as_bytes())?;
+    flush(writer)
+}
+
+/// Plays the script that a reader has left, in a new world of this setup, and writes a line for
+/// each event: its answer, and the world behind it.
+///
+/// The whole text is read and judged before the first event is played. A text that is at fault is
+/// refused by the first fault of its first line at fault, and one of more than 67,108,864 bytes
+/// by `TooLarge`, at the first byte that is too many; nothing is written then. Where the writer
+/// fails or memory is refused in the middle, a front of the output is out. The writer is flushed
+/// at the end.
+///
+/// The setup has 1 to 65,536 slots and 1 to 1,024 clients. It takes memory for the text, for the
+/// world and for a part of the output; its time is linear in the text but for the steps.
+pub fn play_core<R: Read, W: Write>(
+    alloc: Global,
+    reader: &mut R,
+    writer: &mut W,
+    setup: Setup,
+) -> Result<(), PlayError>
+    requires { CanOpen setup }
+
+    // What was read is a script, and its text is written.
+    ensures written { OnOk result (IfSome (R.remaining reader.old) (λ text. IsScript text
+        × Appends (W.contents writer.old) (W.contents writer.new) (script_text setup text))) }
+
+    // Each error says what was wrong; a text at fault is refused by its first fault.
+    ensures ends { IfErr result (λ error. IfSome (R.remaining reader.old) (EndsAt error)) }
+
+    // Nothing is written where the text is at fault or was not read.
+    ensures late { IfErr result (λ error.
+        WritesLate error (W.contents writer.old) (W.contents writer.new)) }
+
+    // Never is anything written but a front of the script's text.
+    ensures part { OnErr result (IfSome (R.remaining reader.old) (λ text.
+        AppendsPart (W.contents writer.old) (W.contents writer.new) (script_text setup text))) }
+
+    // The reading ends with the first byte that is too many.
+    ensures bounded { TakesAtMost (MOST_INPUT + 1) (R.remaining reader.old) (R.remaining reader.new) }
+{
+    let text = read_all(alloc, reader)?;
+    judge_all(alloc, &text)?;
+    let Ok(mut world) = World::opening(alloc, setup) else {
+        return Err(PlayError::OutOfMemory);
+    };
+    play_text(alloc, &text, &mut world, writer)
+}
