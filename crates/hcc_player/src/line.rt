@@ -2,7 +2,7 @@
 ghost use Rattle.std.specs.Prelude.{◌≡◌, ◌<◌, length, map, IfOk};
 ghost use Rattle.std.specs.List.{list_all};
 ghost use Rattle.hcc_player.specs.Value.{Gives};
-ghost use Rattle.hcc_player.specs.Line.{word_at, start_line, look_line, acquire_line, give_line, use_line, occupy_line, hide_line, free_line, empty_line, write_line, read_line, enter_line, charge_line, slots_line, settle_line, show_line, ledger_event, table_event, event_of, has_empty_word, words_event, words_of, is_plain, line_event};
+ghost use Rattle.hcc_player.specs.Line.{word_at, client_in, client_and_slot, client_and_name, acquire_line, free_line, charge_line, stand_line, show_line, entry_event, reference_event, clock_event, place_event, charge_event, event_of, has_empty_word, words_event, words_of, is_plain, line_event};
 
 use crate::fault::{LineError, TextFault};
 use crate::limits::MOST_LINE;
@@ -21,27 +21,41 @@ fn word<'a>(words: &[&'a [u8]], index: usize) -> &'a [u8]
     words[index]
 }
 
-#[tactic(auto, unfolding(crate::specs::Line::start_line))]
-fn start_line(words: &[&[u8]]) -> Result<Event, TextFault>
-    ensures { result ≡ start_line (map (λ w. w.now) words.now) }
+/// The client of a line that has nothing else behind its verb.
+#[tactic(auto, unfolding(crate::specs::Line::client_in))]
+fn client_in(words: &[&[u8]]) -> Result<u32, TextFault>
+    ensures { result ≡ client_in (map (λ w. w.now) words.now) }
 {
     if words.len() != 2 {
         return Err(TextFault::BadWord);
     }
-    let client = small_number(word(words, 1))?;
-    Ok(Event::Start { client })
+    small_number(word(words, 1))
 }
 
-#[tactic(auto, unfolding(crate::specs::Line::look_line))]
-fn look_line(words: &[&[u8]]) -> Result<Event, TextFault>
-    ensures { result ≡ look_line (map (λ w. w.now) words.now) }
+/// The client and the slot of a line that has these two behind its verb.
+#[tactic(auto, unfolding(crate::specs::Line::client_and_slot))]
+fn client_and_slot(words: &[&[u8]]) -> Result<(u32, u32), TextFault>
+    ensures { result ≡ client_and_slot (map (λ w. w.now) words.now) }
 {
     if words.len() != 3 {
         return Err(TextFault::BadWord);
     }
     let client = small_number(word(words, 1))?;
     let slot = small_number(word(words, 2))?;
-    Ok(Event::Look { client, slot })
+    Ok((client, slot))
+}
+
+/// The client and the name of a line that has these two behind its verb.
+#[tactic(auto, unfolding(crate::specs::Line::client_and_name))]
+fn client_and_name(words: &[&[u8]]) -> Result<(u32, u64), TextFault>
+    ensures { result ≡ client_and_name (map (λ w. w.now) words.now) }
+{
+    if words.len() != 3 {
+        return Err(TextFault::BadWord);
+    }
+    let client = small_number(word(words, 1))?;
+    let name = number(word(words, 2))?;
+    Ok((client, name))
 }
 
 #[tactic(auto, unfolding(crate::specs::Line::acquire_line))]
@@ -63,54 +77,6 @@ fn acquire_line(words: &[&[u8]]) -> Result<Event, TextFault>
     })
 }
 
-#[tactic(auto, unfolding(crate::specs::Line::give_line))]
-fn give_line(words: &[&[u8]]) -> Result<Event, TextFault>
-    ensures { result ≡ give_line (map (λ w. w.now) words.now) }
-{
-    if words.len() != 3 {
-        return Err(TextFault::BadWord);
-    }
-    let client = small_number(word(words, 1))?;
-    let name = number(word(words, 2))?;
-    Ok(Event::Give { client, name })
-}
-
-#[tactic(auto, unfolding(crate::specs::Line::use_line))]
-fn use_line(words: &[&[u8]]) -> Result<Event, TextFault>
-    ensures { result ≡ use_line (map (λ w. w.now) words.now) }
-{
-    if words.len() != 3 {
-        return Err(TextFault::BadWord);
-    }
-    let client = small_number(word(words, 1))?;
-    let name = number(word(words, 2))?;
-    Ok(Event::Use { client, name })
-}
-
-#[tactic(auto, unfolding(crate::specs::Line::occupy_line))]
-fn occupy_line(words: &[&[u8]]) -> Result<Event, TextFault>
-    ensures { result ≡ occupy_line (map (λ w. w.now) words.now) }
-{
-    if words.len() != 3 {
-        return Err(TextFault::BadWord);
-    }
-    let client = small_number(word(words, 1))?;
-    let slot = small_number(word(words, 2))?;
-    Ok(Event::Occupy { client, slot })
-}
-
-#[tactic(auto, unfolding(crate::specs::Line::hide_line))]
-fn hide_line(words: &[&[u8]]) -> Result<Event, TextFault>
-    ensures { result ≡ hide_line (map (λ w. w.now) words.now) }
-{
-    if words.len() != 3 {
-        return Err(TextFault::BadWord);
-    }
-    let client = small_number(word(words, 1))?;
-    let name = number(word(words, 2))?;
-    Ok(Event::Hide { client, name })
-}
-
 #[tactic(auto, unfolding(crate::specs::Line::free_line))]
 fn free_line(words: &[&[u8]]) -> Result<Event, TextFault>
     ensures { result ≡ free_line (map (λ w. w.now) words.now) }
@@ -122,51 +88,6 @@ fn free_line(words: &[&[u8]]) -> Result<Event, TextFault>
     let slot = small_number(word(words, 2))?;
     let name = name(word(words, 3))?;
     Ok(Event::Free { client, slot, name })
-}
-
-#[tactic(auto, unfolding(crate::specs::Line::empty_line))]
-fn empty_line(words: &[&[u8]]) -> Result<Event, TextFault>
-    ensures { result ≡ empty_line (map (λ w. w.now) words.now) }
-{
-    if words.len() != 2 {
-        return Err(TextFault::BadWord);
-    }
-    let client = small_number(word(words, 1))?;
-    Ok(Event::Empty { client })
-}
-
-#[tactic(auto, unfolding(crate::specs::Line::write_line))]
-fn write_line(words: &[&[u8]]) -> Result<Event, TextFault>
-    ensures { result ≡ write_line (map (λ w. w.now) words.now) }
-{
-    if words.len() != 2 {
-        return Err(TextFault::BadWord);
-    }
-    let client = small_number(word(words, 1))?;
-    Ok(Event::Write { client })
-}
-
-#[tactic(auto, unfolding(crate::specs::Line::read_line))]
-fn read_line(words: &[&[u8]]) -> Result<Event, TextFault>
-    ensures { result ≡ read_line (map (λ w. w.now) words.now) }
-{
-    if words.len() != 3 {
-        return Err(TextFault::BadWord);
-    }
-    let client = small_number(word(words, 1))?;
-    let name = number(word(words, 2))?;
-    Ok(Event::Read { client, name })
-}
-
-#[tactic(auto, unfolding(crate::specs::Line::enter_line))]
-fn enter_line(words: &[&[u8]]) -> Result<Event, TextFault>
-    ensures { result ≡ enter_line (map (λ w. w.now) words.now) }
-{
-    if words.len() != 2 {
-        return Err(TextFault::BadWord);
-    }
-    let client = small_number(word(words, 1))?;
-    Ok(Event::Enter { client })
 }
 
 #[tactic(auto, unfolding(crate::specs::Line::charge_line))]
@@ -181,26 +102,21 @@ fn charge_line(words: &[&[u8]]) -> Result<Event, TextFault>
     Ok(Event::Charge { client, charge })
 }
 
-#[tactic(auto, unfolding(crate::specs::Line::slots_line))]
-fn slots_line(words: &[&[u8]]) -> Result<Event, TextFault>
-    ensures { result ≡ slots_line (map (λ w. w.now) words.now) }
+#[tactic(auto, unfolding(crate::specs::Line::stand_line))]
+fn stand_line(words: &[&[u8]]) -> Result<Event, TextFault>
+    ensures { result ≡ stand_line (map (λ w. w.now) words.now) }
 {
-    if words.len() != 2 {
+    if words.len() != 4 {
         return Err(TextFault::BadWord);
     }
     let client = small_number(word(words, 1))?;
-    Ok(Event::Slots { client })
-}
-
-#[tactic(auto, unfolding(crate::specs::Line::settle_line))]
-fn settle_line(words: &[&[u8]]) -> Result<Event, TextFault>
-    ensures { result ≡ settle_line (map (λ w. w.now) words.now) }
-{
-    if words.len() != 2 {
-        return Err(TextFault::BadWord);
-    }
-    let client = small_number(word(words, 1))?;
-    Ok(Event::Settle { client })
+    let charge = charge(word(words, 2))?;
+    let name = number(word(words, 3))?;
+    Ok(Event::Stand {
+        client,
+        charge,
+        name,
+    })
 }
 
 #[tactic(auto, unfolding(crate::specs::Line::show_line))]
@@ -228,65 +144,160 @@ fn show_line(alloc: Global, words: &[&[u8]]) -> Result<Event, LineError>
     })
 }
 
-/// The event of a verb on charge and places.
-#[tactic(auto, unfolding(crate::specs::Line::ledger_event))]
-fn ledger_event(verb: &[u8], words: &[&[u8]]) -> Result<Event, TextFault>
-    ensures { result ≡ ledger_event verb.now (map (λ w. w.now) words.now) }
+/// The event of a verb among the events on charge.
+#[tactic(auto, unfolding(crate::specs::Line::charge_event))]
+fn charge_event(verb: &[u8], words: &[&[u8]]) -> Result<Event, TextFault>
+    ensures { result ≡ charge_event verb.now (map (λ w. w.now) words.now) }
 {
-    if verb == b"enter".as_slice() {
-        return enter_line(words);
-    }
     if verb == b"charge".as_slice() {
         return charge_line(words);
     }
-    if verb == b"slots".as_slice() {
-        return slots_line(words);
-    }
     if verb == b"settle".as_slice() {
-        return settle_line(words);
+        let client = client_in(words)?;
+        return Ok(Event::Settle { client });
+    }
+    if verb == b"waive".as_slice() {
+        let client = client_in(words)?;
+        return Ok(Event::Waive { client });
+    }
+    if verb == b"usage".as_slice() {
+        let client = client_in(words)?;
+        return Ok(Event::Usage { client });
+    }
+    if verb == b"stand".as_slice() {
+        return stand_line(words);
+    }
+    if verb == b"fall".as_slice() {
+        let (client, name) = client_and_name(words)?;
+        return Ok(Event::Fall { client, name });
+    }
+    if verb == b"standing".as_slice() {
+        let client = client_in(words)?;
+        return Ok(Event::Standing { client });
     }
     Err(TextFault::BadWord)
 }
 
-/// The event of a verb on slots, references and entries, but `show`.
-#[tactic(auto, unfolding(crate::specs::Line::table_event))]
-fn table_event(verb: &[u8], words: &[&[u8]]) -> Result<Event, TextFault>
-    ensures { result ≡ table_event verb.now (map (λ w. w.now) words.now) }
+/// The event of a verb among the events of clients and their places.
+#[tactic(auto, unfolding(crate::specs::Line::place_event))]
+fn place_event(verb: &[u8], words: &[&[u8]]) -> Result<Event, TextFault>
+    ensures { result ≡ place_event verb.now (map (λ w. w.now) words.now) }
 {
     if verb == b"start".as_slice() {
-        return start_line(words);
+        let client = client_in(words)?;
+        return Ok(Event::Start { client });
     }
-    if verb == b"look".as_slice() {
-        return look_line(words);
+    if verb == b"end".as_slice() {
+        let client = client_in(words)?;
+        return Ok(Event::End { client });
     }
-    if verb == b"acquire".as_slice() {
-        return acquire_line(words);
+    if verb == b"enter".as_slice() {
+        let client = client_in(words)?;
+        return Ok(Event::Enter { client });
     }
-    if verb == b"give".as_slice() {
-        return give_line(words);
+    if verb == b"quit".as_slice() {
+        let client = client_in(words)?;
+        return Ok(Event::Quit { client });
     }
-    if verb == b"use".as_slice() {
-        return use_line(words);
+    if verb == b"slots".as_slice() {
+        let client = client_in(words)?;
+        return Ok(Event::Slots { client });
     }
+    if verb == b"occupancy".as_slice() {
+        let client = client_in(words)?;
+        return Ok(Event::Occupancy { client });
+    }
+    charge_event(verb, words)
+}
+
+/// The event of a verb among the events of the clock and of trails.
+#[tactic(auto, unfolding(crate::specs::Line::clock_event))]
+fn clock_event(verb: &[u8], words: &[&[u8]]) -> Result<Event, TextFault>
+    ensures { result ≡ clock_event verb.now (map (λ w. w.now) words.now) }
+{
+    if verb == b"clock".as_slice() {
+        let (client, slot) = client_and_slot(words)?;
+        return Ok(Event::Clock { client, slot });
+    }
+    if verb == b"count".as_slice() {
+        let (client, slot) = client_and_slot(words)?;
+        return Ok(Event::Count { client, slot });
+    }
+    if verb == b"pass".as_slice() {
+        let (client, slot) = client_and_slot(words)?;
+        return Ok(Event::Pass { client, slot });
+    }
+    if verb == b"unpass".as_slice() {
+        let (client, slot) = client_and_slot(words)?;
+        return Ok(Event::Unpass { client, slot });
+    }
+    if verb == b"turn".as_slice() {
+        let client = client_in(words)?;
+        return Ok(Event::Turn { client });
+    }
+    place_event(verb, words)
+}
+
+/// The event of a verb among the events that move entries, but `show`.
+#[tactic(auto, unfolding(crate::specs::Line::entry_event))]
+fn entry_event(verb: &[u8], words: &[&[u8]]) -> Result<Event, TextFault>
+    ensures { result ≡ entry_event verb.now (map (λ w. w.now) words.now) }
+{
     if verb == b"occupy".as_slice() {
-        return occupy_line(words);
+        let (client, slot) = client_and_slot(words)?;
+        return Ok(Event::Occupy { client, slot });
     }
-    if verb == b"hide".as_slice() {
-        return hide_line(words);
+    if verb == b"write".as_slice() {
+        let client = client_in(words)?;
+        return Ok(Event::Write { client });
     }
     if verb == b"free".as_slice() {
         return free_line(words);
     }
     if verb == b"empty".as_slice() {
-        return empty_line(words);
+        let client = client_in(words)?;
+        return Ok(Event::Empty { client });
     }
-    if verb == b"write".as_slice() {
-        return write_line(words);
+    clock_event(verb, words)
+}
+
+/// The event of a verb among the events on references and their slots.
+#[tactic(auto, unfolding(crate::specs::Line::reference_event))]
+fn reference_event(verb: &[u8], words: &[&[u8]]) -> Result<Event, TextFault>
+    ensures { result ≡ reference_event verb.now (map (λ w. w.now) words.now) }
+{
+    if verb == b"look".as_slice() {
+        let (client, slot) = client_and_slot(words)?;
+        return Ok(Event::Look { client, slot });
+    }
+    if verb == b"acquire".as_slice() {
+        return acquire_line(words);
+    }
+    if verb == b"give".as_slice() {
+        let (client, name) = client_and_name(words)?;
+        return Ok(Event::Give { client, name });
+    }
+    if verb == b"use".as_slice() {
+        let (client, name) = client_and_name(words)?;
+        return Ok(Event::Use { client, name });
+    }
+    if verb == b"hide".as_slice() {
+        let (client, name) = client_and_name(words)?;
+        return Ok(Event::Hide { client, name });
+    }
+    if verb == b"mark".as_slice() {
+        let (client, name) = client_and_name(words)?;
+        return Ok(Event::Mark { client, name });
+    }
+    if verb == b"correct".as_slice() {
+        let (client, name) = client_and_name(words)?;
+        return Ok(Event::Correct { client, name });
     }
     if verb == b"read".as_slice() {
-        return read_line(words);
+        let (client, name) = client_and_name(words)?;
+        return Ok(Event::Read { client, name });
     }
-    ledger_event(verb, words)
+    entry_event(verb, words)
 }
 
 /// The event of words that are all there.
@@ -297,7 +308,7 @@ fn event_of(alloc: Global, verb: &[u8], words: &[&[u8]]) -> Result<Event, LineEr
     if verb == b"show".as_slice() {
         return show_line(alloc, words);
     }
-    let event = table_event(verb, words)?;
+    let event = reference_event(verb, words)?;
     Ok(event)
 }
 

@@ -51,7 +51,7 @@ fn tells_each_fault(rt: HostRuntime) -> Result<(), Fail> {
         (b"start\n", 1, TextFault::BadWord),
         (b"start 0 0\n", 1, TextFault::BadWord),
         (b"Start 0\n", 1, TextFault::BadWord),
-        (b"turn 0\n", 1, TextFault::BadWord),
+        (b"turns 0\n", 1, TextFault::BadWord),
         (b"start +0\n", 1, TextFault::BadNumber),
         (b"start 00\n", 1, TextFault::BadNumber),
         (b"start -\n", 1, TextFault::BadNumber),
@@ -108,7 +108,7 @@ fn tells_what_is_too_long(rt: HostRuntime) -> Result<(), Fail> {
 
 #[test]
 fn plays_scripts(rt: HostRuntime) -> Result<(), Fail> {
-    let cases: [(&[u8], &[u8]); 5] = [
+    let cases: [(&[u8], &[u8]); 8] = [
         (b"", b""),
         (
             b"start 0\nstart 0\nstart 2\nlook 5 5\n",
@@ -138,6 +138,22 @@ split 5 0 : E+0/0 E+0/0 | 5 1 0 0\ntaken : E+0/0 B0+0/0 | 5 1 0 0\n\
 ok : E+0/0 S7.9@0.0#5,u1,r0.3x1,h0/0 | 5 1 0 0\n\
 entry 7.9 - : E+0/0 S7.9@0.0#5,u1,r0.3x1,h0/0 | 5 1 0 0\n\
 left 0 shown : E+0/0 S7.9@0.0#5,u1,r-,h0/0 | 5 1 0 0\n",
+        ),
+        (
+            b"start 0\nstart 1\nenter 0\ncharge 0 5\noccupy 0 1\nshow 0 7 9 5 3 - -\nclock 0 1\n",
+            b"ok : E+0/0 E+0/0 | 0 0 0 0\nok : E+0/0 E+0/0 | 0 0 0 0\ngranted : E+0/0 E+0/0 | 0 1 0 0\n\
+split 5 0 : E+0/0 E+0/0 | 5 1 0 0\ntaken : E+0/0 B0+0/0 | 5 1 0 0\n\
+ok : E+0/0 S7.9@0.0#5,u3,r-,h0/0 | 5 1 0 0\nuses 2 : E+0/0 S7.9@0.0#5,u2,r-,h0/0 | 5 1 0 0\n",
+        ),
+        (
+            b"start 0\nend 0\n",
+            b"ok : E+0/0 E+0/0 | 0 0 0 0\nok : E+0/0 E+0/0 | 0 0 0 0\n",
+        ),
+        (
+            b"start 0\npass 0 1\nunpass 0 1\nturn 0\ncharge 0 5\nstand 0 5 7\nfall 0 7\nwaive 0\n",
+            b"ok : E+0/0 E+0/0 | 0 0 0 0\nok : E+0/0 E+0/1 | 0 0 0 0\nok : E+0/0 E+0/0 | 0 0 0 0\n\
+count 0 : E+0/0 E+0/0 | 0 0 0 4\nsplit 5 0 : E+0/0 E+0/0 | 5 0 0 4\nok : E+0/0 E+0/0 | 5 0 5 4\n\
+ok : E+0/0 E+0/0 | 5 0 0 4\nok : E+0/0 E+0/0 | 0 0 0 4\n",
         ),
     ];
     for (text, want) in cases {
