@@ -36,12 +36,14 @@ pub in_joined : (m : Stamp) (dead : List Stamp) (o : Option Stamp) → is_in m (
 in_joined m dead None h = inl h
 in_joined m dead (Some stamp) h = by (list_any (is_stamp stamp) dead) h
   where
-    by : (b : Bool) → is_in m (cond b dead (dead ++ stamp ∷ [])) ≡ true → (is_in m dead ≡ true) ⊎ (Some stamp ≡ Some m)
+    by : (b : Bool) → is_in m (cond b dead (dead ++ stamp ∷ [])) ≡ true
+        → (is_in m dead ≡ true) ⊎ (Some stamp ≡ Some m)
     by true h = inl h
     by false h = elim (in_push m dead stamp h) [ inl e ↦ inl e | inr e ↦ inr (ap (λ (x : Stamp). Some x) e) ]
 
 -- what a client sees dead is the stamp of the slot
-hidden_is_stamp : (slot : Slot) (m : Stamp) → hidden_stamp slot ≡ Some m → (stamp_of slot ≡ Some m) × (shown_stamp slot ≡ None)
+hidden_is_stamp : (slot : Slot) (m : Stamp) → hidden_stamp slot ≡ Some m
+    → (stamp_of slot ≡ Some m) × (shown_stamp slot ≡ None)
 hidden_is_stamp (slots.Empty strays) m h = cc
 hidden_is_stamp (slots.Building other strays) m h = cc
 hidden_is_stamp (slots.Shareable r) m h = by r.shown h
@@ -55,7 +57,8 @@ pub dead_is_stamp : (client : ℕ) (slot : Slot) (m : Stamp) → dead_to client 
     → (stamp_of slot ≡ Some m) × (shown_stamp slot ≡ None)
 dead_is_stamp client slot m h = by (has_client client slot) h
   where
-    by : (b : Bool) → cond b (hidden_stamp slot) None ≡ Some m → (stamp_of slot ≡ Some m) × (shown_stamp slot ≡ None)
+    by : (b : Bool) → cond b (hidden_stamp slot) None ≡ Some m
+        → (stamp_of slot ≡ Some m) × (shown_stamp slot ≡ None)
     by true h = hidden_is_stamp slot m h
     by false h = cc
 
@@ -76,7 +79,8 @@ pub record Grave (all : List Slot) (clients : List Client) (m : Stamp) : Type 0 
   pub unshown : (s : ℕ) → shown_in (slice_get all s) ≡ Some m → ⊥
 
 -- the entry of a slot that shows nothing after the step is shown nowhere
-pub grave : (all : List Slot) (clients : List Client) (slot : ℕ) (seen left : Slot) (m : Stamp) → Stamped all clients
+pub grave : (all : List Slot) (clients : List Client) (slot : ℕ) (seen left : Slot) (m : Stamp)
+    → Stamped all clients
     → slice_get all slot ≡ Some seen → stamp_of seen ≡ Some m → shown_stamp left ≡ None
     → Grave (slice_set all slot left) clients m
 grave all clients slot seen left m stamped at_slot stamp none = record {
@@ -111,7 +115,8 @@ dead_kept all all' clients clients' d fewer counts lists = record {
 }
 
 -- one entry comes to be shown, with the next stamp of its maker, which nobody has seen
-pub dead_shown : (all : List Slot) (clients : List Client) (slot client : ℕ) (seen left : Slot) (old new : Client) → Dead all clients
+pub dead_shown : (all : List Slot) (clients : List Client) (slot client : ℕ) (seen left : Slot) (old new : Client)
+    → Dead all clients
     → slice_get all slot ≡ Some seen → slice_get clients client ≡ Some old
     → shown_stamp left ≡ Some (record { client = client; number = old.stamps })
     → new.stamps ≡ old.stamps + 1 → new.dead ≡ old.dead
@@ -133,7 +138,9 @@ dead_shown all clients slot client seen left old new d at_slot at_client stamp s
   ];
 }
   where
-    was : (c : ℕ) (m : Stamp) → is_in m (dead_by (slice_get (slice_set clients client new) c)) ≡ true → is_in m (dead_by (slice_get clients c)) ≡ true
+    was : (c : ℕ) (m : Stamp)
+        → is_in m (dead_by (slice_get (slice_set clients client new) c)) ≡ true
+        → is_in m (dead_by (slice_get clients c)) ≡ true
     was c m h = elim (cases_eq c client) [
       | inl same ↦
           let now = ap dead_by (read_here clients client old new at_client) ∙ dead in
@@ -144,7 +151,8 @@ dead_shown all clients slot client seen left old new d at_slot at_client stamp s
       | inr away ↦ ap (is_in m) (sym (ap dead_by (read_other clients client c new away))) ∙ h
     ]
 
-    count : (c : ℕ) → stamps_by (slice_get clients c) ≤ stamps_by (slice_get (slice_set clients client new) c)
+    count : (c : ℕ)
+        → stamps_by (slice_get clients c) ≤ stamps_by (slice_get (slice_set clients client new) c)
     count c = elim (cases_eq c client) [
       | inl same ↦
           let now = ap stamps_by (read_here clients client old new at_client) ∙ stamps in
@@ -156,7 +164,8 @@ dead_shown all clients slot client seen left old new d at_slot at_client stamp s
     ]
 
 -- the lists after a step of one client, whose own list may have grown by one grave
-pub lists_changed : (all' : List Slot) (clients : List Client) (client : ℕ) (old new : Client) → slice_get clients client ≡ Some old
+pub lists_changed : (all' : List Slot) (clients : List Client) (client : ℕ) (old new : Client)
+    → slice_get clients client ≡ Some old
     → ((m : Stamp) → is_in m new.dead ≡ true → (is_in m old.dead ≡ true) ⊎ Grave all' clients m)
     → (c : ℕ) (m : Stamp) → is_in m (dead_by (slice_get (slice_set clients client new) c)) ≡ true
     → (is_in m (dead_by (slice_get clients c)) ≡ true) ⊎ Grave all' clients m

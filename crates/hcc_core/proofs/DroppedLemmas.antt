@@ -7,12 +7,14 @@ use Rattle.hcc_core.specs.Steps.{dropped}
 
 module _ {X : Type 0} (p : X → Bool) where
   -- a sum over the members that are left, and the one that went
-  pub dropped-total : (f : X → ℕ) (xs : List X) (x : X) → find p xs ≡ Some x → total f (dropped p xs) + f x ≡ total f xs
+  pub dropped-total : (f : X → ℕ) (xs : List X) (x : X) → find p xs ≡ Some x
+      → total f (dropped p xs) + f x ≡ total f xs
   dropped-total f [] x h = cc
   dropped-total f (y ∷ ys) x h = by (p y) (dropped-total f ys x) h
     where
       by : (b : Bool) → (find p ys ≡ Some x → total f (dropped p ys) + f x ≡ total f ys)
-          → cond b (Some y) (find p ys) ≡ Some x → total f (cond b ys (y ∷ dropped p ys)) + f x ≡ f y + total f ys
+          → cond b (Some y) (find p ys) ≡ Some x
+          → total f (cond b ys (y ∷ dropped p ys)) + f x ≡ f y + total f ys
       by true later h = let same : f y ≡ f x = ap f (let e : y ≡ x = cc in e) in omega arith
       by false later h = let rest = later h in omega arith
 
@@ -21,7 +23,8 @@ module _ {X : Type 0} (p : X → Bool) where
   dropped-le f [] = omega arith
   dropped-le f (y ∷ ys) = by (p y) (dropped-le f ys)
     where
-      by : (b : Bool) → total f (dropped p ys) ≤ total f ys → total f (cond b ys (y ∷ dropped p ys)) ≤ f y + total f ys
+      by : (b : Bool) → total f (dropped p ys) ≤ total f ys
+          → total f (cond b ys (y ∷ dropped p ys)) ≤ f y + total f ys
       by true rest = omega arith
       by false rest = omega arith
 
@@ -30,16 +33,19 @@ module _ {X : Type 0} (p : X → Bool) where
   dropped-length [] = omega arith
   dropped-length (y ∷ ys) = by (p y) (dropped-length ys)
     where
-      by : (b : Bool) → length (dropped p ys) ≤ length ys → length (cond b ys (y ∷ dropped p ys)) ≤ suc (length ys)
+      by : (b : Bool) → length (dropped p ys) ≤ length ys
+          → length (cond b ys (y ∷ dropped p ys)) ≤ suc (length ys)
       by true rest = omega arith
       by false rest = omega arith
 
   -- the first one taken out by its place
-  remove-first : (xs : List X) → position_or_len p xs < length xs → remove xs (position_or_len p xs) ≡ dropped p xs
+  remove-first : (xs : List X) → position_or_len p xs < length xs
+      → remove xs (position_or_len p xs) ≡ dropped p xs
   remove-first [] h = absurd (omega arith)
   remove-first (y ∷ ys) h = by (p y) (remove-first ys) h
     where
-      by : (b : Bool) → (position_or_len p ys < length ys → remove ys (position_or_len p ys) ≡ dropped p ys)
+      by : (b : Bool)
+          → (position_or_len p ys < length ys → remove ys (position_or_len p ys) ≡ dropped p ys)
           → cond (not b) (1 + position_or_len p ys) 0 < length (y ∷ ys)
           → remove (y ∷ ys) (cond (not b) (1 + position_or_len p ys) 0) ≡ cond b ys (y ∷ dropped p ys)
       by true later h = refl
@@ -51,12 +57,14 @@ module _ {X : Type 0} (p : X → Bool) where
   dropped-none (y ∷ ys) h = by (p y) (dropped-none ys) h
     where
       by : (b : Bool) → (length ys ≤ position_or_len p ys → ys ≡ dropped p ys)
-          → length (y ∷ ys) ≤ cond (not b) (1 + position_or_len p ys) 0 → y ∷ ys ≡ cond b ys (y ∷ dropped p ys)
+          → length (y ∷ ys) ≤ cond (not b) (1 + position_or_len p ys) 0
+          → y ∷ ys ≡ cond b ys (y ∷ dropped p ys)
       by true later h = absurd (omega arith)
       by false later h = ap (λ rest. y ∷ rest) (later (omega arith))
 
   -- the member found by its position goes
-  pub remove_at : (xs : List X) (place : ℕ) → position p xs ≡ Some place → remove xs place ≡ dropped p xs
+  pub remove_at : (xs : List X) (place : ℕ) → position p xs ≡ Some place
+      → remove xs place ≡ dropped p xs
   remove_at xs place h = by (nat_lt (position_or_len p xs) (length xs)) refl h
     where
       by : (b : Bool) → nat_lt (position_or_len p xs) (length xs) ≡ b

@@ -27,7 +27,8 @@ KeepsLaw (Ok done) = Lawful done.1
 KeepsLaw (Err error) = Unit {0}
 
 -- a reading on the way, and what it found
-chain : {A : Type 0} (r : Result A CoreError) (f : A → Outcome) → ((x : A) → r ≡ Ok x → KeepsLaw (f x)) → KeepsLaw (r >>= f)
+chain : {A : Type 0} (r : Result A CoreError) (f : A → Outcome)
+    → ((x : A) → r ≡ Ok x → KeepsLaw (f x)) → KeepsLaw (r >>= f)
 chain (Ok x) f h = h x refl
 chain (Err e) f h = tt
 
@@ -44,7 +45,8 @@ live_found : (o : Option Client) (x : Client)
 live_found None x h = cc
 live_found (Some y) x h = ap Some (allowed_is y.live y x h)
 
-live_ok : (w : State) (client : ℕ) (x : Client) → live_at w client ≡ Ok x → slice_get w.clients client ≡ Some x
+live_ok : (w : State) (client : ℕ) (x : Client) → live_at w client ≡ Ok x
+    → slice_get w.clients client ≡ Some x
 live_ok w client x h = live_found (slice_get w.clients client) x h
 
 may_ok : (b : Bool) (u : Unit {0}) → allow b ≡ Ok u → b ≡ true
@@ -61,7 +63,8 @@ look_keeps w client slot l =
     chain (slot_at w slot) _ (λ seen at. chain (live_at w client) _ (λ found live.
     lawful_look w client slot found seen l (found_ok _ _ seen at) (live_ok w client found live)))
 
-acquire_keeps : (w : State) (client slot weight name : ℕ) → Lawful w → KeepsLaw (acquire_of w client slot weight name)
+acquire_keeps : (w : State) (client slot weight name : ℕ) → Lawful w
+    → KeepsLaw (acquire_of w client slot weight name)
 unfolding acquire_of
 acquire_keeps w client slot weight name l =
     chain (slot_at w slot) _ (λ seen at. chain (live_at w client) _ (λ found live.
@@ -75,11 +78,13 @@ give_keeps w client name l =
     lawful_give w client name slot found seen l (found_ok _ _ seen at) (live_ok w client found live))))
 
 -- a counting reference is that reference, and counts
-pub counting-is : (o : Option Reference) (k : Reference) → if_counting o ≡ Some k → (o ≡ Some k) × (k.counting ≡ true)
+pub counting-is : (o : Option Reference) (k : Reference) → if_counting o ≡ Some k
+    → (o ≡ Some k) × (k.counting ≡ true)
 counting-is None k h = cc
 counting-is (Some j) k h = by j.counting refl h
   where
-    by : (b : Bool) → j.counting ≡ b → cond b (Some j) None ≡ Some k → (Some j ≡ Some k) × (k.counting ≡ true)
+    by : (b : Bool) → j.counting ≡ b → cond b (Some j) None ≡ Some k
+        → (Some j ≡ Some k) × (k.counting ≡ true)
     by true counts h = let e : j ≡ k = cc in (h, ap (λ (r : Reference). r.counting) (sym e) ∙ counts)
     by false counts h = cc
 
@@ -92,7 +97,8 @@ use_keeps w client name l =
     lawful_use w client name slot found seen k l (found_ok _ _ seen at) (live_ok w client found live) counts.0 counts.1))))
 
 occupied_keeps : (w : State) (client slot : ℕ) (found : Client) (seen : Slot) → Lawful w
-    → slice_get w.slots slot ≡ Some seen → slice_get w.clients client ≡ Some found → owns_nothing found.owned ≡ true
+    → slice_get w.slots slot ≡ Some seen → slice_get w.clients client ≡ Some found
+    → owns_nothing found.owned ≡ true
     → KeepsLaw (occupied w client found slot seen)
 occupied_keeps w client slot found (slots.Empty strays) l at_slot at_client free = lawful_occupy w client slot strays found l at_slot at_client free
 occupied_keeps w client slot found (slots.Building other strays) l at_slot at_client free = look_keeps w client slot l
@@ -103,7 +109,8 @@ occupy_keeps w client slot l =
     chain (slot_at w slot) _ (λ seen at. chain (live_at w client) _ (λ found live. chain (allow (owns_nothing found.owned)) _ (λ u free.
     occupied_keeps w client slot found seen l (found_ok _ _ seen at) (live_ok w client found live) (may_ok _ u free))))
 
-show_keeps : (w : State) (client key0 key1 charge countdown : ℕ) (name : Option ℕ) (value : List ℕ) → Lawful w
+show_keeps : (w : State) (client key0 key1 charge countdown : ℕ) (name : Option ℕ) (value : List ℕ)
+    → Lawful w
     → KeepsLaw (show_of w client key0 key1 charge countdown name value)
 unfolding show_of
 show_keeps w client key0 key1 charge countdown name value l =
@@ -118,7 +125,8 @@ hide_keeps w client name l =
     chain (live_at w client) _ (λ found live. chain (holding w client name) _ (λ slot held. chain (slot_at w slot) _ (λ seen at.
     lawful_hide w client slot found seen l (found_ok _ _ seen at) (live_ok w client found live))))
 
-free_keeps : (w : State) (client slot : ℕ) (name : Option ℕ) → Lawful w → KeepsLaw (free_of w client slot name)
+free_keeps : (w : State) (client slot : ℕ) (name : Option ℕ) → Lawful w
+    → KeepsLaw (free_of w client slot name)
 unfolding free_of
 free_keeps w client slot name l =
     chain (slot_at w slot) _ (λ seen at. chain (live_at w client) _ (λ found live. chain (allow (may_free client found seen name)) _ (λ u may.
@@ -222,7 +230,8 @@ standing_keeps : (w : State) (client : ℕ) → Lawful w → KeepsLaw (standing_
 unfolding standing_told
 standing_keeps w client l = told_keeps w client (standing_in w) l
 
-stand_keeps : (w : State) (client charge name : ℕ) → Lawful w → KeepsLaw (stand_of w client charge name)
+stand_keeps : (w : State) (client charge name : ℕ) → Lawful w
+    → KeepsLaw (stand_of w client charge name)
 unfolding stand_of
 stand_keeps w client charge name l =
     chain (live_at w client) _ (λ found live. chain (allow (may_stand found charge name)) _ (λ u may.
@@ -289,7 +298,8 @@ rule_keeps w (events.Pass client slot) l = pass_keeps w client slot l
 rule_keeps w (events.Unpass client slot) l = unpass_keeps w client slot l
 rule_keeps w (events.Turn client) l = turn_keeps w client l
 
-if_keeps : (b : Bool) (outcome : Outcome) → KeepsLaw outcome → KeepsLaw (cond b outcome (Err NotAllowed))
+if_keeps : (b : Bool) (outcome : Outcome) → KeepsLaw outcome
+    → KeepsLaw (cond b outcome (Err NotAllowed))
 if_keeps true outcome h = h
 if_keeps false outcome h = tt
 
@@ -298,12 +308,14 @@ pub outcome_keeps : (w : State) (event : Event) → Lawful w → KeepsLaw (outco
 unfolding outcome_of
 outcome_keeps w event l = if_keeps (in_range event) (rule_of w event) (rule_keeps w event l)
 
-ok_lawful : (outcome : Outcome) (reply : Reply) (new : State) → KeepsLaw outcome → outcome ≡ Ok (reply, new) → Lawful new
+ok_lawful : (outcome : Outcome) (reply : Reply) (new : State) → KeepsLaw outcome
+    → outcome ≡ Ok (reply, new) → Lawful new
 ok_lawful (Ok done) reply new l h = let e : done ≡ (reply, new) = cc in rw (ap (λ (d : Reply × State). d.1) e) at l
 ok_lawful (Err error) reply new l h = cc
 
 -- what follows an outcome is lawful
-pub follows_lawful : (w : State) (event : Event) (result : Result Reply CoreError) (new : State) → IsLawful w
+pub follows_lawful : (w : State) (event : Event) (result : Result Reply CoreError) (new : State)
+    → IsLawful w
     → Follows (outcome_of w event) w result new → IsLawful new
 follows_lawful w event (Ok reply) new l f = lawful_is new (ok_lawful (outcome_of w event) reply new (outcome_keeps w event (is_lawful w l)) f)
 follows_lawful w event (Err NoSuchSlot) new l f = rw f.1 l

@@ -42,8 +42,10 @@ owner_there None client h = cc
 owner_there (Some seen) client h = (seen, refl, h)
 
 -- a slot that a client owns is there, and is Building by that client
-pub owned_there : (w : State) (client slot : ℕ) (found : Client) → Lawful w → slice_get w.clients client ≡ Some found
-    → owned_slot found.owned ≡ Some slot → (seen : Slot) × (slice_get w.slots slot ≡ Some seen) × (owner_of seen ≡ Some client)
+pub owned_there : (w : State) (client slot : ℕ) (found : Client) → Lawful w
+    → slice_get w.clients client ≡ Some found
+    → owned_slot found.owned ≡ Some slot
+    → (seen : Slot) × (slice_get w.slots slot ≡ Some seen) × (owner_of seen ≡ Some client)
 owned_there w client slot found l at_client owns =
     owner_there (slice_get w.slots slot) client (l.owners.owned slot client (ap owned_by at_client ∙ owns))
 
@@ -58,7 +60,8 @@ owned_bare (slots.Shareable r) client h = cc
 empty_bounded : (setup : Setup) (strays : ℕ) → IsBounded setup (slots.Empty strays)
 empty_bounded setup strays = record { references = omega arith; uses = omega arith }
 
-building_bounded : (setup : Setup) (client strays : ℕ) → IsBounded setup (slots.Building client strays)
+building_bounded : (setup : Setup) (client strays : ℕ)
+    → IsBounded setup (slots.Building client strays)
 building_bounded setup client strays = record { references = omega arith; uses = omega arith }
 
 pub lawful_occupy : (w : State) (client slot strays : ℕ) (found : Client) → Lawful w
@@ -121,7 +124,8 @@ shown_bounded setup client found key0 key1 charge countdown None value some few 
 shown_bounded setup client found key0 key1 charge countdown (Some name) value some few =
     record { references = omega arith; uses = omega arith }
 
-some_client : (w : State) (client : ℕ) (found : Client) → Lawful w → slice_get w.clients client ≡ Some found → 1 ≤ w.setup.clients
+some_client : (w : State) (client : ℕ) (found : Client) → Lawful w
+    → slice_get w.clients client ≡ Some found → 1 ≤ w.setup.clients
 some_client w client found l at_client =
     let within = slice_get_within w.clients client found at_client in
     let count = l.sized.client_count in
@@ -185,8 +189,10 @@ one_place (slots.Building other strays) h = absurd (false≢true h)
 one_place (slots.Shareable r) h = refl
 
 -- an entry that goes leaves no stamp
-stamp_gone : (all : List Slot) (slot client : ℕ) (seen : Slot) (s : ℕ) (m : Stamp) → slice_get all slot ≡ Some seen
-    → stamp_in (slice_get (slice_set all slot (slots.Building client 0)) s) ≡ Some m → stamp_in (slice_get all s) ≡ Some m
+stamp_gone : (all : List Slot) (slot client : ℕ) (seen : Slot) (s : ℕ) (m : Stamp)
+    → slice_get all slot ≡ Some seen
+    → stamp_in (slice_get (slice_set all slot (slots.Building client 0)) s) ≡ Some m
+    → stamp_in (slice_get all s) ≡ Some m
 stamp_gone all slot client seen s m at_slot h = elim (cases_eq s slot) [
   | inl same ↦
       let here = ap stamp_in (read_here all slot seen (slots.Building client 0) at_slot) in
@@ -195,7 +201,8 @@ stamp_gone all slot client seen s m at_slot h = elim (cases_eq s slot) [
   | inr other ↦ sym (ap stamp_in (read_other all slot s (slots.Building client 0) other)) ∙ h
 ]
 
-pub lawful_free : (w : State) (client slot : ℕ) (name : Option ℕ) (found : Client) (seen : Slot) → Lawful w
+pub lawful_free : (w : State) (client slot : ℕ) (name : Option ℕ) (found : Client) (seen : Slot)
+    → Lawful w
     → slice_get w.slots slot ≡ Some seen → slice_get w.clients client ≡ Some found
     → may_free client found seen name ≡ true
     → Lawful (with_both w slot (slots.Building client 0) client (client_freeing client slot seen found))
@@ -226,7 +233,8 @@ lawful_free w client slot name found seen l at_slot at_client may =
           ledgers_both w slot client seen left found new l.ledgers at_slot at_client (omega arith) (omega arith) (omega arith);
     }
 
-pub lawful_empty : (w : State) (client slot : ℕ) (found : Client) → Lawful w → slice_get w.clients client ≡ Some found
+pub lawful_empty : (w : State) (client slot : ℕ) (found : Client) → Lawful w
+    → slice_get w.clients client ≡ Some found
     → freed_by found.owned ≡ Some slot
     → Lawful (with_both w slot (slots.Empty 0) client (record found { owned = owned.Nothing }))
 lawful_empty w client slot found l at_client frees =

@@ -17,7 +17,8 @@ use Rattle.hcc_core.proofs.DroppedLemmas.{dropped-total}
 use Rattle.hcc_core.proofs.LawfulParts.{ledgers_client}
 use Rattle.hcc_core.proofs.LawfulQuiet.{in_ledgers}
 
-absent_place : (place : Place) → is_absent place ≡ true → (when (is_placed place) 1 ≡ 0) × (when (is_granted place) 1 ≡ 0)
+absent_place : (place : Place) → is_absent place ≡ true
+    → (when (is_placed place) 1 ≡ 0) × (when (is_granted place) 1 ≡ 0)
 absent_place places.Absent h = (refl, refl)
 absent_place places.Open h = absurd (false≢true h)
 absent_place places.Granted h = absurd (false≢true h)
@@ -33,14 +34,16 @@ taken-le-occupied w =
     let each = total-le taken_by occupied_by w.clients (λ i c h. let one = granted_is_placed c.place in taken_here c one) in
     omega arith
   where
-    taken_here : (c : Client) → when (is_granted c.place) 1 ≤ when (is_placed c.place) 1 → taken_by c ≤ occupied_by c
+    taken_here : (c : Client) → when (is_granted c.place) 1 ≤ when (is_placed c.place) 1
+        → taken_by c ≤ occupied_by c
     taken_here c one = omega arith
 
 -- the place that an enter gets
 place_of : Bool → Place
 place_of room = cond room places.Granted places.Open
 
-enter_ledgers : (w : State) (client : ℕ) (found : Client) (room : Bool) → Ledgers w → slice_get w.clients client ≡ Some found
+enter_ledgers : (w : State) (client : ℕ) (found : Client) (room : Bool) → Ledgers w
+    → slice_get w.clients client ≡ Some found
     → is_absent found.place ≡ true → nat_lt (occupancy_of w) (limit_of w.setup) ≡ room
     → Ledgers (with_client w client (record found { place = cond room places.Granted places.Open }))
 enter_ledgers w client found true l at_client absent e =
@@ -57,7 +60,8 @@ enter_ledgers w client found true l at_client absent e =
 enter_ledgers w client found false l at_client absent e =
     ledgers_client w client found (record found { place = places.Open }) l at_client (omega arith) (omega arith) (omega arith)
 
-pub lawful_enter : (w : State) (client : ℕ) (found : Client) → Lawful w → slice_get w.clients client ≡ Some found
+pub lawful_enter : (w : State) (client : ℕ) (found : Client) → Lawful w
+    → slice_get w.clients client ≡ Some found
     → is_absent found.place ≡ true
     → Lawful (with_client w client (record found { place = cond (nat_lt (occupancy_of w) (limit_of w.setup)) places.Granted places.Open }))
 lawful_enter w client found l at_client absent =
@@ -71,7 +75,8 @@ granted_by_slots places.Absent freed some = omega arith
 granted_by_slots places.Open freed some = let one : 0 < freed = ltb-true 0 freed some in omega arith
 granted_by_slots places.Granted freed some = omega arith
 
-pub lawful_slots : (w : State) (client : ℕ) (found : Client) → Lawful w → slice_get w.clients client ≡ Some found
+pub lawful_slots : (w : State) (client : ℕ) (found : Client) → Lawful w
+    → slice_get w.clients client ≡ Some found
     → nat_lt 0 found.freed_slots ≡ true
     → Lawful (with_client w client (record found { freed_slots = 0; place = place_granted found.place }))
 lawful_slots w client found l at_client some =
@@ -83,7 +88,8 @@ lawful_slots w client found l at_client some =
 pub grant-le : (setup : Setup) (usage charge : ℕ) → grant_of setup usage charge ≤ charge
 grant-le setup usage charge = by setup.strict
   where
-    by : (strict : Bool) → cond strict (min charge (setup.capacity - min usage setup.capacity)) charge ≤ charge
+    by : (strict : Bool)
+        → cond strict (min charge (setup.capacity - min usage setup.capacity)) charge ≤ charge
     by true = omega arith
     by false = omega arith
 
@@ -116,7 +122,8 @@ may_charge_parts w found charge h =
       room = leb-true (usage_of w + charge) MOST_USAGE a.1;
     }
 
-pub lawful_charge : (w : State) (client charge : ℕ) (found : Client) → Lawful w → slice_get w.clients client ≡ Some found
+pub lawful_charge : (w : State) (client charge : ℕ) (found : Client) → Lawful w
+    → slice_get w.clients client ≡ Some found
     → may_charge found (usage_of w) charge ≡ true
     → Lawful (with_client w client (record found {
       granted = grant_of w.setup (usage_of w) charge;
@@ -147,7 +154,8 @@ lawful_charge w client charge found l at_client may =
           omega arith;
     })
 
-pub lawful_settle : (w : State) (client : ℕ) (found : Client) → Lawful w → slice_get w.clients client ≡ Some found
+pub lawful_settle : (w : State) (client : ℕ) (found : Client) → Lawful w
+    → slice_get w.clients client ≡ Some found
     → may_settle found ≡ true
     → Lawful (with_client w client (record found { granted = found.granted + found.needed; needed = 0; freed = 0 }))
 lawful_settle w client found l at_client may =
@@ -156,14 +164,16 @@ lawful_settle w client found l at_client may =
     in_ledgers w client found new l at_client refl refl refl refl refl
     (ledgers_client w client found new l.ledgers at_client (omega arith) (omega arith) (omega arith))
 
-pub lawful_waive : (w : State) (client : ℕ) (found : Client) → Lawful w → slice_get w.clients client ≡ Some found
+pub lawful_waive : (w : State) (client : ℕ) (found : Client) → Lawful w
+    → slice_get w.clients client ≡ Some found
     → Lawful (with_client w client (record found { granted = 0; needed = 0; freed = 0 }))
 lawful_waive w client found l at_client =
     let new : Client = record found { granted = 0; needed = 0; freed = 0 } in
     in_ledgers w client found new l at_client refl refl refl refl refl
     (ledgers_client w client found new l.ledgers at_client (omega arith) (omega arith) (omega arith))
 
-pub lawful_quit : (w : State) (client : ℕ) (found : Client) → Lawful w → slice_get w.clients client ≡ Some found
+pub lawful_quit : (w : State) (client : ℕ) (found : Client) → Lawful w
+    → slice_get w.clients client ≡ Some found
     → Lawful (with_client w client (record found { place = places.Absent; freed_slots = 0 }))
 lawful_quit w client found l at_client =
     let new : Client = record found { place = places.Absent; freed_slots = 0 } in
@@ -171,13 +181,15 @@ lawful_quit w client found l at_client =
     (ledgers_client w client found new l.ledgers at_client (omega arith) (omega arith) (omega arith))
 
 -- what the test of a stand says of the charge
-pub may_stand_charge : (found : Client) (charge name : ℕ) → may_stand found charge name ≡ true → charge ≤ found.granted
+pub may_stand_charge : (found : Client) (charge name : ℕ) → may_stand found charge name ≡ true
+    → charge ≤ found.granted
 may_stand_charge found charge name h =
     let a = and_parts _ (not (list_any (is_standing name) found.standalones)) h in
     let b = and_parts (is_absent found.place) (nat_le charge found.granted) a.0 in
     leb-true charge found.granted b.1
 
-pub lawful_stand : (w : State) (client charge name : ℕ) (found : Client) → Lawful w → slice_get w.clients client ≡ Some found
+pub lawful_stand : (w : State) (client charge name : ℕ) (found : Client) → Lawful w
+    → slice_get w.clients client ≡ Some found
     → may_stand found charge name ≡ true
     → Lawful (with_client w client (record found {
       granted = found.granted - charge;
@@ -191,7 +203,8 @@ lawful_stand w client charge name found l at_client may =
     in_ledgers w client found new l at_client refl refl refl refl refl
     (ledgers_client w client found new l.ledgers at_client (omega arith) (omega arith) (omega arith))
 
-pub lawful_fall : (w : State) (client name : ℕ) (found : Client) (gone : Standalone) → Lawful w → slice_get w.clients client ≡ Some found
+pub lawful_fall : (w : State) (client name : ℕ) (found : Client) (gone : Standalone) → Lawful w
+    → slice_get w.clients client ≡ Some found
     → find (is_standing name) found.standalones ≡ Some gone
     → Lawful (with_client w client (record found {
       freed = found.freed + gone.charge;

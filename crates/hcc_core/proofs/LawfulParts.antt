@@ -136,8 +136,10 @@ module _ (all : List Slot) (clients : List Client) (slot client : ℕ) (seen lef
   owned_was : owned_by (slice_get clients client) ≡ owned_slot old.owned
   owned_was = ap owned_by at_client
 
-  pub owners_taken : owner_of seen ≡ None → owner_of left ≡ Some client → owned_slot old.owned ≡ None
-      → owned_slot new.owned ≡ Some slot → Owners (slice_set all slot left) (slice_set clients client new)
+  pub owners_taken : owner_of seen ≡ None → owner_of left ≡ Some client
+      → owned_slot old.owned ≡ None
+      → owned_slot new.owned ≡ Some slot
+      → Owners (slice_set all slot left) (slice_set clients client new)
   unfolding owner_now owned_now
   owners_taken no_owner owner no_slot owned = record {
     owns = λ s c h. elim (cases_eq s slot) [
@@ -170,8 +172,10 @@ module _ (all : List Slot) (clients : List Client) (slot client : ℕ) (seen lef
     ];
   }
 
-  pub owners_left : owner_of seen ≡ Some client → owner_of left ≡ None → owned_slot old.owned ≡ Some slot
-      → owned_slot new.owned ≡ None → Owners (slice_set all slot left) (slice_set clients client new)
+  pub owners_left : owner_of seen ≡ Some client → owner_of left ≡ None
+      → owned_slot old.owned ≡ Some slot
+      → owned_slot new.owned ≡ None
+      → Owners (slice_set all slot left) (slice_set clients client new)
   unfolding owner_now owned_now
   owners_left owner no_owner owned no_slot = record {
     owns = λ s c h. elim (cases_eq s slot) [
@@ -215,7 +219,8 @@ stamped_fewer all all' clients clients' o fewer counts = record {
 -- one entry comes, with the next stamp of its maker
 pub stamped_shown : (all : List Slot) (clients : List Client) (slot client : ℕ) (seen left : Slot) (old new : Client)
     → Stamped all clients → slice_get all slot ≡ Some seen → slice_get clients client ≡ Some old
-    → stamp_of left ≡ Some (record { client = client; number = old.stamps }) → new.stamps ≡ old.stamps + 1
+    → stamp_of left ≡ Some (record { client = client; number = old.stamps })
+    → new.stamps ≡ old.stamps + 1
     → Stamped (slice_set all slot left) (slice_set clients client new)
 stamped_shown all clients slot client seen left old new o at_slot at_client stamp stamps = record {
   made = λ s m h. elim (cases_eq s slot) [
@@ -253,18 +258,21 @@ stamped_shown all clients slot client seen left old new o at_slot at_client stam
     count_was : stamps_by (slice_get clients client) ≡ old.stamps
     count_was = ap stamps_by at_client
 
-    is_fresh : (s : ℕ) (m : Stamp) → s ≡ slot → stamp_in (slice_get (slice_set all slot left) s) ≡ Some m
+    is_fresh : (s : ℕ) (m : Stamp) → s ≡ slot
+        → stamp_in (slice_get (slice_set all slot left) s) ≡ Some m
         → m ≡ record { client = client; number = old.stamps }
     is_fresh s m e h =
         let here = ap stamp_in (read_here all slot seen left at_slot) ∙ stamp in
         let there = ap (λ k. stamp_in (slice_get (slice_set all slot left) k)) (sym e) ∙ h in
         cc
 
-    was : (s : ℕ) (m : Stamp) → (s ≡ slot → ⊥) → stamp_in (slice_get (slice_set all slot left) s) ≡ Some m
+    was : (s : ℕ) (m : Stamp) → (s ≡ slot → ⊥)
+        → stamp_in (slice_get (slice_set all slot left) s) ≡ Some m
         → stamp_in (slice_get all s) ≡ Some m
     was s m n h = sym (ap stamp_in (read_other all slot s left n)) ∙ h
 
-    unmade : (s : ℕ) → stamp_in (slice_get all s) ≡ Some (record { client = client; number = old.stamps }) → ⊥
+    unmade : (s : ℕ)
+        → stamp_in (slice_get all s) ≡ Some (record { client = client; number = old.stamps }) → ⊥
     unmade s h =
         let below = o.made s (record { client = client; number = old.stamps }) h in
         let before = count_was in
@@ -273,7 +281,8 @@ stamped_shown all clients slot client seen left old new o at_slot at_client stam
 -- The trails.
 
 pub trailed_slot : (n : ℕ) (all : List Slot) (clients : List Client) (slot : ℕ) (left : Slot)
-    → Trailed n all clients → length (trail_of left) ≤ n → Trailed n (slice_set all slot left) clients
+    → Trailed n all clients → length (trail_of left) ≤ n
+    → Trailed n (slice_set all slot left) clients
 trailed_slot n all clients slot left t short = record {
   entries = λ s x h. elim (get_at_set all slot s left x h) [ inl e ↦ rw e.1 short | inr e ↦ t.entries s x e ];
   hands = t.hands;
@@ -289,7 +298,8 @@ trailed_client n all clients client new t short = record {
 -- The ledgers.
 
 -- one client has no more charge and no more places than it had
-pub ledgers_client : (w : State) (client : ℕ) (old new : Client) → Ledgers w → slice_get w.clients client ≡ Some old
+pub ledgers_client : (w : State) (client : ℕ) (old new : Client) → Ledgers w
+    → slice_get w.clients client ≡ Some old
     → charged_to new ≤ charged_to old → real_to new ≤ real_to old → taken_by new ≤ taken_by old
     → Ledgers (with_client w client new)
 ledgers_client w client old new l at_client charged real taken = record {

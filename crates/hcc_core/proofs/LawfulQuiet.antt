@@ -30,9 +30,11 @@ pub record QuietClient (old new : Client) : Type 0 where
   pub taken : taken_by new ≡ taken_by old
 
 -- a slot that comes to show nothing new
-pub shown_fewer : (all : List Slot) (slot s : ℕ) (seen left : Slot) (m : Stamp) → slice_get all slot ≡ Some seen
+pub shown_fewer : (all : List Slot) (slot s : ℕ) (seen left : Slot) (m : Stamp)
+    → slice_get all slot ≡ Some seen
     → ((m : Stamp) → shown_stamp left ≡ Some m → shown_stamp seen ≡ Some m)
-    → shown_in (slice_get (slice_set all slot left) s) ≡ Some m → shown_in (slice_get all s) ≡ Some m
+    → shown_in (slice_get (slice_set all slot left) s) ≡ Some m
+    → shown_in (slice_get all s) ≡ Some m
 shown_fewer all slot s seen left m at_slot fewer h = elim (cases_eq s slot) [
   | inl same ↦
       let here = ap shown_in (read_here all slot seen left at_slot) in
@@ -80,9 +82,12 @@ quiet w slot client seen left old new l at_slot at_client calm hand bound first 
 }
 
 -- one client changes in its looks, its amounts, its place or its trail, within the ledgers
-pub one_client : (w : State) (client : ℕ) (old new : Client) → Lawful w → slice_get w.clients client ≡ Some old
-    → ((s : ℕ) → looking new s ≤ looking old s) → new.owned ≡ old.owned → new.stamps ≡ old.stamps → new.dead ≡ old.dead
-    → length new.trail ≤ w.setup.slots → Ledgers (with_client w client new) → Lawful (with_client w client new)
+pub one_client : (w : State) (client : ℕ) (old new : Client) → Lawful w
+    → slice_get w.clients client ≡ Some old
+    → ((s : ℕ) → looking new s ≤ looking old s) → new.owned ≡ old.owned → new.stamps ≡ old.stamps
+    → new.dead ≡ old.dead
+    → length new.trail ≤ w.setup.slots → Ledgers (with_client w client new)
+    → Lawful (with_client w client new)
 one_client w client old new l at_client looks owned stamps dead trail ledgers = record {
   sized = sized_kept w _ _ l.sized refl (length-set w.clients client new);
   bounded = l.bounded;
@@ -99,8 +104,10 @@ one_client w client old new l at_client looks owned stamps dead trail ledgers = 
 }
 
 -- one client changes in its amounts or its place alone
-pub in_ledgers : (w : State) (client : ℕ) (old new : Client) → Lawful w → slice_get w.clients client ≡ Some old
-    → new.looked ≡ old.looked → new.owned ≡ old.owned → new.stamps ≡ old.stamps → new.dead ≡ old.dead → new.trail ≡ old.trail
+pub in_ledgers : (w : State) (client : ℕ) (old new : Client) → Lawful w
+    → slice_get w.clients client ≡ Some old
+    → new.looked ≡ old.looked → new.owned ≡ old.owned → new.stamps ≡ old.stamps
+    → new.dead ≡ old.dead → new.trail ≡ old.trail
     → Ledgers (with_client w client new) → Lawful (with_client w client new)
 in_ledgers w client old new l at_client looked owned stamps dead trail ledgers =
     one_client w client old new l at_client (λ s. rw looked (omega arith)) owned stamps dead

@@ -20,7 +20,8 @@ use Rattle.hcc_core.proofs.LawfulParts.{looking, ledgers_client}
 use Rattle.hcc_core.proofs.DeadParts.{in_joined, dead_is_stamp}
 use Rattle.hcc_core.proofs.LawfulQuiet.{QuietSlot, quiet, in_ledgers}
 
-pub lawful_start : (w : State) (client : ℕ) (found : Client) → Lawful w → slice_get w.clients client ≡ Some found
+pub lawful_start : (w : State) (client : ℕ) (found : Client) → Lawful w
+    → slice_get w.clients client ≡ Some found
     → Lawful (with_client w client (record found { live = true }))
 lawful_start w client found l at_client =
     let new : Client = record found { live = true } in
@@ -28,7 +29,8 @@ lawful_start w client found l at_client =
     (ledgers_client w client found new l.ledgers at_client (omega arith) (omega arith) (omega arith))
 
 -- what joins a client's dead list is the stamp of a slot that shows nothing
-pub dies_here : (client : ℕ) (dead : List Stamp) (slot : Slot) (m : Stamp) → is_in m (noticed client slot dead) ≡ true
+pub dies_here : (client : ℕ) (dead : List Stamp) (slot : Slot) (m : Stamp)
+    → is_in m (noticed client slot dead) ≡ true
     → (is_in m dead ≡ true) ⊎ ((stamp_of slot ≡ Some m) × (shown_stamp slot ≡ None))
 dies_here client dead slot m h = elim (in_joined m dead (dead_to client slot) h) [
   | inl e ↦ inl e
@@ -37,7 +39,8 @@ dies_here client dead slot m h = elim (in_joined m dead (dead_to client slot) h)
 
 -- a slot that shows nothing new shows nothing where it showed nothing
 pub still_hidden : (seen left : Slot) → shown_stamp seen ≡ None
-    → ((m : Stamp) → shown_stamp left ≡ Some m → shown_stamp seen ≡ Some m) → shown_stamp left ≡ None
+    → ((m : Stamp) → shown_stamp left ≡ Some m → shown_stamp seen ≡ Some m)
+    → shown_stamp left ≡ None
 still_hidden seen left none fewer = by (shown_stamp left) refl
   where
     by : (o : Option Stamp) → shown_stamp left ≡ o → o ≡ None
@@ -90,7 +93,8 @@ pub record MayAcquire (setup : Setup) (client slot : ℕ) (found : Client) (seen
   pub room : weight_of seen + weight ≤ most_weight setup
 
 pub may_acquire_parts : (setup : Setup) (all : List Slot) (client : ℕ) (found : Client) (slot : ℕ) (seen : Slot) (weight name : ℕ)
-    → may_acquire setup all client found slot seen weight name ≡ true → MayAcquire setup client slot found seen weight
+    → may_acquire setup all client found slot seen weight name ≡ true
+    → MayAcquire setup client slot found seen weight
 unfolding may_acquire
 may_acquire_parts setup all client found slot seen weight name h =
     let a = and_parts _ (nat_le (weight_of seen + weight) (most_weight setup)) h in
@@ -104,7 +108,8 @@ may_acquire_parts setup all client found slot seen weight name h =
     }
 
 -- an acquire goes astray only where its client looked
-acquired_strays : (client slot : ℕ) (found : Client) (seen : Slot) (k : Reference) → k.weight ≤ MOST_WEIGHT
+acquired_strays : (client slot : ℕ) (found : Client) (seen : Slot) (k : Reference)
+    → k.weight ≤ MOST_WEIGHT
     → (looks_at found slot || has_client client seen) ≡ true
     → (strays_of (slot_acquired seen k) + 3 * 0 ≤ strays_of seen + 3 * looking found slot) ⊎ (strays_of (slot_acquired seen k) ≡ 0)
 acquired_strays client slot found (slots.Empty strays) k few near = inl (elim (or_cases (looks_at found slot) false near) [
@@ -118,11 +123,13 @@ acquired_strays client slot found (slots.Building other strays) k few near = inl
 acquired_strays client slot found (slots.Shareable r) k few near = inr refl
 
 -- the most that a world's references weigh is within the product's bound
-most_weight_few : (setup : Setup) → setup.clients ≤ MOST_CLIENTS → most_weight setup ≤ MOST_REFERENCES
+most_weight_few : (setup : Setup) → setup.clients ≤ MOST_CLIENTS
+    → most_weight setup ≤ MOST_REFERENCES
 most_weight_few setup few = omega arith
 
 -- a reference that counts was made while the uses were few
-acquired_bounded : (setup : Setup) (client name weight : ℕ) (seen : Slot) → setup.clients ≤ MOST_CLIENTS
+acquired_bounded : (setup : Setup) (client name weight : ℕ) (seen : Slot)
+    → setup.clients ≤ MOST_CLIENTS
     → IsBounded setup seen → weight_of seen + weight ≤ most_weight setup
     → IsBounded setup (slot_acquired seen (new_reference client name weight seen))
 acquired_bounded setup client name weight (slots.Empty strays) few b room = record { references = omega arith; uses = omega arith }
@@ -146,7 +153,8 @@ acquired_bounded setup client name weight (slots.Shareable r) few b room = by (n
         let before = b.uses in
         record { references = omega arith; uses = omega arith }
 
-pub lawful_acquire : (w : State) (client slot weight name : ℕ) (found : Client) (seen : Slot) → Lawful w
+pub lawful_acquire : (w : State) (client slot weight name : ℕ) (found : Client) (seen : Slot)
+    → Lawful w
     → slice_get w.slots slot ≡ Some seen → slice_get w.clients client ≡ Some found
     → may_acquire w.setup w.slots client found slot seen weight name ≡ true
     → Lawful (with_both w slot (slot_acquired seen (new_reference client name weight seen)) client
@@ -170,12 +178,14 @@ calm_given client name (slots.Empty strays) = record { owner = refl; stamp = ref
 calm_given client name (slots.Building other strays) = record { owner = refl; stamp = refl; trail = refl; charge = refl; taken = refl; shown = λ m h. h }
 calm_given client name (slots.Shareable r) = record { owner = refl; stamp = refl; trail = refl; charge = refl; taken = refl; shown = λ m h. h }
 
-given_strays : (client name : ℕ) (seen : Slot) → strays_of (slot_given client name seen) ≡ strays_of seen
+given_strays : (client name : ℕ) (seen : Slot)
+    → strays_of (slot_given client name seen) ≡ strays_of seen
 given_strays client name (slots.Empty strays) = refl
 given_strays client name (slots.Building other strays) = refl
 given_strays client name (slots.Shareable r) = refl
 
-pub given_bounded : (setup : Setup) (client name : ℕ) (seen : Slot) → IsBounded setup seen → IsBounded setup (slot_given client name seen)
+pub given_bounded : (setup : Setup) (client name : ℕ) (seen : Slot) → IsBounded setup seen
+    → IsBounded setup (slot_given client name seen)
 given_bounded setup client name (slots.Empty strays) b = b
 given_bounded setup client name (slots.Building other strays) b = b
 given_bounded setup client name (slots.Shareable r) b =
@@ -198,12 +208,14 @@ lawful_give w client name slot found seen l at_slot at_client =
       | inr e ↦ inr (e.0, still_hidden seen (slot_given client name seen) e.1 (calm_given client name seen).shown)
     ])
 
-calm_used : (client name : ℕ) (k : Reference) (seen : Slot) → QuietSlot seen (slot_used client name k seen)
+calm_used : (client name : ℕ) (k : Reference) (seen : Slot)
+    → QuietSlot seen (slot_used client name k seen)
 calm_used client name k (slots.Empty strays) = record { owner = refl; stamp = refl; trail = refl; charge = refl; taken = refl; shown = λ m h. h }
 calm_used client name k (slots.Building other strays) = record { owner = refl; stamp = refl; trail = refl; charge = refl; taken = refl; shown = λ m h. h }
 calm_used client name k (slots.Shareable r) = record { owner = refl; stamp = refl; trail = refl; charge = refl; taken = refl; shown = λ m h. h }
 
-used_strays : (client name : ℕ) (k : Reference) (seen : Slot) → strays_of (slot_used client name k seen) ≡ strays_of seen
+used_strays : (client name : ℕ) (k : Reference) (seen : Slot)
+    → strays_of (slot_used client name k seen) ≡ strays_of seen
 used_strays client name k (slots.Empty strays) = refl
 used_strays client name k (slots.Building other strays) = refl
 used_strays client name k (slots.Shareable r) = refl
@@ -222,7 +234,8 @@ used_bounded setup client name k (slots.Shareable r) there counts b =
     let uses = b.uses in
     record { references = omega arith; uses = omega arith }
 
-pub lawful_use : (w : State) (client name slot : ℕ) (found : Client) (seen : Slot) (k : Reference) → Lawful w
+pub lawful_use : (w : State) (client name slot : ℕ) (found : Client) (seen : Slot) (k : Reference)
+    → Lawful w
     → slice_get w.slots slot ≡ Some seen → slice_get w.clients client ≡ Some found
     → reference_in client name (references_of seen) ≡ Some k → k.counting ≡ true
     → Lawful (with_both w slot (slot_used client name k seen) client (client_noticed client seen found))
@@ -248,7 +261,8 @@ hidden_strays (slots.Empty strays) = refl
 hidden_strays (slots.Building other strays) = refl
 hidden_strays (slots.Shareable r) = refl
 
-hidden_bounded : (setup : Setup) (seen : Slot) → IsBounded setup seen → IsBounded setup (slot_hidden seen)
+hidden_bounded : (setup : Setup) (seen : Slot) → IsBounded setup seen
+    → IsBounded setup (slot_hidden seen)
 hidden_bounded setup (slots.Empty strays) b = b
 hidden_bounded setup (slots.Building other strays) b = b
 hidden_bounded setup (slots.Shareable r) b = record { references = b.references; uses = b.uses }

@@ -31,7 +31,8 @@ uses_strays uses (slots.Building other strays) = refl
 uses_strays uses (slots.Shareable r) = refl
 
 -- fewer uses are within the bounds of more
-fewer_bounded : (setup : Setup) (uses : ℕ) (seen : Slot) → uses ≤ uses_of seen → IsBounded setup seen → IsBounded setup (slot_with_uses uses seen)
+fewer_bounded : (setup : Setup) (uses : ℕ) (seen : Slot) → uses ≤ uses_of seen
+    → IsBounded setup seen → IsBounded setup (slot_with_uses uses seen)
 fewer_bounded setup uses (slots.Empty strays) few b = b
 fewer_bounded setup uses (slots.Building other strays) few b = b
 fewer_bounded setup uses (slots.Shareable r) few b = let before = b.uses in record { references = b.references; uses = omega arith }
@@ -40,7 +41,8 @@ same_hand : (found : Client) → QuietClient found found
 same_hand found = record { owned = refl; stamps = refl; trail = refl; charged = refl; real = refl; taken = refl }
 
 pub lawful_clock : (w : State) (client slot uses : ℕ) (found : Client) (seen : Slot) → Lawful w
-    → slice_get w.slots slot ≡ Some seen → slice_get w.clients client ≡ Some found → uses ≤ uses_of seen
+    → slice_get w.slots slot ≡ Some seen → slice_get w.clients client ≡ Some found
+    → uses ≤ uses_of seen
     → Lawful (with_slot w slot (slot_with_uses uses seen))
 lawful_clock w client slot uses found seen l at_slot at_client few = rw (set_same w.clients client found at_client) at both
   where
@@ -51,7 +53,8 @@ lawful_clock w client slot uses found seen l at_slot at_client few = rw (set_sam
         (inl (let same = uses_strays uses seen in omega arith)) (λ s n. omega arith) (λ m h. inl h)
 
 pub lawful_correct : (w : State) (client slot uses : ℕ) (found : Client) (seen : Slot) → Lawful w
-    → slice_get w.slots slot ≡ Some seen → slice_get w.clients client ≡ Some found → uses ≤ uses_of seen
+    → slice_get w.slots slot ≡ Some seen → slice_get w.clients client ≡ Some found
+    → uses ≤ uses_of seen
     → Lawful (with_both w slot (slot_with_uses uses seen) client (client_noticed client seen found))
 lawful_correct w client slot uses found seen l at_slot at_client few =
     quiet w slot client seen (slot_with_uses uses seen) found (client_noticed client seen found) l at_slot at_client
@@ -73,7 +76,8 @@ marked_strays (slots.Empty strays) = refl
 marked_strays (slots.Building other strays) = refl
 marked_strays (slots.Shareable r) = refl
 
-marked_bounded : (setup : Setup) (seen : Slot) → IsBounded setup seen → IsBounded setup (slot_marked seen)
+marked_bounded : (setup : Setup) (seen : Slot) → IsBounded setup seen
+    → IsBounded setup (slot_marked seen)
 marked_bounded setup (slots.Empty strays) b = b
 marked_bounded setup (slots.Building other strays) b = b
 marked_bounded setup (slots.Shareable r) b = record { references = b.references; uses = b.uses }
@@ -91,14 +95,16 @@ lawful_mark w client slot found seen l at_slot at_client =
       | inr e ↦ inr (e.0, still_hidden seen (slot_marked seen) e.1 (calm_marked seen).shown)
     ])
 
-pub lawful_end : (w : State) (client : ℕ) (found : Client) → Lawful w → slice_get w.clients client ≡ Some found
+pub lawful_end : (w : State) (client : ℕ) (found : Client) → Lawful w
+    → slice_get w.clients client ≡ Some found
     → Lawful (with_client w client (record found { live = false; looked = None }))
 lawful_end w client found l at_client =
     let new : Client = record found { live = false; looked = None } in
     one_client w client found new l at_client (λ s. omega arith) refl refl refl (l.trailed.hands client found at_client)
     (ledgers_client w client found new l.ledgers at_client (omega arith) (omega arith) (omega arith))
 
-pub lawful_pass : (w : State) (client slot : ℕ) (found : Client) → Lawful w → slice_get w.clients client ≡ Some found
+pub lawful_pass : (w : State) (client slot : ℕ) (found : Client) → Lawful w
+    → slice_get w.clients client ≡ Some found
     → nat_lt (length found.trail) w.setup.slots ≡ true
     → Lawful (with_client w client (record found { trail = found.trail ++ slot ∷ [] }))
 lawful_pass w client slot found l at_client room =
@@ -108,7 +114,8 @@ lawful_pass w client slot found l at_client room =
     one_client w client found new l at_client (λ s. omega arith) refl refl refl (omega arith)
     (ledgers_client w client found new l.ledgers at_client (omega arith) (omega arith) (omega arith))
 
-pub lawful_unpass : (w : State) (client slot : ℕ) (found : Client) → Lawful w → slice_get w.clients client ≡ Some found
+pub lawful_unpass : (w : State) (client slot : ℕ) (found : Client) → Lawful w
+    → slice_get w.clients client ≡ Some found
     → Lawful (with_client w client (record found { trail = dropped (is_place slot) found.trail }))
 lawful_unpass w client slot found l at_client =
     let new : Client = record found { trail = dropped (is_place slot) found.trail } in

@@ -3,7 +3,8 @@ use Rattle.std.proofs.Common.{◌≡◌, ◌⊎◌, inl, inr, ℕ, zero, suc, Li
 use Rattle.std.proofs.lemmas.Option.{get_or_from_slice_get}
 
 -- the member that was written, or one that was there
-pub get_at_set : {X : Type 0} (xs : List X) (i j : ℕ) (y x : X) → slice_get (slice_set xs i y) j ≡ Some x
+pub get_at_set : {X : Type 0} (xs : List X) (i j : ℕ) (y x : X)
+    → slice_get (slice_set xs i y) j ≡ Some x
     → ((j ≡ i) × (x ≡ y)) ⊎ (slice_get xs j ≡ Some x)
 get_at_set [] i j y x h = inr h
 get_at_set (z ∷ zs) zero zero y x h = inl (refl, cc)
@@ -15,12 +16,14 @@ get_at_set (z ∷ zs) (suc i) (suc j) y x h = elim (get_at_set zs i j y x h) [
 ]
 
 -- what an index read is what the list has there
-pub read_is : {X : Type 0} (xs : List X) (i : ℕ) (x y : X) → slice_get xs i ≡ Some y → x ≡ get_or xs i x → x ≡ y
+pub read_is : {X : Type 0} (xs : List X) (i : ℕ) (x y : X) → slice_get xs i ≡ Some y
+    → x ≡ get_or xs i x → x ≡ y
 read_is xs i x y h e = e ∙ get_or_from_slice_get xs i y x h
 
 -- a reading that the change leaves alone is the same everywhere
 pub read_same : {X A : Type 0} (f : Option X → A) (xs : List X) (i j : ℕ) (old new : X)
-    → slice_get xs i ≡ Some old → f (Some new) ≡ f (Some old) → f (slice_get (slice_set xs i new) j) ≡ f (slice_get xs j)
+    → slice_get xs i ≡ Some old → f (Some new) ≡ f (Some old)
+    → f (slice_get (slice_set xs i new) j) ≡ f (slice_get xs j)
 read_same f [] i j old new h e = refl
 read_same f (x ∷ xs) zero zero old new h e = e ∙ ap f (sym h)
 read_same f (x ∷ xs) zero (suc j) old new h e = refl
@@ -42,7 +45,8 @@ read_other (x ∷ xs) (suc i) zero new h = refl
 read_other (x ∷ xs) (suc i) (suc j) new h = read_other xs i j new (λ e. h (ap suc e))
 
 -- a member written over itself
-pub set_same : {X : Type 0} (xs : List X) (i : ℕ) (x : X) → slice_get xs i ≡ Some x → slice_set xs i x ≡ xs
+pub set_same : {X : Type 0} (xs : List X) (i : ℕ) (x : X) → slice_get xs i ≡ Some x
+    → slice_set xs i x ≡ xs
 set_same [] i x h = refl
 set_same (y ∷ ys) zero x h = ap (λ z. z ∷ ys) (let e : x ≡ y = cc in e)
 set_same (y ∷ ys) (suc i) x h = ap (λ zs. y ∷ zs) (set_same ys i x h)

@@ -65,9 +65,11 @@ lawful_opening setup can = record {
   };
 }
   where
-    none_dead : (o : Option Client) (m : Stamp) → (o ≡ None) ⊎ (o ≡ Some new_client) → is_in m (dead_by o) ≡ true → ⊥
+    none_dead : (o : Option Client) (m : Stamp) → (o ≡ None) ⊎ (o ≡ Some new_client)
+        → is_in m (dead_by o) ≡ true → ⊥
     none_dead o m (inl e) h = false≢true (sym (ap (λ k. is_in m (dead_by k)) e) ∙ h)
     none_dead o m (inr e) h = false≢true (sym (ap (λ k. is_in m (dead_by k)) e) ∙ h)
 
-    nobody_dead : (n c : ℕ) (m : Stamp) → is_in m (dead_by (slice_get (replicate n new_client) c)) ≡ true → ⊥
+    nobody_dead : (n c : ℕ) (m : Stamp)
+        → is_in m (dead_by (slice_get (replicate n new_client) c)) ≡ true → ⊥
     nobody_dead n c m h = none_dead (slice_get (replicate n new_client) c) m (in_replicate n c new_client) h

@@ -35,7 +35,8 @@ placed_few places.Open = omega arith
 placed_few places.Granted = omega arith
 
 -- besides the places taken, each client may have one that is open
-occupied_few : (clients : List Client) → total occupied_by clients ≤ total taken_by clients + length clients
+occupied_few : (clients : List Client)
+    → total occupied_by clients ≤ total taken_by clients + length clients
 occupied_few [] = omega arith
 occupied_few (c ∷ cs) = let one = placed_few c.place in let rest = occupied_few cs in omega arith
 
@@ -54,7 +55,8 @@ few_slots w l =
     omega arith
 
 -- the setup's numbers are small
-pub few_setup : (w : State) → IsLawful w → (w.setup.slots ≤ MOST_SLOTS) × (w.setup.clients ≤ MOST_CLIENTS)
+pub few_setup : (w : State) → IsLawful w
+    → (w.setup.slots ≤ MOST_SLOTS) × (w.setup.clients ≤ MOST_CLIENTS)
 few_setup w l = ((is_lawful w l).sized.few_slots, (is_lawful w l).sized.few_clients)
 
 pub few_clients : (w : State) → IsLawful w → length w.clients ≤ MOST_CLIENTS
@@ -74,7 +76,8 @@ times-le slot (t ∷ ts) = let one = when_few (t == slot) in let rest = times-le
 
 -- a total of as much from each as there may be slots
 total-few : {X : Type 0} (f : X → ℕ) (xs : List X)
-    → ((i : ℕ) (x : X) → slice_get xs i ≡ Some x → f x ≤ MOST_SLOTS) → total f xs ≤ length xs * MOST_SLOTS
+    → ((i : ℕ) (x : X) → slice_get xs i ≡ Some x → f x ≤ MOST_SLOTS)
+    → total f xs ≤ length xs * MOST_SLOTS
 total-few f [] h = omega arith
 total-few f (x ∷ xs) h =
     let first = h 0 x refl in
@@ -95,13 +98,15 @@ passed_fits w l slot =
 -- Of one slot and one client.
 
 -- a slot's references weigh what a word can say
-pub bounded_weight : (w : State) (slot : Slot) → Lawful w → IsBounded w.setup slot → weight_of slot < 4294967296
+pub bounded_weight : (w : State) (slot : Slot) → Lawful w → IsBounded w.setup slot
+    → weight_of slot < 4294967296
 bounded_weight w slot l b =
     let few = l.sized.few_clients in
     let references = b.references in
     omega arith
 
-pub strays_few : (w : State) (s : ℕ) (slot : Slot) → Lawful w → slice_get w.slots s ≡ Some slot → strays_of slot ≤ 3 * MOST_CLIENTS
+pub strays_few : (w : State) (s : ℕ) (slot : Slot) → Lawful w → slice_get w.slots s ≡ Some slot
+    → strays_of slot ≤ 3 * MOST_CLIENTS
 strays_few w s slot l at_slot =
     let few = l.sized.few_clients in
     let strays = l.strayed s slot at_slot in
@@ -109,7 +114,8 @@ strays_few w s slot l at_slot =
 
 -- what a use adds was counted before
 pub used_fits : (w : State) (client name : ℕ) (k : Reference) (slot : Slot) → IsBounded w.setup slot
-    → reference_in client name (references_of slot) ≡ Some k → k.counting ≡ true → uses_of slot + k.weight < 4294967296
+    → reference_in client name (references_of slot) ≡ Some k → k.counting ≡ true
+    → uses_of slot + k.weight < 4294967296
 used_fits w client name k slot b there counts =
     let whole : when k.counting k.weight ≡ k.weight = rw counts refl in
     let part = dropped-total (is_named client name) (λ (k : Reference). when k.counting k.weight) (references_of slot) k there in
@@ -117,21 +123,24 @@ used_fits w client name k slot b there counts =
     omega arith
 
 -- a client's amounts are part of the usage, and so is a slot's charge beside them
-pub charged_fits : (w : State) (c : ℕ) (client : Client) → Lawful w → slice_get w.clients c ≡ Some client → charged_to client ≤ MOST_USAGE
+pub charged_fits : (w : State) (c : ℕ) (client : Client) → Lawful w
+    → slice_get w.clients c ≡ Some client → charged_to client ≤ MOST_USAGE
 charged_fits w c client l at_client =
     let part = total-member charged_to w.clients c client at_client in
     let usage = l.ledgers.usage in
     omega arith
 
 pub both_charged_fit : (w : State) (s c : ℕ) (slot : Slot) (client : Client) → Lawful w
-    → slice_get w.slots s ≡ Some slot → slice_get w.clients c ≡ Some client → charge_of slot + charged_to client ≤ MOST_USAGE
+    → slice_get w.slots s ≡ Some slot → slice_get w.clients c ≡ Some client
+    → charge_of slot + charged_to client ≤ MOST_USAGE
 both_charged_fit w s c slot client l at_slot at_client =
     let entry = total-member charge_of w.slots s slot at_slot in
     let part = total-member charged_to w.clients c client at_client in
     let usage = l.ledgers.usage in
     omega arith
 
-pub freed_slots_few : (w : State) (c : ℕ) (client : Client) → Lawful w → slice_get w.clients c ≡ Some client
+pub freed_slots_few : (w : State) (c : ℕ) (client : Client) → Lawful w
+    → slice_get w.clients c ≡ Some client
     → client.freed_slots ≤ MOST_SLOTS
 freed_slots_few w c client l at_client =
     let part = total-member taken_by w.clients c client at_client in
@@ -140,8 +149,10 @@ freed_slots_few w c client l at_client =
     omega arith
 
 -- a standalone entry's charge is part of the usage
-pub fallen_fits : (w : State) (c name : ℕ) (client : Client) (gone : Standalone) → Lawful w → slice_get w.clients c ≡ Some client
-    → find (is_standing name) client.standalones ≡ Some gone → client.freed + gone.charge ≤ MOST_USAGE
+pub fallen_fits : (w : State) (c name : ℕ) (client : Client) (gone : Standalone) → Lawful w
+    → slice_get w.clients c ≡ Some client
+    → find (is_standing name) client.standalones ≡ Some gone
+    → client.freed + gone.charge ≤ MOST_USAGE
 fallen_fits w c name client gone l at_client there =
     let all = charged_fits w c client l at_client in
     let one = dropped-total (is_standing name) (λ (s : Standalone). s.charge) client.standalones gone there in

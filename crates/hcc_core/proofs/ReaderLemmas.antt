@@ -8,7 +8,8 @@ use Rattle.hcc_core.specs.World.{is_shareable, taken_by_slot, is_placed, trail_o
 use Rattle.hcc_core.proofs.SumLemmas.{sum_by_total}
 
 -- totals of two functions that agree
-total-same : {X : Type 0} (f g : X → ℕ) (xs : List X) → ((x : X) → f x ≡ g x) → total f xs ≡ total g xs
+total-same : {X : Type 0} (f g : X → ℕ) (xs : List X) → ((x : X) → f x ≡ g x)
+    → total f xs ≡ total g xs
 total-same f g [] h = refl
 total-same f g (x ∷ xs) h = let first = h x in let rest = total-same f g xs h in omega arith
 
@@ -18,12 +19,14 @@ count_is_when true = refl
 count_is_when false = refl
 
 -- a count is a total of ones
-pub count_by_total : {X : Type 0} (p : X → Bool) (xs : List X) → count_by p xs ≡ total (λ x. when (p x) 1) xs
+pub count_by_total : {X : Type 0} (p : X → Bool) (xs : List X)
+    → count_by p xs ≡ total (λ x. when (p x) 1) xs
 count_by_total p xs =
     sum_by_total (λ x. cond (p x) 1 0) xs
     ∙ total-same (λ x. cond (p x) 1 0) (λ x. when (p x) 1) xs (λ x. count_is_when (p x))
 
-total-plus : {X : Type 0} (f g : X → ℕ) (xs : List X) → total (λ x. f x + g x) xs ≡ total f xs + total g xs
+total-plus : {X : Type 0} (f g : X → ℕ) (xs : List X)
+    → total (λ x. f x + g x) xs ≡ total f xs + total g xs
 total-plus f g [] = refl
 total-plus f g (x ∷ xs) = let rest = total-plus f g xs in omega arith
 

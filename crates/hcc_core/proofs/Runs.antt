@@ -8,7 +8,8 @@ use Rattle.hcc_core.specs.Lawful.{Lawful}
 use Rattle.hcc_core.proofs.Keeps.{KeepsLaw, outcome_keeps}
 use Rattle.hcc_core.proofs.Opening.{lawful_opening}
 
-outcome_lawful : (w : State) (outcome : Outcome) → Lawful w → KeepsLaw outcome → Lawful (world_after w outcome)
+outcome_lawful : (w : State) (outcome : Outcome) → Lawful w → KeepsLaw outcome
+    → Lawful (world_after w outcome)
 outcome_lawful w (Ok done) l h = h
 outcome_lawful w (Err error) l h = l
 
@@ -21,5 +22,6 @@ pub lawful_all : (events : List Event) (w : State) → Lawful w → Lawful (afte
 lawful_all [] w l = l
 lawful_all (event ∷ events) w l = lawful_all events (after w event) (lawful_after w event l)
 
-pub every_run : (setup : Setup) (events : List Event) → CanOpen setup → Lawful (after_all (opening_of setup) events)
+pub every_run : (setup : Setup) (events : List Event) → CanOpen setup
+    → Lawful (after_all (opening_of setup) events)
 every_run setup events can = lawful_all events (opening_of setup) (lawful_opening setup can)

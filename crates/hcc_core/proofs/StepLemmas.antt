@@ -15,13 +15,16 @@ use Rattle.hcc_core.specs.declared.event.Reply.TheVariants as replies
 use Rattle.hcc_core.specs.World.{State, references_of, charge_of, stamp_of, hidden_stamp, is_named, has_reference, has_client, slot_holding, counts_in, usage_of}
 use Rattle.hcc_core.specs.Steps.{live_at, with_client, with_both, dead_to, joined, may_acquire, acquired, new_reference, slot_acquired, client_acquired, acquire_of, slot_given, client_noticed, left_on, give_of, counting_in, slot_used, use_of, built_by, may_show, resident_new, client_shown, show_of, slot_hidden, hidden, hide_of, may_free, client_freeing, free_of, freed_by, has_no_member, empty_of, may_charge, grant_of, charge_by, may_settle, settle_of, dropped, is_standing, fall_of}
 
-live_is : (w : State) (client : ℕ) (found : Client) → slice_get w.clients client ≡ Some found → found.live ≡ true
+live_is : (w : State) (client : ℕ) (found : Client) → slice_get w.clients client ≡ Some found
+    → found.live ≡ true
     → live_at w client ≡ Ok found
 live_is w client found at_client live = rw (at_client, live) refl
 
 -- what a client is once its new dead list was noted
-pub noted : (found read new : Client) (dead : Option (List Stamp)) (stamp : Option Stamp) → read ≡ found
-    → new ≡ record read { dead = unwrap_or dead read.dead } → unwrap_or dead found.dead ≡ joined found.dead stamp
+pub noted : (found read new : Client) (dead : Option (List Stamp)) (stamp : Option Stamp)
+    → read ≡ found
+    → new ≡ record read { dead = unwrap_or dead read.dead }
+    → unwrap_or dead found.dead ≡ joined found.dead stamp
     → new ≡ record found { dead = joined found.dead stamp }
 noted found read new dead stamp same is list = rw (is, same, list) refl
 
@@ -46,25 +49,30 @@ position_passes p xs i x h at = by (nat_lt (position_or_len p xs) (length xs)) h
     by false h = cc
 
 -- a client whose name a slot has is one of its clients
-named_has_client : (client name : ℕ) (ks : List Reference) → list_any (is_named client name) ks ≡ true
+named_has_client : (client name : ℕ) (ks : List Reference)
+    → list_any (is_named client name) ks ≡ true
     → list_any (λ (k : Reference). k.client == client) ks ≡ true
 named_has_client client name [] h = h
 named_has_client client name (k ∷ ks) h = by (k.client == client) (k.name == name) (named_has_client client name ks) h
   where
-    by : (b d : Bool) → (list_any (is_named client name) ks ≡ true → list_any (λ (k : Reference). k.client == client) ks ≡ true)
-        → ((b && d) || list_any (is_named client name) ks) ≡ true → (b || list_any (λ (k : Reference). k.client == client) ks) ≡ true
+    by : (b d : Bool)
+        → (list_any (is_named client name) ks ≡ true → list_any (λ (k : Reference). k.client == client) ks ≡ true)
+        → ((b && d) || list_any (is_named client name) ks) ≡ true
+        → (b || list_any (λ (k : Reference). k.client == client) ks) ≡ true
     by true d later h = refl
     by false d later h = later h
 
 pub held_has_client : (all : List Slot) (client name slot : ℕ) (seen : Slot)
-    → slot_holding all client name ≡ Some slot → slice_get all slot ≡ Some seen → has_client client seen ≡ true
+    → slot_holding all client name ≡ Some slot → slice_get all slot ≡ Some seen
+    → has_client client seen ≡ true
 held_has_client all client name slot seen holding at_slot =
     named_has_client client name (references_of seen) (position_passes (has_reference client name) all slot seen holding at_slot)
 
 -- The steps.
 
 pub acquire_gives : (w : State) (client slot weight name : ℕ) (found new : Client) (seen left : Slot) (reply : Reply)
-    → slice_get w.slots slot ≡ Some seen → slice_get w.clients client ≡ Some found → found.live ≡ true
+    → slice_get w.slots slot ≡ Some seen → slice_get w.clients client ≡ Some found
+    → found.live ≡ true
     → may_acquire w.setup w.slots client found slot seen weight name ≡ true
     → reply ≡ acquired seen (counts_in seen)
     → left ≡ slot_acquired seen (new_reference client name weight seen)
@@ -96,13 +104,15 @@ dead_acquired client name weight (slots.Building other strays) = refl
 dead_acquired client name weight (slots.Shareable r) =
     rw (any_last client r.references (new_reference client name weight (slots.Shareable r)) refl) refl
 
-pub dead_hidden : (client : ℕ) (seen : Slot) → has_client client seen ≡ true → dead_to client (slot_hidden seen) ≡ stamp_of seen
+pub dead_hidden : (client : ℕ) (seen : Slot) → has_client client seen ≡ true
+    → dead_to client (slot_hidden seen) ≡ stamp_of seen
 dead_hidden client (slots.Empty strays) has = cc
 dead_hidden client (slots.Building other strays) has = cc
 dead_hidden client (slots.Shareable r) has = rw has refl
 
 pub give_gives : (w : State) (client name slot : ℕ) (found new : Client) (seen left : Slot) (reply : Reply)
-    → slice_get w.clients client ≡ Some found → found.live ≡ true → slot_holding w.slots client name ≡ Some slot
+    → slice_get w.clients client ≡ Some found → found.live ≡ true
+    → slot_holding w.slots client name ≡ Some slot
     → slice_get w.slots slot ≡ Some seen → left ≡ slot_given client name seen → reply ≡ left_on left
     → new ≡ client_noticed client seen found
     → give_of w client name ≡ Ok (reply, with_both w slot left client new)
@@ -111,9 +121,11 @@ give_gives w client name slot found new seen left reply at_client live holds at_
     rw (live_is w client found at_client live, holds, at_slot, answers, leaves, becomes) refl
 
 pub use_gives : (w : State) (client name slot : ℕ) (found new : Client) (seen left : Slot) (k : Reference) (reply : Reply)
-    → slice_get w.clients client ≡ Some found → found.live ≡ true → slot_holding w.slots client name ≡ Some slot
+    → slice_get w.clients client ≡ Some found → found.live ≡ true
+    → slot_holding w.slots client name ≡ Some slot
     → slice_get w.slots slot ≡ Some seen → counting_in client name (references_of seen) ≡ Some k
-    → left ≡ slot_used client name k seen → reply ≡ left_on left → new ≡ client_noticed client seen found
+    → left ≡ slot_used client name k seen → reply ≡ left_on left
+    → new ≡ client_noticed client seen found
     → use_of w client name ≡ Ok (reply, with_both w slot left client new)
 unfolding use_of
 use_gives w client name slot found new seen left k reply at_client live holds at_slot there leaves answers becomes =
@@ -122,14 +134,16 @@ use_gives w client name slot found new seen left k reply at_client live holds at
 pub show_gives : (w : State) (client slot key0 key1 charge countdown : ℕ) (name : Option ℕ) (value : List ℕ) (found new : Client) (r : Resident)
     → slice_get w.clients client ≡ Some found → found.live ≡ true → built_by found.owned ≡ Some slot
     → may_show w.slots client found charge countdown name ≡ true
-    → r ≡ resident_new client found key0 key1 charge countdown name value → new ≡ client_shown charge found
+    → r ≡ resident_new client found key0 key1 charge countdown name value
+    → new ≡ client_shown charge found
     → show_of w client key0 key1 charge countdown name value ≡ Ok (replies.Ok, with_both w slot (slots.Shareable r) client new)
 unfolding show_of
 show_gives w client slot key0 key1 charge countdown name value found new r at_client live builds may leaves becomes =
     rw (live_is w client found at_client live, builds, may, leaves, becomes) refl
 
 pub hide_gives : (w : State) (client name slot : ℕ) (found new : Client) (seen left : Slot) (reply : Reply)
-    → slice_get w.clients client ≡ Some found → found.live ≡ true → slot_holding w.slots client name ≡ Some slot
+    → slice_get w.clients client ≡ Some found → found.live ≡ true
+    → slot_holding w.slots client name ≡ Some slot
     → slice_get w.slots slot ≡ Some seen → left ≡ slot_hidden seen → reply ≡ hidden seen
     → new ≡ client_noticed client (slot_hidden seen) found
     → hide_of w client name ≡ Ok (reply, with_both w slot left client new)
@@ -138,8 +152,10 @@ hide_gives w client name slot found new seen left reply at_client live holds at_
     rw (live_is w client found at_client live, holds, at_slot, answers, leaves, becomes) refl
 
 pub free_gives : (w : State) (client slot : ℕ) (name : Option ℕ) (found new : Client) (seen left : Slot) (reply : Reply)
-    → slice_get w.slots slot ≡ Some seen → slice_get w.clients client ≡ Some found → found.live ≡ true
-    → may_free client found seen name ≡ true → left ≡ slots.Building client 0 → reply ≡ replies.Freed (charge_of seen)
+    → slice_get w.slots slot ≡ Some seen → slice_get w.clients client ≡ Some found
+    → found.live ≡ true
+    → may_free client found seen name ≡ true → left ≡ slots.Building client 0
+    → reply ≡ replies.Freed (charge_of seen)
     → new ≡ client_freeing client slot seen found
     → free_of w client slot name ≡ Ok (reply, with_both w slot left client new)
 unfolding free_of
@@ -174,7 +190,8 @@ settle_gives w client found new at_client live may becomes =
     rw (live_is w client found at_client live, may, becomes) refl
 
 pub fall_gives : (w : State) (client name : ℕ) (found new : Client) (gone : Standalone)
-    → slice_get w.clients client ≡ Some found → found.live ≡ true → find (is_standing name) found.standalones ≡ Some gone
+    → slice_get w.clients client ≡ Some found → found.live ≡ true
+    → find (is_standing name) found.standalones ≡ Some gone
     → new ≡ record found { freed = found.freed + gone.charge; standalones = dropped (is_standing name) found.standalones }
     → fall_of w client name ≡ Ok (replies.Ok, with_client w client new)
 unfolding fall_of

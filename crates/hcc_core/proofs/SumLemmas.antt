@@ -15,7 +15,8 @@ total-set f [] i old new h = cc
 total-set f (x ∷ xs) zero old new h = let e : f x ≡ f old = ap f (let q : x ≡ old = cc in q) in omega arith
 total-set f (x ∷ xs) (suc i) old new h = let rest = total-set f xs i old new h in omega arith
 
-pub total-append : {X : Type 0} (f : X → ℕ) (xs ys : List X) → total f (xs ++ ys) ≡ total f xs + total f ys
+pub total-append : {X : Type 0} (f : X → ℕ) (xs ys : List X)
+    → total f (xs ++ ys) ≡ total f xs + total f ys
 total-append f [] ys = omega arith
 total-append f (x ∷ xs) ys = let rest = total-append f xs ys in omega arith
 
@@ -34,7 +35,8 @@ total-le f g (x ∷ xs) h =
     omega arith
 
 -- a member is within the total
-pub total-member : {X : Type 0} (f : X → ℕ) (xs : List X) (i : ℕ) (x : X) → slice_get xs i ≡ Some x → f x ≤ total f xs
+pub total-member : {X : Type 0} (f : X → ℕ) (xs : List X) (i : ℕ) (x : X) → slice_get xs i ≡ Some x
+    → f x ≤ total f xs
 total-member f [] i x h = cc
 total-member f (y ∷ ys) zero x h = let e : f y ≡ f x = ap f (let q : y ≡ x = cc in q) in omega arith
 total-member f (y ∷ ys) (suc i) x h = let rest = total-member f ys i x h in omega arith
@@ -47,7 +49,8 @@ total-drop f (y ∷ ys) zero x h e = rw e refl
 total-drop f (y ∷ ys) (suc i) x h e = rw (add-one, total-drop f ys i x (omega arith) e) (rw add-one refl)
 
 -- nothing is left behind the last member
-pub total-none : {X : Type 0} (f : X → ℕ) (xs : List X) (i : ℕ) → length xs ≤ i → total f (drop i xs) ≡ 0
+pub total-none : {X : Type 0} (f : X → ℕ) (xs : List X) (i : ℕ) → length xs ≤ i
+    → total f (drop i xs) ≡ 0
 total-none f [] zero h = refl
 total-none f [] (suc i) h = refl
 total-none f (y ∷ ys) zero h = absurd (omega arith)

@@ -70,13 +70,17 @@ Strayed setup all clients = (s : ℕ) (slot : Slot) → slice_get all s ≡ Some
 
 -- a slot is Building by a client exactly where that client owns it
 pub record Owners (all : List Slot) (clients : List Client) : Type 0 where
-  pub owns : (s c : ℕ) → owner_in (slice_get all s) ≡ Some c → owned_by (slice_get clients c) ≡ Some s
-  pub owned : (s c : ℕ) → owned_by (slice_get clients c) ≡ Some s → owner_in (slice_get all s) ≡ Some c
+  pub owns : (s c : ℕ) → owner_in (slice_get all s) ≡ Some c
+      → owned_by (slice_get clients c) ≡ Some s
+  pub owned : (s c : ℕ) → owned_by (slice_get clients c) ≡ Some s
+      → owner_in (slice_get all s) ≡ Some c
 
 -- no two slots have entries of one stamp, and each stamp is below its maker's count
 pub record Stamped (all : List Slot) (clients : List Client) : Type 0 where
-  pub made : (s : ℕ) (m : Stamp) → stamp_in (slice_get all s) ≡ Some m → m.number < stamps_by (slice_get clients m.client)
-  pub apart : (s t : ℕ) (m : Stamp) → stamp_in (slice_get all s) ≡ Some m → stamp_in (slice_get all t) ≡ Some m → s ≡ t
+  pub made : (s : ℕ) (m : Stamp) → stamp_in (slice_get all s) ≡ Some m
+      → m.number < stamps_by (slice_get clients m.client)
+  pub apart : (s t : ℕ) (m : Stamp) → stamp_in (slice_get all s) ≡ Some m
+      → stamp_in (slice_get all t) ≡ Some m → s ≡ t
 
 -- the dead list of a client that may not be there
 abbrev pub dead_by : Option Client → List Stamp
@@ -98,13 +102,16 @@ is_in stamp list = list_any (is_stamp stamp) list
 
 -- no stamp that a client has seen dead is shown, and each of them was made
 pub record Dead (all : List Slot) (clients : List Client) : Type 0 where
-  pub made : (c : ℕ) (m : Stamp) → is_in m (dead_by (slice_get clients c)) ≡ true → m.number < stamps_by (slice_get clients m.client)
-  pub unshown : (c s : ℕ) (m : Stamp) → is_in m (dead_by (slice_get clients c)) ≡ true → shown_in (slice_get all s) ≡ Some m → ⊥
+  pub made : (c : ℕ) (m : Stamp) → is_in m (dead_by (slice_get clients c)) ≡ true
+      → m.number < stamps_by (slice_get clients m.client)
+  pub unshown : (c s : ℕ) (m : Stamp) → is_in m (dead_by (slice_get clients c)) ≡ true
+      → shown_in (slice_get all s) ≡ Some m → ⊥
 
 -- a trail has no more members than the world has slots
 pub record Trailed (slots : ℕ) (all : List Slot) (clients : List Client) : Type 0 where
   pub entries : (s : ℕ) (slot : Slot) → slice_get all s ≡ Some slot → length (trail_of slot) ≤ slots
-  pub hands : (c : ℕ) (client : Client) → slice_get clients c ≡ Some client → length client.trail ≤ slots
+  pub hands : (c : ℕ) (client : Client) → slice_get clients c ≡ Some client
+      → length client.trail ≤ slots
 
 -- what a client holds of granted places and freed slots
 abbrev pub taken_by : Client → ℕ
