@@ -1,4 +1,5 @@
-// Refuses the memory request whose number the environment's REFUSE gives, counted from 1.
+// Refuses the memory request whose number the environment's REFUSE gives, counted from 1, and all
+// later ones too where REST is set.
 // Loaded before the C library, so that the built program runs as it is.
 #define _GNU_SOURCE
 #include <dlfcn.h>
@@ -14,6 +15,8 @@ static int refused(void)
         left = number ? atol(number) : 0;
     }
     if (left > 0 && --left == 0) {
+        if (getenv("REST"))
+            left = 1;
         errno = ENOMEM;
         return 1;
     }

@@ -1,5 +1,5 @@
 //! The command line.
-ghost use Rattle.std.specs.Prelude.{IfSome};
+ghost use Rattle.std.specs.Prelude.{◌≡◌, ◌≤◌, IfSome, false};
 ghost use Rattle.hcc_core.specs.Steps.{CanOpen};
 
 use clap::{Arg, ArgAction, ArgMatches, Command, value_parser};
@@ -32,10 +32,20 @@ line: its name, the client, and what else it needs, with one space between.
   read 0 4              it reads the entry under that reference
   use 0 4               it gives the reference back as used
 
-The others are give, hide, free, empty, write, slots and settle. Each line that
-is written has the answer, the slots, and then usage, occupancy, standing and
-hand. The whole script is judged first; at a fault nothing is played, and
-`line N: FAULT` is told.";
+The others, for a client c, a slot s and a name x:
+
+  end c   empty c   write c   slots c   settle c   waive c   quit c   turn c
+  usage c   occupancy c   standing c   clock c s   count c s   pass c s   unpass c s
+  give c x   hide c x   mark c x   correct c x   fall c x   stand c CHARGE x
+  free c s x, and show as above: there x is - where no reference is meant
+
+Each line that is written has the answer, the slots, and then usage, occupancy,
+standing and hand. An empty slot is E, one that is built is B and its client,
+each with + and its stray acquires. An entry is S if shown and H if hidden, then
+its key, @ its stamp, # its charge, u its uses, r its references (client, name
+and weight of each) and h whether it was hit. Behind / is how often the slot
+stands in trails. The whole script is judged first; at a fault nothing is
+played, and `line N: FAULT` is told.";
 
 fn slots_arg<'a>(alloc: Global) -> Arg<'a> {
     Arg::new(alloc, "slots")
@@ -94,7 +104,8 @@ pub fn command<'a>(alloc: Global) -> Result<Command<'a>, AllocError> {
 
 /// The setup where no word is given.
 pub fn default_setup() -> Setup
-    ensures { CanOpen result }
+    ensures opens { CanOpen result }
+    ensures is { result ≡ record { slots = 2; clients = 2; capacity = 600; strict = false } }
 {
     Setup {
         slots: 2,
@@ -106,12 +117,17 @@ pub fn default_setup() -> Setup
 
 /// The setup that the options of `core` tell, if each is in its range.
 pub fn setup_of(options: &ArgMatches<'_>) -> Option<Setup>
-    ensures { IfSome result CanOpen }
+    ensures opens { IfSome result CanOpen }
+    ensures slots { IfSome result (λ setup. setup.slots ≤ 16) }
+    ensures capacity { IfSome result (λ setup. setup.capacity ≤ 1099511627776) }
 {
     let slots = options.get_one::<u32>("slots")?;
     let clients = options.get_one::<u32>("clients")?;
     let capacity = options.get_one::<u64>("capacity")?;
     if !(1..=16).contains(&slots) || !(1..=1_024).contains(&clients) {
+        return None;
+    }
+    if capacity > 1_099_511_627_776 {
         return None;
     }
     Some(Setup {
