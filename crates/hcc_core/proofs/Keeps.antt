@@ -32,7 +32,7 @@ chain : {A : Type 0} (r : Result A CoreError) (f : A → Outcome)
 chain (Ok x) f h = h x refl
 chain (Err e) f h = tt
 
-found_ok : {A : Type 0} (o : Option A) (e : CoreError) (x : A) → ok_or o e ≡ Ok x → o ≡ Some x
+pub found_ok : {A : Type 0} (o : Option A) (e : CoreError) (x : A) → ok_or o e ≡ Ok x → o ≡ Some x
 found_ok None e x h = cc
 found_ok (Some y) e x h = cc
 
@@ -45,11 +45,11 @@ live_found : (o : Option Client) (x : Client)
 live_found None x h = cc
 live_found (Some y) x h = ap Some (allowed_is y.live y x h)
 
-live_ok : (w : State) (client : ℕ) (x : Client) → live_at w client ≡ Ok x
+pub live_ok : (w : State) (client : ℕ) (x : Client) → live_at w client ≡ Ok x
     → slice_get w.clients client ≡ Some x
 live_ok w client x h = live_found (slice_get w.clients client) x h
 
-may_ok : (b : Bool) (u : Unit {0}) → allow b ≡ Ok u → b ≡ true
+pub may_ok : (b : Bool) (u : Unit {0}) → allow b ≡ Ok u → b ≡ true
 may_ok true u h = refl
 may_ok false u h = cc
 

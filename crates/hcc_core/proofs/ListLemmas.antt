@@ -1,5 +1,6 @@
 -- What a list reads once one of its members was written, and what it reads at the start.
 use Rattle.std.proofs.Common.{◌≡◌, ◌⊎◌, inl, inr, ℕ, zero, suc, List, [], ◌∷◌, Option, Some, None, slice_set, slice_get, get_or, replicate, refl, ap, sym, ◌∙◌}
+use Rattle.std.specs.Prelude.{option_and_then}
 use Rattle.std.proofs.lemmas.Option.{get_or_from_slice_get}
 
 -- the member that was written, or one that was there
@@ -71,3 +72,16 @@ pub replicate_is : {X : Type 0} (n i : ℕ) (x y : X) → slice_get (replicate n
 replicate_is zero i x y h = cc
 replicate_is (suc n) zero x y h = cc
 replicate_is (suc n) (suc i) x y h = replicate_is n i x y h
+
+-- what is read of the member that was written, or of one that was there
+pub read_at_set : {X A : Type 0} (f : X → Option A) (xs : List X) (i j : ℕ) (new : X) (a : A)
+    → option_and_then f (slice_get (slice_set xs i new) j) ≡ Some a
+    → ((j ≡ i) × (f new ≡ Some a)) ⊎ (option_and_then f (slice_get xs j) ≡ Some a)
+read_at_set f [] i j new a h = inr h
+read_at_set f (x ∷ xs) zero zero new a h = inl (refl, h)
+read_at_set f (x ∷ xs) zero (suc j) new a h = inr h
+read_at_set f (x ∷ xs) (suc i) zero new a h = inr h
+read_at_set f (x ∷ xs) (suc i) (suc j) new a h = elim (read_at_set f xs i j new a h) [
+  | inl e ↦ inl (ap suc e.0, e.1)
+  | inr e ↦ inr e
+]

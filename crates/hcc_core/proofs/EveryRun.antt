@@ -1,0 +1,205 @@
+-- What holds of every run: its worlds are lawful, a reference that stands keeps its slot and its
+-- entry, and entries are what their shows gave.
+use Rattle.std.proofs.Common.{◌≡◌, ◌⊎◌, inl, inr, ℕ, zero, suc, ◌+◌, ◌&&◌, Bool, true, false, cond, List, [], ◌∷◌, ◌++◌, Option, Some, None, Ok, Err, length, replicate, slice_get, refl, sym, ap, ◌∙◌, arith}
+use Rattle.std.specs.Prelude.{option_and_then}
+use Rattle.std.proofs.lemmas.List.{append_assoc, append-nil, length-append}
+use Rattle.hcc_core.specs.declared.event.Event.{Event}
+use Rattle.hcc_core.specs.declared.state.Client.{Client}
+use Rattle.hcc_core.specs.declared.state.Entry.{Entry}
+use Rattle.hcc_core.specs.declared.state.Setup.{Setup}
+use Rattle.hcc_core.specs.declared.state.Stamp.{Stamp}
+use Rattle.hcc_core.specs.Sums.{when}
+use Rattle.hcc_core.specs.World.{State}
+use Rattle.hcc_core.specs.Steps.{Outcome, outcome_of, is_made, world_after, after, after_all, opening_of, new_slot, new_client, CanOpen}
+use Rattle.hcc_core.specs.Lawful.{Lawful, stamps_by}
+use Rattle.hcc_core.specs.Runs.{entry_held, held_at, Stands, StandsThrough, KeepsPlaces, entry_of, entry_at, is_show, shows_in, shows_of, entry_given, AreGiven}
+use Rattle.hcc_core.proofs.ListLemmas.{nothing_in, in_replicate}
+use Rattle.hcc_core.proofs.Keeps.{KeepsLaw, outcome_keeps}
+use Rattle.hcc_core.proofs.Opening.{lawful_opening}
+use Rattle.hcc_core.proofs.Moves.{Holds, holds_still}
+use Rattle.hcc_core.proofs.Shows.{Adds, Added, outcome_adds}
+
+-- Lawful worlds.
+
+outcome_lawful : (w : State) (outcome : Outcome) → Lawful w → KeepsLaw outcome
+    → Lawful (world_after w outcome)
+outcome_lawful w (Ok done) l h = h
+outcome_lawful w (Err error) l h = l
+
+-- the world after any event, refused or not
+pub lawful_after : (w : State) (event : Event) → Lawful w → Lawful (after w event)
+lawful_after w event l = outcome_lawful w (outcome_of w event) l (outcome_keeps w event l)
+
+-- and after any list of events
+pub lawful_all : (events : List Event) (w : State) → Lawful w → Lawful (after_all w events)
+lawful_all [] w l = l
+lawful_all (event ∷ events) w l = lawful_all events (after w event) (lawful_after w event l)
+
+pub every_run : (setup : Setup) (events : List Event) → CanOpen setup
+    → Lawful (after_all (opening_of setup) events)
+every_run setup events can = lawful_all events (opening_of setup) (lawful_opening setup can)
+
+-- References.
+
+-- a client has each name on one slot at most
+abbrev pub Apart : State → Type 0
+Apart w = (client name slot slot' : ℕ) (entry entry' : Entry) → held_at w client name slot ≡ Some entry
+    → held_at w client name slot' ≡ Some entry' → slot ≡ slot'
+
+outcome_holds : (w : State) (event : Event) (outcome : Outcome) → Added w event outcome
+    → Holds w (world_after w outcome)
+outcome_holds w event (Ok done) a = a.holds
+outcome_holds w event (Err error) a = holds_still w w refl
+
+after_holds : (w : State) (event : Event) → Holds w (after w event)
+after_holds w event = outcome_holds w event (outcome_of w event) (outcome_adds w event)
+
+apart_kept : (w w' : State) → Apart w → Holds w w' → Apart w'
+apart_kept w w' apart holds client name s t e f h k = elim (holds.held client name s e h) [
+  | inl was ↦ elim (holds.held client name t f k) [
+    | inl were ↦ apart client name s t e f was were
+    | inr new ↦ absurd (new.1 s e was)
+  ]
+  | inr new ↦ elim (holds.held client name t f k) [
+    | inl were ↦ absurd (new.1 t f were)
+    | inr too ↦ new.0 ∙ sym too.0
+  ]
+]
+
+apart_all : (events : List Event) (w : State) → Apart w → Apart (after_all w events)
+apart_all [] w apart = apart
+apart_all (event ∷ events) w apart =
+    apart_all events (after w event) (apart_kept w (after w event) apart (after_holds w event))
+
+-- one slot has one entry
+one_place : (w : State) → Apart w → KeepsPlaces w []
+one_place w apart client name through s t e f h k =
+    let same = apart client name s t e f h k in
+    let one : Some e ≡ Some f = sym h ∙ ap (held_at w client name) same ∙ k in
+    (same, let is : e ≡ f = cc in is)
+
+-- what stands before a step and after it stands where it stood
+step_keeps : (w w' : State) (client name s t : ℕ) (e f : Entry) → Apart w → Holds w w'
+    → held_at w client name s ≡ Some e → held_at w' client name t ≡ Some f → (s ≡ t) × (e ≡ f)
+step_keeps w w' client name s t e f apart holds h k = elim (holds.held client name t f k) [
+  | inl were ↦ one_place w apart client name (s, e, h) s t e f h were
+  | inr new ↦ absurd (new.1 s e h)
+]
+
+stands_first : (events : List Event) (w : State) (client name : ℕ)
+    → StandsThrough w events client name → Stands w client name
+stands_first [] w client name through = through
+stands_first (event ∷ events) w client name through = through.0
+
+keeps_places : (events : List Event) (w : State) → Apart w → KeepsPlaces w events
+keeps_places [] w apart client name through s t e f h k = one_place w apart client name through s t e f h k
+keeps_places (event ∷ events) w apart client name through s t e f h k =
+    let next = stands_first events (after w event) client name through.1 in
+    let holds = after_holds w event in
+    let step = step_keeps w (after w event) client name s next.0 e next.1 apart holds h next.2 in
+    let rest = keeps_places events (after w event) (apart_kept w (after w event) apart holds)
+    client name through.1 next.0 t next.1 f next.2 k in
+    (step.0 ∙ rest.0, step.1 ∙ rest.1)
+
+apart_opening : (setup : Setup) → Apart (opening_of setup)
+unfolding opening_of
+apart_opening setup client name s t e f h k =
+    absurd (nothing_in (option_and_then (entry_held client name)) setup.slots s new_slot e refl refl h)
+
+pub run_keeps_places : (setup : Setup) (before events : List Event)
+    → KeepsPlaces (after_all (opening_of setup) before) events
+run_keeps_places setup before events =
+    keeps_places events (after_all (opening_of setup) before)
+    (apart_all before (opening_of setup) (apart_opening setup))
+
+-- Entries.
+
+-- what the show of a stamp gave, of these shows of each client
+abbrev pub given_by : (ℕ → List Event) → Stamp → Option Entry
+given_by shows stamp = option_and_then (entry_given stamp) (slice_get (shows stamp.client) stamp.number)
+
+-- with these shows of each client so far, each client's count is that of its shows, and each entry
+-- is what its show gave
+pub record Given (w : State) (shows : ℕ → List Event) : Type 0 where
+  pub counts : (c : ℕ) → length (shows c) ≡ stamps_by (slice_get w.clients c)
+  pub entries : (slot : ℕ) (entry : Entry) → entry_at w slot ≡ Some entry
+      → given_by shows entry.stamp ≡ Some entry
+
+-- the same shows, in other words
+given_same : (w : State) (shows shows' : ℕ → List Event) → ((c : ℕ) → shows c ≡ shows' c)
+    → Given w shows → Given w shows'
+given_same w shows shows' same g = record {
+  counts = λ c. ap length (sym (same c)) ∙ g.counts c;
+  entries = λ s e h.
+      ap (λ list. option_and_then (entry_given e.stamp) (slice_get list e.stamp.number)) (sym (same e.stamp.client))
+      ∙ g.entries s e h;
+}
+
+-- what a list reads it reads with more at its end, and then what was put there
+read_before : {X A : Type 0} (f : X → Option A) (xs ys : List X) (i : ℕ) (a : A)
+    → option_and_then f (slice_get xs i) ≡ Some a → option_and_then f (slice_get (xs ++ ys) i) ≡ Some a
+read_before f [] ys i a h = cc
+read_before f (x ∷ xs) ys zero a h = h
+read_before f (x ∷ xs) ys (suc i) a h = read_before f xs ys i a h
+
+read_last : {X : Type 0} (xs : List X) (x : X) → slice_get (xs ++ x ∷ []) (length xs) ≡ Some x
+read_last [] x = refl
+read_last (y ∷ ys) x = read_last ys x
+
+-- a step that is made
+made_given : (w : State) (event : Event) (w' : State) (shows : ℕ → List Event) → Given w shows
+    → Adds w event w' → Given w' (λ c. shows c ++ cond (is_show c event) (event ∷ []) [])
+made_given w event w' shows g adds = record {
+  counts = λ c.
+      let all = length-append (shows c) (cond (is_show c event) (event ∷ []) []) in
+      let before = g.counts c in
+      let now = adds.counts c in
+      let more = one_more (is_show c event) in
+      omega arith;
+  entries = λ s e h. elim (adds.entries s e h) [
+    | inl old ↦ read_before (entry_given e.stamp) (shows e.stamp.client) _ e.stamp.number e (g.entries s e old)
+    | inr new ↦
+        let c : ℕ = e.stamp.client in
+        let is_last : e.stamp.number ≡ length (shows c) = new.next ∙ sym (g.counts c) in
+        let last = ap (slice_get (shows c ++ event ∷ [])) is_last ∙ read_last (shows c) event in
+        rw new.shown (ap (option_and_then (entry_given e.stamp)) last ∙ new.given)
+  ];
+}
+  where
+    one_more : (b : Bool) → length (cond b (event ∷ []) []) ≡ when b 1
+    one_more true = refl
+    one_more false = refl
+
+outcome_given : (w : State) (event : Event) (outcome : Outcome) (shows : ℕ → List Event) → Given w shows
+    → Added w event outcome
+    → Given (world_after w outcome)
+    (λ c. shows c ++ cond (is_made outcome && is_show c event) (event ∷ []) [])
+outcome_given w event (Ok done) shows g added = made_given w event done.1 shows g added
+outcome_given w event (Err error) shows g added =
+    given_same w shows _ (λ c. sym (append-nil (shows c))) g
+
+after_given : (w : State) (event : Event) (shows : ℕ → List Event) → Given w shows
+    → Given (after w event) (λ c. shows c ++ shows_in c w event)
+after_given w event shows g = outcome_given w event (outcome_of w event) shows g (outcome_adds w event)
+
+all_given : (events : List Event) (w : State) (shows : ℕ → List Event) → Given w shows
+    → Given (after_all w events) (λ c. shows c ++ shows_of c w events)
+all_given [] w shows g = given_same w shows _ (λ c. sym (append-nil (shows c))) g
+all_given (event ∷ events) w shows g =
+    given_same _ _ _ (λ c. append_assoc (shows c) (shows_in c w event) (shows_of c (after w event) events))
+    (all_given events (after w event) (λ c. shows c ++ shows_in c w event) (after_given w event shows g))
+
+given_opening : (setup : Setup) → Given (opening_of setup) (λ c. [])
+unfolding opening_of
+given_opening setup = record {
+  counts = λ c. none (slice_get (replicate setup.clients new_client) c) (in_replicate setup.clients c new_client);
+  entries = λ s e h. absurd (nothing_in (option_and_then entry_of) setup.slots s new_slot e refl refl h);
+}
+  where
+    none : (o : Option Client) → (o ≡ None) ⊎ (o ≡ Some new_client) → 0 ≡ stamps_by o
+    none o (inl e) = sym (ap stamps_by e)
+    none o (inr e) = sym (ap stamps_by e)
+
+pub run_is_given : (setup : Setup) (events : List Event) → AreGiven (opening_of setup) events
+run_is_given setup events =
+    (all_given events (opening_of setup) (λ c. []) (given_opening setup)).entries

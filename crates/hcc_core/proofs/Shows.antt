@@ -1,0 +1,188 @@
+-- What each event moves and shows. Only `show` adds an entry: what it says, under the next stamp of
+-- its client.
+use Rattle.std.proofs.Common.{◌≡◌, ◌⊎◌, inl, inr, ℕ, ◌+◌, ◌&&◌, ◌==◌, nat_le, nat_lt, Bool, true, false, cond, is_none, List, [], ◌∷◌, Option, Some, None, Result, Ok, Err, slice_set, slice_get, refl, sym, ap, ◌∙◌, arith}
+use Rattle.std.specs.List.{list_any}
+use Rattle.std.specs.Option.{ok_or}
+use Rattle.std.proofs.lemmas.Bool.{and_parts, eqb-true, eq-eqb, ne_eqb, cases_eq, false≢true}
+use Rattle.hcc_core.specs.declared.limits.TheConstants.{MOST_COUNTDOWN, STAMPS_PER_CLIENT}
+use Rattle.hcc_core.specs.declared.state.Client.{Client}
+use Rattle.hcc_core.specs.declared.state.Entry.{Entry}
+use Rattle.hcc_core.specs.declared.state.Resident.{Resident}
+use Rattle.hcc_core.specs.declared.state.Slot.{Slot}
+use Rattle.hcc_core.specs.declared.state.Slot.TheVariants as slots
+use Rattle.hcc_core.specs.declared.event.CoreError.{CoreError}
+use Rattle.hcc_core.specs.declared.event.CoreError.TheVariants.{NotAllowed}
+use Rattle.hcc_core.specs.declared.event.Event.{Event}
+use Rattle.hcc_core.specs.declared.event.Event.TheVariants as events
+use Rattle.hcc_core.specs.Sums.{when}
+use Rattle.hcc_core.specs.World.{State, is_granted, is_named, slot_holding}
+use Rattle.hcc_core.specs.Steps.{Outcome, ◌>>=◌, allow, live_at, with_both, built_by, is_fresh, may_show, first_references, resident_new, client_shown, show_of, in_range, rule_of, outcome_of}
+use Rattle.hcc_core.specs.Lawful.{stamps_by}
+use Rattle.hcc_core.specs.Runs.{entry_held, entry_of, entry_at, is_show, entry_given}
+use Rattle.hcc_core.proofs.ListLemmas.{read_at_set, read_here, read_other}
+use Rattle.hcc_core.proofs.Keeps.{live_ok, may_ok}
+use Rattle.hcc_core.proofs.Moves.{Unheld, Holds, Moves, Keeps, holds_slot, unheld, named_free}
+use Rattle.hcc_core.proofs.EventMoves.{Moved, start_moves, look_moves, acquire_moves, give_moves, use_moves, occupy_moves, hide_moves, free_moves, empty_moves, write_moves, read_moves, enter_moves, charge_moves, slots_moves, settle_moves, end_moves, clock_moves, mark_moves, correct_moves, waive_moves, quit_moves, usage_moves, occupancy_moves, standing_moves, stand_moves, fall_moves, count_moves, pass_moves, unpass_moves, turn_moves}
+
+-- the entry is what this event says, under the next stamp of the client that shows it
+pub record IsNew (w : State) (event : Event) (entry : Entry) : Type 0 where
+  pub shown : is_show entry.stamp.client event ≡ true
+  pub next : entry.stamp.number ≡ stamps_by (slice_get w.clients entry.stamp.client)
+  pub given : entry_given entry.stamp event ≡ Some entry
+
+-- what a step of this event moves and shows
+pub record Adds (w : State) (event : Event) (w' : State) : Type 0 where
+  pub holds : Holds w w'
+  pub entries : (slot : ℕ) (entry : Entry) → entry_at w' slot ≡ Some entry
+      → (entry_at w slot ≡ Some entry) ⊎ IsNew w event entry
+  pub counts : (c : ℕ) → stamps_by (slice_get w'.clients c)
+      ≡ stamps_by (slice_get w.clients c) + when (is_show c event) 1
+
+abbrev pub Added : State → Event → Outcome → Type 0
+Added w event (Ok done) = Adds w event done.1
+Added w event (Err error) = Unit {0}
+
+-- an event that is no show adds nothing
+quiet : (w : State) (event : Event) (outcome : Outcome) → ((c : ℕ) → is_show c event ≡ false)
+    → Moved w outcome → Added w event outcome
+quiet w event (Ok done) none m = record {
+  holds = m.holds;
+  entries = λ s e h. inl (m.entries s e h);
+  counts = λ c.
+      let same = m.counts c in
+      let no_more : when (is_show c event) 1 ≡ 0 = rw (none c) refl in
+      omega arith;
+}
+quiet w event (Err error) none m = tt
+
+-- Show.
+
+-- the test of a show finds the name fresh
+fresh_to_show : (all : List Slot) (client : ℕ) (found : Client) (charge countdown : ℕ) (name : Option ℕ)
+    → may_show all client found charge countdown name ≡ true → is_fresh all client name ≡ true
+unfolding may_show
+fresh_to_show all client found charge countdown name h =
+    let a = and_parts _ (nat_lt found.stamps STAMPS_PER_CLIENT) h in
+    let b = and_parts _ (is_fresh all client name) a.0 in
+    b.1
+
+-- the reference that a show makes is new
+shown_keeps : (w : State) (client : ℕ) (name : Option ℕ) (seen : Option Slot) (r : Resident)
+    → is_fresh w.slots client name ≡ true → r.references ≡ first_references client name
+    → Keeps w seen (slots.Shareable r)
+shown_keeps w client None seen r fresh first c n entry h = let none = rw first at h in cc
+shown_keeps w client (Some name) seen r fresh first c n entry h =
+    inr (named_free w client name c n (unheld w client name fresh) (by _ refl (rw first at h)))
+  where
+    by : (b : Bool) → list_any (is_named c n) (first_references client (Some name)) ≡ b
+        → cond b (Some r.entry) None ≡ Some entry
+        → list_any (is_named c n) (first_references client (Some name)) ≡ true
+    by true is h = is
+    by false is h = cc
+
+module _ (w : State) (client slot key0 key1 charge countdown : ℕ) (name : Option ℕ) (value : List ℕ) (found : Client)
+    (at_client : slice_get w.clients client ≡ Some found) where
+  abbrev resident : Resident
+  resident = resident_new client found key0 key1 charge countdown name value
+
+  abbrev said : Event
+  said = events.Show client key0 key1 charge countdown name value
+
+  abbrev world : State
+  world = with_both w slot (slots.Shareable resident) client (client_shown charge found)
+
+  shown_is_new : IsNew w said resident.entry
+  shown_is_new = record {
+    shown = eq-eqb client client refl;
+    next = sym (ap stamps_by at_client);
+    given = refl;
+  }
+
+  shown_entries : (s : ℕ) (entry : Entry) → entry_at world s ≡ Some entry
+      → (entry_at w s ≡ Some entry) ⊎ IsNew w said entry
+  shown_entries s entry h = elim (read_at_set entry_of w.slots slot s (slots.Shareable resident) entry h) [
+    | inl e ↦ let is : resident.entry ≡ entry = (let same : Some resident.entry ≡ Some entry = e.1 in cc) in inr (rw is at shown_is_new)
+    | inr e ↦ inl e
+  ]
+
+  shown_counts : (c : ℕ) → stamps_by (slice_get world.clients c)
+      ≡ stamps_by (slice_get w.clients c) + when (is_show c said) 1
+  shown_counts c = elim (cases_eq c client) [
+    | inl e ↦
+        let now = ap stamps_by (read_here w.clients client found (client_shown charge found) at_client) in
+        let was = ap stamps_by at_client in
+        let one : when (client == client) 1 ≡ 1 = rw (eq-eqb client client refl) refl in
+        rw e (omega arith)
+    | inr n ↦
+        let same = ap stamps_by (read_other w.clients client c (client_shown charge found) n) in
+        let none : when (client == c) 1 ≡ 0 = rw (ne_eqb client c (λ e. n (sym e))) refl in
+        omega arith
+  ]
+
+  shown_adds : is_fresh w.slots client name ≡ true → Adds w said world
+  shown_adds fresh = record {
+    holds = holds_slot w slot _ _ (shown_keeps w client name (slice_get w.slots slot) resident fresh refl);
+    entries = shown_entries;
+    counts = shown_counts;
+  }
+
+-- a reading on the way, and what it found
+chain : (w : State) (event : Event) {A : Type 0} (r : Result A CoreError) (f : A → Outcome)
+    → ((x : A) → r ≡ Ok x → Added w event (f x)) → Added w event (r >>= f)
+chain w event (Ok x) f h = h x refl
+chain w event (Err e) f h = tt
+
+show_adds : (w : State) (client key0 key1 charge countdown : ℕ) (name : Option ℕ) (value : List ℕ)
+    → Added w (events.Show client key0 key1 charge countdown name value)
+    (show_of w client key0 key1 charge countdown name value)
+unfolding show_of
+show_adds w client key0 key1 charge countdown name value =
+    chain w _ (live_at w client) _ (λ found live.
+    chain w _ (ok_or (built_by found.owned) NotAllowed) _ (λ slot builds.
+    chain w _ (allow (may_show w.slots client found charge countdown name)) _ (λ u may.
+    shown_adds w client slot key0 key1 charge countdown name value found (live_ok w client found live)
+    (fresh_to_show w.slots client found charge countdown name (may_ok _ u may)))))
+
+-- Any event.
+
+rule_adds : (w : State) (event : Event) → Added w event (rule_of w event)
+rule_adds w (events.Start client) = quiet w _ _ (λ c. refl) (start_moves w client)
+rule_adds w (events.Look client slot) = quiet w _ _ (λ c. refl) (look_moves w client slot)
+rule_adds w (events.Acquire client slot weight name) = quiet w _ _ (λ c. refl) (acquire_moves w client slot weight name)
+rule_adds w (events.Give client name) = quiet w _ _ (λ c. refl) (give_moves w client name)
+rule_adds w (events.Use client name) = quiet w _ _ (λ c. refl) (use_moves w client name)
+rule_adds w (events.Occupy client slot) = quiet w _ _ (λ c. refl) (occupy_moves w client slot)
+rule_adds w (events.Show client key0 key1 charge countdown name value) = show_adds w client key0 key1 charge countdown name value
+rule_adds w (events.Hide client name) = quiet w _ _ (λ c. refl) (hide_moves w client name)
+rule_adds w (events.Free client slot name) = quiet w _ _ (λ c. refl) (free_moves w client slot name)
+rule_adds w (events.Empty client) = quiet w _ _ (λ c. refl) (empty_moves w client)
+rule_adds w (events.Write client) = quiet w _ _ (λ c. refl) (write_moves w client)
+rule_adds w (events.Read client name) = quiet w _ _ (λ c. refl) (read_moves w client name)
+rule_adds w (events.Enter client) = quiet w _ _ (λ c. refl) (enter_moves w client)
+rule_adds w (events.Charge client charge) = quiet w _ _ (λ c. refl) (charge_moves w client charge)
+rule_adds w (events.Slots client) = quiet w _ _ (λ c. refl) (slots_moves w client)
+rule_adds w (events.Settle client) = quiet w _ _ (λ c. refl) (settle_moves w client)
+rule_adds w (events.End client) = quiet w _ _ (λ c. refl) (end_moves w client)
+rule_adds w (events.Clock client slot) = quiet w _ _ (λ c. refl) (clock_moves w client slot)
+rule_adds w (events.Mark client name) = quiet w _ _ (λ c. refl) (mark_moves w client name)
+rule_adds w (events.Correct client name) = quiet w _ _ (λ c. refl) (correct_moves w client name)
+rule_adds w (events.Waive client) = quiet w _ _ (λ c. refl) (waive_moves w client)
+rule_adds w (events.Quit client) = quiet w _ _ (λ c. refl) (quit_moves w client)
+rule_adds w (events.Usage client) = quiet w _ _ (λ c. refl) (usage_moves w client)
+rule_adds w (events.Occupancy client) = quiet w _ _ (λ c. refl) (occupancy_moves w client)
+rule_adds w (events.Standing client) = quiet w _ _ (λ c. refl) (standing_moves w client)
+rule_adds w (events.Stand client charge name) = quiet w _ _ (λ c. refl) (stand_moves w client charge name)
+rule_adds w (events.Fall client name) = quiet w _ _ (λ c. refl) (fall_moves w client name)
+rule_adds w (events.Count client slot) = quiet w _ _ (λ c. refl) (count_moves w client slot)
+rule_adds w (events.Pass client slot) = quiet w _ _ (λ c. refl) (pass_moves w client slot)
+rule_adds w (events.Unpass client slot) = quiet w _ _ (λ c. refl) (unpass_moves w client slot)
+rule_adds w (events.Turn client) = quiet w _ _ (λ c. refl) (turn_moves w client)
+
+if_adds : (w : State) (event : Event) (b : Bool) (outcome : Outcome) → Added w event outcome
+    → Added w event (cond b outcome (Err NotAllowed))
+if_adds w event true outcome h = h
+if_adds w event false outcome h = tt
+
+pub outcome_adds : (w : State) (event : Event) → Added w event (outcome_of w event)
+unfolding outcome_of
+outcome_adds w event = if_adds w event (in_range event) (rule_of w event) (rule_adds w event)

@@ -1,0 +1,87 @@
+-- What is said of runs. A run tries events one after the other from a world; what is refused changes
+-- nothing. The worlds on the way are the worlds after the fronts of the run.
+use Rattle.std.specs.Prelude.{◌≡◌, ℕ, Bool, true, false, ◌&&◌, ◌==◌, List, [], ◌∷◌, ◌++◌, Option, Some, None, slice_get, option_and_then, if◌then◌else◌}
+use Rattle.std.specs.List.{list_any}
+use Rattle.hcc_core.specs.declared.state.Stamp.{Stamp}
+use Rattle.hcc_core.specs.declared.state.Entry.{Entry}
+use Rattle.hcc_core.specs.declared.state.Slot.{Slot}
+use Rattle.hcc_core.specs.declared.state.Slot.TheVariants as slots
+use Rattle.hcc_core.specs.declared.event.Event.{Event}
+use Rattle.hcc_core.specs.declared.event.Event.TheVariants as events
+use Rattle.hcc_core.specs.World.{State, is_named}
+use Rattle.hcc_core.specs.Steps.{outcome_of, is_made, after, after_all}
+
+-- References.
+
+-- the entry of a slot, if this client has a reference of this name there
+abbrev pub entry_held : ℕ → ℕ → Slot → Option Entry
+entry_held client name (slots.Empty strays) = None
+entry_held client name (slots.Building other strays) = None
+entry_held client name (slots.Shareable r) =
+    if list_any (is_named client name) r.references then Some r.entry else None
+
+-- the same for the slot of this number
+abbrev pub held_at : State → ℕ → ℕ → ℕ → Option Entry
+held_at world client name slot = option_and_then (entry_held client name) (slice_get world.slots slot)
+
+-- this client's reference of this name stands, on some slot
+abbrev pub Stands : State → ℕ → ℕ → Type 0
+Stands world client name =
+    (slot : ℕ) × (entry : Entry) × (held_at world client name slot ≡ Some entry)
+
+-- it stands in this world, in the world after the events, and in all worlds between
+abbrev pub StandsThrough : State → List Event → ℕ → ℕ → Type 0
+StandsThrough world [] client name = Stands world client name
+StandsThrough world (event ∷ events) client name =
+    Stands world client name × StandsThrough (after world event) events client name
+
+-- a reference that stands so has one slot and one entry, before the events and after them
+abbrev pub KeepsPlaces : State → List Event → Type 0
+KeepsPlaces world events =
+    (client name : ℕ) → StandsThrough world events client name
+    → (slot slot' : ℕ) (entry entry' : Entry)
+    → held_at world client name slot ≡ Some entry
+    → held_at (after_all world events) client name slot' ≡ Some entry'
+    → (slot ≡ slot') × (entry ≡ entry')
+
+-- Entries.
+
+abbrev pub entry_of : Slot → Option Entry
+entry_of (slots.Empty strays) = None
+entry_of (slots.Building client strays) = None
+entry_of (slots.Shareable r) = Some r.entry
+
+abbrev pub entry_at : State → ℕ → Option Entry
+entry_at world slot = option_and_then entry_of (slice_get world.slots slot)
+
+-- whether the event is a show of this client
+abbrev pub is_show : ℕ → Event → Bool
+is_show client (events.Show maker key0 key1 charge countdown name value) = maker == client
+is_show client other = false
+
+-- the shows of this client that are allowed in a run, the first one first
+abbrev pub shows_in : ℕ → State → Event → List Event
+shows_in client world event =
+    if is_made (outcome_of world event) && is_show client event then event ∷ [] else []
+
+abbrev pub shows_of : ℕ → State → List Event → List Event
+shows_of client world [] = []
+shows_of client world (event ∷ events) =
+    shows_in client world event ++ shows_of client (after world event) events
+
+-- the entry that a show gives under a stamp: its key, its value and its charge
+abbrev pub entry_given : Stamp → Event → Option Entry
+entry_given stamp (events.Show maker key0 key1 charge countdown name value) =
+    Some (record { key0 = key0; key1 = key1; stamp = stamp; value = value; charge = charge })
+entry_given stamp other = None
+
+-- what the show of a stamp gave: of the shows of its client the one of its number, from 0
+abbrev pub given_as : Stamp → State → List Event → Option Entry
+given_as stamp world events =
+    option_and_then (entry_given stamp) (slice_get (shows_of stamp.client world events) stamp.number)
+
+-- each entry after the events is what the show of its stamp gave
+abbrev pub AreGiven : State → List Event → Type 0
+AreGiven world events =
+    (slot : ℕ) (entry : Entry) → entry_at (after_all world events) slot ≡ Some entry
+    → given_as entry.stamp world events ≡ Some entry
