@@ -1,5 +1,5 @@
 -- What each event moves where it is allowed. What an event that shows adds, `Shows` says.
-use Rattle.std.proofs.Common.{◌≡◌, ℕ, ◌+◌, ◌-◌, ◌&&◌, ◌||◌, nat_lt, nat_le, is_none, Bool, true, false, cond, not, length, List, Option, Some, None, Result, Ok, Err, slice_set, slice_get, refl}
+use Rattle.std.proofs.Common.{◌≡◌, ℕ, ◌+◌, ◌-◌, ◌&&◌, ◌||◌, nat_lt, nat_le, is_none, true, not, length, List, Option, Some, Result, Ok, Err, slice_set, refl}
 use Rattle.std.specs.List.{find, list_any}
 use Rattle.std.specs.Option.{ok_or}
 use Rattle.std.proofs.lemmas.Bool.{and_parts}
@@ -15,7 +15,8 @@ use Rattle.hcc_core.specs.Steps.{Outcome, ◌>>=◌, allow, slot_at, client_at, 
 use Rattle.hcc_core.specs.Lawful.{stamps_by}
 use Rattle.hcc_core.proofs.ListLemmas.{read_same}
 use Rattle.hcc_core.proofs.Keeps.{found_ok, live_ok, may_ok}
-use Rattle.hcc_core.proofs.Moves.{Moves, Turns, still, client_moves, slot_moves, emptied, taken, given, used, hid, marked, counted_down, unheld, got}
+use Rattle.hcc_core.proofs.HeldNames.{unheld}
+use Rattle.hcc_core.proofs.Moves.{Moves, Turns, still, client_moves, slot_moves, emptied, taken, given, used, hid, marked, recounted, got}
 
 -- what the world after moved, where the step is made
 abbrev pub Moved : State → Outcome → Type 0
@@ -108,7 +109,7 @@ unfolding clock_of
 clock_moves w client slot =
     chain w (slot_at w slot) _ (λ seen at. chain w (live_at w client) _ (λ found live.
     chain w (allow (may_clock seen)) _ (λ u may.
-    slot_moves w slot _ w.clients (rw (found_ok _ _ seen at) (counted_down w (clocked (uses_of seen)) seen)) (λ c. refl))))
+    slot_moves w slot _ w.clients (rw (found_ok _ _ seen at) (recounted w (clocked (uses_of seen)) seen)) (λ c. refl))))
 
 pub mark_moves : (w : State) (client name : ℕ) → Moved w (mark_of w client name)
 unfolding mark_of
@@ -122,7 +123,7 @@ unfolding correct_of
 correct_moves w client name =
     chain w (live_at w client) _ (λ found live. chain w (holding w client name) _ (λ slot held.
     chain w (slot_at w slot) _ (λ seen at. chain w (allow (may_correct client name seen)) _ (λ u may.
-    both_move w slot client seen _ found _ at live (counted_down w (uses_of seen - CORRECTION) seen) refl))))
+    both_move w slot client seen _ found _ at live (recounted w (uses_of seen - CORRECTION) seen) refl))))
 
 -- The events on entries, but for `show`.
 

@@ -1,6 +1,6 @@
 -- What holds of every run: its worlds are lawful, a reference that stands keeps its slot and its
 -- entry, and entries are what their shows gave.
-use Rattle.std.proofs.Common.{◌≡◌, ◌⊎◌, inl, inr, ℕ, zero, suc, ◌+◌, ◌&&◌, Bool, true, false, cond, List, [], ◌∷◌, ◌++◌, Option, Some, None, Ok, Err, length, replicate, slice_get, refl, sym, ap, ◌∙◌, arith}
+use Rattle.std.proofs.Common.{◌≡◌, ◌⊎◌, inl, inr, ℕ, zero, suc, ◌&&◌, Bool, true, false, cond, List, [], ◌∷◌, ◌++◌, Option, Some, None, Ok, Err, length, replicate, slice_get, refl, sym, ap, ◌∙◌, arith}
 use Rattle.std.specs.Prelude.{option_and_then}
 use Rattle.std.proofs.lemmas.List.{append_assoc, append-nil, length-append}
 use Rattle.hcc_core.specs.declared.event.Event.{Event}
@@ -12,10 +12,11 @@ use Rattle.hcc_core.specs.Sums.{when}
 use Rattle.hcc_core.specs.World.{State}
 use Rattle.hcc_core.specs.Steps.{Outcome, outcome_of, is_made, world_after, after, after_all, opening_of, new_slot, new_client, CanOpen}
 use Rattle.hcc_core.specs.Lawful.{Lawful, stamps_by}
-use Rattle.hcc_core.specs.Runs.{entry_held, held_at, Stands, StandsThrough, KeepsPlaces, entry_of, entry_at, is_show, shows_in, shows_of, entry_given, AreGiven}
+use Rattle.hcc_core.specs.Runs.{entry_held, held_at, Stands, StandsThrough, KeepsPlaces, FindsPlaces, entry_of, entry_at, is_show, shows_in, shows_of, entry_given, AreGiven}
 use Rattle.hcc_core.proofs.ListLemmas.{nothing_in, in_replicate}
 use Rattle.hcc_core.proofs.Keeps.{KeepsLaw, outcome_keeps}
 use Rattle.hcc_core.proofs.Opening.{lawful_opening}
+use Rattle.hcc_core.proofs.HeldNames.{Apart, finds_places}
 use Rattle.hcc_core.proofs.Moves.{Holds, holds_still}
 use Rattle.hcc_core.proofs.Shows.{Adds, Added, outcome_adds}
 
@@ -40,11 +41,6 @@ pub every_run : (setup : Setup) (events : List Event) → CanOpen setup
 every_run setup events can = lawful_all events (opening_of setup) (lawful_opening setup can)
 
 -- References.
-
--- a client has each name on one slot at most
-abbrev pub Apart : State → Type 0
-Apart w = (client name slot slot' : ℕ) (entry entry' : Entry) → held_at w client name slot ≡ Some entry
-    → held_at w client name slot' ≡ Some entry' → slot ≡ slot'
 
 outcome_holds : (w : State) (event : Event) (outcome : Outcome) → Added w event outcome
     → Holds w (world_after w outcome)
@@ -111,6 +107,12 @@ pub run_keeps_places : (setup : Setup) (before events : List Event)
 run_keeps_places setup before events =
     keeps_places events (after_all (opening_of setup) before)
     (apart_all before (opening_of setup) (apart_opening setup))
+
+pub run_finds_places : (setup : Setup) (events : List Event)
+    → FindsPlaces (after_all (opening_of setup) events)
+run_finds_places setup events =
+    finds_places (after_all (opening_of setup) events)
+    (apart_all events (opening_of setup) (apart_opening setup))
 
 -- Entries.
 

@@ -14,6 +14,7 @@ pub mod Opening
 pub mod Keeps
 pub mod Readable
 pub mod StepLemmas
+pub mod HeldNames
 pub mod Moves
 pub mod EventMoves
 pub mod Shows

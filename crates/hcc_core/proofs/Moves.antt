@@ -1,9 +1,9 @@
 -- What a step moves. References stay where they are, but for those of one slot that come anew, and
 -- entries stay what they are. Only `show` adds an entry, of which `Shows` speaks.
-use Rattle.std.proofs.Common.{◌≡◌, ◌⊎◌, inl, inr, ℕ, zero, suc, ◌+◌, ◌≤◌, ◌&&◌, ◌||◌, ◌==◌, Bool, true, false, cond, not, nat_lt, is_none, List, [], ◌∷◌, ◌++◌, Option, Some, None, slice_set, slice_get, length, position, refl, sym, ap, ◌∙◌, arith}
+use Rattle.std.proofs.Common.{◌≡◌, ◌⊎◌, inl, inr, ℕ, zero, suc, ◌+◌, ◌≤◌, ◌&&◌, ◌||◌, ◌==◌, Bool, true, false, cond, not, nat_lt, is_none, List, [], ◌∷◌, ◌++◌, Option, Some, None, slice_set, slice_get, length, refl, sym, ap, ◌∙◌, arith}
 use Rattle.std.specs.Prelude.{option_and_then}
 use Rattle.std.specs.List.{list_any, position_or_len}
-use Rattle.std.proofs.lemmas.Bool.{and_parts, or_cases, eqb-true, ltb-false, false≢true}
+use Rattle.std.proofs.lemmas.Bool.{or_cases, or_right}
 use Rattle.std.proofs.lemmas.List.Folds.{list_any-append}
 use Rattle.hcc_core.specs.declared.state.Client.{Client}
 use Rattle.hcc_core.specs.declared.state.Entry.{Entry}
@@ -11,15 +11,12 @@ use Rattle.hcc_core.specs.declared.state.Reference.{Reference}
 use Rattle.hcc_core.specs.declared.state.Resident.{Resident}
 use Rattle.hcc_core.specs.declared.state.Slot.{Slot}
 use Rattle.hcc_core.specs.declared.state.Slot.TheVariants as slots
-use Rattle.hcc_core.specs.World.{State, references_of, is_named, has_reference, slot_holding}
+use Rattle.hcc_core.specs.World.{State, is_named, has_reference, slot_holding}
 use Rattle.hcc_core.specs.Steps.{dropped, with_client, new_reference, slot_acquired, slot_given, slot_used, slot_hidden, slot_marked, slot_with_uses}
 use Rattle.hcc_core.specs.Lawful.{stamps_by}
 use Rattle.hcc_core.specs.Runs.{entry_held, held_at, entry_of, entry_at}
 use Rattle.hcc_core.proofs.ListLemmas.{read_same, read_at_set}
-
--- no reference of this client has this name
-abbrev pub Unheld : State → ℕ → ℕ → Type 0
-Unheld w client name = (slot : ℕ) (entry : Entry) → held_at w client name slot ≡ Some entry → ⊥
+use Rattle.hcc_core.proofs.HeldNames.{Unheld, named_free}
 
 -- a reference stood where it stands with the same entry, or has come anew to one slot
 pub record Holds (w w' : State) : Type 0 where
@@ -56,13 +53,13 @@ client_moves w client old new at_client stamps = record {
 
 -- Steps that change one slot.
 
--- what is left in the place of a slot keeps or frees its references; a new one was unheld
-abbrev pub Keeps : State → Option Slot → Slot → Type 0
-Keeps w seen left = (client name : ℕ) (entry : Entry) → entry_held client name left ≡ Some entry
+-- a reference on what is left in a slot was there, or is new to the world
+abbrev pub KeepsHeld : State → Option Slot → Slot → Type 0
+KeepsHeld w seen left = (client name : ℕ) (entry : Entry) → entry_held client name left ≡ Some entry
     → (option_and_then (entry_held client name) seen ≡ Some entry) ⊎ Unheld w client name
 
 pub holds_slot : (w : State) (slot : ℕ) (left : Slot) (clients : List Client)
-    → Keeps w (slice_get w.slots slot) left
+    → KeepsHeld w (slice_get w.slots slot) left
     → Holds w (record w { slots = slice_set w.slots slot left; clients = clients })
 holds_slot w slot left clients keeps = record {
   here = slot;
@@ -77,7 +74,7 @@ holds_slot w slot left clients keeps = record {
 
 -- and it has no other entry
 pub record Turns (w : State) (seen : Option Slot) (left : Slot) : Type 0 where
-  pub keeps : Keeps w seen left
+  pub keeps : KeepsHeld w seen left
   pub entry : (e : Entry) → entry_of left ≡ Some e → option_and_then entry_of seen ≡ Some e
 
 pub slot_moves : (w : State) (slot : ℕ) (left : Slot) (clients : List Client)
@@ -132,17 +129,11 @@ any_dropped p q (x ∷ xs) h = by (p x) (any_dropped p q xs) h
   where
     by : (b : Bool) → (list_any q (dropped p xs) ≡ true → list_any q xs ≡ true)
         → list_any q (cond b xs (x ∷ dropped p xs)) ≡ true → (q x || list_any q xs) ≡ true
-    by true later h = either (q x) h
-      where
-        either : (b : Bool) → list_any q xs ≡ true → (b || list_any q xs) ≡ true
-        either true h = refl
-        either false h = h
-    by false later h = either (q x) later h
-      where
-        either : (b : Bool) → (list_any q (dropped p xs) ≡ true → list_any q xs ≡ true)
-            → (b || list_any q (dropped p xs)) ≡ true → (b || list_any q xs) ≡ true
-        either true later h = refl
-        either false later h = later h
+    by true later h = or_right (q x) (list_any q xs) h
+    by false later h = elim (or_cases (q x) (list_any q (dropped p xs)) h) [
+      | inl e ↦ rw e refl
+      | inr e ↦ or_right (q x) (list_any q xs) (later e)
+    ]
 
 pub given : (w : State) (client name : ℕ) (seen : Slot) → Turns w (Some seen) (slot_given client name seen)
 given w client name (slots.Empty strays) = same w _
@@ -167,69 +158,12 @@ marked w (slots.Empty strays) = same w _
 marked w (slots.Building other strays) = same w _
 marked w (slots.Shareable r) = stays w r _ refl (λ c n h. inl h)
 
-pub counted_down : (w : State) (uses : ℕ) (seen : Slot) → Turns w (Some seen) (slot_with_uses uses seen)
-counted_down w uses (slots.Empty strays) = same w _
-counted_down w uses (slots.Building other strays) = same w _
-counted_down w uses (slots.Shareable r) = stays w r _ refl (λ c n h. inl h)
+pub recounted : (w : State) (uses : ℕ) (seen : Slot) → Turns w (Some seen) (slot_with_uses uses seen)
+recounted w uses (slots.Empty strays) = same w _
+recounted w uses (slots.Building other strays) = same w _
+recounted w uses (slots.Shareable r) = stays w r _ refl (λ c n h. inl h)
 
 -- References that come.
-
--- who has the name that is unheld
-pub named_free : (w : State) (client name c n : ℕ) → Unheld w client name
-    → (((client == c) && (name == n)) || false) ≡ true → Unheld w c n
-named_free w client name c n free h = elim (or_cases ((client == c) && (name == n)) false h) [
-  | inl e ↦
-      let both = and_parts (client == c) (name == n) e in
-      let c_is : c ≡ client = sym (eqb-true client c both.0) in
-      let n_is : n ≡ name = sym (eqb-true name n both.1) in
-      rw (c_is, n_is) free
-  | inr e ↦ absurd (false≢true e)
-]
-
--- where no member is found to pass, none passes
-none_passes : {X : Type 0} (p : X → Bool) (xs : List X) (i : ℕ) (x : X)
-    → length xs ≤ position_or_len p xs → slice_get xs i ≡ Some x → p x ≡ true → ⊥
-none_passes p [] i x past at passes = cc
-none_passes {X = X} p (y ∷ ys) i x past at passes = by (p y) refl (none_passes p ys) past i at
-  where
-    by : (b : Bool) → p y ≡ b
-        → ((i : ℕ) (x : X) → length ys ≤ position_or_len p ys → slice_get ys i ≡ Some x → p x ≡ true → ⊥)
-        → suc (length ys) ≤ cond (not b) (1 + position_or_len p ys) 0
-        → (i : ℕ) → slice_get (y ∷ ys) i ≡ Some x → ⊥
-    by true is later past i at = omega arith
-    by false is later past zero at =
-        let first : y ≡ x = cc in false≢true (sym is ∙ ap p first ∙ passes)
-    by false is later past (suc i) at = later i x (omega arith) at passes
-
--- what a reading found is held there
-held_there : (client name : ℕ) (o : Option Slot) (entry : Entry)
-    → option_and_then (entry_held client name) o ≡ Some entry
-    → (seen : Slot) × (o ≡ Some seen) × (has_reference client name seen ≡ true)
-held_there client name None entry h = cc
-held_there client name (Some (slots.Empty strays)) entry h = cc
-held_there client name (Some (slots.Building other strays)) entry h = cc
-held_there client name (Some (slots.Shareable r)) entry h =
-    (slots.Shareable r, refl, by (list_any (is_named client name) r.references) refl h)
-  where
-    by : (b : Bool) → list_any (is_named client name) r.references ≡ b
-        → cond b (Some r.entry) None ≡ Some entry
-        → list_any (is_named client name) r.references ≡ true
-    by true is h = is
-    by false is h = cc
-
--- a name that no slot is found to hold is unheld
-pub unheld : (w : State) (client name : ℕ) → is_none (slot_holding w.slots client name) ≡ true
-    → Unheld w client name
-unheld w client name none s entry h =
-    by (nat_lt (position_or_len (has_reference client name) w.slots) (length w.slots)) refl none
-  where
-    by : (b : Bool)
-        → nat_lt (position_or_len (has_reference client name) w.slots) (length w.slots) ≡ b
-        → is_none (cond b (Some (position_or_len (has_reference client name) w.slots)) None) ≡ true → ⊥
-    by true is none = cc
-    by false is none =
-        let there = held_there client name (slice_get w.slots s) entry h in
-        none_passes (has_reference client name) w.slots s there.0 (ltb-false _ _ is) there.1 there.2
 
 -- the references of an entry that was acquired: those that were there and the new one
 pub got : (w : State) (client name weight : ℕ) (seen : Slot) → Unheld w client name

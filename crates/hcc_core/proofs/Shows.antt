@@ -1,10 +1,10 @@
 -- What each event moves and shows. Only `show` adds an entry: what it says, under the next stamp of
 -- its client.
-use Rattle.std.proofs.Common.{◌≡◌, ◌⊎◌, inl, inr, ℕ, ◌+◌, ◌&&◌, ◌==◌, nat_le, nat_lt, Bool, true, false, cond, is_none, List, [], ◌∷◌, Option, Some, None, Result, Ok, Err, slice_set, slice_get, refl, sym, ap, ◌∙◌, arith}
+use Rattle.std.proofs.Common.{◌≡◌, ◌⊎◌, inl, inr, ℕ, ◌+◌, ◌==◌, nat_lt, Bool, true, false, cond, List, Option, Some, None, Result, Ok, Err, slice_get, refl, sym, ap, arith}
 use Rattle.std.specs.List.{list_any}
 use Rattle.std.specs.Option.{ok_or}
-use Rattle.std.proofs.lemmas.Bool.{and_parts, eqb-true, eq-eqb, ne_eqb, cases_eq, false≢true}
-use Rattle.hcc_core.specs.declared.limits.TheConstants.{MOST_COUNTDOWN, STAMPS_PER_CLIENT}
+use Rattle.std.proofs.lemmas.Bool.{and_parts, eq-eqb, ne_eqb, cases_eq}
+use Rattle.hcc_core.specs.declared.limits.TheConstants.{STAMPS_PER_CLIENT}
 use Rattle.hcc_core.specs.declared.state.Client.{Client}
 use Rattle.hcc_core.specs.declared.state.Entry.{Entry}
 use Rattle.hcc_core.specs.declared.state.Resident.{Resident}
@@ -15,13 +15,14 @@ use Rattle.hcc_core.specs.declared.event.CoreError.TheVariants.{NotAllowed}
 use Rattle.hcc_core.specs.declared.event.Event.{Event}
 use Rattle.hcc_core.specs.declared.event.Event.TheVariants as events
 use Rattle.hcc_core.specs.Sums.{when}
-use Rattle.hcc_core.specs.World.{State, is_granted, is_named, slot_holding}
+use Rattle.hcc_core.specs.World.{State, is_named}
 use Rattle.hcc_core.specs.Steps.{Outcome, ◌>>=◌, allow, live_at, with_both, built_by, is_fresh, may_show, first_references, resident_new, client_shown, show_of, in_range, rule_of, outcome_of}
 use Rattle.hcc_core.specs.Lawful.{stamps_by}
-use Rattle.hcc_core.specs.Runs.{entry_held, entry_of, entry_at, is_show, entry_given}
+use Rattle.hcc_core.specs.Runs.{entry_of, entry_at, is_show, entry_given}
 use Rattle.hcc_core.proofs.ListLemmas.{read_at_set, read_here, read_other}
 use Rattle.hcc_core.proofs.Keeps.{live_ok, may_ok}
-use Rattle.hcc_core.proofs.Moves.{Unheld, Holds, Moves, Keeps, holds_slot, unheld, named_free}
+use Rattle.hcc_core.proofs.HeldNames.{unheld, named_free}
+use Rattle.hcc_core.proofs.Moves.{Holds, KeepsHeld, holds_slot}
 use Rattle.hcc_core.proofs.EventMoves.{Moved, start_moves, look_moves, acquire_moves, give_moves, use_moves, occupy_moves, hide_moves, free_moves, empty_moves, write_moves, read_moves, enter_moves, charge_moves, slots_moves, settle_moves, end_moves, clock_moves, mark_moves, correct_moves, waive_moves, quit_moves, usage_moves, occupancy_moves, standing_moves, stand_moves, fall_moves, count_moves, pass_moves, unpass_moves, turn_moves}
 
 -- the entry is what this event says, under the next stamp of the client that shows it
@@ -69,7 +70,7 @@ fresh_to_show all client found charge countdown name h =
 -- the reference that a show makes is new
 shown_keeps : (w : State) (client : ℕ) (name : Option ℕ) (seen : Option Slot) (r : Resident)
     → is_fresh w.slots client name ≡ true → r.references ≡ first_references client name
-    → Keeps w seen (slots.Shareable r)
+    → KeepsHeld w seen (slots.Shareable r)
 shown_keeps w client None seen r fresh first c n entry h = let none = rw first at h in cc
 shown_keeps w client (Some name) seen r fresh first c n entry h =
     inr (named_free w client name c n (unheld w client name fresh) (by _ refl (rw first at h)))

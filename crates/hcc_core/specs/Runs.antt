@@ -1,26 +1,30 @@
 -- What is said of runs. A run tries events one after the other from a world; what is refused changes
 -- nothing. The worlds on the way are the worlds after the fronts of the run.
-use Rattle.std.specs.Prelude.{◌≡◌, ℕ, Bool, true, false, ◌&&◌, ◌==◌, List, [], ◌∷◌, ◌++◌, Option, Some, None, slice_get, option_and_then, if◌then◌else◌}
-use Rattle.std.specs.List.{list_any}
+use Rattle.std.specs.Prelude.{◌≡◌, ℕ, Bool, false, ◌&&◌, ◌==◌, List, [], ◌∷◌, ◌++◌, Option, Some, None, slice_get, option_and_then, if◌then◌else◌}
 use Rattle.hcc_core.specs.declared.state.Stamp.{Stamp}
 use Rattle.hcc_core.specs.declared.state.Entry.{Entry}
 use Rattle.hcc_core.specs.declared.state.Slot.{Slot}
 use Rattle.hcc_core.specs.declared.state.Slot.TheVariants as slots
 use Rattle.hcc_core.specs.declared.event.Event.{Event}
 use Rattle.hcc_core.specs.declared.event.Event.TheVariants as events
-use Rattle.hcc_core.specs.World.{State, is_named}
+use Rattle.hcc_core.specs.World.{State, has_reference, slot_holding}
 use Rattle.hcc_core.specs.Steps.{outcome_of, is_made, after, after_all}
+
+-- the entry of a slot
+abbrev pub entry_of : Slot → Option Entry
+entry_of (slots.Empty strays) = None
+entry_of (slots.Building client strays) = None
+entry_of (slots.Shareable r) = Some r.entry
+
+abbrev pub entry_at : State → ℕ → Option Entry
+entry_at world slot = option_and_then entry_of (slice_get world.slots slot)
 
 -- References.
 
--- the entry of a slot, if this client has a reference of this name there
+-- the entry on which this client holds a reference of this name, if it does so on this slot
 abbrev pub entry_held : ℕ → ℕ → Slot → Option Entry
-entry_held client name (slots.Empty strays) = None
-entry_held client name (slots.Building other strays) = None
-entry_held client name (slots.Shareable r) =
-    if list_any (is_named client name) r.references then Some r.entry else None
+entry_held client name slot = if has_reference client name slot then entry_of slot else None
 
--- the same for the slot of this number
 abbrev pub held_at : State → ℕ → ℕ → ℕ → Option Entry
 held_at world client name slot = option_and_then (entry_held client name) (slice_get world.slots slot)
 
@@ -35,7 +39,7 @@ StandsThrough world [] client name = Stands world client name
 StandsThrough world (event ∷ events) client name =
     Stands world client name × StandsThrough (after world event) events client name
 
--- a reference that stands so has one slot and one entry, before the events and after them
+-- a reference that stands so has one slot and one entry, in the first world and in the last
 abbrev pub KeepsPlaces : State → List Event → Type 0
 KeepsPlaces world events =
     (client name : ℕ) → StandsThrough world events client name
@@ -44,15 +48,15 @@ KeepsPlaces world events =
     → held_at (after_all world events) client name slot' ≡ Some entry'
     → (slot ≡ slot') × (entry ≡ entry')
 
+-- the slot that a step finds by a name is the slot on which that reference stands
+pub record FindsPlaces (world : State) : Type 0 where
+  pub stands : (client name slot : ℕ) → slot_holding world.slots client name ≡ Some slot
+      → (entry : Entry) × (held_at world client name slot ≡ Some entry)
+  pub found : (client name slot : ℕ) (entry : Entry)
+      → held_at world client name slot ≡ Some entry
+      → slot_holding world.slots client name ≡ Some slot
+
 -- Entries.
-
-abbrev pub entry_of : Slot → Option Entry
-entry_of (slots.Empty strays) = None
-entry_of (slots.Building client strays) = None
-entry_of (slots.Shareable r) = Some r.entry
-
-abbrev pub entry_at : State → ℕ → Option Entry
-entry_at world slot = option_and_then entry_of (slice_get world.slots slot)
 
 -- whether the event is a show of this client
 abbrev pub is_show : ℕ → Event → Bool

@@ -773,9 +773,10 @@ opening_of setup = record {
   hand = 0;
 }
 
--- the setups that can be opened
+-- the setups that can be opened: their numbers are in range
 pub record CanOpen (setup : Setup) : Type 0 where
   pub some_slot : 1 ≤ setup.slots
   pub slots : setup.slots ≤ MOST_SLOTS
   pub some_client : 1 ≤ setup.clients
   pub clients : setup.clients ≤ MOST_CLIENTS
+  pub capacity : setup.capacity < 2 ^ 64
