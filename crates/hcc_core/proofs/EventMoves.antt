@@ -32,7 +32,8 @@ chain w (Err e) f h = tt
 -- a step of a live client that changes nothing but that client
 live_moves : (w : State) (client : ℕ) (found new : Client) → live_at w client ≡ Ok found
     → new.stamps ≡ found.stamps → Moves w (record w { clients = slice_set w.clients client new })
-live_moves w client found new live stamps = client_moves w client found new (live_ok w client found live) stamps
+live_moves w client found new live stamps =
+    client_moves w client found new (live_ok w client found live) stamps
 
 -- a step of a live client that changes a slot too
 both_move : (w : State) (slot client : ℕ) (seen left : Slot) (found new : Client)
@@ -55,7 +56,8 @@ look_moves w client slot =
     live_moves w client found _ live refl))
 
 -- the test of an acquire finds the name unheld
-unheld_to_acquire : (setup : Setup) (all : List Slot) (client : ℕ) (found : Client) (slot : ℕ) (seen : Slot) (weight name : ℕ)
+unheld_to_acquire : (setup : Setup) (all : List Slot) (client : ℕ) (found : Client) (slot : ℕ)
+    (seen : Slot) (weight name : ℕ)
     → may_acquire setup all client found slot seen weight name ≡ true
     → is_none (slot_holding all client name) ≡ true
 unfolding may_acquire
@@ -65,7 +67,8 @@ unheld_to_acquire setup all client found slot seen weight name h =
     let d = and_parts _ (is_none (slot_holding all client name)) b.0 in
     d.1
 
-pub acquire_moves : (w : State) (client slot weight name : ℕ) → Moved w (acquire_of w client slot weight name)
+pub acquire_moves : (w : State) (client slot weight name : ℕ)
+    → Moved w (acquire_of w client slot weight name)
 unfolding acquire_of
 acquire_moves w client slot weight name =
     chain w (slot_at w slot) _ (λ seen at. chain w (live_at w client) _ (λ found live.
@@ -109,7 +112,8 @@ unfolding clock_of
 clock_moves w client slot =
     chain w (slot_at w slot) _ (λ seen at. chain w (live_at w client) _ (λ found live.
     chain w (allow (may_clock seen)) _ (λ u may.
-    slot_moves w slot _ w.clients (rw (found_ok _ _ seen at) (recounted w (clocked (uses_of seen)) seen)) (λ c. refl))))
+    slot_moves w slot _ w.clients
+    (rw (found_ok _ _ seen at) (recounted w (clocked (uses_of seen)) seen)) (λ c. refl))))
 
 pub mark_moves : (w : State) (client name : ℕ) → Moved w (mark_of w client name)
 unfolding mark_of
@@ -123,14 +127,16 @@ unfolding correct_of
 correct_moves w client name =
     chain w (live_at w client) _ (λ found live. chain w (holding w client name) _ (λ slot held.
     chain w (slot_at w slot) _ (λ seen at. chain w (allow (may_correct client name seen)) _ (λ u may.
-    both_move w slot client seen _ found _ at live (recounted w (uses_of seen - CORRECTION) seen) refl))))
+    both_move w slot client seen _ found _ at live
+    (recounted w (uses_of seen - CORRECTION) seen) refl))))
 
 -- The events on entries, but for `show`.
 
 occupied_moves : (w : State) (client slot : ℕ) (found : Client) (seen : Slot)
     → slot_at w slot ≡ Ok seen → live_at w client ≡ Ok found
     → Moved w (occupied w client found slot seen)
-occupied_moves w client slot found (slots.Empty strays) at live = both_move w slot client (slots.Empty strays) _ found _ at live (taken w _ client strays) refl
+occupied_moves w client slot found (slots.Empty strays) at live =
+    both_move w slot client (slots.Empty strays) _ found _ at live (taken w _ client strays) refl
 occupied_moves w client slot found (slots.Building other strays) at live = look_moves w client slot
 occupied_moves w client slot found (slots.Shareable r) at live = look_moves w client slot
 
@@ -155,7 +161,8 @@ free_moves w client slot name =
 pub empty_moves : (w : State) (client : ℕ) → Moved w (empty_of w client)
 unfolding empty_of
 empty_moves w client =
-    chain w (live_at w client) _ (λ found live. chain w (ok_or (freed_by found.owned) NotAllowed) _ (λ slot frees.
+    chain w (live_at w client) _ (λ found live.
+    chain w (ok_or (freed_by found.owned) NotAllowed) _ (λ slot frees.
     chain w (allow (has_no_member found.trail)) _ (λ u back.
     slot_moves w slot _ _ (emptied w _ 0)
     (λ c. read_same stamps_by w.clients client c found _ (live_ok w client found live) refl))))
@@ -171,7 +178,8 @@ enter_moves w client =
 pub slots_moves : (w : State) (client : ℕ) → Moved w (slots_of w client)
 unfolding slots_of
 slots_moves w client =
-    chain w (live_at w client) _ (λ found live. chain w (allow (nat_lt 0 found.freed_slots)) _ (λ u some.
+    chain w (live_at w client) _ (λ found live.
+    chain w (allow (nat_lt 0 found.freed_slots)) _ (λ u some.
     live_moves w client found _ live refl))
 
 pub quit_moves : (w : State) (client : ℕ) → Moved w (quit_of w client)
@@ -217,7 +225,8 @@ standing_moves w client = told_moves w client (standing_in w)
 pub stand_moves : (w : State) (client charge name : ℕ) → Moved w (stand_of w client charge name)
 unfolding stand_of
 stand_moves w client charge name =
-    chain w (live_at w client) _ (λ found live. chain w (allow (may_stand found charge name)) _ (λ u may.
+    chain w (live_at w client) _ (λ found live.
+    chain w (allow (may_stand found charge name)) _ (λ u may.
     live_moves w client found _ live refl))
 
 pub fall_moves : (w : State) (client name : ℕ) → Moved w (fall_of w client name)

@@ -88,7 +88,8 @@ stands_first [] w client name through = through
 stands_first (event ∷ events) w client name through = through.0
 
 keeps_places : (events : List Event) (w : State) → Apart w → KeepsPlaces w events
-keeps_places [] w apart client name through s t e f h k = one_place w apart client name through s t e f h k
+keeps_places [] w apart client name through s t e f h k =
+    one_place w apart client name through s t e f h k
 keeps_places (event ∷ events) w apart client name through s t e f h k =
     let next = stands_first events (after w event) client name through.1 in
     let holds = after_holds w event in
@@ -133,8 +134,8 @@ given_same : (w : State) (shows shows' : ℕ → List Event) → ((c : ℕ) → 
 given_same w shows shows' same g = record {
   counts = λ c. ap length (sym (same c)) ∙ g.counts c;
   entries = λ s e h.
-      ap (λ list. option_and_then (entry_given e.stamp) (slice_get list e.stamp.number)) (sym (same e.stamp.client))
-      ∙ g.entries s e h;
+      let read = λ (list : List Event). option_and_then (entry_given e.stamp) (slice_get list e.stamp.number) in
+      ap read (sym (same e.stamp.client)) ∙ g.entries s e h;
 }
 
 -- what a list reads it reads with more at its end, and then what was put there
@@ -159,7 +160,8 @@ made_given w event w' shows g adds = record {
       let more = one_more (is_show c event) in
       omega arith;
   entries = λ s e h. elim (adds.entries s e h) [
-    | inl old ↦ read_before (entry_given e.stamp) (shows e.stamp.client) _ e.stamp.number e (g.entries s e old)
+    | inl old ↦
+        read_before (entry_given e.stamp) (shows e.stamp.client) _ e.stamp.number e (g.entries s e old)
     | inr new ↦
         let c : ℕ = e.stamp.client in
         let is_last : e.stamp.number ≡ length (shows c) = new.next ∙ sym (g.counts c) in
@@ -188,14 +190,17 @@ all_given : (events : List Event) (w : State) (shows : ℕ → List Event) → G
     → Given (after_all w events) (λ c. shows c ++ shows_of c w events)
 all_given [] w shows g = given_same w shows _ (λ c. sym (append-nil (shows c))) g
 all_given (event ∷ events) w shows g =
-    given_same _ _ _ (λ c. append_assoc (shows c) (shows_in c w event) (shows_of c (after w event) events))
-    (all_given events (after w event) (λ c. shows c ++ shows_in c w event) (after_given w event shows g))
+    let next = after w event in
+    given_same _ _ _ (λ c. append_assoc (shows c) (shows_in c w event) (shows_of c next events))
+    (all_given events next (λ c. shows c ++ shows_in c w event) (after_given w event shows g))
 
 given_opening : (setup : Setup) → Given (opening_of setup) (λ c. [])
 unfolding opening_of
 given_opening setup = record {
-  counts = λ c. none (slice_get (replicate setup.clients new_client) c) (in_replicate setup.clients c new_client);
-  entries = λ s e h. absurd (nothing_in (option_and_then entry_of) setup.slots s new_slot e refl refl h);
+  counts = λ c.
+      none (slice_get (replicate setup.clients new_client) c) (in_replicate setup.clients c new_client);
+  entries = λ s e h.
+      absurd (nothing_in (option_and_then entry_of) setup.slots s new_slot e refl refl h);
 }
   where
     none : (o : Option Client) → (o ≡ None) ⊎ (o ≡ Some new_client) → 0 ≡ stamps_by o

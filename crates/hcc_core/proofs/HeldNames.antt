@@ -1,5 +1,5 @@
 -- Names that clients hold: where they are found, and where not.
-use Rattle.std.proofs.Common.{◌≡◌, ◌⊎◌, inl, inr, ℕ, zero, suc, ◌+◌, ◌<◌, ◌≤◌, ◌&&◌, ◌||◌, ◌==◌, Bool, true, false, cond, not, nat_lt, is_none, List, [], ◌∷◌, Option, Some, None, slice_get, length, position, one-add, refl, sym, ap, ◌∙◌, arith}
+use Rattle.std.proofs.Common.{◌≡◌, inl, inr, ℕ, zero, suc, ◌+◌, ◌<◌, ◌≤◌, ◌&&◌, ◌||◌, ◌==◌, Bool, true, false, cond, not, nat_lt, is_none, List, [], ◌∷◌, Option, Some, None, slice_get, length, position, one-add, refl, sym, ap, ◌∙◌, arith}
 use Rattle.std.specs.Prelude.{option_and_then}
 use Rattle.std.specs.List.{list_any, position_or_len}
 use Rattle.std.proofs.lemmas.Bool.{and_parts, or_cases, eqb-true, ltb-true, ltb-false, false≢true}
@@ -32,7 +32,8 @@ none_passes p [] i x past at passes = cc
 none_passes {X = X} p (y ∷ ys) i x past at passes = by (p y) refl (none_passes p ys) past i at
   where
     by : (b : Bool) → p y ≡ b
-        → ((i : ℕ) (x : X) → length ys ≤ position_or_len p ys → slice_get ys i ≡ Some x → p x ≡ true → ⊥)
+        → ((i : ℕ) (x : X) → length ys ≤ position_or_len p ys → slice_get ys i ≡ Some x → p x ≡ true
+        → ⊥)
         → suc (length ys) ≤ cond (not b) (1 + position_or_len p ys) 0
         → (i : ℕ) → slice_get (y ∷ ys) i ≡ Some x → ⊥
     by true is later past i at = omega arith
@@ -82,7 +83,8 @@ first_found {X = X} p (y ∷ ys) within = by (p y) refl (first_found p ys) withi
         → (position_or_len p ys < length ys
         → (x : X) × (slice_get ys (position_or_len p ys) ≡ Some x) × (p x ≡ true))
         → cond (not b) (1 + position_or_len p ys) 0 < suc (length ys)
-        → (x : X) × (slice_get (y ∷ ys) (cond (not b) (1 + position_or_len p ys) 0) ≡ Some x) × (p x ≡ true)
+        → (x : X) × (slice_get (y ∷ ys) (cond (not b) (1 + position_or_len p ys) 0) ≡ Some x)
+        × (p x ≡ true)
     by true is later within = (y, refl, is)
     by false is later within =
         let next = later (omega arith) in (next.0, rw one-add next.1, next.2)
@@ -123,7 +125,8 @@ Apart w = (client name slot slot' : ℕ) (entry entry' : Entry)
 pub finds_places : (w : State) → Apart w → FindsPlaces w
 finds_places w apart = record {
   stands = found_stands w;
-  found = λ client name slot entry h. by client name slot entry h (slot_holding w.slots client name) refl;
+  found = λ client name slot entry h.
+      by client name slot entry h (slot_holding w.slots client name) refl;
 }
   where
     by : (client name slot : ℕ) (entry : Entry) → held_at w client name slot ≡ Some entry

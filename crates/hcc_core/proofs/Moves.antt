@@ -1,8 +1,8 @@
 -- What a step moves. References stay where they are, but for those of one slot that come anew, and
 -- entries stay what they are. Only `show` adds an entry, of which `Shows` speaks.
-use Rattle.std.proofs.Common.{◌≡◌, ◌⊎◌, inl, inr, ℕ, zero, suc, ◌+◌, ◌≤◌, ◌&&◌, ◌||◌, ◌==◌, Bool, true, false, cond, not, nat_lt, is_none, List, [], ◌∷◌, ◌++◌, Option, Some, None, slice_set, slice_get, length, refl, sym, ap, ◌∙◌, arith}
+use Rattle.std.proofs.Common.{◌≡◌, ◌⊎◌, inl, inr, ℕ, ◌||◌, Bool, true, false, cond, List, [], ◌∷◌, ◌++◌, Option, Some, None, slice_set, slice_get, refl, sym, ap, ◌∙◌}
 use Rattle.std.specs.Prelude.{option_and_then}
-use Rattle.std.specs.List.{list_any, position_or_len}
+use Rattle.std.specs.List.{list_any}
 use Rattle.std.proofs.lemmas.Bool.{or_cases, or_right}
 use Rattle.std.proofs.lemmas.List.Folds.{list_any-append}
 use Rattle.hcc_core.specs.declared.state.Client.{Client}
@@ -11,7 +11,7 @@ use Rattle.hcc_core.specs.declared.state.Reference.{Reference}
 use Rattle.hcc_core.specs.declared.state.Resident.{Resident}
 use Rattle.hcc_core.specs.declared.state.Slot.{Slot}
 use Rattle.hcc_core.specs.declared.state.Slot.TheVariants as slots
-use Rattle.hcc_core.specs.World.{State, is_named, has_reference, slot_holding}
+use Rattle.hcc_core.specs.World.{State, is_named}
 use Rattle.hcc_core.specs.Steps.{dropped, with_client, new_reference, slot_acquired, slot_given, slot_used, slot_hidden, slot_marked, slot_with_uses}
 use Rattle.hcc_core.specs.Lawful.{stamps_by}
 use Rattle.hcc_core.specs.Runs.{entry_held, held_at, entry_of, entry_at}
@@ -27,7 +27,8 @@ pub record Holds (w w' : State) : Type 0 where
 -- a step that shows nothing
 pub record Moves (w w' : State) : Type 0 where
   pub holds : Holds w w'
-  pub entries : (slot : ℕ) (entry : Entry) → entry_at w' slot ≡ Some entry → entry_at w slot ≡ Some entry
+  pub entries : (slot : ℕ) (entry : Entry) → entry_at w' slot ≡ Some entry
+      → entry_at w slot ≡ Some entry
   pub counts : (c : ℕ) → stamps_by (slice_get w'.clients c) ≡ stamps_by (slice_get w.clients c)
 
 -- Steps that leave the slots alone.
@@ -63,13 +64,14 @@ pub holds_slot : (w : State) (slot : ℕ) (left : Slot) (clients : List Client)
     → Holds w (record w { slots = slice_set w.slots slot left; clients = clients })
 holds_slot w slot left clients keeps = record {
   here = slot;
-  held = λ client name t entry h. elim (read_at_set (entry_held client name) w.slots slot t left entry h) [
-    | inl e ↦ elim (keeps client name entry e.1) [
-      | inl k ↦ inl (ap (held_at w client name) e.0 ∙ k)
-      | inr u ↦ inr (e.0, u)
-    ]
-    | inr e ↦ inl e
-  ];
+  held = λ client name t entry h.
+      elim (read_at_set (entry_held client name) w.slots slot t left entry h) [
+        | inl e ↦ elim (keeps client name entry e.1) [
+          | inl k ↦ inl (ap (held_at w client name) e.0 ∙ k)
+          | inr u ↦ inr (e.0, u)
+        ]
+        | inr e ↦ inl e
+      ];
 }
 
 -- and it has no other entry
@@ -96,7 +98,8 @@ slot_moves w slot left clients turns counts = record {
 pub emptied : (w : State) (seen : Option Slot) (strays : ℕ) → Turns w seen (slots.Empty strays)
 emptied w seen strays = record { keeps = λ c n e h. cc; entry = λ e h. cc }
 
-pub taken : (w : State) (seen : Option Slot) (client strays : ℕ) → Turns w seen (slots.Building client strays)
+pub taken : (w : State) (seen : Option Slot) (client strays : ℕ)
+    → Turns w seen (slots.Building client strays)
 taken w seen client strays = record { keeps = λ c n e h. cc; entry = λ e h. cc }
 
 same : (w : State) (seen : Slot) → Turns w (Some seen) seen
@@ -135,7 +138,8 @@ any_dropped p q (x ∷ xs) h = by (p x) (any_dropped p q xs) h
       | inr e ↦ or_right (q x) (list_any q xs) (later e)
     ]
 
-pub given : (w : State) (client name : ℕ) (seen : Slot) → Turns w (Some seen) (slot_given client name seen)
+pub given : (w : State) (client name : ℕ) (seen : Slot)
+    → Turns w (Some seen) (slot_given client name seen)
 given w client name (slots.Empty strays) = same w _
 given w client name (slots.Building other strays) = same w _
 given w client name (slots.Shareable r) =

@@ -81,8 +81,8 @@ shown_keeps w client (Some name) seen r fresh first c n entry h =
     by true is h = is
     by false is h = cc
 
-module _ (w : State) (client slot key0 key1 charge countdown : ℕ) (name : Option ℕ) (value : List ℕ) (found : Client)
-    (at_client : slice_get w.clients client ≡ Some found) where
+module _ (w : State) (client slot key0 key1 charge countdown : ℕ) (name : Option ℕ) (value : List ℕ)
+    (found : Client) (at_client : slice_get w.clients client ≡ Some found) where
   abbrev resident : Resident
   resident = resident_new client found key0 key1 charge countdown name value
 
@@ -101,16 +101,21 @@ module _ (w : State) (client slot key0 key1 charge countdown : ℕ) (name : Opti
 
   shown_entries : (s : ℕ) (entry : Entry) → entry_at world s ≡ Some entry
       → (entry_at w s ≡ Some entry) ⊎ IsNew w said entry
-  shown_entries s entry h = elim (read_at_set entry_of w.slots slot s (slots.Shareable resident) entry h) [
-    | inl e ↦ let is : resident.entry ≡ entry = (let same : Some resident.entry ≡ Some entry = e.1 in cc) in inr (rw is at shown_is_new)
-    | inr e ↦ inl e
-  ]
+  shown_entries s entry h =
+      elim (read_at_set entry_of w.slots slot s (slots.Shareable resident) entry h) [
+        | inl e ↦
+            let here : Some resident.entry ≡ Some entry = e.1 in
+            let is : resident.entry ≡ entry = cc in
+            inr (rw is at shown_is_new)
+        | inr e ↦ inl e
+      ]
 
   shown_counts : (c : ℕ) → stamps_by (slice_get world.clients c)
       ≡ stamps_by (slice_get w.clients c) + when (is_show c said) 1
   shown_counts c = elim (cases_eq c client) [
     | inl e ↦
-        let now = ap stamps_by (read_here w.clients client found (client_shown charge found) at_client) in
+        let new = client_shown charge found in
+        let now = ap stamps_by (read_here w.clients client found new at_client) in
         let was = ap stamps_by at_client in
         let one : when (client == client) 1 ≡ 1 = rw (eq-eqb client client refl) refl in
         rw e (omega arith)
@@ -122,7 +127,8 @@ module _ (w : State) (client slot key0 key1 charge countdown : ℕ) (name : Opti
 
   shown_adds : is_fresh w.slots client name ≡ true → Adds w said world
   shown_adds fresh = record {
-    holds = holds_slot w slot _ _ (shown_keeps w client name (slice_get w.slots slot) resident fresh refl);
+    holds = holds_slot w slot _ _
+        (shown_keeps w client name (slice_get w.slots slot) resident fresh refl);
     entries = shown_entries;
     counts = shown_counts;
   }

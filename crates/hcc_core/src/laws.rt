@@ -6,21 +6,26 @@ ghost use Rattle.hcc_core.specs.Lawful.{Lawful};
 ghost use Rattle.hcc_core.specs.Runs.{AreGiven, FindsPlaces, KeepsPlaces};
 ghost use Rattle.hcc_core.specs.Steps.{CanOpen, opening_of, after_all};
 
-/// Whatever events come from an opening world, in whatever order; refused events change nothing:
-///
-/// - The world after them is lawful.
-/// - A reference that stands in two worlds, and in all between them, has one slot and one entry in
-///   both. It is the slot that steps find by the name.
-/// - The entry of the stamp of a client and a number is what that client's show of this number
-///   gave: of its shows that were allowed so far, counted from 0.
-///
-/// The list is any list, so each holds of every world on the way too. The last two ask nothing of
-/// the setup.
+/// What holds of every world on the way of every run from an opening world, whatever events come
+/// and in whatever order. Events that are refused change nothing. Only the first clause needs that
+/// the setup can be opened.
 ///
 /// It does nothing when it runs: its contract is the law.
 pub fn law_every_run()
-    ensures lawful { (setup : Setup) (events : List Event) → CanOpen setup → Lawful (after_all (opening_of setup) events) }
-    ensures places { (setup : Setup) (before events : List Event) → KeepsPlaces (after_all (opening_of setup) before) events }
-    ensures found { (setup : Setup) (events : List Event) → FindsPlaces (after_all (opening_of setup) events) }
-    ensures entries { (setup : Setup) (events : List Event) → AreGiven (opening_of setup) events }
+    // The world after any events is lawful.
+    ensures lawful { (setup : Setup) (events : List Event) → CanOpen setup
+        → Lawful (after_all (opening_of setup) events) }
+
+    // A reference that stands in two worlds and in all between them has one slot and one entry.
+    ensures places { (setup : Setup) (before events : List Event)
+        → KeepsPlaces (after_all (opening_of setup) before) events }
+
+    // That slot is the one which steps find by the reference's name.
+    ensures found { (setup : Setup) (events : List Event)
+        → FindsPlaces (after_all (opening_of setup) events) }
+
+    // The entry of the stamp of a client and a number is what that client's show of this number
+    // gave: of its shows that were allowed, from 0.
+    ensures entries { (setup : Setup) (events : List Event)
+        → AreGiven (opening_of setup) events }
 {}
