@@ -63,11 +63,12 @@ abbrev pub is_show : ℕ → Event → Bool
 is_show client (events.Show maker key0 key1 charge countdown name value) = maker == client
 is_show client other = false
 
--- the shows of this client that are allowed in a run, the first one first
+-- the event, where it is a show of this client that is allowed
 abbrev pub shows_in : ℕ → State → Event → List Event
 shows_in client world event =
     if is_made (outcome_of world event) && is_show client event then event ∷ [] else []
 
+-- the shows of this client that are allowed in a run, the first one first
 abbrev pub shows_of : ℕ → State → List Event → List Event
 shows_of client world [] = []
 shows_of client world (event ∷ events) =
