@@ -1,6 +1,6 @@
 -- What holds of every run: its worlds are lawful, a reference that stands keeps its slot and its
 -- entry, and entries are what their shows gave.
-use Rattle.std.proofs.Common.{◌≡◌, ◌⊎◌, inl, inr, ℕ, zero, suc, ◌&&◌, Bool, true, false, cond, List, [], ◌∷◌, ◌++◌, Option, Some, None, Ok, Err, length, replicate, slice_get, refl, sym, ap, ◌∙◌, arith}
+use Rattle.std.proofs.Common.{◌≡◌, ◌⊎◌, inl, inr, ℕ, zero, suc, ◌&&◌, Bool, true, false, cond, List, [], ◌∷◌, ◌++◌, Option, Some, None, Ok, Err, length, replicate, slice_get, refl, sym, ap, ◌∙◌, arith, ◌≤◌}
 use Rattle.std.specs.Prelude.{option_and_then}
 use Rattle.std.proofs.lemmas.List.{append_assoc, append-nil, length-append}
 use Rattle.hcc_core.specs.declared.event.Event.{Event}
@@ -12,11 +12,12 @@ use Rattle.hcc_core.specs.Sums.{when}
 use Rattle.hcc_core.specs.World.{State}
 use Rattle.hcc_core.specs.Steps.{Outcome, outcome_of, is_made, world_after, after, after_all, opening_of, new_slot, new_client, CanOpen}
 use Rattle.hcc_core.specs.Lawful.{Lawful, stamps_by}
-use Rattle.hcc_core.specs.Runs.{entry_held, held_at, Stands, StandsThrough, KeepsPlaces, FindsPlaces, entry_of, entry_at, is_show, shows_in, shows_of, entry_given, AreGiven}
+use Rattle.hcc_core.specs.Runs.{entry_held, held_at, named_on, named_in, Stands, StandsThrough, KeepsPlaces, FindsOne, entry_of, entry_at, is_show, shows_in, shows_of, entry_given, AreGiven}
 use Rattle.hcc_core.proofs.ListLemmas.{nothing_in, in_replicate}
+use Rattle.hcc_core.proofs.SumLemmas.{total-zero}
 use Rattle.hcc_core.proofs.Keeps.{KeepsLaw, outcome_keeps}
 use Rattle.hcc_core.proofs.Opening.{lawful_opening}
-use Rattle.hcc_core.proofs.HeldNames.{Apart, finds_places}
+use Rattle.hcc_core.proofs.HeldNames.{Apart, finds_one}
 use Rattle.hcc_core.proofs.Moves.{Holds, holds_still}
 use Rattle.hcc_core.proofs.Shows.{Adds, Added, outcome_adds}
 
@@ -109,11 +110,32 @@ run_keeps_places setup before events =
     keeps_places events (after_all (opening_of setup) before)
     (apart_all before (opening_of setup) (apart_opening setup))
 
-pub run_finds_places : (setup : Setup) (events : List Event)
-    → FindsPlaces (after_all (opening_of setup) events)
-run_finds_places setup events =
-    finds_places (after_all (opening_of setup) events)
+-- a client has one reference of a name at most
+abbrev pub Once : State → Type 0
+Once w = (client name : ℕ) → named_in w client name ≤ 1
+
+once_kept : (w w' : State) → Once w → Holds w w' → Once w'
+once_kept w w' once holds client name = elim (holds.times client name) [
+  | inl few ↦ let before = once client name in omega arith
+  | inr one ↦ one
+]
+
+once_all : (events : List Event) (w : State) → Once w → Once (after_all w events)
+once_all [] w once = once
+once_all (event ∷ events) w once =
+    once_all events (after w event) (once_kept w (after w event) once (after_holds w event))
+
+once_opening : (setup : Setup) → Once (opening_of setup)
+unfolding opening_of
+once_opening setup client name =
+    let none = total-zero (named_on client name) setup.slots new_slot refl in omega arith
+
+pub run_finds_one : (setup : Setup) (events : List Event)
+    → FindsOne (after_all (opening_of setup) events)
+run_finds_one setup events =
+    finds_one (after_all (opening_of setup) events)
     (apart_all events (opening_of setup) (apart_opening setup))
+    (once_all events (opening_of setup) (once_opening setup))
 
 -- Entries.
 
@@ -134,8 +156,9 @@ given_same : (w : State) (shows shows' : ℕ → List Event) → ((c : ℕ) → 
 given_same w shows shows' same g = record {
   counts = λ c. ap length (sym (same c)) ∙ g.counts c;
   entries = λ s e h.
-      let read = λ (list : List Event). option_and_then (entry_given e.stamp) (slice_get list e.stamp.number) in
-      ap read (sym (same e.stamp.client)) ∙ g.entries s e h;
+      let gave = λ (list : List Event).
+      option_and_then (entry_given e.stamp) (slice_get list e.stamp.number) in
+      ap gave (sym (same e.stamp.client)) ∙ g.entries s e h;
 }
 
 -- what a list reads it reads with more at its end, and then what was put there

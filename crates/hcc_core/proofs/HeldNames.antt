@@ -1,13 +1,14 @@
 -- Names that clients hold: where they are found, and where not.
-use Rattle.std.proofs.Common.{◌≡◌, inl, inr, ℕ, zero, suc, ◌+◌, ◌<◌, ◌≤◌, ◌&&◌, ◌||◌, ◌==◌, Bool, true, false, cond, not, nat_lt, is_none, List, [], ◌∷◌, Option, Some, None, slice_get, length, position, one-add, refl, sym, ap, ◌∙◌, arith}
+use Rattle.std.proofs.Common.{◌≡◌, ℕ, zero, suc, ◌+◌, ◌<◌, ◌≤◌, ◌&&◌, ◌||◌, ◌==◌, Bool, true, false, cond, not, nat_lt, is_none, List, [], ◌∷◌, Option, Some, None, slice_get, length, position, one-add, refl, sym, ap, ◌∙◌, arith}
 use Rattle.std.specs.Prelude.{option_and_then}
 use Rattle.std.specs.List.{list_any, position_or_len}
-use Rattle.std.proofs.lemmas.Bool.{and_parts, or_cases, eqb-true, ltb-true, ltb-false, false≢true}
+use Rattle.std.proofs.lemmas.Bool.{and_parts, eqb-true, ltb-true, ltb-false, false≢true}
 use Rattle.hcc_core.specs.declared.state.Entry.{Entry}
 use Rattle.hcc_core.specs.declared.state.Slot.{Slot}
 use Rattle.hcc_core.specs.declared.state.Slot.TheVariants as slots
+use Rattle.hcc_core.specs.Sums.{when, total}
 use Rattle.hcc_core.specs.World.{State, is_named, has_reference, slot_holding}
-use Rattle.hcc_core.specs.Runs.{entry_held, held_at, FindsPlaces}
+use Rattle.hcc_core.specs.Runs.{entry_held, held_at, named_on, named_in, FindsOne}
 
 -- no reference of this client has this name
 abbrev pub Unheld : State → ℕ → ℕ → Type 0
@@ -15,15 +16,12 @@ Unheld w client name = (slot : ℕ) (entry : Entry) → held_at w client name sl
 
 -- who has the name that is unheld
 pub named_free : (w : State) (client name c n : ℕ) → Unheld w client name
-    → (((client == c) && (name == n)) || false) ≡ true → Unheld w c n
-named_free w client name c n free h = elim (or_cases ((client == c) && (name == n)) false h) [
-  | inl e ↦
-      let both = and_parts (client == c) (name == n) e in
-      let c_is : c ≡ client = sym (eqb-true client c both.0) in
-      let n_is : n ≡ name = sym (eqb-true name n both.1) in
-      rw (c_is, n_is) free
-  | inr e ↦ absurd (false≢true e)
-]
+    → ((client == c) && (name == n)) ≡ true → Unheld w c n
+named_free w client name c n free h =
+    let both = and_parts (client == c) (name == n) h in
+    let c_is : c ≡ client = sym (eqb-true client c both.0) in
+    let n_is : n ≡ name = sym (eqb-true name n both.1) in
+    rw (c_is, n_is) free
 
 -- where no member is found to pass, none passes
 none_passes : {X : Type 0} (p : X → Bool) (xs : List X) (i : ℕ) (x : X)
@@ -70,6 +68,56 @@ unheld w client name none s entry h =
     by false is none =
         let there = held_there client name (slice_get w.slots s) entry h in
         none_passes (has_reference client name) w.slots s there.0 (ltb-false _ _ is) there.1 there.2
+
+-- Names that are counted.
+
+-- a test that passes counts, and only one that passes
+pub any_counts : {X : Type 0} (p : X → Bool) (xs : List X) → list_any p xs ≡ true
+    → 1 ≤ total (λ x. when (p x) 1) xs
+any_counts p [] h = absurd (false≢true h)
+any_counts p (x ∷ xs) h = by (p x) (any_counts p xs) h
+  where
+    by : (b : Bool) → (list_any p xs ≡ true → 1 ≤ total (λ x. when (p x) 1) xs)
+        → (b || list_any p xs) ≡ true → 1 ≤ when b 1 + total (λ x. when (p x) 1) xs
+    by true later h = omega arith
+    by false later h = let rest = later h in omega arith
+
+pub counts_any : {X : Type 0} (p : X → Bool) (xs : List X) → 1 ≤ total (λ x. when (p x) 1) xs
+    → list_any p xs ≡ true
+counts_any p [] h = absurd (omega arith)
+counts_any p (x ∷ xs) h = by (p x) (counts_any p xs) h
+  where
+    by : (b : Bool) → (1 ≤ total (λ x. when (p x) 1) xs → list_any p xs ≡ true)
+        → 1 ≤ when b 1 + total (λ x. when (p x) 1) xs → (b || list_any p xs) ≡ true
+    by true later h = refl
+    by false later h = later (omega arith)
+
+-- a slot whose entry is not held under the name has no reference of it
+none_on : (client name : ℕ) (slot : Slot)
+    → ((entry : Entry) → entry_held client name slot ≡ Some entry → ⊥) → named_on client name slot ≡ 0
+none_on client name (slots.Empty strays) free = refl
+none_on client name (slots.Building other strays) free = refl
+none_on client name (slots.Shareable r) free = by (named_on client name (slots.Shareable r)) refl
+  where
+    by : (n : ℕ) → named_on client name (slots.Shareable r) ≡ n
+        → named_on client name (slots.Shareable r) ≡ 0
+    by zero is = is
+    by (suc n) is =
+        let held = counts_any (is_named client name) r.references (omega arith) in
+        absurd (free r.entry (rw held refl))
+
+none_in : (client name : ℕ) (all : List Slot)
+    → ((s : ℕ) (entry : Entry)
+    → option_and_then (entry_held client name) (slice_get all s) ≡ Some entry → ⊥)
+    → total (named_on client name) all ≡ 0
+none_in client name [] free = refl
+none_in client name (slot ∷ rest) free =
+    let first = none_on client name slot (free zero) in
+    let others = none_in client name rest (λ s. free (suc s)) in
+    omega arith
+
+pub unheld_none : (w : State) (client name : ℕ) → Unheld w client name → named_in w client name ≡ 0
+unheld_none w client name free = none_in client name w.slots free
 
 -- Names that are found.
 
@@ -122,8 +170,9 @@ Apart w = (client name slot slot' : ℕ) (entry entry' : Entry)
     → slot ≡ slot'
 
 -- so the slot that is found is the one where the reference stands
-pub finds_places : (w : State) → Apart w → FindsPlaces w
-finds_places w apart = record {
+pub finds_one : (w : State) → Apart w → ((client name : ℕ) → named_in w client name ≤ 1) → FindsOne w
+finds_one w apart one = record {
+  one = one;
   stands = found_stands w;
   found = λ client name slot entry h.
       by client name slot entry h (slot_holding w.slots client name) refl;

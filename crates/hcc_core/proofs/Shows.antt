@@ -1,7 +1,7 @@
 -- What each event moves and shows. Only `show` adds an entry: what it says, under the next stamp of
 -- its client.
-use Rattle.std.proofs.Common.{◌≡◌, ◌⊎◌, inl, inr, ℕ, ◌+◌, ◌==◌, nat_lt, Bool, true, false, cond, List, Option, Some, None, Result, Ok, Err, slice_get, refl, sym, ap, arith}
-use Rattle.std.specs.List.{list_any}
+use Rattle.std.proofs.Common.{◌≡◌, ◌⊎◌, inl, inr, ℕ, ◌+◌, ◌==◌, nat_lt, Bool, true, false, cond, List, Option, Some, None, Result, Ok, Err, slice_get, refl, sym, ap, arith, ◌&&◌, ◌||◌}
+use Rattle.std.specs.Prelude.{option_and_then}
 use Rattle.std.specs.Option.{ok_or}
 use Rattle.std.proofs.lemmas.Bool.{and_parts, eq-eqb, ne_eqb, cases_eq}
 use Rattle.hcc_core.specs.declared.limits.TheConstants.{STAMPS_PER_CLIENT}
@@ -15,14 +15,15 @@ use Rattle.hcc_core.specs.declared.event.CoreError.TheVariants.{NotAllowed}
 use Rattle.hcc_core.specs.declared.event.Event.{Event}
 use Rattle.hcc_core.specs.declared.event.Event.TheVariants as events
 use Rattle.hcc_core.specs.Sums.{when}
-use Rattle.hcc_core.specs.World.{State, is_named}
+use Rattle.hcc_core.specs.World.{State}
 use Rattle.hcc_core.specs.Steps.{Outcome, ◌>>=◌, allow, live_at, with_both, built_by, is_fresh, may_show, first_references, resident_new, client_shown, show_of, in_range, rule_of, outcome_of}
 use Rattle.hcc_core.specs.Lawful.{stamps_by}
-use Rattle.hcc_core.specs.Runs.{entry_of, entry_at, is_show, entry_given}
+use Rattle.hcc_core.specs.Runs.{entry_held, named_on, entry_of, entry_at, is_show, entry_given}
 use Rattle.hcc_core.proofs.ListLemmas.{read_at_set, read_here, read_other}
 use Rattle.hcc_core.proofs.Keeps.{live_ok, may_ok}
-use Rattle.hcc_core.proofs.HeldNames.{unheld, named_free}
-use Rattle.hcc_core.proofs.Moves.{Holds, KeepsHeld, holds_slot}
+use Rattle.hcc_core.proofs.SumLemmas.{sum_at}
+use Rattle.hcc_core.proofs.HeldNames.{Unheld, unheld, named_free}
+use Rattle.hcc_core.proofs.Moves.{Holds, FewOrNew, KeepsHeld, holds_slot}
 use Rattle.hcc_core.proofs.EventMoves.{Moved, start_moves, look_moves, acquire_moves, give_moves, use_moves, occupy_moves, hide_moves, free_moves, empty_moves, write_moves, read_moves, enter_moves, charge_moves, slots_moves, settle_moves, end_moves, clock_moves, mark_moves, correct_moves, waive_moves, quit_moves, usage_moves, occupancy_moves, standing_moves, stand_moves, fall_moves, count_moves, pass_moves, unpass_moves, turn_moves}
 
 -- the entry is what this event says, under the next stamp of the client that shows it
@@ -71,15 +72,28 @@ fresh_to_show all client found charge countdown name h =
 shown_keeps : (w : State) (client : ℕ) (name : Option ℕ) (seen : Option Slot) (r : Resident)
     → is_fresh w.slots client name ≡ true → r.references ≡ first_references client name
     → KeepsHeld w seen (slots.Shareable r)
-shown_keeps w client None seen r fresh first c n entry h = let none = rw first at h in cc
-shown_keeps w client (Some name) seen r fresh first c n entry h =
-    inr (named_free w client name c n (unheld w client name fresh) (by _ refl (rw first at h)))
+shown_keeps w client None seen r fresh first = record {
+  held = λ c n e h. let none = rw first at h in cc;
+  times = λ c n. inl (rw first (omega arith));
+}
+shown_keeps w client (Some name) seen r fresh first = record {
+  held = λ c n e h. held c n e ((client == c) && (name == n)) refl (rw first at h);
+  times = λ c n. rw first (times c n ((client == c) && (name == n)) refl);
+}
   where
-    by : (b : Bool) → list_any (is_named c n) (first_references client (Some name)) ≡ b
-        → cond b (Some r.entry) None ≡ Some entry
-        → list_any (is_named c n) (first_references client (Some name)) ≡ true
-    by true is h = is
-    by false is h = cc
+    free : (c n : ℕ) → ((client == c) && (name == n)) ≡ true → Unheld w c n
+    free c n = named_free w client name c n (unheld w client name fresh)
+
+    held : (c n : ℕ) (e : Entry) (b : Bool) → ((client == c) && (name == n)) ≡ b
+        → cond (((client == c) && (name == n)) || false) (Some r.entry) None ≡ Some e
+        → (option_and_then (entry_held c n) seen ≡ Some e) ⊎ Unheld w c n
+    held c n e true is h = inr (free c n is)
+    held c n e false is h = let none = rw is at h in cc
+
+    times : (c n : ℕ) (b : Bool) → ((client == c) && (name == n)) ≡ b
+        → FewOrNew w c n (when ((client == c) && (name == n)) 1 + 0) (sum_at (named_on c n) seen)
+    times c n true is = inr (free c n is, rw is (omega arith))
+    times c n false is = inl (rw is (omega arith))
 
 module _ (w : State) (client slot key0 key1 charge countdown : ℕ) (name : Option ℕ) (value : List ℕ)
     (found : Client) (at_client : slice_get w.clients client ≡ Some found) where
@@ -155,11 +169,13 @@ show_adds w client key0 key1 charge countdown name value =
 rule_adds : (w : State) (event : Event) → Added w event (rule_of w event)
 rule_adds w (events.Start client) = quiet w _ _ (λ c. refl) (start_moves w client)
 rule_adds w (events.Look client slot) = quiet w _ _ (λ c. refl) (look_moves w client slot)
-rule_adds w (events.Acquire client slot weight name) = quiet w _ _ (λ c. refl) (acquire_moves w client slot weight name)
+rule_adds w (events.Acquire client slot weight name) =
+    quiet w _ _ (λ c. refl) (acquire_moves w client slot weight name)
 rule_adds w (events.Give client name) = quiet w _ _ (λ c. refl) (give_moves w client name)
 rule_adds w (events.Use client name) = quiet w _ _ (λ c. refl) (use_moves w client name)
 rule_adds w (events.Occupy client slot) = quiet w _ _ (λ c. refl) (occupy_moves w client slot)
-rule_adds w (events.Show client key0 key1 charge countdown name value) = show_adds w client key0 key1 charge countdown name value
+rule_adds w (events.Show client key0 key1 charge countdown name value) =
+    show_adds w client key0 key1 charge countdown name value
 rule_adds w (events.Hide client name) = quiet w _ _ (λ c. refl) (hide_moves w client name)
 rule_adds w (events.Free client slot name) = quiet w _ _ (λ c. refl) (free_moves w client slot name)
 rule_adds w (events.Empty client) = quiet w _ _ (λ c. refl) (empty_moves w client)
@@ -178,7 +194,8 @@ rule_adds w (events.Quit client) = quiet w _ _ (λ c. refl) (quit_moves w client
 rule_adds w (events.Usage client) = quiet w _ _ (λ c. refl) (usage_moves w client)
 rule_adds w (events.Occupancy client) = quiet w _ _ (λ c. refl) (occupancy_moves w client)
 rule_adds w (events.Standing client) = quiet w _ _ (λ c. refl) (standing_moves w client)
-rule_adds w (events.Stand client charge name) = quiet w _ _ (λ c. refl) (stand_moves w client charge name)
+rule_adds w (events.Stand client charge name) =
+    quiet w _ _ (λ c. refl) (stand_moves w client charge name)
 rule_adds w (events.Fall client name) = quiet w _ _ (λ c. refl) (fall_moves w client name)
 rule_adds w (events.Count client slot) = quiet w _ _ (λ c. refl) (count_moves w client slot)
 rule_adds w (events.Pass client slot) = quiet w _ _ (λ c. refl) (pass_moves w client slot)

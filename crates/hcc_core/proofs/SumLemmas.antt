@@ -1,5 +1,5 @@
 -- Laws of sums over lists.
-use Rattle.std.proofs.Common.{◌≡◌, ℕ, zero, suc, ◌+◌, ◌<◌, ◌≤◌, drop, length, get_or, add-one, List, [], ◌∷◌, ◌++◌, Some, slice_get, slice_set, sum_by, replicate, refl, ◌∙◌, ap, arith}
+use Rattle.std.proofs.Common.{◌≡◌, ℕ, zero, suc, ◌+◌, ◌<◌, ◌≤◌, drop, length, get_or, add-one, List, [], ◌∷◌, ◌++◌, Option, None, Some, slice_get, slice_set, sum_by, replicate, refl, ◌∙◌, ap, arith}
 use Rattle.std.proofs.lemmas.List.Sums.{sum_by-cons}
 use Rattle.hcc_core.specs.Sums.{total}
 
@@ -14,6 +14,18 @@ pub total-set : {X : Type 0} (f : X → ℕ) (xs : List X) (i : ℕ) (old new : 
 total-set f [] i old new h = cc
 total-set f (x ∷ xs) zero old new h = let e : f x ≡ f old = ap f (let q : x ≡ old = cc in q) in omega arith
 total-set f (x ∷ xs) (suc i) old new h = let rest = total-set f xs i old new h in omega arith
+
+-- what an index gives to a total
+abbrev pub sum_at : {X : Type 0} → (X → ℕ) → Option X → ℕ
+sum_at f None = 0
+sum_at f (Some x) = f x
+
+-- a change of one member by at most `more`, even where there is none
+pub total-set-le : {X : Type 0} (f : X → ℕ) (xs : List X) (i : ℕ) (new : X) (more : ℕ)
+    → f new ≤ sum_at f (slice_get xs i) + more → total f (slice_set xs i new) ≤ total f xs + more
+total-set-le f [] i new more h = omega arith
+total-set-le f (x ∷ xs) zero new more h = omega arith
+total-set-le f (x ∷ xs) (suc i) new more h = let rest = total-set-le f xs i new more h in omega arith
 
 pub total-append : {X : Type 0} (f : X → ℕ) (xs ys : List X)
     → total f (xs ++ ys) ≡ total f xs + total f ys

@@ -1,13 +1,14 @@
 -- What is said of runs. A run tries events one after the other from a world; what is refused changes
 -- nothing. The worlds on the way are the worlds after the fronts of the run.
-use Rattle.std.specs.Prelude.{◌≡◌, ℕ, Bool, false, ◌&&◌, ◌==◌, List, [], ◌∷◌, ◌++◌, Option, Some, None, slice_get, option_and_then, if◌then◌else◌}
+use Rattle.std.specs.Prelude.{◌≡◌, ℕ, ◌≤◌, Bool, false, ◌&&◌, ◌==◌, List, [], ◌∷◌, ◌++◌, Option, Some, None, slice_get, option_and_then, if◌then◌else◌}
 use Rattle.hcc_core.specs.declared.state.Stamp.{Stamp}
 use Rattle.hcc_core.specs.declared.state.Entry.{Entry}
 use Rattle.hcc_core.specs.declared.state.Slot.{Slot}
 use Rattle.hcc_core.specs.declared.state.Slot.TheVariants as slots
 use Rattle.hcc_core.specs.declared.event.Event.{Event}
 use Rattle.hcc_core.specs.declared.event.Event.TheVariants as events
-use Rattle.hcc_core.specs.World.{State, has_reference, slot_holding}
+use Rattle.hcc_core.specs.Sums.{when, total}
+use Rattle.hcc_core.specs.World.{State, references_of, is_named, has_reference, slot_holding}
 use Rattle.hcc_core.specs.Steps.{outcome_of, is_made, after, after_all}
 
 -- the entry of a slot
@@ -48,8 +49,17 @@ KeepsPlaces world events =
     → held_at (after_all world events) client name slot' ≡ Some entry'
     → (slot ≡ slot') × (entry ≡ entry')
 
--- the slot that a step finds by a name is the slot on which that reference stands
-pub record FindsPlaces (world : State) : Type 0 where
+-- how many references of this client and name a slot has, and a world
+abbrev pub named_on : ℕ → ℕ → Slot → ℕ
+named_on client name slot = total (λ k. when (is_named client name k) 1) (references_of slot)
+
+abbrev pub named_in : State → ℕ → ℕ → ℕ
+named_in world client name = total (named_on client name) world.slots
+
+-- a client has one reference of a name at most, and a step that is given the name finds the slot on
+-- which it stands
+pub record FindsOne (world : State) : Type 0 where
+  pub one : (client name : ℕ) → named_in world client name ≤ 1
   pub stands : (client name slot : ℕ) → slot_holding world.slots client name ≡ Some slot
       → (entry : Entry) × (held_at world client name slot ≡ Some entry)
   pub found : (client name slot : ℕ) (entry : Entry)

@@ -3,7 +3,7 @@ ghost use Rattle.std.specs.Prelude.{List};
 ghost use Rattle.hcc_core.specs.declared.event.Event.{Event};
 ghost use Rattle.hcc_core.specs.declared.state.Setup.{Setup};
 ghost use Rattle.hcc_core.specs.Lawful.{Lawful};
-ghost use Rattle.hcc_core.specs.Runs.{AreGiven, FindsPlaces, KeepsPlaces};
+ghost use Rattle.hcc_core.specs.Runs.{AreGiven, FindsOne, KeepsPlaces};
 ghost use Rattle.hcc_core.specs.Steps.{CanOpen, opening_of, after_all};
 
 /// What holds of every world on the way of every run from an opening world, whatever events come
@@ -20,9 +20,9 @@ pub fn law_every_run()
     ensures places { (setup : Setup) (before events : List Event)
         → KeepsPlaces (after_all (opening_of setup) before) events }
 
-    // That slot is the one which steps find by the reference's name.
+    // A client has one reference of a name at most, and steps find its slot by the name.
     ensures found { (setup : Setup) (events : List Event)
-        → FindsPlaces (after_all (opening_of setup) events) }
+        → FindsOne (after_all (opening_of setup) events) }
 
     // The entry of the stamp of a client and a number is what that client's show of this number
     // gave: of its shows that were allowed, from 0.

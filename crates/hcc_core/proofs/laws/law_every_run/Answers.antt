@@ -1,4 +1,4 @@
-use Rattle.hcc_core.proofs.EveryRun.{every_run, run_keeps_places, run_finds_places, run_is_given}
+use Rattle.hcc_core.proofs.EveryRun.{every_run, run_keeps_places, run_finds_one, run_is_given}
 use Rattle.hcc_core.proofs.laws.law_every_run.Goals as goal
 
 pub returns-clause-lawful : goal.returns-clause-lawful
@@ -8,7 +8,7 @@ pub returns-clause-places : goal.returns-clause-places
 returns-clause-places c = run_keeps_places
 
 pub returns-clause-found : goal.returns-clause-found
-returns-clause-found c = run_finds_places
+returns-clause-found c = run_finds_one
 
 pub returns-clause-entries : goal.returns-clause-entries
 returns-clause-entries c = run_is_given
