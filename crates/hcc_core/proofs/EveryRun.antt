@@ -1,6 +1,6 @@
 -- What holds of every run: its worlds are lawful, a reference that stands keeps its slot and its
 -- entry, and entries are what their shows gave.
-use Rattle.std.proofs.Common.{◌≡◌, ◌⊎◌, inl, inr, ℕ, zero, suc, ◌&&◌, Bool, true, false, cond, List, [], ◌∷◌, ◌++◌, Option, Some, None, Ok, Err, length, replicate, slice_get, refl, sym, ap, ◌∙◌, arith, ◌≤◌}
+use Rattle.std.proofs.Common.{◌≡◌, ◌⊎◌, inl, inr, ℕ, ◌&&◌, Bool, true, false, cond, List, [], ◌∷◌, ◌++◌, Option, Some, None, Ok, Err, length, replicate, slice_get, refl, sym, ap, ◌∙◌, arith, ◌≤◌}
 use Rattle.std.specs.Prelude.{option_and_then}
 use Rattle.std.proofs.lemmas.List.{append_assoc, append-nil, length-append}
 use Rattle.hcc_core.specs.declared.event.Event.{Event}
@@ -13,7 +13,7 @@ use Rattle.hcc_core.specs.World.{State}
 use Rattle.hcc_core.specs.Steps.{Outcome, outcome_of, is_made, world_after, after, after_all, opening_of, new_slot, new_client, CanOpen}
 use Rattle.hcc_core.specs.Lawful.{Lawful, stamps_by}
 use Rattle.hcc_core.specs.Runs.{entry_held, held_at, named_on, named_in, Stands, StandsThrough, KeepsPlaces, FindsOne, entry_of, entry_at, is_show, shows_in, shows_of, entry_given, AreGiven}
-use Rattle.hcc_core.proofs.ListLemmas.{nothing_in, in_replicate}
+use Rattle.hcc_core.proofs.ListLemmas.{nothing_in, in_replicate, read_before, read_last}
 use Rattle.hcc_core.proofs.SumLemmas.{total-zero}
 use Rattle.hcc_core.proofs.Keeps.{KeepsLaw, outcome_keeps}
 use Rattle.hcc_core.proofs.Opening.{lawful_opening}
@@ -43,6 +43,7 @@ every_run setup events can = lawful_all events (opening_of setup) (lawful_openin
 
 -- References.
 
+-- each event, refused or not, leaves references where they are, or adds a new one
 outcome_holds : (w : State) (event : Event) (outcome : Outcome) → Added w event outcome
     → Holds w (world_after w outcome)
 outcome_holds w event (Ok done) a = a.holds
@@ -51,6 +52,7 @@ outcome_holds w event (Err error) a = holds_still w w refl
 after_holds : (w : State) (event : Event) → Holds w (after w event)
 after_holds w event = outcome_holds w event (outcome_of w event) (outcome_adds w event)
 
+-- that stays so, since what is new was unheld
 apart_kept : (w w' : State) → Apart w → Holds w w' → Apart w'
 apart_kept w w' apart holds client name s t e f h k = elim (holds.held client name s e h) [
   | inl was ↦ elim (holds.held client name t f k) [
@@ -83,11 +85,13 @@ step_keeps w w' client name s t e f apart holds h k = elim (holds.held client na
   | inr new ↦ absurd (new.1 s e h)
 ]
 
+-- what stands through events stands before them
 stands_first : (events : List Event) (w : State) (client name : ℕ)
     → StandsThrough w events client name → Stands w client name
 stands_first [] w client name through = through
 stands_first (event ∷ events) w client name through = through.0
 
+-- and so through all events
 keeps_places : (events : List Event) (w : State) → Apart w → KeepsPlaces w events
 keeps_places [] w apart client name through s t e f h k =
     one_place w apart client name through s t e f h k
@@ -161,17 +165,6 @@ given_same w shows shows' same g = record {
       ap gave (sym (same e.stamp.client)) ∙ g.entries s e h;
 }
 
--- what a list reads it reads with more at its end, and then what was put there
-read_before : {X A : Type 0} (f : X → Option A) (xs ys : List X) (i : ℕ) (a : A)
-    → option_and_then f (slice_get xs i) ≡ Some a → option_and_then f (slice_get (xs ++ ys) i) ≡ Some a
-read_before f [] ys i a h = cc
-read_before f (x ∷ xs) ys zero a h = h
-read_before f (x ∷ xs) ys (suc i) a h = read_before f xs ys i a h
-
-read_last : {X : Type 0} (xs : List X) (x : X) → slice_get (xs ++ x ∷ []) (length xs) ≡ Some x
-read_last [] x = refl
-read_last (y ∷ ys) x = read_last ys x
-
 -- a step that is made
 made_given : (w : State) (event : Event) (w' : State) (shows : ℕ → List Event) → Given w shows
     → Adds w event w' → Given w' (λ c. shows c ++ cond (is_show c event) (event ∷ []) [])
@@ -205,10 +198,12 @@ outcome_given w event (Ok done) shows g added = made_given w event done.1 shows 
 outcome_given w event (Err error) shows g added =
     given_same w shows _ (λ c. sym (append-nil (shows c))) g
 
+-- after any event, refused or not
 after_given : (w : State) (event : Event) (shows : ℕ → List Event) → Given w shows
     → Given (after w event) (λ c. shows c ++ shows_in c w event)
 after_given w event shows g = outcome_given w event (outcome_of w event) shows g (outcome_adds w event)
 
+-- and after any list of events
 all_given : (events : List Event) (w : State) (shows : ℕ → List Event) → Given w shows
     → Given (after_all w events) (λ c. shows c ++ shows_of c w events)
 all_given [] w shows g = given_same w shows _ (λ c. sym (append-nil (shows c))) g

@@ -45,9 +45,11 @@ holds_still w w' same = record {
       let as_many = ap (total (named_on client name)) same in inl (omega arith);
 }
 
+-- no step, or a turn of the hand
 pub still : (w : State) (hand : ℕ) → Moves w (record w { hand = hand })
 still w hand = record { holds = holds_still w _ refl; entries = λ s e h. h; counts = λ c. refl }
 
+-- a change of one client
 pub client_moves : (w : State) (client : ℕ) (old new : Client)
     → slice_get w.clients client ≡ Some old → new.stamps ≡ old.stamps
     → Moves w (with_client w client new)
@@ -71,6 +73,7 @@ pub record KeepsHeld (w : State) (seen : Option Slot) (left : Slot) : Type 0 whe
   pub times : (client name : ℕ)
       → FewOrNew w client name (named_on client name left) (sum_at (named_on client name) seen)
 
+-- the world then holds what it held, or that new reference
 pub holds_slot : (w : State) (slot : ℕ) (left : Slot) (clients : List Client)
     → KeepsHeld w (slice_get w.slots slot) left
     → Holds w (record w { slots = slice_set w.slots slot left; clients = clients })
@@ -100,6 +103,7 @@ pub record Turns (w : State) (seen : Option Slot) (left : Slot) : Type 0 where
   pub keeps : KeepsHeld w seen left
   pub entry : (e : Entry) → entry_of left ≡ Some e → option_and_then entry_of seen ≡ Some e
 
+-- a change of one slot, beside which no count of stamps changes
 pub slot_moves : (w : State) (slot : ℕ) (left : Slot) (clients : List Client)
     → Turns w (slice_get w.slots slot) left
     → ((c : ℕ) → stamps_by (slice_get clients c) ≡ stamps_by (slice_get w.clients c))
@@ -129,6 +133,7 @@ taken w seen client strays = record {
   entry = λ e h. cc;
 }
 
+-- a slot that is left as it was
 same : (w : State) (seen : Slot) → Turns w (Some seen) seen
 same w seen = record {
   keeps = record { held = λ c n e h. inl h; times = λ c n. inl (omega arith) };
@@ -160,6 +165,7 @@ stays w r left same times = record {
     ]
     by c n e false is h = cc
 
+-- the references that are left were there
 pub given : (w : State) (client name : ℕ) (seen : Slot)
     → Turns w (Some seen) (slot_given client name seen)
 given w client name (slots.Empty strays) = same w _
@@ -174,6 +180,7 @@ used w client name k (slots.Building other strays) = same w _
 used w client name k (slots.Shareable r) =
     stays w r _ refl (λ c n. inl (dropped-le (is_named client name) _ r.references))
 
+-- neither the entry nor its references change
 pub hid : (w : State) (seen : Slot) → Turns w (Some seen) (slot_hidden seen)
 hid w (slots.Empty strays) = same w _
 hid w (slots.Building other strays) = same w _
@@ -188,8 +195,6 @@ pub recounted : (w : State) (uses : ℕ) (seen : Slot) → Turns w (Some seen) (
 recounted w uses (slots.Empty strays) = same w _
 recounted w uses (slots.Building other strays) = same w _
 recounted w uses (slots.Shareable r) = stays w r _ refl (λ c n. inl (omega arith))
-
--- References that come.
 
 -- the references of an entry that was acquired: those that were there and the new one
 pub got : (w : State) (client name weight : ℕ) (seen : Slot) → Unheld w client name

@@ -40,6 +40,7 @@ pub record Adds (w : State) (event : Event) (w' : State) : Type 0 where
   pub counts : (c : ℕ) → stamps_by (slice_get w'.clients c)
       ≡ stamps_by (slice_get w.clients c) + when (is_show c event) 1
 
+-- the same of an outcome, if the step is made
 abbrev pub Added : State → Event → Outcome → Type 0
 Added w event (Ok done) = Adds w event done.1
 Added w event (Err error) = Unit {0}
@@ -95,6 +96,7 @@ shown_keeps w client (Some name) seen r fresh first = record {
     times c n true is = inr (free c n is, rw is (omega arith))
     times c n false is = inl (rw is (omega arith))
 
+-- the world after a show
 module _ (w : State) (client slot key0 key1 charge countdown : ℕ) (name : Option ℕ) (value : List ℕ)
     (found : Client) (at_client : slice_get w.clients client ≡ Some found) where
   abbrev resident : Resident
