@@ -1,7 +1,7 @@
 //! The steps that move entries: occupy, show, free, empty and write.
 ghost use Rattle.std.specs.Prelude.{◌≡◌, ◌≤◌, IfOk, true};
 ghost use Rattle.hcc_core.specs.World.{references_of};
-ghost use Rattle.hcc_core.specs.Steps.{Follows, occupy_of, strays_if_empty, show_of, is_fresh, may_show, AllowsShow, first_references, first_uses, free_of, may_free, empty_of, has_no_member, write_of};
+ghost use Rattle.hcc_core.specs.Steps.{Follows, occupy_of, strays_if_empty, show_of, is_fresh, may_show, AllowsShow, first_references, first_uses, free_of, may_free, empty_of, write_of};
 ghost use Rattle.hcc_core.specs.Lawful.{IsLawful};
 
 use crate::event::{CoreError, Reply};
@@ -120,7 +120,7 @@ impl Machine {
         let Some(slot) = found.owned.freed() else {
             return Err(CoreError::NotAllowed);
         };
-        if !is_empty(found.trail.as_slice()) {
+        if !found.trail.is_empty() {
             return Err(CoreError::NotAllowed);
         }
         self.clients[client as usize].owned = Owned::Nothing;
@@ -215,16 +215,7 @@ fn may_free(client: u32, found: &Client, seen: &Slot, name: Option<u64>) -> bool
     ensures { result ≡ may_free client found.now seen.now name }
 {
     found.owned.is_nothing()
-        && is_empty(found.trail.as_slice())
+        && found.trail.is_empty()
         && seen.is_shareable()
         && seen.is_free_for(client, name)
-}
-
-fn is_empty(trail: &[u32]) -> bool
-    ensures { result ≡ has_no_member trail.now }
-{
-    match trail {
-        [] => true,
-        [_, ..] => false,
-    }
 }
