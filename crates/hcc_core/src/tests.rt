@@ -212,10 +212,20 @@ fn told(answer: &Result<Reply, CoreError>) -> (&str, u64, u64, &[u8]) {
     }
 }
 
-fn opened(alloc: Global, setup: Setup) -> Result<World, AllocError>
+/// A new world. Only want of memory keeps it from opening.
+fn opened(rt: &impl Abort, alloc: Global, setup: Setup) -> Result<World, AllocError>
     requires { CanOpen setup }
 {
-    World::opening(alloc, setup).map_err(|_| AllocError)
+    match World::opening(alloc, setup) {
+        Ok(world) => Ok(world),
+        Err(error) => {
+            assert!(rt;
+                error == CoreError::OutOfMemory,
+                "the opening answered {error:?}"
+            );
+            Err(AllocError)
+        }
+    }
 }
 
 /// Plays the rows on this world, up to the first want of memory, which changes nothing.
@@ -244,7 +254,7 @@ fn play<const N: usize>(
 
 /// A world in which client 0 has a place and charge 5, and builds in slot 1.
 fn building(rt: &impl Abort, alloc: Global) -> Result<World, AllocError> {
-    let mut world = opened(alloc, SMALL)?;
+    let mut world = opened(rt, alloc, SMALL)?;
     let enter = Event::Enter { client: 0 };
     let occupy = Event::Occupy { client: 0, slot: 1 };
     let rows = [
@@ -260,7 +270,7 @@ fn building(rt: &impl Abort, alloc: Global) -> Result<World, AllocError> {
 
 #[test]
 fn refuses_by_the_first_name_that_is_due(rt: HostRuntime) -> Result<(), AllocError> {
-    let mut world = opened(rt.alloc(), SMALL)?;
+    let mut world = opened(&rt, rt.alloc(), SMALL)?;
     let look = Event::Look { client: 5, slot: 5 };
     let no_client = Err(CoreError::NoSuchClient);
     let no_slot = Err(CoreError::NoSuchSlot);
@@ -346,7 +356,7 @@ fn splits_a_charge_under_strict(rt: HostRuntime) -> Result<(), AllocError> {
         strict: true,
         ..SMALL
     };
-    let mut world = opened(rt.alloc(), setup)?;
+    let mut world = opened(&rt, rt.alloc(), setup)?;
     let rows = [
         Row(Event::Start { client: 0 }, DONE, EMPTY, [0, 0, 0, 0]),
         Row(Event::Start { client: 1 }, DONE, EMPTY, [0, 0, 0, 0]),
@@ -366,7 +376,7 @@ fn counts_down_and_ends(rt: HostRuntime) -> Result<(), AllocError> {
         Row(clock, Ok(Reply::Uses(2)), shown(2, None), [5, 1, 0, 0]),
     ];
     play(&rt, rt.alloc(), &mut world, rows)?;
-    let mut other = opened(rt.alloc(), SMALL)?;
+    let mut other = opened(&rt, rt.alloc(), SMALL)?;
     let rows = [
         Row(Event::Start { client: 0 }, DONE, EMPTY, [0, 0, 0, 0]),
         Row(Event::End { client: 0 }, DONE, EMPTY, [0, 0, 0, 0]),
@@ -376,7 +386,7 @@ fn counts_down_and_ends(rt: HostRuntime) -> Result<(), AllocError> {
 
 #[test]
 fn passes_and_stands(rt: HostRuntime) -> Result<(), AllocError> {
-    let mut world = opened(rt.alloc(), SMALL)?;
+    let mut world = opened(&rt, rt.alloc(), SMALL)?;
     let pass = Event::Pass { client: 0, slot: 1 };
     let passed = Seen { passed: 1, ..EMPTY };
     let unpass = Event::Unpass { client: 0, slot: 1 };
