@@ -1,5 +1,6 @@
 pub mod ListLemmas
 pub mod SumLemmas
+pub mod LimitLemmas
 pub mod DroppedLemmas
 pub mod ReaderLemmas
 pub mod ReferenceLemmas

@@ -3,7 +3,7 @@ ghost use Rattle.std.specs.Prelude.{◌≡◌, ◌<◌, ◌^◌, IfOk, unwrap_or
 ghost use Rattle.std.specs.List.{find, list_any};
 ghost use Rattle.std.specs.Option.{option_copied};
 ghost use Rattle.hcc_core.specs.World.{standing_of, is_placed, is_granted};
-ghost use Rattle.hcc_core.specs.Steps.{owns_nothing, built_by, freed_by, is_building, is_absent, place_granted, is_stamp, joined, dropped, has_no_member, is_idle, may_stand, is_standing, is_place};
+ghost use Rattle.hcc_core.specs.Steps.{owns_nothing, built_by, freed_by, is_building, is_absent, place_granted, is_stamp, joined, dropped, is_idle, may_stand, is_standing, is_place};
 
 use crate::listed::Listed;
 use crate::state::{Client, Owned, Place, Stamp, Standalone};
@@ -115,13 +115,13 @@ impl Client {
         ensures { result ≡ is_idle self.now }
     {
         self.owned.is_nothing()
-            && is_empty(self.trail.as_slice())
+            && self.trail.is_empty()
             && self.place.is_absent()
             && self.granted == 0
             && self.needed == 0
             && self.freed == 0
             && self.freed_slots == 0
-            && are_none(self.standalones.as_slice())
+            && self.standalones.is_empty()
     }
 
     /// Whether it may make a standalone entry of this charge and name.
@@ -216,24 +216,6 @@ fn charges(standalones: &[Standalone]) -> u64
     ensures { result ≡ sum_by (λ s. s.charge) standalones.now }
 {
     standalones.iter().map(|standalone| standalone.charge).sum()
-}
-
-fn is_empty(trail: &[u32]) -> bool
-    ensures { result ≡ has_no_member trail.now }
-{
-    match trail {
-        [] => true,
-        [_, ..] => false,
-    }
-}
-
-fn are_none(standalones: &[Standalone]) -> bool
-    ensures { result ≡ has_no_member standalones.now }
-{
-    match standalones {
-        [] => true,
-        [_, ..] => false,
-    }
 }
 
 fn has_standalone(standalones: &[Standalone], name: u64) -> bool

@@ -3,7 +3,7 @@ ghost use Rattle.std.specs.Prelude.{◌≡◌, ◌<◌, ◌+◌, ◌^◌, ◌⊎
 ghost use Rattle.hcc_core.specs.declared.event.CoreError.TheVariants.{OutOfMemory};
 ghost use Rattle.std.specs.Option.{option_copied};
 ghost use Rattle.hcc_core.specs.World.{phase_of, phase_if, is_shareable, strays_of, references_of, uses_of, charge_of, stamp_of, hidden_stamp, trail_of, weight_of, counts_in, is_named, reference_in, has_reference, has_client, slot_holding};
-ghost use Rattle.hcc_core.specs.Steps.{acquired, slot_acquired, dropped, slot_given, slot_used, slot_hidden, left_on, is_shown, dead_to, is_free_for, entry_read, counting_in, has_no_member, may_clock, may_correct, slot_with_uses, slot_marked};
+ghost use Rattle.hcc_core.specs.Steps.{acquired, slot_acquired, dropped, slot_given, slot_used, slot_hidden, left_on, is_shown, dead_to, is_free_for, entry_read, counting_in, may_clock, may_correct, slot_with_uses, slot_marked};
 
 use crate::event::{CoreError, Phase, Reply};
 use crate::limits::NEAR;
@@ -273,7 +273,7 @@ impl Slot {
             Slot::Empty { .. } => false,
             Slot::Building { .. } => false,
             Slot::Shareable(resident) => {
-                resident.shown && is_empty(resident.references.as_slice()) && 0 < resident.uses
+                resident.shown && resident.references.is_empty() && 0 < resident.uses
             }
         }
     }
@@ -332,15 +332,6 @@ impl Slot {
                 value: Listed::copied(alloc, resident.entry.value.as_slice())?,
             }),
         }
-    }
-}
-
-fn is_empty(references: &[Reference]) -> bool
-    ensures { result ≡ has_no_member references.now }
-{
-    match references {
-        [] => true,
-        [_, ..] => false,
     }
 }
 

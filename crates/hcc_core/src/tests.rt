@@ -1,153 +1,47 @@
-//! Worked scripts: what each event answers, and what the world is after it.
+//! Worked scripts: what each event answers, and all that a line of a script's output shows of the
+//! world after it.
+//!
+//! Where memory is refused a test ends early, with that as its result. Any other answer than the
+//! table's, and any other world, stops it by an assertion.
+ghost use Rattle.hcc_core.specs.Steps.{CanOpen};
 
 use crate::event::{CoreError, Event, Phase, Reply};
 use crate::listed::Listed;
-use crate::state::{Reference, Setup, Slot};
+use crate::state::{Entry, Reference, Setup, Slot, Stamp};
 use crate::world::World;
-use std::alloc::Global;
+use std::alloc::{AllocError, Global};
 use std::process::Abort;
-use std::test::Fail;
 
-/// A reply as a table has it, or the refusal.
-#[derive(Clone, Copy)]
-enum Want {
-    Ok,
-    Saw(Phase),
-    Taken,
-    Got {
-        shown: bool,
-        counting: bool,
-    },
-    Stray,
-    Left {
-        references: u64,
-        phase: Phase,
-    },
-    Hid,
-    Again,
-    Freed(u64),
-    /// Its key and its value.
-    Entry {
-        key0: u64,
-        key1: u64,
-        bytes: &'static [u8],
-    },
-    Split {
-        granted: u64,
-        needed: u64,
-    },
-    Granted,
-    Open,
-    Uses(u64),
-    Count(u64),
-    Refused(CoreError),
-}
-
-impl Want {
-    fn is_got(self, got: &Result<Reply, CoreError>) -> bool {
-        match got {
-            Ok(reply) => self.is_reply(reply),
-            Err(error) => match self {
-                Want::Refused(wanted) => wanted == *error,
-                _ => false,
-            },
-        }
-    }
-
-    fn is_reply(self, reply: &Reply) -> bool {
-        match (self, reply) {
-            (Want::Ok, Reply::Ok) => true,
-            (Want::Saw(wanted), Reply::Saw(phase)) => wanted == *phase,
-            (Want::Taken, Reply::Taken) => true,
-            (
-                Want::Got { shown, counting },
-                Reply::Got {
-                    shown: s,
-                    counting: c,
-                },
-            ) => { shown == *s && counting == *c }
-            (Want::Stray, Reply::Stray) => true,
-            (
-                Want::Left { references, phase },
-                Reply::Left {
-                    references: r,
-                    phase: p,
-                },
-            ) => { references == *r && phase == *p }
-            (Want::Hid, Reply::Hid) => true,
-            (Want::Again, Reply::Again) => true,
-            (Want::Freed(wanted), Reply::Freed { charge }) => wanted == *charge,
-            (
-                Want::Entry { key0, key1, bytes },
-                Reply::Entry {
-                    key0: k0,
-                    key1: k1,
-                    value,
-                },
-            ) => { key0 == *k0 && key1 == *k1 && bytes == value.as_slice() }
-            (
-                Want::Split { granted, needed },
-                Reply::Split {
-                    granted: g,
-                    needed: n,
-                },
-            ) => { granted == *g && needed == *n }
-            (Want::Granted, Reply::Granted) => true,
-            (Want::Open, Reply::Open) => true,
-            (Want::Uses(wanted), Reply::Uses(uses)) => wanted == *uses,
-            (Want::Count(wanted), Reply::Count(count)) => wanted == *count,
-            _ => false,
-        }
-    }
-}
-
-/// A slot as a table has it.
-#[derive(Clone, Copy)]
-enum Seen {
-    Empty(u64),
-    Building(u32, u64),
-    /// The entry of key 7, 9 and charge 5 that client 0 showed first.
-    Entry {
-        shown: bool,
-        uses: u64,
-        reference: Option<Reference>,
-    },
-}
-
-impl Seen {
-    fn is_slot(self, slot: Option<&Slot>) -> bool {
-        match (self, slot) {
-            (Seen::Empty(wanted), Some(Slot::Empty { strays })) => wanted == *strays,
-            (Seen::Building(by, wanted), Some(Slot::Building { client, strays })) => {
-                by == *client && wanted == *strays
-            }
-            (
-                Seen::Entry {
-                    shown,
-                    uses,
-                    reference,
-                },
-                Some(Slot::Shareable(resident)),
-            ) => {
-                let entry = &resident.entry;
-                let is_first = entry.stamp.client == 0 && entry.stamp.number == 0;
-                let is_entry = is_first && entry.key0 == 7 && entry.key1 == 9 && entry.charge == 5;
-                is_entry
-                    && shown == resident.shown
-                    && uses == resident.uses
-                    && !resident.hit
-                    && resident.trail.is_empty()
-                    && resident.references.as_slice().len() == usize::from(reference.is_some())
-                    && resident.references.as_slice().first().copied() == reference
-            }
-            _ => false,
-        }
-    }
-}
-
-/// One event, what it answers, and slot 1, the usage and the occupancy after it.
+/// One event, what it answers, and after it slot 1 and the totals: usage, occupancy, what stands
+/// and the hand. Slot 0 is empty throughout.
 #[derive(Drop)]
-struct Row(Event, Want, Seen, u64, u64);
+struct Row(Event, Result<Reply, CoreError>, Seen, [u64; 4]);
+
+/// A slot. Client 0 builds there, or has built: its first entry, of key 7, 9 and charge 5.
+#[derive(Clone, Copy, PartialEq, Eq)]
+struct Seen {
+    phase: Phase,
+    strays: u64,
+    uses: u64,
+    /// The only one.
+    reference: Option<Reference>,
+    hit: bool,
+    passed: u64,
+}
+
+const EMPTY: Seen = Seen {
+    phase: Phase::Empty,
+    strays: 0,
+    uses: 0,
+    reference: None,
+    hit: false,
+    passed: 0,
+};
+
+const BUILDING: Seen = Seen {
+    phase: Phase::Building,
+    ..EMPTY
+};
 
 const SMALL: Setup = Setup {
     slots: 2,
@@ -156,9 +50,83 @@ const SMALL: Setup = Setup {
     strict: false,
 };
 
-const NOTHING: Seen = Seen::Empty(0);
+/// What most events answer.
+const DONE: Result<Reply, CoreError> = Ok(Reply::Ok);
 
-const fn held(client: u32, name: u64) -> Option<Reference> {
+const NOT_ALLOWED: Result<Reply, CoreError> = Err(CoreError::NotAllowed);
+
+const SAW_SHOWN: Result<Reply, CoreError> = Ok(Reply::Saw(Phase::Shown));
+
+const LOOK: Event = Event::Look { client: 1, slot: 1 };
+
+const FREE: Event = Event::Free {
+    client: 0,
+    slot: 1,
+    name: None,
+};
+
+fn charge(client: u32, charge: u32) -> Event {
+    Event::Charge { client, charge }
+}
+
+fn split(granted: u64, needed: u64) -> Result<Reply, CoreError> {
+    Ok(Reply::Split { granted, needed })
+}
+
+/// The answer to a use or a give after which no reference is left.
+fn left(phase: Phase) -> Result<Reply, CoreError> {
+    Ok(Reply::Left {
+        references: 0,
+        phase,
+    })
+}
+
+/// Client 1 acquires in slot 1.
+fn acquire(weight: u64) -> Event {
+    Event::Acquire {
+        client: 1,
+        slot: 1,
+        weight,
+        name: 4,
+    }
+}
+
+/// Client 0 shows its entry.
+fn show(
+    alloc: Global,
+    countdown: u64,
+    name: Option<u64>,
+    bytes: &[u8],
+) -> Result<Event, AllocError> {
+    Ok(Event::Show {
+        client: 0,
+        key0: 7,
+        key1: 9,
+        charge: 5,
+        countdown,
+        name,
+        value: Listed::from_vec(bytes.to_vec(alloc)?),
+    })
+}
+
+fn shown(uses: u64, reference: Option<Reference>) -> Seen {
+    Seen {
+        phase: Phase::Shown,
+        uses,
+        reference,
+        ..EMPTY
+    }
+}
+
+fn hidden(uses: u64, reference: Option<Reference>) -> Seen {
+    Seen {
+        phase: Phase::Hidden,
+        ..shown(uses, reference)
+    }
+}
+
+/// A reference of weight 1.
+fn held(client: u32, name: u64) -> Option<Reference> {
     Some(Reference {
         client,
         name,
@@ -167,393 +135,316 @@ const fn held(client: u32, name: u64) -> Option<Reference> {
     })
 }
 
-fn entry(uses: u64, reference: Option<Reference>) -> Seen {
-    Seen::Entry {
-        shown: true,
-        uses,
-        reference,
+/// A slot as tables have it, or `None` where no table could have it.
+fn look_at(world: &World, slot: u32) -> Option<Seen> {
+    let passed = world.passed(slot);
+    match world.slot(slot)? {
+        Slot::Empty { strays } => Some(Seen {
+            strays: *strays,
+            passed,
+            ..EMPTY
+        }),
+        Slot::Building { client: 0, strays } => Some(Seen {
+            strays: *strays,
+            passed,
+            ..BUILDING
+        }),
+        Slot::Shareable(resident) if is_first(&resident.entry) => {
+            let references = resident.references.as_slice();
+            if references.len() > 1 {
+                return None;
+            }
+            Some(Seen {
+                phase: if resident.shown {
+                    Phase::Shown
+                } else {
+                    Phase::Hidden
+                },
+                strays: 0,
+                uses: resident.uses,
+                reference: references.first().copied(),
+                hit: resident.hit,
+                passed,
+            })
+        }
+        _ => None,
     }
 }
 
-fn hidden(uses: u64, reference: Option<Reference>) -> Seen {
-    Seen::Entry {
-        shown: false,
-        uses,
-        reference,
-    }
-}
-
-/// Client 0 shows the entry of key 7, 9 and charge 5 in slot 1.
-fn show(alloc: Global, bytes: &[u8], name: Option<u64>) -> Result<Event, Fail> {
-    Ok(Event::Show {
+fn is_first(entry: &Entry) -> bool {
+    let stamp = Stamp {
         client: 0,
-        key0: 7,
-        key1: 9,
-        charge: 5,
-        countdown: 2,
-        name,
-        value: Listed::from_vec(bytes.to_vec(alloc)?),
-    })
+        number: 0,
+    };
+    entry.stamp == stamp && entry.key0 == 7 && entry.key1 == 9 && entry.charge == 5
 }
 
-/// Plays the rows on this world.
-fn play(rt: &impl Abort, world: &mut World, rows: Vec<Row>) {
+/// All that a line shows of a world of two slots.
+fn printed(world: &World) -> (Option<Seen>, Option<Seen>, [u64; 4]) {
+    let totals = [
+        world.usage(),
+        world.occupancy(),
+        world.standing(),
+        world.hand(),
+    ];
+    (look_at(world, 0), look_at(world, 1), totals)
+}
+
+/// The word of an answer, its numbers and its bytes.
+fn told(answer: &Result<Reply, CoreError>) -> (&str, u64, u64, &[u8]) {
+    match answer {
+        Ok(Reply::Ok) => ("ok", 0, 0, &[]),
+        Ok(Reply::Saw(phase)) => ("saw", *phase as u64, 0, &[]),
+        Ok(Reply::Taken) => ("taken", 0, 0, &[]),
+        Ok(Reply::Got { shown, counting }) => ("got", *shown as u64, *counting as u64, &[]),
+        Ok(Reply::Stray) => ("stray", 0, 0, &[]),
+        Ok(Reply::Left { references, phase }) => ("left", *references, *phase as u64, &[]),
+        Ok(Reply::Hid) => ("hid", 0, 0, &[]),
+        Ok(Reply::Again) => ("again", 0, 0, &[]),
+        Ok(Reply::Freed { charge }) => ("freed", *charge, 0, &[]),
+        Ok(Reply::Entry { key0, key1, value }) => ("entry", *key0, *key1, value.as_slice()),
+        Ok(Reply::Split { granted, needed }) => ("split", *granted, *needed, &[]),
+        Ok(Reply::Granted) => ("granted", 0, 0, &[]),
+        Ok(Reply::Open) => ("open", 0, 0, &[]),
+        Ok(Reply::Uses(uses)) => ("uses", *uses, 0, &[]),
+        Ok(Reply::Count(count)) => ("count", *count, 0, &[]),
+        Err(error) => ("refused", *error as u64, 0, &[]),
+    }
+}
+
+/// A new world. Only want of memory keeps it from opening.
+fn opened(rt: &impl Abort, alloc: Global, setup: Setup) -> Result<World, AllocError>
+    requires { CanOpen setup }
+{
+    match World::opening(alloc, setup) {
+        Ok(world) => Ok(world),
+        Err(error) => {
+            assert!(rt;
+                error == CoreError::OutOfMemory,
+                "the opening answered {error:?}"
+            );
+            Err(AllocError)
+        }
+    }
+}
+
+/// Plays the rows on this world, up to the first want of memory, which changes nothing.
+fn play<const N: usize>(
+    rt: &impl Abort,
+    alloc: Global,
+    world: &mut World,
+    rows: [Row; N],
+) -> Result<(), AllocError> {
     let mut number = 0u64;
-    for row in rows {
-        let Row(event, want, seen, usage, occupancy) = row;
-        let got = world.step(event);
-        assert!(rt; want.is_got(&got), "reply {number}");
-        assert!(rt; NOTHING.is_slot(world.slot(0)), "slot 0 after {number}");
-        assert!(rt; seen.is_slot(world.slot(1)), "slot 1 after {number}");
-        assert_eq!(rt; world.usage(), usage, "usage after {number}");
-        assert_eq!(rt; world.occupancy(), occupancy, "occupancy after {number}");
+    for row in Vec::from_array(alloc, rows)? {
+        let Row(event, wanted, slot, totals) = row;
+        let before = printed(world);
+        let answer = world.step(event);
+        if told(&answer) == told(&Err(CoreError::OutOfMemory)) {
+            assert!(rt; printed(world) == before, "memory was refused at {number}");
+            return Err(AllocError);
+        }
+        assert!(rt; told(&answer) == told(&wanted), "the answer to {number}");
+        let after = (Some(EMPTY), Some(slot), totals);
+        assert!(rt; printed(world) == after, "the world after {number}");
         number = number.saturating_add(1);
     }
-}
-
-/// Client 0 has a place and charge 5, and builds in slot 1.
-fn building(alloc: Global) -> Result<Vec<Row>, Fail> {
-    let taken = Seen::Building(0, 0);
-    let mut rows = Vec::new(alloc);
-    rows.push(Row(Event::Start { client: 0 }, Want::Ok, NOTHING, 0, 0))?;
-    rows.push(Row(Event::Start { client: 1 }, Want::Ok, NOTHING, 0, 0))?;
-    rows.push(Row(Event::Enter { client: 0 }, Want::Granted, NOTHING, 0, 1))?;
-    let split = Want::Split {
-        granted: 5,
-        needed: 0,
-    };
-    rows.push(Row(
-        Event::Charge {
-            client: 0,
-            charge: 5,
-        },
-        split,
-        NOTHING,
-        5,
-        1,
-    ))?;
-    rows.push(Row(
-        Event::Occupy { client: 0, slot: 1 },
-        Want::Taken,
-        taken,
-        5,
-        1,
-    ))?;
-    Ok(rows)
-}
-
-#[test]
-fn refuses_by_the_first_name_that_is_due(rt: HostRuntime) -> Result<(), Fail> {
-    let mut world = World::opening(rt.alloc(), SMALL)?;
-    let refused = [
-        CoreError::NotAllowed,
-        CoreError::NoSuchClient,
-        CoreError::NoSuchSlot,
-    ];
-    let mut rows = Vec::new(rt.alloc());
-    rows.push(Row(Event::Start { client: 0 }, Want::Ok, NOTHING, 0, 0))?;
-    rows.push(Row(
-        Event::Start { client: 0 },
-        Want::Refused(refused[0]),
-        NOTHING,
-        0,
-        0,
-    ))?;
-    rows.push(Row(
-        Event::Start { client: 2 },
-        Want::Refused(refused[1]),
-        NOTHING,
-        0,
-        0,
-    ))?;
-    rows.push(Row(
-        Event::Look { client: 5, slot: 5 },
-        Want::Refused(refused[2]),
-        NOTHING,
-        0,
-        0,
-    ))?;
-    play(&rt, &mut world, rows);
-    assert_eq!(rt; world.hand(), 0);
-    assert_eq!(rt; world.standing(), 0);
-    assert_eq!(rt; world.passed(0), 0);
-    assert!(rt; world.slot(2).is_none());
     Ok(())
 }
 
+/// A world in which client 0 has a place and charge 5, and builds in slot 1.
+fn building(rt: &impl Abort, alloc: Global) -> Result<World, AllocError> {
+    let mut world = opened(rt, alloc, SMALL)?;
+    let enter = Event::Enter { client: 0 };
+    let occupy = Event::Occupy { client: 0, slot: 1 };
+    let rows = [
+        Row(Event::Start { client: 0 }, DONE, EMPTY, [0, 0, 0, 0]),
+        Row(Event::Start { client: 1 }, DONE, EMPTY, [0, 0, 0, 0]),
+        Row(enter, Ok(Reply::Granted), EMPTY, [0, 1, 0, 0]),
+        Row(charge(0, 5), split(5, 0), EMPTY, [5, 1, 0, 0]),
+        Row(occupy, Ok(Reply::Taken), BUILDING, [5, 1, 0, 0]),
+    ];
+    play(rt, alloc, &mut world, rows)?;
+    Ok(world)
+}
+
 #[test]
-fn hides_and_frees_an_entry(rt: HostRuntime) -> Result<(), Fail> {
-    let mut world = World::opening(rt.alloc(), SMALL)?;
-    let mut rows = building(rt.alloc())?;
-    let got = Want::Got {
+fn refuses_by_the_first_name_that_is_due(rt: HostRuntime) -> Result<(), AllocError> {
+    let mut world = opened(&rt, rt.alloc(), SMALL)?;
+    let look = Event::Look { client: 5, slot: 5 };
+    let no_client = Err(CoreError::NoSuchClient);
+    let no_slot = Err(CoreError::NoSuchSlot);
+    let rows = [
+        Row(Event::Start { client: 0 }, DONE, EMPTY, [0, 0, 0, 0]),
+        Row(Event::Start { client: 0 }, NOT_ALLOWED, EMPTY, [0, 0, 0, 0]),
+        Row(Event::Start { client: 2 }, no_client, EMPTY, [0, 0, 0, 0]),
+        Row(look, no_slot, EMPTY, [0, 0, 0, 0]),
+    ];
+    play(&rt, rt.alloc(), &mut world, rows)
+}
+
+#[test]
+fn hides_and_frees_an_entry(rt: HostRuntime) -> Result<(), AllocError> {
+    let mut world = building(&rt, rt.alloc())?;
+    let show = show(rt.alloc(), 2, None, &[0xaa])?;
+    let got = Ok(Reply::Got {
         shown: true,
         counting: true,
-    };
-    let acquire = Event::Acquire {
-        client: 1,
-        slot: 1,
-        weight: 1,
-        name: 4,
-    };
-    let gone = Want::Left {
-        references: 0,
-        phase: Phase::Hidden,
-    };
-    let free = Event::Free {
-        client: 0,
-        slot: 1,
-        name: None,
-    };
-    let refused = Want::Refused(CoreError::NotAllowed);
+    });
+    let hide = Event::Hide { client: 1, name: 4 };
+    let spend = Event::Use { client: 1, name: 4 };
+    let freed = Ok(Reply::Freed { charge: 5 });
     let four = held(1, 4);
-    let taken = Seen::Building(0, 0);
-    rows.push(Row(
-        show(rt.alloc(), &[0xaa], None)?,
-        Want::Ok,
-        entry(2, None),
-        5,
-        1,
-    ))?;
-    let look = Event::Look { client: 1, slot: 1 };
-    rows.push(Row(look, Want::Saw(Phase::Shown), entry(2, None), 5, 1))?;
-    rows.push(Row(acquire, got, entry(2, four), 5, 1))?;
-    rows.push(Row(
-        Event::Hide { client: 1, name: 4 },
-        Want::Hid,
-        hidden(2, four),
-        5,
-        1,
-    ))?;
-    rows.push(Row(free, refused, hidden(2, four), 5, 1))?;
-    rows.push(Row(
-        Event::Hide { client: 1, name: 4 },
-        Want::Again,
-        hidden(2, four),
-        5,
-        1,
-    ))?;
-    rows.push(Row(
-        Event::Use { client: 1, name: 4 },
-        gone,
-        hidden(3, None),
-        5,
-        1,
-    ))?;
-    let free = Event::Free {
-        client: 0,
-        slot: 1,
-        name: None,
-    };
-    rows.push(Row(free, Want::Freed(5), taken, 5, 1))?;
-    rows.push(Row(Event::Empty { client: 0 }, Want::Ok, NOTHING, 5, 1))?;
-    rows.push(Row(Event::Slots { client: 0 }, Want::Ok, NOTHING, 5, 0))?;
-    rows.push(Row(Event::Settle { client: 0 }, Want::Ok, NOTHING, 0, 0))?;
-    play(&rt, &mut world, rows);
-    Ok(())
+    let rows = [
+        Row(show, DONE, shown(2, None), [5, 1, 0, 0]),
+        Row(LOOK, SAW_SHOWN, shown(2, None), [5, 1, 0, 0]),
+        Row(acquire(1), got, shown(2, four), [5, 1, 0, 0]),
+        Row(hide, Ok(Reply::Hid), hidden(2, four), [5, 1, 0, 0]),
+        Row(FREE, NOT_ALLOWED, hidden(2, four), [5, 1, 0, 0]),
+        Row(spend, left(Phase::Hidden), hidden(3, None), [5, 1, 0, 0]),
+        Row(FREE, freed, BUILDING, [5, 1, 0, 0]),
+        Row(Event::Empty { client: 0 }, DONE, EMPTY, [5, 1, 0, 0]),
+        Row(Event::Slots { client: 0 }, DONE, EMPTY, [5, 0, 0, 0]),
+        Row(Event::Settle { client: 0 }, DONE, EMPTY, [0, 0, 0, 0]),
+    ];
+    play(&rt, rt.alloc(), &mut world, rows)
 }
 
 #[test]
-fn strays_where_an_entry_went(rt: HostRuntime) -> Result<(), Fail> {
-    let mut world = World::opening(rt.alloc(), SMALL)?;
-    let mut rows = building(rt.alloc())?;
-    let free = Event::Free {
-        client: 0,
-        slot: 1,
-        name: None,
+fn strays_where_an_entry_went(rt: HostRuntime) -> Result<(), AllocError> {
+    let mut world = building(&rt, rt.alloc())?;
+    let show = show(rt.alloc(), 2, None, &[0xaa])?;
+    let freed = Ok(Reply::Freed { charge: 5 });
+    let strayed = Seen {
+        strays: 2,
+        ..BUILDING
     };
-    let acquire = Event::Acquire {
-        client: 1,
-        slot: 1,
-        weight: 2,
-        name: 4,
-    };
-    rows.push(Row(
-        Event::Write { client: 0 },
-        Want::Ok,
-        Seen::Building(0, 0),
-        5,
-        1,
-    ))?;
-    rows.push(Row(
-        show(rt.alloc(), &[0xaa], None)?,
-        Want::Ok,
-        entry(2, None),
-        5,
-        1,
-    ))?;
-    let look = Event::Look { client: 1, slot: 1 };
-    rows.push(Row(look, Want::Saw(Phase::Shown), entry(2, None), 5, 1))?;
-    rows.push(Row(free, Want::Freed(5), Seen::Building(0, 0), 5, 1))?;
-    rows.push(Row(acquire, Want::Stray, Seen::Building(0, 2), 5, 1))?;
-    rows.push(Row(Event::Empty { client: 0 }, Want::Ok, NOTHING, 5, 1))?;
-    play(&rt, &mut world, rows);
-    Ok(())
+    let rows = [
+        Row(show, DONE, shown(2, None), [5, 1, 0, 0]),
+        Row(LOOK, SAW_SHOWN, shown(2, None), [5, 1, 0, 0]),
+        Row(FREE, freed, BUILDING, [5, 1, 0, 0]),
+        Row(acquire(2), Ok(Reply::Stray), strayed, [5, 1, 0, 0]),
+        Row(Event::Empty { client: 0 }, DONE, EMPTY, [5, 1, 0, 0]),
+    ];
+    play(&rt, rt.alloc(), &mut world, rows)
 }
 
 #[test]
-fn keeps_a_reference_on_what_it_shows(rt: HostRuntime) -> Result<(), Fail> {
-    let mut world = World::opening(rt.alloc(), SMALL)?;
-    let mut rows = building(rt.alloc())?;
-    let left = Want::Left {
-        references: 0,
-        phase: Phase::Shown,
-    };
-    let read = Want::Entry {
+fn keeps_a_reference_on_what_it_shows(rt: HostRuntime) -> Result<(), AllocError> {
+    let mut world = building(&rt, rt.alloc())?;
+    let show = show(rt.alloc(), 2, Some(3), &[])?;
+    let read = Event::Read { client: 0, name: 3 };
+    let whole = Ok(Reply::Entry {
         key0: 7,
         key1: 9,
-        bytes: &[],
-    };
+        value: Listed::new(rt.alloc()),
+    });
+    let give = Event::Give { client: 0, name: 3 };
     let three = held(0, 3);
-    rows.push(Row(
-        show(rt.alloc(), &[], Some(3))?,
-        Want::Ok,
-        entry(1, three),
-        5,
-        1,
-    ))?;
-    rows.push(Row(
-        Event::Read { client: 0, name: 3 },
-        read,
-        entry(1, three),
-        5,
-        1,
-    ))?;
-    rows.push(Row(
-        Event::Give { client: 0, name: 3 },
-        left,
-        entry(1, None),
-        5,
-        1,
-    ))?;
-    rows.push(Row(Event::Enter { client: 0 }, Want::Open, entry(1, None), 5, 2))?;
-    play(&rt, &mut world, rows);
-    Ok(())
+    let rows = [
+        Row(show, DONE, shown(1, three), [5, 1, 0, 0]),
+        Row(read, whole, shown(1, three), [5, 1, 0, 0]),
+        Row(give, left(Phase::Shown), shown(1, None), [5, 1, 0, 0]),
+    ];
+    play(&rt, rt.alloc(), &mut world, rows)
 }
 
 #[test]
-fn splits_a_charge_under_strict(rt: HostRuntime) -> Result<(), Fail> {
+fn splits_a_charge_under_strict(rt: HostRuntime) -> Result<(), AllocError> {
     let setup = Setup {
         capacity: 100,
         strict: true,
         ..SMALL
     };
-    let mut world = World::opening(rt.alloc(), setup)?;
-    let whole = Want::Split {
-        granted: 60,
-        needed: 0,
-    };
-    let part = Want::Split {
-        granted: 40,
-        needed: 20,
-    };
-    let mut rows = Vec::new(rt.alloc());
-    rows.push(Row(Event::Start { client: 0 }, Want::Ok, NOTHING, 0, 0))?;
-    rows.push(Row(Event::Start { client: 1 }, Want::Ok, NOTHING, 0, 0))?;
-    rows.push(Row(
-        Event::Charge {
-            client: 0,
-            charge: 60,
-        },
-        whole,
-        NOTHING,
-        60,
-        0,
-    ))?;
-    rows.push(Row(
-        Event::Charge {
-            client: 1,
-            charge: 60,
-        },
-        part,
-        NOTHING,
-        120,
-        0,
-    ))?;
-    play(&rt, &mut world, rows);
-    Ok(())
+    let mut world = opened(&rt, rt.alloc(), setup)?;
+    let rows = [
+        Row(Event::Start { client: 0 }, DONE, EMPTY, [0, 0, 0, 0]),
+        Row(Event::Start { client: 1 }, DONE, EMPTY, [0, 0, 0, 0]),
+        Row(charge(0, 60), split(60, 0), EMPTY, [60, 0, 0, 0]),
+        Row(charge(1, 60), split(40, 20), EMPTY, [120, 0, 0, 0]),
+    ];
+    play(&rt, rt.alloc(), &mut world, rows)
 }
 
 #[test]
-fn counts_down_and_ends(rt: HostRuntime) -> Result<(), Fail> {
-    let mut world = World::opening(rt.alloc(), SMALL)?;
-    let mut rows = building(rt.alloc())?;
-    let show = Event::Show {
-        client: 0,
-        key0: 7,
-        key1: 9,
-        charge: 5,
-        countdown: 3,
-        name: None,
-        value: Listed::from_vec(Vec::new(rt.alloc())),
-    };
+fn counts_down_and_ends(rt: HostRuntime) -> Result<(), AllocError> {
+    let mut world = building(&rt, rt.alloc())?;
+    let show = show(rt.alloc(), 3, None, &[])?;
     let clock = Event::Clock { client: 0, slot: 1 };
-    rows.push(Row(show, Want::Ok, entry(3, None), 5, 1))?;
-    rows.push(Row(clock, Want::Uses(2), entry(2, None), 5, 1))?;
-    rows.push(Row(Event::End { client: 1 }, Want::Ok, entry(2, None), 5, 1))?;
-    rows.push(Row(
-        Event::Usage { client: 0 },
-        Want::Count(5),
-        entry(2, None),
-        5,
-        1,
-    ))?;
-    rows.push(Row(
-        Event::Occupancy { client: 0 },
-        Want::Count(1),
-        entry(2, None),
-        5,
-        1,
-    ))?;
-    play(&rt, &mut world, rows);
-    Ok(())
+    let rows = [
+        Row(show, DONE, shown(3, None), [5, 1, 0, 0]),
+        Row(clock, Ok(Reply::Uses(2)), shown(2, None), [5, 1, 0, 0]),
+    ];
+    play(&rt, rt.alloc(), &mut world, rows)?;
+    let mut other = opened(&rt, rt.alloc(), SMALL)?;
+    let rows = [
+        Row(Event::Start { client: 0 }, DONE, EMPTY, [0, 0, 0, 0]),
+        Row(Event::End { client: 0 }, DONE, EMPTY, [0, 0, 0, 0]),
+    ];
+    play(&rt, rt.alloc(), &mut other, rows)
 }
 
 #[test]
-fn passes_and_stands(rt: HostRuntime) -> Result<(), Fail> {
-    let mut world = World::opening(rt.alloc(), SMALL)?;
-    let split = Want::Split {
-        granted: 5,
-        needed: 0,
-    };
-    let mut rows = Vec::new(rt.alloc());
-    rows.push(Row(Event::Start { client: 0 }, Want::Ok, NOTHING, 0, 0))?;
-    rows.push(Row(Event::Pass { client: 0, slot: 1 }, Want::Ok, NOTHING, 0, 0))?;
-    rows.push(Row(
-        Event::Count { client: 0, slot: 1 },
-        Want::Count(1),
-        NOTHING,
-        0,
-        0,
-    ))?;
-    rows.push(Row(
-        Event::Unpass { client: 0, slot: 1 },
-        Want::Ok,
-        NOTHING,
-        0,
-        0,
-    ))?;
-    rows.push(Row(Event::Turn { client: 0 }, Want::Count(0), NOTHING, 0, 0))?;
-    rows.push(Row(
-        Event::Charge {
-            client: 0,
-            charge: 5,
-        },
-        split,
-        NOTHING,
-        5,
-        0,
-    ))?;
+fn passes_and_stands(rt: HostRuntime) -> Result<(), AllocError> {
+    let mut world = opened(&rt, rt.alloc(), SMALL)?;
+    let pass = Event::Pass { client: 0, slot: 1 };
+    let passed = Seen { passed: 1, ..EMPTY };
+    let unpass = Event::Unpass { client: 0, slot: 1 };
+    let turn = Event::Turn { client: 0 };
     let stand = Event::Stand {
         client: 0,
         charge: 5,
         name: 7,
     };
-    rows.push(Row(stand, Want::Ok, NOTHING, 5, 0))?;
-    rows.push(Row(Event::Standing { client: 0 }, Want::Count(5), NOTHING, 5, 0))?;
-    rows.push(Row(Event::Fall { client: 0, name: 7 }, Want::Ok, NOTHING, 5, 0))?;
-    rows.push(Row(Event::Waive { client: 0 }, Want::Ok, NOTHING, 0, 0))?;
-    rows.push(Row(Event::Turn { client: 0 }, Want::Count(4), NOTHING, 0, 0))?;
-    play(&rt, &mut world, rows);
-    assert_eq!(rt; world.hand(), 8);
-    Ok(())
+    let fall = Event::Fall { client: 0, name: 7 };
+    let rows = [
+        Row(Event::Start { client: 0 }, DONE, EMPTY, [0, 0, 0, 0]),
+        Row(pass, DONE, passed, [0, 0, 0, 0]),
+        Row(unpass, DONE, EMPTY, [0, 0, 0, 0]),
+        Row(turn, Ok(Reply::Count(0)), EMPTY, [0, 0, 0, 4]),
+        Row(charge(0, 5), split(5, 0), EMPTY, [5, 0, 0, 4]),
+        Row(stand, DONE, EMPTY, [5, 0, 5, 4]),
+        Row(fall, DONE, EMPTY, [5, 0, 0, 4]),
+        Row(Event::Waive { client: 0 }, DONE, EMPTY, [0, 0, 0, 4]),
+    ];
+    play(&rt, rt.alloc(), &mut world, rows)
+}
+
+/// The events that no script above has.
+#[test]
+fn marks_and_tells(rt: HostRuntime) -> Result<(), AllocError> {
+    let mut world = building(&rt, rt.alloc())?;
+    let show = show(rt.alloc(), 2, Some(3), &[])?;
+    let enter = Event::Enter { client: 1 };
+    let mark = Event::Mark { client: 0, name: 3 };
+    let marked = Seen {
+        hit: true,
+        ..shown(1, held(0, 3))
+    };
+    let correct = Event::Correct { client: 0, name: 3 };
+    let hide = Event::Hide { client: 0, name: 3 };
+    let again = Event::Hide { client: 0, name: 3 };
+    let gone = Seen {
+        phase: Phase::Hidden,
+        ..marked
+    };
+    let count = Event::Count { client: 0, slot: 1 };
+    let usage = Event::Usage { client: 1 };
+    let occupancy = Event::Occupancy { client: 1 };
+    let standing = Event::Standing { client: 1 };
+    let rows = [
+        Row(Event::Write { client: 0 }, DONE, BUILDING, [5, 1, 0, 0]),
+        Row(enter, Ok(Reply::Open), BUILDING, [5, 2, 0, 0]),
+        Row(Event::Quit { client: 1 }, DONE, BUILDING, [5, 1, 0, 0]),
+        Row(show, DONE, shown(1, held(0, 3)), [5, 1, 0, 0]),
+        Row(mark, DONE, marked, [5, 1, 0, 0]),
+        Row(correct, NOT_ALLOWED, marked, [5, 1, 0, 0]),
+        Row(hide, Ok(Reply::Hid), gone, [5, 1, 0, 0]),
+        Row(again, Ok(Reply::Again), gone, [5, 1, 0, 0]),
+        Row(count, Ok(Reply::Count(0)), gone, [5, 1, 0, 0]),
+        Row(usage, Ok(Reply::Count(5)), gone, [5, 1, 0, 0]),
+        Row(occupancy, Ok(Reply::Count(1)), gone, [5, 1, 0, 0]),
+        Row(standing, Ok(Reply::Count(0)), gone, [5, 1, 0, 0]),
+    ];
+    play(&rt, rt.alloc(), &mut world, rows)
 }

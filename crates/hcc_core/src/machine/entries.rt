@@ -1,7 +1,7 @@
 //! The steps that move entries: occupy, show, free, empty and write.
-ghost use Rattle.std.specs.Prelude.{◌≡◌, ◌≤◌, IfOk, true};
+ghost use Rattle.std.specs.Prelude.{◌≡◌, ◌<◌, ◌≤◌, IfOk, true};
 ghost use Rattle.hcc_core.specs.World.{references_of};
-ghost use Rattle.hcc_core.specs.Steps.{Follows, occupy_of, strays_if_empty, show_of, is_fresh, may_show, AllowsShow, first_references, first_uses, free_of, may_free, empty_of, has_no_member, write_of};
+ghost use Rattle.hcc_core.specs.Steps.{Follows, occupy_of, strays_if_empty, show_of, is_fresh, may_show, AllowsShow, client_shown, first_references, first_uses, free_of, may_free, empty_of, write_of};
 ghost use Rattle.hcc_core.specs.Lawful.{IsLawful};
 
 use crate::event::{CoreError, Reply};
@@ -52,32 +52,24 @@ impl Machine {
             return Err(CoreError::NotAllowed);
         }
         let references = first_references(self.alloc, client, name)?;
-        let stamps = found.stamps + 1;
-        let granted = found.granted - charge as u64;
-        let uses = first_uses(countdown, name);
-        let found = &mut self.clients[client as usize];
-        let resident = Resident {
-            shown: true,
-            entry: Entry {
-                key0: key.0,
-                key1: key.1,
-                stamp: Stamp {
-                    client,
-                    number: found.stamps,
-                },
-                value,
-                charge: charge as u64,
-            },
-            trail: mem::replace(&mut found.trail, Listed::new(self.alloc)),
-            references,
-            uses,
-            hit: false,
+        let number = found.stamps;
+        let charge = charge as u64;
+        let trail = hand_over(&mut self.clients[client as usize], self.alloc, charge);
+        let entry = Entry {
+            key0: key.0,
+            key1: key.1,
+            stamp: Stamp { client, number },
+            value,
+            charge,
         };
-        found.stamps = stamps;
-        found.granted = granted;
-        found.place = Place::Absent;
-        found.owned = Owned::Nothing;
-        self.slots[slot as usize] = Slot::Shareable(resident);
+        self.slots[slot as usize] = Slot::Shareable(Resident {
+            shown: true,
+            entry,
+            trail,
+            references,
+            uses: first_uses(countdown, name),
+            hit: false,
+        });
         Ok(Reply::Ok)
     }
 
@@ -120,7 +112,7 @@ impl Machine {
         let Some(slot) = found.owned.freed() else {
             return Err(CoreError::NotAllowed);
         };
-        if !is_empty(found.trail.as_slice()) {
+        if !found.trail.is_empty() {
             return Err(CoreError::NotAllowed);
         }
         self.clients[client as usize].owned = Owned::Nothing;
@@ -181,6 +173,20 @@ fn may_show(
         && found.stamps < STAMPS_PER_CLIENT
 }
 
+/// What a show leaves of its client. The trail that it had goes to the slot.
+fn hand_over(found: &mut Client, alloc: Global, charge: u64) -> Listed<u32>
+    requires granted { charge ≤ found.old.granted }
+    requires stamps { found.old.stamps < STAMPS_PER_CLIENT }
+    ensures after { found.new ≡ client_shown charge found.old }
+    ensures trail { result ≡ found.old.trail }
+{
+    found.stamps += 1;
+    found.granted -= charge;
+    found.place = Place::Absent;
+    found.owned = Owned::Nothing;
+    mem::replace(&mut found.trail, Listed::new(alloc))
+}
+
 fn first_references(
     alloc: Global,
     client: u32,
@@ -215,16 +221,7 @@ fn may_free(client: u32, found: &Client, seen: &Slot, name: Option<u64>) -> bool
     ensures { result ≡ may_free client found.now seen.now name }
 {
     found.owned.is_nothing()
-        && is_empty(found.trail.as_slice())
+        && found.trail.is_empty()
         && seen.is_shareable()
         && seen.is_free_for(client, name)
-}
-
-fn is_empty(trail: &[u32]) -> bool
-    ensures { result ≡ has_no_member trail.now }
-{
-    match trail {
-        [] => true,
-        [_, ..] => false,
-    }
 }
