@@ -1,9 +1,9 @@
 //! Plays a script from a reader to a writer.
-ghost use Rattle.std.specs.Prelude.{◌≡◌, ◌++◌, ◌+◌, ◌<◌, ◌≤◌, [], Ok, IfOk, OnOk, OnErr, IfErr, IfSome, IsOk, length, false, string_bytes};
+ghost use Rattle.std.specs.Prelude.{◌≡◌, ◌++◌, ◌+◌, ◌<◌, ◌≤◌, ◌⊎◌, [], Ok, IfOk, OnOk, OnErr, IfErr, IfSome, IsOk, length, false, string_bytes};
 ghost use Rattle.std.specs.Io.KnownBytes.{Appends, Keeps, Consumes, IsAtEnd};
-ghost use Rattle.hcc_core.specs.Steps.{CanOpen, outcome_of};
+ghost use Rattle.hcc_core.specs.Steps.{CanOpen, outcome_of, after};
 ghost use Rattle.hcc_player.specs.Bytes.{Leaves, AppendsPart, TakesAtMost, GivesPart};
-ghost use Rattle.hcc_player.specs.Text.{answer_of, after, event_text};
+ghost use Rattle.hcc_player.specs.Text.{answer_of, event_text};
 ghost use Rattle.hcc_player.specs.Line.{line_event};
 ghost use Rattle.hcc_player.specs.Script.{script_of};
 ghost use Rattle.hcc_player.specs.Play.{IsWhole, FailsInPart, FailsToRead, FailsToJudge, FailsToPlay, played, script_text, IsScript, EndsAt, WritesLate};
@@ -203,8 +203,8 @@ fn play_text<W: Write>(
 /// The whole text is read and judged before the first event is played. A text that is at fault is
 /// refused by the first fault of its first line at fault, and one of more than 67,108,864 bytes
 /// by `TooLarge`, at the first byte that is too many; nothing is written then. Where the writer
-/// fails or memory is refused in the middle, a front of the output is out. The writer is flushed
-/// at the end.
+/// fails or memory is refused in the middle of a script, a front of the output is out. The writer
+/// is flushed at the end.
 ///
 /// The setup has 1 to 65,536 slots and 1 to 1,024 clients. It takes memory for the text, for the
 /// world and for a part of the output; its time is linear in the text but for the steps.
@@ -226,6 +226,10 @@ pub fn play_core<R: Read, W: Write>(
     // Nothing is written where the text is at fault or was not read.
     ensures late { IfErr result (λ error.
         WritesLate error (W.contents writer.old) (W.contents writer.new)) }
+
+    // Nothing is written unless the whole text is a script.
+    ensures only { IfSome (R.remaining reader.old) (λ text. IsScript text
+        ⊎ Keeps (W.contents writer.old) (W.contents writer.new)) }
 
     // Never is anything written but a front of the script's text.
     ensures part { OnErr result (IfSome (R.remaining reader.old) (λ text.
