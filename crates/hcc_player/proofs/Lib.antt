@@ -1,4 +1,5 @@
 pub mod ValueLemmas
+pub mod ValueLaws
 pub mod LineLemmas
 pub mod ByteLemmas
 pub mod TextLemmas
