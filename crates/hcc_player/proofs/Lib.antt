@@ -5,3 +5,4 @@ pub mod ByteLemmas
 pub mod TextLemmas
 pub mod PlayLemmas
 pub mod NumberLemmas
+pub mod ScriptLaws

@@ -92,6 +92,7 @@ fn read_all<R: Read>(alloc: Global, reader: &mut R) -> Result<Vec<u8>, PlayError
 }
 
 /// Judges the whole text.
+#[tactic(auto, using(crate::proofs::ScriptLaws::first_fault))]
 fn judge_all(alloc: Global, text: &[u8]) -> Result<(), PlayError>
     ensures ok { OnOk result (IsOk (script_of text.now)) }
     ensures err { IfErr result (λ error. FailsToJudge error text.now) }
@@ -220,7 +221,8 @@ pub fn play_core<R: Read, W: Write>(
     ensures written { OnOk result (IfSome (R.remaining reader.old) (λ text. IsScript text
         × Appends (W.contents writer.old) (W.contents writer.new) (script_text setup text))) }
 
-    // Each error says what was wrong; a text at fault is refused by its first fault.
+    // Each error says what was wrong; a text at fault is refused by the first fault of its first
+    // line at fault.
     ensures ends { IfErr result (λ error. IfSome (R.remaining reader.old) (EndsAt error)) }
 
     // Nothing is written where the text is at fault or was not read.
