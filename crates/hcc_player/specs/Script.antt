@@ -62,6 +62,12 @@ pub record FirstFault (n : ℕ) (lines : List (List ℕ)) (line : ℕ) (fault : 
   pub events : All (λ l. IsOk (line_event l)) before
   pub wrong : IsWrong here behind fault
 
+-- Each line gives an event, and nothing stands behind the last line feed.
+pub record GiveEvents (lines : List (List ℕ)) : Type 0 where
+  pub ended : List (List ℕ)
+  pub cut : lines ≡ ended ++ [] ∷ []
+  pub events : All (λ l. IsOk (line_event l)) ended
+
 -- A judge that failed so: that is the text's first fault, or memory was refused.
 abbrev pub ScriptFails : {X : Type 0} → ScriptError → Result X ScriptFault → Type 0
 ScriptFails scripts.OutOfMemory read = Unit {0}

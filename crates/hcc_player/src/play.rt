@@ -5,7 +5,7 @@ ghost use Rattle.hcc_core.specs.Steps.{CanOpen, outcome_of, after};
 ghost use Rattle.hcc_player.specs.Bytes.{Leaves, AppendsPart, TakesAtMost, GivesPart};
 ghost use Rattle.hcc_player.specs.Text.{answer_of, event_text};
 ghost use Rattle.hcc_player.specs.Line.{line_event};
-ghost use Rattle.hcc_player.specs.Script.{script_of};
+ghost use Rattle.hcc_player.specs.Script.{lines_of, script_of, GiveEvents};
 ghost use Rattle.hcc_player.specs.Play.{IsWhole, FailsInPart, FailsToRead, FailsToJudge, FailsToPlay, played, script_text, IsScript, EndsAt, WritesLate};
 
 use crate::fault::{LineError, PlayError, ScriptError};
@@ -92,9 +92,10 @@ fn read_all<R: Read>(alloc: Global, reader: &mut R) -> Result<Vec<u8>, PlayError
 }
 
 /// Judges the whole text.
-#[tactic(auto, using(crate::proofs::ScriptLaws::first_fault))]
+#[tactic(auto, using(crate::proofs::ScriptLaws::first_fault, crate::proofs::ScriptLaws::lines_give))]
 fn judge_all(alloc: Global, text: &[u8]) -> Result<(), PlayError>
     ensures ok { OnOk result (IsOk (script_of text.now)) }
+    ensures lines { OnOk result (GiveEvents (lines_of text.now)) }
     ensures err { IfErr result (λ error. FailsToJudge error text.now) }
 {
     match judge(alloc, text) {
@@ -220,6 +221,9 @@ pub fn play_core<R: Read, W: Write>(
     // What was read is a script, and its text is written.
     ensures written { OnOk result (IfSome (R.remaining reader.old) (λ text. IsScript text
         × Appends (W.contents writer.old) (W.contents writer.new) (script_text setup text))) }
+
+    // Each line of it gives an event, and nothing stands behind the last line feed.
+    ensures lines { OnOk result (IfSome (R.remaining reader.old) (λ text. GiveEvents (lines_of text))) }
 
     // Each error says what was wrong; a text at fault is refused by the first fault of its first
     // line at fault.
