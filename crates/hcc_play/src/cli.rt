@@ -98,6 +98,7 @@ pub fn command<'a>(alloc: Global) -> Result<Command<'a>, AllocError> {
     Command::new(alloc, "hcc_play")
         .about(ABOUT)
         .after_help(AFTER)
+        .override_usage("hcc_play [COMMAND]")
         .subcommand_required(true)
         .subcommand(core)
 }

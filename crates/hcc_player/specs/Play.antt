@@ -9,7 +9,7 @@ use Rattle.hcc_player.specs.declared.limits.TheConstants.{MOST_INPUT}
 use Rattle.hcc_player.specs.declared.fault.ScriptFault.{ScriptFault}
 use Rattle.hcc_player.specs.declared.fault.PlayError.{PlayError}
 use Rattle.hcc_player.specs.declared.fault.PlayError.TheVariants as plays
-use Rattle.hcc_player.specs.Script.{script_of}
+use Rattle.hcc_player.specs.Script.{lines_of, script_of, FirstFault}
 use Rattle.hcc_player.specs.Text.{events_text}
 
 -- the lines of a script's events, or nothing where the text is at fault
@@ -50,7 +50,8 @@ abbrev pub FailsToJudge : PlayError → List ℕ → Type 0
 FailsToJudge plays.ReadFailed text = ⊥
 FailsToJudge plays.TooLarge text = ⊥
 FailsToJudge plays.OutOfMemory text = Unit {0}
-FailsToJudge (plays.Text line fault) text = script_of text ≡ Err (record { line = line; fault = fault })
+FailsToJudge (plays.Text line fault) text =
+    (script_of text ≡ Err (record { line = line; fault = fault })) × FirstFault 1 (lines_of text) line fault
 FailsToJudge plays.WriteFailed text = ⊥
 
 -- why a play ends early
@@ -65,8 +66,8 @@ FailsToPlay plays.WriteFailed = Unit {0}
 abbrev pub EndsAt : PlayError → List ℕ → Type 0
 EndsAt plays.ReadFailed text = Unit {0}
 EndsAt plays.TooLarge text = MOST_INPUT < length text
-EndsAt (plays.Text line fault) text =
-    (length text ≤ MOST_INPUT) × (script_of text ≡ Err (record { line = line; fault = fault }))
+EndsAt (plays.Text line fault) text = (length text ≤ MOST_INPUT)
+    × (script_of text ≡ Err (record { line = line; fault = fault })) × FirstFault 1 (lines_of text) line fault
 EndsAt plays.OutOfMemory text = Unit {0}
 EndsAt plays.WriteFailed text = IsScript text
 

@@ -1,6 +1,6 @@
 -- Scripts: the events of a text, or its first fault.
-use Rattle.std.specs.Prelude.{◌≡◌, ℕ, ◌+◌, ◌==◌, nat_lt, List, [], ◌∷◌, ◌++◌, Option, Some, None, Result, Ok, Err, length, if◌then◌else◌}
-use Rattle.std.specs.List.{slice_split}
+use Rattle.std.specs.Prelude.{◌≡◌, ℕ, ◌+◌, ◌==◌, nat_lt, List, [], ◌∷◌, ◌++◌, Option, Some, None, Result, Ok, Err, IsOk, length, if◌then◌else◌}
+use Rattle.std.specs.List.{All, slice_split}
 use Rattle.hcc_core.specs.declared.event.Event.{Event}
 use Rattle.hcc_player.specs.declared.limits.TheConstants.{MOST_LINE}
 use Rattle.hcc_player.specs.declared.fault.TextFault.{TextFault}
@@ -46,6 +46,27 @@ script_from n (line ∷ next ∷ more) = then_events n (line_event line) (script
 -- The events of a text, or its first fault with the number of its line, from 1.
 unfoldable pub script_of : List ℕ → Result (List Event) ScriptFault
 script_of text = script_from 1 (lines_of text)
+
+-- what is wrong with a line that stands before these others: only the last has no line feed
+abbrev pub IsWrong : List ℕ → List (List ℕ) → TextFault → Type 0
+IsWrong line [] fault = last_fault line ≡ Some fault
+IsWrong line (next ∷ more) fault = line_event line ≡ Err fault
+
+-- Of lines from number n on, the first at fault: each line before it gives an event.
+pub record FirstFault (n : ℕ) (lines : List (List ℕ)) (line : ℕ) (fault : TextFault) : Type 0 where
+  pub before : List (List ℕ)
+  pub here : List ℕ
+  pub behind : List (List ℕ)
+  pub cut : lines ≡ before ++ here ∷ behind
+  pub number : line ≡ n + length before
+  pub events : All (λ l. IsOk (line_event l)) before
+  pub wrong : IsWrong here behind fault
+
+-- Each line gives an event, and nothing stands behind the last line feed.
+pub record GiveEvents (lines : List (List ℕ)) : Type 0 where
+  pub ended : List (List ℕ)
+  pub cut : lines ≡ ended ++ [] ∷ []
+  pub events : All (λ l. IsOk (line_event l)) ended
 
 -- A judge that failed so: that is the text's first fault, or memory was refused.
 abbrev pub ScriptFails : {X : Type 0} → ScriptError → Result X ScriptFault → Type 0

@@ -15,7 +15,7 @@ use Rattle.hcc_core.specs.declared.event.Event.{Event}
 use Rattle.hcc_core.specs.declared.event.CoreError.{CoreError}
 use Rattle.hcc_core.specs.declared.event.CoreError.TheVariants.{NoSuchSlot, NoSuchClient, NotAllowed, OutOfMemory}
 use Rattle.hcc_core.specs.World.{State, usage_of, occupancy_of, standing_in, passed_at}
-use Rattle.hcc_core.specs.Steps.{Outcome, outcome_of}
+use Rattle.hcc_core.specs.Steps.{Outcome, outcome_of, after}
 
 abbrev pub phase_text : Phase → List ℕ
 phase_text phases.Empty = codes "empty"
@@ -130,17 +130,10 @@ answer_text (Err error) = refusal_text error
 unfoldable pub line_text : Result Reply CoreError → State → List ℕ
 line_text answer world = answer_text answer ++ codes " : " ++ world_text world ++ codes "\n"
 
--- what an outcome answers, and the world behind it: a refusal leaves the world as it was
+-- what an outcome answers
 abbrev pub answer_of : Outcome → Result Reply CoreError
 answer_of (Ok done) = Ok done.0
 answer_of (Err error) = Err error
-
-abbrev pub world_of : State → Outcome → State
-world_of world (Ok done) = done.1
-world_of world (Err error) = world
-
-abbrev pub after : State → Event → State
-after world event = world_of world (outcome_of world event)
 
 -- the line of an event in a world
 abbrev pub event_text : State → Event → List ℕ

@@ -106,7 +106,8 @@ pub enum PlayError {
     /// The text is at fault in the line of this number, counted from 1; nothing was written.
     #[error("line {line}: {fault}")]
     Text { line: u64, fault: TextFault },
-    /// Memory was refused; a front part of the output may have been written.
+    /// Memory was refused; a front part of the output may have been written, if the whole text is
+    /// a script, and else nothing.
     #[error("out of memory")]
     OutOfMemory,
     /// The writer failed; a front part of the output may have been written.

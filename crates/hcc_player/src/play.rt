@@ -1,11 +1,11 @@
 //! Plays a script from a reader to a writer.
-ghost use Rattle.std.specs.Prelude.{◌≡◌, ◌++◌, ◌+◌, ◌<◌, ◌≤◌, [], Ok, IfOk, OnOk, OnErr, IfErr, IfSome, IsOk, length, false, string_bytes};
+ghost use Rattle.std.specs.Prelude.{◌≡◌, ◌++◌, ◌+◌, ◌<◌, ◌≤◌, ◌⊎◌, [], Ok, IfOk, OnOk, OnErr, IfErr, IfSome, IsOk, length, false, string_bytes};
 ghost use Rattle.std.specs.Io.KnownBytes.{Appends, Keeps, Consumes, IsAtEnd};
-ghost use Rattle.hcc_core.specs.Steps.{CanOpen, outcome_of};
+ghost use Rattle.hcc_core.specs.Steps.{CanOpen, outcome_of, after};
 ghost use Rattle.hcc_player.specs.Bytes.{Leaves, AppendsPart, TakesAtMost, GivesPart};
-ghost use Rattle.hcc_player.specs.Text.{answer_of, after, event_text};
+ghost use Rattle.hcc_player.specs.Text.{answer_of, event_text};
 ghost use Rattle.hcc_player.specs.Line.{line_event};
-ghost use Rattle.hcc_player.specs.Script.{script_of};
+ghost use Rattle.hcc_player.specs.Script.{lines_of, script_of, GiveEvents};
 ghost use Rattle.hcc_player.specs.Play.{IsWhole, FailsInPart, FailsToRead, FailsToJudge, FailsToPlay, played, script_text, IsScript, EndsAt, WritesLate};
 
 use crate::fault::{LineError, PlayError, ScriptError};
@@ -92,8 +92,10 @@ fn read_all<R: Read>(alloc: Global, reader: &mut R) -> Result<Vec<u8>, PlayError
 }
 
 /// Judges the whole text.
+#[tactic(auto, using(crate::proofs::ScriptLaws::first_fault, crate::proofs::ScriptLaws::lines_give))]
 fn judge_all(alloc: Global, text: &[u8]) -> Result<(), PlayError>
     ensures ok { OnOk result (IsOk (script_of text.now)) }
+    ensures lines { OnOk result (GiveEvents (lines_of text.now)) }
     ensures err { IfErr result (λ error. FailsToJudge error text.now) }
 {
     match judge(alloc, text) {
@@ -203,8 +205,8 @@ fn play_text<W: Write>(
 /// The whole text is read and judged before the first event is played. A text that is at fault is
 /// refused by the first fault of its first line at fault, and one of more than 67,108,864 bytes
 /// by `TooLarge`, at the first byte that is too many; nothing is written then. Where the writer
-/// fails or memory is refused in the middle, a front of the output is out. The writer is flushed
-/// at the end.
+/// fails or memory is refused in the middle of a script, a front of the output is out. The writer
+/// is flushed at the end.
 ///
 /// The setup has 1 to 65,536 slots and 1 to 1,024 clients. It takes memory for the text, for the
 /// world and for a part of the output; its time is linear in the text but for the steps.
@@ -220,12 +222,20 @@ pub fn play_core<R: Read, W: Write>(
     ensures written { OnOk result (IfSome (R.remaining reader.old) (λ text. IsScript text
         × Appends (W.contents writer.old) (W.contents writer.new) (script_text setup text))) }
 
-    // Each error says what was wrong; a text at fault is refused by its first fault.
+    // Each line of it gives an event, and nothing stands behind the last line feed.
+    ensures lines { OnOk result (IfSome (R.remaining reader.old) (λ text. GiveEvents (lines_of text))) }
+
+    // Each error says what was wrong; a text at fault is refused by the first fault of its first
+    // line at fault.
     ensures ends { IfErr result (λ error. IfSome (R.remaining reader.old) (EndsAt error)) }
 
     // Nothing is written where the text is at fault or was not read.
     ensures late { IfErr result (λ error.
         WritesLate error (W.contents writer.old) (W.contents writer.new)) }
+
+    // Nothing is written unless the whole text is a script.
+    ensures only { IfSome (R.remaining reader.old) (λ text. IsScript text
+        ⊎ Keeps (W.contents writer.old) (W.contents writer.new)) }
 
     // Never is anything written but a front of the script's text.
     ensures part { OnErr result (IfSome (R.remaining reader.old) (λ text.

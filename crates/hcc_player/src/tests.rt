@@ -5,12 +5,50 @@ use hcc_core::state::Setup;
 use std::alloc::Global;
 use std::test::Fail;
 
+mod streams;
+
 const DEFAULTS: Setup = Setup {
     slots: 2,
     clients: 2,
     capacity: 600,
     strict: false,
 };
+
+/// A worked script in the default world: an entry is shown, held by another client, hidden, freed.
+const FIRST_SCRIPT: &[u8] = b"\
+start 0\n\
+start 1\n\
+enter 0\n\
+charge 0 5\n\
+occupy 0 1\n\
+show 0 7 9 5 2 - aa\n\
+look 1 1\n\
+acquire 1 1 1 4\n\
+hide 1 4\n\
+free 0 1 -\n\
+use 1 4\n\
+free 0 1 -\n\
+empty 0\n\
+slots 0\n\
+settle 0\n";
+
+/// What that script gives.
+const FIRST_OUTPUT: &[u8] = b"\
+ok : E+0/0 E+0/0 | 0 0 0 0\n\
+ok : E+0/0 E+0/0 | 0 0 0 0\n\
+granted : E+0/0 E+0/0 | 0 1 0 0\n\
+split 5 0 : E+0/0 E+0/0 | 5 1 0 0\n\
+taken : E+0/0 B0+0/0 | 5 1 0 0\n\
+ok : E+0/0 S7.9@0.0#5,u2,r-,h0/0 | 5 1 0 0\n\
+saw shown : E+0/0 S7.9@0.0#5,u2,r-,h0/0 | 5 1 0 0\n\
+got shown : E+0/0 S7.9@0.0#5,u2,r1.4x1,h0/0 | 5 1 0 0\n\
+hid : E+0/0 H7.9@0.0#5,u2,r1.4x1,h0/0 | 5 1 0 0\n\
+refused NotAllowed : E+0/0 H7.9@0.0#5,u2,r1.4x1,h0/0 | 5 1 0 0\n\
+left 0 hidden : E+0/0 H7.9@0.0#5,u3,r-,h0/0 | 5 1 0 0\n\
+freed 5 : E+0/0 B0+0/0 | 5 1 0 0\n\
+ok : E+0/0 E+0/0 | 5 1 0 0\n\
+ok : E+0/0 E+0/0 | 5 0 0 0\n\
+ok : E+0/0 E+0/0 | 0 0 0 0\n";
 
 /// What a play of this text answers, and what it writes.
 #[derive(Drop)]
@@ -38,12 +76,14 @@ fn filled(alloc: Global, front: &[u8], count: usize, back: &[u8]) -> Result<Vec<
 
 #[test]
 fn tells_each_fault(rt: HostRuntime) -> Result<(), Fail> {
-    let cases: [(&[u8], u64, TextFault); 32] = [
+    let cases: [(&[u8], u64, TextFault); 35] = [
         (b"start 0", 1, TextFault::Unended),
         (b"start 0\nx", 2, TextFault::Unended),
         (b"start\t0\n", 1, TextFault::NotAscii),
         (b"start 0\r\n", 1, TextFault::NotAscii),
         (b"start 0\n\xc3\xa4\n", 2, TextFault::NotAscii),
+        (b"start \x7f\n", 1, TextFault::NotAscii),
+        (b"start ~\n", 1, TextFault::BadNumber),
         (b"\n", 1, TextFault::BadWord),
         (b"start  0\n", 1, TextFault::BadWord),
         (b" start 0\n", 1, TextFault::BadWord),
@@ -72,6 +112,7 @@ fn tells_each_fault(rt: HostRuntime) -> Result<(), Fail> {
         (b"look 4294967296 x\n", 1, TextFault::OutOfRange),
         (b"show x 1 2 0 2 - A\n", 1, TextFault::BadNumber),
         (b"start 0\nlook 0 x\nstart\n", 2, TextFault::BadNumber),
+        (b"stand 0 0 x\nstart \t", 1, TextFault::OutOfRange),
     ];
     for (text, line, fault) in cases {
         let played = play(rt.alloc(), text);
@@ -108,8 +149,9 @@ fn tells_what_is_too_long(rt: HostRuntime) -> Result<(), Fail> {
 
 #[test]
 fn plays_scripts(rt: HostRuntime) -> Result<(), Fail> {
-    let cases: [(&[u8], &[u8]); 8] = [
+    let cases: [(&[u8], &[u8]); 9] = [
         (b"", b""),
+        (FIRST_SCRIPT, FIRST_OUTPUT),
         (
             b"start 0\nstart 0\nstart 2\nlook 5 5\n",
             b"ok : E+0/0 E+0/0 | 0 0 0 0\n\
@@ -161,5 +203,25 @@ ok : E+0/0 E+0/0 | 5 0 0 4\nok : E+0/0 E+0/0 | 0 0 0 4\n",
         assert_eq!(rt; played.answer, Ok(()));
         assert_eq!(rt; played.out.as_slice(), want);
     }
+    Ok(())
+}
+
+#[test]
+fn strict_splits_a_charge(rt: HostRuntime) -> Result<(), Fail> {
+    let alloc = rt.alloc();
+    let setup = Setup {
+        capacity: 100,
+        strict: true,
+        ..DEFAULTS
+    };
+    let mut text = b"start 0\nstart 1\ncharge 0 60\ncharge 1 60\n".as_slice();
+    let mut out = Vec::new(alloc);
+    let answer = play_core(alloc, &mut text, &mut out, setup);
+    assert_eq!(rt; answer, Ok(()));
+    let want: &[u8] = b"ok : E+0/0 E+0/0 | 0 0 0 0\n\
+ok : E+0/0 E+0/0 | 0 0 0 0\n\
+split 60 0 : E+0/0 E+0/0 | 60 0 0 0\n\
+split 40 20 : E+0/0 E+0/0 | 120 0 0 0\n";
+    assert_eq!(rt; out.as_slice(), want);
     Ok(())
 }

@@ -1,5 +1,7 @@
 //! Reads words that are values: bytes in hexadecimal digits.
-ghost use Rattle.std.specs.Prelude.{◌≡◌, Ok, MatchResult};
+ghost use Rattle.std.specs.Prelude.{◌≡◌, ◌<◌, ◌≤◌, ℕ, List, Ok, IfOk, MatchResult, length};
+ghost use Rattle.std.specs.List.{All};
+ghost use Rattle.hcc_player.specs.Text.{value_text};
 ghost use Rattle.hcc_player.specs.Value.{hex_digit, byte_of, bytes_of, value_of, Fails};
 
 use crate::fault::{LineError, TextFault};
@@ -47,7 +49,7 @@ fn bytes_of(alloc: Global, digits: &[u8]) -> Result<Vec<u8>, LineError>
 
 /// Reads a value of at most 64 bytes: two digits for each byte, or `-` for no bytes.
 #[tactic(auto, unfolding(crate::specs::Value::value_of))]
-pub fn value(alloc: Global, word: &[u8]) -> Result<Vec<u8>, LineError>
+fn hexadecimal(alloc: Global, word: &[u8]) -> Result<Vec<u8>, LineError>
     ensures { MatchResult result (λ bytes. value_of word.now ≡ Ok bytes.items)
         (λ error. Fails error (value_of word.now)) }
 {
@@ -62,4 +64,18 @@ pub fn value(alloc: Global, word: &[u8]) -> Result<Vec<u8>, LineError>
         return Err(LineError::Fault(TextFault::ValueTooLong));
     }
     Ok(bytes)
+}
+
+/// Reads a value of at most 64 bytes: two digits for each byte, or `-` for no bytes.
+pub fn value(alloc: Global, word: &[u8]) -> Result<Vec<u8>, LineError>
+    ensures value { MatchResult result (λ bytes. value_of word.now ≡ Ok bytes.items)
+        (λ error. Fails error (value_of word.now)) }
+
+    // A value is read exactly where the word is the text of its bytes.
+    ensures read { IfOk result (λ bytes. word.now ≡ value_text bytes.items) }
+    ensures takes { (bytes : List ℕ) → All (λ b. b < 256) bytes → length bytes ≤ MOST_VALUE
+        → word.now ≡ value_text bytes → MatchResult result (λ read. read.items ≡ bytes)
+        (λ error. error ≡ LineError.OutOfMemory) }
+{
+    hexadecimal(alloc, word)
 }

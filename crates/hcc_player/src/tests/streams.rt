@@ -1,0 +1,247 @@
+//! Readers and writers that give or take little, are interrupted or fail at one of their calls:
+//! what a play answers then, and what is out.
+use super::{DEFAULTS, FIRST_OUTPUT, FIRST_SCRIPT};
+use crate::fault::PlayError;
+use crate::play::play_core;
+use std::alloc::Global;
+use std::io;
+use std::io::{ErrorKind, Read, Write};
+use std::test::Fail;
+
+/// How a call ends that is not served.
+#[derive(Clone, Copy, Debug)]
+enum End {
+    Moves0,
+    Fails(ErrorKind),
+}
+
+/// The calls of a fake. Each moves at most `step` bytes, but for the one of number `at`, counted
+/// from 0, which ends otherwise.
+#[derive(Clone, Copy)]
+struct Calls {
+    step: usize,
+    at: usize,
+    end: End,
+    made: usize,
+}
+
+impl Calls {
+    fn next(&mut self) -> io::Result<usize> {
+        let number = self.made;
+        self.made = number.saturating_add(1);
+        match self.end {
+            End::Moves0 if number == self.at => Ok(0),
+            End::Fails(kind) if number == self.at => Err(io::Error::from(kind)),
+            _ => Ok(self.step),
+        }
+    }
+}
+
+/// Calls of which none ends otherwise.
+const ALL_SERVED: Calls = Calls {
+    step: usize::MAX,
+    at: usize::MAX,
+    end: End::Moves0,
+    made: 0,
+};
+
+/// A reader of these bytes.
+#[derive(Drop)]
+struct Source<'a> {
+    rest: &'a [u8],
+    calls: Calls,
+}
+
+impl Read for Source<'_> {
+    fn read(&mut self, buffer: &mut [u8]) -> io::Result<usize> {
+        let count = self.calls.next()?.min(buffer.len()).min(self.rest.len());
+        buffer[..count].copy_from_slice(&self.rest[..count]);
+        self.rest = &self.rest[count..];
+        Ok(count)
+    }
+}
+
+/// A writer that keeps what it took. Its flush may fail.
+#[derive(Drop)]
+struct Sink {
+    taken: Vec<u8>,
+    calls: Calls,
+    flushes: bool,
+}
+
+impl Write for Sink {
+    fn write(&mut self, bytes: &[u8]) -> io::Result<usize> {
+        let count = self.calls.next()?.min(bytes.len());
+        self.taken.extend_from_slice(&bytes[..count])?;
+        Ok(count)
+    }
+
+    fn flush(&mut self) -> io::Result<()> {
+        if self.flushes {
+            return Ok(());
+        }
+        Err(io::Error::from(ErrorKind::Other))
+    }
+}
+
+/// What a play answered, what is out, and how many calls it made of each kind.
+#[derive(Drop)]
+struct Ran {
+    answer: Result<(), PlayError>,
+    out: Vec<u8>,
+    reads: usize,
+    writes: usize,
+}
+
+fn play(alloc: Global, text: &[u8], reads: Calls, writes: Calls, flushes: bool) -> Ran {
+    let mut reader = Source {
+        rest: text,
+        calls: reads,
+    };
+    let mut writer = Sink {
+        taken: Vec::new(alloc),
+        calls: writes,
+        flushes,
+    };
+    let answer = play_core(alloc, &mut reader, &mut writer, DEFAULTS);
+    Ran {
+        answer,
+        out: writer.taken,
+        reads: reader.calls.made,
+        writes: writer.calls.made,
+    }
+}
+
+#[test]
+fn each_read_may_end_otherwise(rt: HostRuntime) -> Result<(), Fail> {
+    let text = FIRST_SCRIPT;
+    let cases: [(ErrorKind, Result<(), PlayError>); 2] = [
+        (ErrorKind::Interrupted, Ok(())),
+        (ErrorKind::Other, Err(PlayError::ReadFailed)),
+    ];
+    for (kind, answer) in cases {
+        for step in [1, 7, usize::MAX] {
+            // The last read finds the end.
+            let whole = text.len().div_ceil(step).saturating_add(1);
+            for at in 0..whole {
+                let end = End::Fails(kind);
+                let calls = Calls {
+                    step,
+                    at,
+                    end,
+                    made: 0,
+                };
+                let ran = play(rt.alloc(), text, calls, ALL_SERVED, true);
+                assert_eq!(rt; ran.answer, answer, "{kind:?} at {at} by {step}");
+                let (out, reads) = match answer {
+                    Ok(()) => (FIRST_OUTPUT, whole.saturating_add(1)),
+                    Err(_) => (b"".as_slice(), at.saturating_add(1)),
+                };
+                assert_eq!(rt; ran.out.as_slice(), out, "{kind:?} at {at} by {step}");
+                assert_eq!(rt; ran.reads, reads, "{kind:?} at {at} by {step}");
+            }
+        }
+    }
+    Ok(())
+}
+
+#[test]
+fn each_write_may_end_otherwise(rt: HostRuntime) -> Result<(), Fail> {
+    let whole = FIRST_OUTPUT;
+    let cases: [(End, Result<(), PlayError>); 3] = [
+        (End::Fails(ErrorKind::Interrupted), Ok(())),
+        (End::Fails(ErrorKind::Other), Err(PlayError::WriteFailed)),
+        (End::Moves0, Err(PlayError::WriteFailed)),
+    ];
+    for (end, answer) in cases {
+        for step in [1, 7, usize::MAX] {
+            let writes = whole.len().div_ceil(step);
+            for at in 0..writes {
+                let calls = Calls {
+                    step,
+                    at,
+                    end,
+                    made: 0,
+                };
+                let ran = play(rt.alloc(), FIRST_SCRIPT, ALL_SERVED, calls, true);
+                assert_eq!(rt; ran.answer, answer, "{end:?} at {at} by {step}");
+                let (out, made) = match answer {
+                    Ok(()) => (whole.len(), writes),
+                    Err(_) => (at.saturating_mul(step), at),
+                };
+                assert!(rt;
+                    whole.starts_with(ran.out.as_slice()),
+                    "{end:?} at {at} by {step}"
+                );
+                assert_eq!(rt; ran.out.len(), out, "{end:?} at {at} by {step}");
+                assert_eq!(rt;
+                    ran.writes,
+                    made.saturating_add(1),
+                    "{end:?} at {at} by {step}"
+                );
+            }
+        }
+    }
+    Ok(())
+}
+
+#[test]
+fn the_flush_may_fail(rt: HostRuntime) -> Result<(), Fail> {
+    let ran = play(rt.alloc(), FIRST_SCRIPT, ALL_SERVED, ALL_SERVED, false);
+    assert_eq!(rt; ran.answer, Err(PlayError::WriteFailed));
+    assert_eq!(rt; ran.out.as_slice(), FIRST_OUTPUT);
+    Ok(())
+}
+
+#[test]
+fn a_read_of_nothing_ends_the_text(rt: HostRuntime) -> Result<(), Fail> {
+    let (step, at, end, made) = (8, 1, End::Moves0, 0);
+    let calls = Calls {
+        step,
+        at,
+        end,
+        made,
+    };
+    let ran = play(rt.alloc(), FIRST_SCRIPT, calls, ALL_SERVED, true);
+    assert_eq!(rt; ran.answer, Ok(()));
+    assert_eq!(rt;
+        ran.out.as_slice(),
+        b"ok : E+0/0 E+0/0 | 0 0 0 0\n".as_slice()
+    );
+    assert_eq!(rt; ran.reads, 2);
+    Ok(())
+}
+
+/// A script whose output is written in several parts, and that output.
+fn long_script(alloc: Global) -> Result<(Vec<u8>, Vec<u8>), Fail> {
+    let mut text = b"start 0\n".to_vec(alloc)?;
+    let mut out = b"ok : E+0/0 E+0/0 | 0 0 0 0\n".to_vec(alloc)?;
+    for _ in 0..4_000 {
+        text.extend_from_slice(b"start 0\n")?;
+        out.extend_from_slice(b"refused NotAllowed : E+0/0 E+0/0 | 0 0 0 0\n")?;
+    }
+    Ok((text, out))
+}
+
+#[test]
+fn a_write_may_fail_in_the_middle_of_a_play(rt: HostRuntime) -> Result<(), Fail> {
+    let (text, whole) = long_script(rt.alloc())?;
+    let (step, end, made) = (10_000, End::Fails(ErrorKind::Other), 0);
+    for at in 0..16 {
+        let calls = Calls {
+            step,
+            at,
+            end,
+            made,
+        };
+        let ran = play(rt.alloc(), &text, ALL_SERVED, calls, true);
+        assert_eq!(rt; ran.answer, Err(PlayError::WriteFailed), "at {at}");
+        assert_eq!(rt; ran.writes, at.saturating_add(1));
+        assert!(rt; whole.starts_with(&ran.out), "at {at}");
+        assert!(rt; ran.out.len() < whole.len(), "at {at}");
+    }
+    let ran = play(rt.alloc(), &text, ALL_SERVED, ALL_SERVED, true);
+    assert_eq!(rt; ran.answer, Ok(()));
+    assert_eq!(rt; ran.out.as_slice(), whole.as_slice());
+    Ok(())
+}
