@@ -1,6 +1,6 @@
 -- The rule: which words and views show a world. Each part speaks of some readings alone, so that a
 -- step that leaves these keeps the part.
-use Rattle.std.specs.Prelude.{◌≡◌, ℕ, ◌+◌, ◌*◌, ◌^◌, ◌<◌, ◌≤◌, Bool, true, List, [], ◌∷◌, Option, Some, None, IfSome, length, slice_get, slice_index, option_and_then, if◌then◌else◌, nat_lt}
+use Rattle.std.specs.Prelude.{◌≡◌, ℕ, ◌+◌, ◌*◌, ◌^◌, ◌<◌, ◌≤◌, true, List, [], Option, Some, None, IfSome, length, slice_get, slice_index, option_and_then, nat_lt}
 use Rattle.std.specs.Option.{unwrap_or}
 use Rattle.atomic_table.specs.Table as table
 use Rattle.hcc_core.specs.declared.limits.TheConstants.{REFERENCES_PER_CLIENT}
@@ -8,7 +8,6 @@ use Rattle.hcc_core.specs.declared.state.Setup.{Setup}
 use Rattle.hcc_core.specs.declared.state.Client.{Client}
 use Rattle.hcc_core.specs.declared.state.Entry.{Entry}
 use Rattle.hcc_core.specs.declared.state.Reference.{Reference}
-use Rattle.hcc_core.specs.declared.state.Resident.{Resident}
 use Rattle.hcc_core.specs.declared.state.Stamp.{Stamp}
 use Rattle.hcc_core.specs.declared.state.Standalone.{Standalone}
 use Rattle.hcc_core.specs.declared.state.Slot.{Slot}
@@ -17,9 +16,8 @@ use Rattle.hcc_core.specs.Sums.{when, total}
 use Rattle.hcc_core.specs.World.{State, references_of, taken_by_slot, usage_of, occupancy_of, standing_in, passed_by}
 use Rattle.hcc_core.specs.Steps.{new_client}
 use Rattle.hcc_core.specs.Lawful.{IsLawful, owned_slot}
-use Rattle.hcc_rule.specs.declared.geometry.Geometry.{Geometry}
 use Rattle.hcc_rule.specs.declared.key.Key.{Key}
-use Rattle.hcc_rule.specs.declared.layout.TheConstants.{META, DISPLACEMENT, DATA, PAYLOAD, USAGE, OCCUPANCY, STANDING, HAND, MOST_ROOM, MOST_HANDLES}
+use Rattle.hcc_rule.specs.declared.layout.TheConstants.{META, DISPLACEMENT, DATA, PAYLOAD, USAGE, OCCUPANCY, STANDING, HAND, MOST_HANDLES}
 use Rattle.hcc_rule.specs.declared.rule.Plan.{Plan}
 use Rattle.hcc_rule.specs.declared.view.Made.{Made}
 use Rattle.hcc_rule.specs.declared.view.Other.{Other}

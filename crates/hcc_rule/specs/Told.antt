@@ -1,5 +1,5 @@
 -- What each step tells its seat: the view after it, by the word that it found.
-use Rattle.std.specs.Prelude.{◌≡◌, ℕ, ◌+◌, Bool, true, false, ◌&&◌, not, List, [], ◌∷◌, ◌++◌, Option, Some, None, if◌then◌else◌}
+use Rattle.std.specs.Prelude.{◌≡◌, ℕ, Bool, ◌&&◌, not, Option, Some, None, if◌then◌else◌}
 use Rattle.atomic_table.specs.Table.{Me, Step}
 use Rattle.hcc_word.specs.Word.{is_shareable, is_visible}
 use Rattle.hcc_core.specs.declared.state.Stamp.{Stamp}

@@ -1,5 +1,5 @@
 -- Where the words of a shard stand, and what the words of a slot and of an entry are.
-use Rattle.std.specs.Prelude.{◌≡◌, ℕ, ◌+◌, ◌*◌, ◌/◌, ◌<◌, List, [], ◌∷◌, length, map, take, drop, slice_index}
+use Rattle.std.specs.Prelude.{◌≡◌, ℕ, ◌+◌, ◌*◌, ◌/◌, ◌<◌, List, ◌∷◌, length, map, take, drop, slice_index}
 use Rattle.std.specs.Int.{from_le_bytes}
 use mir.Syntax.{w64}
 use Rattle.std.specs.List.{range_with_len}
