@@ -15,8 +15,8 @@ one_place : (n i j f g : ℕ) → f < n → g < n → i * n + f ≡ j * n + g �
 one_place n i j f g a b e = dite (ℕ_discrete i j)
     (λ same. let p : i * n ≡ j * n = ap (λ k. k * n) same in (same, omega arith))
     (λ other. dite (dec_le i j)
-        (λ below. let h = further i j n (omega arith) in absurd (omega arith))
-        (λ above. let h = further j i n (omega arith) in absurd (omega arith)))
+    (λ below. let h = further i j n (omega arith) in absurd (omega arith))
+    (λ above. let h = further j i n (omega arith) in absurd (omega arith)))
 
 -- the fields of slots are apart
 pub fields_apart : (room s t f g : ℕ) → f < room + SLOT_HEAD → g < room + SLOT_HEAD

@@ -4,3 +4,7 @@ pub mod WordParts
 pub mod ViewParts
 pub mod WorldParts
 pub mod Turns
+pub mod Codes
+pub mod Clients
+pub mod Touches
+pub mod Looks

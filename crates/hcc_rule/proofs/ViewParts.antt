@@ -102,7 +102,7 @@ names_own v seated =
     omega arith
 
 -- and no other view does
-unnamed : {T : Type 0} (tag : T) (clients : List Client) (books : Books) (views : List (View T)) (id j : ℕ) (v u : View T)
+pub unnamed : {T : Type 0} (tag : T) (clients : List Client) (books : Books) (views : List (View T)) (id j : ℕ) (v u : View T)
     → Seats tag clients books views → slice_get views id ≡ Some v → slice_get views j ≡ Some u
     → is_seated v ≡ true → j ≢ id → names v.client u ≡ 0
 unnamed tag clients books views id j v u seats at_v at_u seated other =
@@ -113,7 +113,7 @@ unnamed tag clients books views id j v u seats at_v at_u seated other =
     omega arith
 
 -- what is named otherwise is another client
-seated_else : {T : Type 0} (c : ℕ) (u : View T) → is_seated u ≡ true → names c u ≡ 0 → u.client ≢ c
+pub seated_else : {T : Type 0} (c : ℕ) (u : View T) → is_seated u ≡ true → names c u ≡ 0 → u.client ≢ c
 seated_else c u seated none same =
     let own : when (is_seated u && u.client == c) 1 ≡ 1 = when_one _ (rw (seated, eq-eqb u.client c same) refl) in
     absurd (omega arith)

@@ -27,7 +27,6 @@ impl Key {
 /// Which values are right for a key, by a relation of contracts. Nothing tests it at run time.
 pub trait Tag {
     ghost use Rattle.std.specs.Prelude.{ℕ, List};
-
     ghost use Rattle.hcc_rule.specs.declared.key.Key.{Key};
 
     // Of the tag, a key and a value's bytes.

@@ -17,6 +17,7 @@ pub const DATA: usize = 2;
 
 /// Among the data words: the two words of the key.
 pub const KEY0: usize = 0;
+
 pub const KEY1: usize = 1;
 
 /// Among the data words: the charge.
@@ -36,8 +37,11 @@ pub const LEDGER_WORDS: usize = 4;
 
 /// Among the ledger words: the usage, the occupancy, the charges of standalone entries, and the hand.
 pub const USAGE: usize = 0;
+
 pub const OCCUPANCY: usize = 1;
+
 pub const STANDING: usize = 2;
+
 pub const HAND: usize = 3;
 
 /// The fewest slots of a shard.

@@ -7,7 +7,7 @@ mod geometry;
 mod key;
 pub mod layout;
 mod rule;
-pub mod said;
+mod steps;
 mod table;
 mod view;
 

@@ -21,7 +21,6 @@ pub struct ShardRule<T> {
 
 impl<T: Tag> TableRule<(), View<T>, Plan<T>> for ShardRule<T> {
     ghost use Rattle.hcc_rule.specs.Rule.{Holds};
-
     ghost use Rattle.hcc_rule.specs.Opening.{opening_view};
 
     ghost holds = { Holds T.fits };

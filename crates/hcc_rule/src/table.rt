@@ -1,5 +1,7 @@
-//! The table of a shard, and one function for each kind of step.
-ghost use Rattle.std.specs.Prelude.{◌≡◌, ℕ, ◌+◌, ◌*◌, ◌<◌, ◌≤◌};
+//! The table of a shard.
+ghost use Rattle.std.specs.Prelude.{◌≡◌, ◌+◌, ◌<◌, ◌≤◌};
+ghost use Rattle.hcc_core.specs.declared.limits.TheConstants.{MOST_SLOTS};
+ghost use Rattle.hcc_rule.specs.declared.layout.TheConstants.{MOST_ROOM, SLOT_HEAD};
 ghost use Rattle.hcc_rule.specs.Words.{field_at, word_count};
 
 use crate::geometry::Geometry;
@@ -10,23 +12,35 @@ use crate::view::View;
 use atomic_table::{Seat, Table};
 use std::alloc::Allocator;
 
-/// The words of a shard.
+/// The words of a shard, which change by the steps of its seats alone.
 #[derive(Drop)]
 pub struct RuleTable<T: Tag, A: Allocator> {
-    table: Table<(), View<T>, Plan<T>, ShardRule<T>, A>,
-    geometry: Geometry,
-    capacity: u64,
-    strict: bool,
+    pub(crate) table: Table<(), View<T>, Plan<T>, ShardRule<T>, A>,
+    pub(crate) geometry: Geometry,
+    pub(crate) capacity: u64,
+    pub(crate) strict: bool,
+    ghost sized: { table.shared.table_id.words ≡ word_count geometry.slots geometry.room },
+    ghost planned: { (table.shared.key.geometry ≡ geometry) × (table.shared.key.capacity ≡ capacity) × (table.shared.key.strict ≡ strict) },
+    ghost limits: { (geometry.slots ≤ MOST_SLOTS) × (geometry.room ≤ MOST_ROOM) },
 }
 
 /// What one client knows of a shard. It has no bytes.
 pub type RuleSeat<T> = Seat<(), View<T>>;
 
 impl<T: Tag, A: Allocator> RuleTable<T, A> {
-    /// The size of the shard.
+    /// The size of the shard. It costs a copy.
     pub fn geometry(&self) -> Geometry
         ensures { result ≡ self.now.geometry }
     {
         self.geometry
+    }
+
+    /// The place of a slot's word.
+    pub(crate) fn place(&self, slot: u32, field: usize) -> usize
+        requires { (slot < self.now.geometry.slots) × (field < self.now.geometry.room + SLOT_HEAD) }
+        ensures value { result ≡ field_at self.now.geometry.room slot field }
+        ensures inside { result < self.now.table.shared.table_id.words }
+    {
+        slot as usize * (self.geometry.room as usize + SLOT_HEAD) + field
     }
 }

@@ -1,0 +1,3 @@
+//! One function for each kind of step, and what it tells its seat.
+mod looks;
+mod said;
