@@ -8,3 +8,4 @@ pub mod Codes
 pub mod Clients
 pub mod Touches
 pub mod Looks
+pub mod Openings

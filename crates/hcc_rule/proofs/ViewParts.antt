@@ -131,9 +131,7 @@ named_else : (clients : List Client) (books : Books) (c : ℕ) (hand : Client) (
     → o.client ≢ c → IsNamed clients books o
     → IsNamed (slice_set clients c hand) (slice_set books c made) o
 named_else clients books c hand made o other old = record {
-  client = old.client;
   there = read_other clients c o.client hand other ∙ old.there;
-  resting = old.resting;
   book = read_other books c o.client made other ∙ old.book;
 }
 

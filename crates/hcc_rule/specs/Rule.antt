@@ -101,14 +101,12 @@ Holding {T} all views = (j : ℕ) (v : View T) → slice_get views j ≡ Some v 
 -- Seats.
 
 -- a client that no view stands for has nothing in hand; its stamps and its dead list stay
-abbrev pub IsResting : Client → Type 0
-IsResting client = client ≡ record new_client { stamps = client.stamps; dead = client.dead }
+abbrev pub resting : List Made → List Stamp → Client
+resting made dead = record new_client { stamps = length made; dead = dead }
 
--- a client that a view names beside its own rests, and its list is the view's
+-- a client that a view names beside its own rests, and its lists are the view's
 pub record IsNamed (clients : List Client) (books : Books) (o : Other) : Type 0 where
-  pub client : Client
-  pub there : slice_get clients o.client ≡ Some client
-  pub resting : IsResting client
+  pub there : slice_get clients o.client ≡ Some (resting o.made o.dead)
   pub book : slice_get books o.client ≡ Some o.made
 
 -- A view that stands for a client has the table's tag, and that client's work in hand and list are

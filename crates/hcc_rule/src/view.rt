@@ -1,6 +1,6 @@
 //! What contracts see of a seat. No value of these types is ever made.
 use crate::key::Key;
-use hcc_core::state::{Client, Entry};
+use hcc_core::state::{Client, Entry, Stamp};
 use std::collections::LinkedList;
 
 /// A reference that a client holds on a slot, under a name of its own, on this entry.
@@ -24,10 +24,12 @@ pub struct Made {
     pub charge: u64,
 }
 
-/// A client that a view names beside its own, which it may start: what it showed.
+/// A client that a view names beside its own, which it may start: what it showed, and which entries
+/// it has seen dead.
 pub struct Other {
     pub client: u64,
     pub made: LinkedList<Made>,
+    pub dead: LinkedList<Stamp>,
 }
 
 /// What a seat knows of its shard.
