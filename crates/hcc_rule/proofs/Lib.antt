@@ -9,3 +9,4 @@ pub mod Clients
 pub mod Touches
 pub mod Looks
 pub mod Openings
+pub mod Splits

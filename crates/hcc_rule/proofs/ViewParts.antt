@@ -91,7 +91,7 @@ total-two f (z ∷ zs) (suc i) (suc j) x y other at_i at_j =
 when_one : (b : Bool) → b ≡ true → when b 1 ≡ 1
 when_one b is = ap (λ z. when z 1) is
 
-when_few : (b : Bool) → when b 1 ≤ 1
+pub when_few : (b : Bool) → when b 1 ≤ 1
 when_few true = omega arith
 when_few false = omega arith
 
@@ -118,7 +118,7 @@ seated_else c u seated none same =
     let own : when (is_seated u && u.client == c) 1 ≡ 1 = when_one _ (rw (seated, eq-eqb u.client c same) refl) in
     absurd (omega arith)
 
-others_else : (c : ℕ) (P Q : Other → Type 0) → ((o : Other) → o.client ≢ c → P o → Q o)
+pub others_else : (c : ℕ) (P Q : Other → Type 0) → ((o : Other) → o.client ≢ c → P o → Q o)
     → (os : List Other) → total (λ (o : Other). when (o.client == c) 1) os ≡ 0 → Each P os → Each Q os
 others_else c P Q f [] none h = tt
 others_else c P Q f (o ∷ os) none h = (
