@@ -10,3 +10,4 @@ pub mod Touches
 pub mod Looks
 pub mod Openings
 pub mod Splits
+pub mod Dealing

@@ -1,5 +1,5 @@
 -- A table of zeros shows an opening world whose client 0 was started.
-use Rattle.std.proofs.Common.{◌≡◌, ℕ, zero, suc, ◌+◌, ◌-◌, ◌*◌, ◌^◌, ◌<◌, ◌≤◌, ◌≢◌, inl, inr, ◌==◌, Bool, true, false, nat_lt, List, [], ◌∷◌, map, Option, Some, None, Ok, replicate, length, slice_get, slice_index, slice_set, sym, refl, ap, ◌∙◌, arith}
+use Rattle.std.proofs.Common.{◌≡◌, ℕ, zero, suc, ◌+◌, ◌-◌, ◌<◌, ◌≤◌, ◌≢◌, inl, inr, ◌==◌, nat_lt, List, [], ◌∷◌, map, Some, None, Ok, replicate, length, slice_get, slice_index, slice_set, sym, refl, ap, ◌∙◌, arith}
 use mathlib.Core.Logic.{dite}
 use native.Mathlib.Decide.{dec_le, ℕ_discrete}
 use Rattle.std.specs.List.{range_with_len}

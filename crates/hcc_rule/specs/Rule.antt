@@ -3,7 +3,7 @@
 use Rattle.std.specs.Prelude.{◌≡◌, ℕ, ◌+◌, ◌*◌, ◌^◌, ◌<◌, ◌≤◌, true, List, [], Option, Some, None, IfSome, length, slice_get, slice_index, option_and_then, nat_lt}
 use Rattle.std.specs.Option.{unwrap_or}
 use Rattle.atomic_table.specs.Table as table
-use Rattle.hcc_core.specs.declared.limits.TheConstants.{REFERENCES_PER_CLIENT}
+use Rattle.hcc_core.specs.declared.limits.TheConstants.{REFERENCES_PER_CLIENT, STAMPS_PER_CLIENT}
 use Rattle.hcc_core.specs.declared.state.Setup.{Setup}
 use Rattle.hcc_core.specs.declared.state.Client.{Client}
 use Rattle.hcc_core.specs.declared.state.Entry.{Entry}
@@ -65,7 +65,8 @@ abbrev pub Stored : ℕ → List Slot → List ℕ → Books → Type 0
 Stored room all words books =
     (s : ℕ) (entry : Entry) → entry_in (slice_get all s) ≡ Some entry → IsStored room words books s entry
 
--- in the slot that a client owns stand the words that its view has
+-- In the slot that a client owns stand the words that its view has: those that it wrote so far, or
+-- all of the entry's that it took to free.
 pub record IsDraft {T : Type 0} (room : ℕ) (words : List ℕ) (v : View T) : Type 0 where
   pub short : length v.written ≤ PAYLOAD + room
   pub lies : (s : ℕ) → owned_slot v.hand.owned ≡ Some s → Lies words (field_at room s DATA) v.written
@@ -117,7 +118,7 @@ pub record IsSeated {T : Type 0} (tag : T) (clients : List Client) (books : Book
   pub live : is_seated v ≡ true → v.hand.live ≡ true
   pub book : is_seated v ≡ true → slice_get books v.client ≡ Some v.made
   pub others : Each (IsNamed clients books) v.others
-  pub spent : v.tag ≡ None → (v.records ≡ []) × (v.others ≡ []) × (owned_slot v.hand.owned ≡ None)
+  pub spent : v.tag ≡ None → (v.records ≡ []) × (v.others ≡ []) × (owned_slot v.hand.owned ≡ None) × (v.takings ≡ 0)
 
 -- each client is named by just one view
 pub record Seats {T : Type 0} (tag : T) (clients : List Client) (books : Books) (views : List (View T)) : Type 0 where
@@ -127,10 +128,13 @@ pub record Seats {T : Type 0} (tag : T) (clients : List Client) (books : Books) 
 
 -- Stamps.
 
--- what a client may show: the value fits the key and the slot, and the charge a word's half
+-- what a client may show: a value of bytes that fits the key and the slot, a charge below 2^32, and
+-- a serial of its own range
 pub record IsRight {T : Type 0} (fits : T → Key → List ℕ → Type 0) (tag : T) (room : ℕ) (made : Made) : Type 0 where
   pub fitting : fits tag made.key made.value
   pub short : length made.value ≤ 8 * room
+  pub bytes : Each (λ b. b < 256) made.value
+  pub numbered : made.serial < STAMPS_PER_CLIENT
   pub small : made.charge < 2 ^ 32
 
 -- each client's count of stamps is the length of its list, and the entries are as many as were
@@ -185,6 +189,7 @@ setup_of p = record {
 -- Words and views show a lawful world.
 pub record Holds {T : Type 0} (fits : T → Key → List ℕ → Type 0) (p : Plan T) (s : table.State (Unit {0}) (View T)) : Type 0 where
   pub world : State
+  -- what each client showed, in order
   pub books : Books
   pub setup : world.setup ≡ setup_of p
   pub lawful : IsLawful world
@@ -197,4 +202,5 @@ pub record Holds {T : Type 0} (fits : T → Key → List ℕ → Type 0) (p : Pl
   pub stamps : Stamps fits p.tag p.geometry.room world.slots world.clients books s.views
   pub ledgers : Ledgers p.geometry.slots p.geometry.room world s.words
   pub trails : Trails p.geometry.slots p.geometry.room world.slots world.clients s.words
+  -- the hand word is the world's hand
   pub turned : slice_index s.words (ledger_at p.geometry.slots p.geometry.room HAND) ≡ world.hand

@@ -11,7 +11,8 @@ pub struct Record {
     pub weight: u64,
     /// Whether its release may count as a use.
     pub counting: bool,
-    /// Whether look-ups found the entry as the reference was got.
+    /// Whether an acquire got it, and found the entry Visible; false for the reference that a client
+    /// keeps of the entry that it shows.
     pub shown: bool,
     pub entry: Entry,
 }
