@@ -54,7 +54,7 @@ total-only f (y ∷ ys) (suc i) x at none =
     omega arith
 
 -- a slot has a reference of a client where a sum over them says so
-any_client : (c : ℕ) (ks : List Reference) → 1 ≤ total (by_client c) ks
+pub any_client : (c : ℕ) (ks : List Reference) → 1 ≤ total (by_client c) ks
     → list_any (λ (k : Reference). k.client == c) ks ≡ true
 any_client c [] h = absurd (omega arith)
 any_client c (k ∷ ks) h = by (k.client == c) (any_client c ks) h
@@ -64,7 +64,7 @@ any_client c (k ∷ ks) h = by (k.client == c) (any_client c ks) h
     by true later h = refl
     by false later h = later (omega arith)
 
-no_client : (c : ℕ) (ks : List Reference) → total (by_client c) ks ≡ 0
+pub no_client : (c : ℕ) (ks : List Reference) → total (by_client c) ks ≡ 0
     → list_any (λ (k : Reference). k.client == c) ks ≡ false
 no_client c [] h = refl
 no_client c (k ∷ ks) h = by (k.client == c) (no_client c ks) h

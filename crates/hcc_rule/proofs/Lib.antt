@@ -11,3 +11,4 @@ pub mod Looks
 pub mod Openings
 pub mod Splits
 pub mod Dealing
+pub mod Joins

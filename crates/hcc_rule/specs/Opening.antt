@@ -1,8 +1,9 @@
 -- The views of new seats.
-use Rattle.std.specs.Prelude.{ℕ, ◌+◌, ◌-◌, true, Option, Some, None, List, [], ◌∷◌, ◌++◌, map}
+use Rattle.std.specs.Prelude.{◌≡◌, ℕ, ◌+◌, ◌-◌, true, Option, Some, None, List, [], ◌∷◌, ◌++◌, map}
 use Rattle.std.specs.List.{range_with_len}
 use Rattle.hcc_core.specs.declared.state.Client.{Client}
 use Rattle.hcc_core.specs.declared.state.Stamp.{Stamp}
+use Rattle.hcc_core.specs.Steps.{new_client}
 use Rattle.hcc_rule.specs.declared.rule.Plan.{Plan}
 use Rattle.hcc_rule.specs.declared.view.Other.{Other}
 use Rattle.hcc_rule.specs.declared.view.Made.{Made}
@@ -61,6 +62,15 @@ first_view tag (o ∷ os) = fresh_view tag o []
 
 abbrev pub right_view : {T : Type 0} → View T → View T
 right_view v = first_view v.tag v.others
+
+-- a client with nothing in hand: it may have looked, and it may have stamps and a dead list
+abbrev pub IsIdle : Client → Type 0
+IsIdle hand = hand ≡ record new_client {
+  live = true;
+  looked = hand.looked;
+  stamps = hand.stamps;
+  dead = hand.dead;
+}
 
 -- Two seats are joined: the client of the second, with nothing in hand, and those that it named
 -- are the first's to start, and what the second did counts as the first's.
