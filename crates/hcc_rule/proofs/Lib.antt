@@ -1,0 +1,14 @@
+pub mod Lists
+pub mod Addresses
+pub mod WordParts
+pub mod ViewParts
+pub mod WorldParts
+pub mod Turns
+pub mod Codes
+pub mod Clients
+pub mod Touches
+pub mod Looks
+pub mod Openings
+pub mod Splits
+pub mod Dealing
+pub mod Joins

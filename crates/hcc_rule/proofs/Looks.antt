@@ -1,0 +1,105 @@
+-- A load of a meta word: the client looks at the slot.
+use Rattle.std.proofs.Common.{◌≡◌, ℕ, ◌^◌, ◌<◌, true, List, Some, Ok, length, slice_get, slice_index, refl, ap, ◌∙◌, arith}
+use Rattle.std.proofs.lemmas.Bool.{lt-ltb}
+use mathlib.Core.Option.{none}
+use Rattle.atomic_table.specs.Table.{step, Allows}
+use Rattle.hcc_core.specs.declared.event.Event.{Event}
+use Rattle.hcc_core.specs.declared.event.Event.TheVariants as events
+use Rattle.hcc_core.specs.declared.event.Reply.{Reply}
+use Rattle.hcc_core.specs.declared.event.Reply.TheVariants as replies
+use Rattle.hcc_core.specs.declared.state.Client.{Client}
+use Rattle.hcc_core.specs.declared.state.Slot.{Slot}
+use Rattle.hcc_core.specs.World.{State, phase_of}
+use Rattle.hcc_core.specs.Steps.{with_both, client_looked, outcome_of, fits as in_bits}
+use Rattle.hcc_core.specs.Lawful.{Lawful}
+use Rattle.hcc_core.proofs.ListLemmas.{set_same}
+use Rattle.hcc_core.proofs.Opening.{is_lawful}
+use Rattle.hcc_rule.specs.declared.key.Key.{Key}
+use Rattle.hcc_rule.specs.declared.layout.TheConstants.{META}
+use Rattle.hcc_rule.specs.declared.rule.Plan.{Plan}
+use Rattle.hcc_rule.specs.declared.view.View.{View}
+use Rattle.hcc_rule.specs.Told.{Held, after_look, looks}
+use Rattle.hcc_rule.specs.Views.{is_seated}
+use Rattle.hcc_rule.specs.Words.{field_at, code_of}
+use Rattle.hcc_rule.specs.Rule.{Holds}
+use Rattle.hcc_rule.proofs.Lists.{within, there, read_at}
+use Rattle.hcc_rule.proofs.Codes.{tells_entry}
+use Rattle.hcc_rule.proofs.Clients.{dead_told}
+use Rattle.hcc_rule.proofs.Turns.{Shard, size_is}
+use Rattle.hcc_rule.proofs.Touches.{by_hand, touched, Goes, goes, client_is, live_is}
+
+-- numbers of slots and clients fit their fields
+pub slot_fits : (w : State) (i : ℕ) → Lawful w → i < length w.slots → in_bits 32 i ≡ true
+slot_fits w i l low = let few = l.sized.few_slots in let count = l.sized.slot_count in lt-ltb i (2 ^ 32) (omega arith)
+
+pub client_fits : (w : State) (c : ℕ) → Lawful w → c < length w.clients → in_bits 32 c ≡ true
+client_fits w c l low = let few = l.sized.few_clients in let count = l.sized.client_count in lt-ltb c (2 ^ 32) (omega arith)
+
+-- a look is allowed to each live client at each slot
+look_gives : (w : State) (c i : ℕ) (found : Client) (t : Slot) → Lawful w
+    → slice_get w.slots i ≡ Some t → slice_get w.clients c ≡ Some found → found.live ≡ true
+    → outcome_of w (events.Look c i) ≡ Ok (replies.Saw (phase_of t), with_both w i t c (client_looked c i t found))
+unfolding outcome_of
+look_gives w c i found t l at_slot at_client live =
+    rw (client_fits w c l (within w.clients c found at_client), slot_fits w i l (within w.slots i t at_slot), at_slot, at_client, live, set_same w.slots i t at_slot) refl
+
+module _ {T : Type 0} (fits : T → Key → List ℕ → Type 0) (p : Plan T) where
+  -- The word is read, and nothing else.
+  pub looks_on : (s : Shard fits p) (r : Holds fits p s) (id i a : ℕ) (me : Held T) (t : Slot) (then : ℕ → Held T → Type 0)
+      → slice_get r.world.slots i ≡ Some t → is_seated me.0 ≡ true → a ≡ field_at p.geometry.room i META
+      → slice_get s.views id ≡ Some me.0
+      → then (slice_index s.words a) (after_look i (slice_index s.words a) me.0, me.1)
+      → Goes fits p s a (slice_index s.words a) id me then
+  looks_on s r id i a me t then at_slot seated place at told =
+      goes fits p s r a word id i me new t t event reply then place word_is
+      (touched fits p s r id i me.0 new t t event reply record {
+        at_view = at;
+        at_slot = at_slot;
+        seated = seated;
+        same = record { tag = refl; client = refl; others = refl };
+        work = refl;
+        store = record { written = refl; made = refl; takings = refl };
+        allowed = by_hand r.world event reply i me.0.client t (client_looked me.0.client i t me.0.hand) new.hand becomes
+            (look_gives r.world me.0.client i me.0.hand t l at_slot (client_is fits p s r id me.0 at seated) (live_is fits p s r id me.0 at seated));
+        like = record { entry = refl; trail = refl };
+        here = λ h. refl;
+        elsewhere = λ j h other. refl;
+        holding = let old = r.holding id me.0 at in record { recorded = old.recorded; once = old.once; few = old.few };
+      })
+      told
+    where
+      l : Lawful r.world
+      l = is_lawful r.world r.lawful
+
+      event : Event
+      event = events.Look me.0.client i
+
+      reply : Reply
+      reply = replies.Saw (phase_of t)
+
+      word : ℕ
+      word = slice_index s.words a
+
+      new : View T
+      new = after_look i word me.0
+
+      word_is : word ≡ code_of t
+      word_is = ap (slice_index s.words) place ∙ r.coded.meta i t at_slot
+
+      becomes : client_looked me.0.client i t me.0.hand ≡ new.hand
+      becomes =
+          let dead = dead_told p.tag r.world r.books s.views id i me.0 t l r.references r.seats (r.holding id me.0 at).recorded at seated at_slot in
+          rw (word_is, dead, tells_entry r.world l i t at_slot) refl
+
+  -- the slot at an index
+  pub slot_there : (s : Shard fits p) (r : Holds fits p s) (i : ℕ) → i < p.geometry.slots
+      → (t : Slot) × (slice_get r.world.slots i ≡ Some t)
+  slot_there s r i near = there r.world.slots i (let size = size_is fits p s r in omega arith)
+
+  -- The load of a slot's meta word keeps the rule, and tells what it found.
+  pub look_step : (count id i a : ℕ) (me : Held T) → i < p.geometry.slots → is_seated me.0 ≡ true
+      → a ≡ field_at p.geometry.room i META
+      → Allows (Holds fits p) count id me a (λ n. n) (looks i (step count a 0 0 none) me)
+  look_step count id i a me near seated place s r homes at low =
+      let slot = slot_there s r i near in
+      looks_on s r id i a me slot.0 (looks i (step count a 0 0 none) me) slot.1 seated place (read_at s.views id me.0 at) (refl, refl)

@@ -1,0 +1,22 @@
+use Rattle.std.proofs.Common.{◌+◌, ap, ◌∙◌}
+use Rattle.hcc_rule.specs.declared.view.View.{View}
+use Rattle.hcc_rule.specs.Opening.{unstarted}
+use Rattle.hcc_rule.proofs.Dealing.{unstarted_from, next_unstarted, deal}
+use Rattle.hcc_rule.proofs.table.RuleTable.dealt.Goals as goal
+
+pub split-requires-clause-another : goal.split-requires-clause-another
+split-requires-clause-another g c =
+    let clients : _ = c.args.self.now.geometry.clients in (
+      unstarted c.loop.counter,
+      unstarted_from (c.loop.counter + 1) clients,
+      ap (λ (v : View g.row.T.Denot). v.others) c.loop.invariant.view_is
+      ∙ next_unstarted c.loop.counter clients c.loop-test.true,
+    )
+
+pub loop-preserved : goal.loop-preserved
+loop-preserved g c =
+    let told = c.split.ensures in
+    rw (c.in_ok-push.ensures.items)
+    (deal c.args.self.now.table.shared.table_id c.args.self.now.table.shared.key.tag
+    c.args.self.now.geometry.clients c.loop.counter c.loop.first c.split.new.seat c.split.result
+    c.loop.seats.items c.loop.invariant c.loop-test.true told.seat told.left told.new told.right)

@@ -1,0 +1,7 @@
+use Rattle.hcc_rule.proofs.Dealing.{Deals}
+use Rattle.hcc_rule.proofs.table.RuleTable.dealt.Given as goal
+
+abbrev pub invariant-loop : goal.invariant-loop
+invariant-loop g l =
+    Deals l.self.table.shared.table_id l.self.table.shared.key.tag l.self.geometry.clients
+    l.counter l.first l.seats.items

@@ -1,0 +1,12 @@
+use Rattle.std.proofs.Common.{arith}
+use Rattle.hcc_rule.proofs.Splits.{splits}
+use Rattle.hcc_rule.proofs.table.RuleTable.split.Goals as goal
+
+pub split_seat-requires : goal.split_seat-requires
+split_seat-requires g c =
+    let another = c.requires.another in
+    let sized = c.args.self.now.sized in (
+      c.requires.seat.table,
+      omega arith,
+      splits g.T.Tag.fits c.args.self.now.table.shared.key _ _ _ another.0 another.1 c.requires.seat.tagged another.2,
+    )

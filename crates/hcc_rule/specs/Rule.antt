@@ -1,0 +1,206 @@
+-- The rule: which words and views show a world. Each part speaks of some readings alone, so that a
+-- step that leaves these keeps the part.
+use Rattle.std.specs.Prelude.{◌≡◌, ℕ, ◌+◌, ◌*◌, ◌^◌, ◌<◌, ◌≤◌, true, List, [], Option, Some, None, IfSome, length, slice_get, slice_index, option_and_then, nat_lt}
+use Rattle.std.specs.Option.{unwrap_or}
+use Rattle.atomic_table.specs.Table as table
+use Rattle.hcc_core.specs.declared.limits.TheConstants.{REFERENCES_PER_CLIENT, STAMPS_PER_CLIENT}
+use Rattle.hcc_core.specs.declared.state.Setup.{Setup}
+use Rattle.hcc_core.specs.declared.state.Client.{Client}
+use Rattle.hcc_core.specs.declared.state.Entry.{Entry}
+use Rattle.hcc_core.specs.declared.state.Reference.{Reference}
+use Rattle.hcc_core.specs.declared.state.Stamp.{Stamp}
+use Rattle.hcc_core.specs.declared.state.Standalone.{Standalone}
+use Rattle.hcc_core.specs.declared.state.Slot.{Slot}
+use Rattle.hcc_core.specs.declared.state.Slot.TheVariants as slots
+use Rattle.hcc_core.specs.Sums.{when, total}
+use Rattle.hcc_core.specs.World.{State, references_of, taken_by_slot, usage_of, occupancy_of, standing_in, passed_by}
+use Rattle.hcc_core.specs.Steps.{new_client}
+use Rattle.hcc_core.specs.Lawful.{IsLawful, owned_slot}
+use Rattle.hcc_rule.specs.declared.key.Key.{Key}
+use Rattle.hcc_rule.specs.declared.layout.TheConstants.{META, DISPLACEMENT, DATA, PAYLOAD, USAGE, OCCUPANCY, STANDING, HAND, MOST_HANDLES}
+use Rattle.hcc_rule.specs.declared.rule.Plan.{Plan}
+use Rattle.hcc_rule.specs.declared.view.Made.{Made}
+use Rattle.hcc_rule.specs.declared.view.Other.{Other}
+use Rattle.hcc_rule.specs.declared.view.Record.{Record}
+use Rattle.hcc_rule.specs.declared.view.View.{View}
+use Rattle.hcc_rule.specs.Words.{field_at, ledger_at, word_count, Lies, code_of, made_words, entry_of, key_of}
+use Rattle.hcc_rule.specs.Probes.{trail_to}
+use Rattle.hcc_rule.specs.Views.{load_of, times_called, is_seated, held, names, named_by, Each}
+
+-- What each client showed, in order: the list at its number.
+abbrev pub Books : Type 0
+Books = List (List Made)
+
+abbrev pub book_of : Books → ℕ → List Made
+book_of books client = unwrap_or (slice_get books client) []
+
+-- what its maker showed under this stamp
+abbrev pub made_at : Books → Stamp → Option Made
+made_at books stamp = slice_get (book_of books stamp.client) stamp.number
+
+-- Codes and data words.
+
+-- each meta word is the code of its slot
+pub record Coded (room : ℕ) (all : List Slot) (words : List ℕ) : Type 0 where
+  pub wide : length words ≡ word_count (length all) room
+  pub meta : (s : ℕ) (slot : Slot) → slice_get all s ≡ Some slot
+      → slice_index words (field_at room s META) ≡ code_of slot
+
+-- an entry is what its maker's list has under its stamp, and its data words say so
+pub record IsStored (room : ℕ) (words : List ℕ) (books : Books) (s : ℕ) (entry : Entry) : Type 0 where
+  pub made : Made
+  pub listed : made_at books entry.stamp ≡ Some made
+  pub same : entry ≡ entry_of entry.stamp made
+  pub lies : Lies words (field_at room s DATA) (made_words entry.stamp.client made)
+
+abbrev pub entry_by : Slot → Option Entry
+entry_by (slots.Empty strays) = None
+entry_by (slots.Building client strays) = None
+entry_by (slots.Shareable r) = Some r.entry
+
+abbrev pub entry_in : Option Slot → Option Entry
+entry_in o = option_and_then entry_by o
+
+abbrev pub Stored : ℕ → List Slot → List ℕ → Books → Type 0
+Stored room all words books =
+    (s : ℕ) (entry : Entry) → entry_in (slice_get all s) ≡ Some entry → IsStored room words books s entry
+
+-- In the slot that a client owns stand the words that its view has: those that it wrote so far, or
+-- all of the entry's that it took to free.
+pub record IsDraft {T : Type 0} (room : ℕ) (words : List ℕ) (v : View T) : Type 0 where
+  pub short : length v.written ≤ PAYLOAD + room
+  pub lies : (s : ℕ) → owned_slot v.hand.owned ≡ Some s → Lies words (field_at room s DATA) v.written
+
+abbrev pub Drafted : {T : Type 0} → ℕ → List ℕ → List (View T) → Type 0
+Drafted {T} room words views =
+    (j : ℕ) (v : View T) → slice_get views j ≡ Some v → IsDraft room words v
+
+-- References.
+
+-- a record is of a slot that has its entry
+pub record IsRecorded (all : List Slot) (r : Record) : Type 0 where
+  pub there : entry_in (slice_get all r.slot) ≡ Some r.entry
+  pub some : 0 < r.weight
+
+-- The references of each slot are the records of it in all views, up to order: every weighing
+-- finds them equal.
+abbrev pub References : {T : Type 0} → List Slot → List (View T) → Type 0
+References all views =
+    (s : ℕ) (slot : Slot) → slice_get all s ≡ Some slot → (h : Reference → ℕ)
+    → total h (references_of slot) ≡ total (held s h) views
+
+-- what holds of the records of one view: each has its slot's entry, their names differ, and they
+-- weigh no more than a client's handles and a call in flight
+pub record IsHolding {T : Type 0} (all : List Slot) (v : View T) : Type 0 where
+  pub recorded : Each (IsRecorded all) v.records
+  pub once : (name : ℕ) → times_called name v.records ≤ 1
+  pub few : load_of v.records ≤ REFERENCES_PER_CLIENT
+
+abbrev pub Holding : {T : Type 0} → List Slot → List (View T) → Type 0
+Holding {T} all views = (j : ℕ) (v : View T) → slice_get views j ≡ Some v → IsHolding all v
+
+-- Seats.
+
+-- a client that no view stands for has nothing in hand; its stamps and its dead list stay
+abbrev pub resting : List Made → List Stamp → Client
+resting made dead = record new_client { stamps = length made; dead = dead }
+
+-- a client that a view names beside its own rests, and its lists are the view's
+pub record IsNamed (clients : List Client) (books : Books) (o : Other) : Type 0 where
+  pub there : slice_get clients o.client ≡ Some (resting o.made o.dead)
+  pub book : slice_get books o.client ≡ Some o.made
+
+-- A view that stands for a client has the table's tag, and that client's work in hand and list are
+-- its own. One that stands for none names none and holds nothing.
+pub record IsSeated {T : Type 0} (tag : T) (clients : List Client) (books : Books) (v : View T) : Type 0 where
+  pub tagged : IfSome v.tag (λ t. t ≡ tag)
+  pub hand : is_seated v ≡ true → slice_get clients v.client ≡ Some v.hand
+  pub live : is_seated v ≡ true → v.hand.live ≡ true
+  pub book : is_seated v ≡ true → slice_get books v.client ≡ Some v.made
+  pub others : Each (IsNamed clients books) v.others
+  pub spent : v.tag ≡ None → (v.records ≡ []) × (v.others ≡ []) × (owned_slot v.hand.owned ≡ None) × (v.takings ≡ 0)
+
+-- each client is named by just one view
+pub record Seats {T : Type 0} (tag : T) (clients : List Client) (books : Books) (views : List (View T)) : Type 0 where
+  pub each : (j : ℕ) (v : View T) → slice_get views j ≡ Some v → IsSeated tag clients books v
+  pub once : (client : ℕ) → total (names client) views ≡ when (nat_lt client (length clients)) 1
+  pub all : total named_by views ≡ length clients
+
+-- Stamps.
+
+-- what a client may show: a value of bytes that fits the key and the slot, a charge below 2^32, and
+-- a serial of its own range
+pub record IsRight {T : Type 0} (fits : T → Key → List ℕ → Type 0) (tag : T) (room : ℕ) (made : Made) : Type 0 where
+  pub fitting : fits tag made.key made.value
+  pub short : length made.value ≤ 8 * room
+  pub bytes : Each (λ b. b < 256) made.value
+  pub numbered : made.serial < STAMPS_PER_CLIENT
+  pub small : made.charge < 2 ^ 32
+
+-- each client's count of stamps is the length of its list, and the entries are as many as were
+-- shown less those that were taken
+pub record Stamps {T : Type 0} (fits : T → Key → List ℕ → Type 0) (tag : T) (room : ℕ) (all : List Slot) (clients : List Client) (books : Books) (views : List (View T)) : Type 0 where
+  pub sized : length books ≡ length clients
+  pub counted : (c : ℕ) (client : Client) → slice_get clients c ≡ Some client
+      → client.stamps ≡ length (book_of books c)
+  pub right : (stamp : Stamp) (made : Made) → made_at books stamp ≡ Some made → IsRight fits tag room made
+  pub left : total taken_by_slot all + total (λ (v : View T). v.takings) views ≡ total length books
+
+-- Ledgers and limits.
+
+-- what a client may have in its amounts
+pub record IsModest (client : Client) : Type 0 where
+  pub asked : client.granted + client.needed < 2 ^ 32
+  pub freed : client.freed < 2 ^ 49
+  pub few : length client.standalones ≤ MOST_HANDLES
+  pub small : Each (λ (s : Standalone). s.charge < 2 ^ 32) client.standalones
+
+-- the ledger words are the world's usage, occupancy and standing, and no client's amounts are great
+pub record Ledgers (slots room : ℕ) (w : State) (words : List ℕ) : Type 0 where
+  pub usage : slice_index words (ledger_at slots room USAGE) ≡ usage_of w
+  pub occupancy : slice_index words (ledger_at slots room OCCUPANCY) ≡ occupancy_of w
+  pub standing : slice_index words (ledger_at slots room STANDING) ≡ standing_in w
+  pub modest : (c : ℕ) (client : Client) → slice_get w.clients c ≡ Some client → IsModest client
+
+-- Trails.
+
+-- the trail of a slot's entry is the places of its key before that slot
+abbrev pub IsTrailed : (size s : ℕ) → Slot → Type 0
+IsTrailed size s (slots.Empty strays) = Unit {0}
+IsTrailed size s (slots.Building client strays) = Unit {0}
+IsTrailed size s (slots.Shareable r) = r.trail ≡ trail_to size (key_of r.entry) s
+
+-- each displacement word is how often its slot stands in the trails of entries and clients
+pub record Trails (slots room : ℕ) (all : List Slot) (clients : List Client) (words : List ℕ) : Type 0 where
+  pub passed : (s : ℕ) → s < slots
+      → slice_index words (field_at room s DISPLACEMENT) ≡ passed_by all clients s
+  pub entries : (s : ℕ) (slot : Slot) → slice_get all s ≡ Some slot → IsTrailed slots s slot
+
+-- The rule.
+
+abbrev pub setup_of : {T : Type 0} → Plan T → Setup
+setup_of p = record {
+  slots = p.geometry.slots;
+  clients = p.geometry.clients;
+  capacity = p.capacity;
+  strict = p.strict;
+}
+
+-- Words and views show a lawful world.
+pub record Holds {T : Type 0} (fits : T → Key → List ℕ → Type 0) (p : Plan T) (s : table.State (Unit {0}) (View T)) : Type 0 where
+  pub world : State
+  -- what each client showed, in order
+  pub books : Books
+  pub setup : world.setup ≡ setup_of p
+  pub lawful : IsLawful world
+  pub coded : Coded p.geometry.room world.slots s.words
+  pub stored : Stored p.geometry.room world.slots s.words books
+  pub drafted : Drafted p.geometry.room s.words s.views
+  pub references : References world.slots s.views
+  pub holding : Holding world.slots s.views
+  pub seats : Seats p.tag world.clients books s.views
+  pub stamps : Stamps fits p.tag p.geometry.room world.slots world.clients books s.views
+  pub ledgers : Ledgers p.geometry.slots p.geometry.room world s.words
+  pub trails : Trails p.geometry.slots p.geometry.room world.slots world.clients s.words
+  -- the hand word is the world's hand
+  pub turned : slice_index s.words (ledger_at p.geometry.slots p.geometry.room HAND) ≡ world.hand

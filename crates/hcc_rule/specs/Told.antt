@@ -1,0 +1,38 @@
+-- What each step tells its seat: the view after it, by the word that it found.
+use Rattle.std.specs.Prelude.{◌≡◌, ℕ, Bool, ◌&&◌, not, Option, Some, None, if◌then◌else◌}
+use Rattle.atomic_table.specs.Table.{Me, Step}
+use Rattle.hcc_word.specs.Word.{is_shareable, is_visible}
+use Rattle.hcc_core.specs.declared.state.Stamp.{Stamp}
+use Rattle.hcc_core.specs.Steps.{joined}
+use Rattle.hcc_rule.specs.declared.view.View.{View}
+use Rattle.hcc_rule.specs.Views.{stamp_on}
+
+abbrev pub Held : Type 0 → Type 0
+Held T = Me (Unit {0}) (View T)
+
+-- the word of an entry that was hidden
+abbrev pub is_hidden : ℕ → Bool
+is_hidden word = is_shareable word && not (is_visible word)
+
+module _ {T : Type 0} where
+  -- the stamp of the entry that a step found hidden while the client holds a reference on it
+  abbrev pub found_dead : (slot word : ℕ) → View T → Option Stamp
+  found_dead slot word v = if is_hidden word then stamp_on slot v.records else None
+
+  -- the view once its client noticed that
+  abbrev pub noticing : (slot word : ℕ) → View T → View T
+  noticing slot word v =
+      record v { hand = record v.hand { dead = joined v.hand.dead (found_dead slot word v) } }
+
+  -- Load of the meta word: the client looks at a slot that has an entry.
+  abbrev pub after_look : (slot word : ℕ) → View T → View T
+  after_look slot word v = record v {
+    hand = record v.hand {
+      looked = (if is_shareable word then Some slot else None);
+      dead = joined v.hand.dead (found_dead slot word v);
+    };
+  }
+
+  abbrev pub looks : ℕ → Step (Unit {0}) → Held T → ℕ → Held T → Type 0
+  looks slot step me word after =
+      (after.1 ≡ me.1) × (after.0 ≡ after_look slot word me.0)

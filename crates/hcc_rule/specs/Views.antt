@@ -1,0 +1,61 @@
+-- What is read of the views of seats.
+use Rattle.std.specs.Prelude.{ℕ, ◌+◌, Bool, ◌&&◌, ◌==◌, List, [], ◌∷◌, Option, is_some, find, option_map, length}
+use Rattle.hcc_core.specs.declared.state.Reference.{Reference}
+use Rattle.hcc_core.specs.declared.state.Stamp.{Stamp}
+use Rattle.hcc_core.specs.Sums.{when, total}
+use Rattle.hcc_rule.specs.declared.view.Record.{Record}
+use Rattle.hcc_rule.specs.declared.view.Other.{Other}
+use Rattle.hcc_rule.specs.declared.view.View.{View}
+
+-- Of records.
+
+-- the reference that a record of this client is of
+abbrev pub reference_of : ℕ → Record → Reference
+reference_of client r = record { client = client; name = r.name; weight = r.weight; counting = r.counting }
+
+abbrev pub is_on : ℕ → Record → Bool
+is_on slot r = r.slot == slot
+
+abbrev pub is_called : ℕ → Record → Bool
+is_called name r = r.name == name
+
+-- what all records weigh
+abbrev pub load_of : List Record → ℕ
+load_of = total (λ (r : Record). r.weight)
+
+-- the record of this name
+abbrev pub record_in : ℕ → List Record → Option Record
+record_in name records = find (is_called name) records
+
+-- how many records have this name
+abbrev pub times_called : ℕ → List Record → ℕ
+times_called name = total (λ r. when (is_called name r) 1)
+
+-- the stamp of the entry that the records of a slot are on
+abbrev pub stamp_on : ℕ → List Record → Option Stamp
+stamp_on slot records = option_map (λ (r : Record). r.entry.stamp) (find (is_on slot) records)
+
+-- Of views.
+
+-- whether it stands for a client
+abbrev pub is_seated : {T : Type 0} → View T → Bool
+is_seated v = is_some v.tag
+
+-- what its records of a slot weigh, by any weighing of references
+abbrev pub held : {T : Type 0} → ℕ → (Reference → ℕ) → View T → ℕ
+held slot h v = total (λ r. when (is_on slot r) (h (reference_of v.client r))) v.records
+
+-- how often it names a client
+abbrev pub names : {T : Type 0} → ℕ → View T → ℕ
+names client v =
+    when (is_seated v && v.client == client) 1
+    + total (λ (o : Other). when (o.client == client) 1) v.others
+
+-- how many clients it names
+abbrev pub named_by : {T : Type 0} → View T → ℕ
+named_by v = when (is_seated v) 1 + length v.others
+
+-- P of each member
+abbrev pub Each : {A : Type 0} → (A → Type 0) → List A → Type 0
+Each P [] = Unit {0}
+Each P (x ∷ xs) = P x × Each P xs

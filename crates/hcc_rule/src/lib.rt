@@ -1,0 +1,18 @@
+//! The running rule of a shard: between any two atomic steps of any threads, its words and what
+//! the threads know show a lawful world of the protocol core. One function stands for each kind of
+//! step.
+#![tactic(auto)]
+
+mod geometry;
+mod key;
+pub mod layout;
+mod rule;
+mod steps;
+mod table;
+mod view;
+
+pub use geometry::Geometry;
+pub use key::{Key, Tag};
+pub use rule::{Plan, ShardRule};
+pub use table::{RuleSeat, RuleTable};
+pub use view::{Made, Other, Record, View};

@@ -1,0 +1,29 @@
+//! The rule of a shard's table, and what the table is told once.
+use crate::geometry::Geometry;
+use crate::key::Tag;
+use crate::view::View;
+use atomic_table::TableRule;
+use std::marker::PhantomData;
+
+/// What a shard is told once: its size, its rule of capacity, and the tag of its values.
+#[derive(Drop)]
+pub struct Plan<T> {
+    pub geometry: Geometry,
+    pub capacity: u64,
+    pub strict: bool,
+    pub tag: T,
+}
+
+/// The rule: the words and the views show some lawful world.
+pub struct ShardRule<T> {
+    tag: PhantomData<T>,
+}
+
+impl<T: Tag> TableRule<(), View<T>, Plan<T>> for ShardRule<T> {
+    ghost use Rattle.hcc_rule.specs.Rule.{Holds};
+    ghost use Rattle.hcc_rule.specs.Opening.{opening_view};
+
+    ghost holds = { Holds T.fits };
+
+    ghost first = { opening_view };
+}

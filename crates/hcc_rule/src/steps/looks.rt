@@ -1,0 +1,52 @@
+//! Loads of meta words.
+ghost use Rattle.std.specs.Prelude.{◌≡◌, ◌<◌};
+ghost use Rattle.hcc_rule.specs.Seats.{IsSeatOf, IsSameSeat, view};
+ghost use Rattle.hcc_rule.specs.Told.{after_look};
+
+use super::said::Said;
+use crate::key::Tag;
+use crate::layout::META;
+use crate::table::{RuleSeat, RuleTable};
+use crate::view::View;
+use atomic_table::Play;
+use std::alloc::Allocator;
+use std::marker::{Brand, PhantomData};
+
+/// What a load of a meta word tells.
+pub struct Look<J> {
+    said: PhantomData<J>,
+}
+
+impl<T: Tag, J: Said> Play<(), View<T>> for Look<J> {
+    ghost use Rattle.hcc_rule.specs.Told.{looks};
+
+    ghost then = { looks J.slot };
+}
+
+impl<T: Tag, A: Allocator> RuleTable<T, A> {
+    fn look_as<J: Said>(&self, seat: &mut RuleSeat<T>, slot: u32) -> u64
+        requires seat { IsSeatOf self.now.table.shared.table_id self.now.table.shared.key.tag seat.old }
+        requires slot { slot < self.now.geometry.slots }
+        requires said { J.slot ≡ slot }
+        ensures seat { IsSameSeat seat.old seat.new }
+        ensures view { view seat.new ≡ after_look slot result (view seat.old) }
+    {
+        self.table
+            .shared
+            .load::<Look<J>>(seat, self.place(slot, META))
+    }
+
+    /// Loads a slot's meta word. The client looks at the slot, and may acquire there next, where the
+    /// word is that of an entry; where the entry is hidden and the client holds a reference on it,
+    /// the client has seen it dead.
+    ///
+    /// It takes no memory. It costs one load.
+    pub fn look(&self, seat: &mut RuleSeat<T>, slot: u32) -> u64
+        requires seat { IsSeatOf self.now.table.shared.table_id self.now.table.shared.key.tag seat.old }
+        requires slot { slot < self.now.geometry.slots }
+        ensures seat { IsSameSeat seat.old seat.new }
+        ensures view { view seat.new ≡ after_look slot result (view seat.old) }
+    {
+        self.look_as::<Brand>(seat, slot)
+    }
+}

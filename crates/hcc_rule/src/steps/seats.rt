@@ -1,0 +1,65 @@
+//! Seats that are split and joined.
+ghost use Rattle.std.specs.Prelude.{◌≡◌, ◌∷◌, [], List};
+ghost use Rattle.hcc_rule.specs.declared.view.Other.{Other};
+ghost use Rattle.hcc_rule.specs.Opening.{IsIdle, joined_view, left_view, right_view};
+ghost use Rattle.hcc_rule.specs.Seats.{IsSeatOf, IsSameSeat, view};
+
+use crate::key::Tag;
+use crate::table::{RuleSeat, RuleTable};
+use crate::view::View;
+use atomic_table::{Join, Split};
+use std::alloc::Allocator;
+
+/// How a view is split: the new seat stands for the first of the other clients.
+pub struct Start;
+
+impl<T: Tag> Split<View<T>> for Start {
+    ghost use Rattle.hcc_rule.specs.Opening.{left_view, right_view};
+
+    ghost left = { left_view };
+
+    ghost right = { right_view };
+}
+
+/// How two views are joined: the client of the second ends.
+pub struct End;
+
+impl<T: Tag> Join<View<T>> for End {
+    ghost use Rattle.hcc_rule.specs.Opening.{joined_view, spent_view};
+
+    ghost both = { joined_view };
+
+    ghost spent = { spent_view };
+}
+
+impl<T: Tag, A: Allocator> RuleTable<T, A> {
+    /// Starts the first of the clients that a seat names beside its own: the seat of that client.
+    /// It has nothing in hand; its made list and its dead list are those it had when it last ended.
+    ///
+    /// It takes no memory. It costs one load.
+    pub fn split(&self, seat: &mut RuleSeat<T>) -> RuleSeat<T>
+        requires seat { IsSeatOf self.now.table.shared.table_id self.now.table.shared.key.tag seat.old }
+        requires another { (o : Other) × (os : List Other) × ((view seat.old).others ≡ o ∷ os) }
+        ensures seat { IsSameSeat seat.old seat.new }
+        ensures left { view seat.new ≡ left_view (view seat.old) }
+        ensures new { IsSeatOf self.now.table.shared.table_id self.now.table.shared.key.tag result }
+        ensures right { view result ≡ right_view (view seat.old) }
+    {
+        self.table.shared.split_seat::<Start>(seat)
+    }
+
+    /// Ends the client of another seat, which has nothing in hand and holds no reference. The seat
+    /// that is left names that client from then on, with all that the other one named, and takes over
+    /// its hidden keys, its met keys, its answers and its counts.
+    ///
+    /// It takes no memory. It costs one load.
+    pub fn join(&self, seat: &mut RuleSeat<T>, other: RuleSeat<T>)
+        requires seat { IsSeatOf self.now.table.shared.table_id self.now.table.shared.key.tag seat.old }
+        requires other { IsSeatOf self.now.table.shared.table_id self.now.table.shared.key.tag other }
+        requires idle { IsIdle (view other).hand × ((view other).records ≡ []) }
+        ensures seat { IsSameSeat seat.old seat.new }
+        ensures both { view seat.new ≡ joined_view (view seat.old) (view other) }
+    {
+        self.table.shared.join_seat::<End>(seat, other)
+    }
+}

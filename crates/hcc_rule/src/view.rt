@@ -1,0 +1,70 @@
+//! What contracts see of a seat. No value of these types is ever made.
+use crate::key::Key;
+use hcc_core::state::{Client, Entry, Stamp};
+use std::collections::LinkedList;
+
+/// A reference that a client holds on a slot, under a name of its own, on this entry.
+pub struct Record {
+    pub slot: u64,
+    pub name: u64,
+    /// 1 to 3.
+    pub weight: u64,
+    /// Whether its release may count as a use.
+    pub counting: bool,
+    /// Whether an acquire got it, and found the entry Visible; false for the reference that a client
+    /// keeps of the entry that it shows.
+    pub shown: bool,
+    pub entry: Entry,
+}
+
+/// An entry that a client showed.
+pub struct Made {
+    pub serial: u64,
+    pub key: Key,
+    pub value: LinkedList<u8>,
+    pub charge: u64,
+}
+
+/// A client that a view names beside its own, which it may start: what it showed, and which entries
+/// it has seen dead.
+pub struct Other {
+    pub client: u64,
+    pub made: LinkedList<Made>,
+    pub dead: LinkedList<Stamp>,
+}
+
+/// What a seat knows of its shard.
+pub struct View<T> {
+    /// The tag of the table; none once the seat was joined to another.
+    pub tag: Option<T>,
+    /// The client that it stands for, while it has a tag.
+    pub client: u64,
+    /// What that client has in hand, as the world has it.
+    pub hand: Client,
+    /// The other clients that it names. None of them is live.
+    pub others: LinkedList<Other>,
+    /// The references that the client holds.
+    pub records: LinkedList<Record>,
+    /// The data words that stand in the slot that the client owns, as far as it wrote them; all of
+    /// the taken entry's in a slot that it frees.
+    pub written: LinkedList<u64>,
+    /// What the client showed in this shard, in order.
+    pub made: LinkedList<Made>,
+    /// The keys of the entries that it changed from Shown to Hidden, in order.
+    pub hidden: LinkedList<Key>,
+    /// How many entries it took to free them, and how many of these were Shown with uses left.
+    pub takings: u64,
+    pub warm: u64,
+    /// How many of its places were asked for where the shard was full.
+    pub open_places: u64,
+    /// How many slots it tried to occupy that weren't empty.
+    pub saw: u64,
+    /// How many turns of the hand it made.
+    pub turns: u64,
+    /// The key of each entry that it got as Shown and whose second key word it then read.
+    pub met: LinkedList<Key>,
+    /// The answers of its loads of the usage.
+    pub seen: LinkedList<u64>,
+    /// The charges of which not all was granted at once.
+    pub tight: LinkedList<u64>,
+}
