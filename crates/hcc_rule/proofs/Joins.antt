@@ -101,8 +101,14 @@ module _ {T : Type 0} (fits : T → Key → List ℕ → Type 0) (p : Plan T) wh
     ends : outcome_of r.world (events.End w.client) ≡ Ok (replies.Ok, after)
     unfolding outcome_of end_of
     ends =
-        rw (client_fits r.world w.client (is_lawful r.world r.lawful) (within r.world.clients w.client w.hand was),
-        was, second.live sits, idle_now, holds_none, left_idle) refl
+        rw (
+          client_fits r.world w.client (is_lawful r.world r.lawful) (within r.world.clients w.client w.hand was),
+          was,
+          second.live sits,
+          idle_now,
+          holds_none,
+          left_idle,
+        ) refl
 
     -- the client is named by the second view, as its own, and by no other
     own_names : names w.client w ≡ 1

@@ -71,8 +71,8 @@ next_number : (c a : ℕ) → when (nat_lt c a) 1 + when (a == c) 1 ≡ when (na
 next_number c a = dite (ℕ_discrete a c)
     (λ same. let x = above c a (omega arith) in let y = is_one a c same in let z = below c (a + 1) (omega arith) in omega arith)
     (λ other. dite (dec_le (c + 1) a)
-        (λ less. let x = below c a (omega arith) in let y = is_none a c other in let z = below c (a + 1) (omega arith) in omega arith)
-        (λ more. let x = above c a (omega arith) in let y = is_none a c other in let z = above c (a + 1) (omega arith) in omega arith))
+    (λ less. let x = below c a (omega arith) in let y = is_none a c other in let z = below c (a + 1) (omega arith) in omega arith)
+    (λ more. let x = above c a (omega arith) in let y = is_none a c other in let z = above c (a + 1) (omega arith) in omega arith))
 
 -- each client from one number on is named once
 count_range : (c a n : ℕ)
@@ -136,7 +136,7 @@ module _ {T : Type 0} (p : Plan T) (can : CanOpen (setup_of p)) where
             let first = next_number c 0 in
             let none = above c 0 (omega arith) in
             let size_of : when (nat_lt c (length first_clients)) 1 ≡ when (nat_lt c (1 + (p.geometry.clients - 1))) 1 =
-                ap (λ k. when (nat_lt c k) 1) (let g : length first_clients ≡ 1 + (p.geometry.clients - 1) = omega arith in g) in
+            ap (λ k. when (nat_lt c k) 1) (let g : length first_clients ≡ 1 + (p.geometry.clients - 1) = omega arith in g) in
             omega arith;
         all =
             let count : length (map unstarted (range_with_len 1 (p.geometry.clients - 1))) ≡ p.geometry.clients - 1 = length-map-range_with_len unstarted 1 (p.geometry.clients - 1) in

@@ -1,6 +1,5 @@
 -- A seat at a table, and the sizes that a table may have.
-use Rattle.std.specs.Prelude.{◌≡◌, ℕ, ◌+◌, ◌≤◌, true, List, [], ◌∷◌, Some}
-use Rattle.std.specs.Int.{is_power_of_two}
+use Rattle.std.specs.Prelude.{◌≡◌, ℕ, ◌+◌, ◌%◌, ◌≤◌, List, [], ◌∷◌, Some}
 use Rattle.atomic_table.specs.declared.shared.Seat.{Seat}
 use Rattle.atomic_table.specs.Seated.{TableId}
 use Rattle.hcc_core.specs.declared.limits.TheConstants.{MOST_SLOTS, MOST_CLIENTS}
@@ -9,11 +8,12 @@ use Rattle.hcc_rule.specs.declared.layout.TheConstants.{FEWEST_SLOTS, MOST_ROOM,
 use Rattle.hcc_rule.specs.declared.view.View.{View}
 use Rattle.hcc_rule.specs.Opening.{fresh_view, unstarted}
 
--- The sizes and the capacity that a shard may have.
+-- The sizes and the capacity that a shard may have. The slots are a power of two: these are the numbers
+-- that divide the most slots.
 pub record IsPlanned (geometry : Geometry) (capacity : ℕ) : Type 0 where
   pub some_slots : FEWEST_SLOTS ≤ geometry.slots
   pub slots : geometry.slots ≤ MOST_SLOTS
-  pub power : is_power_of_two geometry.slots ≡ true
+  pub power : MOST_SLOTS % geometry.slots ≡ 0
   pub some_room : 1 ≤ geometry.room
   pub room : geometry.room ≤ MOST_ROOM
   pub some_client : 1 ≤ geometry.clients

@@ -9,6 +9,8 @@ pub mod layout;
 mod rule;
 mod steps;
 mod table;
+#[cfg(test)]
+mod tests;
 mod view;
 
 pub use geometry::Geometry;

@@ -10,7 +10,7 @@ split-requires-clause-another g c =
       unstarted c.loop.counter,
       unstarted_from (c.loop.counter + 1) clients,
       ap (λ (v : View g.row.T.Denot). v.others) c.loop.invariant.view_is
-      ∙ next_unstarted c.loop.counter clients c.loop-test.true,
+          ∙ next_unstarted c.loop.counter clients c.loop-test.true,
     )
 
 pub loop-preserved : goal.loop-preserved

@@ -1,0 +1,43 @@
+//! What no clause says: that a shard is made where there is memory, and how a key's bytes are read.
+use crate::{Geometry, Key, RuleTable, Tag};
+use std::alloc::Global;
+use std::process::Abort;
+use std::test::Fail;
+
+/// The tag that every value fits.
+#[derive(Drop)]
+struct AnyBytes;
+
+impl Tag for AnyBytes {
+    ghost fits = { λ tag key value. Unit {0} };
+}
+
+#[test]
+fn a_new_shard_has_a_seat_for_each_client(rt: HostRuntime) -> Result<(), Fail> {
+    let small = Geometry {
+        slots: 8,
+        room: 2,
+        clients: 3,
+    };
+    let (table, seats) = RuleTable::<AnyBytes, Global>::new(
+        rt.alloc(),
+        small,
+        600,
+        false,
+        AnyBytes,
+    )?;
+    assert!(rt; table.geometry() == small);
+    assert!(rt; seats.len() == 3);
+    Ok(())
+}
+
+#[test]
+fn a_key_is_read_with_its_highest_bytes_first(rt: HostRuntime) -> Result<(), Fail> {
+    let bytes = [0, 1, 2, 3, 4, 5, 6, 7, 8, 9, 10, 11, 12, 13, 14, 15];
+    let key = Key {
+        w0: 0x0001_0203_0405_0607,
+        w1: 0x0809_0a0b_0c0d_0e0f,
+    };
+    assert!(rt; Key::from_bytes(bytes) == key);
+    Ok(())
+}
