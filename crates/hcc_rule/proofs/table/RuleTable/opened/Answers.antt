@@ -10,4 +10,5 @@ of_words-requires g c =
       slots = planned.slots;
       some_client = planned.some_client;
       clients = planned.clients;
+      capacity = let low = planned.capacity_low in omega arith;
     } g.T.Tag.fits _ (c.as_slice.ensures.value ∙ c.in_ok-words.ensures.items_if_clones_equal (λ y h. h))
