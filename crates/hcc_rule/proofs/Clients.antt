@@ -25,7 +25,7 @@ use Rattle.hcc_rule.proofs.ViewParts.{unnamed, seated_else}
 abbrev pub by_client : ℕ → Reference → ℕ
 by_client c k = when (k.client == c) 1
 
-no_eq : (a b : ℕ) → a ≢ b → (a == b) ≡ false
+pub no_eq : (a b : ℕ) → a ≢ b → (a == b) ≡ false
 no_eq a b other = elim (a == b) as (λ z. (a == b) ≡ z → z ≡ false) [
   | true ↦ λ is. absurd (other (eqb-true a b is))
   | false ↦ λ is. refl
@@ -54,7 +54,7 @@ total-only f (y ∷ ys) (suc i) x at none =
     omega arith
 
 -- a slot has a reference of a client where a sum over them says so
-any_client : (c : ℕ) (ks : List Reference) → 1 ≤ total (by_client c) ks
+pub any_client : (c : ℕ) (ks : List Reference) → 1 ≤ total (by_client c) ks
     → list_any (λ (k : Reference). k.client == c) ks ≡ true
 any_client c [] h = absurd (omega arith)
 any_client c (k ∷ ks) h = by (k.client == c) (any_client c ks) h

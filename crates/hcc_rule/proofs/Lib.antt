@@ -8,3 +8,12 @@ pub mod Codes
 pub mod Clients
 pub mod Touches
 pub mod Looks
+pub mod Findings
+pub mod References
+pub mod OnEntries
+pub mod Gives
+pub mod Releases
+pub mod Marks
+pub mod Exchanges
+pub mod Reaches
+pub mod Acquires
