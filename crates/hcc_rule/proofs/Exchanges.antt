@@ -1,5 +1,5 @@
 -- Exchanges that leave the references of an entry: the clock's and a correction's.
-use Rattle.std.proofs.Common.{◌≡◌, ℕ, ◌+◌, ◌-◌, ◌^◌, ◌<◌, ◌≤◌, ◌==◌, ◌&&◌, Bool, true, false, List, [], ◌∷◌, Option, Some, None, Ok, IsSomeAnd, slice_get, slice_index, sym, refl, ap, ◌∙◌, arith}
+use Rattle.std.proofs.Common.{◌≡◌, ℕ, ◌-◌, ◌^◌, ◌<◌, ◌≤◌, ◌==◌, Bool, true, false, List, [], ◌∷◌, Option, Some, None, Ok, IsSomeAnd, slice_get, slice_index, sym, refl, ap, ◌∙◌, arith}
 use Rattle.std.proofs.lemmas.Bool.{lt-ltb, le-leb, eqb-true}
 use mathlib.Core.Option.{none}
 use prog.Atomic.{either}
@@ -19,7 +19,7 @@ use Rattle.hcc_core.specs.declared.state.Slot.{Slot}
 use Rattle.hcc_core.specs.declared.state.Slot.TheVariants as slots
 use Rattle.hcc_core.specs.Sums.{when, total}
 use Rattle.hcc_core.specs.World.{State, weight, counted, slot_holding}
-use Rattle.hcc_core.specs.Steps.{with_both, slot_with_uses, clocked, may_clock, may_correct, has_no_member, client_noticed, outcome_of, clock_of, correct_of}
+use Rattle.hcc_core.specs.Steps.{with_both, clocked, may_clock, may_correct, has_no_member, client_noticed, outcome_of, clock_of, correct_of}
 use Rattle.hcc_core.specs.Lawful.{Lawful}
 use Rattle.hcc_core.proofs.ListLemmas.{set_same}
 use Rattle.hcc_core.proofs.SumLemmas.{total-le}

@@ -1,5 +1,5 @@
 -- What a search of a list finds, by how many members pass its test.
-use Rattle.std.proofs.Common.{◌≡◌, ℕ, zero, suc, ◌+◌, ◌≤◌, ◌≢◌, ◌||◌, cond, not, Bool, true, false, nat_lt, List, [], ◌∷◌, Option, Some, None, length, position, slice_get, sym, refl, ap, ◌∙◌, arith}
+use Rattle.std.proofs.Common.{◌≡◌, ℕ, zero, suc, ◌+◌, ◌≤◌, ◌≢◌, ◌||◌, cond, Bool, true, false, nat_lt, List, [], ◌∷◌, Some, None, length, position, slice_get, sym, refl, ap, ◌∙◌, arith}
 use Rattle.std.specs.List.{find, list_any, position_or_len}
 use Rattle.std.proofs.lemmas.Bool.{lt-ltb, ltb-true}
 use Rattle.hcc_core.specs.Sums.{when, total}

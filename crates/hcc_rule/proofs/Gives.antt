@@ -1,9 +1,8 @@
 -- References are given back: they are taken from acquires.
-use Rattle.std.proofs.Common.{◌≡◌, ℕ, ◌+◌, ◌-◌, ◌*◌, ◌%◌, ◌^◌, ◌<◌, ◌≤◌, ◌≢◌, ◌==◌, Bool, true, false, List, Option, Some, None, Ok, IsSomeAnd, length, slice_get, slice_index, sym, refl, ap, ◌∙◌, arith}
+use Rattle.std.proofs.Common.{◌≡◌, ℕ, ◌+◌, ◌-◌, ◌%◌, ◌^◌, ◌<◌, ◌≢◌, true, List, Option, Some, None, Ok, IsSomeAnd, slice_get, slice_index, sym, refl, ap, ◌∙◌, arith}
 use Rattle.std.proofs.lemmas.Bool.{eq-eqb, lt-ltb}
 use mathlib.Core.Option.{none}
 use Rattle.atomic_table.specs.Table.{step, Allows}
-use Rattle.hcc_word.specs.Word.{refs_of, is_shareable}
 use Rattle.hcc_word.proofs.StepLaws.{take_acquires-shareable}
 use Rattle.hcc_word.proofs.CodeLaws.{refs_of-shareable, is_shareable-shareable}
 use Rattle.hcc_core.specs.declared.event.Event.{Event}
@@ -15,8 +14,8 @@ use Rattle.hcc_core.specs.declared.state.Resident.{Resident}
 use Rattle.hcc_core.specs.declared.state.Slot.{Slot}
 use Rattle.hcc_core.specs.declared.state.Slot.TheVariants as slots
 use Rattle.hcc_core.specs.Sums.{when, total}
-use Rattle.hcc_core.specs.World.{State, weight, references_of, is_named, slot_holding}
-use Rattle.hcc_core.specs.Steps.{with_both, dropped, slot_given, left_on, client_noticed, outcome_of, fits as in_bits}
+use Rattle.hcc_core.specs.World.{State, weight, is_named, slot_holding}
+use Rattle.hcc_core.specs.Steps.{with_both, dropped, slot_given, left_on, client_noticed, outcome_of}
 use Rattle.hcc_core.specs.Lawful.{Lawful}
 use Rattle.hcc_core.proofs.DroppedLemmas.{dropped-total, dropped-le}
 use Rattle.hcc_core.proofs.Opening.{is_lawful}
@@ -38,7 +37,7 @@ use Rattle.hcc_rule.proofs.Findings.{dropped_each}
 use Rattle.hcc_rule.proofs.Looks.{client_fits}
 use Rattle.hcc_rule.proofs.OnEntries.{OnEntry, on_some, name_held, reference_there, code_there, dead_there}
 use Rattle.hcc_rule.proofs.Turns.{Shard}
-use Rattle.hcc_rule.proofs.Touches.{by_hand, Touch, touched, Goes, goes, client_is, live_is}
+use Rattle.hcc_rule.proofs.Touches.{by_hand, touched, Goes, goes, client_is, live_is}
 
 -- the records of a view without one of them weigh so much less, by any weighing
 held_less : {T : Type 0} (i x : ℕ) (v new : View T) (q : Record) (h : Reference → ℕ)

@@ -1,32 +1,25 @@
 -- Steps that leave the references of an entry: it is hidden, marked, clocked or corrected.
-use Rattle.std.proofs.Common.{◌≡◌, ℕ, ◌+◌, ◌-◌, ◌^◌, ◌<◌, ◌≤◌, ◌≢◌, ◌==◌, ◌&&◌, Bool, true, false, cond, min, List, [], ◌∷◌, Option, Some, None, Ok, IsSomeAnd, option_map, bit_and, bit_or, slice_get, slice_index, sym, refl, ap, ◌∙◌, arith}
-use Rattle.std.proofs.lemmas.Bool.{lt-ltb, le-leb, eqb-true, eqb-false}
+use Rattle.std.proofs.Common.{◌≡◌, ℕ, ◌^◌, ◌<◌, true, false, List, Option, Some, None, Ok, IsSomeAnd, bit_and, bit_or, slice_get, slice_index, refl, ap, ◌∙◌}
+use Rattle.std.proofs.lemmas.Bool.{lt-ltb}
 use mathlib.Core.Option.{none}
-use prog.Atomic.{either}
 use Rattle.atomic_table.specs.Table.{step, Allows}
-use Rattle.hcc_word.specs.declared.layout.TheConstants.{HIDING_MASK, HIT_BIT, NEAR, CORRECTION}
+use Rattle.hcc_word.specs.declared.layout.TheConstants.{HIDING_MASK, HIT_BIT}
 use Rattle.hcc_word.specs.Word.{is_shareable}
 use Rattle.hcc_word.specs.Near.{IsNear}
 use Rattle.hcc_core.specs.declared.limits.TheConstants.{MOST_REFERENCES}
-use Rattle.hcc_word.specs.Changes.{IsClockable, clocked_word, IsCorrectable, corrected_word}
 use Rattle.hcc_word.proofs.StepLaws.{and_hide-shareable, or_hit-shareable}
 use Rattle.hcc_word.proofs.CodeLaws.{is_shareable-shareable}
-use Rattle.hcc_word.proofs.ExchangeLaws.{IsClockable-empty, IsClockable-building, IsClockable-shareable, clocked_word-shareable, IsCorrectable-shareable, corrected_word-shareable}
 use Rattle.hcc_core.specs.declared.event.Event.{Event}
 use Rattle.hcc_core.specs.declared.event.Event.TheVariants as events
 use Rattle.hcc_core.specs.declared.event.Reply.{Reply}
 use Rattle.hcc_core.specs.declared.event.Reply.TheVariants as replies
 use Rattle.hcc_core.specs.declared.state.Client.{Client}
-use Rattle.hcc_core.specs.declared.state.Entry.{Entry}
-use Rattle.hcc_core.specs.declared.state.Reference.{Reference}
 use Rattle.hcc_core.specs.declared.state.Resident.{Resident}
 use Rattle.hcc_core.specs.declared.state.Slot.{Slot}
 use Rattle.hcc_core.specs.declared.state.Slot.TheVariants as slots
-use Rattle.hcc_core.specs.Sums.{when, total}
-use Rattle.hcc_core.specs.World.{State, weight, counted, references_of, reference_in, slot_holding}
-use Rattle.hcc_core.specs.Steps.{with_both, slot_hidden, slot_marked, slot_with_uses, clocked, may_clock, may_correct, has_no_member, hidden, client_noticed, outcome_of, mark_of, clock_of, correct_of}
+use Rattle.hcc_core.specs.World.{State, weight, counted, slot_holding}
+use Rattle.hcc_core.specs.Steps.{with_both, slot_hidden, slot_marked, hidden, client_noticed, outcome_of, mark_of}
 use Rattle.hcc_core.specs.Lawful.{Lawful}
-use Rattle.hcc_core.proofs.ListLemmas.{set_same}
 use Rattle.hcc_core.proofs.Opening.{is_lawful}
 use Rattle.hcc_core.proofs.StepLemmas.{dead_hidden, held_has_client, hide_gives}
 use Rattle.hcc_rule.specs.declared.key.Key.{Key}
@@ -36,13 +29,13 @@ use Rattle.hcc_rule.specs.declared.view.Record.{Record}
 use Rattle.hcc_rule.specs.declared.view.View.{View}
 use Rattle.hcc_rule.specs.Told.{Held, noticing}
 use Rattle.hcc_rule.specs.ToldReferences.{after_hide, hides, marks}
-use Rattle.hcc_rule.specs.Views.{reference_of, record_in, is_seated, held}
+use Rattle.hcc_rule.specs.Views.{record_in, is_seated}
 use Rattle.hcc_rule.specs.Words.{field_at, code_of}
 use Rattle.hcc_rule.specs.Rule.{Holds}
 use Rattle.hcc_rule.proofs.Lists.{within, read_at}
 use Rattle.hcc_rule.proofs.Codes.{is_near}
 use Rattle.hcc_rule.proofs.Looks.{client_fits}
-use Rattle.hcc_rule.proofs.OnEntries.{OnEntry, on_some, name_held, reference_there, code_there, dead_there}
+use Rattle.hcc_rule.proofs.OnEntries.{OnEntry, on_some, name_held, code_there, dead_there}
 use Rattle.hcc_rule.proofs.Turns.{Shard, SameName, Turn}
 use Rattle.hcc_rule.proofs.Touches.{by_hand, SameWork, SameStore, touched, Goes, goes, client_is, live_is}
 

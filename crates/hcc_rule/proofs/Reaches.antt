@@ -1,10 +1,9 @@
 -- What an acquire needs and what it is told: room for the references, a way to the slot, and the
 -- entry.
-use Rattle.std.proofs.Common.{◌≡◌, ℕ, zero, suc, ◌+◌, ◌*◌, ◌^◌, ◌<◌, ◌≤◌, ◌==◌, ◌||◌, Bool, true, false, List, [], ◌∷◌, Option, Some, None, IfSome, is_some, length, slice_get, sym, refl, ap, ◌∙◌, arith}
+use Rattle.std.proofs.Common.{◌≡◌, ℕ, zero, suc, ◌+◌, ◌*◌, ◌^◌, ◌<◌, ◌≤◌, ◌||◌, Bool, true, false, List, [], ◌∷◌, Option, Some, None, IfSome, is_some, length, slice_get, sym, refl, ap, ◌∙◌, arith}
 use Rattle.std.specs.List.{list_any}
 use Rattle.hcc_word.specs.Word.{is_visible}
 use Rattle.hcc_core.specs.declared.limits.TheConstants.{REFERENCES_PER_CLIENT}
-use Rattle.hcc_core.specs.declared.state.Client.{Client}
 use Rattle.hcc_core.specs.declared.state.Entry.{Entry}
 use Rattle.hcc_core.specs.declared.state.Reference.{Reference}
 use Rattle.hcc_core.specs.declared.state.Resident.{Resident}

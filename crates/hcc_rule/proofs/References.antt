@@ -1,6 +1,5 @@
 -- A record of a view and the reference that it is of.
-use Rattle.std.proofs.Common.{◌≡◌, ℕ, ◌+◌, ◌≤◌, ◌≢◌, ◌==◌, ◌&&◌, Bool, true, false, List, [], Option, Some, None, is_some, slice_get, sym, refl, ap, ◌∙◌, arith}
-use Rattle.std.specs.List.{find, list_any}
+use Rattle.std.proofs.Common.{◌≡◌, ℕ, ◌≤◌, ◌≢◌, ◌==◌, Bool, true, false, List, Option, Some, None, is_some, slice_get, sym, refl, ap, ◌∙◌, arith}
 use Rattle.std.proofs.lemmas.Bool.{eq-eqb, eqb-true, and_parts}
 use Rattle.hcc_core.specs.declared.state.Client.{Client}
 use Rattle.hcc_core.specs.declared.state.Reference.{Reference}

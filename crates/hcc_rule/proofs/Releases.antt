@@ -1,5 +1,5 @@
 -- References are released as uses: they are added to releases.
-use Rattle.std.proofs.Common.{◌≡◌, ℕ, ◌+◌, ◌*◌, ◌/◌, ◌%◌, ◌^◌, ◌<◌, ◌≤◌, Bool, true, List, Option, Some, None, Ok, IsSomeAnd, slice_get, slice_index, sym, refl, ap, ◌∙◌, arith}
+use Rattle.std.proofs.Common.{◌≡◌, ℕ, ◌+◌, ◌*◌, ◌/◌, ◌%◌, ◌^◌, ◌<◌, true, List, Option, Some, None, Ok, IsSomeAnd, slice_get, slice_index, refl, ap, ◌∙◌, arith}
 use Rattle.std.proofs.lemmas.Bool.{lt-ltb}
 use mathlib.Core.Option.{none}
 use Rattle.atomic_table.specs.Table.{step, Allows}
@@ -13,8 +13,8 @@ use Rattle.hcc_core.specs.declared.state.Reference.{Reference}
 use Rattle.hcc_core.specs.declared.state.Resident.{Resident}
 use Rattle.hcc_core.specs.declared.state.Slot.{Slot}
 use Rattle.hcc_core.specs.declared.state.Slot.TheVariants as slots
-use Rattle.hcc_core.specs.Sums.{when, total}
-use Rattle.hcc_core.specs.World.{State, weight, counted, references_of, is_named, slot_holding}
+use Rattle.hcc_core.specs.Sums.{when}
+use Rattle.hcc_core.specs.World.{State, weight, references_of, is_named, slot_holding}
 use Rattle.hcc_core.specs.Steps.{with_both, dropped, counting_in, slot_used, left_on, client_noticed, outcome_of}
 use Rattle.hcc_core.specs.Lawful.{Lawful}
 use Rattle.hcc_core.proofs.DroppedLemmas.{dropped-total}
