@@ -26,7 +26,7 @@ use Rattle.hcc_rule.specs.Views.{is_on, load_of, is_seated, held, named_by}
 use Rattle.hcc_rule.specs.Words.{code_of, entry_of, key_of}
 use Rattle.hcc_rule.specs.Rule.{entry_in, IsRecorded, IsRight, Holds}
 use Rattle.hcc_rule.proofs.Lists.{each_map}
-use Rattle.hcc_rule.proofs.Codes.{tells_shown}
+use Rattle.hcc_rule.proofs.Codes.{when_le, tells_shown}
 use Rattle.hcc_rule.proofs.Clients.{held_count, any_client}
 use Rattle.hcc_rule.proofs.Findings.{any_some}
 use Rattle.hcc_rule.proofs.Turns.{Shard}
@@ -52,10 +52,6 @@ all_loads : {T : Type 0} (views : List (View T))
     → total (λ u. REFERENCES_PER_CLIENT * named_by u) views ≡ REFERENCES_PER_CLIENT * total named_by views
 all_loads [] = refl
 all_loads (u ∷ us) = let rest = all_loads us in omega arith
-
-when_le : (b : Bool) (n : ℕ) → when b n ≤ n
-when_le true n = omega arith
-when_le false n = omega arith
 
 -- the records on one slot weigh no more than all
 held_few : {T : Type 0} (i : ℕ) (u : View T) → held i (λ (j : Reference). j.weight) u ≤ load_of u.records
