@@ -25,7 +25,7 @@ use Rattle.hcc_rule.proofs.ViewParts.{unnamed, seated_else}
 abbrev pub by_client : ℕ → Reference → ℕ
 by_client c k = when (k.client == c) 1
 
-no_eq : (a b : ℕ) → a ≢ b → (a == b) ≡ false
+pub no_eq : (a b : ℕ) → a ≢ b → (a == b) ≡ false
 no_eq a b other = elim (a == b) as (λ z. (a == b) ≡ z → z ≡ false) [
   | true ↦ λ is. absurd (other (eqb-true a b is))
   | false ↦ λ is. refl

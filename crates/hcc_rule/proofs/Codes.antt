@@ -14,7 +14,7 @@ use Rattle.hcc_core.specs.Lawful.{Lawful}
 use Rattle.hcc_core.proofs.SumLemmas.{total-le}
 use Rattle.hcc_rule.specs.Words.{code_of}
 
-when_le : (b : Bool) (n : ℕ) → when b n ≤ n
+pub when_le : (b : Bool) (n : ℕ) → when b n ≤ n
 when_le true n = omega arith
 when_le false n = omega arith
 

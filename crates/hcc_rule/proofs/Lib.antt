@@ -12,3 +12,12 @@ pub mod Openings
 pub mod Splits
 pub mod Dealing
 pub mod Joins
+pub mod Findings
+pub mod References
+pub mod OnEntries
+pub mod Gives
+pub mod Releases
+pub mod Marks
+pub mod Exchanges
+pub mod Reaches
+pub mod Acquires

@@ -5,3 +5,4 @@ pub mod Rule
 pub mod Opening
 pub mod Seats
 pub mod Told
+pub mod ToldReferences
