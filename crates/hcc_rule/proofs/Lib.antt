@@ -8,3 +8,5 @@ pub mod Codes
 pub mod Clients
 pub mod Touches
 pub mod Looks
+pub mod ClientParts
+pub mod LedgerTurns
