@@ -10,3 +10,9 @@ pub mod Touches
 pub mod Looks
 pub mod ClientParts
 pub mod LedgerTurns
+pub mod LedgerGives
+pub mod Bounds
+pub mod Asides
+pub mod UsageSteps
+pub mod OccupancySteps
+pub mod StandingSteps

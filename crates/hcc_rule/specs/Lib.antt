@@ -5,3 +5,5 @@ pub mod Rule
 pub mod Opening
 pub mod Seats
 pub mod Told
+pub mod ToldLedgers
+pub mod ToldTrails

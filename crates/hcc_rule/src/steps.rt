@@ -1,3 +1,7 @@
 //! One function for each kind of step, and what it tells its seat.
+mod ledgers;
 mod looks;
+mod occupancy;
+mod planned;
 mod said;
+mod standing;
