@@ -16,3 +16,5 @@ pub mod Asides
 pub mod UsageSteps
 pub mod OccupancySteps
 pub mod StandingSteps
+pub mod HandSteps
+pub mod TrailSteps

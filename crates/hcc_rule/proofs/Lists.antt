@@ -70,8 +70,8 @@ each_append P (x ∷ xs) ys h g = (h.0, each_append P xs ys h.1 g)
 pub each_dropped : {A : Type 0} (P : A → Type 0) (test : A → Bool) (xs : List A) → Each P xs
     → Each P (dropped test xs)
 each_dropped P test [] h = tt
-each_dropped P test (x ∷ xs) h = by (test x)
+each_dropped P test (x ∷ xs) h = by (test x) (each_dropped P test xs h.1)
   where
-    by : (b : Bool) → Each P (cond b xs (x ∷ dropped test xs))
-    by true = h.1
-    by false = (h.0, each_dropped P test xs h.1)
+    by : (b : Bool) → Each P (dropped test xs) → Each P (cond b xs (x ∷ dropped test xs))
+    by true rest = h.1
+    by false rest = (h.0, rest)

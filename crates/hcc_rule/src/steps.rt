@@ -1,7 +1,9 @@
 //! One function for each kind of step, and what it tells its seat.
+mod hand;
 mod ledgers;
 mod looks;
 mod occupancy;
 mod planned;
 mod said;
 mod standing;
+mod trails;
