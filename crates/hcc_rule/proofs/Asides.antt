@@ -1,9 +1,9 @@
 -- What every step on a ledger word, a displacement word or the hand shares.
-use Rattle.std.proofs.Common.{◌≡◌, ℕ, ◌+◌, ◌-◌, ◌%◌, ◌^◌, ◌<◌, ◌≤◌, true, List, Some, Ok, length, slice_get, slice_index, sym, refl, ap, ◌∙◌, arith}
+use Rattle.std.proofs.Common.{◌≡◌, ℕ, ◌^◌, ◌≤◌, true, List, Some, Ok, slice_get, slice_index, refl}
 use Rattle.hcc_core.specs.declared.event.Event.{Event}
 use Rattle.hcc_core.specs.declared.event.Reply.{Reply}
 use Rattle.hcc_core.specs.declared.state.Client.{Client}
-use Rattle.hcc_core.specs.World.{State, usage_of}
+use Rattle.hcc_core.specs.World.{usage_of}
 use Rattle.hcc_core.specs.Steps.{with_client, outcome_of}
 use Rattle.hcc_core.specs.Lawful.{Lawful}
 use Rattle.hcc_core.proofs.Opening.{is_lawful}
@@ -16,7 +16,7 @@ use Rattle.hcc_rule.specs.Rule.{IsModest, Holds}
 use Rattle.hcc_rule.proofs.ClientParts.{SameView, SameHand}
 use Rattle.hcc_rule.proofs.LedgerTurns.{Pays, goes_aside}
 use Rattle.hcc_rule.proofs.Turns.{Shard}
-use Rattle.hcc_rule.proofs.Touches.{Goes, client_is, live_is}
+use Rattle.hcc_rule.proofs.Touches.{Goes, client_is}
 use Rattle.hcc_rule.proofs.Bounds.{usage_small, charge_small}
 
 -- a view of which these fields alone change

@@ -1,6 +1,5 @@
 -- The sums that stand in words stay far below a word's end.
-use Rattle.std.proofs.Common.{◌≡◌, ℕ, suc, ◌+◌, ◌*◌, ◌^◌, ◌<◌, ◌≤◌, ◌==◌, Bool, true, false, List, [], ◌∷◌, Some, None, Option, length, slice_get, refl, ap, ◌∙◌, arith}
-use Rattle.hcc_core.specs.declared.limits.TheConstants.{MOST_SLOTS, MOST_CLIENTS}
+use Rattle.std.proofs.Common.{◌≡◌, ℕ, suc, ◌+◌, ◌*◌, ◌^◌, ◌<◌, ◌≤◌, ◌==◌, Bool, true, false, List, [], ◌∷◌, Some, length, slice_get, refl, ap, arith}
 use Rattle.hcc_core.specs.declared.state.Client.{Client}
 use Rattle.hcc_core.specs.declared.state.Entry.{Entry}
 use Rattle.hcc_core.specs.declared.state.Slot.{Slot}
@@ -9,13 +8,12 @@ use Rattle.hcc_core.specs.declared.state.Place.{Place}
 use Rattle.hcc_core.specs.declared.state.Place.TheVariants as places
 use Rattle.hcc_core.specs.declared.state.Standalone.{Standalone}
 use Rattle.hcc_core.specs.Sums.{when, total}
-use Rattle.hcc_core.specs.World.{State, charge_of, charged_to, taken_by_slot, standing_of, trail_of, times, usage_of, standing_in, passed_by, occupied_by, occupancy_of, is_placed, is_granted, limit_of}
+use Rattle.hcc_core.specs.World.{State, charge_of, charged_to, trail_of, times, usage_of, passed_by, occupied_by, occupancy_of, is_placed, is_granted, limit_of}
 use Rattle.hcc_core.specs.Lawful.{Lawful, taken_by}
-use Rattle.hcc_core.proofs.SumLemmas.{total-le, total-member}
 use Rattle.hcc_rule.specs.declared.key.Key.{Key}
 use Rattle.hcc_rule.specs.declared.view.View.{View}
 use Rattle.hcc_rule.specs.Views.{Each}
-use Rattle.hcc_rule.specs.Rule.{Books, entry_in, Stored, Stamps, IsModest, Ledgers}
+use Rattle.hcc_rule.specs.Rule.{Books, entry_in, Stored, Stamps, IsModest}
 
 -- a sum of members that are at most k each
 pub total-bound : {A : Type 0} (f : A → ℕ) (k : ℕ) (xs : List A)

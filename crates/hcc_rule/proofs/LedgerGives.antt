@@ -1,9 +1,8 @@
 -- Where the events on ledgers, trails and the hand are allowed, and what they leave.
-use Rattle.std.proofs.Common.{◌≡◌, ℕ, zero, suc, ◌+◌, ◌-◌, ◌%◌, ◌^◌, ◌<◌, ◌≤◌, ◌||◌, Bool, true, false, nat_lt, Some, Ok, length, slice_get, [], ◌∷◌, ◌++◌, if◌then◌else◌, sym, refl, ap, ◌∙◌, arith}
+use Rattle.std.proofs.Common.{◌≡◌, ℕ, zero, suc, ◌+◌, ◌-◌, ◌%◌, ◌^◌, ◌<◌, ◌≤◌, ◌||◌, true, false, nat_lt, Some, Ok, length, slice_get, [], ◌∷◌, ◌++◌, if◌then◌else◌, refl, arith}
 use Rattle.std.specs.List.{list_any, find}
 use Rattle.std.proofs.lemmas.Bool.{lt-ltb, le-leb, eq-eqb}
 use Rattle.hcc_core.specs.declared.limits.TheConstants.{MOST_USAGE, SLOTS_PER_TURN}
-use Rattle.hcc_core.specs.declared.event.Event.{Event}
 use Rattle.hcc_core.specs.declared.event.Event.TheVariants as events
 use Rattle.hcc_core.specs.declared.event.Reply.{Reply}
 use Rattle.hcc_core.specs.declared.event.Reply.TheVariants as replies
@@ -13,7 +12,7 @@ use Rattle.hcc_core.specs.declared.state.Place.TheVariants as places
 use Rattle.hcc_core.specs.declared.state.Slot.{Slot}
 use Rattle.hcc_core.specs.declared.state.Standalone.{Standalone}
 use Rattle.hcc_core.specs.World.{State, usage_of, occupancy_of, standing_in, passed_at, limit_of, is_placed}
-use Rattle.hcc_core.specs.Steps.{with_client, outcome_of, fits as in_bits, usage_told, occupancy_told, standing_told, turn_of, charge_by, grant_of, may_charge, settle_of, may_settle, waive_of, may_waive, enter_of, is_absent, slots_of, place_granted, quit_of, stand_of, may_stand, is_standing, fall_of, dropped, count_of, pass_of, unpass_of, is_place}
+use Rattle.hcc_core.specs.Steps.{with_client, outcome_of, fits as in_bits, usage_told, occupancy_told, standing_told, turn_of, grant_of, may_charge, may_settle, waive_of, enter_of, slots_of, place_granted, quit_of, stand_of, is_standing, dropped, count_of, pass_of, unpass_of, is_place}
 use Rattle.hcc_core.specs.Lawful.{Lawful}
 use Rattle.hcc_core.proofs.ListLemmas.{set_same}
 use Rattle.hcc_core.proofs.StepLemmas.{charge_gives, settle_gives, fall_gives}
@@ -62,10 +61,13 @@ module _ (w : State) (c : ℕ) (found : Client) (l : Lawful w) (at : slice_get w
   -- The usage.
   pub charge_allowed : (charge usage : ℕ) → charge < 2 ^ 32 → usage ≡ usage_of w
       → found.granted ≡ 0 → found.needed ≡ 0 → usage + charge ≤ MOST_USAGE
-      → outcome_of w (events.Charge c charge) ≡ Ok (replies.Split (grant_of w.setup usage charge) (charge - grant_of w.setup usage charge), with_client w c (record found {
-        granted = grant_of w.setup usage charge;
-        needed = charge - grant_of w.setup usage charge;
-      }))
+      → outcome_of w (events.Charge c charge) ≡ Ok (
+        replies.Split (grant_of w.setup usage charge) (charge - grant_of w.setup usage charge),
+        with_client w c (record found {
+          granted = grant_of w.setup usage charge;
+          needed = charge - grant_of w.setup usage charge;
+        }),
+      )
   unfolding outcome_of
   charge_allowed charge usage small is granted needed room =
       let may : may_charge found usage charge ≡ true =
@@ -104,20 +106,26 @@ module _ (w : State) (c : ℕ) (found : Client) (l : Lawful w) (at : slice_get w
   -- Standalone entries.
   pub stand_gives : (name charge : ℕ) → name < 2 ^ 64 → charge < 2 ^ 32 → found.place ≡ places.Absent
       → charge ≤ found.granted → list_any (is_standing name) found.standalones ≡ false
-      → outcome_of w (events.Stand c charge name) ≡ Ok (replies.Ok, with_client w c (record found {
-        granted = found.granted - charge;
-        standalones = found.standalones ++ record { name = name; charge = charge } ∷ [];
-      }))
+      → outcome_of w (events.Stand c charge name) ≡ Ok (
+        replies.Ok,
+        with_client w c (record found {
+          granted = found.granted - charge;
+          standalones = found.standalones ++ record { name = name; charge = charge } ∷ [];
+        }),
+      )
   unfolding outcome_of stand_of
   stand_gives name charge fits small absent covers fresh =
       rw (c_fits, lt-ltb charge (2 ^ 32) small, lt-ltb name (2 ^ 64) fits, at, live, absent, le-leb charge found.granted covers, fresh) refl
 
   pub fall_allowed : (name : ℕ) (gone : Standalone) → name < 2 ^ 64
       → find (is_standing name) found.standalones ≡ Some gone
-      → outcome_of w (events.Fall c name) ≡ Ok (replies.Ok, with_client w c (record found {
-        freed = found.freed + gone.charge;
-        standalones = dropped (is_standing name) found.standalones;
-      }))
+      → outcome_of w (events.Fall c name) ≡ Ok (
+        replies.Ok,
+        with_client w c (record found {
+          freed = found.freed + gone.charge;
+          standalones = dropped (is_standing name) found.standalones;
+        }),
+      )
   unfolding outcome_of
   fall_allowed name gone fits there =
       rw (c_fits, lt-ltb name (2 ^ 64) fits) (fall_gives w c name found _ gone at live there refl)

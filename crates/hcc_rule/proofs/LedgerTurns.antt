@@ -12,11 +12,11 @@ use Rattle.hcc_core.specs.declared.state.Slot.{Slot}
 use Rattle.hcc_core.specs.Sums.{total}
 use Rattle.hcc_core.specs.World.{State, charge_of, charged_to, taken_by_slot, occupied_by, standing_of, trail_of, times}
 use Rattle.hcc_core.specs.Steps.{with_client, outcome_of}
-use Rattle.hcc_core.specs.Lawful.{Lawful, owner_in, owned_slot, owned_by}
+use Rattle.hcc_core.specs.Lawful.{owner_in, owned_slot, owned_by}
 use Rattle.hcc_core.proofs.Keeps.{follows_lawful}
 use Rattle.hcc_core.proofs.Opening.{is_lawful}
 use Rattle.hcc_rule.specs.declared.key.Key.{Key}
-use Rattle.hcc_rule.specs.declared.layout.TheConstants.{META, DISPLACEMENT, USAGE, OCCUPANCY, STANDING, HAND, LEDGER_WORDS}
+use Rattle.hcc_rule.specs.declared.layout.TheConstants.{META, DISPLACEMENT, USAGE, OCCUPANCY, STANDING, HAND}
 use Rattle.hcc_rule.specs.declared.rule.Plan.{Plan}
 use Rattle.hcc_rule.specs.declared.view.View.{View}
 use Rattle.hcc_rule.specs.Told.{Held}

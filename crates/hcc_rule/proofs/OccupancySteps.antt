@@ -1,5 +1,5 @@
 -- Steps on the occupancy word: loads, places, and slots that were freed.
-use Rattle.std.proofs.Common.{◌≡◌, ℕ, ◌+◌, ◌-◌, ◌*◌, ◌%◌, ◌^◌, ◌<◌, ◌≤◌, Bool, true, false, cond, nat_lt, if◌then◌else◌, List, Some, Ok, length, slice_get, slice_index, sym, refl, ap, ◌∙◌, arith}
+use Rattle.std.proofs.Common.{◌≡◌, ℕ, ◌+◌, ◌-◌, ◌%◌, ◌^◌, ◌<◌, ◌≤◌, Bool, true, false, cond, nat_lt, if◌then◌else◌, List, Some, slice_get, slice_index, refl, ap, ◌∙◌, arith}
 use mathlib.Core.Option.{none}
 use Rattle.atomic_table.specs.Table.{step, Allows}
 use Rattle.hcc_core.specs.declared.event.Event.TheVariants as events
@@ -8,7 +8,7 @@ use Rattle.hcc_core.specs.declared.state.Setup.{Setup}
 use Rattle.hcc_core.specs.declared.state.Place.{Place}
 use Rattle.hcc_core.specs.declared.state.Place.TheVariants as places
 use Rattle.hcc_core.specs.declared.state.Client.{Client}
-use Rattle.hcc_core.specs.Sums.{when, total}
+use Rattle.hcc_core.specs.Sums.{when}
 use Rattle.hcc_core.specs.World.{State, charged_to, occupied_by, standing_of, occupancy_of, limit_of, is_placed}
 use Rattle.hcc_core.specs.Steps.{place_granted}
 use Rattle.hcc_core.proofs.SumLemmas.{total-member}

@@ -1,5 +1,5 @@
 -- Steps on the word of standalone charges.
-use Rattle.std.proofs.Common.{◌≡◌, ℕ, ◌+◌, ◌-◌, ◌%◌, ◌^◌, ◌<◌, ◌≤◌, true, false, List, [], ◌∷◌, ◌++◌, Some, Ok, length, slice_get, slice_index, sym, refl, ap, ◌∙◌, arith}
+use Rattle.std.proofs.Common.{◌≡◌, ℕ, ◌+◌, ◌-◌, ◌%◌, ◌^◌, ◌<◌, ◌≤◌, true, false, List, [], ◌∷◌, ◌++◌, Some, length, slice_get, slice_index, refl, ap, ◌∙◌, arith}
 use Rattle.std.specs.List.{list_any, find}
 use mathlib.Core.Option.{none}
 use Rattle.atomic_table.specs.Table.{step, Allows}
@@ -8,7 +8,6 @@ use Rattle.hcc_core.specs.declared.event.Reply.TheVariants as replies
 use Rattle.hcc_core.specs.declared.state.Place.TheVariants as places
 use Rattle.hcc_core.specs.declared.state.Client.{Client}
 use Rattle.hcc_core.specs.declared.state.Standalone.{Standalone}
-use Rattle.hcc_core.specs.Sums.{total}
 use Rattle.hcc_core.specs.World.{State, charged_to, occupied_by, standing_of, standing_in, usage_of}
 use Rattle.hcc_core.specs.Steps.{is_standing, dropped}
 use Rattle.hcc_core.proofs.SumLemmas.{total-member, total-append, total-le, length-push}
@@ -19,7 +18,7 @@ use Rattle.hcc_rule.specs.declared.rule.Plan.{Plan}
 use Rattle.hcc_rule.specs.declared.view.View.{View}
 use Rattle.hcc_rule.specs.Told.{Held}
 use Rattle.hcc_rule.specs.ToldLedgers.{standings, stands, falls}
-use Rattle.hcc_rule.specs.Views.{is_seated, Each}
+use Rattle.hcc_rule.specs.Views.{is_seated}
 use Rattle.hcc_rule.specs.Words.{ledger_at}
 use Rattle.hcc_rule.specs.Rule.{IsModest, Holds}
 use Rattle.hcc_rule.proofs.Lists.{read_at, each_append, each_dropped}

@@ -1,7 +1,7 @@
 -- Steps on displacement words: loads, and a slot that joins or leaves the client's trail.
-use Rattle.std.proofs.Common.{◌≡◌, ℕ, ◌+◌, ◌-◌, ◌%◌, ◌^◌, ◌<◌, ◌≤◌, ◌≢◌, ◌==◌, ◌||◌, Bool, true, false, cond, nat_lt, List, [], ◌∷◌, ◌++◌, Option, Some, None, Ok, length, slice_get, slice_index, sym, refl, ap, ◌∙◌, arith}
+use Rattle.std.proofs.Common.{◌≡◌, ℕ, ◌+◌, ◌-◌, ◌%◌, ◌^◌, ◌<◌, ◌≤◌, ◌≢◌, ◌==◌, ◌||◌, Bool, true, false, cond, List, [], ◌∷◌, ◌++◌, Option, Some, None, length, slice_get, slice_index, sym, refl, ap, ◌∙◌, arith}
 use Rattle.std.specs.List.{list_any}
-use Rattle.std.proofs.lemmas.Bool.{lt-ltb, eq-eqb, eqb-true}
+use Rattle.std.proofs.lemmas.Bool.{eq-eqb, eqb-true}
 use mathlib.Core.Option.{none}
 use Rattle.atomic_table.specs.Table.{step, Allows}
 use Rattle.hcc_core.specs.declared.event.Event.TheVariants as events
@@ -10,8 +10,8 @@ use Rattle.hcc_core.specs.declared.state.Client.{Client}
 use Rattle.hcc_core.specs.declared.state.Entry.{Entry}
 use Rattle.hcc_core.specs.declared.state.Slot.{Slot}
 use Rattle.hcc_core.specs.declared.state.Slot.TheVariants as slots
-use Rattle.hcc_core.specs.Sums.{when, total}
-use Rattle.hcc_core.specs.World.{State, charged_to, occupied_by, standing_of, trail_of, times, passed_by, passed_at}
+use Rattle.hcc_core.specs.Sums.{when}
+use Rattle.hcc_core.specs.World.{State, trail_of, times, passed_by, passed_at}
 use Rattle.hcc_core.specs.Steps.{dropped, is_place}
 use Rattle.hcc_core.proofs.SumLemmas.{total-member, total-append}
 use Rattle.hcc_rule.specs.declared.key.Key.{Key}
@@ -22,10 +22,10 @@ use Rattle.hcc_rule.specs.declared.view.View.{View}
 use Rattle.hcc_rule.specs.Probes.{trail_to}
 use Rattle.hcc_rule.specs.Told.{Held}
 use Rattle.hcc_rule.specs.ToldTrails.{Passed, counts, passes, unpasses}
-use Rattle.hcc_rule.specs.Views.{is_seated, Each}
+use Rattle.hcc_rule.specs.Views.{is_seated}
 use Rattle.hcc_rule.specs.Words.{field_at, key_of}
-use Rattle.hcc_rule.specs.Rule.{entry_in, IsRecorded, IsTrailed, IsModest, Trails, setup_of, Holds}
-use Rattle.hcc_rule.proofs.Lists.{within, read_at, each_map}
+use Rattle.hcc_rule.specs.Rule.{entry_in, IsRecorded, IsTrailed, IsModest, Holds}
+use Rattle.hcc_rule.proofs.Lists.{read_at, each_map}
 use Rattle.hcc_rule.proofs.Bounds.{passed_few}
 use Rattle.hcc_rule.proofs.LedgerTurns.{on_displacement, Pays}
 use Rattle.hcc_rule.proofs.LedgerGives.{count_gives, pass_gives, unpass_gives}
@@ -162,7 +162,7 @@ module _ {T : Type 0} (fits : T → Key → List ℕ → Type 0) (p : Plan T) (c
       passed = rw (found_passed s r) (
         trail_within r.world i v.client v.hand client,
         each_map (IsRecorded r.world.slots) (λ (q : Record). times i (trail_to p.geometry.slots (key_of q.entry) q.slot) ≤ passed_by r.world.slots r.world.clients i)
-        (entry_within r.world p.geometry.slots i r.trails.entries) v.records (r.holding id v at).recorded,
+            (entry_within r.world p.geometry.slots i r.trails.entries) v.records (r.holding id v at).recorded,
       )
 
   pub pass_step : length me.0.hand.trail < p.geometry.slots

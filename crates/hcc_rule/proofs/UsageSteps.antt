@@ -1,5 +1,5 @@
 -- Steps on the usage word: loads, charges, and what is settled or waived.
-use Rattle.std.proofs.Common.{◌≡◌, ℕ, ◌+◌, ◌-◌, ◌%◌, ◌^◌, ◌<◌, ◌≤◌, true, List, [], ◌∷◌, ◌++◌, nat_lt, if◌then◌else◌, Option, Some, None, Ok, length, slice_get, slice_index, sym, refl, ap, ◌∙◌, arith}
+use Rattle.std.proofs.Common.{◌≡◌, ℕ, ◌+◌, ◌-◌, ◌%◌, ◌^◌, ◌<◌, ◌≤◌, true, List, [], ◌∷◌, ◌++◌, nat_lt, if◌then◌else◌, Option, Some, None, slice_get, slice_index, refl, ap, ◌∙◌, arith}
 use mathlib.Core.Option.{none}
 use Rattle.atomic_table.specs.Table.{step, Allows}
 use Rattle.hcc_core.specs.declared.event.Event.TheVariants as events
@@ -21,7 +21,7 @@ use Rattle.hcc_rule.specs.declared.view.Record.{Record}
 use Rattle.hcc_rule.specs.declared.view.View.{View}
 use Rattle.hcc_rule.specs.Told.{Held}
 use Rattle.hcc_rule.specs.ToldLedgers.{Charged, usages, needed_of, charges, settles, waived, waives}
-use Rattle.hcc_rule.specs.Views.{is_seated, Each}
+use Rattle.hcc_rule.specs.Views.{is_seated}
 use Rattle.hcc_rule.specs.Words.{ledger_at}
 use Rattle.hcc_rule.specs.Rule.{entry_in, IsRecorded, IsModest, setup_of, Holds}
 use Rattle.hcc_rule.proofs.Lists.{read_at, each_map}
@@ -103,7 +103,7 @@ module _ {T : Type 0} (fits : T → Key → List ℕ → Type 0) (p : Plan T) (c
       charged = rw (found_usage s r) (
         charged_within r.world v.client v.hand client,
         each_map (IsRecorded r.world.slots) (λ (q : Record). charged_to v.hand + q.entry.charge ≤ usage_of r.world)
-        (charged_beside r.world v.client v.hand client) v.records (r.holding id v at).recorded,
+            (charged_beside r.world v.client v.hand client) v.records (r.holding id v at).recorded,
       )
 
   -- An add of a charge: all or part of it is granted at once.

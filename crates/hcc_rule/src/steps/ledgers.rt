@@ -78,9 +78,7 @@ impl<T: Tag, A: Allocator> RuleTable<T, A> {
         ensures own { charged_to (view seat.old).hand ≤ result }
         ensures held { Each (λ (r : Record). charged_to (view seat.old).hand + r.entry.charge ≤ result) (view seat.old).records }
     {
-        self.table
-            .shared
-            .load::<Usage>(seat, self.ledger(USAGE))
+        self.table.shared.load::<Usage>(seat, self.ledger(USAGE))
     }
 
     fn charge_as<J: Planned>(&self, seat: &mut RuleSeat<T>, amount: u32) -> u64

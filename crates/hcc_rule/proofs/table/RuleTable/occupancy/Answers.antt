@@ -5,8 +5,7 @@ use Rattle.hcc_rule.proofs.table.RuleTable.occupancy.Goals as goal
 pub load-requires : goal.load-requires
 load-requires g c =
     let planned = c.args.self.now.planned in
-    let seat = c.requires.seat in
-    (
+    let seat = c.requires.seat in (
       seat.table,
       c.ledger.ensures.inside,
       occupancy_step g.T.Tag.fits c.args.self.now.table.shared.key _ _ _ _

@@ -5,8 +5,7 @@ use Rattle.hcc_rule.proofs.table.RuleTable.quit.Goals as goal
 pub fetch_sub-requires : goal.fetch_sub-requires
 fetch_sub-requires g c =
     let planned = c.args.self.now.planned in
-    let seat = c.requires.seat in
-    (
+    let seat = c.requires.seat in (
       seat.table,
       c.ledger.ensures.inside,
       quit_step g.T.Tag.fits c.args.self.now.table.shared.key _ _ _ _

@@ -6,8 +6,7 @@ pub fetch_sub-requires : goal.fetch_sub-requires
 fetch_sub-requires g c =
     let planned = c.args.self.now.planned in
     let seat = c.requires.seat in
-    let count = c.requires.count in
-    (
+    let count = c.requires.count in (
       seat.table,
       c.ledger.ensures.inside,
       slots_step g.T.Tag.fits c.args.self.now.table.shared.key _ _ _ _

@@ -6,8 +6,7 @@ pub fetch_add-requires : goal.fetch_add-requires
 fetch_add-requires g c =
     let planned = c.args.self.now.planned in
     let seat = c.requires.seat in
-    let said = c.requires.said in
-    (
+    let said = c.requires.said in (
       seat.table,
       c.ledger.ensures.inside,
       stand_step g.T.Tag.fits c.args.self.now.table.shared.key _ _ _ _

@@ -5,8 +5,7 @@ use Rattle.hcc_rule.proofs.table.RuleTable.turn.Goals as goal
 pub fetch_add-requires : goal.fetch_add-requires
 fetch_add-requires g c =
     let planned = c.args.self.now.planned in
-    let seat = c.requires.seat in
-    (
+    let seat = c.requires.seat in (
       seat.table,
       c.ledger.ensures.inside,
       turn_step g.T.Tag.fits c.args.self.now.table.shared.key _ _ _ _
