@@ -21,3 +21,13 @@ pub mod Marks
 pub mod Exchanges
 pub mod Reaches
 pub mod Acquires
+pub mod ClientParts
+pub mod LedgerTurns
+pub mod LedgerGives
+pub mod Bounds
+pub mod Asides
+pub mod UsageSteps
+pub mod OccupancySteps
+pub mod StandingSteps
+pub mod HandSteps
+pub mod TrailSteps

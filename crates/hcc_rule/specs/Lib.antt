@@ -6,3 +6,5 @@ pub mod Opening
 pub mod Seats
 pub mod Told
 pub mod ToldReferences
+pub mod ToldLedgers
+pub mod ToldTrails

@@ -1,0 +1,193 @@
+-- Steps on the word of standalone charges.
+use Rattle.std.proofs.Common.{◌≡◌, ℕ, ◌+◌, ◌-◌, ◌%◌, ◌^◌, ◌<◌, ◌≤◌, true, false, List, [], ◌∷◌, ◌++◌, Some, length, slice_get, slice_index, refl, ap, ◌∙◌, arith}
+use Rattle.std.specs.List.{list_any, find}
+use mathlib.Core.Option.{none}
+use Rattle.atomic_table.specs.Table.{step, Allows}
+use Rattle.hcc_core.specs.declared.event.Event.TheVariants as events
+use Rattle.hcc_core.specs.declared.event.Reply.TheVariants as replies
+use Rattle.hcc_core.specs.declared.state.Place.TheVariants as places
+use Rattle.hcc_core.specs.declared.state.Client.{Client}
+use Rattle.hcc_core.specs.declared.state.Standalone.{Standalone}
+use Rattle.hcc_core.specs.World.{State, charged_to, occupied_by, standing_of, standing_in, usage_of}
+use Rattle.hcc_core.specs.Steps.{is_standing, dropped}
+use Rattle.hcc_core.proofs.SumLemmas.{total-member, total-append, total-le, length-push}
+use Rattle.hcc_core.proofs.DroppedLemmas.{dropped-total, dropped-length}
+use Rattle.hcc_rule.specs.declared.key.Key.{Key}
+use Rattle.hcc_rule.specs.declared.layout.TheConstants.{STANDING, MOST_HANDLES}
+use Rattle.hcc_rule.specs.declared.rule.Plan.{Plan}
+use Rattle.hcc_rule.specs.declared.view.View.{View}
+use Rattle.hcc_rule.specs.Told.{Held}
+use Rattle.hcc_rule.specs.ToldLedgers.{standings, stands, falls}
+use Rattle.hcc_rule.specs.Views.{is_seated}
+use Rattle.hcc_rule.specs.Words.{ledger_at}
+use Rattle.hcc_rule.specs.Rule.{IsModest, Holds}
+use Rattle.hcc_rule.proofs.Lists.{read_at, each_append, each_dropped}
+use Rattle.hcc_rule.proofs.LedgerTurns.{on_standing, Pays}
+use Rattle.hcc_rule.proofs.LedgerGives.{standing_gives, stand_gives, fall_allowed}
+use Rattle.hcc_rule.proofs.Asides.{pays_at, modest_is, law_is, usage_low, goes_by}
+use Rattle.hcc_rule.proofs.Turns.{Shard}
+use Rattle.hcc_rule.proofs.Touches.{client_is, live_is}
+
+-- what stands for a client is within all that stands
+standing_within : (w : State) (c : ℕ) (client : Client) → slice_get w.clients c ≡ Some client
+    → standing_of client ≤ standing_in w
+standing_within w c client at = let member = total-member standing_of w.clients c client at in omega arith
+
+-- which is within the usage
+standing_used : (w : State) → standing_in w ≤ usage_of w
+standing_used w = let each = total-le standing_of charged_to w.clients (λ i client at. part client) in omega arith
+  where
+    part : (client : Client) → standing_of client ≤ charged_to client
+    part client = omega arith
+
+module _ {T : Type 0} (fits : T → Key → List ℕ → Type 0) (p : Plan T) (count id a : ℕ) (me : Held T) (seated : is_seated me.0 ≡ true) (place : a ≡ ledger_at p.geometry.slots p.geometry.room STANDING) where
+  module _ (s : Shard fits p) (r : Holds fits p s) where
+    -- the word found is all that stands
+    found_standing : slice_index s.words a ≡ standing_in r.world
+    found_standing = ap (slice_index s.words) place ∙ r.ledgers.standing
+
+    -- what is paid by a client whose whole charge stays
+    paid_standing : (y : ℕ) (new : Client) → y + standing_of me.0.hand ≡ slice_index s.words a + standing_of new
+        → charged_to new ≡ charged_to me.0.hand
+        → new ≡ record me.0.hand { granted = new.granted; freed = new.freed; standalones = new.standalones }
+        → Pays p.geometry.slots p.geometry.room a (slice_index s.words a) y r.world.hand r.world.hand me.0.hand new
+    paid_standing y new paid charged same =
+        pays_at p.geometry.slots p.geometry.room a _ (slice_index s.words a) y r.world.hand r.world.hand me.0.hand new place
+        (on_standing p.geometry.slots p.geometry.room (slice_index s.words a) y r.world.hand me.0.hand new paid
+        charged (ap occupied_by same) (ap (λ (c : Client). c.trail) same))
+
+  pub standing_step : Allows (Holds fits p) count id me a (λ n. n) (standings (step count a 0 0 none) me)
+  standing_step s r homes there low =
+      goes_by fits p s r id a word me v.hand v.open_places v.turns v.seen v.tight
+      (events.Standing v.client) (replies.Count (standing_in r.world)) (standings (step count a 0 0 none) me) at seated refl
+      (modest_is fits p s r id v at seated)
+      (standing_gives r.world v.client v.hand (law_is fits p s r) client live)
+      (paid_standing s r word v.hand refl refl refl)
+      (refl, refl, rw (found_standing s r) (standing_within r.world v.client v.hand client))
+    where
+      v : View T
+      v = me.0
+
+      word : ℕ
+      word = slice_index s.words a
+
+      at : slice_get s.views id ≡ Some v
+      at = read_at s.views id v there
+
+      client : slice_get r.world.clients v.client ≡ Some v.hand
+      client = client_is fits p s r id v at seated
+
+      live : v.hand.live ≡ true
+      live = live_is fits p s r id v at seated
+
+  -- An add: an entry stands alone from now on, with a charge that was granted.
+  pub stand_step : (name charge : ℕ) → name < 2 ^ 64 → charge < 2 ^ 32
+      → me.0.hand.place ≡ places.Absent → charge ≤ me.0.hand.granted
+      → list_any (is_standing name) me.0.hand.standalones ≡ false
+      → length me.0.hand.standalones < MOST_HANDLES
+      → Allows (Holds fits p) count id me a (λ n. (n + charge) % 2 ^ 64) (stands name (step count a charge 0 none) me)
+  stand_step name charge named cheap absent granted fresh few s r homes there low =
+      goes_by fits p s r id a ((word + charge) % 2 ^ 64) me new v.open_places v.turns v.seen v.tight
+      (events.Stand v.client charge name) replies.Ok (stands name (step count a charge 0 none) me) at seated refl
+      modest
+      (stand_gives r.world v.client v.hand (law_is fits p s r) client live name charge named cheap absent granted fresh)
+      (paid_standing s r ((word + charge) % 2 ^ 64) new paid charged refl)
+      (refl, refl)
+    where
+      v : View T
+      v = me.0
+
+      word : ℕ
+      word = slice_index s.words a
+
+      at : slice_get s.views id ≡ Some v
+      at = read_at s.views id v there
+
+      client : slice_get r.world.clients v.client ≡ Some v.hand
+      client = client_is fits p s r id v at seated
+
+      live : v.hand.live ≡ true
+      live = live_is fits p s r id v at seated
+
+      one : Standalone
+      one = record { name = name; charge = charge }
+
+      new : Client
+      new = record v.hand { granted = v.hand.granted - charge; standalones = v.hand.standalones ++ one ∷ [] }
+
+      grown : standing_of new ≡ standing_of v.hand + charge
+      grown = let sum = total-append (λ (z : Standalone). z.charge) v.hand.standalones (one ∷ []) in omega arith
+
+      modest : IsModest new
+      modest = let old = modest_is fits p s r id v at seated in record {
+        asked = let asked = old.asked in omega arith;
+        freed = old.freed;
+        few = let longer = length-push v.hand.standalones one in omega arith;
+        small = each_append (λ (z : Standalone). z.charge < 2 ^ 32) v.hand.standalones (one ∷ []) old.small (cheap, tt);
+      }
+
+      charged : charged_to new ≡ charged_to v.hand
+      charged = let more = grown in omega arith
+
+      paid : (word + charge) % 2 ^ 64 + standing_of v.hand ≡ word + standing_of new
+      paid =
+          let more = grown in
+          let found = found_standing s r in
+          let used = standing_used r.world in
+          let few = usage_low fits p s r in
+          omega arith
+
+  -- A take: an entry that stood alone falls, and its charge is freed.
+  pub fall_step : (name charge : ℕ) → name < 2 ^ 64
+      → find (is_standing name) me.0.hand.standalones ≡ Some (record { name = name; charge = charge })
+      → me.0.hand.freed + charge < 2 ^ 49
+      → Allows (Holds fits p) count id me a (λ x. (x + (2 ^ 64 - charge)) % 2 ^ 64) (falls name (step count a charge 0 none) me)
+  fall_step name charge named stood room s r homes there low =
+      goes_by fits p s r id a ((word + (2 ^ 64 - charge)) % 2 ^ 64) me new v.open_places v.turns v.seen v.tight
+      (events.Fall v.client name) replies.Ok (falls name (step count a charge 0 none) me) at seated refl
+      modest
+      (fall_allowed r.world v.client v.hand (law_is fits p s r) client live name one named stood)
+      (paid_standing s r ((word + (2 ^ 64 - charge)) % 2 ^ 64) new paid charged refl)
+      (refl, refl)
+    where
+      v : View T
+      v = me.0
+
+      word : ℕ
+      word = slice_index s.words a
+
+      at : slice_get s.views id ≡ Some v
+      at = read_at s.views id v there
+
+      client : slice_get r.world.clients v.client ≡ Some v.hand
+      client = client_is fits p s r id v at seated
+
+      live : v.hand.live ≡ true
+      live = live_is fits p s r id v at seated
+
+      one : Standalone
+      one = record { name = name; charge = charge }
+
+      new : Client
+      new = record v.hand { freed = v.hand.freed + charge; standalones = dropped (is_standing name) v.hand.standalones }
+
+      shrunk : standing_of new + charge ≡ standing_of v.hand
+      shrunk = dropped-total (is_standing name) (λ (z : Standalone). z.charge) v.hand.standalones one stood
+
+      modest : IsModest new
+      modest = let old = modest_is fits p s r id v at seated in record {
+        asked = old.asked;
+        freed = room;
+        few = let shorter = dropped-length (is_standing name) v.hand.standalones in let most = old.few in omega arith;
+        small = each_dropped (λ (z : Standalone). z.charge < 2 ^ 32) (is_standing name) v.hand.standalones old.small;
+      }
+
+      charged : charged_to new ≡ charged_to v.hand
+      charged = let less = shrunk in omega arith
+
+      paid : (word + (2 ^ 64 - charge)) % 2 ^ 64 + standing_of v.hand ≡ word + standing_of new
+      paid =
+          let less = shrunk in
+          let found = found_standing s r in
+          let within = standing_within r.world v.client v.hand client in
+          omega arith

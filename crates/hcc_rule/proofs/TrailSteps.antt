@@ -1,0 +1,250 @@
+-- Steps on displacement words: loads, and a slot that joins or leaves the client's trail.
+use Rattle.std.proofs.Common.{◌≡◌, ℕ, ◌+◌, ◌-◌, ◌%◌, ◌^◌, ◌<◌, ◌≤◌, ◌≢◌, ◌==◌, ◌||◌, Bool, true, false, cond, List, [], ◌∷◌, ◌++◌, Option, Some, None, length, slice_get, slice_index, sym, refl, ap, ◌∙◌, arith}
+use Rattle.std.specs.List.{list_any}
+use Rattle.std.proofs.lemmas.Bool.{eq-eqb, eqb-true}
+use mathlib.Core.Option.{none}
+use Rattle.atomic_table.specs.Table.{step, Allows}
+use Rattle.hcc_core.specs.declared.event.Event.TheVariants as events
+use Rattle.hcc_core.specs.declared.event.Reply.TheVariants as replies
+use Rattle.hcc_core.specs.declared.state.Client.{Client}
+use Rattle.hcc_core.specs.declared.state.Entry.{Entry}
+use Rattle.hcc_core.specs.declared.state.Slot.{Slot}
+use Rattle.hcc_core.specs.declared.state.Slot.TheVariants as slots
+use Rattle.hcc_core.specs.Sums.{when}
+use Rattle.hcc_core.specs.World.{State, trail_of, times, passed_by, passed_at}
+use Rattle.hcc_core.specs.Steps.{dropped, is_place}
+use Rattle.hcc_core.proofs.SumLemmas.{total-member, total-append}
+use Rattle.hcc_rule.specs.declared.key.Key.{Key}
+use Rattle.hcc_rule.specs.declared.layout.TheConstants.{DISPLACEMENT}
+use Rattle.hcc_rule.specs.declared.rule.Plan.{Plan}
+use Rattle.hcc_rule.specs.declared.view.Record.{Record}
+use Rattle.hcc_rule.specs.declared.view.View.{View}
+use Rattle.hcc_rule.specs.Probes.{trail_to}
+use Rattle.hcc_rule.specs.Told.{Held}
+use Rattle.hcc_rule.specs.ToldTrails.{Passed, counts, passes, unpasses}
+use Rattle.hcc_rule.specs.Views.{is_seated}
+use Rattle.hcc_rule.specs.Words.{field_at, key_of}
+use Rattle.hcc_rule.specs.Rule.{entry_in, IsRecorded, IsTrailed, IsModest, Holds}
+use Rattle.hcc_rule.proofs.Lists.{read_at, each_map}
+use Rattle.hcc_rule.proofs.Bounds.{passed_few}
+use Rattle.hcc_rule.proofs.LedgerTurns.{on_displacement, Pays}
+use Rattle.hcc_rule.proofs.LedgerGives.{count_gives, pass_gives, unpass_gives}
+use Rattle.hcc_rule.proofs.Asides.{pays_at, modest_is, law_is, goes_by}
+use Rattle.hcc_rule.proofs.Turns.{Shard}
+use Rattle.hcc_rule.proofs.Touches.{client_is, live_is}
+use Rattle.hcc_rule.proofs.Looks.{slot_there}
+
+-- Of trails.
+
+-- a slot counts once in a list of its own, and no other does
+times_here : (i : ℕ) → times i (i ∷ []) ≡ 1
+times_here i = let one : when (i == i) 1 ≡ 1 = ap (λ b. when b 1) (eq-eqb i i refl) in omega arith
+
+not_equal : (a b : ℕ) → a ≢ b → when (a == b) 1 ≡ 0
+not_equal a b other = by (a == b) refl
+  where
+    by : (z : Bool) → (a == b) ≡ z → when z 1 ≡ 0
+    by true is = absurd (other (eqb-true a b is))
+    by false is = refl
+
+times_else : (s i : ℕ) → s ≢ i → times s (i ∷ []) ≡ 0
+times_else s i other = let none : when (i == s) 1 ≡ 0 = not_equal i s (λ e. other (sym e)) in omega arith
+
+-- a trail without a slot that stood in it
+times_left : (i : ℕ) (trail : List ℕ) → list_any (is_place i) trail ≡ true
+    → times i (dropped (is_place i) trail) + 1 ≡ times i trail
+times_left i [] h = cc
+times_left i (x ∷ xs) h = by (x == i) refl (times_left i xs) h
+  where
+    by : (b : Bool) → (x == i) ≡ b
+        → (list_any (is_place i) xs ≡ true → times i (dropped (is_place i) xs) + 1 ≡ times i xs)
+        → (b || list_any (is_place i) xs) ≡ true
+        → times i (cond b xs (x ∷ dropped (is_place i) xs)) + 1 ≡ when (x == i) 1 + times i xs
+    by true is later h =
+        let one : when (x == i) 1 ≡ 1 = ap (λ b. when b 1) is in
+        omega arith
+    by false is later h =
+        let rest = later h in
+        omega arith
+
+-- the others stand in it as often
+times_kept : (s i : ℕ) (trail : List ℕ) → s ≢ i → times s (dropped (is_place i) trail) ≡ times s trail
+times_kept s i [] other = refl
+times_kept s i (x ∷ xs) other = by (x == i) refl (times_kept s i xs other)
+  where
+    by : (b : Bool) → (x == i) ≡ b → times s (dropped (is_place i) xs) ≡ times s xs
+        → times s (cond b xs (x ∷ dropped (is_place i) xs)) ≡ when (x == s) 1 + times s xs
+    by true is later =
+        let none : when (x == s) 1 ≡ 0 = not_equal x s (λ e. other (sym e ∙ eqb-true x i is)) in
+        omega arith
+    by false is later = omega arith
+
+-- a client's trail is within what is passed
+trail_within : (w : State) (i c : ℕ) (client : Client) → slice_get w.clients c ≡ Some client
+    → times i client.trail ≤ passed_by w.slots w.clients i
+trail_within w i c client at =
+    let member = total-member (λ (k : Client). times i k.trail) w.clients c client at in
+    omega arith
+
+-- and so is the trail of an entry
+entry_within : (w : State) (size i : ℕ)
+    → ((s : ℕ) (slot : Slot) → slice_get w.slots s ≡ Some slot → IsTrailed size s slot)
+    → (r : Record) → IsRecorded w.slots r
+    → times i (trail_to size (key_of r.entry) r.slot) ≤ passed_by w.slots w.clients i
+entry_within w size i trailed r recorded = by (slice_get w.slots r.slot) refl recorded.there
+  where
+    of_slot : (slot : Slot) → IsTrailed size r.slot slot → entry_in (Some slot) ≡ Some r.entry
+        → trail_of slot ≡ trail_to size (key_of r.entry) r.slot
+    of_slot (slots.Empty strays) is has = cc
+    of_slot (slots.Building client strays) is has = cc
+    of_slot (slots.Shareable q) is has =
+        let same : q.entry ≡ r.entry = cc in
+        is ∙ ap (λ (e : Entry). trail_to size (key_of e) r.slot) same
+
+    by : (o : Option Slot) → slice_get w.slots r.slot ≡ o → entry_in o ≡ Some r.entry
+        → times i (trail_to size (key_of r.entry) r.slot) ≤ passed_by w.slots w.clients i
+    by None there has = cc
+    by (Some slot) there has =
+        let member = total-member (λ z. times i (trail_of z)) w.slots r.slot slot there in
+        let same = ap (times i) (of_slot slot (trailed r.slot slot there) has) in
+        omega arith
+
+module _ {T : Type 0} (fits : T → Key → List ℕ → Type 0) (p : Plan T) (count id i a : ℕ) (me : Held T) (close : i < p.geometry.slots) (seated : is_seated me.0 ≡ true) (place : a ≡ field_at p.geometry.room i DISPLACEMENT) where
+  module _ (s : Shard fits p) (r : Holds fits p s) where
+    -- the word found is how often the slot is passed
+    found_passed : slice_index s.words a ≡ passed_by r.world.slots r.world.clients i
+    found_passed = ap (slice_index s.words) place ∙ r.trails.passed i close
+
+    -- what is paid by a client of which the trail alone changes, at this slot alone
+    paid_passed : (y : ℕ) (trail : List ℕ) → y + times i me.0.hand.trail ≡ slice_index s.words a + times i trail
+        → ((j : ℕ) → j ≢ i → times j trail ≡ times j me.0.hand.trail)
+        → Pays p.geometry.slots p.geometry.room a (slice_index s.words a) y r.world.hand r.world.hand me.0.hand (record me.0.hand { trail = trail })
+    paid_passed y trail paid others =
+        pays_at p.geometry.slots p.geometry.room a _ (slice_index s.words a) y r.world.hand r.world.hand me.0.hand (record me.0.hand { trail = trail }) place
+        (on_displacement p.geometry.slots p.geometry.room (slice_index s.words a) y r.world.hand me.0.hand (record me.0.hand { trail = trail }) i close paid others refl refl refl)
+
+    -- its amounts stay modest
+    modest_trail : (v : View T) → slice_get s.views id ≡ Some v → is_seated v ≡ true
+        → (trail : List ℕ) → IsModest (record v.hand { trail = trail })
+    modest_trail v at sits trail =
+        let old = modest_is fits p s r id v at sits in
+        record { asked = old.asked; freed = old.freed; few = old.few; small = old.small }
+
+  pub count_step : (size : ℕ) → size ≡ p.geometry.slots
+      → Allows (Holds fits p) count id me a (λ n. n) (counts size i (step count a 0 0 none) me)
+  count_step size said s r homes there low =
+      goes_by fits p s r id a word me v.hand v.open_places v.turns v.seen v.tight
+      (events.Count v.client i) (replies.Count (passed_at r.world i)) (counts size i (step count a 0 0 none) me) at seated refl
+      (modest_is fits p s r id v at seated)
+      (count_gives r.world v.client v.hand (law_is fits p s r) client live i slot.0 slot.1)
+      (paid_passed s r word v.hand.trail refl (λ j other. refl))
+      (refl, refl, rw said passed)
+    where
+      v : View T
+      v = me.0
+
+      word : ℕ
+      word = slice_index s.words a
+
+      at : slice_get s.views id ≡ Some v
+      at = read_at s.views id v there
+
+      client : slice_get r.world.clients v.client ≡ Some v.hand
+      client = client_is fits p s r id v at seated
+
+      live : v.hand.live ≡ true
+      live = live_is fits p s r id v at seated
+
+      slot : (t : Slot) × (slice_get r.world.slots i ≡ Some t)
+      slot = slot_there fits p s r i close
+
+      passed : Passed p.geometry.slots i v word
+      passed = rw (found_passed s r) (
+        trail_within r.world i v.client v.hand client,
+        each_map (IsRecorded r.world.slots) (λ (q : Record). times i (trail_to p.geometry.slots (key_of q.entry) q.slot) ≤ passed_by r.world.slots r.world.clients i)
+            (entry_within r.world p.geometry.slots i r.trails.entries) v.records (r.holding id v at).recorded,
+      )
+
+  pub pass_step : length me.0.hand.trail < p.geometry.slots
+      → Allows (Holds fits p) count id me a (λ n. (n + 1) % 2 ^ 64) (passes i (step count a 1 0 none) me)
+  pass_step room s r homes there low =
+      goes_by fits p s r id a ((word + 1) % 2 ^ 64) me (record v.hand { trail = trail }) v.open_places v.turns v.seen v.tight
+      (events.Pass v.client i) replies.Ok (passes i (step count a 1 0 none) me) at seated refl
+      (modest_trail s r v at seated trail)
+      (pass_gives r.world v.client v.hand (law_is fits p s r) client live i slot.0 slot.1 (rw r.setup room))
+      (paid_passed s r ((word + 1) % 2 ^ 64) trail paid others)
+      (refl, refl)
+    where
+      v : View T
+      v = me.0
+
+      word : ℕ
+      word = slice_index s.words a
+
+      at : slice_get s.views id ≡ Some v
+      at = read_at s.views id v there
+
+      client : slice_get r.world.clients v.client ≡ Some v.hand
+      client = client_is fits p s r id v at seated
+
+      live : v.hand.live ≡ true
+      live = live_is fits p s r id v at seated
+
+      slot : (t : Slot) × (slice_get r.world.slots i ≡ Some t)
+      slot = slot_there fits p s r i close
+
+      trail : List ℕ
+      trail = v.hand.trail ++ i ∷ []
+
+      sum : (j : ℕ) → times j trail ≡ times j v.hand.trail + times j (i ∷ [])
+      sum j = total-append (λ k. when (k == j) 1) v.hand.trail (i ∷ [])
+
+      paid : (word + 1) % 2 ^ 64 + times i v.hand.trail ≡ word + times i trail
+      paid =
+          let found = found_passed s r in
+          let few = passed_few r.world i (law_is fits p s r) in
+          let grown = sum i in
+          let one = times_here i in
+          omega arith
+
+      others : (j : ℕ) → j ≢ i → times j trail ≡ times j v.hand.trail
+      others j other = let grown = sum j in let none = times_else j i other in omega arith
+
+  pub unpass_step : list_any (is_place i) me.0.hand.trail ≡ true
+      → Allows (Holds fits p) count id me a (λ x. (x + (2 ^ 64 - 1)) % 2 ^ 64) (unpasses i (step count a 1 0 none) me)
+  unpass_step passed s r homes there low =
+      goes_by fits p s r id a ((word + (2 ^ 64 - 1)) % 2 ^ 64) me (record v.hand { trail = trail }) v.open_places v.turns v.seen v.tight
+      (events.Unpass v.client i) replies.Ok (unpasses i (step count a 1 0 none) me) at seated refl
+      (modest_trail s r v at seated trail)
+      (unpass_gives r.world v.client v.hand (law_is fits p s r) client live i slot.0 slot.1 passed)
+      (paid_passed s r ((word + (2 ^ 64 - 1)) % 2 ^ 64) trail paid (λ j other. times_kept j i v.hand.trail other))
+      (refl, refl)
+    where
+      v : View T
+      v = me.0
+
+      word : ℕ
+      word = slice_index s.words a
+
+      at : slice_get s.views id ≡ Some v
+      at = read_at s.views id v there
+
+      client : slice_get r.world.clients v.client ≡ Some v.hand
+      client = client_is fits p s r id v at seated
+
+      live : v.hand.live ≡ true
+      live = live_is fits p s r id v at seated
+
+      slot : (t : Slot) × (slice_get r.world.slots i ≡ Some t)
+      slot = slot_there fits p s r i close
+
+      trail : List ℕ
+      trail = dropped (is_place i) v.hand.trail
+
+      paid : (word + (2 ^ 64 - 1)) % 2 ^ 64 + times i v.hand.trail ≡ word + times i trail
+      paid =
+          let found = found_passed s r in
+          let few = passed_few r.world i (law_is fits p s r) in
+          let within = trail_within r.world i v.client v.hand client in
+          let left = times_left i v.hand.trail passed in
+          omega arith

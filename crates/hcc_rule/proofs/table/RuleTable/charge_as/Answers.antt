@@ -1,0 +1,16 @@
+use Rattle.std.proofs.Common.{ap, is_some, arith}
+use Rattle.hcc_rule.proofs.UsageSteps.{charge_step}
+use Rattle.hcc_rule.proofs.table.RuleTable.charge_as.Goals as goal
+
+pub fetch_add-requires : goal.fetch_add-requires
+fetch_add-requires g c =
+    let planned = c.args.self.now.planned in
+    let seat = c.requires.seat in
+    let spent = c.requires.spent in
+    let said = c.requires.said in (
+      seat.table,
+      c.ledger.ensures.inside,
+      charge_step g.T.Tag.fits c.args.self.now.table.shared.key _ _ _ _
+          (ap is_some seat.tagged) (rw planned.0 c.ledger.ensures.value)
+          g.J.Planned.setup c.args.amount said (omega arith) spent.0 spent.1,
+    )

@@ -1,0 +1,14 @@
+use Rattle.std.proofs.Common.{ap, is_some}
+use Rattle.hcc_rule.proofs.OccupancySteps.{enter_step}
+use Rattle.hcc_rule.proofs.table.RuleTable.enter_as.Goals as goal
+
+pub fetch_add-requires : goal.fetch_add-requires
+fetch_add-requires g c =
+    let planned = c.args.self.now.planned in
+    let seat = c.requires.seat in (
+      seat.table,
+      c.ledger.ensures.inside,
+      enter_step g.T.Tag.fits c.args.self.now.table.shared.key _ _ _ _
+          (ap is_some seat.tagged) (rw planned.0 c.ledger.ensures.value)
+          g.J.Planned.setup c.requires.said c.requires.absent,
+    )

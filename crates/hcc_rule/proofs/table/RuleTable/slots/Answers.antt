@@ -1,0 +1,15 @@
+use Rattle.std.proofs.Common.{ap, sym, is_some}
+use Rattle.hcc_rule.proofs.OccupancySteps.{slots_step}
+use Rattle.hcc_rule.proofs.table.RuleTable.slots.Goals as goal
+
+pub fetch_sub-requires : goal.fetch_sub-requires
+fetch_sub-requires g c =
+    let planned = c.args.self.now.planned in
+    let seat = c.requires.seat in
+    let count = c.requires.count in (
+      seat.table,
+      c.ledger.ensures.inside,
+      slots_step g.T.Tag.fits c.args.self.now.table.shared.key _ _ _ _
+          (ap is_some seat.tagged) (rw planned.0 c.ledger.ensures.value)
+          c.args.count (sym count.0) count.1,
+    )

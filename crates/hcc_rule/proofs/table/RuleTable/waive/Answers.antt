@@ -1,0 +1,15 @@
+use Rattle.std.proofs.Common.{ap, sym, is_some}
+use Rattle.hcc_rule.proofs.UsageSteps.{waive_step}
+use Rattle.hcc_rule.proofs.table.RuleTable.waive.Goals as goal
+
+pub fetch_sub-requires : goal.fetch_sub-requires
+fetch_sub-requires g c =
+    let planned = c.args.self.now.planned in
+    let seat = c.requires.seat in
+    let amount = c.requires.amount in (
+      seat.table,
+      c.ledger.ensures.inside,
+      waive_step g.T.Tag.fits c.args.self.now.table.shared.key _ _ _ _
+          (ap is_some seat.tagged) (rw planned.0 c.ledger.ensures.value)
+          c.args.amount (sym amount.0) amount.1,
+    )

@@ -1,0 +1,133 @@
+-- What each step on a ledger word or the hand tells its seat, by the word that it found.
+use Rattle.std.specs.Prelude.{◌≡◌, ℕ, ◌+◌, ◌-◌, ◌≤◌, nat_lt, [], ◌∷◌, ◌++◌, if◌then◌else◌}
+use Rattle.atomic_table.specs.Table.{Step}
+use Rattle.hcc_core.specs.declared.state.Setup.{Setup}
+use Rattle.hcc_core.specs.declared.state.Place.{Place}
+use Rattle.hcc_core.specs.declared.state.Place.TheVariants as places
+use Rattle.hcc_core.specs.declared.state.Client.{Client}
+use Rattle.hcc_core.specs.World.{charged_to, occupied_by, standing_of, limit_of}
+use Rattle.hcc_core.specs.Steps.{grant_of, place_granted, dropped, is_standing}
+use Rattle.hcc_rule.specs.declared.view.Record.{Record}
+use Rattle.hcc_rule.specs.declared.view.View.{View}
+use Rattle.hcc_rule.specs.Views.{Each}
+use Rattle.hcc_rule.specs.Told.{Held}
+
+-- what of a charge is not granted at once
+abbrev pub needed_of : Setup → (usage charge : ℕ) → ℕ
+needed_of setup usage charge = charge - grant_of setup usage charge
+
+-- the place that an enter gets, by the occupancy that it found
+abbrev pub place_at : Setup → (occupancy : ℕ) → Place
+place_at setup occupancy =
+    if nat_lt occupancy (limit_of setup) then places.Granted else places.Open
+
+-- all that a client may take back from the usage
+abbrev pub waived : Client → ℕ
+waived client = client.granted + client.needed + client.freed
+
+module _ {T : Type 0} where
+  -- Loads: the client's own part is in the answer, and of the usage each entry on record too.
+  abbrev pub after_usage : (word : ℕ) → View T → View T
+  after_usage word v = record v { seen = v.seen ++ word ∷ [] }
+
+  abbrev pub Charged : View T → ℕ → Type 0
+  Charged v word = (charged_to v.hand ≤ word) × Each (λ (r : Record). charged_to v.hand + r.entry.charge ≤ word) v.records
+
+  abbrev pub usages : Step (Unit {0}) → Held T → ℕ → Held T → Type 0
+  usages step me word after =
+      (after.1 ≡ me.1) × (after.0 ≡ after_usage word me.0) × Charged me.0 word
+
+  abbrev pub occupancies : Step (Unit {0}) → Held T → ℕ → Held T → Type 0
+  occupancies step me word after =
+      (after.1 ≡ me.1) × (after.0 ≡ me.0) × (occupied_by me.0.hand ≤ word)
+
+  abbrev pub standings : Step (Unit {0}) → Held T → ℕ → Held T → Type 0
+  standings step me word after =
+      (after.1 ≡ me.1) × (after.0 ≡ me.0) × (standing_of me.0.hand ≤ word)
+
+  -- A turn of the hand.
+  abbrev pub after_turn : View T → View T
+  after_turn v = record v { turns = v.turns + 1 }
+
+  abbrev pub turns : Step (Unit {0}) → Held T → ℕ → Held T → Type 0
+  turns step me word after = (after.1 ≡ me.1) × (after.0 ≡ after_turn me.0)
+
+  -- Add to the usage: what is granted at once, and what is needed beside.
+  abbrev pub after_charge : Setup → (charge word : ℕ) → View T → View T
+  after_charge setup charge word v = record v {
+    hand = record v.hand {
+      granted = grant_of setup word charge;
+      needed = needed_of setup word charge;
+    };
+    tight = (if nat_lt 0 (needed_of setup word charge) then v.tight ++ charge ∷ [] else v.tight);
+  }
+
+  abbrev pub charges : Setup → Step (Unit {0}) → Held T → ℕ → Held T → Type 0
+  charges setup step me word after =
+      (after.1 ≡ me.1) × (after.0 ≡ after_charge setup step.first word me.0)
+
+  -- Take from the usage.
+  abbrev pub after_settle : View T → View T
+  after_settle v = record v {
+    hand = record v.hand { granted = v.hand.granted + v.hand.needed; needed = 0; freed = 0 };
+  }
+
+  abbrev pub settles : Step (Unit {0}) → Held T → ℕ → Held T → Type 0
+  settles step me word after = (after.1 ≡ me.1) × (after.0 ≡ after_settle me.0)
+
+  abbrev pub after_waive : View T → View T
+  after_waive v = record v { hand = record v.hand { granted = 0; needed = 0; freed = 0 } }
+
+  abbrev pub waives : Step (Unit {0}) → Held T → ℕ → Held T → Type 0
+  waives step me word after = (after.1 ≡ me.1) × (after.0 ≡ after_waive me.0)
+
+  -- Add to the occupancy.
+  abbrev pub after_enter : Setup → (word : ℕ) → View T → View T
+  after_enter setup word v = record v {
+    hand = record v.hand { place = place_at setup word };
+    open_places = (if nat_lt word (limit_of setup) then v.open_places else v.open_places + 1);
+  }
+
+  abbrev pub enters : Setup → Step (Unit {0}) → Held T → ℕ → Held T → Type 0
+  enters setup step me word after =
+      (after.1 ≡ me.1) × (after.0 ≡ after_enter setup word me.0)
+
+  -- Take from the occupancy.
+  abbrev pub after_slots : View T → View T
+  after_slots v = record v {
+    hand = record v.hand { freed_slots = 0; place = place_granted v.hand.place };
+  }
+
+  abbrev pub gives_slots : Step (Unit {0}) → Held T → ℕ → Held T → Type 0
+  gives_slots step me word after = (after.1 ≡ me.1) × (after.0 ≡ after_slots me.0)
+
+  abbrev pub after_quit : View T → View T
+  after_quit v = record v { hand = record v.hand { place = places.Absent; freed_slots = 0 } }
+
+  abbrev pub quits : Step (Unit {0}) → Held T → ℕ → Held T → Type 0
+  quits step me word after = (after.1 ≡ me.1) × (after.0 ≡ after_quit me.0)
+
+  -- Add to what stands, and take from it.
+  abbrev pub after_stand : (name charge : ℕ) → View T → View T
+  after_stand name charge v = record v {
+    hand = record v.hand {
+      granted = v.hand.granted - charge;
+      standalones = v.hand.standalones ++ record { name = name; charge = charge } ∷ [];
+    };
+  }
+
+  abbrev pub stands : (name : ℕ) → Step (Unit {0}) → Held T → ℕ → Held T → Type 0
+  stands name step me word after =
+      (after.1 ≡ me.1) × (after.0 ≡ after_stand name step.first me.0)
+
+  abbrev pub after_fall : (name charge : ℕ) → View T → View T
+  after_fall name charge v = record v {
+    hand = record v.hand {
+      freed = v.hand.freed + charge;
+      standalones = dropped (is_standing name) v.hand.standalones;
+    };
+  }
+
+  abbrev pub falls : (name : ℕ) → Step (Unit {0}) → Held T → ℕ → Held T → Type 0
+  falls name step me word after =
+      (after.1 ≡ me.1) × (after.0 ≡ after_fall name step.first me.0)

@@ -1,0 +1,36 @@
+//! Turns of the hand.
+ghost use Rattle.std.specs.Prelude.{◌≡◌};
+ghost use Rattle.hcc_rule.specs.Seats.{IsSeatOf, IsSameSeat, view};
+ghost use Rattle.hcc_rule.specs.ToldLedgers.{after_turn};
+
+use crate::key::Tag;
+use crate::layout::HAND;
+use crate::table::{RuleSeat, RuleTable};
+use crate::view::View;
+use atomic_table::Play;
+use hcc_core::limits::SLOTS_PER_TURN;
+use std::alloc::Allocator;
+
+/// What a turn of the hand tells.
+pub struct Turn;
+
+impl<T: Tag> Play<(), View<T>> for Turn {
+    ghost use Rattle.hcc_rule.specs.ToldLedgers.{turns};
+
+    ghost then = { turns };
+}
+
+impl<T: Tag, A: Allocator> RuleTable<T, A> {
+    /// Moves the hand on by four slots, modulo 2^64. The view counts one more turn.
+    ///
+    /// It answers where the hand was. It takes no memory. It costs one atomic add.
+    pub fn turn(&self, seat: &mut RuleSeat<T>) -> u64
+        requires seat { IsSeatOf self.now.table.shared.table_id self.now.table.shared.key.tag seat.old }
+        ensures seat { IsSameSeat seat.old seat.new }
+        ensures view { view seat.new ≡ after_turn (view seat.old) }
+    {
+        self.table
+            .shared
+            .fetch_add::<Turn>(seat, self.ledger(HAND), SLOTS_PER_TURN)
+    }
+}

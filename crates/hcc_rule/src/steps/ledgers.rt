@@ -1,0 +1,141 @@
+//! Steps on the usage word.
+ghost use Rattle.std.specs.Prelude.{◌≡◌, ◌+◌, ◌<◌, ◌≤◌};
+ghost use Rattle.hcc_core.specs.World.{charged_to};
+ghost use Rattle.hcc_rule.specs.declared.layout.TheConstants.{LEDGER_WORDS};
+ghost use Rattle.hcc_rule.specs.declared.view.Record.{Record};
+ghost use Rattle.hcc_rule.specs.Rule.{setup_of};
+ghost use Rattle.hcc_rule.specs.Seats.{IsSeatOf, IsSameSeat, view};
+ghost use Rattle.hcc_rule.specs.ToldLedgers.{after_usage, after_charge, after_settle, after_waive, waived};
+ghost use Rattle.hcc_rule.specs.Views.{Each};
+ghost use Rattle.hcc_rule.specs.Words.{ledger_at};
+
+use super::planned::Planned;
+use crate::key::Tag;
+use crate::layout::{SLOT_HEAD, USAGE};
+use crate::table::{RuleSeat, RuleTable};
+use crate::view::View;
+use atomic_table::Play;
+use std::alloc::Allocator;
+use std::marker::{Brand, PhantomData};
+
+/// What a load of the usage tells.
+pub struct Usage;
+
+impl<T: Tag> Play<(), View<T>> for Usage {
+    ghost use Rattle.hcc_rule.specs.ToldLedgers.{usages};
+
+    ghost then = { usages };
+}
+
+/// What an add of a charge tells.
+pub struct Charge<J> {
+    said: PhantomData<J>,
+}
+
+impl<T: Tag, J: Planned> Play<(), View<T>> for Charge<J> {
+    ghost use Rattle.hcc_rule.specs.ToldLedgers.{charges};
+
+    ghost then = { charges J.setup };
+}
+
+/// What a take of the freed charge tells.
+pub struct Settle;
+
+impl<T: Tag> Play<(), View<T>> for Settle {
+    ghost use Rattle.hcc_rule.specs.ToldLedgers.{settles};
+
+    ghost then = { settles };
+}
+
+/// What a take of all of a client's amounts tells.
+pub struct Waive;
+
+impl<T: Tag> Play<(), View<T>> for Waive {
+    ghost use Rattle.hcc_rule.specs.ToldLedgers.{waives};
+
+    ghost then = { waives };
+}
+
+impl<T: Tag, A: Allocator> RuleTable<T, A> {
+    /// The place of a ledger word.
+    pub(crate) fn ledger(&self, ledger: usize) -> usize
+        requires { ledger < LEDGER_WORDS }
+        ensures value { result ≡ ledger_at self.now.geometry.slots self.now.geometry.room ledger }
+        ensures inside { result < self.now.table.shared.table_id.words }
+    {
+        self.geometry.slots as usize * (self.geometry.room as usize + SLOT_HEAD) + ledger
+    }
+
+    /// Loads the usage: all charges of entries, and what stands for clients. The view's seen list
+    /// grows by the answer. That is at least what stands for the client itself, and as much more as
+    /// the charge of any entry that it holds a reference on.
+    ///
+    /// It takes no memory. It costs one load.
+    pub fn usage(&self, seat: &mut RuleSeat<T>) -> u64
+        requires seat { IsSeatOf self.now.table.shared.table_id self.now.table.shared.key.tag seat.old }
+        ensures seat { IsSameSeat seat.old seat.new }
+        ensures view { view seat.new ≡ after_usage result (view seat.old) }
+        ensures own { charged_to (view seat.old).hand ≤ result }
+        ensures held { Each (λ (r : Record). charged_to (view seat.old).hand + r.entry.charge ≤ result) (view seat.old).records }
+    {
+        self.table.shared.load::<Usage>(seat, self.ledger(USAGE))
+    }
+
+    fn charge_as<J: Planned>(&self, seat: &mut RuleSeat<T>, amount: u32) -> u64
+        requires seat { IsSeatOf self.now.table.shared.table_id self.now.table.shared.key.tag seat.old }
+        requires spent { ((view seat.old).hand.granted ≡ 0) × ((view seat.old).hand.needed ≡ 0) }
+        requires said { J.setup ≡ setup_of self.now.table.shared.key }
+        ensures seat { IsSameSeat seat.old seat.new }
+        ensures view { view seat.new ≡ after_charge J.setup amount result (view seat.old) }
+    {
+        self.table
+            .shared
+            .fetch_add::<Charge<J>>(seat, self.ledger(USAGE), amount as u64)
+    }
+
+    /// Adds a charge to the usage, for a client that has nothing granted and nothing needed. Without
+    /// strict capacity all of it is granted at once; with it, as much as the found usage leaves of
+    /// the capacity. The rest is needed: the client has to free as much before it may use any, and
+    /// the charge joins the view's tight list.
+    ///
+    /// It answers the usage before. It takes no memory. It costs one atomic add.
+    pub fn charge(&self, seat: &mut RuleSeat<T>, amount: u32) -> u64
+        requires seat { IsSeatOf self.now.table.shared.table_id self.now.table.shared.key.tag seat.old }
+        requires spent { ((view seat.old).hand.granted ≡ 0) × ((view seat.old).hand.needed ≡ 0) }
+        ensures seat { IsSameSeat seat.old seat.new }
+        ensures view { view seat.new ≡ after_charge (setup_of self.now.table.shared.key) amount result (view seat.old) }
+    {
+        self.charge_as::<Brand>(seat, amount)
+    }
+
+    /// Takes the charge that the client freed from the usage. It must be some, and cover what the
+    /// client still needed, which is granted then.
+    ///
+    /// It takes no memory. It costs one atomic subtraction.
+    pub fn settle(&self, seat: &mut RuleSeat<T>, amount: u64)
+        requires seat { IsSeatOf self.now.table.shared.table_id self.now.table.shared.key.tag seat.old }
+        requires amount { ((view seat.old).hand.freed ≡ amount) × (0 < amount) }
+        requires covered { (view seat.old).hand.needed ≤ amount }
+        ensures seat { IsSameSeat seat.old seat.new }
+        ensures view { view seat.new ≡ after_settle (view seat.old) }
+    {
+        self.table
+            .shared
+            .fetch_sub::<Settle>(seat, self.ledger(USAGE), amount);
+    }
+
+    /// Takes all that the client was granted, needed or freed from the usage, which is `amount` and
+    /// isn't 0: the client has none of it then.
+    ///
+    /// It takes no memory. It costs one atomic subtraction.
+    pub fn waive(&self, seat: &mut RuleSeat<T>, amount: u64)
+        requires seat { IsSeatOf self.now.table.shared.table_id self.now.table.shared.key.tag seat.old }
+        requires amount { (waived (view seat.old).hand ≡ amount) × (0 < amount) }
+        ensures seat { IsSameSeat seat.old seat.new }
+        ensures view { view seat.new ≡ after_waive (view seat.old) }
+    {
+        self.table
+            .shared
+            .fetch_sub::<Waive>(seat, self.ledger(USAGE), amount);
+    }
+}

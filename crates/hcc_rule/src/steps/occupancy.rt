@@ -1,0 +1,128 @@
+//! Steps on the occupancy word.
+ghost use Rattle.std.specs.Prelude.{◌≡◌, ◌+◌, ◌<◌, ◌≤◌, true};
+ghost use Rattle.hcc_core.specs.declared.state.Place.TheVariants.{Absent};
+ghost use Rattle.hcc_core.specs.World.{occupied_by, is_placed};
+ghost use Rattle.hcc_rule.specs.Rule.{setup_of};
+ghost use Rattle.hcc_rule.specs.Seats.{IsSeatOf, IsSameSeat, view};
+ghost use Rattle.hcc_rule.specs.ToldLedgers.{after_enter, after_slots, after_quit};
+
+use super::planned::Planned;
+use crate::key::Tag;
+use crate::layout::OCCUPANCY;
+use crate::table::{RuleSeat, RuleTable};
+use crate::view::View;
+use atomic_table::Play;
+use std::alloc::Allocator;
+use std::marker::{Brand, PhantomData};
+
+/// What a load of the occupancy tells.
+pub struct Occupancy;
+
+impl<T: Tag> Play<(), View<T>> for Occupancy {
+    ghost use Rattle.hcc_rule.specs.ToldLedgers.{occupancies};
+
+    ghost then = { occupancies };
+}
+
+/// What an add of a place tells.
+pub struct Enter<J> {
+    said: PhantomData<J>,
+}
+
+impl<T: Tag, J: Planned> Play<(), View<T>> for Enter<J> {
+    ghost use Rattle.hcc_rule.specs.ToldLedgers.{enters};
+
+    ghost then = { enters J.setup };
+}
+
+/// What a take of the freed slots tells.
+pub struct GiveSlots;
+
+impl<T: Tag> Play<(), View<T>> for GiveSlots {
+    ghost use Rattle.hcc_rule.specs.ToldLedgers.{gives_slots};
+
+    ghost then = { gives_slots };
+}
+
+/// What a take of a place and of the freed slots tells.
+pub struct Quit;
+
+impl<T: Tag> Play<(), View<T>> for Quit {
+    ghost use Rattle.hcc_rule.specs.ToldLedgers.{quits};
+
+    ghost then = { quits };
+}
+
+impl<T: Tag, A: Allocator> RuleTable<T, A> {
+    /// Loads the occupancy: the entries, the places that clients asked for, and the slots that they
+    /// freed and haven't given back. The client's own place and freed slots are among them.
+    ///
+    /// It takes no memory. It costs one load.
+    pub fn occupancy(&self, seat: &mut RuleSeat<T>) -> u64
+        requires seat { IsSeatOf self.now.table.shared.table_id self.now.table.shared.key.tag seat.old }
+        ensures seat { IsSameSeat seat.old seat.new }
+        ensures view { view seat.new ≡ view seat.old }
+        ensures own { occupied_by (view seat.old).hand ≤ result }
+    {
+        self.table
+            .shared
+            .load::<Occupancy>(seat, self.ledger(OCCUPANCY))
+    }
+
+    fn enter_as<J: Planned>(&self, seat: &mut RuleSeat<T>) -> u64
+        requires seat { IsSeatOf self.now.table.shared.table_id self.now.table.shared.key.tag seat.old }
+        requires absent { (view seat.old).hand.place ≡ Absent }
+        requires said { J.setup ≡ setup_of self.now.table.shared.key }
+        ensures seat { IsSameSeat seat.old seat.new }
+        ensures view { view seat.new ≡ after_enter J.setup result (view seat.old) }
+    {
+        self.table
+            .shared
+            .fetch_add::<Enter<J>>(seat, self.ledger(OCCUPANCY), 1)
+    }
+
+    /// Asks for a place in the table, for a client that has none. It is granted where the found
+    /// occupancy is below 84 of a hundred slots, rounded down; else it is open, and the view counts
+    /// one more open place.
+    ///
+    /// It answers the occupancy before. It takes no memory. It costs one atomic add.
+    pub fn enter(&self, seat: &mut RuleSeat<T>) -> u64
+        requires seat { IsSeatOf self.now.table.shared.table_id self.now.table.shared.key.tag seat.old }
+        requires absent { (view seat.old).hand.place ≡ Absent }
+        ensures seat { IsSameSeat seat.old seat.new }
+        ensures view { view seat.new ≡ after_enter (setup_of self.now.table.shared.key) result (view seat.old) }
+    {
+        self.enter_as::<Brand>(seat)
+    }
+
+    /// Gives back the slots that the client freed, `count` of them, at least one. An open place of
+    /// the client is granted then.
+    ///
+    /// It takes no memory. It costs one atomic subtraction.
+    pub fn slots(&self, seat: &mut RuleSeat<T>, count: u64)
+        requires seat { IsSeatOf self.now.table.shared.table_id self.now.table.shared.key.tag seat.old }
+        requires count { ((view seat.old).hand.freed_slots ≡ count) × (0 < count) }
+        ensures seat { IsSameSeat seat.old seat.new }
+        ensures view { view seat.new ≡ after_slots (view seat.old) }
+    {
+        self.table
+            .shared
+            .fetch_sub::<GiveSlots>(seat, self.ledger(OCCUPANCY), count);
+    }
+
+    /// Gives back the place of the client, granted or open, with the slots that it freed: `count` is
+    /// one more than these.
+    ///
+    /// It takes no memory. It costs one atomic subtraction.
+    pub fn quit(&self, seat: &mut RuleSeat<T>, count: u64)
+        requires seat { IsSeatOf self.now.table.shared.table_id self.now.table.shared.key.tag seat.old }
+        requires placed { is_placed (view seat.old).hand.place ≡ true }
+        requires count { 1 + (view seat.old).hand.freed_slots ≡ count }
+        ensures seat { IsSameSeat seat.old seat.new }
+        ensures view { view seat.new ≡ after_quit (view seat.old) }
+    {
+        self.table
+            .shared
+            .fetch_sub::<Quit>(seat, self.ledger(OCCUPANCY), count);
+    }
+}

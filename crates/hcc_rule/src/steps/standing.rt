@@ -1,0 +1,123 @@
+//! Steps on the word of standalone charges.
+ghost use Rattle.std.specs.Prelude.{◌≡◌, ◌+◌, ◌<◌, ◌≤◌, ◌^◌, false, Some, find, length};
+ghost use Rattle.std.specs.List.{list_any};
+ghost use Rattle.hcc_core.specs.declared.state.Place.TheVariants.{Absent};
+ghost use Rattle.hcc_core.specs.World.{standing_of};
+ghost use Rattle.hcc_core.specs.Steps.{is_standing};
+ghost use Rattle.hcc_rule.specs.declared.layout.TheConstants.{MOST_HANDLES};
+ghost use Rattle.hcc_rule.specs.Seats.{IsSeatOf, IsSameSeat, view};
+ghost use Rattle.hcc_rule.specs.ToldLedgers.{after_stand, after_fall};
+
+use super::said::Said;
+use crate::key::Tag;
+use crate::layout::STANDING;
+use crate::table::{RuleSeat, RuleTable};
+use crate::view::View;
+use atomic_table::Play;
+use std::alloc::Allocator;
+use std::marker::{Brand, PhantomData};
+
+/// What a load of the standalone charges tells.
+pub struct Standing;
+
+impl<T: Tag> Play<(), View<T>> for Standing {
+    ghost use Rattle.hcc_rule.specs.ToldLedgers.{standings};
+
+    ghost then = { standings };
+}
+
+/// What an add of a standalone charge tells.
+pub struct Stand<J> {
+    said: PhantomData<J>,
+}
+
+impl<T: Tag, J: Said> Play<(), View<T>> for Stand<J> {
+    ghost use Rattle.hcc_rule.specs.ToldLedgers.{stands};
+
+    ghost then = { stands J.name };
+}
+
+/// What a take of a standalone charge tells.
+pub struct Fall<J> {
+    said: PhantomData<J>,
+}
+
+impl<T: Tag, J: Said> Play<(), View<T>> for Fall<J> {
+    ghost use Rattle.hcc_rule.specs.ToldLedgers.{falls};
+
+    ghost then = { falls J.name };
+}
+
+impl<T: Tag, A: Allocator> RuleTable<T, A> {
+    /// Loads the charges of all standalone entries, the client's own among them.
+    ///
+    /// It takes no memory. It costs one load.
+    pub fn standing(&self, seat: &mut RuleSeat<T>) -> u64
+        requires seat { IsSeatOf self.now.table.shared.table_id self.now.table.shared.key.tag seat.old }
+        ensures seat { IsSameSeat seat.old seat.new }
+        ensures view { view seat.new ≡ view seat.old }
+        ensures own { standing_of (view seat.old).hand ≤ result }
+    {
+        self.table
+            .shared
+            .load::<Standing>(seat, self.ledger(STANDING))
+    }
+
+    fn stand_as<J: Said>(&self, seat: &mut RuleSeat<T>, name: u64, charge: u32)
+        requires seat { IsSeatOf self.now.table.shared.table_id self.now.table.shared.key.tag seat.old }
+        requires absent { (view seat.old).hand.place ≡ Absent }
+        requires granted { charge ≤ (view seat.old).hand.granted }
+        requires fresh { list_any (is_standing name) (view seat.old).hand.standalones ≡ false }
+        requires few { length (view seat.old).hand.standalones < MOST_HANDLES }
+        requires said { J.name ≡ name }
+        ensures seat { IsSameSeat seat.old seat.new }
+        ensures view { view seat.new ≡ after_stand name charge (view seat.old) }
+    {
+        self.table
+            .shared
+            .fetch_add::<Stand<J>>(seat, self.ledger(STANDING), charge as u64);
+    }
+
+    /// Makes a standalone entry of this name, with a charge that the client was granted. The client
+    /// has no place, fewer than 16,384 standalone entries, and none of this name.
+    ///
+    /// It takes no memory. It costs one atomic add.
+    pub fn stand(&self, seat: &mut RuleSeat<T>, name: u64, charge: u32)
+        requires seat { IsSeatOf self.now.table.shared.table_id self.now.table.shared.key.tag seat.old }
+        requires absent { (view seat.old).hand.place ≡ Absent }
+        requires granted { charge ≤ (view seat.old).hand.granted }
+        requires fresh { list_any (is_standing name) (view seat.old).hand.standalones ≡ false }
+        requires few { length (view seat.old).hand.standalones < MOST_HANDLES }
+        ensures seat { IsSameSeat seat.old seat.new }
+        ensures view { view seat.new ≡ after_stand name charge (view seat.old) }
+    {
+        self.stand_as::<Brand>(seat, name, charge);
+    }
+
+    fn fall_as<J: Said>(&self, seat: &mut RuleSeat<T>, name: u64, charge: u64)
+        requires seat { IsSeatOf self.now.table.shared.table_id self.now.table.shared.key.tag seat.old }
+        requires stood { find (is_standing name) (view seat.old).hand.standalones ≡ Some (record { name = name; charge = charge }) }
+        requires room { (view seat.old).hand.freed + charge < 2 ^ 49 }
+        requires said { J.name ≡ name }
+        ensures seat { IsSameSeat seat.old seat.new }
+        ensures view { view seat.new ≡ after_fall name charge (view seat.old) }
+    {
+        self.table
+            .shared
+            .fetch_sub::<Fall<J>>(seat, self.ledger(STANDING), charge);
+    }
+
+    /// Lets go of the standalone entry of this name, whose charge this is. The charge is freed then;
+    /// what the client has freed stays below 2^49.
+    ///
+    /// It takes no memory. It costs one atomic subtraction.
+    pub fn fall(&self, seat: &mut RuleSeat<T>, name: u64, charge: u64)
+        requires seat { IsSeatOf self.now.table.shared.table_id self.now.table.shared.key.tag seat.old }
+        requires stood { find (is_standing name) (view seat.old).hand.standalones ≡ Some (record { name = name; charge = charge }) }
+        requires room { (view seat.old).hand.freed + charge < 2 ^ 49 }
+        ensures seat { IsSameSeat seat.old seat.new }
+        ensures view { view seat.new ≡ after_fall name charge (view seat.old) }
+    {
+        self.fall_as::<Brand>(seat, name, charge);
+    }
+}
