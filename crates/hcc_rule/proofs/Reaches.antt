@@ -22,7 +22,7 @@ use Rattle.hcc_rule.specs.declared.view.Made.{Made}
 use Rattle.hcc_rule.specs.declared.view.Record.{Record}
 use Rattle.hcc_rule.specs.declared.view.View.{View}
 use Rattle.hcc_rule.specs.ToldReferences.{may_reach, IsMet}
-use Rattle.hcc_rule.specs.Views.{is_on, load_of, is_seated, held, named_by}
+use Rattle.hcc_rule.specs.Views.{Each, is_on, load_of, is_seated, held, named_by}
 use Rattle.hcc_rule.specs.Words.{code_of, entry_of, key_of}
 use Rattle.hcc_rule.specs.Rule.{entry_in, IsRecorded, IsRight, Holds}
 use Rattle.hcc_rule.proofs.Lists.{each_map}
@@ -61,7 +61,8 @@ held_few i u = total-le (λ q. when (is_on i q) q.weight) (λ (q : Record). q.we
 entry_right : {T : Type 0} (fits : T → Key → List ℕ → Type 0) (tag : T) (room : ℕ) (made : Made) (stamp : Stamp) (e : Entry)
     → e ≡ entry_of stamp made → IsRight fits tag room made
     → fits tag (key_of e) e.value × (length e.value ≤ 8 * room) × (e.charge < 2 ^ 32)
-entry_right fits tag room made stamp e same right = rw same (right.fitting, right.short, right.small)
+    × Each (λ b. b < 256) e.value
+entry_right fits tag room made stamp e same right = rw same (right.fitting, right.short, right.small, right.bytes)
 
 module _ {T : Type 0} (fits : T → Key → List ℕ → Type 0) (p : Plan T) (s : Shard fits p) (r : Holds fits p s) (id i : ℕ) (v : View T) (at : slice_get s.views id ≡ Some v) (seated : is_seated v ≡ true) where
   few_named : (j : ℕ) (u : View T) → slice_get s.views j ≡ Some u
@@ -116,6 +117,7 @@ module _ {T : Type 0} (fits : T → Key → List ℕ → Type 0) (p : Plan T) (s
     right = rightly v.tag (r.seats.each id v at).tagged;
     short = right.1;
     small = right.2;
+    bytes = right.3;
     alive = λ visible. unseen (shown_is visible) (is_in k.entry.stamp v.hand.dead) refl;
     same = each_map (IsRecorded r.world.slots) (λ q. q.slot ≡ i → q.entry ≡ k.entry)
         (λ q recorded on.
@@ -131,7 +133,7 @@ module _ {T : Type 0} (fits : T → Key → List ℕ → Type 0) (p : Plan T) (s
       here : entry_in (slice_get r.world.slots i) ≡ Some k.entry
       here = ap entry_in at_slot
 
-      right : fits p.tag (key_of k.entry) k.entry.value × (length k.entry.value ≤ 8 * p.geometry.room) × (k.entry.charge < 2 ^ 32)
+      right : fits p.tag (key_of k.entry) k.entry.value × (length k.entry.value ≤ 8 * p.geometry.room) × (k.entry.charge < 2 ^ 32) × Each (λ b. b < 256) k.entry.value
       right =
           let stored = r.stored i k.entry here in
           entry_right fits p.tag p.geometry.room stored.made k.entry.stamp k.entry stored.same

@@ -67,6 +67,7 @@ module _ {T : Type 0} where
     pub right : IfSome v.tag (λ tag. fits tag (key_of entry) entry.value)
     pub short : length entry.value ≤ 8 * room
     pub small : entry.charge < 2 ^ 32
+    pub bytes : Each (λ b. b < 256) entry.value
     pub alive : is_visible word ≡ true → is_in entry.stamp v.hand.dead ≡ false
     pub same : Each (λ r. r.slot ≡ slot → r.entry ≡ entry) v.records
 

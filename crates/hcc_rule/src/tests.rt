@@ -1,8 +1,7 @@
 //! What no clause says: that a shard is made where there is memory, and how a key's bytes are read.
 use crate::{Geometry, Key, RuleTable, Tag};
-use std::alloc::Global;
+use std::alloc::{AllocError, Global};
 use std::process::Abort;
-use std::test::Fail;
 
 /// The tag that every value fits.
 #[derive(Drop)]
@@ -13,7 +12,7 @@ impl Tag for AnyBytes {
 }
 
 #[test]
-fn a_new_shard_has_a_seat_for_each_client(rt: HostRuntime) -> Result<(), Fail> {
+fn a_new_shard_has_a_seat_for_each_client(rt: HostRuntime) -> Result<(), AllocError> {
     let small = Geometry {
         slots: 8,
         room: 2,
@@ -32,7 +31,7 @@ fn a_new_shard_has_a_seat_for_each_client(rt: HostRuntime) -> Result<(), Fail> {
 }
 
 #[test]
-fn a_key_is_read_with_its_highest_bytes_first(rt: HostRuntime) -> Result<(), Fail> {
+fn a_key_is_read_with_its_highest_bytes_first(rt: HostRuntime) -> Result<(), AllocError> {
     let bytes = [0, 1, 2, 3, 4, 5, 6, 7, 8, 9, 10, 11, 12, 13, 14, 15];
     let key = Key {
         w0: 0x0001_0203_0405_0607,
