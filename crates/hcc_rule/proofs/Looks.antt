@@ -1,5 +1,5 @@
 -- A load of a meta word: the client looks at the slot.
-use Rattle.std.proofs.Common.{◌≡◌, ℕ, ◌^◌, ◌<◌, true, List, Some, Ok, length, slice_get, slice_index, refl, ap, ◌∙◌, arith}
+use Rattle.std.proofs.Common.{◌≡◌, ℕ, ◌^◌, ◌<◌, ◌≤◌, true, List, Some, Ok, length, slice_get, slice_index, refl, ap, ◌∙◌, arith}
 use Rattle.std.proofs.lemmas.Bool.{lt-ltb}
 use mathlib.Core.Option.{none}
 use Rattle.atomic_table.specs.Table.{step, Allows}
@@ -18,12 +18,18 @@ use Rattle.hcc_rule.specs.declared.key.Key.{Key}
 use Rattle.hcc_rule.specs.declared.layout.TheConstants.{META}
 use Rattle.hcc_rule.specs.declared.rule.Plan.{Plan}
 use Rattle.hcc_rule.specs.declared.view.View.{View}
-use Rattle.hcc_rule.specs.Told.{Held, after_look, looks}
-use Rattle.hcc_rule.specs.Views.{is_seated}
+use Rattle.hcc_rule.specs.Told.{Held, Backs, after_look, looks}
+use Rattle.hcc_word.proofs.CodeLaws.{refs_of-shareable}
+use Rattle.hcc_core.specs.declared.state.Reference.{Reference}
+use Rattle.hcc_core.specs.declared.state.Slot.TheVariants as slots
+use Rattle.hcc_core.specs.Sums.{total}
+use Rattle.hcc_core.specs.World.{weight, references_of}
+use Rattle.hcc_core.proofs.SumLemmas.{total-member}
+use Rattle.hcc_rule.specs.Views.{is_seated, held, weight_on}
 use Rattle.hcc_rule.specs.Words.{field_at, code_of}
 use Rattle.hcc_rule.specs.Rule.{Holds}
 use Rattle.hcc_rule.proofs.Lists.{within, there, read_at}
-use Rattle.hcc_rule.proofs.Codes.{tells_entry}
+use Rattle.hcc_rule.proofs.Codes.{tells_entry, is_near}
 use Rattle.hcc_rule.proofs.Clients.{dead_told}
 use Rattle.hcc_rule.proofs.Turns.{Shard, size_is}
 use Rattle.hcc_rule.proofs.Touches.{by_hand, touched, Goes, goes, client_is, live_is}
@@ -91,6 +97,34 @@ module _ {T : Type 0} (fits : T → Key → List ℕ → Type 0) (p : Plan T) wh
           let dead = dead_told p.tag r.world r.books s.views id i me.0 t l r.references r.seats (r.holding id me.0 at).recorded at seated at_slot in
           rw (word_is, dead, tells_entry r.world l i t at_slot) refl
 
+  -- a client's records on a slot are among its references
+  few_on : (s : Shard fits p) (r : Holds fits p s) (id i : ℕ) (v : View T) (t : Slot)
+      → slice_get r.world.slots i ≡ Some t → slice_get s.views id ≡ Some v
+      → weight_on i v.records ≤ weight (references_of t)
+  few_on s r id i v t at_slot at =
+      let all = r.references i t at_slot (λ (k : Reference). k.weight) in
+      let own : weight_on i v.records ≤ total (held i (λ (k : Reference). k.weight)) s.views =
+          total-member (held i (λ (k : Reference). k.weight)) s.views id v at in
+      omega arith
+
+  -- so its word shows them
+  backed : (s : Shard fits p) (r : Holds fits p s) (id i word : ℕ) (v : View T) (t : Slot)
+      → slice_get r.world.slots i ≡ Some t → slice_get s.views id ≡ Some v → word ≡ code_of t
+      → Backs i word v
+  backed s r id i word v (slots.Empty strays) at_slot at word_is =
+      let few = few_on s r id i v (slots.Empty strays) at_slot at in
+      record { entry = λ some. absurd (omega arith); enough = λ some. absurd (omega arith) }
+  backed s r id i word v (slots.Building client strays) at_slot at word_is =
+      let few = few_on s r id i v (slots.Building client strays) at_slot at in
+      record { entry = λ some. absurd (omega arith); enough = λ some. absurd (omega arith) }
+  backed s r id i word v (slots.Shareable k) at_slot at word_is =
+      let few = few_on s r id i v (slots.Shareable k) at_slot at in
+      let l = is_lawful r.world r.lawful in
+      record {
+        entry = λ some. rw word_is (tells_entry r.world l i (slots.Shareable k) at_slot);
+        enough = λ some. rw (word_is, refs_of-shareable k.hit k.shown (is_near r.world l i k at_slot)) few;
+      }
+
   -- the slot at an index
   pub slot_there : (s : Shard fits p) (r : Holds fits p s) (i : ℕ) → i < p.geometry.slots
       → (t : Slot) × (slice_get r.world.slots i ≡ Some t)
@@ -102,4 +136,5 @@ module _ {T : Type 0} (fits : T → Key → List ℕ → Type 0) (p : Plan T) wh
       → Allows (Holds fits p) count id me a (λ n. n) (looks i (step count a 0 0 none) me)
   look_step count id i a me near seated place s r homes at low =
       let slot = slot_there s r i near in
-      looks_on s r id i a me slot.0 (looks i (step count a 0 0 none) me) slot.1 seated place (read_at s.views id me.0 at) (refl, refl)
+      looks_on s r id i a me slot.0 (looks i (step count a 0 0 none) me) slot.1 seated place (read_at s.views id me.0 at)
+      (refl, refl, backed s r id i (slice_index s.words a) me.0 slot.0 slot.1 (read_at s.views id me.0 at) (ap (slice_index s.words) place ∙ r.coded.meta i slot.0 slot.1))

@@ -1,11 +1,11 @@
 -- What each step tells its seat: the view after it, by the word that it found.
-use Rattle.std.specs.Prelude.{◌≡◌, ℕ, Bool, ◌&&◌, not, Option, Some, None, if◌then◌else◌}
+use Rattle.std.specs.Prelude.{◌≡◌, ℕ, true, ◌<◌, ◌≤◌, Bool, ◌&&◌, not, Option, Some, None, if◌then◌else◌}
 use Rattle.atomic_table.specs.Table.{Me, Step}
-use Rattle.hcc_word.specs.Word.{is_shareable, is_visible}
+use Rattle.hcc_word.specs.Word.{is_shareable, is_visible, refs_of}
 use Rattle.hcc_core.specs.declared.state.Stamp.{Stamp}
 use Rattle.hcc_core.specs.Steps.{joined}
 use Rattle.hcc_rule.specs.declared.view.View.{View}
-use Rattle.hcc_rule.specs.Views.{stamp_on}
+use Rattle.hcc_rule.specs.Views.{stamp_on, weight_on}
 
 abbrev pub Held : Type 0 → Type 0
 Held T = Me (Unit {0}) (View T)
@@ -33,6 +33,11 @@ module _ {T : Type 0} where
     };
   }
 
+  -- what a client holds on a slot shows in its word: it is an entry's, with that many references
+  pub record Backs (slot word : ℕ) (v : View T) : Type 0 where
+    pub entry : 0 < weight_on slot v.records → is_shareable word ≡ true
+    pub enough : 0 < weight_on slot v.records → weight_on slot v.records ≤ refs_of word
+
   abbrev pub looks : ℕ → Step (Unit {0}) → Held T → ℕ → Held T → Type 0
   looks slot step me word after =
-      (after.1 ≡ me.1) × (after.0 ≡ after_look slot word me.0)
+      (after.1 ≡ me.1) × (after.0 ≡ after_look slot word me.0) × Backs slot word me.0

@@ -23,6 +23,10 @@ is_called name r = r.name == name
 abbrev pub load_of : List Record → ℕ
 load_of = total (λ (r : Record). r.weight)
 
+-- what the records of a slot weigh
+abbrev pub weight_on : ℕ → List Record → ℕ
+weight_on slot = total (λ r. when (is_on slot r) r.weight)
+
 -- the record of this name
 abbrev pub record_in : ℕ → List Record → Option Record
 record_in name records = find (is_called name) records

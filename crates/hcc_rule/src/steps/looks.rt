@@ -1,7 +1,7 @@
 //! Loads of meta words.
 ghost use Rattle.std.specs.Prelude.{◌≡◌, ◌<◌};
 ghost use Rattle.hcc_rule.specs.Seats.{IsSeatOf, IsSameSeat, view};
-ghost use Rattle.hcc_rule.specs.Told.{after_look};
+ghost use Rattle.hcc_rule.specs.Told.{after_look, Backs};
 
 use super::said::Said;
 use crate::key::Tag;
@@ -30,6 +30,7 @@ impl<T: Tag, A: Allocator> RuleTable<T, A> {
         requires said { J.slot ≡ slot }
         ensures seat { IsSameSeat seat.old seat.new }
         ensures view { view seat.new ≡ after_look slot result (view seat.old) }
+        ensures backs { Backs slot result (view seat.old) }
     {
         self.table
             .shared
@@ -38,7 +39,8 @@ impl<T: Tag, A: Allocator> RuleTable<T, A> {
 
     /// Loads a slot's meta word. The client looks at the slot, and may acquire there next, where the
     /// word is that of an entry; where the entry is hidden and the client holds a reference on it,
-    /// the client has seen it dead.
+    /// the client has seen it dead. Where the client holds references on the slot, the word is that of
+    /// an entry with at least these.
     ///
     /// It takes no memory. It costs one load.
     pub fn look(&self, seat: &mut RuleSeat<T>, slot: u32) -> u64
@@ -46,6 +48,7 @@ impl<T: Tag, A: Allocator> RuleTable<T, A> {
         requires slot { slot < self.now.geometry.slots }
         ensures seat { IsSameSeat seat.old seat.new }
         ensures view { view seat.new ≡ after_look slot result (view seat.old) }
+        ensures backs { Backs slot result (view seat.old) }
     {
         self.look_as::<Brand>(seat, slot)
     }
