@@ -50,7 +50,8 @@ references_view all views id v new refs at same s slot there h =
 pub holding_view : {T : Type 0} (all : List Slot) (views : List (View T)) (id : ℕ) (v new : View T)
     → Holding all views → slice_get views id ≡ Some v → SameView v new
     → Holding all (slice_set views id new)
-holding_view all views id v new holding at same = holding_set all all views id new mine (λ j u other there. (holding j u there).recorded) holding
+holding_view all views id v new holding at same =
+    holding_set all all views id new mine (λ j u other there. (holding j u there).recorded) holding
   where
     old : IsHolding all v
     old = holding id v at
@@ -111,7 +112,8 @@ sum_moved words a b y rest c g clients old new low at is moves =
       | inl here ↦
           let found : slice_index words a ≡ rest + total g clients = ap (slice_index words) here.0 ∙ is in
           let paid = here.1 in
-          let now : slice_index (slice_set words a y) b ≡ y = ap (λ k. slice_index (slice_set words k y) b) here.0 ∙ word_here words b y low in
+          let now : slice_index (slice_set words a y) b ≡ y =
+          ap (λ k. slice_index (slice_set words k y) b) here.0 ∙ word_here words b y low in
           let sum : y ≡ rest + total g (slice_set clients c new) = omega arith in
           now ∙ sum
       | inr else ↦
