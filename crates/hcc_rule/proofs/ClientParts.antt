@@ -1,18 +1,18 @@
 -- What keeps the parts of the rule at a change of one client and its view alone.
-use Rattle.std.proofs.Common.{◌≡◌, ℕ, ◌+◌, ◌<◌, ◌≢◌, ◌⊎◌, inl, inr, true, List, Some, length, slice_get, slice_index, slice_set, sym, refl, ap, ◌∙◌, arith}
+use Rattle.std.proofs.Common.{◌≡◌, ℕ, ◌+◌, ◌<◌, ◌≢◌, ◌⊎◌, inl, inr, Bool, true, false, cond, List, [], ◌∷◌, Some, length, slice_get, slice_index, slice_set, sym, refl, ap, ◌∙◌, arith}
 use Rattle.std.proofs.lemmas.List.{length-set}
 use Rattle.hcc_core.specs.declared.state.Client.{Client}
 use Rattle.hcc_core.specs.declared.state.Slot.{Slot}
 use Rattle.hcc_core.specs.Sums.{total}
+use Rattle.hcc_core.specs.Steps.{dropped}
 use Rattle.hcc_core.proofs.SumLemmas.{total-set}
 use Rattle.hcc_rule.specs.declared.key.Key.{Key}
 use Rattle.hcc_rule.specs.declared.view.View.{View}
-use Rattle.hcc_rule.specs.Views.{held}
+use Rattle.hcc_rule.specs.Views.{is_seated, held, Each}
 use Rattle.hcc_rule.specs.Rule.{Books, book_of, References, IsHolding, Holding, Seats, Stamps}
 use Rattle.hcc_rule.proofs.Lists.{word_here, word_else, each_set}
 use Rattle.hcc_core.proofs.ListLemmas.{set_same}
 use Rattle.hcc_rule.proofs.ViewParts.{holding_set, seats_set}
-use Rattle.hcc_rule.specs.Views.{is_seated}
 
 -- what a view keeps where neither entries nor references move
 pub record SameView {T : Type 0} (v new : View T) : Type 0 where
@@ -50,7 +50,8 @@ references_view all views id v new refs at same s slot there h =
 pub holding_view : {T : Type 0} (all : List Slot) (views : List (View T)) (id : ℕ) (v new : View T)
     → Holding all views → slice_get views id ≡ Some v → SameView v new
     → Holding all (slice_set views id new)
-holding_view all views id v new holding at same = holding_set all all views id new mine (λ j u other there. (holding j u there).recorded) holding
+holding_view all views id v new holding at same =
+    holding_set all all views id new mine (λ j u other there. (holding j u there).recorded) holding
   where
     old : IsHolding all v
     old = holding id v at
@@ -92,6 +93,16 @@ stamps_view {T} fits tag room all clients books views id v new stamps at at_clie
       omega arith;
 }
 
+-- what holds of each member holds of those that are left
+pub each_dropped : {A : Type 0} (P : A → Type 0) (test : A → Bool) (xs : List A) → Each P xs
+    → Each P (dropped test xs)
+each_dropped P test [] h = tt
+each_dropped P test (x ∷ xs) h = by (test x) (each_dropped P test xs h.1)
+  where
+    by : (b : Bool) → Each P (dropped test xs) → Each P (cond b xs (x ∷ dropped test xs))
+    by true rest = h.1
+    by false rest = (h.0, rest)
+
 -- Sums over clients that stand in a word.
 
 -- the word at a moves from x to y as the client's part of the sum at b does; or it is another word,
@@ -111,7 +122,8 @@ sum_moved words a b y rest c g clients old new low at is moves =
       | inl here ↦
           let found : slice_index words a ≡ rest + total g clients = ap (slice_index words) here.0 ∙ is in
           let paid = here.1 in
-          let now : slice_index (slice_set words a y) b ≡ y = ap (λ k. slice_index (slice_set words k y) b) here.0 ∙ word_here words b y low in
+          let now : slice_index (slice_set words a y) b ≡ y =
+          ap (λ k. slice_index (slice_set words k y) b) here.0 ∙ word_here words b y low in
           let sum : y ≡ rest + total g (slice_set clients c new) = omega arith in
           now ∙ sum
       | inr else ↦

@@ -42,8 +42,10 @@ pub record Pays (size room a x y h k : ℕ) (old new : Client) : Type 0 where
   pub usage : Moves a (ledger_at size room USAGE) x y charged_to old new
   pub occupancy : Moves a (ledger_at size room OCCUPANCY) x y occupied_by old new
   pub standing : Moves a (ledger_at size room STANDING) x y standing_of old new
-  pub passed : (s : ℕ) → s < size → Moves a (field_at room s DISPLACEMENT) x y (λ (c : Client). times s c.trail) old new
-  pub hand : ((a ≡ ledger_at size room HAND) × (y ≡ k)) ⊎ ((ledger_at size room HAND ≢ a) × (k ≡ h))
+  pub passed : (s : ℕ) → s < size
+      → Moves a (field_at room s DISPLACEMENT) x y (λ (c : Client). times s c.trail) old new
+  pub hand : ((a ≡ ledger_at size room HAND) × (y ≡ k))
+      ⊎ ((ledger_at size room HAND ≢ a) × (k ≡ h))
 
 -- The ledger words and the displacement words are such places.
 ledger_aside : (size room ledger : ℕ) → IsAside size room (ledger_at size room ledger)
@@ -54,7 +56,9 @@ ledger_aside size room ledger = record {
 
 displacement_aside : (size room i : ℕ) → IsAside size room (field_at room i DISPLACEMENT)
 displacement_aside size room i = record {
-  meta = λ s near e. let bad = (fields_apart room s i META DISPLACEMENT (omega arith) (omega arith) e).1 in absurd (omega arith);
+  meta = λ s near e.
+      let bad = (fields_apart room s i META DISPLACEMENT (omega arith) (omega arith) e).1 in
+      absurd (omega arith);
   written = λ s near. displacement_away room i s;
 }
 
@@ -147,14 +151,21 @@ ledgers_paid : (size room a y h k c : ℕ) (w : State) (words : List ℕ) (old n
     → Pays size room a (slice_index words a) y h k old new → IsModest new
     → Ledgers size room (record (with_client w c new) { hand = k }) (slice_set words a y)
 ledgers_paid size room a y h k c w words old new wide ledgers at pays modest = record {
-  usage = sum_moved words a _ y (total charge_of w.slots) c charged_to w.clients old new (rw wide (ledger_inside size room USAGE (omega arith))) at ledgers.usage pays.usage;
-  occupancy = sum_moved words a _ y (total taken_by_slot w.slots) c occupied_by w.clients old new (rw wide (ledger_inside size room OCCUPANCY (omega arith))) at ledgers.occupancy pays.occupancy;
+  usage =
+      sum_moved words a _ y (total charge_of w.slots) c charged_to w.clients old new
+      (rw wide (ledger_inside size room USAGE (omega arith))) at ledgers.usage pays.usage;
+  occupancy =
+      sum_moved words a _ y (total taken_by_slot w.slots) c occupied_by w.clients old new
+      (rw wide (ledger_inside size room OCCUPANCY (omega arith))) at ledgers.occupancy pays.occupancy;
   standing =
       let found = ledgers.standing in
       let was : slice_index words (ledger_at size room STANDING) ≡ 0 + total standing_of w.clients = omega arith in
-      let now = sum_moved words a _ y 0 c standing_of w.clients old new (rw wide (ledger_inside size room STANDING (omega arith))) at was pays.standing in
+      let now =
+      sum_moved words a _ y 0 c standing_of w.clients old new
+      (rw wide (ledger_inside size room STANDING (omega arith))) at was pays.standing in
       omega arith;
-  modest = each_set (λ _ client. IsModest client) w.clients c new modest (λ j client other there. ledgers.modest j client there);
+  modest = each_set (λ _ client. IsModest client) w.clients c new modest
+      (λ j client other there. ledgers.modest j client there);
 }
 
 trails_paid : (size room a y h k c : ℕ) (all : List Slot) (clients : List Client) (words : List ℕ) (old new : Client)
@@ -176,7 +187,8 @@ hand_paid : (size room a y h k : ℕ) (words : List ℕ) (old new : Client)
 hand_paid size room a y h k words old new wide is pays = elim pays.hand [
   | inl here ↦
       let low : ledger_at size room HAND < length words = rw wide (ledger_inside size room HAND (omega arith)) in
-      ap (λ j. slice_index (slice_set words j y) (ledger_at size room HAND)) here.0 ∙ (word_here words (ledger_at size room HAND) y low ∙ here.1)
+      ap (λ j. slice_index (slice_set words j y) (ledger_at size room HAND)) here.0
+      ∙ (word_here words (ledger_at size room HAND) y low ∙ here.1)
   | inr else ↦ word_else words a (ledger_at size room HAND) y else.0 ∙ (is ∙ sym else.1)
 ]
 
@@ -200,14 +212,24 @@ module _ {T : Type 0} (fits : T → Key → List ℕ → Type 0) (p : Plan T) wh
     setup = r.setup;
     lawful = follows_lawful r.world event (Ok reply) world r.lawful m.allowed;
     coded = coded_else room all s.words a y r.coded (λ j low. aside.meta j (near j low));
-    stored = stored_words room all s.words r.books a y short (λ j entry there. aside.written j (near j (entry_near all j _ refl entry there))) r.stored;
-    drafted = drafted_set room s.words s.views id a y new draft (λ j u other at i owns. aside.written i (owned_near j u at i owns)) r.drafted;
+    stored =
+        stored_words room all s.words r.books a y short
+        (λ j entry there. aside.written j (near j (entry_near all j _ refl entry there))) r.stored;
+    drafted =
+        drafted_set room s.words s.views id a y new draft
+        (λ j u other at i owns. aside.written i (owned_near j u at i owns)) r.drafted;
     references = references_view all s.views id v new r.references m.at_view m.same;
     holding = holding_view all s.views id v new r.holding m.at_view m.same;
     seats = seats_view p.tag clients r.books s.views id v new r.seats m.at_view m.seated m.same m.work;
-    stamps = stamps_view fits p.tag room all clients r.books s.views id v new r.stamps m.at_view at_client m.same m.work;
-    ledgers = ledgers_paid size room a y r.world.hand k v.client r.world s.words v.hand new.hand wide r.ledgers at_client m.pays m.modest;
-    trails = trails_paid size room a y r.world.hand k v.client all clients s.words v.hand new.hand wide r.trails at_client m.pays;
+    stamps =
+        stamps_view fits p.tag room all clients r.books s.views id v new r.stamps m.at_view at_client
+        m.same m.work;
+    ledgers =
+        ledgers_paid size room a y r.world.hand k v.client r.world s.words v.hand new.hand wide
+        r.ledgers at_client m.pays m.modest;
+    trails =
+        trails_paid size room a y r.world.hand k v.client all clients s.words v.hand new.hand wide
+        r.trails at_client m.pays;
     turned = hand_paid size room a y r.world.hand k s.words v.hand new.hand wide r.turned m.pays;
   }
     where
@@ -265,7 +287,8 @@ module _ {T : Type 0} (fits : T → Key → List ℕ → Type 0) (p : Plan T) wh
             short = rw m.same.written old.short;
             lies = λ j owns.
                 let owns_v : owned_slot v.hand.owned ≡ Some j = ap owned_slot (sym owned) ∙ owns in
-                rw m.same.written (lies_away p.geometry.room j a y s.words v.written old.short (aside.written j (owned_near id v m.at_view j owns_v)) (old.lies j owns_v));
+                let away = aside.written j (owned_near id v m.at_view j owns_v) in
+                rw m.same.written (lies_away p.geometry.room j a y s.words v.written old.short away (old.lies j owns_v));
           }
 
   -- The seat goes on with the word y at a.

@@ -1,10 +1,9 @@
 -- What lists of words, views and slots read once one of their members was written.
-use Rattle.std.proofs.Common.{◌≡◌, ℕ, zero, suc, ◌<◌, ◌≢◌, inl, inr, Bool, true, false, cond, List, [], ◌∷◌, ◌++◌, Some, length, slice_get, slice_index, slice_set, sym, refl, ap, ◌∙◌, arith}
+use Rattle.std.proofs.Common.{◌≡◌, ℕ, zero, suc, ◌<◌, ◌≢◌, inl, inr, List, [], ◌∷◌, ◌++◌, Some, length, slice_get, slice_index, slice_set, sym, refl, ap, ◌∙◌, arith}
 use Rattle.std.proofs.lemmas.Bool.{cases_eq}
 use mathlib.Core.Option.{some, some-injective, some-ne-none}
 use lib.ListN.{get_elem?}
 use Rattle.hcc_core.proofs.ListLemmas.{get_at_set, read_here, read_other}
-use Rattle.hcc_core.specs.Steps.{dropped}
 use Rattle.hcc_rule.specs.Views.{Each}
 
 -- A table's readings and the world's are the same.
@@ -66,12 +65,3 @@ pub each_append : {A : Type 0} (P : A → Type 0) (xs ys : List A) → Each P xs
     → Each P (xs ++ ys)
 each_append P [] ys h g = g
 each_append P (x ∷ xs) ys h g = (h.0, each_append P xs ys h.1 g)
-
-pub each_dropped : {A : Type 0} (P : A → Type 0) (test : A → Bool) (xs : List A) → Each P xs
-    → Each P (dropped test xs)
-each_dropped P test [] h = tt
-each_dropped P test (x ∷ xs) h = by (test x) (each_dropped P test xs h.1)
-  where
-    by : (b : Bool) → Each P (dropped test xs) → Each P (cond b xs (x ∷ dropped test xs))
-    by true rest = h.1
-    by false rest = (h.0, rest)

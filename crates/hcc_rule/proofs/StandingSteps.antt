@@ -21,7 +21,8 @@ use Rattle.hcc_rule.specs.ToldLedgers.{standings, stands, falls}
 use Rattle.hcc_rule.specs.Views.{is_seated}
 use Rattle.hcc_rule.specs.Words.{ledger_at}
 use Rattle.hcc_rule.specs.Rule.{IsModest, Holds}
-use Rattle.hcc_rule.proofs.Lists.{read_at, each_append, each_dropped}
+use Rattle.hcc_rule.proofs.Lists.{read_at, each_append}
+use Rattle.hcc_rule.proofs.ClientParts.{each_dropped}
 use Rattle.hcc_rule.proofs.LedgerTurns.{on_standing, Pays}
 use Rattle.hcc_rule.proofs.LedgerGives.{standing_gives, stand_gives, fall_allowed}
 use Rattle.hcc_rule.proofs.Asides.{pays_at, modest_is, law_is, usage_low, goes_by}

@@ -31,7 +31,9 @@ module _ {T : Type 0} where
   after_usage word v = record v { seen = v.seen ++ word ∷ [] }
 
   abbrev pub Charged : View T → ℕ → Type 0
-  Charged v word = (charged_to v.hand ≤ word) × Each (λ (r : Record). charged_to v.hand + r.entry.charge ≤ word) v.records
+  Charged v word =
+      (charged_to v.hand ≤ word)
+      × Each (λ (r : Record). charged_to v.hand + r.entry.charge ≤ word) v.records
 
   abbrev pub usages : Step (Unit {0}) → Held T → ℕ → Held T → Type 0
   usages step me word after =
