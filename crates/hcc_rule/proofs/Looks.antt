@@ -104,7 +104,7 @@ module _ {T : Type 0} (fits : T → Key → List ℕ → Type 0) (p : Plan T) wh
   few_on s r id i v t at_slot at =
       let all = r.references i t at_slot (λ (k : Reference). k.weight) in
       let own : weight_on i v.records ≤ total (held i (λ (k : Reference). k.weight)) s.views =
-          total-member (held i (λ (k : Reference). k.weight)) s.views id v at in
+      total-member (held i (λ (k : Reference). k.weight)) s.views id v at in
       omega arith
 
   -- so its word shows them
