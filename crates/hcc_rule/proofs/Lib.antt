@@ -31,3 +31,8 @@ pub mod OccupancySteps
 pub mod StandingSteps
 pub mod HandSteps
 pub mod TrailSteps
+pub mod Owners
+pub mod Occupies
+pub mod Empties
+pub mod Writes
+pub mod DataWords

@@ -108,7 +108,7 @@ module _ {T : Type 0} (fits : T → Key → List ℕ → Type 0) (p : Plan T) wh
       omega arith
 
   -- so its word shows them
-  backed : (s : Shard fits p) (r : Holds fits p s) (id i word : ℕ) (v : View T) (t : Slot)
+  pub backed : (s : Shard fits p) (r : Holds fits p s) (id i word : ℕ) (v : View T) (t : Slot)
       → slice_get r.world.slots i ≡ Some t → slice_get s.views id ≡ Some v → word ≡ code_of t
       → Backs i word v
   backed s r id i word v (slots.Empty strays) at_slot at word_is =

@@ -8,3 +8,4 @@ pub mod Told
 pub mod ToldReferences
 pub mod ToldLedgers
 pub mod ToldTrails
+pub mod ToldOwners

@@ -1,0 +1,19 @@
+use Rattle.std.proofs.Common.{ap, is_some, sym, ◌∙◌, ◌+◌}
+use Rattle.hcc_rule.specs.declared.layout.TheConstants.{DATA}
+use Rattle.hcc_rule.specs.Words.{field_at}
+use Rattle.hcc_rule.proofs.Addresses.{data_field}
+use Rattle.hcc_rule.proofs.Writes.{write_step}
+use Rattle.hcc_rule.proofs.table.RuleTable.write.Goals as goal
+
+pub store-requires : goal.store-requires
+store-requires g c =
+    let planned = c.args.self.now.planned in
+    let seat = c.requires.seat in
+    let next = c.requires.next in (
+      seat.table,
+      c.place.ensures.inside,
+      write_step g.T.Tag.fits c.args.self.now.table.shared.key _ _ c.args.slot _ _ _
+          (rw planned.0 c.requires.slot) (ap is_some seat.tagged) c.requires.owned
+          (rw (planned.0, ← next.0) next.1)
+          (rw (planned.0, ← next.0) (c.place.ensures.value ∙ sym (data_field _ c.args.slot c.args.index))),
+    )

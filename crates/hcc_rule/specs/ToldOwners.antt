@@ -1,0 +1,75 @@
+-- What the steps of owners tell their seat: those that take a slot, write it, show it, free it and
+-- empty it.
+use Rattle.std.specs.Prelude.{◌≡◌, ◌≢◌, ℕ, ◌+◌, ◌<◌, ◌==◌, List, [], ◌∷◌, ◌++◌, Option, Some, None, IfSome, length, slice_index, if◌then◌else◌}
+use Rattle.atomic_table.specs.Table.{Step}
+use Rattle.hcc_word.specs.Word.{is_empty}
+use Rattle.hcc_core.specs.declared.state.Owned.TheVariants as owned
+use Rattle.hcc_core.specs.declared.state.Entry.{Entry}
+use Rattle.hcc_rule.specs.declared.key.Key.{Key}
+use Rattle.hcc_rule.specs.declared.layout.TheConstants.{KEY1, STAMP}
+use Rattle.hcc_rule.specs.declared.view.Record.{Record}
+use Rattle.hcc_rule.specs.declared.view.View.{View}
+use Rattle.hcc_rule.specs.Views.{record_in}
+use Rattle.hcc_rule.specs.Words.{key_of, made_words}
+use Rattle.hcc_rule.specs.Told.{Held, Backs, after_look}
+
+-- the data words of an entry, but for the serial in its stamp word
+abbrev pub entry_words : Entry → List ℕ
+entry_words entry = made_words entry.stamp.client record {
+  serial = 0;
+  key = key_of entry;
+  value = entry.value;
+  charge = entry.charge;
+}
+
+-- this is the entry's data word of this index
+abbrev pub IsDataWord : Entry → (index word : ℕ) → Type 0
+IsDataWord entry index word =
+    index ≢ STAMP → index < length (entry_words entry) → word ≡ slice_index (entry_words entry) index
+
+-- An entry that was got as Shown is met once its second key word was read.
+abbrev pub with_met : Option Record → List Key → List Key
+with_met None keys = keys
+with_met (Some r) keys = if r.shown then keys ++ key_of r.entry ∷ [] else keys
+
+module _ {T : Type 0} where
+  -- Occupy: an empty slot is the client's to build, and any other is looked at.
+  abbrev pub after_occupy : (slot word : ℕ) → View T → View T
+  after_occupy slot word v =
+      if is_empty word
+      then record v { hand = record v.hand { owned = owned.ForBuilding slot }; written = [] }
+      else record (after_look slot word v) { saw = v.saw + 1 }
+
+  abbrev pub occupies : (slot : ℕ) → Step (Unit {0}) → Held T → ℕ → Held T → Type 0
+  occupies slot step me word after =
+      (after.1 ≡ me.1) × (after.0 ≡ after_occupy slot word me.0) × Backs slot word me.0
+
+  -- Empty: the slot that was taken to be freed is given back.
+  abbrev pub after_empty : View T → View T
+  after_empty v = record v { hand = record v.hand { owned = owned.Nothing }; written = [] }
+
+  abbrev pub empties : Step (Unit {0}) → Held T → ℕ → Held T → Type 0
+  empties step me word after = (after.1 ≡ me.1) × (after.0 ≡ after_empty me.0)
+
+  -- Write: one more data word.
+  abbrev pub after_write : (word : ℕ) → View T → View T
+  after_write word v = record v { written = v.written ++ word ∷ [] }
+
+  abbrev pub writes : Step (Unit {0}) → Held T → ℕ → Held T → Type 0
+  writes step me word after = (after.1 ≡ me.1) × (after.0 ≡ after_write step.first me.0)
+
+  -- Read: a data word of the entry that a record is on.
+  abbrev pub after_read : (name index : ℕ) → View T → View T
+  after_read name index v =
+      if index == KEY1 then record v { met = with_met (record_in name v.records) v.met } else v
+
+  abbrev pub reads : (name index : ℕ) → Step (Unit {0}) → Held T → ℕ → Held T → Type 0
+  reads name index step me word after =
+      (after.1 ≡ me.1) × (after.0 ≡ after_read name index me.0)
+      × IfSome (record_in name me.0.records) (λ r. IsDataWord r.entry index word)
+
+  -- Read of the slot that the client owns: the word that stands there.
+  abbrev pub reads_own : (index : ℕ) → Step (Unit {0}) → Held T → ℕ → Held T → Type 0
+  reads_own index step me word after =
+      (after.1 ≡ me.1) × (after.0 ≡ me.0)
+      × (index < length me.0.written → word ≡ slice_index me.0.written index)

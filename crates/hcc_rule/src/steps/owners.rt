@@ -1,0 +1,113 @@
+//! Steps by which a client takes a slot, writes it and gives it back.
+ghost use Rattle.std.specs.Prelude.{◌≡◌, ◌+◌, ◌<◌, [], true, length};
+ghost use Rattle.hcc_core.specs.declared.state.Owned.TheVariants.{ForBuilding, ForFreeing};
+ghost use Rattle.hcc_core.specs.Steps.{owns_nothing};
+ghost use Rattle.hcc_rule.specs.declared.layout.TheConstants.{PAYLOAD};
+ghost use Rattle.hcc_rule.specs.Seats.{IsSeatOf, IsSameSeat, view};
+ghost use Rattle.hcc_rule.specs.Told.{Backs};
+ghost use Rattle.hcc_rule.specs.ToldOwners.{after_occupy, after_empty, after_write};
+
+use super::said::Said;
+use crate::key::Tag;
+use crate::layout::{DATA, META};
+use crate::table::{RuleSeat, RuleTable};
+use crate::view::View;
+use atomic_table::Play;
+use hcc_word::layout::{EMPTY_WORD, OCCUPIED_BIT};
+use std::alloc::Allocator;
+use std::marker::{Brand, PhantomData};
+
+/// What the or of the occupied bit tells.
+pub struct Occupy<J> {
+    said: PhantomData<J>,
+}
+
+impl<T: Tag, J: Said> Play<(), View<T>> for Occupy<J> {
+    ghost use Rattle.hcc_rule.specs.ToldOwners.{occupies};
+
+    ghost then = { occupies J.slot };
+}
+
+/// What a store of a data word tells.
+pub struct Write;
+
+impl<T: Tag> Play<(), View<T>> for Write {
+    ghost use Rattle.hcc_rule.specs.ToldOwners.{writes};
+
+    ghost then = { writes };
+}
+
+/// What the store that empties a slot tells.
+pub struct Empty;
+
+impl<T: Tag> Play<(), View<T>> for Empty {
+    ghost use Rattle.hcc_rule.specs.ToldOwners.{empties};
+
+    ghost then = { empties };
+}
+
+impl<T: Tag, A: Allocator> RuleTable<T, A> {
+    fn occupy_as<J: Said>(&self, seat: &mut RuleSeat<T>, slot: u32) -> u64
+        requires seat { IsSeatOf self.now.table.shared.table_id self.now.table.shared.key.tag seat.old }
+        requires slot { slot < self.now.geometry.slots }
+        requires idle { owns_nothing (view seat.old).hand.owned ≡ true }
+        requires said { J.slot ≡ slot }
+        ensures seat { IsSameSeat seat.old seat.new }
+        ensures view { view seat.new ≡ after_occupy slot result (view seat.old) }
+        ensures backs { Backs slot result (view seat.old) }
+    {
+        self.table
+            .shared
+            .fetch_or::<Occupy<J>>(seat, self.place(slot, META), OCCUPIED_BIT)
+    }
+
+    /// Sets the occupied bit of a slot's meta word. A slot whose word was an empty one's is the
+    /// client's to build from now on; any other was looked at, and its word stays.
+    ///
+    /// The client owns no slot. Where it holds references on the slot, the word is that of an entry
+    /// with at least these. It takes no memory. It costs one atomic or.
+    pub fn occupy(&self, seat: &mut RuleSeat<T>, slot: u32) -> u64
+        requires seat { IsSeatOf self.now.table.shared.table_id self.now.table.shared.key.tag seat.old }
+        requires slot { slot < self.now.geometry.slots }
+        requires idle { owns_nothing (view seat.old).hand.owned ≡ true }
+        ensures seat { IsSameSeat seat.old seat.new }
+        ensures view { view seat.new ≡ after_occupy slot result (view seat.old) }
+        ensures backs { Backs slot result (view seat.old) }
+    {
+        self.occupy_as::<Brand>(seat, slot)
+    }
+
+    /// Stores the next data word of the slot that the client builds: the one behind those that it
+    /// wrote.
+    ///
+    /// `index` is how many it wrote, below the five words before the payload and the payload words of
+    /// a slot. It takes no memory. It costs one atomic store.
+    pub fn write(&self, seat: &mut RuleSeat<T>, slot: u32, index: usize, word: u64)
+        requires seat { IsSeatOf self.now.table.shared.table_id self.now.table.shared.key.tag seat.old }
+        requires slot { slot < self.now.geometry.slots }
+        requires owned { (view seat.old).hand.owned ≡ ForBuilding slot }
+        requires next { (index ≡ length (view seat.old).written) × (index < PAYLOAD + self.now.geometry.room) }
+        ensures seat { IsSameSeat seat.old seat.new }
+        ensures view { view seat.new ≡ after_write word (view seat.old) }
+    {
+        self.table
+            .shared
+            .store::<Write>(seat, self.place(slot, DATA + index), word);
+    }
+
+    /// Empties the slot that the client took to free, once its trail was taken back.
+    ///
+    /// It takes no memory. It costs one atomic store.
+    pub fn empty(&self, seat: &mut RuleSeat<T>, slot: u32)
+        requires seat { IsSeatOf self.now.table.shared.table_id self.now.table.shared.key.tag seat.old }
+        requires slot { slot < self.now.geometry.slots }
+        requires owned { (view seat.old).hand.owned ≡ ForFreeing slot }
+        requires back { (view seat.old).hand.trail ≡ [] }
+        ensures seat { IsSameSeat seat.old seat.new }
+        ensures view { view seat.new ≡ after_empty (view seat.old) }
+    {
+        self.table
+            .shared
+            .store::<Empty>(seat, self.place(slot, META), EMPTY_WORD);
+    }
+}
