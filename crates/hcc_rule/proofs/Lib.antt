@@ -36,3 +36,5 @@ pub mod Occupies
 pub mod Empties
 pub mod Writes
 pub mod DataWords
+pub mod ShowParts
+pub mod Shows

@@ -1,16 +1,24 @@
 -- What the steps of owners tell their seat: those that take a slot, write it, show it, free it and
 -- empty it.
-use Rattle.std.specs.Prelude.{◌≡◌, ◌≢◌, ℕ, ◌+◌, ◌<◌, ◌==◌, List, [], ◌∷◌, ◌++◌, Option, Some, None, IfSome, length, slice_index, if◌then◌else◌}
+use Rattle.std.specs.Prelude.{◌≡◌, ◌≢◌, ℕ, true, false, ◌+◌, ◌^◌, ◌<◌, ◌≤◌, ◌==◌, List, [], ◌∷◌, ◌++◌, Option, Some, None, IfSome, length, slice_index, if◌then◌else◌}
 use Rattle.atomic_table.specs.Table.{Step}
 use Rattle.hcc_word.specs.Word.{is_empty}
+use Rattle.hcc_core.specs.declared.limits.TheConstants.{REFERENCES_PER_CLIENT, STAMPS_PER_CLIENT, MOST_COUNTDOWN}
+use Rattle.hcc_core.specs.declared.state.Place.TheVariants as places
+use Rattle.hcc_core.specs.Steps.{client_shown}
 use Rattle.hcc_core.specs.declared.state.Owned.TheVariants as owned
 use Rattle.hcc_core.specs.declared.state.Entry.{Entry}
 use Rattle.hcc_rule.specs.declared.key.Key.{Key}
 use Rattle.hcc_rule.specs.declared.layout.TheConstants.{KEY1, STAMP}
+use Rattle.hcc_rule.specs.declared.steps.shows.Draft.{Draft}
+use Rattle.hcc_rule.specs.declared.rule.Plan.{Plan}
+use Rattle.hcc_rule.specs.declared.view.Made.{Made}
 use Rattle.hcc_rule.specs.declared.view.Record.{Record}
 use Rattle.hcc_rule.specs.declared.view.View.{View}
-use Rattle.hcc_rule.specs.Views.{record_in}
-use Rattle.hcc_rule.specs.Words.{key_of, made_words}
+use Rattle.hcc_rule.specs.Views.{load_of, record_in}
+use Rattle.hcc_rule.specs.Probes.{trail_to}
+use Rattle.hcc_rule.specs.Rule.{IsRight}
+use Rattle.hcc_rule.specs.Words.{key_of, entry_of, made_words}
 use Rattle.hcc_rule.specs.Told.{Held, Backs, after_look}
 
 -- the data words of an entry, but for the serial in its stamp word
@@ -31,6 +39,44 @@ IsDataWord entry index word =
 abbrev pub with_met : Option Record → List Key → List Key
 with_met None keys = keys
 with_met (Some r) keys = if r.shown then keys ++ key_of r.entry ∷ [] else keys
+
+-- the record that a client keeps of the entry that it shows
+abbrev pub first_records : (slot : ℕ) → Option ℕ → Entry → List Record
+first_records slot None entry = []
+first_records slot (Some name) entry =
+    record { slot = slot; name = name; weight = 1; counting = true; shown = false; entry = entry } ∷ []
+
+-- that entry, by the client's count of stamps
+abbrev pub shown_entry : {T : Type 0} → View T → Made → Entry
+shown_entry v made = entry_of (record { client = v.client; number = v.hand.stamps }) made
+
+-- what a draft makes of these bytes
+abbrev pub made_of : Draft → List ℕ → Made
+made_of draft value = record { serial = draft.serial; key = draft.key; value = value; charge = draft.charge }
+
+-- one more record is kept where the client has a name for one
+abbrev pub room_for : Option ℕ → ℕ
+room_for None = 0
+room_for (Some name) = 1
+
+-- What a client has that shows an entry: a slot that it builds, with the entry's words written, its
+-- place and its charge granted, the trail to that slot, and a free name for the reference that it
+-- keeps, if any.
+pub record MayShow {T : Type 0} (fits : T → Key → List ℕ → Type 0) (p : Plan T) (slot countdown : ℕ) (name : Option ℕ) (made : Made) (v : View T) : Type 0 where
+  pub builds : v.hand.owned ≡ owned.ForBuilding slot
+  pub written : v.written ≡ made_words v.client made
+  pub right : IsRight fits p.tag p.geometry.room made
+  pub word0 : made.key.w0 < 2 ^ 64
+  pub word1 : made.key.w1 < 2 ^ 64
+  pub place : v.hand.place ≡ places.Granted
+  pub needed : v.hand.needed ≡ 0
+  pub paid : made.charge ≤ v.hand.granted
+  pub some : 1 ≤ countdown
+  pub few : countdown ≤ MOST_COUNTDOWN
+  pub fresh : IfSome name (λ x. (x < 2 ^ 64) × (record_in x v.records ≡ None))
+  pub room : load_of v.records + room_for name ≤ REFERENCES_PER_CLIENT
+  pub stamps : length v.made < STAMPS_PER_CLIENT
+  pub trail : v.hand.trail ≡ trail_to p.geometry.slots made.key slot
 
 module _ {T : Type 0} where
   -- Occupy: an empty slot is the client's to build, and any other is looked at.
@@ -73,3 +119,17 @@ module _ {T : Type 0} where
   reads_own index step me word after =
       (after.1 ≡ me.1) × (after.0 ≡ me.0)
       × (index < length me.0.written → word ≡ slice_index me.0.written index)
+
+  -- Show: the entry whose words were written is the newest that the client made; it keeps a reference
+  -- on it where it has a name for one.
+  abbrev pub after_show : (slot : ℕ) → Option ℕ → Made → View T → View T
+  after_show slot name made v = record v {
+    hand = client_shown made.charge v.hand;
+    written = [];
+    made = v.made ++ made ∷ [];
+    records = v.records ++ first_records slot name (shown_entry v made);
+  }
+
+  abbrev pub shows : (slot : ℕ) → Option ℕ → Made → Step (Unit {0}) → Held T → ℕ → Held T → Type 0
+  shows slot name made step me word after =
+      (after.1 ≡ me.1) × (after.0 ≡ after_show slot name made me.0)

@@ -10,5 +10,6 @@ mod reads;
 mod references;
 mod said;
 mod seats;
+mod shows;
 mod standing;
 mod trails;
