@@ -62,7 +62,7 @@ correct_allowed w c x i found k l small holds at_slot at_client live may =
     rw (client_fits w c l (within w.clients c found at_client), lt-ltb x (2 ^ 64) small, at_client, live, holds, at_slot, may) refl
 
 -- records on a slot are no more than what they weigh
-records_weigh : (all : List Slot) (i : ℕ) (rs : List Record) → Each (IsRecorded all) rs
+pub records_weigh : (all : List Slot) (i : ℕ) (rs : List Record) → Each (IsRecorded all) rs
     → total (λ q. when (is_on i q) 1) rs ≤ total (λ q. when (is_on i q) q.weight) rs
 records_weigh all i [] each = omega arith
 records_weigh all i (q ∷ qs) each =
@@ -80,7 +80,7 @@ none_there (k ∷ ks) h = absurd (omega arith)
 
 module _ {T : Type 0} (fits : T → Key → List ℕ → Type 0) (p : Plan T) where
   -- Where the references of a slot weigh nothing, it has none.
-  unreferenced : (s : Shard fits p) (r : Holds fits p s) (i : ℕ) (k : Resident)
+  pub unreferenced : (s : Shard fits p) (r : Holds fits p s) (i : ℕ) (k : Resident)
       → slice_get r.world.slots i ≡ Some (slots.Shareable k) → weight k.references ≡ 0
       → has_no_member k.references ≡ true
   unreferenced s r i k at_slot light =

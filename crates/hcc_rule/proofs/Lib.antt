@@ -38,3 +38,4 @@ pub mod Writes
 pub mod DataWords
 pub mod ShowParts
 pub mod Shows
+pub mod Frees

@@ -57,7 +57,8 @@ pub first_weighs : (c i : ℕ) (name : Option ℕ) (e : Entry) (h : Reference �
 first_weighs c i None e h = refl
 first_weighs c i (Some name) e h = rw (eq-eqb i i refl) refl
 
-names_fit : (name : Option ℕ) → IfSome name (λ x. x < 2 ^ 64) → name_fits name ≡ true
+-- a name's number is in its range
+pub names_fit : (name : Option ℕ) → IfSome name (λ x. x < 2 ^ 64) → name_fits name ≡ true
 names_fit None h = refl
 names_fit (Some x) h = lt-ltb x (2 ^ 64) h
 

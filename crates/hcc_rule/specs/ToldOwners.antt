@@ -1,13 +1,15 @@
 -- What the steps of owners tell their seat: those that take a slot, write it, show it, free it and
 -- empty it.
-use Rattle.std.specs.Prelude.{◌≡◌, ◌≢◌, ℕ, true, false, ◌+◌, ◌^◌, ◌<◌, ◌≤◌, ◌==◌, List, [], ◌∷◌, ◌++◌, Option, Some, None, IfSome, length, slice_index, if◌then◌else◌}
+use Rattle.std.specs.Prelude.{◌≡◌, ◌≢◌, ℕ, true, false, ◌+◌, ◌^◌, ◌<◌, ◌≤◌, ◌==◌, List, [], ◌∷◌, ◌++◌, Option, Some, None, IfSome, IsSomeAnd, Bool, ◌&&◌, nat_lt, length, slice_index, if◌then◌else◌}
 use Rattle.atomic_table.specs.Table.{Step}
-use Rattle.hcc_word.specs.Word.{is_empty}
+use Rattle.hcc_word.specs.Word.{is_empty, is_visible, refs_of, releases_of}
 use Rattle.hcc_core.specs.declared.limits.TheConstants.{REFERENCES_PER_CLIENT, STAMPS_PER_CLIENT, MOST_COUNTDOWN}
 use Rattle.hcc_core.specs.declared.state.Place.TheVariants as places
-use Rattle.hcc_core.specs.Steps.{client_shown}
+use Rattle.hcc_core.specs.Steps.{client_shown, dropped, joined}
 use Rattle.hcc_core.specs.declared.state.Owned.TheVariants as owned
 use Rattle.hcc_core.specs.declared.state.Entry.{Entry}
+use Rattle.hcc_core.specs.declared.state.Stamp.{Stamp}
+use Rattle.hcc_core.specs.Sums.{when}
 use Rattle.hcc_rule.specs.declared.key.Key.{Key}
 use Rattle.hcc_rule.specs.declared.layout.TheConstants.{KEY1, STAMP}
 use Rattle.hcc_rule.specs.declared.steps.shows.Draft.{Draft}
@@ -15,11 +17,11 @@ use Rattle.hcc_rule.specs.declared.rule.Plan.{Plan}
 use Rattle.hcc_rule.specs.declared.view.Made.{Made}
 use Rattle.hcc_rule.specs.declared.view.Record.{Record}
 use Rattle.hcc_rule.specs.declared.view.View.{View}
-use Rattle.hcc_rule.specs.Views.{load_of, record_in}
+use Rattle.hcc_rule.specs.Views.{is_called, load_of, record_in}
 use Rattle.hcc_rule.specs.Probes.{trail_to}
 use Rattle.hcc_rule.specs.Rule.{IsRight}
 use Rattle.hcc_rule.specs.Words.{key_of, entry_of, made_words}
-use Rattle.hcc_rule.specs.Told.{Held, Backs, after_look}
+use Rattle.hcc_rule.specs.Told.{Held, Backs, after_look, found_dead}
 
 -- the data words of an entry, but for the serial in its stamp word
 abbrev pub entry_words : Entry → List ℕ
@@ -53,6 +55,15 @@ shown_entry v made = entry_of (record { client = v.client; number = v.hand.stamp
 -- what a draft makes of these bytes
 abbrev pub made_of : Draft → List ℕ → Made
 made_of draft value = record { serial = draft.serial; key = draft.key; value = value; charge = draft.charge }
+
+-- the records without that of a name, if there is one
+abbrev pub records_left : Option ℕ → List Record → List Record
+records_left None records = records
+records_left (Some name) records = dropped (is_called name) records
+
+-- the word of an entry that is Shown and has uses left
+abbrev pub is_warm : ℕ → Bool
+is_warm word = is_visible word && nat_lt 0 (releases_of word)
 
 -- one more record is kept where the client has a name for one
 abbrev pub room_for : Option ℕ → ℕ
@@ -133,3 +144,43 @@ module _ {T : Type 0} where
   abbrev pub shows : (slot : ℕ) → Option ℕ → Made → Step (Unit {0}) → Held T → ℕ → Held T → Type 0
   shows slot name made step me word after =
       (after.1 ≡ me.1) × (after.0 ≡ after_show slot name made me.0)
+
+  -- Free: the entry of a slot with no reference, or with the client's last one, is taken.
+
+  -- that reference is the last one, by the word of the slot
+  abbrev pub IsLast : (slot word : ℕ) → Option ℕ → View T → Type 0
+  IsLast slot word None v = refs_of word ≡ 0
+  IsLast slot word (Some name) v =
+      (refs_of word ≡ 1) × IsSomeAnd (record_in name v.records) (λ r. (r.slot ≡ slot) × (r.weight ≡ 1))
+
+  -- The view once it took the entry that is made so: all that was in the slot is the client's to take
+  -- back, the entry's charge and its place are freed, and its words stand there still.
+  abbrev pub after_free : (slots slot word : ℕ) → Option ℕ → Stamp → Made → View T → View T
+  after_free slots slot word name stamp made v = record v {
+    hand = record v.hand {
+      owned = owned.ForFreeing slot;
+      trail = trail_to slots made.key slot;
+      freed = v.hand.freed + made.charge;
+      freed_slots = v.hand.freed_slots + 1;
+      dead = joined v.hand.dead (found_dead slot word v);
+    };
+    written = made_words stamp.client made;
+    records = records_left name v.records;
+    takings = v.takings + 1;
+    warm = v.warm + when (is_warm word) 1;
+  }
+
+  -- what is told of a taken entry: it is one that its maker was right to show, and the one on record
+  pub record IsTaken (fits : T → Key → List ℕ → Type 0) (room : ℕ) (name : Option ℕ) (v : View T) (stamp : Stamp) (made : Made) : Type 0 where
+    pub right : IfSome v.tag (λ tag. IsRight fits tag room made)
+    pub same : IfSome name (λ x. IfSome (record_in x v.records) (λ r. r.entry ≡ entry_of stamp made))
+
+  -- the exchange took the slot, or found another word and was a look
+  pub record Freed (fits : T → Key → List ℕ → Type 0) (slots room slot old word : ℕ) (name : Option ℕ) (v new : View T) : Type 0 where
+    pub won : (word == old) ≡ true
+        → (stamp : Stamp) × (made : Made) × IsTaken fits room name v stamp made × (new ≡ after_free slots slot word name stamp made v)
+    pub lost : (word == old) ≡ false → new ≡ after_look slot word v
+
+  abbrev pub frees : (T → Key → List ℕ → Type 0) → (slots room slot : ℕ) → Option ℕ → Step (Unit {0}) → Held T → ℕ → Held T → Type 0
+  frees fits slots room slot name step me word after =
+      (after.1 ≡ me.1) × Freed fits slots room slot step.first word name me.0 after.0
