@@ -1,11 +1,10 @@
 -- A load of a data word: nothing changes, and the word is the entry's that is on record, or the one
 -- that the owner of a slot knows there.
-use Rattle.std.proofs.Common.{◌≡◌, ℕ, zero, suc, ◌+◌, ◌<◌, ◌≤◌, ◌≢◌, ◌==◌, Bool, true, false, cond, List, [], ◌∷◌, ◌++◌, Option, Some, None, IfSome, IsSomeAnd, Ok, length, slice_get, slice_index, slice_set, sym, refl, ap, ◌∙◌, arith}
+use Rattle.std.proofs.Common.{◌≡◌, ℕ, zero, suc, ◌+◌, ◌<◌, ◌≢◌, ◌==◌, Bool, true, false, cond, List, [], ◌∷◌, Option, Some, None, IfSome, IsSomeAnd, length, slice_get, slice_index, slice_set, sym, refl, ap, ◌∙◌, arith}
 use mathlib.Core.Option.{none}
 use Rattle.atomic_table.specs.Table.{step, Allows, keeps}
 use Rattle.hcc_core.specs.declared.state.Entry.{Entry}
 use Rattle.hcc_core.specs.declared.state.Stamp.{Stamp}
-use Rattle.hcc_core.specs.Sums.{total}
 use Rattle.hcc_core.specs.Lawful.{owned_slot}
 use Rattle.hcc_core.proofs.ListLemmas.{set_same}
 use Rattle.hcc_core.proofs.SumLemmas.{total-set}

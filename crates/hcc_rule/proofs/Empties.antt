@@ -1,10 +1,9 @@
 -- The store that empties a slot: the slot that was taken to be freed is given back.
-use Rattle.std.proofs.Common.{◌≡◌, ℕ, ◌<◌, ◌^◌, Bool, true, List, [], Option, Some, None, Ok, length, slice_get, slice_index, sym, refl, ap, ◌∙◌, arith}
+use Rattle.std.proofs.Common.{◌≡◌, ℕ, ◌<◌, true, List, [], Some, Ok, slice_get, sym, refl, ap, ◌∙◌}
 use mathlib.Core.Option.{none}
 use Rattle.atomic_table.specs.Table.{step, Allows}
 use Rattle.hcc_word.specs.declared.layout.TheConstants.{EMPTY_WORD}
 use Rattle.hcc_word.proofs.StepLaws.{store_empty}
-use Rattle.hcc_core.specs.declared.event.Event.{Event}
 use Rattle.hcc_core.specs.declared.event.Event.TheVariants as events
 use Rattle.hcc_core.specs.declared.event.Reply.TheVariants as replies
 use Rattle.hcc_core.specs.declared.state.Client.{Client}
@@ -27,7 +26,7 @@ use Rattle.hcc_rule.specs.Words.{field_at}
 use Rattle.hcc_rule.specs.Rule.{Holds}
 use Rattle.hcc_rule.proofs.Lists.{within, read_at}
 use Rattle.hcc_rule.proofs.Looks.{client_fits, slot_there}
-use Rattle.hcc_rule.proofs.Owners.{Owning, owned_turn}
+use Rattle.hcc_rule.proofs.Owners.{owned_turn}
 use Rattle.hcc_rule.proofs.Turns.{Shard}
 use Rattle.hcc_rule.proofs.Touches.{Goes, goes, client_is, live_is}
 

@@ -1,8 +1,8 @@
 -- The exchange to construction: an entry with no reference but the client's last one is taken.
-use Rattle.std.proofs.Common.{◌≡◌, ℕ, zero, suc, ◌+◌, ◌*◌, ◌^◌, ◌<◌, ◌≤◌, ◌≢◌, ◌==◌, ◌&&◌, Bool, true, false, cond, nat_lt, List, [], ◌∷◌, ◌++◌, Option, Some, None, IfSome, IsSomeAnd, Ok, length, slice_get, slice_index, slice_set, sym, refl, ap, ◌∙◌, arith}
+use Rattle.std.proofs.Common.{◌≡◌, ℕ, ◌+◌, ◌^◌, ◌<◌, ◌≤◌, ◌≢◌, ◌==◌, Bool, true, false, cond, List, [], ◌∷◌, Option, Some, None, IfSome, IsSomeAnd, Ok, length, slice_get, slice_index, slice_set, sym, refl, ap, ◌∙◌, arith}
 use Rattle.std.specs.List.{find}
 use Rattle.std.specs.Option.{unwrap_or}
-use Rattle.std.proofs.lemmas.Bool.{eqb-true, eq-eqb, lt-ltb}
+use Rattle.std.proofs.lemmas.Bool.{eqb-true, eq-eqb}
 use mathlib.Core.Option.{none}
 use prog.Atomic.{either}
 use Rattle.atomic_table.specs.Table.{step, Allows}
@@ -23,7 +23,7 @@ use Rattle.hcc_core.specs.declared.state.Slot.{Slot}
 use Rattle.hcc_core.specs.declared.state.Slot.TheVariants as slots
 use Rattle.hcc_core.specs.declared.state.Stamp.{Stamp}
 use Rattle.hcc_core.specs.Sums.{when, total}
-use Rattle.hcc_core.specs.World.{State, weight, is_named, charged_to, occupied_by, times}
+use Rattle.hcc_core.specs.World.{State, weight, is_named, times}
 use Rattle.hcc_core.specs.Steps.{with_both, dropped, outcome_of, owns_nothing, has_no_member, is_free_for, may_free, client_freeing, noticed, joined}
 use Rattle.hcc_core.specs.Lawful.{Lawful}
 use Rattle.hcc_core.proofs.Opening.{is_lawful}
@@ -37,11 +37,11 @@ use Rattle.hcc_rule.specs.declared.view.Record.{Record}
 use Rattle.hcc_rule.specs.declared.view.View.{View}
 use Rattle.hcc_rule.specs.Probes.{trail_to}
 use Rattle.hcc_rule.specs.Told.{Held, found_dead}
-use Rattle.hcc_rule.specs.ToldOwners.{IsLast, records_left, after_free, IsTaken, Freed, frees}
+use Rattle.hcc_rule.specs.ToldOwners.{IsLast, records_left, after_free, frees}
 use Rattle.hcc_rule.specs.Views.{reference_of, is_on, is_called, record_in, is_seated, held, Each}
-use Rattle.hcc_rule.specs.Words.{field_at, made_words, entry_of, key_of, code_of}
-use Rattle.hcc_rule.specs.Rule.{entry_in, made_at, IsStored, IsRecorded, IsHolding, IsRight, IsModest, Holds}
-use Rattle.hcc_rule.proofs.Lists.{within, read_at, each_map}
+use Rattle.hcc_rule.specs.Words.{field_at, entry_of, key_of, code_of}
+use Rattle.hcc_rule.specs.Rule.{entry_in, IsStored, IsRecorded, IsHolding, IsRight, Holds}
+use Rattle.hcc_rule.proofs.Lists.{within, read_at}
 use Rattle.hcc_rule.proofs.Clients.{count_on, dead_told}
 use Rattle.hcc_rule.proofs.Codes.{is_near, tells_entry}
 use Rattle.hcc_rule.proofs.Exchanges.{unreferenced, records_weigh}
@@ -254,10 +254,10 @@ module _ {T : Type 0} (fits : T → Key → List ℕ → Type 0) (p : Plan T) wh
   pub free_step : (count id i a old : ℕ) (name : Option ℕ) (me : Held T) → i < p.geometry.slots
       → is_seated me.0 ≡ true → a ≡ field_at p.geometry.room i META → is_shareable old ≡ true
       → IsLast i old name me.0 → owns_nothing me.0.hand.owned ≡ true → me.0.hand.trail ≡ []
-      → IfSome name (λ x. x < 2 ^ 64) → me.0.hand.freed + 2 ^ 32 ≤ 2 ^ 49
+      → me.0.hand.freed + 2 ^ 32 ≤ 2 ^ 49
       → Allows (Holds fits p) count id me a (λ y. either (y == old) CONSTRUCTION_WORD y)
           (frees fits p.geometry.slots p.geometry.room i name (step count a old CONSTRUCTION_WORD none) me)
-  free_step count id i a old name me near seated place entry last idle back named space s r homes at low =
+  free_step count id i a old name me near seated place entry last idle back space s r homes at low =
       let slot = slot_there fits p s r i near in
       by slot.0 slot.1 (slice_index s.words a == old) refl
     where
@@ -273,11 +273,15 @@ module _ {T : Type 0} (fits : T → Key → List ℕ → Type 0) (p : Plan T) wh
       word_is : (t : Slot) → slice_get r.world.slots i ≡ Some t → word ≡ code_of t
       word_is t at_slot = ap (slice_index s.words) place ∙ r.coded.meta i t at_slot
 
+      named : (o : Option ℕ) → IsLast i old o me.0 → IfSome o (λ x. x < 2 ^ 64)
+      named None h = tt
+      named (Some x) h = h.0
+
       -- what the slot's references leave, by the name that is given
       leaving : (k : Resident) → slice_get r.world.slots i ≡ Some (slots.Shareable k) → refs_of old ≡ weight k.references
           → (o : Option ℕ) → IsLast i old o me.0 → Leaves s r i o me.0 k (records_left o me.0.records)
       leaving k at_slot refs None h = leaves_none s r id i name me.0 k at_view seated at_slot (sym refs ∙ h)
-      leaving k at_slot refs (Some x) h = of_record (record_in x me.0.records) refl h.1
+      leaving k at_slot refs (Some x) h = of_record (record_in x me.0.records) refl h.2
         where
           of_record : (o : Option Record) → record_in x me.0.records ≡ o → IsSomeAnd o (λ q. (q.slot ≡ i) × (q.weight ≡ 1))
               → Leaves s r i (Some x) me.0 k (dropped (is_called x) me.0.records)
@@ -288,13 +292,13 @@ module _ {T : Type 0} (fits : T → Key → List ℕ → Type 0) (p : Plan T) wh
               let one : found.0 ≡ k = cc in
               leaves_one s r id i (Some x) me.0 k at_view seated at_slot x q
               (record { at_view = at_view; at_slot = at_slot; seated = seated; called = called; on = so.0; entry = ap (λ (z : Resident). z.entry) (sym one) ∙ found.1.entry })
-              so.1 (sym refs ∙ h.0)
+              so.1 (sym refs ∙ h.1)
 
       -- the entry on record is the one that is taken
       same_entry : (k : Resident) → slice_get r.world.slots i ≡ Some (slots.Shareable k) → (e : Entry) → k.entry ≡ e
           → (o : Option ℕ) → IsLast i old o me.0 → IfSome o (λ x. IfSome (record_in x me.0.records) (λ q. q.entry ≡ e))
       same_entry k at_slot e is None h = tt
-      same_entry k at_slot e is (Some x) h = of_record (record_in x me.0.records) refl h.1
+      same_entry k at_slot e is (Some x) h = of_record (record_in x me.0.records) refl h.2
         where
           of_record : (o : Option Record) → record_in x me.0.records ≡ o → IsSomeAnd o (λ q. (q.slot ≡ i) × (q.weight ≡ 1))
               → IfSome o (λ q. q.entry ≡ e)
@@ -322,7 +326,7 @@ module _ {T : Type 0} (fits : T → Key → List ℕ → Type 0) (p : Plan T) wh
           goes fits p s r a CONSTRUCTION_WORD id i me (after_free p.geometry.slots i word name k.entry.stamp stored.made me.0) (slots.Shareable k) (slots.Building me.0.client 0)
           (events.Free me.0.client i name) (replies.Freed k.entry.charge) then place exchange_to_construction
           (free_turn s r id i name me.0 k at_view seated at_slot word
-              (leaving k at_slot refs name last) (word_is (slots.Shareable k) at_slot) idle back named space)
+              (leaving k at_slot refs name last) (word_is (slots.Shareable k) at_slot) idle back (named name last) space)
           (refl, record {
             won = λ yes. (
               k.entry.stamp,

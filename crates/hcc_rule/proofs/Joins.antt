@@ -1,11 +1,9 @@
 -- Two seats are joined: the second one's client ends, and the first one may start it again.
-use Rattle.std.proofs.Common.{◌≡◌, ℕ, zero, suc, ◌+◌, ◌*◌, ◌<◌, ◌≤◌, ◌≢◌, inl, inr, ◌==◌, ◌&&◌, ◌||◌, not, Bool, true, false, nat_lt, List, [], ◌∷◌, ◌++◌, Option, Some, None, Ok, is_some, length, slice_get, slice_index, slice_set, sym, refl, ap, ◌∙◌, arith}
+use Rattle.std.proofs.Common.{◌≡◌, ℕ, suc, ◌+◌, ◌≢◌, inl, inr, ◌==◌, ◌&&◌, not, Bool, true, false, nat_lt, List, [], ◌∷◌, ◌++◌, Some, None, Ok, is_some, length, slice_get, slice_set, sym, refl, ap, ◌∙◌, arith}
 use Rattle.std.specs.Option.{unwrap_or}
 use Rattle.std.specs.List.{list_any}
 use Rattle.std.proofs.lemmas.Bool.{eq-eqb}
 use Rattle.std.proofs.lemmas.List.{length-set, length-append}
-use mathlib.Core.Option.{some}
-use lib.ListN.{get_elem?}
 use Rattle.atomic_table.specs.Table as table
 use Rattle.hcc_core.specs.declared.event.Event.TheVariants as events
 use Rattle.hcc_core.specs.declared.event.Reply.TheVariants as replies
@@ -27,7 +25,7 @@ use Rattle.hcc_rule.specs.Rule.{book_of, IsDraft, IsHolding, IsNamed, IsSeated, 
 use Rattle.hcc_rule.specs.Opening.{IsIdle, as_other, joined_view, spent_view}
 use Rattle.hcc_rule.proofs.Lists.{within, read_at, each_set, each_append}
 use Rattle.hcc_rule.proofs.Clients.{held_count, no_client}
-use Rattle.hcc_rule.proofs.ViewParts.{total-two, when_few, names_own, unnamed, seated_else, others_else}
+use Rattle.hcc_rule.proofs.ViewParts.{when_few, names_own, unnamed, seated_else, others_else}
 use Rattle.hcc_rule.proofs.Looks.{client_fits}
 use Rattle.hcc_rule.proofs.Splits.{total_started}
 use Rattle.hcc_rule.proofs.Turns.{Shard}

@@ -1,5 +1,5 @@
 -- The or of the occupied bit: an empty slot is taken, and any other is looked at.
-use Rattle.std.proofs.Common.{◌≡◌, ℕ, ◌+◌, ◌^◌, ◌<◌, ◌≤◌, Bool, true, false, List, [], Some, Ok, length, slice_get, slice_index, bit_or, sym, refl, ap, ◌∙◌, arith}
+use Rattle.std.proofs.Common.{◌≡◌, ℕ, ◌+◌, ◌^◌, ◌<◌, true, false, List, [], Some, Ok, slice_get, slice_index, bit_or, refl, ap, ◌∙◌, arith}
 use mathlib.Core.Option.{none}
 use Rattle.atomic_table.specs.Table.{step, Allows}
 use Rattle.hcc_word.specs.declared.layout.TheConstants.{OCCUPIED_BIT}
@@ -33,7 +33,7 @@ use Rattle.hcc_rule.proofs.Lists.{within, read_at}
 use Rattle.hcc_rule.proofs.Codes.{few_strays, is_near, tells_entry}
 use Rattle.hcc_rule.proofs.Clients.{dead_told}
 use Rattle.hcc_rule.proofs.Looks.{slot_fits, client_fits, slot_there, backed}
-use Rattle.hcc_rule.proofs.Owners.{Owning, owned_turn}
+use Rattle.hcc_rule.proofs.Owners.{owned_turn}
 use Rattle.hcc_rule.proofs.Turns.{Shard}
 use Rattle.hcc_rule.proofs.Touches.{by_hand, touched, Goes, goes, client_is, live_is}
 

@@ -1,5 +1,5 @@
 -- A step on a meta word that changes who owns a slot with no entry.
-use Rattle.std.proofs.Common.{◌≡◌, ℕ, ◌+◌, ◌<◌, ◌≤◌, ◌≢◌, Bool, true, List, [], ◌∷◌, Option, Some, None, Ok, length, slice_get, slice_index, slice_set, sym, refl, ap, ◌∙◌, arith}
+use Rattle.std.proofs.Common.{◌≡◌, ℕ, true, List, [], Some, None, Ok, length, slice_get, slice_set, sym, refl, ap, ◌∙◌, arith}
 use Rattle.std.specs.Option.{unwrap_or}
 use Rattle.hcc_core.specs.declared.event.Event.{Event}
 use Rattle.hcc_core.specs.declared.event.Reply.{Reply}
@@ -15,7 +15,7 @@ use Rattle.hcc_rule.specs.declared.rule.Plan.{Plan}
 use Rattle.hcc_rule.specs.declared.view.Record.{Record}
 use Rattle.hcc_rule.specs.declared.view.View.{View}
 use Rattle.hcc_rule.specs.Views.{is_seated, held}
-use Rattle.hcc_rule.specs.Rule.{made_at, entry_by, IsRecorded, IsModest, IsTrailed, Holds}
+use Rattle.hcc_rule.specs.Rule.{made_at, entry_by, IsRecorded, IsTrailed, Holds}
 use Rattle.hcc_rule.proofs.Lists.{each_map}
 use Rattle.hcc_rule.proofs.ViewParts.{recorded_kept}
 use Rattle.hcc_rule.proofs.Turns.{Shard, SameName, Turn}

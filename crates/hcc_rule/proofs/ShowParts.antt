@@ -1,9 +1,8 @@
 -- What a show owes, part by part.
-use Rattle.std.proofs.Common.{◌≡◌, ℕ, zero, suc, ◌+◌, ◌-◌, ◌^◌, ◌<◌, ◌≤◌, ◌≢◌, ◌==◌, ◌&&◌, Bool, true, false, List, [], ◌∷◌, ◌++◌, Option, Some, None, Ok, IfSome, is_some, length, slice_get, sym, refl, ap, ◌∙◌, arith}
+use Rattle.std.proofs.Common.{◌≡◌, ℕ, zero, suc, ◌-◌, ◌^◌, ◌<◌, ◌≤◌, true, false, List, [], ◌∷◌, ◌++◌, Option, Some, None, Ok, IfSome, is_some, length, slice_get, refl, ap, arith}
 use Rattle.std.specs.Int.{from_bool}
 use Rattle.std.specs.List.{list_all}
 use Rattle.std.proofs.lemmas.Bool.{eq-eqb, lt-ltb, le-leb}
-use Rattle.hcc_word.specs.declared.layout.TheConstants.{VISIBLE}
 use Rattle.hcc_word.specs.Code.{code_of_shareable}
 use Rattle.hcc_core.specs.declared.limits.TheConstants.{STAMPS_PER_CLIENT, MOST_COUNTDOWN}
 use Rattle.hcc_core.specs.declared.event.Event.TheVariants as events
@@ -19,9 +18,7 @@ use Rattle.hcc_core.specs.World.{State, weight}
 use Rattle.hcc_core.specs.Steps.{with_both, outcome_of, resident_new, client_shown, first_references, first_uses, may_show, is_fresh, built_by, name_fits, fits as in_bits}
 use Rattle.hcc_core.specs.Lawful.{Lawful}
 use Rattle.hcc_core.proofs.StepLemmas.{show_gives}
-use Rattle.hcc_core.proofs.SumLemmas.{total-append}
 use Rattle.hcc_rule.specs.declared.view.Made.{Made}
-use Rattle.hcc_rule.specs.declared.view.Record.{Record}
 use Rattle.hcc_rule.specs.ToldOwners.{first_records}
 use Rattle.hcc_rule.specs.Views.{reference_of, is_on, Each}
 use Rattle.hcc_rule.proofs.Lists.{within}

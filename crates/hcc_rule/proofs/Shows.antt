@@ -1,28 +1,21 @@
 -- The store of a new entry's word: the entry whose words were written is shown.
-use Rattle.std.proofs.Common.{◌≡◌, ℕ, zero, suc, ◌+◌, ◌-◌, ◌*◌, ◌^◌, ◌<◌, ◌≤◌, ◌≢◌, ◌⊎◌, inl, inr, ◌==◌, Bool, true, false, List, [], ◌∷◌, ◌++◌, Option, Some, None, IfSome, Ok, is_none, is_some, length, slice_get, slice_index, slice_set, sym, refl, ap, ◌∙◌, arith}
+use Rattle.std.proofs.Common.{◌≡◌, ℕ, zero, suc, ◌-◌, ◌^◌, ◌<◌, ◌≤◌, ◌≢◌, ◌⊎◌, inl, inr, ◌==◌, true, false, List, [], ◌∷◌, ◌++◌, Option, Some, None, IfSome, is_none, is_some, length, slice_get, slice_set, sym, refl, ap, ◌∙◌, arith}
 use Rattle.std.specs.Int.{from_bool}
 use Rattle.std.specs.Option.{unwrap_or}
 use Rattle.std.proofs.lemmas.Bool.{cases_eq}
 use mathlib.Core.Option.{none}
 use Rattle.atomic_table.specs.Table.{step, Allows}
 use Rattle.hcc_word.specs.Code.{code_of_shareable}
-use Rattle.hcc_core.specs.declared.limits.TheConstants.{REFERENCES_PER_CLIENT, STAMPS_PER_CLIENT, MOST_COUNTDOWN}
-use Rattle.hcc_core.specs.declared.event.Event.{Event}
 use Rattle.hcc_core.specs.declared.event.Event.TheVariants as events
 use Rattle.hcc_core.specs.declared.event.Reply.TheVariants as replies
-use Rattle.hcc_core.specs.declared.state.Client.{Client}
 use Rattle.hcc_core.specs.declared.state.Entry.{Entry}
-use Rattle.hcc_core.specs.declared.state.Owned.TheVariants as owned
-use Rattle.hcc_core.specs.declared.state.Place.TheVariants as places
-use Rattle.hcc_core.specs.declared.state.Reference.{Reference}
 use Rattle.hcc_core.specs.declared.state.Slot.{Slot}
 use Rattle.hcc_core.specs.declared.state.Slot.TheVariants as slots
-use Rattle.hcc_core.specs.declared.state.Stamp.{Stamp}
 use Rattle.hcc_core.specs.Sums.{when, total}
-use Rattle.hcc_core.specs.World.{State, charged_to, occupied_by, is_placed, times}
-use Rattle.hcc_core.specs.Steps.{outcome_of, resident_new, client_shown, first_references, is_fresh}
+use Rattle.hcc_core.specs.World.{is_placed}
+use Rattle.hcc_core.specs.Steps.{resident_new, is_fresh}
 use Rattle.hcc_core.specs.Lawful.{owner_of, owned_slot}
-use Rattle.hcc_core.proofs.ListLemmas.{read_here, read_other}
+use Rattle.hcc_core.proofs.ListLemmas.{read_here}
 use Rattle.hcc_core.proofs.SumLemmas.{total-append, length-push}
 use Rattle.hcc_core.proofs.Opening.{is_lawful}
 use Rattle.hcc_rule.specs.declared.key.Key.{Key}
@@ -31,13 +24,12 @@ use Rattle.hcc_rule.specs.declared.rule.Plan.{Plan}
 use Rattle.hcc_rule.specs.declared.view.Made.{Made}
 use Rattle.hcc_rule.specs.declared.view.Record.{Record}
 use Rattle.hcc_rule.specs.declared.view.View.{View}
-use Rattle.hcc_rule.specs.Probes.{trail_to}
 use Rattle.hcc_rule.specs.Told.{Held}
 use Rattle.hcc_rule.specs.ToldOwners.{room_for, MayShow, first_records, shown_entry, after_show, shows}
-use Rattle.hcc_rule.specs.Views.{reference_of, is_on, is_called, record_in, times_called, load_of, is_seated, held, Each}
-use Rattle.hcc_rule.specs.Words.{field_at, made_words, entry_of, code_of}
-use Rattle.hcc_rule.specs.Rule.{made_at, entry_by, entry_in, IsStored, IsRecorded, IsHolding, IsRight, IsModest, Holds}
-use Rattle.hcc_rule.proofs.Lists.{within, read_at, each_map, each_append}
+use Rattle.hcc_rule.specs.Views.{reference_of, is_on, is_called, record_in, times_called, load_of, is_seated, Each}
+use Rattle.hcc_rule.specs.Words.{field_at}
+use Rattle.hcc_rule.specs.Rule.{entry_by, entry_in, IsStored, IsRecorded, IsHolding, IsRight, Holds}
+use Rattle.hcc_rule.proofs.Lists.{read_at, each_map, each_append}
 use Rattle.hcc_rule.proofs.Clients.{no_eq}
 use Rattle.hcc_rule.proofs.Codes.{when_le}
 use Rattle.hcc_rule.proofs.Findings.{none_passes}

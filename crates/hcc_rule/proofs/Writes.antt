@@ -1,6 +1,5 @@
 -- A store of a data word: the slot that its client builds has one word more.
-use Rattle.std.proofs.Common.{◌≡◌, ℕ, zero, suc, ◌+◌, ◌*◌, ◌<◌, ◌≤◌, ◌≢◌, inl, inr, Bool, true, false, List, [], ◌∷◌, ◌++◌, Option, Some, None, Ok, is_some, length, slice_get, slice_index, slice_set, sym, refl, ap, ◌∙◌, arith}
-use Rattle.std.specs.Option.{unwrap_or}
+use Rattle.std.proofs.Common.{◌≡◌, ℕ, zero, suc, ◌+◌, ◌<◌, ◌≢◌, inl, inr, Bool, true, false, List, [], ◌∷◌, ◌++◌, Option, Some, None, Ok, is_some, length, slice_get, slice_index, slice_set, sym, refl, ap, ◌∙◌, arith}
 use Rattle.std.proofs.lemmas.Bool.{cases_eq}
 use mathlib.Core.Option.{none}
 use Rattle.atomic_table.specs.Table.{step, Allows, keeps}
@@ -9,34 +8,32 @@ use Rattle.hcc_core.specs.declared.event.Reply.TheVariants as replies
 use Rattle.hcc_core.specs.declared.state.Client.{Client}
 use Rattle.hcc_core.specs.declared.state.Entry.{Entry}
 use Rattle.hcc_core.specs.declared.state.Owned.TheVariants as owned
-use Rattle.hcc_core.specs.declared.state.Reference.{Reference}
 use Rattle.hcc_core.specs.declared.state.Slot.{Slot}
 use Rattle.hcc_core.specs.declared.state.Slot.TheVariants as slots
-use Rattle.hcc_core.specs.Sums.{total}
 use Rattle.hcc_core.specs.World.{State}
 use Rattle.hcc_core.specs.Steps.{outcome_of, is_building}
-use Rattle.hcc_core.specs.Lawful.{Lawful, owner_of, owner_in, owned_slot, owned_by}
+use Rattle.hcc_core.specs.Lawful.{Lawful, owner_of, owned_slot}
 use Rattle.hcc_core.proofs.ListLemmas.{set_same}
 use Rattle.hcc_core.proofs.SumLemmas.{total-set, length-push}
 use Rattle.hcc_core.proofs.Keeps.{follows_lawful}
 use Rattle.hcc_core.proofs.Opening.{is_lawful}
 use Rattle.hcc_rule.specs.declared.key.Key.{Key}
-use Rattle.hcc_rule.specs.declared.layout.TheConstants.{SLOT_HEAD, META, DISPLACEMENT, DATA, PAYLOAD, USAGE, OCCUPANCY, STANDING, HAND}
+use Rattle.hcc_rule.specs.declared.layout.TheConstants.{META, DISPLACEMENT, DATA, PAYLOAD, HAND}
 use Rattle.hcc_rule.specs.declared.rule.Plan.{Plan}
 use Rattle.hcc_rule.specs.declared.view.View.{View}
 use Rattle.hcc_rule.specs.Told.{Held}
 use Rattle.hcc_rule.specs.ToldOwners.{after_write, writes}
-use Rattle.hcc_rule.specs.Views.{is_seated, held, names}
+use Rattle.hcc_rule.specs.Views.{is_seated, held}
 use Rattle.hcc_rule.specs.Words.{field_at, ledger_at, word_count, Lies}
-use Rattle.hcc_rule.specs.Rule.{entry_by, entry_in, IsDraft, IsHolding, Seats, Stamps, Holds}
-use Rattle.hcc_rule.proofs.Lists.{within, read_at, word_here, word_else, each_set}
+use Rattle.hcc_rule.specs.Rule.{entry_by, entry_in, IsDraft, Seats, Stamps, Holds}
+use Rattle.hcc_rule.proofs.Lists.{within, read_at, word_here, word_else}
 use Rattle.hcc_rule.proofs.Addresses.{fields_apart, field_inside, ledger_apart, data_field, data_away}
 use Rattle.hcc_rule.proofs.WordParts.{AreShort, coded_else, made_short, stored_words, drafted_set}
 use Rattle.hcc_rule.proofs.ViewParts.{holding_set, seats_set, seated_else, unnamed}
 use Rattle.hcc_rule.proofs.Looks.{client_fits, slot_there}
 use Rattle.hcc_rule.proofs.Empties.{owner_there}
 use Rattle.hcc_rule.proofs.Turns.{Shard, size_is}
-use Rattle.hcc_rule.proofs.Touches.{Goes, client_is, live_is, book_is}
+use Rattle.hcc_rule.proofs.Touches.{client_is, live_is, book_is}
 
 -- the member at the end, and those before it
 last_at : (xs : List ℕ) (y : ℕ) → slice_index (xs ++ y ∷ []) (length xs) ≡ y

@@ -151,7 +151,8 @@ module _ {T : Type 0} where
   abbrev pub IsLast : (slot word : ℕ) → Option ℕ → View T → Type 0
   IsLast slot word None v = refs_of word ≡ 0
   IsLast slot word (Some name) v =
-      (refs_of word ≡ 1) × IsSomeAnd (record_in name v.records) (λ r. (r.slot ≡ slot) × (r.weight ≡ 1))
+      (name < 2 ^ 64) × (refs_of word ≡ 1)
+      × IsSomeAnd (record_in name v.records) (λ r. (r.slot ≡ slot) × (r.weight ≡ 1))
 
   -- The view once it took the entry that is made so: all that was in the slot is the client's to take
   -- back, the entry's charge and its place are freed, and its words stand there still.

@@ -1,4 +1,5 @@
 //! One function for each kind of step, and what it tells its seat.
+mod frees;
 mod hand;
 mod ledgers;
 mod looks;

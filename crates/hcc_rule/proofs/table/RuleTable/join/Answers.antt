@@ -1,4 +1,4 @@
-use Rattle.std.proofs.Common.{rules, ◌≡◌, ℕ, ◌+◌, ◌*◌, ◌<◌, ap, ◌∙◌, is_some, arith}
+use Rattle.std.proofs.Common.{ap, is_some, arith}
 use Rattle.hcc_rule.proofs.Joins.{joins}
 use Rattle.hcc_rule.proofs.table.RuleTable.join.Goals as goal
 

@@ -1,6 +1,4 @@
-use Rattle.std.proofs.Common.{ap, is_some, sym, ◌∙◌, ◌+◌}
-use Rattle.hcc_rule.specs.declared.layout.TheConstants.{DATA}
-use Rattle.hcc_rule.specs.Words.{field_at}
+use Rattle.std.proofs.Common.{ap, is_some, sym, ◌∙◌}
 use Rattle.hcc_rule.proofs.Addresses.{data_field}
 use Rattle.hcc_rule.proofs.Writes.{write_step}
 use Rattle.hcc_rule.proofs.table.RuleTable.write.Goals as goal
