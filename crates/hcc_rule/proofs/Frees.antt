@@ -256,7 +256,7 @@ module _ {T : Type 0} (fits : T → Key → List ℕ → Type 0) (p : Plan T) wh
       → IsLast i old name me.0 → owns_nothing me.0.hand.owned ≡ true → me.0.hand.trail ≡ []
       → me.0.hand.freed + 2 ^ 32 ≤ 2 ^ 49
       → Allows (Holds fits p) count id me a (λ y. either (y == old) CONSTRUCTION_WORD y)
-          (frees fits p.geometry.slots p.geometry.room i name (step count a old CONSTRUCTION_WORD none) me)
+      (frees fits p.geometry.slots p.geometry.room i name (step count a old CONSTRUCTION_WORD none) me)
   free_step count id i a old name me near seated place entry last idle back space s r homes at low =
       let slot = slot_there fits p s r i near in
       by slot.0 slot.1 (slice_index s.words a == old) refl
@@ -326,19 +326,21 @@ module _ {T : Type 0} (fits : T → Key → List ℕ → Type 0) (p : Plan T) wh
           goes fits p s r a CONSTRUCTION_WORD id i me (after_free p.geometry.slots i word name k.entry.stamp stored.made me.0) (slots.Shareable k) (slots.Building me.0.client 0)
           (events.Free me.0.client i name) (replies.Freed k.entry.charge) then place exchange_to_construction
           (free_turn s r id i name me.0 k at_view seated at_slot word
-              (leaving k at_slot refs name last) (word_is (slots.Shareable k) at_slot) idle back (named name last) space)
-          (refl, record {
-            won = λ yes. (
-              k.entry.stamp,
-              stored.made,
-              record {
-                right = rightly stored.made (r.stamps.right k.entry.stamp stored.made stored.listed) me.0.tag (r.seats.each id me.0 at_view).tagged;
-                same = same_entry k at_slot (entry_of k.entry.stamp stored.made) stored.same name last;
-              },
-              refl,
-            );
-            lost = λ no. let bad : true ≡ false = sym is ∙ no in cc;
-          })
+          (leaving k at_slot refs name last) (word_is (slots.Shareable k) at_slot) idle back (named name last) space) (
+            refl,
+            record {
+              won = λ yes. (
+                k.entry.stamp,
+                stored.made,
+                record {
+                  right = rightly stored.made (r.stamps.right k.entry.stamp stored.made stored.listed) me.0.tag (r.seats.each id me.0 at_view).tagged;
+                  same = same_entry k at_slot (entry_of k.entry.stamp stored.made) stored.same name last;
+                },
+                refl,
+              );
+              lost = λ no. let bad : true ≡ false = sym is ∙ no in cc;
+            },
+          )
         where
           stored : IsStored p.geometry.room s.words r.books i k.entry
           stored = kept s r id i name me.0 k at_view seated at_slot

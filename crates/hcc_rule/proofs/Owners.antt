@@ -98,7 +98,7 @@ module _ {T : Type 0} (fits : T → Key → List ℕ → Type 0) (p : Plan T) wh
         ∙ (ap (λ o. length (unwrap_or o [])) book ∙ ap length (sym m.store.made)));
     right = λ n made there.
         let listed : made_at r.books (record { client = v.client; number = n }) ≡ Some made =
-            ap (λ o. slice_get (unwrap_or o []) n) book ∙ (ap (λ l. slice_get l n) (sym m.store.made) ∙ there) in
+        ap (λ o. slice_get (unwrap_or o []) n) book ∙ (ap (λ l. slice_get l n) (sym m.store.made) ∙ there) in
         r.stamps.right (record { client = v.client; number = n }) made listed;
     paid =
         let was = before.taken in

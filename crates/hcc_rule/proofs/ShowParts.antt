@@ -70,8 +70,15 @@ pub show_allowed : (w : State) (c i countdown : ℕ) (name : Option ℕ) (made :
     ≡ Ok (replies.Ok, with_both w i (slots.Shareable (resident_new c found made.key.w0 made.key.w1 made.charge countdown name made.value)) c (client_shown made.charge found))
 unfolding outcome_of may_show
 show_allowed w c i countdown name made found l at_client live builds place none_needed paid some few fresh stamps w0 w1 charge named bytes =
-    rw (client_fits w c l (within w.clients c found at_client), lt-ltb made.key.w0 (2 ^ 64) w0, lt-ltb made.key.w1 (2 ^ 64) w1,
-    lt-ltb made.charge (2 ^ 32) charge, lt-ltb countdown (2 ^ 64) (omega arith), names_fit name named, bytes_fit made.value bytes)
+    rw (
+      client_fits w c l (within w.clients c found at_client),
+      lt-ltb made.key.w0 (2 ^ 64) w0,
+      lt-ltb made.key.w1 (2 ^ 64) w1,
+      lt-ltb made.charge (2 ^ 32) charge,
+      lt-ltb countdown (2 ^ 64) (omega arith),
+      names_fit name named,
+      bytes_fit made.value bytes,
+    )
     (show_gives w c i made.key.w0 made.key.w1 made.charge countdown name made.value found (client_shown made.charge found)
     (resident_new c found made.key.w0 made.key.w1 made.charge countdown name made.value) at_client live (ap built_by builds) may refl refl)
   where

@@ -48,7 +48,7 @@ first_else : (i j : ℕ) (name : Option ℕ) (e : Entry) (f : Record → ℕ) �
 first_else i j None e f other = refl
 first_else i j (Some name) e f other =
     let off : when (i == j) (f record { slot = i; name = name; weight = 1; counting = true; shown = false; entry = e }) ≡ 0 =
-        ap (λ b. when b (f record { slot = i; name = name; weight = 1; counting = true; shown = false; entry = e })) (no_eq i j (λ same. other (sym same))) in
+    ap (λ b. when b (f record { slot = i; name = name; weight = 1; counting = true; shown = false; entry = e })) (no_eq i j (λ same. other (sym same))) in
     omega arith
 
 -- what is listed once one more is, was listed or is that one

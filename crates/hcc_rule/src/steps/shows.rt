@@ -29,7 +29,6 @@ pub struct Draft {
 /// The entry that a step shows, which it can't see. Each call picks it; it is for the proofs alone.
 pub trait Drafted {
     ghost use Rattle.std.specs.Prelude.{ℕ, Option};
-
     ghost use Rattle.hcc_rule.specs.declared.view.Made.{Made};
 
     ghost slot: { ℕ };
