@@ -1,5 +1,5 @@
 -- References are added, or strays.
-use Rattle.std.proofs.Common.{◌≡◌, ℕ, ◌+◌, ◌%◌, ◌^◌, ◌<◌, ◌≤◌, ◌==◌, ◌||◌, Bool, true, false, nat_lt, List, [], ◌∷◌, ◌++◌, Some, None, Ok, slice_get, slice_index, sym, refl, ap, ◌∙◌, arith}
+use Rattle.std.proofs.Common.{◌≡◌, ℕ, ◌+◌, ◌%◌, ◌^◌, ◌<◌, ◌≤◌, ◌==◌, ◌||◌, Bool, true, false, nat_lt, List, [], ◌∷◌, ◌++◌, Some, None, Ok, slice_get, slice_index, sym, refl, ap, ◌∙◌, arith, ne_eqb}
 use Rattle.std.proofs.lemmas.Bool.{lt-ltb, le-leb, eq-eqb, eqb-true}
 use mathlib.Core.Option.{none}
 use Rattle.atomic_table.specs.Table.{step, Allows}
@@ -34,7 +34,6 @@ use Rattle.hcc_rule.specs.Views.{reference_of, is_on, is_called, load_of, record
 use Rattle.hcc_rule.specs.Words.{field_at, code_of}
 use Rattle.hcc_rule.specs.Rule.{IsRecorded, IsHolding, Holds, entry_in}
 use Rattle.hcc_rule.proofs.Lists.{within, read_at, each_append}
-use Rattle.hcc_rule.proofs.Clients.{no_eq}
 use Rattle.hcc_rule.proofs.Codes.{few_strays, is_near, tells_entry, tells_shown}
 use Rattle.hcc_rule.proofs.Findings.{none_passes}
 use Rattle.hcc_rule.proofs.Looks.{client_fits, slot_fits, slot_there}
@@ -182,7 +181,7 @@ module _ {T : Type 0} (fits : T → Key → List ℕ → Type 0) (p : Plan T) wh
             omega arith;
         elsewhere = λ e h other.
             let recs = total-append (λ z. when (is_on e z) (h (reference_of me.0.client z))) me.0.records (q ∷ []) in
-            let none : when (is_on e q) (h (reference_of me.0.client q)) ≡ 0 = ap (λ b. when b (h (reference_of me.0.client q))) (no_eq i e (λ z. other (sym z))) in
+            let none : when (is_on e q) (h (reference_of me.0.client q)) ≡ 0 = ap (λ b. when b (h (reference_of me.0.client q))) (ne_eqb i e (λ z. other (sym z))) in
             omega arith;
         holding = holds_more s r id i a n x me t o q new refl refl refl record { there = ap entry_in o.at_slot; some = o.some };
       }) (

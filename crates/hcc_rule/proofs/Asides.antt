@@ -29,7 +29,6 @@ view_kept v hand asked turns seen tight = record {
   records = refl;
   made = refl;
   takings = refl;
-  written = refl;
 }
 
 -- what is paid at a place is paid there by any name
@@ -66,6 +65,7 @@ module _ {T : Type 0} (fits : T → Key → List ℕ → Type 0) (p : Plan T) wh
         at_view = at;
         seated = seated;
         same = view_kept me.0 hand asked turns seen tight;
+        written = refl;
         work = work;
         allowed = allowed;
         modest = modest;

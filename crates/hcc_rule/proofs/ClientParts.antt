@@ -22,7 +22,6 @@ pub record SameView {T : Type 0} (v new : View T) : Type 0 where
   pub records : new.records ≡ v.records
   pub made : new.made ≡ v.made
   pub takings : new.takings ≡ v.takings
-  pub written : new.written ≡ v.written
 
 -- of what is in hand, the trail, the place and the amounts may differ
 abbrev pub SameHand : Client → Client → Type 0
@@ -92,16 +91,6 @@ stamps_view {T} fits tag room all clients books views id v new stamps at at_clie
       let was = stamps.left in
       omega arith;
 }
-
--- what holds of each member holds of those that are left
-pub each_dropped : {A : Type 0} (P : A → Type 0) (test : A → Bool) (xs : List A) → Each P xs
-    → Each P (dropped test xs)
-each_dropped P test [] h = tt
-each_dropped P test (x ∷ xs) h = by (test x) (each_dropped P test xs h.1)
-  where
-    by : (b : Bool) → Each P (dropped test xs) → Each P (cond b xs (x ∷ dropped test xs))
-    by true rest = h.1
-    by false rest = (h.0, rest)
 
 -- Sums over clients that stand in a word.
 

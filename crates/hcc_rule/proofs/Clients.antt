@@ -1,5 +1,5 @@
 -- What a seat's view tells of its client, and of the references that the client holds.
-use Rattle.std.proofs.Common.{◌≡◌, ℕ, zero, suc, ◌+◌, ◌≤◌, ◌≢◌, ◌==◌, ◌||◌, cond, Bool, true, false, List, [], ◌∷◌, Option, Some, None, is_some, option_map, not, slice_get, sym, refl, ap, ◌∙◌, arith}
+use Rattle.std.proofs.Common.{◌≡◌, ℕ, zero, suc, ◌+◌, ◌≤◌, ◌≢◌, ◌==◌, ◌||◌, cond, Bool, true, false, List, [], ◌∷◌, Option, Some, None, is_some, option_map, not, slice_get, sym, refl, ap, ◌∙◌, arith, ne_eqb}
 use Rattle.std.specs.List.{list_any, find}
 use Rattle.std.proofs.lemmas.Bool.{eq-eqb, eqb-true}
 use Rattle.hcc_core.specs.declared.state.Client.{Client}
@@ -24,12 +24,6 @@ use Rattle.hcc_rule.proofs.ViewParts.{unnamed, seated_else}
 -- 1 for a reference of this client
 abbrev pub by_client : ℕ → Reference → ℕ
 by_client c k = when (k.client == c) 1
-
-pub no_eq : (a b : ℕ) → a ≢ b → (a == b) ≡ false
-no_eq a b other = elim (a == b) as (λ z. (a == b) ≡ z → z ≡ false) [
-  | true ↦ λ is. absurd (other (eqb-true a b is))
-  | false ↦ λ is. refl
-] refl
 
 -- a sum of nothing
 pub total-nothing : {A : Type 0} (f : A → ℕ) (xs : List A)
@@ -93,7 +87,7 @@ other_count : (s c d : ℕ) (rs : List Record) → d ≢ c
     → total (λ r. when (is_on s r) (by_client c (reference_of d r))) rs ≡ 0
 other_count s c d [] other = refl
 other_count s c d (r ∷ rs) other =
-    let none : by_client c (reference_of d r) ≡ 0 = ap (λ b. when b 1) (no_eq d c other) in
+    let none : by_client c (reference_of d r) ≡ 0 = ap (λ b. when b 1) (ne_eqb d c other) in
     let same : when (is_on s r) (by_client c (reference_of d r)) ≡ when (is_on s r) 0 = ap (when (is_on s r)) none in
     let zero_of : when (is_on s r) 0 ≡ 0 = elim (is_on s r) as (λ b. when b 0 ≡ 0) [ true ↦ refl | false ↦ refl ] in
     let rest = other_count s c d rs other in

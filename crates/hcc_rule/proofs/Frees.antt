@@ -53,7 +53,7 @@ use Rattle.hcc_rule.proofs.ShowParts.{names_fit}
 use Rattle.hcc_rule.proofs.ViewParts.{recorded_else, total-two}
 use Rattle.hcc_rule.proofs.WordParts.{made_short}
 use Rattle.hcc_rule.proofs.Turns.{Shard, Turn}
-use Rattle.hcc_rule.proofs.Touches.{by_hand, Goes, goes, client_is, live_is, book_is}
+use Rattle.hcc_rule.proofs.Touches.{by_hand, Goes, goes, client_is, live_is, book_is, stamps_are, was_right}
 
 -- a list of no member is empty
 empty_is : {A : Type 0} (xs : List A) → has_no_member xs ≡ true → xs ≡ []
@@ -232,9 +232,8 @@ module _ {T : Type 0} (fits : T → Key → List ℕ → Type 0) (p : Plan T) wh
           few = leaves.holding.few;
         };
         recorded = λ j u other at_u. records_else r.world.slots i left u.records (none_theirs j u other at_u) (r.holding j u at_u).recorded;
-        counted = r.stamps.counted v.client v.hand client ∙ ap (λ o. length (unwrap_or o [])) (book_is fits p s r id v at seated);
-        right = λ n m listed.
-            r.stamps.right (record { client = v.client; number = n }) m (ap (λ o. slice_get (unwrap_or o []) n) (book_is fits p s r id v at seated) ∙ listed);
+        counted = stamps_are fits p s r id v at seated;
+        right = was_right fits p s r id v at seated;
         paid = omega arith;
         usage = let charge = charge_is in omega arith;
         occupancy = omega arith;

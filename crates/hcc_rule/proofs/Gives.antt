@@ -1,5 +1,5 @@
 -- References are given back: they are taken from acquires.
-use Rattle.std.proofs.Common.{◌≡◌, ℕ, ◌+◌, ◌-◌, ◌%◌, ◌^◌, ◌<◌, ◌≢◌, true, List, Option, Some, None, Ok, IsSomeAnd, slice_get, slice_index, sym, refl, ap, ◌∙◌, arith}
+use Rattle.std.proofs.Common.{◌≡◌, ℕ, ◌+◌, ◌-◌, ◌%◌, ◌^◌, ◌<◌, ◌≢◌, true, List, Option, Some, None, Ok, IsSomeAnd, slice_get, slice_index, sym, refl, ap, ◌∙◌, arith, ne_eqb}
 use Rattle.std.proofs.lemmas.Bool.{eq-eqb, lt-ltb}
 use mathlib.Core.Option.{none}
 use Rattle.atomic_table.specs.Table.{step, Allows}
@@ -31,7 +31,6 @@ use Rattle.hcc_rule.specs.Views.{reference_of, is_on, is_called, record_in, is_s
 use Rattle.hcc_rule.specs.Words.{field_at, code_of}
 use Rattle.hcc_rule.specs.Rule.{IsRecorded, IsHolding, Holds}
 use Rattle.hcc_rule.proofs.Lists.{within, read_at}
-use Rattle.hcc_rule.proofs.Clients.{no_eq}
 use Rattle.hcc_rule.proofs.Codes.{is_near}
 use Rattle.hcc_rule.proofs.Findings.{dropped_each}
 use Rattle.hcc_rule.proofs.Looks.{client_fits}
@@ -74,7 +73,7 @@ module _ {T : Type 0} (fits : T → Key → List ℕ → Type 0) (p : Plan T) wh
         → (j : ℕ) (h : Reference → ℕ) → j ≢ i → held j h new ≡ held j h v
     loses_no_other new client records j h other =
         let recs = held_less j x v new q h o.called client records in
-        let none : when (is_on j q) (h (reference_of v.client q)) ≡ 0 = ap (λ b. when b (h (reference_of v.client q))) (no_eq q.slot j (λ e. other (sym e ∙ o.on))) in
+        let none : when (is_on j q) (h (reference_of v.client q)) ≡ 0 = ap (λ b. when b (h (reference_of v.client q))) (ne_eqb q.slot j (λ e. other (sym e ∙ o.on))) in
         omega arith
 
     -- and those that are left are as they were

@@ -32,6 +32,7 @@ module _ {T : Type 0} (fits : T → Key → List ℕ → Type 0) (p : Plan T) wh
         at_view = at;
         seated = seated;
         same = view_kept v v.hand v.open_places (v.turns + 1) v.seen v.tight;
+        written = refl;
         work = refl;
         allowed = turn_gives r.world v.client v.hand (law_is fits p s r) client live word (ap (slice_index s.words) place ∙ r.turned);
         modest = modest_is fits p s r id v at seated;

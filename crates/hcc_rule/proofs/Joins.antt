@@ -29,6 +29,7 @@ use Rattle.hcc_rule.proofs.ViewParts.{when_few, names_own, unnamed, seated_else,
 use Rattle.hcc_rule.proofs.Looks.{client_fits}
 use Rattle.hcc_rule.proofs.Splits.{total_started}
 use Rattle.hcc_rule.proofs.Turns.{Shard}
+use Rattle.hcc_rule.proofs.Touches.{stamps_are}
 
 -- no member passes where none of them does
 none_passes : {A : Type 0} (p : A → Bool) (xs : List A)
@@ -78,9 +79,6 @@ module _ {T : Type 0} (fits : T → Key → List ℕ → Type 0) (p : Plan T) wh
     still_there : slice_get (slice_set s.views id both) other ≡ Some w
     still_there = read_other s.views id other both apart ∙ there
 
-    counts : w.hand.stamps ≡ length w.made
-    counts = r.stamps.counted w.client w.hand was ∙ ap (λ o. length (unwrap_or o [])) (second.book sits)
-
     -- no slot has a reference of that client
     no_references : (k : ℕ) (slot : Slot) → slice_get r.world.slots k ≡ Some slot → has_client w.client slot ≡ false
     no_references k slot at_slot =
@@ -94,7 +92,7 @@ module _ {T : Type 0} (fits : T → Key → List ℕ → Type 0) (p : Plan T) wh
     idle_now = rw idle refl
 
     left_idle : record w.hand { live = false; looked = None } ≡ new
-    left_idle = rw idle (ap (λ n. record new_client { stamps = n; dead = w.hand.dead }) counts)
+    left_idle = rw idle (ap (λ n. record new_client { stamps = n; dead = w.hand.dead }) (stamps_are fits p s r other w there sits))
 
     ends : outcome_of r.world (events.End w.client) ≡ Ok (replies.Ok, after)
     unfolding outcome_of end_of

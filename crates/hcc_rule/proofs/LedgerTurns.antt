@@ -198,6 +198,7 @@ module _ {T : Type 0} (fits : T → Key → List ℕ → Type 0) (p : Plan T) wh
     pub at_view : slice_get s.views id ≡ Some v
     pub seated : is_seated v ≡ true
     pub same : SameView v new
+    pub written : new.written ≡ v.written
     pub work : SameHand v.hand new.hand
     pub allowed : outcome_of r.world event ≡ Ok (reply, record (with_client r.world v.client new.hand) { hand = k })
     pub modest : IsModest new.hand
@@ -284,11 +285,11 @@ module _ {T : Type 0} (fits : T → Key → List ℕ → Type 0) (p : Plan T) wh
           let old = r.drafted id v m.at_view in
           let owned : new.hand.owned ≡ v.hand.owned = ap (λ (c : Client). c.owned) m.work in
           record {
-            short = rw m.same.written old.short;
+            short = rw m.written old.short;
             lies = λ j owns.
                 let owns_v : owned_slot v.hand.owned ≡ Some j = ap owned_slot (sym owned) ∙ owns in
                 let away = aside.written j (owned_near id v m.at_view j owns_v) in
-                rw m.same.written (lies_away p.geometry.room j a y s.words v.written old.short away (old.lies j owns_v));
+                rw m.written (lies_away p.geometry.room j a y s.words v.written old.short away (old.lies j owns_v));
           }
 
   -- The seat goes on with the word y at a.

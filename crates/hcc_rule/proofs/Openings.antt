@@ -1,5 +1,5 @@
 -- A table of zeros shows an opening world whose client 0 was started.
-use Rattle.std.proofs.Common.{◌≡◌, ℕ, zero, suc, ◌+◌, ◌-◌, ◌<◌, ◌≤◌, ◌≢◌, inl, inr, ◌==◌, nat_lt, List, [], ◌∷◌, map, Some, None, Ok, replicate, length, slice_get, slice_index, slice_set, sym, refl, ap, ◌∙◌, arith}
+use Rattle.std.proofs.Common.{◌≡◌, ℕ, zero, suc, ◌+◌, ◌-◌, ◌<◌, ◌≤◌, ◌≢◌, inl, inr, ◌==◌, nat_lt, List, [], ◌∷◌, map, Some, None, Ok, replicate, length, slice_get, slice_index, slice_set, sym, refl, ap, ◌∙◌, arith, ne_eqb}
 use mathlib.Core.Logic.{dite}
 use native.Mathlib.Decide.{dec_le, ℕ_discrete}
 use Rattle.std.specs.List.{range_with_len}
@@ -33,6 +33,7 @@ use Rattle.hcc_rule.specs.Views.{Each}
 use Rattle.hcc_rule.specs.Rule.{Books, book_of, made_at, entry_in, setup_of, Coded, IsDraft, IsHolding, IsNamed, IsSeated, Seats, Stamps, Ledgers, Trails, IsModest, Holds}
 use Rattle.hcc_rule.specs.Opening.{started, unstarted, opening_view}
 use Rattle.hcc_rule.proofs.Lists.{each_set}
+use Rattle.hcc_rule.proofs.ViewParts.{when_is}
 
 -- a list of one member over and over has it at each place
 pub replicate_at : {A : Type 0} (n i : ℕ) (x : A) → i < n → slice_get (replicate n x) i ≡ Some x
@@ -60,19 +61,13 @@ below c n h = ap (λ b. when b 1) (lt-ltb c n h)
 above : (c n : ℕ) → n ≤ c → when (nat_lt c n) 1 ≡ 0
 above c n h = ap (λ b. when b 1) (false_from_ne_true (nat_lt c n) (λ e. let less = ltb-true c n e in omega arith))
 
-is_one : (a c : ℕ) → a ≡ c → when (a == c) 1 ≡ 1
-is_one a c e = ap (λ b. when b 1) (eq-eqb a c e)
-
-is_none : (a c : ℕ) → a ≢ c → when (a == c) 1 ≡ 0
-is_none a c h = ap (λ b. when b 1) (false_from_ne_true (a == c) (λ e. h (eqb-true a c e)))
-
 -- the numbers below the next number are those below this one, and this one
 next_number : (c a : ℕ) → when (nat_lt c a) 1 + when (a == c) 1 ≡ when (nat_lt c (a + 1)) 1
 next_number c a = dite (ℕ_discrete a c)
-    (λ same. let x = above c a (omega arith) in let y = is_one a c same in let z = below c (a + 1) (omega arith) in omega arith)
+    (λ same. let x = above c a (omega arith) in let y = when_is a c same in let z = below c (a + 1) (omega arith) in omega arith)
     (λ other. dite (dec_le (c + 1) a)
-    (λ less. let x = below c a (omega arith) in let y = is_none a c other in let z = below c (a + 1) (omega arith) in omega arith)
-    (λ more. let x = above c a (omega arith) in let y = is_none a c other in let z = above c (a + 1) (omega arith) in omega arith))
+    (λ less. let x = below c a (omega arith) in let y : when (a == c) 1 ≡ 0 = ap (λ b. when b 1) (ne_eqb a c other) in let z = below c (a + 1) (omega arith) in omega arith)
+    (λ more. let x = above c a (omega arith) in let y : when (a == c) 1 ≡ 0 = ap (λ b. when b 1) (ne_eqb a c other) in let z = above c (a + 1) (omega arith) in omega arith))
 
 -- each client from one number on is named once
 count_range : (c a n : ℕ)

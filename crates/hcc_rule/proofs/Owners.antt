@@ -15,11 +15,11 @@ use Rattle.hcc_rule.specs.declared.rule.Plan.{Plan}
 use Rattle.hcc_rule.specs.declared.view.Record.{Record}
 use Rattle.hcc_rule.specs.declared.view.View.{View}
 use Rattle.hcc_rule.specs.Views.{is_seated, held}
-use Rattle.hcc_rule.specs.Rule.{made_at, entry_by, IsRecorded, IsTrailed, Holds}
+use Rattle.hcc_rule.specs.Rule.{entry_by, IsRecorded, IsTrailed, Holds}
 use Rattle.hcc_rule.proofs.Lists.{each_map}
 use Rattle.hcc_rule.proofs.ViewParts.{recorded_kept}
 use Rattle.hcc_rule.proofs.Turns.{Shard, SameName, Turn}
-use Rattle.hcc_rule.proofs.Touches.{client_is, live_is, book_is}
+use Rattle.hcc_rule.proofs.Touches.{client_is, live_is, stamps_are, was_right}
 
 -- a slot with no entry has no references, no trail, no charge and no place
 pub record IsBare (t : Slot) : Type 0 where
@@ -92,14 +92,8 @@ module _ {T : Type 0} (fits : T → Key → List ℕ → Type 0) (p : Plan T) wh
         };
     recorded = λ j u other there.
         each_map (IsRecorded r.world.slots) (IsRecorded (slice_set r.world.slots i left)) kept u.records (r.holding j u there).recorded;
-    counted =
-        ap (λ (c : Client). c.stamps) m.work
-        ∙ (r.stamps.counted v.client v.hand client
-        ∙ (ap (λ o. length (unwrap_or o [])) book ∙ ap length (sym m.store.made)));
-    right = λ n made there.
-        let listed : made_at r.books (record { client = v.client; number = n }) ≡ Some made =
-        ap (λ o. slice_get (unwrap_or o []) n) book ∙ (ap (λ l. slice_get l n) (sym m.store.made) ∙ there) in
-        r.stamps.right (record { client = v.client; number = n }) made listed;
+    counted = ap (λ (c : Client). c.stamps) m.work ∙ (stamps_are fits p s r id v m.at_view m.seated ∙ ap length (sym m.store.made));
+    right = λ n made there. was_right fits p s r id v m.at_view m.seated n made (ap (λ l. slice_get l n) (sym m.store.made) ∙ there);
     paid =
         let was = before.taken in
         let now = later.taken in
@@ -136,9 +130,6 @@ module _ {T : Type 0} (fits : T → Key → List ℕ → Type 0) (p : Plan T) wh
 
       client : slice_get r.world.clients v.client ≡ Some v.hand
       client = client_is fits p s r id v m.at_view m.seated
-
-      book : slice_get r.books v.client ≡ Some v.made
-      book = book_is fits p s r id v m.at_view m.seated
 
       held_same : (j : ℕ) (h : Reference → ℕ) → held j h new ≡ held j h v
       held_same j h = rw (m.store.records, m.same.client) refl

@@ -1,5 +1,5 @@
 -- A record of a view and the reference that it is of.
-use Rattle.std.proofs.Common.{◌≡◌, ℕ, ◌≤◌, ◌≢◌, ◌==◌, Bool, true, false, List, Option, Some, None, is_some, slice_get, sym, refl, ap, ◌∙◌, arith}
+use Rattle.std.proofs.Common.{◌≡◌, ℕ, ◌≤◌, ◌≢◌, ◌==◌, Bool, true, false, List, Option, Some, None, is_some, slice_get, sym, refl, ap, ◌∙◌, arith, ne_eqb}
 use Rattle.std.proofs.lemmas.Bool.{eq-eqb, eqb-true, and_parts}
 use Rattle.hcc_core.specs.declared.state.Client.{Client}
 use Rattle.hcc_core.specs.declared.state.Reference.{Reference}
@@ -11,7 +11,7 @@ use Rattle.hcc_rule.specs.declared.view.View.{View}
 use Rattle.hcc_rule.specs.Views.{reference_of, is_on, is_called, record_in, times_called, is_seated, held}
 use Rattle.hcc_rule.specs.Rule.{Books, References, Seats}
 use Rattle.hcc_rule.proofs.ViewParts.{unnamed, seated_else}
-use Rattle.hcc_rule.proofs.Clients.{no_eq, total-nothing, total-only}
+use Rattle.hcc_rule.proofs.Clients.{total-nothing, total-only}
 use Rattle.hcc_rule.proofs.Findings.{total-same, when_zero, when_swap, when_same, find_passes, none_weighs, one_weighs, none_passes, some_found, some_any, none_any, position_is, position_none}
 
 -- references of the same fields are one
@@ -22,7 +22,7 @@ same_reference k j client name weight counting =
 
 -- a reference of another client doesn't have the name
 named_else : (c x : ℕ) (k : Reference) → k.client ≢ c → is_named c x k ≡ false
-named_else c x k other = rw (no_eq k.client c other) refl
+named_else c x k other = rw (ne_eqb k.client c other) refl
 
 -- a record's reference has its name
 named_own : (c x : ℕ) (q : Record) → is_named c x (reference_of c q) ≡ is_called x q
@@ -91,7 +91,7 @@ module _ {T : Type 0} (tag : T) (all : List Slot) (clients : List Client) (books
         (some_any (is_named v.client x) (references_of slot) (let one = here i slot at_slot on (λ k. 1) in omega arith))
         (λ j other different there. none_any (is_named v.client x) (references_of other)
         (by_record j other there (λ k. 1)
-        ∙ ap (λ b. when b 1) (no_eq q.slot j (λ e. different (sym e ∙ on)))))
+        ∙ ap (λ b. when b 1) (ne_eqb q.slot j (λ e. different (sym e ∙ on)))))
 
     is_it : (slot : Slot) (i : ℕ) (k : Reference) → q.slot ≡ i → slice_get all i ≡ Some slot
         → reference_in v.client x (references_of slot) ≡ Some k → k ≡ reference_of v.client q

@@ -1,5 +1,5 @@
 -- The store of a new entry's word: the entry whose words were written is shown.
-use Rattle.std.proofs.Common.{◌≡◌, ℕ, zero, suc, ◌-◌, ◌^◌, ◌<◌, ◌≤◌, ◌≢◌, ◌⊎◌, inl, inr, ◌==◌, true, false, List, [], ◌∷◌, ◌++◌, Option, Some, None, IfSome, is_none, is_some, length, slice_get, slice_set, sym, refl, ap, ◌∙◌, arith}
+use Rattle.std.proofs.Common.{◌≡◌, ℕ, zero, suc, ◌-◌, ◌^◌, ◌<◌, ◌≤◌, ◌≢◌, ◌⊎◌, inl, inr, ◌==◌, true, false, List, [], ◌∷◌, ◌++◌, Option, Some, None, IfSome, is_none, is_some, length, slice_get, slice_set, sym, refl, ap, ◌∙◌, arith, ne_eqb}
 use Rattle.std.specs.Int.{from_bool}
 use Rattle.std.specs.Option.{unwrap_or}
 use Rattle.std.proofs.lemmas.Bool.{cases_eq}
@@ -30,7 +30,6 @@ use Rattle.hcc_rule.specs.Views.{reference_of, is_on, is_called, record_in, time
 use Rattle.hcc_rule.specs.Words.{field_at}
 use Rattle.hcc_rule.specs.Rule.{entry_by, entry_in, IsStored, IsRecorded, IsHolding, IsRight, Holds}
 use Rattle.hcc_rule.proofs.Lists.{read_at, each_map, each_append}
-use Rattle.hcc_rule.proofs.Clients.{no_eq}
 use Rattle.hcc_rule.proofs.Codes.{when_le}
 use Rattle.hcc_rule.proofs.Findings.{none_passes}
 use Rattle.hcc_rule.proofs.References.{fresh_name}
@@ -40,7 +39,7 @@ use Rattle.hcc_rule.proofs.Looks.{slot_there}
 use Rattle.hcc_rule.proofs.Empties.{owner_there}
 use Rattle.hcc_rule.proofs.ShowParts.{get_front, get_last, first_code, first_weighs, show_allowed}
 use Rattle.hcc_rule.proofs.Turns.{Shard, Turn}
-use Rattle.hcc_rule.proofs.Touches.{Goes, goes, client_is, live_is, book_is}
+use Rattle.hcc_rule.proofs.Touches.{Goes, goes, client_is, live_is, book_is, stamps_are, was_right}
 
 -- a sum over what the client keeps of an entry on one slot is nothing on another
 first_else : (i j : ℕ) (name : Option ℕ) (e : Entry) (f : Record → ℕ) → j ≢ i
@@ -48,7 +47,7 @@ first_else : (i j : ℕ) (name : Option ℕ) (e : Entry) (f : Record → ℕ) �
 first_else i j None e f other = refl
 first_else i j (Some name) e f other =
     let off : when (i == j) (f record { slot = i; name = name; weight = 1; counting = true; shown = false; entry = e }) ≡ 0 =
-    ap (λ b. when b (f record { slot = i; name = name; weight = 1; counting = true; shown = false; entry = e })) (no_eq i j (λ same. other (sym same))) in
+    ap (λ b. when b (f record { slot = i; name = name; weight = 1; counting = true; shown = false; entry = e })) (ne_eqb i j (λ same. other (sym same))) in
     omega arith
 
 -- what is listed once one more is, was listed or is that one
@@ -83,7 +82,7 @@ module _ {T : Type 0} (fits : T → Key → List ℕ → Type 0) (p : Plan T) wh
     book = book_is fits p s r id v at seated
 
     counts : v.hand.stamps ≡ length v.made
-    counts = r.stamps.counted v.client v.hand client ∙ ap (λ o. length (unwrap_or o [])) book
+    counts = stamps_are fits p s r id v at seated
 
     -- no record is of a slot that is built
     off : (q : Record) → IsRecorded r.world.slots q → q.slot ≢ i
@@ -120,7 +119,7 @@ module _ {T : Type 0} (fits : T → Key → List ℕ → Type 0) (p : Plan T) wh
       | inr other ↦
           let sum = total-append (λ q. when (is_called y q) 1) v.records (first_records i (Some x) entry) in
           let was = (r.holding id v at).once y in
-          let none : when (x == y) 1 ≡ 0 = ap (λ b. when b 1) (no_eq x y other) in
+          let none : when (x == y) 1 ≡ 0 = ap (λ b. when b 1) (ne_eqb x y other) in
           omega arith
     ]
 
@@ -154,7 +153,7 @@ module _ {T : Type 0} (fits : T → Key → List ℕ → Type 0) (p : Plan T) wh
 
     right : (n : ℕ) (m : Made) → slice_get new.made n ≡ Some m → IsRight fits p.tag p.geometry.room m
     right n m there = elim (last_or v.made made n m there) [
-      | inl old ↦ r.stamps.right (record { client = v.client; number = n }) m (ap (λ o. slice_get (unwrap_or o []) n) book ∙ old)
+      | inl old ↦ was_right fits p s r id v at seated n m old
       | inr is ↦ rw is may.right
     ]
 

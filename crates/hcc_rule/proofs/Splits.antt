@@ -22,7 +22,7 @@ use Rattle.hcc_rule.specs.Views.{is_seated, held, names, named_by, Each}
 use Rattle.hcc_rule.specs.Rule.{book_of, IsDraft, IsHolding, IsNamed, IsSeated, Seats, Stamps, IsModest, Ledgers, Trails, resting, Holds}
 use Rattle.hcc_rule.specs.Opening.{started, fresh_view, left_view, right_view}
 use Rattle.hcc_rule.proofs.Lists.{within, read_at, each_set}
-use Rattle.hcc_rule.proofs.ViewParts.{total-two, when_few, seated_else, others_else}
+use Rattle.hcc_rule.proofs.ViewParts.{total-two, when_few, when_is, seated_else, others_else}
 use Rattle.hcc_rule.proofs.Looks.{client_fits}
 use Rattle.hcc_rule.proofs.Turns.{Shard}
 
@@ -48,9 +48,6 @@ total_split f xs i x left right at parts =
 pub total_started : (f : Client → ℕ) (clients : List Client) (c : ℕ) (old new : Client)
     → slice_get clients c ≡ Some old → f new ≡ f old → total f (slice_set clients c new) ≡ total f clients
 total_started f clients c old new at same = let change = total-set f clients c old new at in omega arith
-
-when_is : (a c : ℕ) → a ≡ c → when (a == c) 1 ≡ 1
-when_is a c e = ap (λ b. when b 1) (eq-eqb a c e)
 
 module _ {T : Type 0} (fits : T → Key → List ℕ → Type 0) (p : Plan T) where
   -- The split of a seat whose view names another client.
@@ -87,11 +84,14 @@ module _ {T : Type 0} (fits : T → Key → List ℕ → Type 0) (p : Plan T) wh
     unfolding outcome_of
     starts = rw (client_fits r.world o.client (is_lawful r.world r.lawful) (within r.world.clients o.client (resting o.made o.dead) was), was) refl
 
+    listed : (c : ℕ) → total (λ (q : Other). when (q.client == c) 1) v.others ≡ when (o.client == c) 1 + total (λ (q : Other). when (q.client == c) 1) os
+    listed c = ap (total (λ (q : Other). when (q.client == c) 1)) named
+
     -- the client is named by the view that is split, once, and by no other
     own_names : names o.client v ≡ 1
     own_names =
         let one = when_is o.client o.client refl in
-        let listed : total (λ (q : Other). when (q.client == o.client) 1) v.others ≡ when (o.client == o.client) 1 + total (λ (q : Other). when (q.client == o.client) 1) os = ap (total (λ (q : Other). when (q.client == o.client) 1)) named in
+        let list = listed o.client in
         let member = total-member (names o.client) s.views id v at in
         let once = r.seats.once o.client in
         let few = when_few (nat_lt o.client (length r.world.clients)) in
@@ -110,14 +110,14 @@ module _ {T : Type 0} (fits : T → Key → List ℕ → Type 0) (p : Plan T) wh
         let one = when_is o.client o.client refl in
         let both : (is_seated v && v.client == o.client) ≡ true = rw (seated, eq-eqb v.client o.client same) refl in
         let self : when (is_seated v && v.client == o.client) 1 ≡ 1 = ap (λ b. when b 1) both in
-        let listed : total (λ (q : Other). when (q.client == o.client) 1) v.others ≡ when (o.client == o.client) 1 + total (λ (q : Other). when (q.client == o.client) 1) os = ap (total (λ (q : Other). when (q.client == o.client) 1)) named in
+        let list = listed o.client in
         let own = own_names in
         absurd (omega arith)
 
     not_rest : total (λ (q : Other). when (q.client == o.client) 1) os ≡ 0
     not_rest =
         let one = when_is o.client o.client refl in
-        let listed : total (λ (q : Other). when (q.client == o.client) 1) v.others ≡ when (o.client == o.client) 1 + total (λ (q : Other). when (q.client == o.client) 1) os = ap (total (λ (q : Other). when (q.client == o.client) 1)) named in
+        let list = listed o.client in
         let own = own_names in
         omega arith
 
@@ -164,7 +164,7 @@ module _ {T : Type 0} (fits : T → Key → List ℕ → Type 0) (p : Plan T) wh
     named_parts : (c : ℕ) → names c left + names c right ≡ names c v
     named_parts c =
         let sits : when (is_seated right && o.client == c) 1 ≡ when (o.client == c) 1 = ap (λ b. when (b && o.client == c) 1) seated in
-        let listed : total (λ (q : Other). when (q.client == c) 1) v.others ≡ when (o.client == c) 1 + total (λ (q : Other). when (q.client == c) 1) os = ap (total (λ (q : Other). when (q.client == c) 1)) named in
+        let list = listed c in
         omega arith
 
     seats : Seats p.tag after.clients r.books views

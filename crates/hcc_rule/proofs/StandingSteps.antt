@@ -22,7 +22,7 @@ use Rattle.hcc_rule.specs.Views.{is_seated}
 use Rattle.hcc_rule.specs.Words.{ledger_at}
 use Rattle.hcc_rule.specs.Rule.{IsModest, Holds}
 use Rattle.hcc_rule.proofs.Lists.{read_at, each_append}
-use Rattle.hcc_rule.proofs.ClientParts.{each_dropped}
+use Rattle.hcc_rule.proofs.Findings.{dropped_each}
 use Rattle.hcc_rule.proofs.LedgerTurns.{on_standing, Pays}
 use Rattle.hcc_rule.proofs.LedgerGives.{standing_gives, stand_gives, fall_allowed}
 use Rattle.hcc_rule.proofs.Asides.{pays_at, modest_is, law_is, usage_low, goes_by}
@@ -180,7 +180,7 @@ module _ {T : Type 0} (fits : T → Key → List ℕ → Type 0) (p : Plan T) (c
         asked = old.asked;
         freed = room;
         few = let shorter = dropped-length (is_standing name) v.hand.standalones in let most = old.few in omega arith;
-        small = each_dropped (λ (z : Standalone). z.charge < 2 ^ 32) (is_standing name) v.hand.standalones old.small;
+        small = dropped_each (is_standing name) (λ (z : Standalone). z.charge < 2 ^ 32) v.hand.standalones old.small;
       }
 
       charged : charged_to new ≡ charged_to v.hand

@@ -16,12 +16,13 @@ use Rattle.hcc_core.proofs.ListLemmas.{set_same}
 use Rattle.hcc_rule.specs.declared.key.Key.{Key}
 use Rattle.hcc_rule.specs.declared.layout.TheConstants.{META}
 use Rattle.hcc_rule.specs.declared.rule.Plan.{Plan}
+use Rattle.hcc_rule.specs.declared.view.Made.{Made}
 use Rattle.hcc_rule.specs.declared.view.Record.{Record}
 use Rattle.hcc_rule.specs.declared.view.View.{View}
 use Rattle.hcc_rule.specs.Told.{Held}
 use Rattle.hcc_rule.specs.Views.{is_seated, held}
 use Rattle.hcc_rule.specs.Words.{field_at, code_of}
-use Rattle.hcc_rule.specs.Rule.{made_at, entry_by, entry_in, IsRecorded, IsHolding, IsTrailed, Holds}
+use Rattle.hcc_rule.specs.Rule.{entry_by, entry_in, IsRecorded, IsHolding, IsTrailed, Holds, IsRight}
 use Rattle.hcc_rule.proofs.Lists.{each_map}
 use Rattle.hcc_rule.proofs.ViewParts.{recorded_kept}
 use Rattle.hcc_rule.proofs.Turns.{Shard, SameName, Turn, turned}
@@ -104,6 +105,14 @@ module _ {T : Type 0} (fits : T → Key → List ℕ → Type 0) (p : Plan T) wh
     pub book_is : slice_get r.books v.client ≡ Some v.made
     book_is = (r.seats.each id v at).book seated
 
+    -- it has as many stamps as it showed entries, and was right to show each
+    pub stamps_are : v.hand.stamps ≡ length v.made
+    stamps_are = r.stamps.counted v.client v.hand client_is ∙ ap (λ o. length (unwrap_or o [])) book_is
+
+    pub was_right : (n : ℕ) (made : Made) → slice_get v.made n ≡ Some made → IsRight fits p.tag p.geometry.room made
+    was_right n made there =
+        r.stamps.right (record { client = v.client; number = n }) made (ap (λ o. slice_get (unwrap_or o []) n) book_is ∙ there)
+
   pub touched : (s : Shard fits p) (r : Holds fits p s) (id i : ℕ) (v new : View T) (t left : Slot) (event : Event) (reply : Reply)
       → Touch s r id i v new t left event reply → Turn fits p s r id i v new t left event reply
   touched s r id i v new t left event reply m = record {
@@ -132,14 +141,8 @@ module _ {T : Type 0} (fits : T → Key → List ℕ → Type 0) (p : Plan T) wh
     };
     recorded = λ j u other there.
         each_map (IsRecorded r.world.slots) (IsRecorded (slice_set r.world.slots i left)) kept u.records (r.holding j u there).recorded;
-    counted =
-        ap (λ (c : Client). c.stamps) m.work
-        ∙ (r.stamps.counted v.client v.hand client
-        ∙ (ap length (ap (λ o. unwrap_or o []) (book_is s r id v m.at_view m.seated)) ∙ ap length (sym m.store.made)));
-    right = λ n made there.
-        let listed : made_at r.books (record { client = v.client; number = n }) ≡ Some made =
-        ap (λ o. slice_get (unwrap_or o []) n) (book_is s r id v m.at_view m.seated) ∙ (ap (λ l. slice_get l n) (sym m.store.made) ∙ there) in
-        r.stamps.right (record { client = v.client; number = n }) made listed;
+    counted = ap (λ (c : Client). c.stamps) m.work ∙ (stamps_are s r id v m.at_view m.seated ∙ ap length (sym m.store.made));
+    right = λ n made there. was_right s r id v m.at_view m.seated n made (ap (λ l. slice_get l n) (sym m.store.made) ∙ there);
     paid =
         let taken = taken_alike t left m.like in
         let takings = m.store.takings in

@@ -91,6 +91,10 @@ total-two f (z ∷ zs) (suc i) (suc j) x y other at_i at_j =
 when_one : (b : Bool) → b ≡ true → when b 1 ≡ 1
 when_one b is = ap (λ z. when z 1) is
 
+-- a number counts itself
+pub when_is : (a c : ℕ) → a ≡ c → when (a == c) 1 ≡ 1
+when_is a c e = when_one (a == c) (eq-eqb a c e)
+
 pub when_few : (b : Bool) → when b 1 ≤ 1
 when_few true = omega arith
 when_few false = omega arith
