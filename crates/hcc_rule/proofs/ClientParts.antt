@@ -1,14 +1,13 @@
 -- What keeps the parts of the rule at a change of one client and its view alone.
-use Rattle.std.proofs.Common.{◌≡◌, ℕ, ◌+◌, ◌<◌, ◌≢◌, ◌⊎◌, inl, inr, Bool, true, false, cond, List, [], ◌∷◌, Some, length, slice_get, slice_index, slice_set, sym, refl, ap, ◌∙◌, arith}
+use Rattle.std.proofs.Common.{◌≡◌, ℕ, ◌+◌, ◌<◌, ◌≢◌, ◌⊎◌, inl, inr, true, List, Some, length, slice_get, slice_index, slice_set, sym, refl, ap, ◌∙◌, arith}
 use Rattle.std.proofs.lemmas.List.{length-set}
 use Rattle.hcc_core.specs.declared.state.Client.{Client}
 use Rattle.hcc_core.specs.declared.state.Slot.{Slot}
 use Rattle.hcc_core.specs.Sums.{total}
-use Rattle.hcc_core.specs.Steps.{dropped}
 use Rattle.hcc_core.proofs.SumLemmas.{total-set}
 use Rattle.hcc_rule.specs.declared.key.Key.{Key}
 use Rattle.hcc_rule.specs.declared.view.View.{View}
-use Rattle.hcc_rule.specs.Views.{is_seated, held, Each}
+use Rattle.hcc_rule.specs.Views.{is_seated, held}
 use Rattle.hcc_rule.specs.Rule.{Books, book_of, References, IsHolding, Holding, Seats, Stamps}
 use Rattle.hcc_rule.proofs.Lists.{word_here, word_else, each_set}
 use Rattle.hcc_core.proofs.ListLemmas.{set_same}
@@ -91,6 +90,25 @@ stamps_view {T} fits tag room all clients books views id v new stamps at at_clie
       let was = stamps.left in
       omega arith;
 }
+
+-- The same where the client's work in hand stays.
+pub seats_still : {T : Type 0} (tag : T) (clients : List Client) (books : Books) (views : List (View T)) (id : ℕ) (v new : View T)
+    → Seats tag clients books views → slice_get views id ≡ Some v → is_seated v ≡ true
+    → SameView v new → new.hand ≡ v.hand
+    → Seats tag clients books (slice_set views id new)
+seats_still tag clients books views id v new seats at seated same hand =
+    let changed = seats_view tag clients books views id v new seats at seated same (rw hand refl) in
+    let clients_same : slice_set clients v.client new.hand ≡ clients = rw hand (set_same clients v.client v.hand ((seats.each id v at).hand seated)) in
+    rw clients_same at changed
+
+pub stamps_still : {T : Type 0} (fits : T → Key → List ℕ → Type 0) (tag : T) (room : ℕ) (all : List Slot) (clients : List Client) (books : Books) (views : List (View T)) (id : ℕ) (v new : View T)
+    → Stamps fits tag room all clients books views → slice_get views id ≡ Some v
+    → slice_get clients v.client ≡ Some v.hand → SameView v new → new.hand ≡ v.hand
+    → Stamps fits tag room all clients books (slice_set views id new)
+stamps_still fits tag room all clients books views id v new stamps at at_client same hand =
+    let changed = stamps_view fits tag room all clients books views id v new stamps at at_client same (rw hand refl) in
+    let clients_same : slice_set clients v.client new.hand ≡ clients = rw hand (set_same clients v.client v.hand at_client) in
+    rw clients_same at changed
 
 -- Sums over clients that stand in a word.
 

@@ -6,8 +6,6 @@ use Rattle.atomic_table.specs.Table.{step, Allows, keeps}
 use Rattle.hcc_core.specs.declared.state.Entry.{Entry}
 use Rattle.hcc_core.specs.declared.state.Stamp.{Stamp}
 use Rattle.hcc_core.specs.Lawful.{owned_slot}
-use Rattle.hcc_core.proofs.ListLemmas.{set_same}
-use Rattle.hcc_core.proofs.SumLemmas.{total-set}
 use Rattle.hcc_rule.specs.declared.key.Key.{Key}
 use Rattle.hcc_rule.specs.declared.layout.TheConstants.{DATA, KEY1, STAMP}
 use Rattle.hcc_rule.specs.declared.rule.Plan.{Plan}
@@ -16,14 +14,14 @@ use Rattle.hcc_rule.specs.declared.view.Record.{Record}
 use Rattle.hcc_rule.specs.declared.view.View.{View}
 use Rattle.hcc_rule.specs.Told.{Held}
 use Rattle.hcc_rule.specs.ToldOwners.{entry_words, IsDataWord, with_met, after_read, reads, reads_own}
-use Rattle.hcc_rule.specs.Views.{is_seated, is_called, held, record_in}
+use Rattle.hcc_rule.specs.Views.{is_seated, is_called, record_in}
 use Rattle.hcc_rule.specs.Words.{field_at, made_words, entry_of}
 use Rattle.hcc_rule.specs.Rule.{entry_in, IsRecorded, IsStored, IsDraft, Holds}
 use Rattle.hcc_rule.proofs.Lists.{read_at, each_set}
 use Rattle.hcc_rule.proofs.Findings.{find_each}
-use Rattle.hcc_rule.proofs.ViewParts.{holding_set, seats_set}
+use Rattle.hcc_rule.proofs.ClientParts.{SameView, references_view, holding_view, seats_still, stamps_still}
 use Rattle.hcc_rule.proofs.Turns.{Shard}
-use Rattle.hcc_rule.proofs.Touches.{client_is, live_is, book_is}
+use Rattle.hcc_rule.proofs.Touches.{client_is}
 
 -- a word written over itself
 pub word_same : (words : List ℕ) (a : ℕ) → slice_set words a (slice_index words a) ≡ words
@@ -55,25 +53,12 @@ module _ {T : Type 0} (fits : T → Key → List ℕ → Type 0) (p : Plan T) wh
     drafted = each_set (λ j u. IsDraft p.geometry.room s.words u) s.views id new
         (let old = r.drafted id v at in record { short = old.short; lies = old.lies })
         (λ j u other there. r.drafted j u there);
-    references = λ j slot there h.
-        let was = r.references j slot there h in
-        let change = total-set (held j h) s.views id v new at in
-        omega arith;
-    holding = holding_set r.world.slots r.world.slots s.views id new
-        (let old = r.holding id v at in record { recorded = old.recorded; once = old.once; few = old.few })
-        (λ j u other there. (r.holding j u there).recorded) r.holding;
-    seats =
-        let changed = seats_set p.tag r.world.clients r.books s.views id v new r.seats at seated refl refl refl (live_is fits p s r id v at seated) in
-        rw (set_same r.world.clients v.client v.hand (client_is fits p s r id v at seated), set_same r.books v.client v.made (book_is fits p s r id v at seated)) at changed;
-    stamps = record {
-      sized = r.stamps.sized;
-      counted = r.stamps.counted;
-      right = r.stamps.right;
-      left =
-          let change = total-set (λ (u : View T). u.takings) s.views id v new at in
-          let was = r.stamps.left in
-          omega arith;
-    };
+    references = references_view r.world.slots s.views id v new r.references at same;
+    holding = holding_view r.world.slots s.views id v new r.holding at same;
+    seats = seats_still p.tag r.world.clients r.books s.views id v new r.seats at seated same refl;
+    stamps =
+        stamps_still fits p.tag p.geometry.room r.world.slots r.world.clients r.books s.views id v new
+        r.stamps at (client_is fits p s r id v at seated) same refl;
     ledgers = r.ledgers;
     trails = r.trails;
     turned = r.turned;
@@ -81,6 +66,9 @@ module _ {T : Type 0} (fits : T → Key → List ℕ → Type 0) (p : Plan T) wh
     where
       new : View T
       new = record v { met = met }
+
+      same : SameView v new
+      same = record { tag = refl; client = refl; others = refl; records = refl; made = refl; takings = refl }
 
   -- The word that stands for an entry on record.
   data_word : (s : Shard fits p) (r : Holds fits p s) (id i index : ℕ) (v : View T) (q : Record)

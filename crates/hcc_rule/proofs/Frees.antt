@@ -1,7 +1,6 @@
 -- The exchange to construction: an entry with no reference but the client's last one is taken.
-use Rattle.std.proofs.Common.{◌≡◌, ℕ, ◌+◌, ◌^◌, ◌<◌, ◌≤◌, ◌≢◌, ◌==◌, Bool, true, false, cond, List, [], ◌∷◌, Option, Some, None, IfSome, IsSomeAnd, Ok, length, slice_get, slice_index, slice_set, sym, refl, ap, ◌∙◌, arith}
+use Rattle.std.proofs.Common.{◌≡◌, ℕ, ◌+◌, ◌^◌, ◌<◌, ◌≤◌, ◌≢◌, ◌==◌, Bool, true, false, cond, List, [], ◌∷◌, Option, Some, None, IfSome, IsSomeAnd, Ok, slice_get, slice_index, slice_set, sym, refl, ap, ◌∙◌, arith}
 use Rattle.std.specs.List.{find}
-use Rattle.std.specs.Option.{unwrap_or}
 use Rattle.std.proofs.lemmas.Bool.{eqb-true, eq-eqb}
 use mathlib.Core.Option.{none}
 use prog.Atomic.{either}
@@ -53,7 +52,7 @@ use Rattle.hcc_rule.proofs.ShowParts.{names_fit}
 use Rattle.hcc_rule.proofs.ViewParts.{recorded_else, total-two}
 use Rattle.hcc_rule.proofs.WordParts.{made_short}
 use Rattle.hcc_rule.proofs.Turns.{Shard, Turn}
-use Rattle.hcc_rule.proofs.Touches.{by_hand, Goes, goes, client_is, live_is, book_is, stamps_are, was_right}
+use Rattle.hcc_rule.proofs.Touches.{by_hand, Goes, goes, client_is, live_is, stamps_are, was_right}
 
 -- a list of no member is empty
 empty_is : {A : Type 0} (xs : List A) → has_no_member xs ≡ true → xs ≡ []

@@ -1,6 +1,5 @@
 -- A step on a meta word that changes who owns a slot with no entry.
 use Rattle.std.proofs.Common.{◌≡◌, ℕ, true, List, [], Some, None, Ok, length, slice_get, slice_set, sym, refl, ap, ◌∙◌, arith}
-use Rattle.std.specs.Option.{unwrap_or}
 use Rattle.hcc_core.specs.declared.event.Event.{Event}
 use Rattle.hcc_core.specs.declared.event.Reply.{Reply}
 use Rattle.hcc_core.specs.declared.state.Client.{Client}

@@ -1,7 +1,6 @@
 -- The store of a new entry's word: the entry whose words were written is shown.
 use Rattle.std.proofs.Common.{◌≡◌, ℕ, zero, suc, ◌-◌, ◌^◌, ◌<◌, ◌≤◌, ◌≢◌, ◌⊎◌, inl, inr, ◌==◌, true, false, List, [], ◌∷◌, ◌++◌, Option, Some, None, IfSome, is_none, is_some, length, slice_get, slice_set, sym, refl, ap, ◌∙◌, arith, ne_eqb}
 use Rattle.std.specs.Int.{from_bool}
-use Rattle.std.specs.Option.{unwrap_or}
 use Rattle.std.proofs.lemmas.Bool.{cases_eq}
 use mathlib.Core.Option.{none}
 use Rattle.atomic_table.specs.Table.{step, Allows}

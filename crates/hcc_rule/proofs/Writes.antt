@@ -13,8 +13,7 @@ use Rattle.hcc_core.specs.declared.state.Slot.TheVariants as slots
 use Rattle.hcc_core.specs.World.{State}
 use Rattle.hcc_core.specs.Steps.{outcome_of, is_building}
 use Rattle.hcc_core.specs.Lawful.{Lawful, owner_of, owned_slot}
-use Rattle.hcc_core.proofs.ListLemmas.{set_same}
-use Rattle.hcc_core.proofs.SumLemmas.{total-set, length-push}
+use Rattle.hcc_core.proofs.SumLemmas.{length-push}
 use Rattle.hcc_core.proofs.Keeps.{follows_lawful}
 use Rattle.hcc_core.proofs.Opening.{is_lawful}
 use Rattle.hcc_rule.specs.declared.key.Key.{Key}
@@ -23,17 +22,18 @@ use Rattle.hcc_rule.specs.declared.rule.Plan.{Plan}
 use Rattle.hcc_rule.specs.declared.view.View.{View}
 use Rattle.hcc_rule.specs.Told.{Held}
 use Rattle.hcc_rule.specs.ToldOwners.{after_write, writes}
-use Rattle.hcc_rule.specs.Views.{is_seated, held}
+use Rattle.hcc_rule.specs.Views.{is_seated}
 use Rattle.hcc_rule.specs.Words.{field_at, ledger_at, word_count, Lies}
-use Rattle.hcc_rule.specs.Rule.{entry_by, entry_in, IsDraft, Seats, Stamps, Holds}
+use Rattle.hcc_rule.specs.Rule.{entry_by, entry_in, IsDraft, Holds}
 use Rattle.hcc_rule.proofs.Lists.{within, read_at, word_here, word_else}
 use Rattle.hcc_rule.proofs.Addresses.{fields_apart, field_inside, ledger_apart, data_field, data_away}
 use Rattle.hcc_rule.proofs.WordParts.{AreShort, coded_else, made_short, stored_words, drafted_set}
-use Rattle.hcc_rule.proofs.ViewParts.{holding_set, seats_set, seated_else, unnamed}
+use Rattle.hcc_rule.proofs.ViewParts.{seated_else, unnamed}
+use Rattle.hcc_rule.proofs.ClientParts.{SameView, references_view, holding_view, seats_still, stamps_still}
 use Rattle.hcc_rule.proofs.Looks.{client_fits, slot_there}
 use Rattle.hcc_rule.proofs.Empties.{owner_there}
 use Rattle.hcc_rule.proofs.Turns.{Shard, size_is}
-use Rattle.hcc_rule.proofs.Touches.{client_is, live_is, book_is}
+use Rattle.hcc_rule.proofs.Touches.{client_is, live_is}
 
 -- the member at the end, and those before it
 last_at : (xs : List ℕ) (y : ℕ) → slice_index (xs ++ y ∷ []) (length xs) ≡ y
@@ -161,27 +161,11 @@ module _ {T : Type 0} (fits : T → Key → List ℕ → Type 0) (p : Plan T) wh
     client : slice_get r.world.clients v.client ≡ Some v.hand
     client = client_is fits p s r id v at seated
 
-    book : slice_get r.books v.client ≡ Some v.made
-    book = book_is fits p s r id v at seated
-
     allowed : outcome_of r.world (events.Write v.client) ≡ Ok (replies.Ok, r.world)
     allowed = write_allowed r.world v.client i v.hand (is_lawful r.world r.lawful) client (live_is fits p s r id v at seated) builds
 
-    seats : Seats p.tag r.world.clients r.books views
-    seats =
-        let changed = seats_set p.tag r.world.clients r.books s.views id v new r.seats at seated refl refl refl (live_is fits p s r id v at seated) in
-        rw (set_same r.world.clients v.client v.hand client, set_same r.books v.client v.made book) at changed
-
-    stamps : Stamps fits p.tag p.geometry.room r.world.slots r.world.clients r.books views
-    stamps = record {
-      sized = r.stamps.sized;
-      counted = r.stamps.counted;
-      right = r.stamps.right;
-      left =
-          let change = total-set (λ (u : View T). u.takings) s.views id v new at in
-          let was = r.stamps.left in
-          omega arith;
-    }
+    same : SameView v new
+    same = record { tag = refl; client = refl; others = refl; records = refl; made = refl; takings = refl }
 
     pub write_holds : Holds fits p record { words = words; homes = s.homes; views = views }
     write_holds = record {
@@ -192,15 +176,12 @@ module _ {T : Type 0} (fits : T → Key → List ℕ → Type 0) (p : Plan T) wh
       coded = coded_else p.geometry.room r.world.slots s.words a y r.coded (λ j low. not_field j META (omega arith));
       stored = stored_words p.geometry.room r.world.slots s.words r.books a y short (λ j entry there. elsewhere j (entry_else j entry there)) r.stored;
       drafted = drafted_set p.geometry.room s.words s.views id a y new draft (λ j u other there k owns. elsewhere k (owned_else j u other there k owns)) r.drafted;
-      references = λ j slot there h.
-          let was = r.references j slot there h in
-          let change = total-set (held j h) s.views id v new at in
-          omega arith;
-      holding = holding_set r.world.slots r.world.slots s.views id new
-          (let old = r.holding id v at in record { recorded = old.recorded; once = old.once; few = old.few })
-          (λ j u other there. (r.holding j u there).recorded) r.holding;
-      seats = seats;
-      stamps = stamps;
+      references = references_view r.world.slots s.views id v new r.references at same;
+      holding = holding_view r.world.slots s.views id v new r.holding at same;
+      seats = seats_still p.tag r.world.clients r.books s.views id v new r.seats at seated same refl;
+      stamps =
+          stamps_still fits p.tag p.geometry.room r.world.slots r.world.clients r.books s.views id v new
+          r.stamps at client same refl;
       ledgers = record {
         usage = word_else s.words a _ y (not_ledger _) ∙ r.ledgers.usage;
         occupancy = word_else s.words a _ y (not_ledger _) ∙ r.ledgers.occupancy;
