@@ -36,7 +36,7 @@ use Rattle.hcc_rule.specs.Rule.{IsRecorded, IsHolding, Holds, entry_in}
 use Rattle.hcc_rule.proofs.Lists.{within, read_at, each_append}
 use Rattle.hcc_rule.proofs.Codes.{few_strays, is_near, tells_entry, tells_shown}
 use Rattle.hcc_rule.proofs.Findings.{none_passes}
-use Rattle.hcc_rule.proofs.Looks.{client_fits, slot_fits, slot_there}
+use Rattle.hcc_rule.proofs.Looks.{client_fits, slot_fits, slot_there, backed}
 use Rattle.hcc_rule.proofs.Reaches.{room_left, reached, is_met}
 use Rattle.hcc_rule.proofs.References.{fresh_name}
 use Rattle.hcc_rule.proofs.Turns.{Shard}
@@ -139,6 +139,7 @@ module _ {T : Type 0} (fits : T → Key → List ℕ → Type 0) (p : Plan T) wh
         }) (
           refl,
           record {
+            backs = backed fits p s r id i word me.0 t o.at_slot o.at_view word_is;
             stray = λ none. refl;
             got = λ got. let bad : true ≡ false = sym got ∙ (entry_is ∙ away) in cc;
           },
@@ -187,6 +188,7 @@ module _ {T : Type 0} (fits : T → Key → List ℕ → Type 0) (p : Plan T) wh
       }) (
         refl,
         record {
+          backs = backed fits p s r id i word me.0 t o.at_slot o.at_view here;
           stray = λ none. let bad : true ≡ false = sym (entry_is s r id i a n x me t o ∙ is_shareable-shareable k.hit k.shown near) ∙ none in cc;
           got = λ got. (k.entry, is_met fits p s r id i me.0 o.at_view o.seated word k o.at_slot here, refl);
         },

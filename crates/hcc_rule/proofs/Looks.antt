@@ -1,6 +1,6 @@
 -- A load of a meta word: the client looks at the slot.
-use Rattle.std.proofs.Common.{◌≡◌, ℕ, ◌^◌, ◌<◌, ◌≤◌, true, List, Some, Ok, length, slice_get, slice_index, refl, ap, ◌∙◌, arith}
-use Rattle.std.proofs.lemmas.Bool.{lt-ltb}
+use Rattle.std.proofs.Common.{◌≡◌, ℕ, ◌^◌, ◌<◌, ◌≤◌, true, List, Some, Ok, length, slice_get, slice_index, refl, ap, ◌∙◌, arith, Bool, false, ◌||◌, Option, None, [], ◌∷◌, sym, option_map}
+use Rattle.std.proofs.lemmas.Bool.{lt-ltb, eqb-true, eq-eqb}
 use mathlib.Core.Option.{none}
 use Rattle.atomic_table.specs.Table.{step, Allows}
 use Rattle.hcc_core.specs.declared.event.Event.{Event}
@@ -25,14 +25,19 @@ use Rattle.hcc_core.specs.declared.state.Slot.TheVariants as slots
 use Rattle.hcc_core.specs.Sums.{total}
 use Rattle.hcc_core.specs.World.{weight, references_of}
 use Rattle.hcc_core.proofs.SumLemmas.{total-member}
-use Rattle.hcc_rule.specs.Views.{is_seated, held, weight_on}
+use Rattle.hcc_rule.specs.Views.{is_seated, held, weight_on, Each, stamp_on, is_on}
 use Rattle.hcc_rule.specs.Words.{field_at, code_of}
-use Rattle.hcc_rule.specs.Rule.{Holds}
-use Rattle.hcc_rule.proofs.Lists.{within, there, read_at}
+use Rattle.hcc_rule.specs.Rule.{Holds, entry_in, IsRecorded}
+use Rattle.hcc_rule.proofs.Lists.{within, there, read_at, each_map}
 use Rattle.hcc_rule.proofs.Codes.{tells_entry, is_near}
 use Rattle.hcc_rule.proofs.Clients.{dead_told}
 use Rattle.hcc_rule.proofs.Turns.{Shard, size_is}
 use Rattle.hcc_rule.proofs.Touches.{by_hand, touched, Goes, goes, client_is, live_is}
+use Rattle.std.specs.List.{list_any}
+use Rattle.hcc_core.specs.declared.state.Entry.{Entry}
+use Rattle.hcc_rule.specs.declared.view.Record.{Record}
+use Rattle.hcc_word.specs.Word.{is_shareable}
+use Rattle.hcc_rule.proofs.Findings.{some_found, any_some, find_passes, find_each}
 
 -- numbers of slots and clients fit their fields
 pub slot_fits : (w : State) (i : ℕ) → Lawful w → i < length w.slots → in_bits 32 i ≡ true
@@ -48,6 +53,30 @@ look_gives : (w : State) (c i : ℕ) (found : Client) (t : Slot) → Lawful w
 unfolding outcome_of
 look_gives w c i found t l at_slot at_client live =
     rw (client_fits w c l (within w.clients c found at_client), slot_fits w i l (within w.slots i t at_slot), at_slot, at_client, live, set_same w.slots i t at_slot) refl
+
+or_later : (a b : Bool) → b ≡ true → (a || b) ≡ true
+or_later true b is = refl
+or_later false b is = is
+
+-- where all records of a slot are on one entry, the first that is found tells its stamp
+stamp_found : (i : ℕ) (e : Entry) (rs : List Record) → Each (λ q. q.slot ≡ i → Some e ≡ Some q.entry) rs
+    → list_any (is_on i) rs ≡ true → stamp_on i rs ≡ Some e.stamp
+stamp_found i e rs each any =
+    let found = some_found (is_on i) rs (any_some (is_on i) rs any) in
+    let on = eqb-true found.0.slot i (find_passes (is_on i) rs found.0 found.1) in
+    let same = find_each (is_on i) (λ q. q.slot ≡ i → Some e ≡ Some q.entry) rs found.0 each found.1 on in
+    ap (option_map (λ (r : Record). r.entry.stamp)) (found.1)
+    ∙ ap (option_map (λ (z : Entry). z.stamp)) (sym same)
+
+-- which is that of each of them
+stamps_from : (i : ℕ) (e : Entry) (all rs : List Record) → (list_any (is_on i) rs ≡ true → stamp_on i all ≡ Some e.stamp)
+    → Each (λ q. q.slot ≡ i → Some e ≡ Some q.entry) rs
+    → Each (λ (r : Record). r.slot ≡ i → stamp_on i all ≡ Some r.entry.stamp) rs
+stamps_from i e all [] told each = tt
+stamps_from i e all (r ∷ rs) told each = (
+  (λ on. told (ap (λ b. b || list_any (is_on i) rs) (eq-eqb r.slot i on)) ∙ ap (option_map (λ (z : Entry). z.stamp)) (each.0 on)),
+  stamps_from i e all rs (λ later. told (or_later (is_on i r) (list_any (is_on i) rs) later)) each.1,
+)
 
 module _ {T : Type 0} (fits : T → Key → List ℕ → Type 0) (p : Plan T) where
   -- The word is read, and nothing else.
@@ -107,22 +136,43 @@ module _ {T : Type 0} (fits : T → Key → List ℕ → Type 0) (p : Plan T) wh
       total-member (held i (λ (k : Reference). k.weight)) s.views id v at in
       omega arith
 
+  -- each is on the slot's entry
+  on_it : (s : Shard fits p) (r : Holds fits p s) (id i : ℕ) (v : View T) (o : Option Entry)
+      → entry_in (slice_get r.world.slots i) ≡ o → slice_get s.views id ≡ Some v
+      → Each (λ (q : Record). q.slot ≡ i → o ≡ Some q.entry) v.records
+  on_it s r id i v o there at =
+      each_map (IsRecorded r.world.slots) (λ q. q.slot ≡ i → o ≡ Some q.entry)
+      (λ q recorded on. sym there ∙ (ap (λ j. entry_in (slice_get r.world.slots j)) (sym on) ∙ recorded.there))
+      v.records (r.holding id v at).recorded
+
+  -- what is told where the client holds nothing there
+  bare : (i word : ℕ) (v : View T) → Each (λ (q : Record). q.slot ≡ i → None ≡ Some q.entry) v.records
+      → weight_on i v.records ≡ 0 → Backs i word v
+  bare i word v away few = record {
+    entry = each_map (λ q. q.slot ≡ i → None ≡ Some q.entry) (λ q. q.slot ≡ i → is_shareable word ≡ true) (λ q no on. let bad = no on in cc) v.records away;
+    enough = λ some. absurd (omega arith);
+    one = each_map (λ q. q.slot ≡ i → None ≡ Some q.entry) (λ q. q.slot ≡ i → stamp_on i v.records ≡ Some q.entry.stamp) (λ q no on. let bad = no on in cc) v.records away;
+  }
+
   -- so its word shows them
   pub backed : (s : Shard fits p) (r : Holds fits p s) (id i word : ℕ) (v : View T) (t : Slot)
       → slice_get r.world.slots i ≡ Some t → slice_get s.views id ≡ Some v → word ≡ code_of t
       → Backs i word v
   backed s r id i word v (slots.Empty strays) at_slot at word_is =
       let few = few_on s r id i v (slots.Empty strays) at_slot at in
-      record { entry = λ some. absurd (omega arith); enough = λ some. absurd (omega arith) }
+      bare i word v (on_it s r id i v None (ap entry_in at_slot) at) (omega arith)
   backed s r id i word v (slots.Building client strays) at_slot at word_is =
       let few = few_on s r id i v (slots.Building client strays) at_slot at in
-      record { entry = λ some. absurd (omega arith); enough = λ some. absurd (omega arith) }
+      bare i word v (on_it s r id i v None (ap entry_in at_slot) at) (omega arith)
   backed s r id i word v (slots.Shareable k) at_slot at word_is =
       let few = few_on s r id i v (slots.Shareable k) at_slot at in
       let l = is_lawful r.world r.lawful in
+      let on = on_it s r id i v (Some k.entry) (ap entry_in at_slot) at in
       record {
-        entry = λ some. rw word_is (tells_entry r.world l i (slots.Shareable k) at_slot);
+        entry = each_map (λ q. q.slot ≡ i → Some k.entry ≡ Some q.entry) (λ q. q.slot ≡ i → is_shareable word ≡ true)
+            (λ q same here. rw word_is (tells_entry r.world l i (slots.Shareable k) at_slot)) v.records on;
         enough = λ some. rw (word_is, refs_of-shareable k.hit k.shown (is_near r.world l i k at_slot)) few;
+        one = stamps_from i k.entry v.records v.records (stamp_found i k.entry v.records on) on;
       }
 
   -- the slot at an index

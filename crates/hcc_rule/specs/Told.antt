@@ -5,7 +5,8 @@ use Rattle.hcc_word.specs.Word.{is_shareable, is_visible, refs_of}
 use Rattle.hcc_core.specs.declared.state.Stamp.{Stamp}
 use Rattle.hcc_core.specs.Steps.{joined}
 use Rattle.hcc_rule.specs.declared.view.View.{View}
-use Rattle.hcc_rule.specs.Views.{stamp_on, weight_on}
+use Rattle.hcc_rule.specs.Views.{stamp_on, weight_on, Each}
+use Rattle.hcc_rule.specs.declared.view.Record.{Record}
 
 abbrev pub Held : Type 0 → Type 0
 Held T = Me (Unit {0}) (View T)
@@ -33,10 +34,12 @@ module _ {T : Type 0} where
     };
   }
 
-  -- what a client holds on a slot shows in its word: it is an entry's, with that many references
+  -- What a client holds on a slot shows in its word: it is an entry's, with that many references.
+  -- All that it holds there is of one entry.
   pub record Backs (slot word : ℕ) (v : View T) : Type 0 where
-    pub entry : 0 < weight_on slot v.records → is_shareable word ≡ true
+    pub entry : Each (λ (r : Record). r.slot ≡ slot → is_shareable word ≡ true) v.records
     pub enough : 0 < weight_on slot v.records → weight_on slot v.records ≤ refs_of word
+    pub one : Each (λ (r : Record). r.slot ≡ slot → stamp_on slot v.records ≡ Some r.entry.stamp) v.records
 
   abbrev pub looks : ℕ → Step (Unit {0}) → Held T → ℕ → Held T → Type 0
   looks slot step me word after =

@@ -13,7 +13,7 @@ use Rattle.hcc_rule.specs.declared.view.Record.{Record}
 use Rattle.hcc_rule.specs.declared.view.View.{View}
 use Rattle.hcc_rule.specs.Words.{key_of}
 use Rattle.hcc_rule.specs.Views.{is_on, is_called, record_in, Each}
-use Rattle.hcc_rule.specs.Told.{Held, after_look, noticing}
+use Rattle.hcc_rule.specs.Told.{Held, after_look, noticing, Backs}
 
 -- the record of an acquire of an entry, by the word that it found
 abbrev pub record_of : (slot weight name word : ℕ) → Entry → Record
@@ -73,6 +73,7 @@ module _ {T : Type 0} where
 
   -- the view after an acquire, by the word that it found
   pub record Acquired (fits : T → Key → List ℕ → Type 0) (room slot weight name word : ℕ) (v new : View T) : Type 0 where
+    pub backs : Backs slot word v
     pub stray : is_shareable word ≡ false → new ≡ after_stray v
     pub got : is_shareable word ≡ true
         → (entry : Entry) × IsMet fits room slot word v entry × (new ≡ after_acquire slot weight name word entry v)

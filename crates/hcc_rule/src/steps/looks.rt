@@ -40,7 +40,7 @@ impl<T: Tag, A: Allocator> RuleTable<T, A> {
     /// Loads a slot's meta word. The client looks at the slot, and may acquire there next, where the
     /// word is that of an entry; where the entry is hidden and the client holds a reference on it,
     /// the client has seen it dead. Where the client holds references on the slot, the word is that of
-    /// an entry with at least these.
+    /// an entry with at least these, and they all are on that entry.
     ///
     /// It takes no memory. It costs one load.
     pub fn look(&self, seat: &mut RuleSeat<T>, slot: u32) -> u64

@@ -92,7 +92,7 @@ impl<T: Tag, A: Allocator> RuleTable<T, A> {
     /// behind its others. They count where the word is counting. The entry's value is right for its
     /// key and fits the slot's room. A visible one is none that the client saw dead, a hidden one it
     /// has seen dead now. It is the entry of each record that the client had there. Where the word is
-    /// no entry's, the acquires stray and no record is made.
+    /// no entry's, the acquires stray and no record is made; the client holds nothing there then.
     ///
     /// It takes no memory. It costs one atomic add.
     pub fn acquire(&self, seat: &mut RuleSeat<T>, slot: u32, weight: u32, name: u64) -> u64
