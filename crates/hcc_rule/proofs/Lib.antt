@@ -39,3 +39,5 @@ pub mod DataWords
 pub mod ShowParts
 pub mod Shows
 pub mod Frees
+pub mod ProbeNumbers
+pub mod ProbeLaws

@@ -25,14 +25,15 @@ use Rattle.hcc_rule.specs.ToldTrails.{Passed, counts, passes, unpasses}
 use Rattle.hcc_rule.specs.Views.{is_seated}
 use Rattle.hcc_rule.specs.Words.{field_at, key_of}
 use Rattle.hcc_rule.specs.Rule.{entry_in, IsRecorded, IsTrailed, IsModest, Holds}
-use Rattle.hcc_rule.proofs.Lists.{read_at, each_map}
+use Rattle.hcc_rule.proofs.Lists.{read_at, each_map, within}
 use Rattle.hcc_rule.proofs.Bounds.{passed_few}
 use Rattle.hcc_rule.proofs.LedgerTurns.{on_displacement, Pays}
 use Rattle.hcc_rule.proofs.LedgerGives.{count_gives, pass_gives, unpass_gives}
 use Rattle.hcc_rule.proofs.Asides.{pays_at, modest_is, law_is, goes_by}
-use Rattle.hcc_rule.proofs.Turns.{Shard}
+use Rattle.hcc_rule.proofs.Turns.{Shard, size_is}
 use Rattle.hcc_rule.proofs.Touches.{client_is, live_is}
 use Rattle.hcc_rule.proofs.Looks.{slot_there}
+use Rattle.hcc_rule.proofs.OnEntries.{resident_in}
 
 -- Of trails.
 
@@ -158,11 +159,20 @@ module _ {T : Type 0} (fits : T → Key → List ℕ → Type 0) (p : Plan T) (c
       slot : (t : Slot) × (slice_get r.world.slots i ≡ Some t)
       slot = slot_there fits p s r i close
 
+      slot_within : (q : Record) → IsRecorded r.world.slots q → q.slot < p.geometry.slots
+      slot_within q recorded =
+          let resident = resident_in (slice_get r.world.slots q.slot) q.entry recorded.there in
+          let low = within r.world.slots q.slot (slots.Shareable resident.0) resident.1 in
+          let size = size_is fits p s r in
+          omega arith
+
       passed : Passed p.geometry.slots i v word
       passed = rw (found_passed s r) (
         trail_within r.world i v.client v.hand client,
         each_map (IsRecorded r.world.slots) (λ (q : Record). times i (trail_to p.geometry.slots (key_of q.entry) q.slot) ≤ passed_by r.world.slots r.world.clients i)
             (entry_within r.world p.geometry.slots i r.trails.entries) v.records (r.holding id v at).recorded,
+        each_map (IsRecorded r.world.slots) (λ (q : Record). q.slot < p.geometry.slots)
+            (λ q recorded. slot_within q recorded) v.records (r.holding id v at).recorded,
       )
 
   pub pass_step : length me.0.hand.trail < p.geometry.slots

@@ -1,5 +1,5 @@
 -- What each step on a displacement word tells its seat, by the word that it found.
-use Rattle.std.specs.Prelude.{◌≡◌, ℕ, ◌≤◌, [], ◌∷◌, ◌++◌}
+use Rattle.std.specs.Prelude.{◌≡◌, ℕ, ◌≤◌, [], ◌∷◌, ◌++◌, ◌<◌}
 use Rattle.atomic_table.specs.Table.{Step}
 use Rattle.hcc_core.specs.World.{times}
 use Rattle.hcc_core.specs.Steps.{dropped, is_place}
@@ -12,11 +12,12 @@ use Rattle.hcc_rule.specs.Told.{Held}
 
 module _ {T : Type 0} where
   -- A load: the count has the client's own trail, and the trail of each entry on record. So where
-  -- it is 0 the slot stands in none of them.
+  -- it is 0 the slot stands in none of them. Each record is of a slot of the table.
   abbrev pub Passed : (slots slot : ℕ) → View T → ℕ → Type 0
   Passed slots slot v word =
       (times slot v.hand.trail ≤ word)
       × Each (λ (r : Record). times slot (trail_to slots (key_of r.entry) r.slot) ≤ word) v.records
+      × Each (λ (r : Record). r.slot < slots) v.records
 
   abbrev pub counts : (slots slot : ℕ) → Step (Unit {0}) → Held T → ℕ → Held T → Type 0
   counts slots slot step me word after =

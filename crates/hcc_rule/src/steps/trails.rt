@@ -63,6 +63,7 @@ impl<T: Tag, A: Allocator> RuleTable<T, A> {
         ensures view { view seat.new ≡ view seat.old }
         ensures own { times slot (view seat.old).hand.trail ≤ result }
         ensures held { Each (λ (r : Record). times slot (trail_to K.setup.slots (key_of r.entry) r.slot) ≤ result) (view seat.old).records }
+        ensures within { Each (λ (r : Record). r.slot < K.setup.slots) (view seat.old).records }
     {
         self.table
             .shared
@@ -71,7 +72,7 @@ impl<T: Tag, A: Allocator> RuleTable<T, A> {
 
     /// Loads how often a slot stands in the trails of entries and clients. The client's own trail is
     /// among them, and so is that of each entry that it holds a reference on: where the answer is 0,
-    /// none of them was put beyond this slot.
+    /// none of them was put beyond this slot. All that it holds is on slots of the table.
     ///
     /// It takes no memory. It costs one load.
     pub fn count(&self, seat: &mut RuleSeat<T>, slot: u32) -> u64
@@ -81,6 +82,7 @@ impl<T: Tag, A: Allocator> RuleTable<T, A> {
         ensures view { view seat.new ≡ view seat.old }
         ensures own { times slot (view seat.old).hand.trail ≤ result }
         ensures held { Each (λ (r : Record). times slot (trail_to self.now.geometry.slots (key_of r.entry) r.slot) ≤ result) (view seat.old).records }
+        ensures within { Each (λ (r : Record). r.slot < self.now.geometry.slots) (view seat.old).records }
     {
         self.count_as::<Brand, Brand>(seat, slot)
     }
