@@ -41,3 +41,7 @@ pub mod Shows
 pub mod Frees
 pub mod ProbeNumbers
 pub mod ProbeLaws
+pub mod ClosingSums
+pub mod ClosingClients
+pub mod ClosingSlots
+pub mod Closings

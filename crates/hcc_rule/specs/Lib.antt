@@ -9,3 +9,4 @@ pub mod ToldReferences
 pub mod ToldLedgers
 pub mod ToldTrails
 pub mod ToldOwners
+pub mod Closing

@@ -3,6 +3,8 @@
 //! step.
 #![tactic(auto)]
 
+mod closed;
+mod closing;
 mod geometry;
 mod key;
 pub mod layout;
@@ -13,6 +15,7 @@ mod table;
 mod tests;
 mod view;
 
+pub use closed::ClosedTable;
 pub use geometry::Geometry;
 pub use key::{Key, Tag};
 pub use rule::{Plan, ShardRule};

@@ -21,6 +21,7 @@ pub struct RuleTable<T: Tag, A: Allocator> {
     pub(crate) capacity: u64,
     pub(crate) strict: bool,
     ghost sized: { table.shared.table_id.words ≡ word_count geometry.slots geometry.room },
+    ghost slotless: { table.shared.table_id.slots ≡ 0 },
     ghost planned: { (table.shared.key.geometry ≡ geometry) × (table.shared.key.capacity ≡ capacity) × (table.shared.key.strict ≡ strict) },
     ghost limits: { IsPlanned geometry capacity },
 }

@@ -1,4 +1,5 @@
-//! What no clause says: that a shard is made where there is memory, and how a key's bytes are read.
+//! What no clause says: that a shard is made where there is memory, that all its words are 0 where it
+//! is closed unused, and how a key's bytes are read.
 use crate::{Geometry, Key, RuleTable, Tag};
 use std::alloc::{AllocError, Global};
 use std::process::Abort;
@@ -27,6 +28,40 @@ fn a_new_shard_has_a_seat_for_each_client(rt: HostRuntime) -> Result<(), AllocEr
     )?;
     assert!(rt; table.geometry() == small);
     assert!(rt; seats.len() == 3);
+    Ok(())
+}
+
+#[test]
+fn a_shard_that_nobody_used_closes_with_words_of_zero(rt: HostRuntime) -> Result<(), AllocError> {
+    let small = Geometry {
+        slots: 8,
+        room: 2,
+        clients: 2,
+    };
+    let (table, mut seats) = RuleTable::<AnyBytes, Global>::new(
+        rt.alloc(),
+        small,
+        600,
+        false,
+        AnyBytes,
+    )?;
+    let other = seats.remove(1);
+    let mut seat = seats.remove(0);
+    table.join(&mut seat, other);
+    let closed = table.close(seat);
+    // By the contracts alone.
+    prove!(closed.occupancy() == 0);
+    prove!(closed.standing() == 0);
+    assert!(rt; closed.geometry() == small);
+    for slot in 0..8 {
+        assert!(rt; closed.meta(slot) == 0);
+        assert!(rt; closed.displacement(slot) == 0);
+        for index in 0..7 {
+            assert!(rt; closed.data(slot, index) == 0);
+        }
+    }
+    assert!(rt; closed.usage() == 0);
+    assert!(rt; closed.hand() == 0);
     Ok(())
 }
 
