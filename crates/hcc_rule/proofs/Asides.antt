@@ -1,5 +1,5 @@
 -- What every step on a ledger word, a displacement word or the hand shares.
-use Rattle.std.proofs.Common.{◌≡◌, ℕ, ◌^◌, ◌≤◌, true, List, Some, Ok, slice_get, slice_index, refl}
+use Rattle.std.proofs.Common.{◌≡◌, ℕ, ◌^◌, ◌<◌, true, List, Some, Ok, slice_get, slice_index, refl}
 use Rattle.hcc_core.specs.declared.event.Event.{Event}
 use Rattle.hcc_core.specs.declared.event.Reply.{Reply}
 use Rattle.hcc_core.specs.declared.state.Client.{Client}
@@ -46,7 +46,7 @@ module _ {T : Type 0} (fits : T → Key → List ℕ → Type 0) (p : Plan T) wh
   law_is s r = is_lawful r.world r.lawful
 
   -- the usage is far below a word's end
-  pub usage_low : (s : Shard fits p) (r : Holds fits p s) → usage_of r.world ≤ 2 ^ 61
+  pub usage_low : (s : Shard fits p) (r : Holds fits p s) → usage_of r.world < 2 ^ 60
   usage_low s r =
       usage_small r.world (law_is s r)
       (charge_small fits p.tag p.geometry.room r.world.slots r.world.clients r.books s.views s.words r.stamps r.stored)

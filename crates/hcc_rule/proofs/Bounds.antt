@@ -1,5 +1,5 @@
 -- The sums that stand in words stay far below a word's end.
-use Rattle.std.proofs.Common.{◌≡◌, ℕ, suc, ◌+◌, ◌*◌, ◌^◌, ◌<◌, ◌≤◌, ◌==◌, Bool, true, false, List, [], ◌∷◌, Some, length, slice_get, refl, ap, arith}
+use Rattle.std.proofs.Common.{◌≡◌, ℕ, zero, suc, ◌+◌, ◌*◌, ◌^◌, ◌<◌, ◌≤◌, ◌==◌, Bool, true, false, List, [], ◌∷◌, Some, length, slice_get, refl, ap, ◌∙◌, arith}
 use Rattle.hcc_core.specs.declared.state.Client.{Client}
 use Rattle.hcc_core.specs.declared.state.Entry.{Entry}
 use Rattle.hcc_core.specs.declared.state.Slot.{Slot}
@@ -33,8 +33,8 @@ standing_few : (xs : List Standalone) → Each (λ (s : Standalone). s.charge < 
 standing_few [] h = omega arith
 standing_few (x ∷ xs) h = let first = h.0 in let rest = standing_few xs h.1 in omega arith
 
--- a modest client's amounts, in sum
-charged_few : (client : Client) → IsModest client → charged_to client ≤ 1125899906842624
+-- a modest client's amounts, in sum: at most 2^49 + 2^47
+charged_few : (client : Client) → IsModest client → charged_to client ≤ 703687441776640
 charged_few client m =
     let asked = m.asked in
     let freed = m.freed in
@@ -47,10 +47,10 @@ charged_few client m =
 pub usage_small : (w : State) → Lawful w
     → ((i : ℕ) (slot : Slot) → slice_get w.slots i ≡ Some slot → charge_of slot ≤ 4294967296)
     → ((c : ℕ) (client : Client) → slice_get w.clients c ≡ Some client → IsModest client)
-    → usage_of w ≤ 2 ^ 61
+    → usage_of w < 2 ^ 60
 usage_small w l small modest =
     let entries = total-bound charge_of 4294967296 w.slots small in
-    let clients = total-bound charged_to 1125899906842624 w.clients (λ c client at. charged_few client (modest c client at)) in
+    let clients = total-bound charged_to 703687441776640 w.clients (λ c client at. charged_few client (modest c client at)) in
     let few_slots = l.sized.few_slots in
     let few_clients = l.sized.few_clients in
     let slot_count = l.sized.slot_count in
@@ -115,14 +115,45 @@ occupied_all : (clients : List Client) → total occupied_by clients ≤ length 
 occupied_all [] = omega arith
 occupied_all (client ∷ clients) = let one = occupied_few client in let rest = occupied_all clients in omega arith
 
+-- and one less where one of them has no place
+occupied_rest : (clients : List Client) (c : ℕ) (client : Client) → slice_get clients c ≡ Some client
+    → is_placed client.place ≡ false
+    → 1 + total occupied_by clients ≤ length clients + total taken_by clients
+occupied_rest [] c client at absent = cc
+occupied_rest (x ∷ xs) zero client at absent =
+    let same : x ≡ client = cc in
+    let none : when (is_placed x.place) 1 ≡ 0 = ap (λ (k : Client). when (is_placed k.place) 1) same ∙ ap (λ b. when b 1) absent in
+    let rest = occupied_all xs in
+    omega arith
+occupied_rest (x ∷ xs) (suc c) client at absent =
+    let one = occupied_few x in
+    let rest = occupied_rest xs c client at absent in
+    omega arith
+
 -- the occupancy is within the limit, with an open place for each client
-pub occupancy_small : (w : State) → Lawful w → occupancy_of w ≤ 2 ^ 32
-occupancy_small w l =
+pub occupancy_near : (w : State) → Lawful w → occupancy_of w ≤ limit_of w.setup + w.setup.clients
+occupancy_near w l =
     let clients = occupied_all w.clients in
     let most = l.ledgers.places in
+    let client_count = l.sized.client_count in
+    let limit : ℕ = limit_of w.setup in
+    omega arith
+
+-- a client with no place leaves an open place out
+pub occupancy_beside : (w : State) → Lawful w → (c : ℕ) (client : Client) → slice_get w.clients c ≡ Some client
+    → client.place ≡ places.Absent → occupancy_of w < limit_of w.setup + w.setup.clients
+occupancy_beside w l c client at absent =
+    let rest = occupied_rest w.clients c client at (ap is_placed absent) in
+    let most = l.ledgers.places in
+    let client_count = l.sized.client_count in
+    let limit : ℕ = limit_of w.setup in
+    omega arith
+
+-- so it is small
+pub occupancy_small : (w : State) → Lawful w → occupancy_of w ≤ 2 ^ 32
+occupancy_small w l =
+    let near = occupancy_near w l in
     let few_slots = l.sized.few_slots in
     let few_clients = l.sized.few_clients in
-    let client_count = l.sized.client_count in
-    let m : ℕ = length w.clients in
     let limit : limit_of w.setup ≤ 65536 = omega arith in
     omega arith

@@ -26,6 +26,9 @@ pub mod LedgerTurns
 pub mod LedgerGives
 pub mod Bounds
 pub mod Asides
+pub mod Different
+pub mod Alone
+pub mod Limits
 pub mod UsageSteps
 pub mod OccupancySteps
 pub mod StandingSteps

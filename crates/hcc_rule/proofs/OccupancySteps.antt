@@ -1,5 +1,5 @@
 -- Steps on the occupancy word: loads, places, and slots that were freed.
-use Rattle.std.proofs.Common.{◌≡◌, ℕ, ◌+◌, ◌-◌, ◌%◌, ◌^◌, ◌<◌, ◌≤◌, Bool, true, false, cond, nat_lt, if◌then◌else◌, List, Some, slice_get, slice_index, refl, ap, ◌∙◌, arith}
+use Rattle.std.proofs.Common.{◌≡◌, ℕ, ◌+◌, ◌-◌, ◌%◌, ◌^◌, ◌<◌, ◌≤◌, length, Bool, true, false, cond, nat_lt, if◌then◌else◌, List, Some, slice_get, slice_index, refl, ap, ◌∙◌, arith}
 use mathlib.Core.Option.{none}
 use Rattle.atomic_table.specs.Table.{step, Allows}
 use Rattle.hcc_core.specs.declared.event.Event.TheVariants as events
@@ -15,19 +15,32 @@ use Rattle.hcc_core.proofs.SumLemmas.{total-member}
 use Rattle.hcc_rule.specs.declared.key.Key.{Key}
 use Rattle.hcc_rule.specs.declared.layout.TheConstants.{OCCUPANCY}
 use Rattle.hcc_rule.specs.declared.rule.Plan.{Plan}
+use Rattle.hcc_rule.specs.declared.view.Record.{Record}
 use Rattle.hcc_rule.specs.declared.view.View.{View}
 use Rattle.hcc_rule.specs.Told.{Held}
-use Rattle.hcc_rule.specs.ToldLedgers.{occupancies, place_at, enters, gives_slots, quits}
-use Rattle.hcc_rule.specs.Views.{is_seated}
+use Rattle.hcc_rule.specs.ToldLedgers.{Occupied, occupancies, place_at, enters, gives_slots, quits}
+use Rattle.hcc_rule.specs.Views.{is_seated, different, Each}
 use Rattle.hcc_rule.specs.Words.{ledger_at}
-use Rattle.hcc_rule.specs.Rule.{IsModest, setup_of, Holds}
+use Rattle.hcc_rule.specs.Rule.{IsRecorded, IsModest, setup_of, Holds}
 use Rattle.hcc_rule.proofs.Lists.{read_at}
-use Rattle.hcc_rule.proofs.Bounds.{occupancy_small}
+use Rattle.hcc_rule.proofs.Bounds.{occupancy_small, occupancy_beside}
+use Rattle.hcc_rule.proofs.Limits.{occupancy_limit}
+use Rattle.hcc_rule.proofs.Alone.{occupancy_alone}
+use Rattle.hcc_rule.proofs.Different.{places_within}
 use Rattle.hcc_rule.proofs.LedgerTurns.{on_occupancy, Pays}
 use Rattle.hcc_rule.proofs.LedgerGives.{entered, occupancy_gives, enter_gives, slots_gives, quit_gives}
 use Rattle.hcc_rule.proofs.Asides.{pays_at, modest_is, law_is, goes_by}
 use Rattle.hcc_rule.proofs.Turns.{Shard}
 use Rattle.hcc_rule.proofs.Touches.{client_is, live_is}
+
+-- what a client has of places and slots, with the entries of these records, each once
+occupied_beside : (w : State) (c : ℕ) (client : Client) → slice_get w.clients c ≡ Some client
+    → (rs : List Record) → Each (IsRecorded w.slots) rs
+    → occupied_by client + length (different rs) ≤ occupancy_of w
+occupied_beside w c client at rs recorded =
+    let member = total-member occupied_by w.clients c client at in
+    let entries = places_within w.slots rs recorded in
+    omega arith
 
 -- what a client has of places and slots is within the occupancy
 occupied_within : (w : State) (c : ℕ) (client : Client) → slice_get w.clients c ≡ Some client
@@ -54,6 +67,15 @@ module _ {T : Type 0} (fits : T → Key → List ℕ → Type 0) (p : Plan T) (c
     found_occupancy : slice_index s.words a ≡ occupancy_of r.world
     found_occupancy = ap (slice_index s.words) place ∙ r.ledgers.occupancy
 
+    -- and this is told of it
+    occupied_told : slice_get s.views id ≡ Some me.0 → Occupied (setup_of p) me.0 (slice_index s.words a)
+    occupied_told at = record {
+      entries = rw found_occupancy
+          (occupied_beside r.world me.0.client me.0.hand (client_is fits p s r id me.0 at seated) me.0.records (r.holding id me.0 at).recorded);
+      low = rw place (occupancy_limit fits p s r);
+      alone = λ one. rw found_occupancy (occupancy_alone fits p s r id me.0 at seated one);
+    }
+
     -- what is paid by a client of which the place and the freed slots alone change
     paid_occupancy : (y : ℕ) (new : Client) → y + occupied_by me.0.hand ≡ slice_index s.words a + occupied_by new
         → new ≡ record me.0.hand { place = new.place; freed_slots = new.freed_slots }
@@ -70,14 +92,15 @@ module _ {T : Type 0} (fits : T → Key → List ℕ → Type 0) (p : Plan T) (c
         let old = modest_is fits p s r id v at sits in
         record { asked = old.asked; freed = old.freed; few = old.few; small = old.small }
 
-  pub occupancy_step : Allows (Holds fits p) count id me a (λ n. n) (occupancies (step count a 0 0 none) me)
-  occupancy_step s r homes there low =
+  pub occupancy_step : (setup : Setup) → setup ≡ setup_of p
+      → Allows (Holds fits p) count id me a (λ n. n) (occupancies setup (step count a 0 0 none) me)
+  occupancy_step setup said s r homes there low =
       goes_by fits p s r id a word me v.hand v.open_places v.turns v.seen v.tight
-      (events.Occupancy v.client) (replies.Count (occupancy_of r.world)) (occupancies (step count a 0 0 none) me) at seated refl
+      (events.Occupancy v.client) (replies.Count (occupancy_of r.world)) (occupancies setup (step count a 0 0 none) me) at seated refl
       (modest_is fits p s r id v at seated)
       (occupancy_gives r.world v.client v.hand (law_is fits p s r) client live)
       (paid_occupancy s r word v.hand refl refl)
-      (refl, refl, rw (found_occupancy s r) (occupied_within r.world v.client v.hand client))
+      (refl, refl, rw said (occupied_told s r at))
     where
       v : View T
       v = me.0
@@ -134,8 +157,16 @@ module _ {T : Type 0} (fits : T → Key → List ℕ → Type 0) (p : Plan T) (c
           let now : when (is_placed (place_at r.world.setup word)) 1 ≡ 1 = ap (λ b. when b 1) (placed_at r.world.setup word) in
           omega arith
 
+      below : word < limit_of (setup_of p) + p.geometry.clients
+      below =
+          let found = found_occupancy s r in
+          let near = occupancy_beside r.world (law_is fits p s r) v.client v.hand client absent in
+          let limit : limit_of r.world.setup ≡ limit_of (setup_of p) = ap limit_of r.setup in
+          let clients : r.world.setup.clients ≡ p.geometry.clients = ap (λ x. x.clients) r.setup in
+          omega arith
+
       told : enters setup (step count a 1 0 none) me word (record v { hand = new; open_places = asked }, me.1)
-      told = rw (said, r.setup) (refl, refl)
+      told = rw (said, r.setup) (refl, refl, occupied_told s r at, below)
 
   -- A take of the slots that were freed.
   pub slots_step : (n : ℕ) → n ≡ me.0.hand.freed_slots → 0 < n

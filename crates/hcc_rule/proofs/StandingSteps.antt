@@ -35,7 +35,7 @@ standing_within : (w : State) (c : ℕ) (client : Client) → slice_get w.client
 standing_within w c client at = let member = total-member standing_of w.clients c client at in omega arith
 
 -- which is within the usage
-standing_used : (w : State) → standing_in w ≤ usage_of w
+pub standing_used : (w : State) → standing_in w ≤ usage_of w
 standing_used w = let each = total-le standing_of charged_to w.clients (λ i client at. part client) in omega arith
   where
     part : (client : Client) → standing_of client ≤ charged_to client

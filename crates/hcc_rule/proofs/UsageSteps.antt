@@ -1,16 +1,13 @@
 -- Steps on the usage word: loads, charges, and what is settled or waived.
-use Rattle.std.proofs.Common.{◌≡◌, ℕ, ◌+◌, ◌-◌, ◌%◌, ◌^◌, ◌<◌, ◌≤◌, true, List, [], ◌∷◌, ◌++◌, nat_lt, if◌then◌else◌, Option, Some, None, slice_get, slice_index, refl, ap, ◌∙◌, arith}
+use Rattle.std.proofs.Common.{◌≡◌, ℕ, ◌+◌, ◌-◌, ◌%◌, ◌^◌, ◌<◌, ◌≤◌, true, List, [], ◌∷◌, ◌++◌, nat_lt, if◌then◌else◌, Some, slice_get, slice_index, refl, ap, ◌∙◌, arith}
 use mathlib.Core.Option.{none}
 use Rattle.atomic_table.specs.Table.{step, Allows}
 use Rattle.hcc_core.specs.declared.event.Event.TheVariants as events
 use Rattle.hcc_core.specs.declared.event.Reply.TheVariants as replies
 use Rattle.hcc_core.specs.declared.state.Setup.{Setup}
 use Rattle.hcc_core.specs.declared.state.Client.{Client}
-use Rattle.hcc_core.specs.declared.state.Entry.{Entry}
-use Rattle.hcc_core.specs.declared.state.Slot.{Slot}
-use Rattle.hcc_core.specs.declared.state.Slot.TheVariants as slots
 use Rattle.hcc_core.specs.Sums.{total}
-use Rattle.hcc_core.specs.World.{State, charged_to, charge_of, usage_of, occupied_by, standing_of}
+use Rattle.hcc_core.specs.World.{State, charged_to, usage_of, occupied_by, standing_of}
 use Rattle.hcc_core.specs.Steps.{grant_of}
 use Rattle.hcc_core.proofs.LawfulLedgers.{grant-le}
 use Rattle.hcc_core.proofs.SumLemmas.{total-member}
@@ -21,10 +18,11 @@ use Rattle.hcc_rule.specs.declared.view.Record.{Record}
 use Rattle.hcc_rule.specs.declared.view.View.{View}
 use Rattle.hcc_rule.specs.Told.{Held}
 use Rattle.hcc_rule.specs.ToldLedgers.{Charged, usages, needed_of, charges, settles, waived, waives}
-use Rattle.hcc_rule.specs.Views.{is_seated}
+use Rattle.hcc_rule.specs.Views.{is_seated, different, Each}
 use Rattle.hcc_rule.specs.Words.{ledger_at}
-use Rattle.hcc_rule.specs.Rule.{entry_in, IsRecorded, IsModest, setup_of, Holds}
+use Rattle.hcc_rule.specs.Rule.{IsRecorded, IsModest, setup_of, Holds}
 use Rattle.hcc_rule.proofs.Lists.{read_at, each_map}
+use Rattle.hcc_rule.proofs.Different.{charges_within}
 use Rattle.hcc_rule.proofs.LedgerTurns.{on_usage, Pays}
 use Rattle.hcc_rule.proofs.LedgerGives.{usage_gives, charge_allowed, settle_allowed, waive_gives}
 use Rattle.hcc_rule.proofs.Asides.{pays_at, modest_is, law_is, usage_low, goes_by}
@@ -36,35 +34,43 @@ charged_within : (w : State) (c : ℕ) (client : Client) → slice_get w.clients
     → charged_to client ≤ usage_of w
 charged_within w c client at = let member = total-member charged_to w.clients c client at in omega arith
 
--- with the charge of an entry
+-- with the charges of the entries of these records, each once
 charged_beside : (w : State) (c : ℕ) (client : Client) → slice_get w.clients c ≡ Some client
-    → (r : Record) → IsRecorded w.slots r → charged_to client + r.entry.charge ≤ usage_of w
-charged_beside w c client at r recorded = by (slice_get w.slots r.slot) refl recorded.there
-  where
-    member : charged_to client ≤ total charged_to w.clients
-    member = total-member charged_to w.clients c client at
+    → (rs : List Record) → Each (IsRecorded w.slots) rs
+    → charged_to client + total (λ (r : Record). r.entry.charge) (different rs) ≤ usage_of w
+charged_beside w c client at rs recorded =
+    let member = total-member charged_to w.clients c client at in
+    let entries = charges_within w.slots rs recorded in
+    omega arith
 
-    by : (o : Option Slot) → slice_get w.slots r.slot ≡ o
-        → entry_in o ≡ Some r.entry → charged_to client + r.entry.charge ≤ usage_of w
-    by None there is = cc
-    by (Some slot) there is =
-        let own = member in
-        let entry = total-member charge_of w.slots r.slot slot there in
-        let charge = charge_there slot is in
-        omega arith
-      where
-        charge_there : (slot : Slot) → entry_in (Some slot) ≡ Some r.entry → charge_of slot ≡ r.entry.charge
-        charge_there (slots.Empty strays) is = cc
-        charge_there (slots.Building client strays) is = cc
-        charge_there (slots.Shareable q) is =
-            let same : q.entry ≡ r.entry = cc in
-            ap (λ (e : Entry). e.charge) same
+-- and so with that of any single one
+charged_one : (w : State) (c : ℕ) (client : Client) → slice_get w.clients c ≡ Some client
+    → (r : Record) → IsRecorded w.slots r → charged_to client + r.entry.charge ≤ usage_of w
+charged_one w c client at r recorded =
+    let sum = charged_beside w c client at (r ∷ []) (recorded, tt) in
+    omega arith
 
 module _ {T : Type 0} (fits : T → Key → List ℕ → Type 0) (p : Plan T) (count id a : ℕ) (me : Held T) (seated : is_seated me.0 ≡ true) (place : a ≡ ledger_at p.geometry.slots p.geometry.room USAGE) where
   -- the word found is the usage
   module _ (s : Shard fits p) (r : Holds fits p s) where
     found_usage : slice_index s.words a ≡ usage_of r.world
     found_usage = ap (slice_index s.words) place ∙ r.ledgers.usage
+
+    -- and this is told of it
+    charged_told : slice_get s.views id ≡ Some me.0 → Charged me.0 (slice_index s.words a)
+    charged_told at = rw found_usage record {
+      entries = charged_beside r.world me.0.client me.0.hand client me.0.records recorded;
+      held =
+          each_map (IsRecorded r.world.slots) (λ (q : Record). charged_to me.0.hand + q.entry.charge ≤ usage_of r.world)
+          (charged_one r.world me.0.client me.0.hand client) me.0.records recorded;
+      low = usage_low fits p s r;
+    }
+      where
+        client : slice_get r.world.clients me.0.client ≡ Some me.0.hand
+        client = client_is fits p s r id me.0 at seated
+
+        recorded : Each (IsRecorded r.world.slots) me.0.records
+        recorded = (r.holding id me.0 at).recorded
 
     -- what is paid by a client that keeps its place, what stands for it and its trail
     paid_usage : (y : ℕ) (new : Client) → y + charged_to me.0.hand ≡ slice_index s.words a + charged_to new
@@ -82,7 +88,7 @@ module _ {T : Type 0} (fits : T → Key → List ℕ → Type 0) (p : Plan T) (c
       (modest_is fits p s r id v at seated)
       (usage_gives r.world v.client v.hand (law_is fits p s r) client live)
       (paid_usage s r word v.hand refl refl)
-      (refl, refl, charged)
+      (refl, refl, charged_told s r at)
     where
       v : View T
       v = me.0
@@ -98,13 +104,6 @@ module _ {T : Type 0} (fits : T → Key → List ℕ → Type 0) (p : Plan T) (c
 
       live : v.hand.live ≡ true
       live = live_is fits p s r id v at seated
-
-      charged : Charged v word
-      charged = rw (found_usage s r) (
-        charged_within r.world v.client v.hand client,
-        each_map (IsRecorded r.world.slots) (λ (q : Record). charged_to v.hand + q.entry.charge ≤ usage_of r.world)
-            (charged_beside r.world v.client v.hand client) v.records (r.holding id v at).recorded,
-      )
 
   -- An add of a charge: all or part of it is granted at once.
   pub charge_step : (setup : Setup) (t : ℕ) → setup ≡ setup_of p → t < 2 ^ 32 → me.0.hand.granted ≡ 0 → me.0.hand.needed ≡ 0
@@ -162,7 +161,7 @@ module _ {T : Type 0} (fits : T → Key → List ℕ → Type 0) (p : Plan T) (c
       paid = let g = within in let near = room in omega arith
 
       told : charges setup (step count a t 0 none) me word (record v { hand = new; tight = tight }, me.1)
-      told = rw (said, r.setup) (refl, refl)
+      told = rw (said, r.setup) (refl, refl, charged_told s r at)
 
   -- Takes: the freed charge, or all that stands for the client itself.
   pub settle_step : (n : ℕ) → n ≡ me.0.hand.freed → 0 < n → me.0.hand.needed ≤ n

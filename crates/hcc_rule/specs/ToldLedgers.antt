@@ -1,15 +1,16 @@
 -- What each step on a ledger word or the hand tells its seat, by the word that it found.
-use Rattle.std.specs.Prelude.{◌≡◌, ℕ, ◌+◌, ◌-◌, ◌≤◌, nat_lt, [], ◌∷◌, ◌++◌, if◌then◌else◌}
+use Rattle.std.specs.Prelude.{◌≡◌, ℕ, ◌+◌, ◌-◌, ◌^◌, ◌<◌, ◌≤◌, nat_lt, [], ◌∷◌, ◌++◌, length, if◌then◌else◌}
 use Rattle.atomic_table.specs.Table.{Step}
 use Rattle.hcc_core.specs.declared.state.Setup.{Setup}
 use Rattle.hcc_core.specs.declared.state.Place.{Place}
 use Rattle.hcc_core.specs.declared.state.Place.TheVariants as places
 use Rattle.hcc_core.specs.declared.state.Client.{Client}
+use Rattle.hcc_core.specs.Sums.{total}
 use Rattle.hcc_core.specs.World.{charged_to, occupied_by, standing_of, limit_of}
 use Rattle.hcc_core.specs.Steps.{grant_of, place_granted, dropped, is_standing}
 use Rattle.hcc_rule.specs.declared.view.Record.{Record}
 use Rattle.hcc_rule.specs.declared.view.View.{View}
-use Rattle.hcc_rule.specs.Views.{Each}
+use Rattle.hcc_rule.specs.Views.{different, Each}
 use Rattle.hcc_rule.specs.Told.{Held}
 
 -- what of a charge is not granted at once
@@ -26,22 +27,29 @@ abbrev pub waived : Client → ℕ
 waived client = client.granted + client.needed + client.freed
 
 module _ {T : Type 0} where
-  -- Loads: the client's own part is in the answer, and of the usage each entry on record too.
+  -- Loads: the client's own part is in the answer. In the usage and in the occupancy the entries that
+  -- it holds are, too, each once.
   abbrev pub after_usage : (word : ℕ) → View T → View T
   after_usage word v = record v { seen = v.seen ++ word ∷ [] }
 
-  abbrev pub Charged : View T → ℕ → Type 0
-  Charged v word =
-      (charged_to v.hand ≤ word)
-      × Each (λ (r : Record). charged_to v.hand + r.entry.charge ≤ word) v.records
+  pub record Charged (v : View T) (word : ℕ) : Type 0 where
+    pub entries : charged_to v.hand + total (λ (r : Record). r.entry.charge) (different v.records) ≤ word
+    pub held : Each (λ (r : Record). charged_to v.hand + r.entry.charge ≤ word) v.records
+    pub low : word < 2 ^ 60
 
   abbrev pub usages : Step (Unit {0}) → Held T → ℕ → Held T → Type 0
   usages step me word after =
       (after.1 ≡ me.1) × (after.0 ≡ after_usage word me.0) × Charged me.0 word
 
-  abbrev pub occupancies : Step (Unit {0}) → Held T → ℕ → Held T → Type 0
-  occupancies step me word after =
-      (after.1 ≡ me.1) × (after.0 ≡ me.0) × (occupied_by me.0.hand ≤ word)
+  -- A client that is alone made all entries, and took those that are gone.
+  pub record Occupied (setup : Setup) (v : View T) (word : ℕ) : Type 0 where
+    pub entries : occupied_by v.hand + length (different v.records) ≤ word
+    pub low : word ≤ limit_of setup + setup.clients
+    pub alone : setup.clients ≡ 1 → word + v.takings ≡ length v.made + occupied_by v.hand
+
+  abbrev pub occupancies : Setup → Step (Unit {0}) → Held T → ℕ → Held T → Type 0
+  occupancies setup step me word after =
+      (after.1 ≡ me.1) × (after.0 ≡ me.0) × Occupied setup me.0 word
 
   abbrev pub standings : Step (Unit {0}) → Held T → ℕ → Held T → Type 0
   standings step me word after =
@@ -66,7 +74,7 @@ module _ {T : Type 0} where
 
   abbrev pub charges : Setup → Step (Unit {0}) → Held T → ℕ → Held T → Type 0
   charges setup step me word after =
-      (after.1 ≡ me.1) × (after.0 ≡ after_charge setup step.first word me.0)
+      (after.1 ≡ me.1) × (after.0 ≡ after_charge setup step.first word me.0) × Charged me.0 word
 
   -- Take from the usage.
   abbrev pub after_settle : View T → View T
@@ -93,6 +101,7 @@ module _ {T : Type 0} where
   abbrev pub enters : Setup → Step (Unit {0}) → Held T → ℕ → Held T → Type 0
   enters setup step me word after =
       (after.1 ≡ me.1) × (after.0 ≡ after_enter setup word me.0)
+      × Occupied setup me.0 word × (word < limit_of setup + setup.clients)
 
   -- Take from the occupancy.
   abbrev pub after_slots : View T → View T

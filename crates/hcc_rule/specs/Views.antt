@@ -1,5 +1,5 @@
 -- What is read of the views of seats.
-use Rattle.std.specs.Prelude.{ℕ, ◌+◌, Bool, ◌&&◌, ◌==◌, List, [], ◌∷◌, Option, is_some, find, option_map, length}
+use Rattle.std.specs.Prelude.{ℕ, ◌+◌, Bool, not, ◌&&◌, ◌==◌, List, [], ◌∷◌, Option, is_some, filter, find, option_map, length}
 use Rattle.hcc_core.specs.declared.state.Reference.{Reference}
 use Rattle.hcc_core.specs.declared.state.Stamp.{Stamp}
 use Rattle.hcc_core.specs.Sums.{when, total}
@@ -34,6 +34,16 @@ record_in name records = find (is_called name) records
 -- how many records have this name
 abbrev pub times_called : ℕ → List Record → ℕ
 times_called name = total (λ r. when (is_called name r) 1)
+
+-- those of other slots
+abbrev pub off : ℕ → List Record → List Record
+off slot records = filter (λ r. not (is_on slot r)) records
+
+-- The first record of each slot, in order. Records of one slot are on one entry, and those of two
+-- slots on two, so these are one record for each entry that the client holds.
+abbrev pub different : List Record → List Record
+different [] = []
+different (r ∷ rs) = r ∷ off r.slot (different rs)
 
 -- the stamp of the entry that the records of a slot are on
 abbrev pub stamp_on : ℕ → List Record → Option Stamp

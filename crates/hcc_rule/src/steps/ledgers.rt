@@ -1,12 +1,13 @@
 //! Steps on the usage word.
-ghost use Rattle.std.specs.Prelude.{◌≡◌, ◌+◌, ◌<◌, ◌≤◌};
+ghost use Rattle.std.specs.Prelude.{◌≡◌, ◌+◌, ◌^◌, ◌<◌, ◌≤◌};
+ghost use Rattle.hcc_core.specs.Sums.{total};
 ghost use Rattle.hcc_core.specs.World.{charged_to};
 ghost use Rattle.hcc_rule.specs.declared.layout.TheConstants.{LEDGER_WORDS};
 ghost use Rattle.hcc_rule.specs.declared.view.Record.{Record};
 ghost use Rattle.hcc_rule.specs.Rule.{setup_of};
 ghost use Rattle.hcc_rule.specs.Seats.{IsSeatOf, IsSameSeat, view};
-ghost use Rattle.hcc_rule.specs.ToldLedgers.{after_usage, after_charge, after_settle, after_waive, waived};
-ghost use Rattle.hcc_rule.specs.Views.{Each};
+ghost use Rattle.hcc_rule.specs.ToldLedgers.{Charged, after_usage, after_charge, after_settle, after_waive, waived};
+ghost use Rattle.hcc_rule.specs.Views.{different, Each};
 ghost use Rattle.hcc_rule.specs.Words.{ledger_at};
 
 use super::planned::Planned;
@@ -67,8 +68,9 @@ impl<T: Tag, A: Allocator> RuleTable<T, A> {
     }
 
     /// Loads the usage: all charges of entries, and what stands for clients. The view's seen list
-    /// grows by the answer. That is at least what stands for the client itself, and as much more as
-    /// the charge of any entry that it holds a reference on.
+    /// grows by the answer. That is below 2^60, and at least what stands for the client itself with
+    /// the charges of all entries that it holds references on. Each of these counts once: its records
+    /// on one slot are on one entry, and the first of them stands for it in the sum (`different`).
     ///
     /// It takes no memory. It costs one load.
     pub fn usage(&self, seat: &mut RuleSeat<T>) -> u64
@@ -76,7 +78,9 @@ impl<T: Tag, A: Allocator> RuleTable<T, A> {
         ensures seat { IsSameSeat seat.old seat.new }
         ensures view { view seat.new ≡ after_usage result (view seat.old) }
         ensures own { charged_to (view seat.old).hand ≤ result }
+        ensures entries { charged_to (view seat.old).hand + total (λ (r : Record). r.entry.charge) (different (view seat.old).records) ≤ result }
         ensures held { Each (λ (r : Record). charged_to (view seat.old).hand + r.entry.charge ≤ result) (view seat.old).records }
+        ensures low { result < 2 ^ 60 }
     {
         self.table.shared.load::<Usage>(seat, self.ledger(USAGE))
     }
@@ -87,6 +91,7 @@ impl<T: Tag, A: Allocator> RuleTable<T, A> {
         requires said { J.setup ≡ setup_of self.now.table.shared.key }
         ensures seat { IsSameSeat seat.old seat.new }
         ensures view { view seat.new ≡ after_charge J.setup amount result (view seat.old) }
+        ensures found { Charged (view seat.old) result }
     {
         self.table
             .shared
@@ -98,12 +103,16 @@ impl<T: Tag, A: Allocator> RuleTable<T, A> {
     /// the capacity. The rest is needed: the client has to free as much before it may use any, and
     /// the charge joins the view's tight list.
     ///
-    /// It answers the usage before. It takes no memory. It costs one atomic add.
+    /// It answers the usage before: below 2^60, and at least what stood for the client with the
+    /// charges of all entries that it holds references on. It takes no memory. It costs one atomic
+    /// add.
     pub fn charge(&self, seat: &mut RuleSeat<T>, amount: u32) -> u64
         requires seat { IsSeatOf self.now.table.shared.table_id self.now.table.shared.key.tag seat.old }
         requires spent { ((view seat.old).hand.granted ≡ 0) × ((view seat.old).hand.needed ≡ 0) }
         ensures seat { IsSameSeat seat.old seat.new }
         ensures view { view seat.new ≡ after_charge (setup_of self.now.table.shared.key) amount result (view seat.old) }
+        ensures entries { charged_to (view seat.old).hand + total (λ (r : Record). r.entry.charge) (different (view seat.old).records) ≤ result }
+        ensures low { result < 2 ^ 60 }
     {
         self.charge_as::<Brand>(seat, amount)
     }

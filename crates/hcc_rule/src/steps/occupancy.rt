@@ -1,10 +1,11 @@
 //! Steps on the occupancy word.
-ghost use Rattle.std.specs.Prelude.{◌≡◌, ◌+◌, ◌<◌, ◌≤◌, true};
+ghost use Rattle.std.specs.Prelude.{◌≡◌, ◌+◌, ◌<◌, ◌≤◌, true, length};
 ghost use Rattle.hcc_core.specs.declared.state.Place.TheVariants.{Absent};
-ghost use Rattle.hcc_core.specs.World.{occupied_by, is_placed};
+ghost use Rattle.hcc_core.specs.World.{occupied_by, is_placed, limit_of};
 ghost use Rattle.hcc_rule.specs.Rule.{setup_of};
 ghost use Rattle.hcc_rule.specs.Seats.{IsSeatOf, IsSameSeat, view};
 ghost use Rattle.hcc_rule.specs.ToldLedgers.{after_enter, after_slots, after_quit};
+ghost use Rattle.hcc_rule.specs.Views.{different};
 
 use super::planned::Planned;
 use crate::key::Tag;
@@ -16,12 +17,14 @@ use std::alloc::Allocator;
 use std::marker::{Brand, PhantomData};
 
 /// What a load of the occupancy tells.
-pub struct Occupancy;
+pub struct Occupancy<J> {
+    said: PhantomData<J>,
+}
 
-impl<T: Tag> Play<(), View<T>> for Occupancy {
+impl<T: Tag, J: Planned> Play<(), View<T>> for Occupancy<J> {
     ghost use Rattle.hcc_rule.specs.ToldLedgers.{occupancies};
 
-    ghost then = { occupancies };
+    ghost then = { occupancies J.setup };
 }
 
 /// What an add of a place tells.
@@ -54,8 +57,25 @@ impl<T: Tag> Play<(), View<T>> for Quit {
 }
 
 impl<T: Tag, A: Allocator> RuleTable<T, A> {
+    fn occupancy_as<J: Planned>(&self, seat: &mut RuleSeat<T>) -> u64
+        requires seat { IsSeatOf self.now.table.shared.table_id self.now.table.shared.key.tag seat.old }
+        requires said { J.setup ≡ setup_of self.now.table.shared.key }
+        ensures seat { IsSameSeat seat.old seat.new }
+        ensures view { view seat.new ≡ view seat.old }
+        ensures entries { occupied_by (view seat.old).hand + length (different (view seat.old).records) ≤ result }
+        ensures low { result ≤ limit_of J.setup + J.setup.clients }
+        ensures alone { J.setup.clients ≡ 1 → result + (view seat.old).takings ≡ length (view seat.old).made + occupied_by (view seat.old).hand }
+    {
+        self.table
+            .shared
+            .load::<Occupancy<J>>(seat, self.ledger(OCCUPANCY))
+    }
+
     /// Loads the occupancy: the entries, the places that clients asked for, and the slots that they
-    /// freed and haven't given back. The client's own place and freed slots are among them.
+    /// freed and haven't given back. The client's own place and freed slots are among them, with the
+    /// entries that it holds references on, each once. It is at most the limit, with an open place
+    /// for each client. Where the shard has one client it is exact: what the client showed and
+    /// didn't take, with what it has in hand.
     ///
     /// It takes no memory. It costs one load.
     pub fn occupancy(&self, seat: &mut RuleSeat<T>) -> u64
@@ -63,10 +83,11 @@ impl<T: Tag, A: Allocator> RuleTable<T, A> {
         ensures seat { IsSameSeat seat.old seat.new }
         ensures view { view seat.new ≡ view seat.old }
         ensures own { occupied_by (view seat.old).hand ≤ result }
+        ensures entries { occupied_by (view seat.old).hand + length (different (view seat.old).records) ≤ result }
+        ensures low { result ≤ limit_of (setup_of self.now.table.shared.key) + self.now.geometry.clients }
+        ensures alone { self.now.geometry.clients ≡ 1 → result + (view seat.old).takings ≡ length (view seat.old).made + occupied_by (view seat.old).hand }
     {
-        self.table
-            .shared
-            .load::<Occupancy>(seat, self.ledger(OCCUPANCY))
+        self.occupancy_as::<Brand>(seat)
     }
 
     fn enter_as<J: Planned>(&self, seat: &mut RuleSeat<T>) -> u64
@@ -75,6 +96,9 @@ impl<T: Tag, A: Allocator> RuleTable<T, A> {
         requires said { J.setup ≡ setup_of self.now.table.shared.key }
         ensures seat { IsSameSeat seat.old seat.new }
         ensures view { view seat.new ≡ after_enter J.setup result (view seat.old) }
+        ensures entries { occupied_by (view seat.old).hand + length (different (view seat.old).records) ≤ result }
+        ensures low { result < limit_of J.setup + J.setup.clients }
+        ensures alone { J.setup.clients ≡ 1 → result + (view seat.old).takings ≡ length (view seat.old).made + occupied_by (view seat.old).hand }
     {
         self.table
             .shared
@@ -85,12 +109,18 @@ impl<T: Tag, A: Allocator> RuleTable<T, A> {
     /// occupancy is below 84 of a hundred slots, rounded down; else it is open, and the view counts
     /// one more open place.
     ///
-    /// It answers the occupancy before. It takes no memory. It costs one atomic add.
+    /// It answers the occupancy before: below the limit with an open place for each client, and at
+    /// least the client's freed slots with the entries that it holds references on, each once. Where
+    /// the shard has one client it is exact, as a load is. It takes no memory. It costs one atomic
+    /// add.
     pub fn enter(&self, seat: &mut RuleSeat<T>) -> u64
         requires seat { IsSeatOf self.now.table.shared.table_id self.now.table.shared.key.tag seat.old }
         requires absent { (view seat.old).hand.place ≡ Absent }
         ensures seat { IsSameSeat seat.old seat.new }
         ensures view { view seat.new ≡ after_enter (setup_of self.now.table.shared.key) result (view seat.old) }
+        ensures entries { occupied_by (view seat.old).hand + length (different (view seat.old).records) ≤ result }
+        ensures low { result < limit_of (setup_of self.now.table.shared.key) + self.now.geometry.clients }
+        ensures alone { self.now.geometry.clients ≡ 1 → result + (view seat.old).takings ≡ length (view seat.old).made + occupied_by (view seat.old).hand }
     {
         self.enter_as::<Brand>(seat)
     }
