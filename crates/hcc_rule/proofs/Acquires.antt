@@ -128,7 +128,7 @@ module _ {T : Type 0} (fits : T → Key → List ℕ → Type 0) (p : Plan T) wh
           at_view = o.at_view;
           at_slot = o.at_slot;
           seated = o.seated;
-          same = record { tag = refl; client = refl; others = refl };
+          same = record { tag = refl; client = refl; others = refl; turns = refl };
           work = refl;
           store = record { written = refl; made = refl; takings = refl };
           allowed = rw left_is (by_hand r.world event reply i me.0.client (slot_acquired t (new_reference me.0.client x n t)) (client_acquired me.0.client (slot_acquired t (new_reference me.0.client x n t)) me.0.hand) new.hand becomes allowed);
@@ -170,7 +170,7 @@ module _ {T : Type 0} (fits : T → Key → List ℕ → Type 0) (p : Plan T) wh
         at_view = o.at_view;
         at_slot = o.at_slot;
         seated = o.seated;
-        same = record { tag = refl; client = refl; others = refl };
+        same = record { tag = refl; client = refl; others = refl; turns = refl };
         work = refl;
         store = record { written = refl; made = refl; takings = refl };
         allowed = by_hand r.world event reply i me.0.client left (client_acquired me.0.client left me.0.hand) new.hand becomes (allowed s r id i a n x me t o);

@@ -1,5 +1,5 @@
 -- What every step on a ledger word, a displacement word or the hand shares.
-use Rattle.std.proofs.Common.{◌≡◌, ℕ, ◌^◌, ◌<◌, true, List, Some, Ok, slice_get, slice_index, refl}
+use Rattle.std.proofs.Common.{◌≡◌, ℕ, ◌^◌, ◌<◌, inl, true, List, Some, Ok, slice_get, slice_index, refl}
 use Rattle.hcc_core.specs.declared.event.Event.{Event}
 use Rattle.hcc_core.specs.declared.event.Reply.{Reply}
 use Rattle.hcc_core.specs.declared.state.Client.{Client}
@@ -52,20 +52,21 @@ module _ {T : Type 0} (fits : T → Key → List ℕ → Type 0) (p : Plan T) wh
       (charge_small fits p.tag p.geometry.room r.world.slots r.world.clients r.books s.views s.words r.stamps r.stored)
       (λ c client there. r.ledgers.modest c client there)
 
-  -- A step that moves no hand.
-  pub goes_by : (s : Shard fits p) (r : Holds fits p s) (id a y : ℕ) (me : Held T) (hand : Client) (asked turns : ℕ) (seen tight : List ℕ) (event : Event) (reply : Reply) (then : ℕ → Held T → Type 0)
+  -- A step that moves no hand and makes no turn.
+  pub goes_by : (s : Shard fits p) (r : Holds fits p s) (id a y : ℕ) (me : Held T) (hand : Client) (asked : ℕ) (seen tight : List ℕ) (event : Event) (reply : Reply) (then : ℕ → Held T → Type 0)
       → slice_get s.views id ≡ Some me.0 → is_seated me.0 ≡ true → SameHand me.0.hand hand → IsModest hand
       → outcome_of r.world event ≡ Ok (reply, with_client r.world me.0.client hand)
       → Pays p.geometry.slots p.geometry.room a (slice_index s.words a) y r.world.hand r.world.hand me.0.hand hand
-      → then (slice_index s.words a) (record me.0 { hand = hand; open_places = asked; turns = turns; seen = seen; tight = tight }, me.1)
+      → then (slice_index s.words a) (record me.0 { hand = hand; open_places = asked; seen = seen; tight = tight }, me.1)
       → Goes fits p s a y id me then
-  goes_by s r id a y me hand asked turns seen tight event reply then at seated work modest allowed pays told =
-      goes_aside fits p s r id a y r.world.hand me (record me.0 { hand = hand; open_places = asked; turns = turns; seen = seen; tight = tight }) event reply then
+  goes_by s r id a y me hand asked seen tight event reply then at seated work modest allowed pays told =
+      goes_aside fits p s r id a y r.world.hand me (record me.0 { hand = hand; open_places = asked; seen = seen; tight = tight }) event reply then
       (record {
         at_view = at;
         seated = seated;
-        same = view_kept me.0 hand asked turns seen tight;
+        same = view_kept me.0 hand asked me.0.turns seen tight;
         written = refl;
+        turning = inl (refl, refl);
         work = work;
         allowed = allowed;
         modest = modest;

@@ -20,6 +20,7 @@ use Rattle.hcc_rule.specs.Rule.{entry_in, IsRecorded, IsStored, IsDraft, Holds}
 use Rattle.hcc_rule.proofs.Lists.{read_at, each_set}
 use Rattle.hcc_rule.proofs.Findings.{find_each}
 use Rattle.hcc_rule.proofs.ClientParts.{SameView, references_view, holding_view, seats_still, stamps_still}
+use Rattle.hcc_rule.proofs.WorldParts.{hand_kept}
 use Rattle.hcc_rule.proofs.Turns.{Shard}
 use Rattle.hcc_rule.proofs.Touches.{client_is}
 
@@ -62,6 +63,7 @@ module _ {T : Type 0} (fits : T → Key → List ℕ → Type 0) (p : Plan T) wh
     ledgers = r.ledgers;
     trails = r.trails;
     turned = r.turned;
+    turns = r.turns ∙ hand_kept s.views id v new at refl;
   }
     where
       new : View T

@@ -99,7 +99,7 @@ module _ {T : Type 0} (fits : T → Key → List ℕ → Type 0) (p : Plan T) wh
   clocks_on s r id i a old new me k then at seated at_slot place same clockable clocks told =
       goes fits p s r a new id i me me.0 (slots.Shareable k) (slots.Shareable left) event (replies.Uses (clocked k.uses)) then place code
       (rested fits p s r id i me.0 me.0 k left event (replies.Uses (clocked k.uses)) at at_slot seated
-      record { tag = refl; client = refl; others = refl } refl record { written = refl; made = refl; takings = refl } refl refl refl refl
+      record { tag = refl; client = refl; others = refl; turns = refl } refl record { written = refl; made = refl; takings = refl } refl refl refl refl
       (clock_allowed r.world me.0.client i me.0.hand k l at_slot (client_is fits p s r id me.0 at seated) (live_is fits p s r id me.0 at seated) may))
       told
     where
@@ -169,7 +169,7 @@ module _ {T : Type 0} (fits : T → Key → List ℕ → Type 0) (p : Plan T) wh
   corrects_on s r id i x a old new me q k then o uncounted small place same correctable corrects told =
       goes fits p s r a new id i me after t (slots.Shareable left) event replies.Ok then place code
       (rested fits p s r id i me.0 after k left event replies.Ok o.at_view o.at_slot o.seated
-      record { tag = refl; client = refl; others = refl } refl record { written = refl; made = refl; takings = refl } refl refl refl refl
+      record { tag = refl; client = refl; others = refl; turns = refl } refl record { written = refl; made = refl; takings = refl } refl refl refl refl
       (by_hand r.world event replies.Ok i me.0.client (slots.Shareable left) (client_noticed me.0.client t me.0.hand) after.hand becomes
       (correct_allowed r.world me.0.client x i me.0.hand k l small (name_held fits p s r id i x me.0 q k o) o.at_slot (client_is fits p s r id me.0 o.at_view o.seated) (live_is fits p s r id me.0 o.at_view o.seated) may)))
       told

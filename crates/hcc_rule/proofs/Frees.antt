@@ -213,7 +213,7 @@ module _ {T : Type 0} (fits : T → Key → List ℕ → Type 0) (p : Plan T) wh
         at_view = at;
         at_slot = at_slot;
         seated = seated;
-        same = record { tag = refl; client = refl; others = refl };
+        same = record { tag = refl; client = refl; others = refl; turns = refl };
         live = live_is fits p s r id v at seated;
         allowed = by_hand r.world event reply i v.client left (client_freeing v.client i (slots.Shareable k) v.hand) new.hand becomes
             (free_allowed r.world v.client i name v.hand k (is_lawful r.world r.lawful) at_slot client (live_is fits p s r id v at seated) idle back leaves.alone named);

@@ -1,5 +1,5 @@
 -- A turn of the hand.
-use Rattle.std.proofs.Common.{◌≡◌, ℕ, ◌+◌, ◌%◌, ◌^◌, true, List, Some, slice_get, slice_index, refl, ap, ◌∙◌}
+use Rattle.std.proofs.Common.{◌≡◌, ℕ, ◌+◌, ◌%◌, ◌^◌, inr, true, List, Some, slice_get, slice_index, refl, ap, ◌∙◌}
 use mathlib.Core.Option.{none}
 use Rattle.atomic_table.specs.Table.{step, Allows}
 use Rattle.hcc_core.specs.declared.limits.TheConstants.{SLOTS_PER_TURN}
@@ -33,8 +33,9 @@ module _ {T : Type 0} (fits : T → Key → List ℕ → Type 0) (p : Plan T) wh
         seated = seated;
         same = view_kept v v.hand v.open_places (v.turns + 1) v.seen v.tight;
         written = refl;
+        turning = inr (refl, ap (λ n. (n + SLOTS_PER_TURN) % 2 ^ 64) found);
         work = refl;
-        allowed = turn_gives r.world v.client v.hand (law_is fits p s r) client live word (ap (slice_index s.words) place ∙ r.turned);
+        allowed = turn_gives r.world v.client v.hand (law_is fits p s r) client live word found;
         modest = modest_is fits p s r id v at seated;
         pays =
             pays_at p.geometry.slots p.geometry.room a _ word next r.world.hand next v.hand v.hand place
@@ -56,6 +57,9 @@ module _ {T : Type 0} (fits : T → Key → List ℕ → Type 0) (p : Plan T) wh
 
       live : v.hand.live ≡ true
       live = live_is fits p s r id v at seated
+
+      found : slice_index s.words a ≡ r.world.hand
+      found = ap (slice_index s.words) place ∙ r.turned
 
       next : ℕ
       next = (word + SLOTS_PER_TURN) % 2 ^ 64

@@ -26,6 +26,7 @@ use Rattle.hcc_rule.specs.Opening.{IsIdle, as_other, joined_view, spent_view}
 use Rattle.hcc_rule.proofs.Lists.{within, read_at, each_set, each_append}
 use Rattle.hcc_rule.proofs.Clients.{held_count, no_client}
 use Rattle.hcc_rule.proofs.ViewParts.{when_few, names_own, unnamed, seated_else, others_else}
+use Rattle.hcc_rule.proofs.WorldParts.{hand_same}
 use Rattle.hcc_rule.proofs.Looks.{client_fits}
 use Rattle.hcc_rule.proofs.Splits.{total_started}
 use Rattle.hcc_rule.proofs.Turns.{Shard}
@@ -269,6 +270,7 @@ module _ {T : Type 0} (fits : T → Key → List ℕ → Type 0) (p : Plan T) wh
       ledgers = ledgers;
       trails = trails;
       turned = r.turned;
+      turns = r.turns ∙ hand_same s.views views (total_joined (λ (u : View T). u.turns) s.views id other v w both spent at still_there (omega arith));
     }
 
   pub joins : (id other : ℕ) (v w : View T) → is_seated v ≡ true → is_seated w ≡ true → IsIdle w.hand → w.records ≡ []

@@ -27,6 +27,7 @@ use Rattle.hcc_rule.proofs.Lists.{within, word_here, word_else, each_set}
 use Rattle.hcc_rule.proofs.Addresses.{field_inside, fields_apart, ledger_apart, ledgers_apart, ledger_inside, Away, ledger_away, displacement_away, lies_away}
 use Rattle.hcc_rule.proofs.WordParts.{AreShort, coded_else, made_short, stored_words, drafted_set}
 use Rattle.hcc_rule.proofs.ClientParts.{SameView, SameHand, references_view, holding_view, seats_view, stamps_view, Moves, sum_moved}
+use Rattle.hcc_rule.proofs.WorldParts.{Turning, hand_set}
 use Rattle.hcc_rule.proofs.Turns.{Shard, after, size_is}
 use Rattle.hcc_rule.proofs.Touches.{Goes, client_is}
 
@@ -199,6 +200,7 @@ module _ {T : Type 0} (fits : T → Key → List ℕ → Type 0) (p : Plan T) wh
     pub seated : is_seated v ≡ true
     pub same : SameView v new
     pub written : new.written ≡ v.written
+    pub turning : Turning v new r.world.hand k
     pub work : SameHand v.hand new.hand
     pub allowed : outcome_of r.world event ≡ Ok (reply, record (with_client r.world v.client new.hand) { hand = k })
     pub modest : IsModest new.hand
@@ -232,6 +234,7 @@ module _ {T : Type 0} (fits : T → Key → List ℕ → Type 0) (p : Plan T) wh
         trails_paid size room a y r.world.hand k v.client all clients s.words v.hand new.hand wide
         r.trails at_client m.pays;
     turned = hand_paid size room a y r.world.hand k s.words v.hand new.hand wide r.turned m.pays;
+    turns = hand_set s.views id r.world.hand k v new r.turns m.at_view m.turning;
   }
     where
       room : ℕ

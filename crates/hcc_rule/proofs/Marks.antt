@@ -93,7 +93,7 @@ module _ {T : Type 0} (fits : T → Key → List ℕ → Type 0) (p : Plan T) wh
   hides_on s r id i x a me q k then o small place told =
       goes fits p s r a (bit_and word HIDING_MASK) id i me new t left event reply then place code
       (rested s r id i me.0 new k (record k { shown = false }) event reply o.at_view o.at_slot o.seated
-      record { tag = refl; client = refl; others = refl } refl record { written = refl; made = refl; takings = refl } refl refl refl refl
+      record { tag = refl; client = refl; others = refl; turns = refl } refl record { written = refl; made = refl; takings = refl } refl refl refl refl
       (by_hand r.world event reply i me.0.client left (client_noticed me.0.client left me.0.hand) new.hand becomes
       (hide_allowed r.world me.0.client x i me.0.hand t l small holds o.at_slot (client_is fits p s r id me.0 o.at_view o.seated) (live_is fits p s r id me.0 o.at_view o.seated))))
       (told (ap is_shareable word_is ∙ is_shareable-shareable k.hit k.shown near))
@@ -159,7 +159,7 @@ module _ {T : Type 0} (fits : T → Key → List ℕ → Type 0) (p : Plan T) wh
   marks_on s r id i x a me q k then o small place told =
       goes fits p s r a (bit_or word HIT_BIT) id i me new t left event replies.Ok then place code
       (rested s r id i me.0 new k (record k { hit = true }) event replies.Ok o.at_view o.at_slot o.seated
-      record { tag = refl; client = refl; others = refl } refl record { written = refl; made = refl; takings = refl } refl refl refl refl
+      record { tag = refl; client = refl; others = refl; turns = refl } refl record { written = refl; made = refl; takings = refl } refl refl refl refl
       (by_hand r.world event replies.Ok i me.0.client left (client_noticed me.0.client t me.0.hand) new.hand becomes
       (mark_allowed r.world me.0.client x i me.0.hand t l small (name_held fits p s r id i x me.0 q k o) o.at_slot (client_is fits p s r id me.0 o.at_view o.seated) (live_is fits p s r id me.0 o.at_view o.seated))))
       (told (ap is_shareable word_is ∙ is_shareable-shareable k.hit k.shown near))

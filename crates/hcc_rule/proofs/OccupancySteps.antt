@@ -95,7 +95,7 @@ module _ {T : Type 0} (fits : T → Key → List ℕ → Type 0) (p : Plan T) (c
   pub occupancy_step : (setup : Setup) → setup ≡ setup_of p
       → Allows (Holds fits p) count id me a (λ n. n) (occupancies setup (step count a 0 0 none) me)
   occupancy_step setup said s r homes there low =
-      goes_by fits p s r id a word me v.hand v.open_places v.turns v.seen v.tight
+      goes_by fits p s r id a word me v.hand v.open_places v.seen v.tight
       (events.Occupancy v.client) (replies.Count (occupancy_of r.world)) (occupancies setup (step count a 0 0 none) me) at seated refl
       (modest_is fits p s r id v at seated)
       (occupancy_gives r.world v.client v.hand (law_is fits p s r) client live)
@@ -121,7 +121,7 @@ module _ {T : Type 0} (fits : T → Key → List ℕ → Type 0) (p : Plan T) (c
   pub enter_step : (setup : Setup) → setup ≡ setup_of p → me.0.hand.place ≡ places.Absent
       → Allows (Holds fits p) count id me a (λ n. (n + 1) % 2 ^ 64) (enters setup (step count a 1 0 none) me)
   enter_step setup said absent s r homes there low =
-      goes_by fits p s r id a ((word + 1) % 2 ^ 64) me new asked v.turns v.seen v.tight
+      goes_by fits p s r id a ((word + 1) % 2 ^ 64) me new asked v.seen v.tight
       (events.Enter v.client) (entered r.world.setup word) (enters setup (step count a 1 0 none) me) at seated refl
       (modest_placed s r v at seated (place_at r.world.setup word) v.hand.freed_slots)
       (enter_gives r.world v.client v.hand (law_is fits p s r) client live word (found_occupancy s r) absent)
@@ -172,7 +172,7 @@ module _ {T : Type 0} (fits : T → Key → List ℕ → Type 0) (p : Plan T) (c
   pub slots_step : (n : ℕ) → n ≡ me.0.hand.freed_slots → 0 < n
       → Allows (Holds fits p) count id me a (λ x. (x + (2 ^ 64 - n)) % 2 ^ 64) (gives_slots (step count a n 0 none) me)
   slots_step n is some s r homes there low =
-      goes_by fits p s r id a ((word + (2 ^ 64 - n)) % 2 ^ 64) me new v.open_places v.turns v.seen v.tight
+      goes_by fits p s r id a ((word + (2 ^ 64 - n)) % 2 ^ 64) me new v.open_places v.seen v.tight
       (events.Slots v.client) replies.Ok (gives_slots (step count a n 0 none) me) at seated refl
       (modest_placed s r v at seated (place_granted v.hand.place) 0)
       (slots_gives r.world v.client v.hand (law_is fits p s r) client live (omega arith))
@@ -209,7 +209,7 @@ module _ {T : Type 0} (fits : T → Key → List ℕ → Type 0) (p : Plan T) (c
   pub quit_step : (n : ℕ) → n ≡ 1 + me.0.hand.freed_slots → is_placed me.0.hand.place ≡ true
       → Allows (Holds fits p) count id me a (λ x. (x + (2 ^ 64 - n)) % 2 ^ 64) (quits (step count a n 0 none) me)
   quit_step n is placed s r homes there low =
-      goes_by fits p s r id a ((word + (2 ^ 64 - n)) % 2 ^ 64) me new v.open_places v.turns v.seen v.tight
+      goes_by fits p s r id a ((word + (2 ^ 64 - n)) % 2 ^ 64) me new v.open_places v.seen v.tight
       (events.Quit v.client) replies.Ok (quits (step count a n 0 none) me) at seated refl
       (modest_placed s r v at seated places.Absent 0)
       (quit_gives r.world v.client v.hand (law_is fits p s r) client live placed)

@@ -88,7 +88,7 @@ module _ {T : Type 0} (fits : T → Key → List ℕ → Type 0) (p : Plan T) wh
           at_view = at;
           at_slot = at_slot;
           seated = seated;
-          same = record { tag = refl; client = refl; others = refl };
+          same = record { tag = refl; client = refl; others = refl; turns = refl };
           work = refl;
           store = record { written = refl; made = refl; takings = refl };
           allowed = by_hand r.world event reply i me.0.client t (client_looked me.0.client i t me.0.hand) new.hand becomes allowed;
@@ -129,7 +129,7 @@ module _ {T : Type 0} (fits : T → Key → List ℕ → Type 0) (p : Plan T) wh
           at_view = at;
           at_slot = at_slot;
           seated = seated;
-          same = record { tag = refl; client = refl; others = refl };
+          same = record { tag = refl; client = refl; others = refl; turns = refl };
           work = refl;
           store = record { records = refl; made = refl; takings = refl; written = refl };
           allowed = occupy_takes r.world me.0.client i strays me.0.hand l at_slot (client_is fits p s r id me.0 at seated) (live_is fits p s r id me.0 at seated) free;

@@ -255,4 +255,5 @@ module _ {T : Type 0} (p : Plan T) (can : CanOpen (setup_of p)) where
     ledgers = first_ledgers;
     trails = first_trails;
     turned = ledger_zero HAND;
+    turns = refl;
   }

@@ -61,7 +61,7 @@ module _ {T : Type 0} (fits : T → Key → List ℕ → Type 0) (p : Plan T) wh
         at_view = o.at_view;
         at_slot = o.at_slot;
         seated = o.seated;
-        same = record { tag = refl; client = refl; others = refl };
+        same = record { tag = refl; client = refl; others = refl; turns = refl };
         work = refl;
         store = record { written = refl; made = refl; takings = refl };
         allowed = by_hand r.world event reply i me.0.client left (client_noticed me.0.client t me.0.hand) new.hand becomes

@@ -161,7 +161,7 @@ module _ {T : Type 0} (fits : T → Key → List ℕ → Type 0) (p : Plan T) wh
       at_view = at;
       at_slot = at_slot;
       seated = seated;
-      same = record { tag = refl; client = refl; others = refl };
+      same = record { tag = refl; client = refl; others = refl; turns = refl };
       live = live_is fits p s r id v at seated;
       allowed = show_allowed r.world v.client i countdown name made v.hand (is_lawful r.world r.lawful) client (live_is fits p s r id v at seated)
           may.builds may.place may.needed may.paid may.some may.few (named name may.fresh) (let few = may.stamps in let count = counts in omega arith)

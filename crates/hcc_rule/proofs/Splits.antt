@@ -23,6 +23,7 @@ use Rattle.hcc_rule.specs.Rule.{book_of, IsDraft, IsHolding, IsNamed, IsSeated, 
 use Rattle.hcc_rule.specs.Opening.{started, fresh_view, left_view, right_view}
 use Rattle.hcc_rule.proofs.Lists.{within, read_at, each_set}
 use Rattle.hcc_rule.proofs.ViewParts.{total-two, when_few, when_is, seated_else, others_else}
+use Rattle.hcc_rule.proofs.WorldParts.{hand_same}
 use Rattle.hcc_rule.proofs.Looks.{client_fits}
 use Rattle.hcc_rule.proofs.Turns.{Shard}
 
@@ -243,6 +244,7 @@ module _ {T : Type 0} (fits : T → Key → List ℕ → Type 0) (p : Plan T) wh
       ledgers = ledgers;
       trails = trails;
       turned = r.turned;
+      turns = r.turns ∙ hand_same s.views views (total_split (λ (u : View T). u.turns) s.views id v left right at (omega arith));
     }
 
   pub splits : (id : ℕ) (v : View T) (tag : T) (o : Other) (os : List Other)

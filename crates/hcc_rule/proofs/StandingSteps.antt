@@ -59,7 +59,7 @@ module _ {T : Type 0} (fits : T → Key → List ℕ → Type 0) (p : Plan T) (c
 
   pub standing_step : Allows (Holds fits p) count id me a (λ n. n) (standings (step count a 0 0 none) me)
   standing_step s r homes there low =
-      goes_by fits p s r id a word me v.hand v.open_places v.turns v.seen v.tight
+      goes_by fits p s r id a word me v.hand v.open_places v.seen v.tight
       (events.Standing v.client) (replies.Count (standing_in r.world)) (standings (step count a 0 0 none) me) at seated refl
       (modest_is fits p s r id v at seated)
       (standing_gives r.world v.client v.hand (law_is fits p s r) client live)
@@ -88,7 +88,7 @@ module _ {T : Type 0} (fits : T → Key → List ℕ → Type 0) (p : Plan T) (c
       → length me.0.hand.standalones < MOST_HANDLES
       → Allows (Holds fits p) count id me a (λ n. (n + charge) % 2 ^ 64) (stands name (step count a charge 0 none) me)
   stand_step name charge named cheap absent granted fresh few s r homes there low =
-      goes_by fits p s r id a ((word + charge) % 2 ^ 64) me new v.open_places v.turns v.seen v.tight
+      goes_by fits p s r id a ((word + charge) % 2 ^ 64) me new v.open_places v.seen v.tight
       (events.Stand v.client charge name) replies.Ok (stands name (step count a charge 0 none) me) at seated refl
       modest
       (stand_gives r.world v.client v.hand (law_is fits p s r) client live name charge named cheap absent granted fresh)
@@ -144,7 +144,7 @@ module _ {T : Type 0} (fits : T → Key → List ℕ → Type 0) (p : Plan T) (c
       → me.0.hand.freed + charge < 2 ^ 49
       → Allows (Holds fits p) count id me a (λ x. (x + (2 ^ 64 - charge)) % 2 ^ 64) (falls name (step count a charge 0 none) me)
   fall_step name charge named stood room s r homes there low =
-      goes_by fits p s r id a ((word + (2 ^ 64 - charge)) % 2 ^ 64) me new v.open_places v.turns v.seen v.tight
+      goes_by fits p s r id a ((word + (2 ^ 64 - charge)) % 2 ^ 64) me new v.open_places v.seen v.tight
       (events.Fall v.client name) replies.Ok (falls name (step count a charge 0 none) me) at seated refl
       modest
       (fall_allowed r.world v.client v.hand (law_is fits p s r) client live name one named stood)

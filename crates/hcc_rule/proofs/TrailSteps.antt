@@ -134,7 +134,7 @@ module _ {T : Type 0} (fits : T → Key → List ℕ → Type 0) (p : Plan T) (c
   pub count_step : (size : ℕ) → size ≡ p.geometry.slots
       → Allows (Holds fits p) count id me a (λ n. n) (counts size i (step count a 0 0 none) me)
   count_step size said s r homes there low =
-      goes_by fits p s r id a word me v.hand v.open_places v.turns v.seen v.tight
+      goes_by fits p s r id a word me v.hand v.open_places v.seen v.tight
       (events.Count v.client i) (replies.Count (passed_at r.world i)) (counts size i (step count a 0 0 none) me) at seated refl
       (modest_is fits p s r id v at seated)
       (count_gives r.world v.client v.hand (law_is fits p s r) client live i slot.0 slot.1)
@@ -178,7 +178,7 @@ module _ {T : Type 0} (fits : T → Key → List ℕ → Type 0) (p : Plan T) (c
   pub pass_step : length me.0.hand.trail < p.geometry.slots
       → Allows (Holds fits p) count id me a (λ n. (n + 1) % 2 ^ 64) (passes i (step count a 1 0 none) me)
   pass_step room s r homes there low =
-      goes_by fits p s r id a ((word + 1) % 2 ^ 64) me (record v.hand { trail = trail }) v.open_places v.turns v.seen v.tight
+      goes_by fits p s r id a ((word + 1) % 2 ^ 64) me (record v.hand { trail = trail }) v.open_places v.seen v.tight
       (events.Pass v.client i) replies.Ok (passes i (step count a 1 0 none) me) at seated refl
       (modest_trail s r v at seated trail)
       (pass_gives r.world v.client v.hand (law_is fits p s r) client live i slot.0 slot.1 (rw r.setup room))
@@ -223,7 +223,7 @@ module _ {T : Type 0} (fits : T → Key → List ℕ → Type 0) (p : Plan T) (c
   pub unpass_step : list_any (is_place i) me.0.hand.trail ≡ true
       → Allows (Holds fits p) count id me a (λ x. (x + (2 ^ 64 - 1)) % 2 ^ 64) (unpasses i (step count a 1 0 none) me)
   unpass_step passed s r homes there low =
-      goes_by fits p s r id a ((word + (2 ^ 64 - 1)) % 2 ^ 64) me (record v.hand { trail = trail }) v.open_places v.turns v.seen v.tight
+      goes_by fits p s r id a ((word + (2 ^ 64 - 1)) % 2 ^ 64) me (record v.hand { trail = trail }) v.open_places v.seen v.tight
       (events.Unpass v.client i) replies.Ok (unpasses i (step count a 1 0 none) me) at seated refl
       (modest_trail s r v at seated trail)
       (unpass_gives r.world v.client v.hand (law_is fits p s r) client live i slot.0 slot.1 passed)

@@ -26,17 +26,18 @@ use Rattle.hcc_rule.proofs.Lists.{within, word_else}
 use Rattle.hcc_rule.proofs.Addresses.{fields_apart, ledger_apart, meta_away}
 use Rattle.hcc_rule.proofs.WordParts.{AreShort, coded_meta, made_short, stored_words, stored_set, stored_books, drafted_set, draft_meta}
 use Rattle.hcc_rule.proofs.ViewParts.{references_set, holding_set, seats_set}
-use Rattle.hcc_rule.proofs.WorldParts.{made_grows, stamps_set, ledgers_kept, trails_kept}
+use Rattle.hcc_rule.proofs.WorldParts.{made_grows, stamps_set, ledgers_kept, hand_kept, trails_kept}
 
 module _ {T : Type 0} (fits : T → Key → List ℕ → Type 0) (p : Plan T) where
   abbrev pub Shard : Type 0
   Shard = table.State (Unit {0}) (View T)
 
-  -- the seat stands for the same client
+  -- the seat stands for the same client, and made no turn
   pub record SameName (v new : View T) : Type 0 where
     pub tag : new.tag ≡ v.tag
     pub client : new.client ≡ v.client
     pub others : new.others ≡ v.others
+    pub turns : new.turns ≡ v.turns
 
   -- What a step on the meta word of slot i owes, part by part.
   pub record Turn (s : Shard) (r : Holds fits p s) (id i : ℕ) (v new : View T) (t left : Slot) (event : Event) (reply : Reply) : Type 0 where
@@ -98,6 +99,7 @@ module _ {T : Type 0} (fits : T → Key → List ℕ → Type 0) (p : Plan T) wh
     trails = trails_kept size room all clients s.words i v.client a y t left v.hand new.hand r.trails m.at_slot at_client m.passed m.trailed
         (λ k close e. let bad = (fields_apart room k i DISPLACEMENT META (omega arith) (omega arith) e).1 in absurd (omega arith));
     turned = word_else s.words a (ledger_at size room HAND) y (λ e. ledger_apart size room i META HAND low (omega arith) (sym e)) ∙ r.turned;
+    turns = r.turns ∙ hand_kept s.views id v new m.at_view m.same.turns;
   }
     where
       room : ℕ

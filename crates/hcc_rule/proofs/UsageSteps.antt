@@ -83,7 +83,7 @@ module _ {T : Type 0} (fits : T → Key → List ℕ → Type 0) (p : Plan T) (c
 
   pub usage_step : Allows (Holds fits p) count id me a (λ n. n) (usages (step count a 0 0 none) me)
   usage_step s r homes there low =
-      goes_by fits p s r id a word me v.hand v.open_places v.turns (v.seen ++ word ∷ []) v.tight
+      goes_by fits p s r id a word me v.hand v.open_places (v.seen ++ word ∷ []) v.tight
       (events.Usage v.client) (replies.Count (usage_of r.world)) (usages (step count a 0 0 none) me) at seated refl
       (modest_is fits p s r id v at seated)
       (usage_gives r.world v.client v.hand (law_is fits p s r) client live)
@@ -109,7 +109,7 @@ module _ {T : Type 0} (fits : T → Key → List ℕ → Type 0) (p : Plan T) (c
   pub charge_step : (setup : Setup) (t : ℕ) → setup ≡ setup_of p → t < 2 ^ 32 → me.0.hand.granted ≡ 0 → me.0.hand.needed ≡ 0
       → Allows (Holds fits p) count id me a (λ n. (n + t) % 2 ^ 64) (charges setup (step count a t 0 none) me)
   charge_step setup t said small granted needed s r homes there low =
-      goes_by fits p s r id a ((word + t) % 2 ^ 64) me new v.open_places v.turns v.seen tight
+      goes_by fits p s r id a ((word + t) % 2 ^ 64) me new v.open_places v.seen tight
       (events.Charge v.client t) (replies.Split grant rest) (charges setup (step count a t 0 none) me) at seated refl
       modest
       (charge_allowed r.world v.client v.hand (law_is fits p s r) client live t word small (found_usage s r) granted needed room)
@@ -167,7 +167,7 @@ module _ {T : Type 0} (fits : T → Key → List ℕ → Type 0) (p : Plan T) (c
   pub settle_step : (n : ℕ) → n ≡ me.0.hand.freed → 0 < n → me.0.hand.needed ≤ n
       → Allows (Holds fits p) count id me a (λ x. (x + (2 ^ 64 - n)) % 2 ^ 64) (settles (step count a n 0 none) me)
   settle_step n is some covers s r homes there low =
-      goes_by fits p s r id a ((word + (2 ^ 64 - n)) % 2 ^ 64) me new v.open_places v.turns v.seen v.tight
+      goes_by fits p s r id a ((word + (2 ^ 64 - n)) % 2 ^ 64) me new v.open_places v.seen v.tight
       (events.Settle v.client) replies.Ok (settles (step count a n 0 none) me) at seated refl
       modest
       (settle_allowed r.world v.client v.hand (law_is fits p s r) client live (omega arith) (omega arith))
@@ -209,7 +209,7 @@ module _ {T : Type 0} (fits : T → Key → List ℕ → Type 0) (p : Plan T) (c
   pub waive_step : (n : ℕ) → n ≡ waived me.0.hand → 0 < n
       → Allows (Holds fits p) count id me a (λ x. (x + (2 ^ 64 - n)) % 2 ^ 64) (waives (step count a n 0 none) me)
   waive_step n is some s r homes there low =
-      goes_by fits p s r id a ((word + (2 ^ 64 - n)) % 2 ^ 64) me new v.open_places v.turns v.seen v.tight
+      goes_by fits p s r id a ((word + (2 ^ 64 - n)) % 2 ^ 64) me new v.open_places v.seen v.tight
       (events.Waive v.client) replies.Ok (waives (step count a n 0 none) me) at seated refl
       modest
       (waive_gives r.world v.client v.hand (law_is fits p s r) client live (omega arith))

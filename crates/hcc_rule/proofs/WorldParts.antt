@@ -1,9 +1,11 @@
--- The parts that speak of stamps, ledgers and trails, and what keeps them at a change of one slot,
--- one client and its view.
-use Rattle.std.proofs.Common.{◌≡◌, ℕ, ◌+◌, ◌<◌, ◌≢◌, inl, inr, List, [], Some, length, slice_get, slice_set, sym, ap, ◌∙◌, arith}
+-- The parts that speak of stamps, ledgers, the hand and trails, and what keeps them at a change of
+-- one slot, one client and its view.
+use Rattle.std.proofs.Common.{◌≡◌, ℕ, ◌+◌, ◌*◌, ◌%◌, ◌^◌, ◌<◌, ◌≢◌, ◌⊎◌, inl, inr, List, [], Some, length, slice_get, slice_set, sym, ap, ◌∙◌, arith}
 use Rattle.std.specs.Option.{unwrap_or}
 use Rattle.std.proofs.lemmas.Bool.{cases_eq}
 use Rattle.std.proofs.lemmas.List.{length-set}
+use Rattle.std.proofs.Math.Nat.{mod-add-mod}
+use Rattle.hcc_core.specs.declared.limits.TheConstants.{SLOTS_PER_TURN}
 use Rattle.hcc_core.specs.declared.state.Client.{Client}
 use Rattle.hcc_core.specs.declared.state.Stamp.{Stamp}
 use Rattle.hcc_core.specs.declared.state.Slot.{Slot}
@@ -17,7 +19,7 @@ use Rattle.hcc_rule.specs.declared.layout.TheConstants.{DISPLACEMENT}
 use Rattle.hcc_rule.specs.declared.view.Made.{Made}
 use Rattle.hcc_rule.specs.declared.view.View.{View}
 use Rattle.hcc_rule.specs.Words.{field_at, ledger_at}
-use Rattle.hcc_rule.specs.Rule.{Books, book_of, made_at, IsRight, Stamps, IsModest, Ledgers, IsTrailed, Trails}
+use Rattle.hcc_rule.specs.Rule.{Books, book_of, made_at, IsRight, Stamps, IsModest, Ledgers, IsTrailed, Trails, hand_after}
 use Rattle.hcc_rule.proofs.Lists.{word_else, each_set}
 
 -- Books.
@@ -109,6 +111,50 @@ ledgers_kept size room w words i c a y t left old new ledgers at_slot at_client 
       ∙ (ledgers.standing ∙ (let change = total-set standing_of w.clients c old new at_client in omega arith));
   modest = each_set (λ _ client. IsModest client) w.clients c new modest (λ k client other there. ledgers.modest k client there);
 }
+
+-- The hand.
+
+-- views that count as many turns leave it where it is
+pub hand_same : {T : Type 0} (views after : List (View T))
+    → total (λ (u : View T). u.turns) after ≡ total (λ (u : View T). u.turns) views
+    → hand_after views ≡ hand_after after
+hand_same views after same = ap (λ n. (SLOTS_PER_TURN * n) % 2 ^ 64) (sym same)
+
+-- and so does a change of one view that counts as many
+pub hand_kept : {T : Type 0} (views : List (View T)) (id : ℕ) (v new : View T)
+    → slice_get views id ≡ Some v → new.turns ≡ v.turns
+    → hand_after views ≡ hand_after (slice_set views id new)
+hand_kept {T} views id v new at same =
+    let change = total-set (λ (u : View T). u.turns) views id v new at in
+    hand_same views (slice_set views id new) (omega arith)
+
+-- where a view counts one turn more, it is a turn's slots further on
+pub hand_moved : {T : Type 0} (views : List (View T)) (id : ℕ) (v new : View T)
+    → slice_get views id ≡ Some v → new.turns ≡ v.turns + 1
+    → (hand_after views + SLOTS_PER_TURN) % 2 ^ 64 ≡ hand_after (slice_set views id new)
+hand_moved {T} views id v new at more =
+    mod-add-mod (SLOTS_PER_TURN * turns views) (2 ^ 64) SLOTS_PER_TURN ∙ ap (λ n. n % 2 ^ 64) sum
+  where
+    turns : List (View T) → ℕ
+    turns = total (λ (u : View T). u.turns)
+
+    sum : SLOTS_PER_TURN * turns views + SLOTS_PER_TURN ≡ SLOTS_PER_TURN * turns (slice_set views id new)
+    sum = let change = total-set (λ (u : View T). u.turns) views id v new at in omega arith
+
+-- the turns of a view stay and the hand does, or the view counts one more and the hand makes a turn
+abbrev pub Turning : {T : Type 0} → (v new : View T) → (hand left : ℕ) → Type 0
+Turning v new hand left =
+    ((new.turns ≡ v.turns) × (left ≡ hand))
+    ⊎ ((new.turns ≡ v.turns + 1) × (left ≡ (hand + SLOTS_PER_TURN) % 2 ^ 64))
+
+-- by either, the hand is where the turns of all views leave it
+pub hand_set : {T : Type 0} (views : List (View T)) (id hand left : ℕ) (v new : View T)
+    → hand ≡ hand_after views → slice_get views id ≡ Some v → Turning v new hand left
+    → left ≡ hand_after (slice_set views id new)
+hand_set views id hand left v new is at turning = elim turning [
+  | inl stays ↦ stays.1 ∙ (is ∙ hand_kept views id v new at stays.0)
+  | inr moves ↦ moves.1 ∙ (ap (λ n. (n + SLOTS_PER_TURN) % 2 ^ 64) is ∙ hand_moved views id v new at moves.0)
+]
 
 -- Trails.
 

@@ -30,6 +30,7 @@ use Rattle.hcc_rule.proofs.Addresses.{fields_apart, field_inside, ledger_apart, 
 use Rattle.hcc_rule.proofs.WordParts.{AreShort, coded_else, made_short, stored_words, drafted_set}
 use Rattle.hcc_rule.proofs.ViewParts.{seated_else, unnamed}
 use Rattle.hcc_rule.proofs.ClientParts.{SameView, references_view, holding_view, seats_still, stamps_still}
+use Rattle.hcc_rule.proofs.WorldParts.{hand_kept}
 use Rattle.hcc_rule.proofs.Looks.{client_fits, slot_there}
 use Rattle.hcc_rule.proofs.Empties.{owner_there}
 use Rattle.hcc_rule.proofs.Turns.{Shard, size_is}
@@ -193,6 +194,7 @@ module _ {T : Type 0} (fits : T → Key → List ℕ → Type 0) (p : Plan T) wh
         entries = r.trails.entries;
       };
       turned = word_else s.words a _ y (not_ledger HAND) ∙ r.turned;
+      turns = r.turns ∙ hand_kept s.views id v new at refl;
     }
 
   -- The store of the next data word keeps the rule.

@@ -1,9 +1,9 @@
 -- The rule: which words and views show a world. Each part speaks of some readings alone, so that a
 -- step that leaves these keeps the part.
-use Rattle.std.specs.Prelude.{◌≡◌, ℕ, ◌+◌, ◌*◌, ◌^◌, ◌<◌, ◌≤◌, true, List, [], Option, Some, None, IfSome, length, slice_get, slice_index, option_and_then, nat_lt}
+use Rattle.std.specs.Prelude.{◌≡◌, ℕ, ◌+◌, ◌*◌, ◌%◌, ◌^◌, ◌<◌, ◌≤◌, true, List, [], Option, Some, None, IfSome, length, slice_get, slice_index, option_and_then, nat_lt}
 use Rattle.std.specs.Option.{unwrap_or}
 use Rattle.atomic_table.specs.Table as table
-use Rattle.hcc_core.specs.declared.limits.TheConstants.{REFERENCES_PER_CLIENT, STAMPS_PER_CLIENT}
+use Rattle.hcc_core.specs.declared.limits.TheConstants.{REFERENCES_PER_CLIENT, STAMPS_PER_CLIENT, SLOTS_PER_TURN}
 use Rattle.hcc_core.specs.declared.state.Setup.{Setup}
 use Rattle.hcc_core.specs.declared.state.Client.{Client}
 use Rattle.hcc_core.specs.declared.state.Entry.{Entry}
@@ -162,6 +162,12 @@ pub record Ledgers (slots room : ℕ) (w : State) (words : List ℕ) : Type 0 wh
   pub standing : slice_index words (ledger_at slots room STANDING) ≡ standing_in w
   pub modest : (c : ℕ) (client : Client) → slice_get w.clients c ≡ Some client → IsModest client
 
+-- The hand.
+
+-- where the hand is once it moved by a turn's slots for each turn that these views count
+abbrev pub hand_after : {T : Type 0} → List (View T) → ℕ
+hand_after {T} views = (SLOTS_PER_TURN * total (λ (v : View T). v.turns) views) % 2 ^ 64
+
 -- Trails.
 
 -- the trail of a slot's entry is the places of its key before that slot
@@ -204,3 +210,5 @@ pub record Holds {T : Type 0} (fits : T → Key → List ℕ → Type 0) (p : Pl
   pub trails : Trails p.geometry.slots p.geometry.room world.slots world.clients s.words
   -- the hand word is the world's hand
   pub turned : slice_index s.words (ledger_at p.geometry.slots p.geometry.room HAND) ≡ world.hand
+  -- the hand has moved by a turn's slots for each turn that a view counts
+  pub turns : world.hand ≡ hand_after s.views

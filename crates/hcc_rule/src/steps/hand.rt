@@ -21,7 +21,8 @@ impl<T: Tag> Play<(), View<T>> for Turn {
 }
 
 impl<T: Tag, A: Allocator> RuleTable<T, A> {
-    /// Moves the hand on by four slots, modulo 2^64. The view counts one more turn.
+    /// Moves the hand on by four slots, modulo 2^64. The view counts one more turn. The rule says that
+    /// the hand has moved by four slots for each turn that the views count: no other move keeps it.
     ///
     /// It answers where the hand was. It takes no memory. It costs one atomic add.
     pub fn turn(&self, seat: &mut RuleSeat<T>) -> u64
