@@ -1,4 +1,7 @@
 pub mod Lists
+pub mod Hands
+pub mod NewSeats
+pub mod Newest
 pub mod Addresses
 pub mod WordParts
 pub mod ViewParts

@@ -29,7 +29,7 @@ before_at f (suc n) (suc i) a p inside at others =
     let later : List ℕ = map f (range_with_len (a + 1) n) in
     let other : f a ≢ p = others a (omega arith) (omega arith) in
     let rest = before_at f n i (a + 1) p (omega arith) (ap f (sym on) ∙ at)
-        (λ j low high. others j (omega arith) (omega arith)) in
+    (λ j low high. others j (omega arith) (omega arith)) in
     ap (λ (b : Bool). if b then [] else f a ∷ before p later) (ne_eqb (f a) p other)
     ∙ ap (λ l. f a ∷ l) rest
 
@@ -129,7 +129,7 @@ module _ (slots : ℕ) (key : Key) (power : MOST_SLOTS % slots ≡ 0) where
   -- Without it that is the trail to this one again.
   pub trail_back : (i : ℕ) → i + 1 < slots
       → dropped (is_place (probe_place slots key i))
-        (trail_to slots key (probe_place slots key (i + 1)))
+      (trail_to slots key (probe_place slots key (i + 1)))
       ≡ trail_to slots key (probe_place slots key i)
   trail_back i inside =
       let first = trail_at i (omega arith) in
@@ -157,7 +157,7 @@ module _ (slots : ℕ) (key : Key) (power : MOST_SLOTS % slots ≡ 0) where
   passed_later i j later inside =
       ap (times (probe_place slots key i)) (trail_at j (omega arith))
       ∙ times_later (probe_place slots key) j 0 (probe_place slots key i)
-        (λ k low high. earlier i inside k low (omega arith))
+      (λ k low high. earlier i inside k low (omega arith))
 
   -- A slot whose trail lacks a place is one of the places up to that one.
   pub stands_within : (slot i : ℕ) → slot < slots

@@ -105,9 +105,11 @@ module _ (n s t u : ℕ) (some : 0 < n) (undo : t * s ≡ 1 + u * n) where
       let a_split : a / n * n + a % n ≡ a = div-add-mod' a n in
       let strides : (q * n + i) * s ≡ c * t * s = ap (λ z. z * s) split in
       let back : c * s * t ≡ c + c * u * n = taken_back c in
-      let round : a + i * s + q * s * n ≡ p + (1 + a / n + c * u) * n = omega arith in
-      (i, mod-lt (c * t) some,
-       whole_turns n (a + i * s) p (q * s) (1 + a / n + c * u) round ∙ mod-eq_of_lt p_in)
+      let round : a + i * s + q * s * n ≡ p + (1 + a / n + c * u) * n = omega arith in (
+        i,
+        mod-lt (c * t) some,
+        whole_turns n (a + i * s) p (q * s) (1 + a / n + c * u) round ∙ mod-eq_of_lt p_in,
+      )
 
 -- With its lowest bit set a number is odd.
 pub or_one-odd : (n : ℕ) → bit_or n 1 % 2 ≡ 1

@@ -10,3 +10,4 @@ pub mod ToldLedgers
 pub mod ToldTrails
 pub mod ToldOwners
 pub mod Closing
+pub mod Hands

@@ -19,5 +19,6 @@ pub use closed::ClosedTable;
 pub use geometry::Geometry;
 pub use key::{Key, Tag};
 pub use rule::{Plan, ShardRule};
+pub use steps::Draft;
 pub use table::{RuleSeat, RuleTable};
 pub use view::{Made, Other, Record, View};

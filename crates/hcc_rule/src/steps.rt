@@ -14,3 +14,5 @@ mod seats;
 mod shows;
 mod standing;
 mod trails;
+
+pub use shows::Draft;

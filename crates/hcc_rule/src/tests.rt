@@ -4,6 +4,16 @@ use crate::{Geometry, Key, RuleTable, Tag};
 use std::alloc::{AllocError, Global};
 use std::process::Abort;
 
+mod amounts;
+mod corrections;
+mod frees;
+mod hired;
+mod inserts;
+mod lookups;
+mod steps;
+mod threads;
+mod worker;
+
 /// The tag that every value fits.
 #[derive(Drop)]
 struct AnyBytes;

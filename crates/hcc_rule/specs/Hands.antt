@@ -1,0 +1,37 @@
+-- What a client has in hand, beside its last look, its stamps and its dead list.
+use Rattle.std.specs.Prelude.{◌≡◌, ℕ, true, false, List, [], length}
+use Rattle.atomic_table.specs.Seated.{TableId}
+use Rattle.hcc_core.specs.declared.state.Client.{Client}
+use Rattle.hcc_core.specs.Steps.{new_client}
+use Rattle.hcc_rule.specs.declared.rule.Plan.{Plan}
+use Rattle.hcc_rule.specs.declared.view.Record.{Record}
+use Rattle.hcc_rule.specs.declared.view.View.{View}
+use Rattle.hcc_rule.specs.Seats.{SeatOf, IsSeatOf, view}
+
+-- a live client with this in hand, that looked, showed and saw the same
+abbrev pub carrying : (what now : Client) → Client
+carrying what now =
+    record what { live = true; looked = now.looked; stamps = now.stamps; dead = now.dead }
+
+module _ {T : Type 0} where
+  -- the client of this view has this in hand, and these records
+  pub record Carries (what : Client) (records : List Record) (v : View T) : Type 0 where
+    pub in_hand : v.hand ≡ carrying what v.hand
+    pub records_are : v.records ≡ records
+
+  -- nothing in hand, and no reference
+  abbrev pub IsReady : View T → Type 0
+  IsReady v = Carries new_client [] v
+
+  -- a seat of this client, which has nothing in hand, after it showed so many entries
+  pub record IsReadySeat (id : TableId) (tag : T) (client shown : ℕ) (seat : SeatOf T) : Type 0 where
+    pub seat_of : IsSeatOf id tag seat
+    pub client_is : (view seat).client ≡ client
+    pub made : length (view seat).made ≡ shown
+    pub ready : IsReady (view seat)
+
+  -- a table of 8 slots, with 2 payload words for each, that is not strict
+  pub record IsBench (p : Plan T) : Type 0 where
+    pub slots : p.geometry.slots ≡ 8
+    pub room : p.geometry.room ≡ 2
+    pub lax : p.strict ≡ false
