@@ -1,0 +1,14 @@
+pub mod Searches
+pub mod Reaches
+pub mod Probes
+pub mod Finds
+pub mod TakesBack
+pub mod Gives
+pub mod Erasures
+pub mod Hidings
+pub mod Bytes
+pub mod Values
+pub mod PlacesWords
+pub mod Places
+pub mod PlacesMeets
+pub mod PlacesTries

@@ -1,0 +1,247 @@
+-- What a probe of one place told: a look, an acquire, the key's words, and a give.
+use Rattle.std.proofs.Common.{◌≡◌, ℕ, ◌++◌, cond, Bool, true, false, List, [], ◌∷◌, Some, None, IfSome, IsSomeAnd, sym, subst, refl, ap, ◌∙◌, append_assoc, ◌≤◌, arith}
+use Rattle.std.specs.List.{find}
+use Rattle.std.proofs.lemmas.Bool.{eq-eqb}
+use Rattle.hcc_word.specs.Word.{is_shareable, is_visible}
+use Rattle.hcc_core.specs.declared.state.Entry.{Entry}
+use Rattle.hcc_core.specs.Steps.{dropped}
+use Rattle.hcc_core.specs.Lawful.{is_in}
+use Rattle.hcc_rule.specs.declared.key.Key.{Key}
+use Rattle.hcc_rule.specs.declared.view.Record.{Record}
+use Rattle.hcc_rule.specs.declared.view.View.{View}
+use Rattle.hcc_rule.specs.Told.{Backs, after_look, found_dead, noticing}
+use Rattle.hcc_rule.specs.ToldReferences.{IsMet, record_of, after_give}
+use Rattle.hcc_rule.specs.Views.{Each, is_called, record_in, stamp_on}
+use Rattle.hcc_rule.specs.Words.{key_of}
+use Rattle.hcc_rule.proofs.Lists.{each_map}
+use Rattle.hcc_table.specs.Searched.{Searched, Sought, Reached, Buried, IsFound, is_key, times_met}
+use Rattle.hcc_table.proofs.Searches.{searched_by, searched_then, sought_then}
+use Rattle.hcc_table.proofs.Reaches.{find_last, joined_in}
+use Rattle.hcc_rule.specs.ToldOwners.{with_met}
+use Rattle.hcc_core.specs.Sums.{when}
+use Rattle.hcc_core.proofs.SumLemmas.{total-append}
+
+-- The last member goes where none before it passes.
+pub dropped_last : {A : Type 0} (p : A → Bool) (xs : List A) (x : A) → find p xs ≡ None → p x ≡ true
+    → dropped p (xs ++ x ∷ []) ≡ xs
+dropped_last p [] x missed passes = ap (λ b. cond b [] (x ∷ [])) passes
+dropped_last p (y ∷ ys) x missed passes = by (p y) (dropped_last p ys x) missed
+  where
+    by : (b : Bool) → (find p ys ≡ None → p x ≡ true → dropped p (ys ++ x ∷ []) ≡ ys)
+        → cond b (Some y) (find p ys) ≡ None → cond b (ys ++ x ∷ []) (y ∷ dropped p (ys ++ x ∷ [])) ≡ y ∷ ys
+    by true later missed = cc
+    by false later missed = ap (λ z. y ∷ z) (later missed passes)
+
+-- a key is met once where it stands behind others
+met_once : (key : Key) (before : List Key) → 1 ≤ times_met key (before ++ key ∷ [])
+met_once key before =
+    let all = total-append (λ k. when (is_key key k) 1) before (key ∷ []) in
+    let one : when (is_key key key) 1 ≡ 1 = rw (eq-eqb key.w0 key.w0 refl, eq-eqb key.w1 key.w1 refl) refl in
+    omega arith
+
+module _ {T : Type 0} where
+  -- what a look, a mark and a give leave
+  pub looked_at : (slot word : ℕ) (v w : View T) → w ≡ after_look slot word v → Sought v w
+  looked_at slot word v w same = record {
+    searched = searched_by v w (found_dead slot word v) (rw same refl);
+    records = ap (λ (z : View T). z.records) same;
+  }
+
+  pub noticed_at : (slot word : ℕ) (v w : View T) → w ≡ noticing slot word v → Sought v w
+  noticed_at slot word v w same = record {
+    searched = searched_by v w (found_dead slot word v) (rw same refl);
+    records = ap (λ (z : View T). z.records) same;
+  }
+
+  pub given_at : (slot name word : ℕ) (v w : View T) → w ≡ after_give slot name word v → Searched v w
+  given_at slot name word v w same = searched_by v w (found_dead slot word v) (rw same refl)
+
+  -- A look at a slot that isn't shown: each entry that is held there was hidden.
+  pub buried_by_look : (key : Key) (slot word : ℕ) (v w : View T) → is_visible word ≡ false
+      → Backs slot word v → w ≡ after_look slot word v → Buried key (λ s. s ≡ slot) v w
+  buried_by_look key slot word v w hidden backs same = from v.records backs.entry backs.one
+    where
+      from : (rs : List Record) → Each (λ (r : Record). r.slot ≡ slot → is_shareable word ≡ true) rs
+          → Each (λ (r : Record). r.slot ≡ slot → stamp_on slot v.records ≡ Some r.entry.stamp) rs
+          → Each (λ (r : Record). key_of r.entry ≡ key → r.slot ≡ slot → is_in r.entry.stamp w.hand.dead ≡ true) rs
+      from [] entries one = tt
+      from (r ∷ rs) entries one = (
+        (λ asked on. rw (same, entries.0 on, hidden, one.0 on) (joined_in r.entry.stamp v.hand.dead)),
+        from rs entries.1 one.1,
+      )
+
+  module _ (fits : T → Key → List ℕ → Type 0) (room slot name word : ℕ) (key : Key) (v a b : View T) (looked : Sought v a) (h : Reached fits room slot 1 name word a b) where
+    -- An acquire that strayed: nothing is held there.
+    pub strayed : is_shareable word ≡ false → Sought v b × Buried key (λ s. s ≡ slot) v b
+    strayed away = (
+      sought_then v a b looked record { searched = h.searched; records = h.stray away },
+      each_map (λ r. r.slot ≡ slot → is_shareable word ≡ true)
+          (λ r. key_of r.entry ≡ key → r.slot ≡ slot → is_in r.entry.stamp b.hand.dead ≡ true)
+          (λ r held asked on. let bad : true ≡ false = sym (held on) ∙ away in cc)
+          v.records (rw (← looked.records) h.held),
+    )
+
+    module _ (has : is_shareable word ≡ true) (fresh : record_in name v.records ≡ None) where
+      abbrev entry : Entry
+      entry = (h.got has).0
+
+      abbrev pub got_record : Record
+      got_record = record_of slot 1 name word entry
+
+      records_are : b.records ≡ v.records ++ got_record ∷ []
+      records_are = (h.got has).2 ∙ ap (λ rs. rs ++ got_record ∷ []) looked.records
+
+      -- it is on record
+      pub on_record : record_in name b.records ≡ Some got_record
+      on_record = ap (record_in name) records_are ∙ find_last (is_called name) v.records got_record fresh (eq-eqb name name refl)
+
+      pub holds : (d : View T) → Sought b d
+          → IsSomeAnd (record_in name d.records) (λ r. (r.slot ≡ slot) × (r.weight ≡ 1))
+      holds d kept = rw (kept.records, on_record) (refl, refl)
+
+      pub holds_slot : (d : View T) → Sought b d → IsSomeAnd (record_in name d.records) (λ r. r.slot ≡ slot)
+      holds_slot d kept = rw (kept.records, on_record) refl
+
+      -- what its key words told
+      pub told_key : (P : Entry → Type 0) → IfSome (record_in name b.records) (λ r. P r.entry) → P entry
+      told_key P told = subst (λ o. IfSome o (λ r. P r.entry)) on_record told
+
+      -- and no more once it was given back
+      pub given_back : (left : ℕ) (c d : View T) → Sought b c → d ≡ after_give slot name left c → Sought v d
+      given_back left c d kept same = record {
+        searched = searched_then v b d (searched_then v a b looked.searched h.searched)
+            (searched_then b c d kept.searched (given_at slot name left c d same));
+        records =
+            ap (λ (z : View T). z.records) same ∙ (ap (dropped (is_called name)) (kept.records ∙ records_are)
+            ∙ dropped_last (is_called name) v.records got_record fresh (eq-eqb name name refl));
+      }
+
+      -- all that the client holds there is of that entry
+      one_entry : Each (λ (r : Record). r.slot ≡ slot → r.entry ≡ entry) v.records
+      one_entry = rw (← looked.records) ((h.got has).1).same
+
+      -- The entry that was found hidden is dead, and so is each of these.
+      pub buried_hidden : (d : View T) → is_visible word ≡ false → Searched b d → Buried key (λ s. s ≡ slot) v d
+      buried_hidden d hidden kept =
+          each_map (λ r. r.slot ≡ slot → r.entry ≡ entry)
+          (λ r. key_of r.entry ≡ key → r.slot ≡ slot → is_in r.entry.stamp d.hand.dead ≡ true)
+          (λ r same asked on. subst (λ (e : Entry). is_in e.stamp d.hand.dead ≡ true) (sym (same on)) (kept.dead entry.stamp ((h.got has).3 hidden)))
+          v.records one_entry
+
+      -- An entry of another key is none that was asked for.
+      pub buried_other : (d : View T) → ¬ (key_of entry ≡ key) → Buried key (λ s. s ≡ slot) v d
+      buried_other d other =
+          each_map (λ r. r.slot ≡ slot → r.entry ≡ entry)
+          (λ r. key_of r.entry ≡ key → r.slot ≡ slot → is_in r.entry.stamp d.hand.dead ≡ true)
+          (λ r same asked on. absurd (other (ap key_of (sym (same on)) ∙ asked)))
+          v.records one_entry
+
+      -- Where the record is no match, it's given back.
+      pub missed_there : (left : ℕ) (c d : View T) → Sought b c → d ≡ after_give slot name left c
+          → (is_visible word ≡ true → ¬ (key_of entry ≡ key))
+          → Sought v d × Buried key (λ s. s ≡ slot) v d
+      missed_there left c d kept same other = (given_back left c d kept same, by (is_visible word) refl)
+        where
+          by : (b : Bool) → is_visible word ≡ b → Buried key (λ s. s ≡ slot) v d
+          by true is = buried_other d (other is)
+          by false is = buried_hidden d is (searched_then b c d kept.searched (given_at slot name left c d same))
+
+      -- The entry that was found, with the key that was asked for.
+      pub found_there : (d : View T) → is_visible word ≡ true → key_of entry ≡ key → Sought b d
+          → d.met ≡ with_met (record_in name b.records) b.met
+          → IsFound fits room slot name key v d got_record
+      found_there d shown asked kept meets = record {
+        searched = searched_then v b d (searched_then v a b looked.searched h.searched) kept.searched;
+        records = kept.records ∙ records_are;
+        on = refl;
+        called = refl;
+        single = refl;
+        shown = shown;
+        asked = asked;
+        right = rw (tag, ← asked) met.right;
+        short = met.short;
+        bytes = met.bytes;
+        small = met.small;
+        alive = unseen (is_in entry.stamp v.hand.dead) refl;
+        one = one_entry;
+        met = met_last;
+      }
+        where
+          met : IsMet fits room slot word a entry
+          met = (h.got has).1
+
+          tag : v.tag ≡ a.tag
+          tag = sym (ap (λ (z : View T). z.tag) looked.searched.same)
+
+          key_last : with_met (record_in name b.records) b.met ≡ b.met ++ key ∷ []
+          key_last =
+              ap (λ o. with_met o b.met) on_record
+              ∙ (ap (λ s. cond s (b.met ++ key_of entry ∷ []) b.met) shown ∙ ap (λ k. b.met ++ k ∷ []) asked)
+
+          met_last : (more : List Key) × (d.met ≡ v.met ++ more) × (1 ≤ times_met key more)
+          met_last =
+              let before = searched_then v a b looked.searched h.searched in (
+                before.met.0 ++ key ∷ [],
+                meets ∙ (key_last ∙ (ap (λ keys. keys ++ key ∷ []) before.met.1 ∙ append_assoc v.met before.met.0 (key ∷ []))),
+                met_once key before.met.0,
+              )
+
+          unseen : (seen : Bool) → is_in entry.stamp v.hand.dead ≡ seen → seen ≡ false
+          unseen true is = let bad : true ≡ false = sym (looked.searched.dead entry.stamp is) ∙ met.alive shown in cc
+          unseen false is = refl
+
+  -- What was found is on record.
+  pub found_held : (fits : T → Key → List ℕ → Type 0) (room slot name : ℕ) (key : Key) (v w : View T) (r : Record)
+      → record_in name v.records ≡ None → IsFound fits room slot name key v w r → record_in name w.records ≡ Some r
+  found_held fits room slot name key v w r fresh found =
+      ap (record_in name) found.records ∙ find_last (is_called name) v.records r fresh (eq-eqb r.name name found.called)
+
+  pub found_holds : (fits : T → Key → List ℕ → Type 0) (room slot name : ℕ) (key : Key) (v w : View T) (r : Record)
+      → record_in name v.records ≡ None → IsFound fits room slot name key v w r
+      → IsSomeAnd (record_in name w.records) (λ q. (q.slot ≡ slot) × (q.weight ≡ 1))
+  found_holds fits room slot name key v w r fresh found =
+      rw (found_held fits room slot name key v w r fresh found) (found.on, found.single)
+
+  pub found_stands : (fits : T → Key → List ℕ → Type 0) (room slot name : ℕ) (key : Key) (v w : View T) (r : Record)
+      → record_in name v.records ≡ None → IsFound fits room slot name key v w r
+      → IsSomeAnd (record_in name w.records) (λ q. q.slot ≡ slot)
+  found_stands fits room slot name key v w r fresh found =
+      rw (found_held fits room slot name key v w r fresh found) found.on
+
+  -- What is found between other searches is found by them all.
+  pub found_then : (fits : T → Key → List ℕ → Type 0) (room slot name : ℕ) (key : Key) (u v d w : View T) (r : Record)
+      → Sought u v → IsFound fits room slot name key v d r → Sought d w → IsFound fits room slot name key u w r
+  found_then fits room slot name key u v d w r first found last = record {
+    searched = searched_then u v w first.searched (searched_then v d w found.searched last.searched);
+    records = last.records ∙ (found.records ∙ ap (λ rs. rs ++ r ∷ []) first.records);
+    on = found.on;
+    called = found.called;
+    single = found.single;
+    shown = found.shown;
+    asked = found.asked;
+    right = subst (λ o. IfSome o (λ tag. fits tag key r.entry.value)) (ap (λ (z : View T). z.tag) first.searched.same) found.right;
+    short = found.short;
+    bytes = found.bytes;
+    small = found.small;
+    alive = unseen (is_in r.entry.stamp u.hand.dead) refl;
+    one = rw (← first.records) found.one;
+    met = (
+      first.searched.met.0 ++ (found.met.0 ++ last.searched.met.0),
+      last.searched.met.1 ∙ (ap (λ z. z ++ last.searched.met.0) (found.met.1 ∙ ap (λ z. z ++ found.met.0) first.searched.met.1)
+          ∙ (append_assoc (u.met ++ first.searched.met.0) found.met.0 last.searched.met.0
+          ∙ append_assoc u.met first.searched.met.0 (found.met.0 ++ last.searched.met.0))),
+      often,
+    );
+  }
+    where
+      often : 1 ≤ times_met key (first.searched.met.0 ++ (found.met.0 ++ last.searched.met.0))
+      often =
+          let f : Key → ℕ = λ k. when (is_key key k) 1 in
+          let all = total-append f first.searched.met.0 (found.met.0 ++ last.searched.met.0) in
+          let two = total-append f found.met.0 last.searched.met.0 in
+          let some = found.met.2 in
+          omega arith
+
+      unseen : (b : Bool) → is_in r.entry.stamp u.hand.dead ≡ b → b ≡ false
+      unseen true is = let bad : true ≡ false = sym (first.searched.dead r.entry.stamp is) ∙ found.alive in cc
+      unseen false is = refl

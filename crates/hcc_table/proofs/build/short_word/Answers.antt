@@ -1,0 +1,8 @@
+use Rattle.std.proofs.Common.{◌∙◌, length}
+use Rattle.hcc_table.proofs.PlacesWords.{word_copied}
+use Rattle.hcc_table.proofs.build.short_word.Goals as goal
+
+pub returns : goal.returns
+returns c =
+    c.from_le_bytes.ensures
+    ∙ word_copied c.args.bytes.now c.copy_from_slice.new.self (length c.args.bytes.now) c.copy_from_slice.ensures.after

@@ -1,0 +1,5 @@
+use Rattle.hcc_table.proofs.Hidings.{IsHiding}
+use Rattle.hcc_table.proofs.hiding.hide.Given as goal
+
+abbrev pub invariant-loop : goal.invariant-loop
+invariant-loop g l = IsHiding l.table.geometry.slots l.key l.counter l.walk l.all l.fn.seat l.seat

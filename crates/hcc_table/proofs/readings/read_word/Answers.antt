@@ -1,0 +1,8 @@
+use Rattle.hcc_rule.specs.Seats.{view}
+use Rattle.hcc_rule.specs.Views.{record_in}
+use Rattle.hcc_table.proofs.Values.{told_word}
+use Rattle.hcc_table.proofs.readings.read_word.Goals as goal
+
+pub returns-clause-word : goal.returns-clause-word
+returns-clause-word g c =
+    told_word (record_in c.args.name (view c.args.seat.now).records) c.args.index c.read.result c.read.ensures.word

@@ -1,0 +1,57 @@
+use Rattle.std.proofs.Common.{ap, ◌∙◌}
+use Rattle.hcc_rule.specs.Views.{record_in}
+use Rattle.hcc_rule.proofs.ProbeLaws.{some_slots}
+use Rattle.hcc_table.proofs.Finds.{begins, goes_on, ends, ends_all}
+use Rattle.hcc_table.proofs.Probes.{found_stands, found_then}
+use Rattle.hcc_table.proofs.search.find.Goals as goal
+
+pub loop-init : goal.loop-init
+loop-init g c =
+    let size = c.geometry-slots.ensures in
+    let told = c.begin-walk.ensures in
+    begins c.args.table.now.geometry.slots c.args.key c.args.table.now.limits.power c.begin-walk.result c.args.seat.now
+    told.place told.stride (rw (← size) told.mask)
+
+pub returns-then-count-eq0-clause-missed : goal.returns-then-count-eq0-clause-missed
+returns-then-count-eq0-clause-missed g c =
+    let table = c.args.table.now in
+    let told = c.count.ensures in
+    ends table.geometry.slots c.args.key table.limits.power c.loop.counter c.count.result c.slot-slot.result c.loop.walk
+    c.args.seat.now c.loop.seat c.loop.invariant c.slot-slot.ensures c.hold.new.seat c.count.new.seat
+    c.hold.ensures.seat told.seat (c.in_default.ensures.missed) told.view told.held told.within
+    c.if-count-eq0.true
+
+pub loop-preserved : goal.loop-preserved
+loop-preserved g c =
+    let table = c.args.table.now in
+    let told = c.count.ensures in
+    let next = c.next-walk.ensures in
+    goes_on table.geometry.slots c.args.key table.limits.power c.loop.counter c.count.result c.slot-slot.result c.loop.walk
+    c.args.seat.now c.loop.seat c.loop.invariant c.slot-slot.ensures c.hold.new.seat c.count.new.seat
+    c.hold.ensures.seat told.seat (c.in_default.ensures.missed) told.view told.held told.within
+    c.next-walk.result next.place next.stride next.mask
+
+pub returns-clause-missed : goal.returns-clause-missed
+returns-clause-missed g c =
+    let table = c.args.table.now in
+    let size = c.geometry-slots.ensures in
+    ends_all table.geometry.slots c.args.key table.limits.power c.loop.counter c.loop.walk c.args.seat.now c.loop.seat
+    (some_slots table.geometry.slots table.limits.power) (rw (← size) c.loop-test.false)
+    (rw (← size) c.loop.auto.counter-end) c.loop.invariant
+
+pub mark_if-requires-clause-holds : goal.mark_if-requires-clause-holds
+mark_if-requires-clause-holds g c =
+    let found = c.in-Some.ensures.found in
+    found_stands g.T.Tag.fits c.args.table.now.geometry.room c.slot-slot.result c.args.name c.args.key
+    c.loop.seat.me.0 c.hold.new.seat.me.0 found.0
+    (ap (record_in c.args.name) c.loop.invariant.sought.records ∙ c.requires.fresh) found.1
+
+pub returns-in-Some-clause-found : goal.returns-in-Some-clause-found
+returns-in-Some-clause-found g c =
+    let found = c.in-Some.ensures.found in (
+      found.0,
+      found_then g.T.Tag.fits c.args.table.now.geometry.room c.slot-slot.result c.args.name c.args.key
+          c.args.seat.now.me.0 c.loop.seat.me.0 c.hold.new.seat.me.0 c.mark_if.new.seat.me.0 found.0
+          c.loop.invariant.sought found.1 c.mark_if.ensures.view,
+      found.2,
+    )

@@ -1,0 +1,6 @@
+use Rattle.hcc_rule.specs.Hands.{IsReady}
+use Rattle.hcc_rule.specs.Seats.{view}
+use Rattle.hcc_table.proofs.tests.rows.a_slot_counts_each_trail.Given as goal
+
+abbrev pub invariant-loop-slot : goal.invariant-loop-slot
+invariant-loop-slot g l = IsReady (view l.me.seat)

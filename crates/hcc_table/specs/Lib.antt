@@ -1,0 +1,8 @@
+pub mod Searched
+pub mod Freed
+pub mod Visited
+pub mod Erased
+pub mod Readings
+pub mod Placed
+pub mod Mates
+pub mod Handles

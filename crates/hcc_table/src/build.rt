@@ -1,0 +1,107 @@
+//! The words of a new entry: the owner of an empty slot writes them, and shows the entry.
+ghost use Rattle.std.specs.Prelude.{◌≡◌, ◌+◌, ◌*◌, ◌<◌, ◌≤◌, [], ◌∷◌, ◌++◌, take, drop, length};
+ghost use Rattle.std.specs.Int.{from_le_bytes};
+ghost use mir.Syntax.{w64};
+ghost use Rattle.hcc_core.specs.declared.limits.TheConstants.{MOST_CLIENTS, STAMPS_PER_CLIENT};
+ghost use Rattle.hcc_core.specs.declared.state.Owned.TheVariants.{ForBuilding};
+ghost use Rattle.hcc_rule.specs.declared.layout.TheConstants.{PAYLOAD};
+ghost use Rattle.hcc_rule.specs.Seats.{IsSeatOf, IsSameSeat, view};
+ghost use Rattle.hcc_rule.specs.ToldOwners.{MayShow, after_show, made_of};
+ghost use Rattle.hcc_rule.specs.Words.{made_words, payload, stamp_word};
+ghost use Rattle.hcc_table.specs.Placed.{with_words};
+
+use hcc_core::limits::STAMPS_PER_CLIENT;
+use hcc_rule::layout::{CHARGE, KEY0, KEY1, LENGTH, PAYLOAD, STAMP};
+use hcc_rule::{Draft, RuleSeat, RuleTable, Tag};
+use std::alloc::Allocator;
+
+/// The word of at most eight bytes, the first lowest, with 0 for those that lack.
+fn short_word(bytes: &[u8]) -> u64
+    requires { length bytes.now ≤ 8 }
+    ensures { result ≡ from_le_bytes w64 bytes.now }
+{
+    let mut whole = [0u8; 8];
+    whole[..bytes.len()].copy_from_slice(bytes);
+    u64::from_le_bytes(whole)
+}
+
+/// The word of the eight bytes from a place on.
+fn word_at(value: &[u8], place: usize) -> u64
+    requires { place ≤ length value.now }
+    ensures { result ≡ from_le_bytes w64 (take 8 (drop place value.now)) }
+{
+    let rest = &value[place..];
+    match rest.first_chunk::<8>() {
+        Some(bytes) => u64::from_le_bytes(*bytes),
+        None => short_word(rest),
+    }
+}
+
+/// Writes the five words before the payload.
+fn write_head<T: Tag, A: Allocator>(
+    table: &RuleTable<T, A>,
+    seat: &mut RuleSeat<T>,
+    slot: u32,
+    draft: Draft,
+    bytes: u64,
+    client: u32,
+)
+    requires seat { IsSeatOf table.now.table.shared.table_id table.now.table.shared.key.tag seat.old }
+    requires slot { slot < table.now.geometry.slots }
+    requires owned { (view seat.old).hand.owned ≡ ForBuilding slot }
+    requires none { (view seat.old).written ≡ [] }
+    requires client { client < MOST_CLIENTS }
+    requires serial { draft.serial < STAMPS_PER_CLIENT }
+    ensures seat { IsSameSeat seat.old seat.new }
+    ensures view { view seat.new ≡ with_words (draft.key.w0 ∷ draft.key.w1 ∷ draft.charge ∷ stamp_word client draft.serial ∷ bytes ∷ []) (view seat.old) }
+{
+    table.write(seat, slot, KEY0, draft.key.w0);
+    table.write(seat, slot, KEY1, draft.key.w1);
+    table.write(seat, slot, CHARGE, draft.charge as u64);
+    let stamp = client as u64 * STAMPS_PER_CLIENT + draft.serial;
+    table.write(seat, slot, STAMP, stamp);
+    table.write(seat, slot, LENGTH, bytes);
+}
+
+/// Writes the words of the payload, behind the five words that were written.
+fn write_payload<T: Tag, A: Allocator>(
+    table: &RuleTable<T, A>,
+    seat: &mut RuleSeat<T>,
+    slot: u32,
+    value: &[u8],
+)
+    requires seat { IsSeatOf table.now.table.shared.table_id table.now.table.shared.key.tag seat.old }
+    requires slot { slot < table.now.geometry.slots }
+    requires owned { (view seat.old).hand.owned ≡ ForBuilding slot }
+    requires head { length (view seat.old).written ≡ PAYLOAD }
+    requires short { length value.now ≤ 8 * table.now.geometry.room }
+    ensures seat { IsSameSeat seat.old seat.new }
+    ensures view { view seat.new ≡ with_words ((view seat.old).written ++ payload value.now) (view seat.old) }
+{
+    for k in 0..(value.len() + 7) / 8 {
+        table.write(seat, slot, PAYLOAD + k, word_at(value, 8 * k));
+    }
+}
+
+/// Writes the words of the draft's entry into an empty slot that the client builds, and shows it.
+pub(crate) fn build<T: Tag, A: Allocator>(
+    table: &RuleTable<T, A>,
+    seat: &mut RuleSeat<T>,
+    slot: u32,
+    draft: Draft,
+    value: &[u8],
+    client: u32,
+)
+    requires seat { IsSeatOf table.now.table.shared.table_id table.now.table.shared.key.tag seat.old }
+    requires slot { slot < table.now.geometry.slots }
+    requires none { (view seat.old).written ≡ [] }
+    requires client { client < MOST_CLIENTS }
+    requires may { MayShow T.fits table.now.table.shared.key slot draft.countdown draft.name (made_of draft value.now)
+        (with_words (made_words client (made_of draft value.now)) (view seat.old)) }
+    ensures seat { IsSameSeat seat.old seat.new }
+    ensures view { view seat.new ≡ after_show slot draft.name (made_of draft value.now) (view seat.old) }
+{
+    write_head(table, seat, slot, draft, value.len() as u64, client);
+    write_payload(table, seat, slot, value);
+    table.show(seat, slot, draft, value);
+}

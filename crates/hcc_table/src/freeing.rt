@@ -1,0 +1,94 @@
+//! Taking an entry to free it.
+ghost use Rattle.std.specs.Prelude.{◌≡◌, ◌+◌, ◌^◌, ◌<◌, ◌≤◌, [], true, IfSome, IfNone, slice_index};
+ghost use Rattle.hcc_word.specs.Word.{is_shareable};
+ghost use Rattle.hcc_core.specs.Steps.{owns_nothing};
+ghost use Rattle.hcc_rule.specs.declared.layout.TheConstants.{CHARGE};
+ghost use Rattle.hcc_rule.specs.Probes.{trail_to};
+ghost use Rattle.hcc_rule.specs.Seats.{IsSeatOf, IsSameSeat, view};
+ghost use Rattle.hcc_rule.specs.ToldOwners.{IsLast, records_left};
+ghost use Rattle.hcc_table.specs.Freed.{HasTaken, IsFreed, emptied};
+ghost use Rattle.hcc_table.specs.Searched.{Sought};
+
+use crate::walk::Walk;
+use hcc_rule::layout::{CHARGE, KEY0, KEY1};
+use hcc_rule::{Key, RuleSeat, RuleTable, Tag};
+use std::alloc::Allocator;
+
+/// Frees the slot whose entry the client took: takes back the displacements of the key's places
+/// before the slot, and empties it. The answer is the entry's charge, which the client has to settle
+/// with its place.
+///
+/// It takes no memory. It costs three loads, a take for each place before the slot, and a store.
+pub fn free_taken<T: Tag, A: Allocator>(
+    table: &RuleTable<T, A>,
+    seat: &mut RuleSeat<T>,
+    slot: u32,
+) -> u64
+    requires seat { IsSeatOf table.now.table.shared.table_id table.now.table.shared.key.tag seat.old }
+    requires slot { slot < table.now.geometry.slots }
+    requires taken { HasTaken table.now.geometry.slots slot (view seat.old) }
+    ensures seat { IsSameSeat seat.old seat.new }
+    ensures charge { result ≡ slice_index (view seat.old).written CHARGE }
+    ensures view { view seat.new ≡ emptied (view seat.old) }
+{
+    let key = Key {
+        w0: table.read_own(seat, slot, KEY0),
+        w1: table.read_own(seat, slot, KEY1),
+    };
+    let charge = table.read_own(seat, slot, CHARGE);
+    take_back(table, seat, slot, key);
+    table.empty(seat, slot);
+    charge
+}
+
+/// Takes back the displacements of a key's places before the slot.
+pub(crate) fn take_back<T: Tag, A: Allocator>(
+    table: &RuleTable<T, A>,
+    seat: &mut RuleSeat<T>,
+    slot: u32,
+    key: Key,
+)
+    requires seat { IsSeatOf table.now.table.shared.table_id table.now.table.shared.key.tag seat.old }
+    requires trail { (view seat.old).hand.trail ≡ trail_to table.now.geometry.slots key slot }
+    ensures seat { IsSameSeat seat.old seat.new }
+    ensures view { view seat.new ≡ record (view seat.old) { hand = record (view seat.old).hand { trail = [] } } }
+{
+    let slots = table.geometry().slots;
+    let mut walk = Walk::begin(key, slots);
+    for _ in 0..slots {
+        let passed = walk.slot();
+        if passed == slot {
+            return;
+        }
+        table.unpass(seat, passed);
+        walk = walk.next();
+    }
+}
+
+/// Tries once to take the entry of a slot whose word was `word`, with no reference or with the
+/// client's last one, and frees it. The answer is its charge; none where the exchange lost.
+pub(crate) fn try_free<T: Tag, A: Allocator>(
+    table: &RuleTable<T, A>,
+    seat: &mut RuleSeat<T>,
+    slot: u32,
+    word: u64,
+    name: Option<u64>,
+) -> Option<u64>
+    requires seat { IsSeatOf table.now.table.shared.table_id table.now.table.shared.key.tag seat.old }
+    requires slot { slot < table.now.geometry.slots }
+    requires entry { is_shareable word ≡ true }
+    requires last { IsLast slot word name (view seat.old) }
+    requires idle { (owns_nothing (view seat.old).hand.owned ≡ true) × ((view seat.old).hand.trail ≡ []) }
+    requires space { (view seat.old).hand.freed + 2 ^ 32 ≤ 2 ^ 49 }
+    ensures seat { IsSameSeat seat.old seat.new }
+    ensures lost { IfNone result (Sought (view seat.old) (view seat.new)) }
+    ensures freed { IfSome result (λ charge.
+        IsFreed T.fits table.now.geometry.room word name charge (view seat.old) (view seat.new)
+        × ((view seat.new).records ≡ records_left name (view seat.old).records)
+        × ((view seat.new).hand.looked ≡ (view seat.old).hand.looked)) }
+{
+    if table.free(seat, slot, word, name) != word {
+        return None;
+    }
+    Some(free_taken(table, seat, slot))
+}

@@ -1,0 +1,188 @@
+//! Hiding the entries of a key.
+ghost use Rattle.std.specs.Prelude.{◌≡◌, ◌+◌, ◌*◌, ◌^◌, ◌<◌, ◌≤◌, [], true, None, IfSome, IfNone, IsSomeAnd, replicate};
+ghost use Rattle.hcc_core.specs.declared.limits.TheConstants.{REFERENCES_PER_CLIENT};
+ghost use Rattle.hcc_core.specs.declared.state.Owned.TheVariants.{Nothing};
+ghost use Rattle.hcc_core.specs.Lawful.{is_in};
+ghost use Rattle.hcc_core.specs.Steps.{dropped};
+ghost use Rattle.hcc_rule.specs.Seats.{IsSeatOf, IsSameSeat, view};
+ghost use Rattle.hcc_rule.specs.Views.{is_called, load_of, record_in};
+ghost use Rattle.hcc_rule.specs.Words.{key_of};
+ghost use Rattle.hcc_table.specs.Erased.{Erases, IsErased};
+ghost use Rattle.hcc_table.specs.Searched.{Sought, Buried, AllDead};
+
+use crate::freeing::try_free;
+use crate::search::hold;
+use crate::walk::Walk;
+use crate::words::{has_entry, is_shown};
+use hcc_rule::{Key, RuleSeat, RuleTable, Tag};
+use hcc_word::layout::HIDING_MASK;
+use hcc_word::refs;
+use std::alloc::Allocator;
+
+/// What hiding the entries of a key did.
+#[derive(Clone, Copy, Debug, PartialEq, Eq)]
+pub struct Erased {
+    /// How many visible entries it hid.
+    pub hidden: u32,
+    /// How many entries it freed: so many places are the client's to settle.
+    pub slots: u32,
+    /// Their charges in sum, which are the client's to settle too.
+    pub charge: u64,
+}
+
+impl Erased {
+    /// Nothing was hidden.
+    const NOTHING: Erased = Erased {
+        hidden: 0,
+        slots: 0,
+        charge: 0,
+    };
+}
+
+/// Hides each visible entry of the key: look-ups find none of them from then on. At each place of
+/// the key in turn the slot is looked at, as in a search that doesn't stop at a match. An entry that
+/// only this call holds then is taken by one exchange and freed; where that loses it stays hidden.
+///
+/// The name is one that the client doesn't hold. It owns no slot, has an empty trail, and nothing
+/// freed to settle. Each entry of the key that it holds has been seen dead afterwards. It frees no more
+/// entries than it met of the key. It takes no memory. Each place costs what it costs a search; each
+/// match an atomic and, and an exchange and the freeing, or a take.
+pub fn hide<T: Tag, A: Allocator>(
+    table: &RuleTable<T, A>,
+    seat: &mut RuleSeat<T>,
+    key: Key,
+    name: u64,
+) -> Erased
+    requires seat { IsSeatOf table.now.table.shared.table_id table.now.table.shared.key.tag seat.old }
+    requires fresh { record_in name (view seat.old).records ≡ None }
+    requires load { load_of (view seat.old).records + 1 ≤ REFERENCES_PER_CLIENT }
+    requires idle { ((view seat.old).hand.owned ≡ Nothing) × ((view seat.old).hand.trail ≡ []) }
+    requires settled { (view seat.old).hand.freed ≡ 0 }
+    ensures seat { IsSameSeat seat.old seat.new }
+    ensures view { IsErased key result.hidden result.slots result.charge (view seat.old) (view seat.new) }
+    ensures dead { AllDead key (view seat.old) (view seat.new) }
+    ensures few { (result.hidden ≤ table.now.geometry.slots) × (result.slots ≤ table.now.geometry.slots) }
+{
+    let slots = table.geometry().slots;
+    let mut walk = Walk::begin(key, slots);
+    let mut all = Erased::NOTHING;
+    for _ in 0..slots {
+        let slot = walk.slot();
+        let here = hide_at(table, seat, slot, key, name);
+        all = all.with(here);
+        if table.count(seat, slot) == 0 {
+            return all;
+        }
+        walk = walk.next();
+    }
+    all
+}
+
+impl Erased {
+    /// Both in sum.
+    fn with(&self, other: Erased) -> Erased
+        requires hidden { self.now.hidden + other.hidden < 2 ^ 32 }
+        requires slots { self.now.slots + other.slots < 2 ^ 32 }
+        requires charge { self.now.charge + other.charge < 2 ^ 64 }
+        ensures hidden { result.hidden ≡ self.now.hidden + other.hidden }
+        ensures slots { result.slots ≡ self.now.slots + other.slots }
+        ensures charge { result.charge ≡ self.now.charge + other.charge }
+    {
+        Erased {
+            hidden: self.hidden + other.hidden,
+            slots: self.slots + other.slots,
+            charge: self.charge + other.charge,
+        }
+    }
+}
+
+/// Hides the slot's entry, where it shows one of this key, and frees it where nobody else holds it.
+fn hide_at<T: Tag, A: Allocator>(
+    table: &RuleTable<T, A>,
+    seat: &mut RuleSeat<T>,
+    slot: u32,
+    key: Key,
+    name: u64,
+) -> Erased
+    requires seat { IsSeatOf table.now.table.shared.table_id table.now.table.shared.key.tag seat.old }
+    requires slot { slot < table.now.geometry.slots }
+    requires fresh { record_in name (view seat.old).records ≡ None }
+    requires load { load_of (view seat.old).records + 1 ≤ REFERENCES_PER_CLIENT }
+    requires idle { ((view seat.old).hand.owned ≡ Nothing) × ((view seat.old).hand.trail ≡ []) }
+    requires space { (view seat.old).hand.freed + 2 ^ 32 ≤ 2 ^ 49 }
+    ensures seat { IsSameSeat seat.old seat.new }
+    ensures view { IsErased key result.hidden result.slots result.charge (view seat.old) (view seat.new) }
+    ensures dead { Buried key (λ s. s ≡ slot) (view seat.old) (view seat.new) }
+    ensures few { (result.hidden ≤ 1) × (result.slots ≤ 1) × (result.charge < 2 ^ 32) }
+{
+    match hold(table, seat, slot, key, name) {
+        Some(_) => hide_held(table, seat, slot, name),
+        None => Erased::NOTHING,
+    }
+}
+
+/// Hides the entry that the record of this name is on, and gives the reference back, or frees the
+/// entry where it's the last one.
+fn hide_held<T: Tag, A: Allocator>(
+    table: &RuleTable<T, A>,
+    seat: &mut RuleSeat<T>,
+    slot: u32,
+    name: u64,
+) -> Erased
+    requires seat { IsSeatOf table.now.table.shared.table_id table.now.table.shared.key.tag seat.old }
+    requires slot { slot < table.now.geometry.slots }
+    requires holds { IsSomeAnd (record_in name (view seat.old).records) (λ r. (r.slot ≡ slot) × (r.weight ≡ 1)) }
+    requires idle { ((view seat.old).hand.owned ≡ Nothing) × ((view seat.old).hand.trail ≡ []) }
+    requires space { (view seat.old).hand.freed + 2 ^ 32 ≤ 2 ^ 49 }
+    ensures seat { IsSameSeat seat.old seat.new }
+    ensures view { IsSomeAnd (record_in name (view seat.old).records) (λ r.
+        Erases (replicate result.hidden (key_of r.entry)) result.slots result.charge (view seat.old) (view seat.new)
+        × (is_in r.entry.stamp (view seat.new).hand.dead ≡ true)) }
+    ensures records { (view seat.new).records ≡ dropped (is_called name) (view seat.old).records }
+    ensures few { (result.hidden ≤ 1) × (result.slots ≤ 1) × (result.charge < 2 ^ 32) }
+{
+    let found = table.hide(seat, slot, name);
+    let left = found & HIDING_MASK;
+    let hidden = u32::from(is_shown(found));
+    match free_last(table, seat, slot, name, left) {
+        Some(charge) => Erased {
+            hidden,
+            slots: 1,
+            charge,
+        },
+        None => {
+            table.give(seat, slot, 1, name);
+            Erased {
+                hidden,
+                slots: 0,
+                charge: 0,
+            }
+        }
+    }
+}
+
+/// Tries to take the entry whose word is `word` by the client's last reference, which has this name.
+fn free_last<T: Tag, A: Allocator>(
+    table: &RuleTable<T, A>,
+    seat: &mut RuleSeat<T>,
+    slot: u32,
+    name: u64,
+    word: u64,
+) -> Option<u64>
+    requires seat { IsSeatOf table.now.table.shared.table_id table.now.table.shared.key.tag seat.old }
+    requires slot { slot < table.now.geometry.slots }
+    requires holds { IsSomeAnd (record_in name (view seat.old).records) (λ r. (r.slot ≡ slot) × (r.weight ≡ 1)) }
+    requires idle { ((view seat.old).hand.owned ≡ Nothing) × ((view seat.old).hand.trail ≡ []) }
+    requires space { (view seat.old).hand.freed + 2 ^ 32 ≤ 2 ^ 49 }
+    ensures seat { IsSameSeat seat.old seat.new }
+    ensures lost { IfNone result (Sought (view seat.old) (view seat.new)) }
+    ensures freed { IfSome result (λ charge. (charge < 2 ^ 32)
+        × Erases [] 1 charge (view seat.old) (view seat.new)
+        × ((view seat.new).records ≡ dropped (is_called name) (view seat.old).records)) }
+{
+    if has_entry(word) && !is_shown(word) && refs(word) == 1 {
+        try_free(table, seat, slot, word, Some(name))
+    } else {
+        None
+    }
+}

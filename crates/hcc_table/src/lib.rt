@@ -1,0 +1,27 @@
+//! Keys in one shard: a client looks for a key's entry, holds it, reads it and gives it back. Each
+//! call is a few atomic steps by one seat, and each exchange is tried once.
+#![tactic(auto)]
+
+mod acquire;
+mod build;
+mod freeing;
+mod giving;
+mod hiding;
+mod placing;
+mod readings;
+mod search;
+#[cfg(test)]
+mod tests;
+mod visiting;
+mod visits;
+mod walk;
+mod words;
+
+pub use freeing::free_taken;
+pub use giving::{again, give};
+pub use hiding::{Erased, hide};
+pub use placing::{Placement, place};
+pub use readings::{displacement, read_bytes, read_key, read_len, word};
+pub use search::{Found, find};
+pub use visiting::visit;
+pub use visits::Visit;

@@ -1,0 +1,197 @@
+//! What a client reads of slots and of the entries that it holds.
+ghost use Rattle.std.specs.Prelude.{◌≡◌, ◌+◌, ◌*◌, ◌<◌, ◌≤◌, ◌++◌, IfSome, IsSomeAnd, length, take, drop};
+ghost use Rattle.std.specs.Int.{to_le_bytes};
+ghost use mir.Syntax.{w64};
+ghost use Rattle.hcc_core.specs.World.{times};
+ghost use Rattle.hcc_rule.specs.declared.layout.TheConstants.{KEY1};
+ghost use Rattle.hcc_rule.specs.declared.view.Record.{Record};
+ghost use Rattle.hcc_rule.specs.Probes.{trail_to};
+ghost use Rattle.hcc_rule.specs.Seats.{IsSeatOf, IsSameSeat, view};
+ghost use Rattle.hcc_rule.specs.Told.{after_look, Backs};
+ghost use Rattle.hcc_rule.specs.ToldOwners.{after_read};
+ghost use Rattle.hcc_rule.specs.Views.{Each, record_in};
+ghost use Rattle.hcc_rule.specs.Words.{key_of, payload_word};
+ghost use Rattle.hcc_table.specs.Readings.{IsReadable};
+
+use hcc_rule::layout::{KEY0, KEY1, LENGTH, PAYLOAD};
+use hcc_rule::{Key, RuleSeat, RuleTable, Tag};
+use std::alloc::Allocator;
+
+/// The meta word of a slot. `hcc_word` reads its fields.
+///
+/// Where the client holds references on the slot, the word is that of an entry with at least these,
+/// and they all are on that entry. The client has looked at the slot where the word is an entry's,
+/// and has seen an entry dead that it holds and that is hidden; the rest of what it has stays. It
+/// refuses nothing and takes no memory. It costs one load.
+pub fn word<T: Tag, A: Allocator>(table: &RuleTable<T, A>, seat: &mut RuleSeat<T>, slot: u32) -> u64
+    requires seat { IsSeatOf table.now.table.shared.table_id table.now.table.shared.key.tag seat.old }
+    requires slot { slot < table.now.geometry.slots }
+    ensures seat { IsSameSeat seat.old seat.new }
+    ensures view { view seat.new ≡ after_look slot result (view seat.old) }
+    ensures backs { Backs slot result (view seat.old) }
+{
+    table.look(seat, slot)
+}
+
+/// How often a slot stands in the trails of entries and of clients.
+///
+/// The client's own trail is among them, and so is that of each entry that it holds a reference on;
+/// each of these is on a slot of the table. What the client has stays. It refuses nothing and takes
+/// no memory. It costs one load.
+pub fn displacement<T: Tag, A: Allocator>(
+    table: &RuleTable<T, A>,
+    seat: &mut RuleSeat<T>,
+    slot: u32,
+) -> u64
+    requires seat { IsSeatOf table.now.table.shared.table_id table.now.table.shared.key.tag seat.old }
+    requires slot { slot < table.now.geometry.slots }
+    ensures seat { IsSameSeat seat.old seat.new }
+    ensures view { view seat.new ≡ view seat.old }
+    ensures own { times slot (view seat.old).hand.trail ≤ result }
+    ensures held { Each (λ (r : Record). times slot (trail_to table.now.geometry.slots (key_of r.entry) r.slot) ≤ result) (view seat.old).records }
+    ensures within { Each (λ (r : Record). r.slot < table.now.geometry.slots) (view seat.old).records }
+{
+    table.count(seat, slot)
+}
+
+/// How many bytes the value has of the entry that the record of this name is on.
+///
+/// The client has a record of that name, on this slot. What the client has stays. It refuses nothing
+/// and takes no memory. It costs one load.
+pub fn read_len<T: Tag, A: Allocator>(
+    table: &RuleTable<T, A>,
+    seat: &mut RuleSeat<T>,
+    slot: u32,
+    name: u64,
+) -> usize
+    requires seat { IsSeatOf table.now.table.shared.table_id table.now.table.shared.key.tag seat.old }
+    requires slot { slot < table.now.geometry.slots }
+    requires holds { IsSomeAnd (record_in name (view seat.old).records) (λ r. r.slot ≡ slot) }
+    ensures seat { IsSameSeat seat.old seat.new }
+    ensures view { view seat.new ≡ view seat.old }
+    ensures exact { IfSome (record_in name (view seat.old).records) (λ r. result ≡ length r.entry.value) }
+{
+    table.read(seat, slot, LENGTH, name) as usize
+}
+
+/// The key of the entry that the record of this name is on.
+///
+/// The client has a record of that name, on this slot. Where it got the entry as Shown, the key joins
+/// the keys that it met; the rest of what it has stays. It refuses nothing and takes no memory. It
+/// costs two loads.
+pub fn read_key<T: Tag, A: Allocator>(
+    table: &RuleTable<T, A>,
+    seat: &mut RuleSeat<T>,
+    slot: u32,
+    name: u64,
+) -> Key
+    requires seat { IsSeatOf table.now.table.shared.table_id table.now.table.shared.key.tag seat.old }
+    requires slot { slot < table.now.geometry.slots }
+    requires holds { IsSomeAnd (record_in name (view seat.old).records) (λ r. r.slot ≡ slot) }
+    ensures seat { IsSameSeat seat.old seat.new }
+    ensures view { view seat.new ≡ after_read name KEY1 (view seat.old) }
+    ensures exact { IfSome (record_in name (view seat.old).records) (λ r. result ≡ key_of r.entry) }
+{
+    Key {
+        w0: table.read(seat, slot, KEY0, name),
+        w1: table.read(seat, slot, KEY1, name),
+    }
+}
+
+/// A word of the value, by its index, of the entry that the record of this name is on.
+fn read_word<T: Tag, A: Allocator>(
+    table: &RuleTable<T, A>,
+    seat: &mut RuleSeat<T>,
+    slot: u32,
+    name: u64,
+    index: usize,
+) -> u64
+    requires seat { IsSeatOf table.now.table.shared.table_id table.now.table.shared.key.tag seat.old }
+    requires slot { slot < table.now.geometry.slots }
+    requires within { index < table.now.geometry.room }
+    requires holds { IsSomeAnd (record_in name (view seat.old).records) (λ r. r.slot ≡ slot) }
+    ensures seat { IsSameSeat seat.old seat.new }
+    ensures view { view seat.new ≡ view seat.old }
+    ensures word { IfSome (record_in name (view seat.old).records)
+        (λ r. 8 * index < length r.entry.value → result ≡ payload_word r.entry.value index) }
+{
+    table.read(seat, slot, PAYLOAD + index, name)
+}
+
+/// Puts the first bytes of a word into a buffer, the lowest first.
+fn put(buffer: &mut [u8], at: usize, count: usize, word: u64)
+    requires few { count ≤ 8 }
+    requires space { at + count ≤ length buffer.old }
+    ensures { buffer.new ≡ take at buffer.old
+        ++ (take count (to_le_bytes w64 word) ++ drop (at + count) buffer.old) }
+{
+    let bytes = word.to_le_bytes();
+    if count == 8 {
+        buffer[at..at + 8].copy_from_slice(&bytes);
+    } else {
+        buffer[at..at + count].copy_from_slice(&bytes[..count]);
+    }
+}
+
+/// Copies the first bytes of a word of the value, by its index, to their place in a buffer.
+fn copy_word<T: Tag, A: Allocator>(
+    table: &RuleTable<T, A>,
+    seat: &mut RuleSeat<T>,
+    slot: u32,
+    name: u64,
+    index: usize,
+    count: usize,
+    buffer: &mut [u8],
+)
+    requires seat { IsSeatOf table.now.table.shared.table_id table.now.table.shared.key.tag seat.old }
+    requires slot { slot < table.now.geometry.slots }
+    requires within { index < table.now.geometry.room }
+    requires some { 0 < count }
+    requires few { count ≤ 8 }
+    requires space { 8 * index + count ≤ length buffer.old }
+    requires holds { IsSomeAnd (record_in name (view seat.old).records)
+        (λ r. (r.slot ≡ slot) × IsReadable table.now.geometry.room r × (8 * index + count ≤ length r.entry.value)) }
+    ensures seat { IsSameSeat seat.old seat.new }
+    ensures view { view seat.new ≡ view seat.old }
+    ensures bytes { IfSome (record_in name (view seat.old).records) (λ r. buffer.new ≡ take (8 * index) buffer.old
+        ++ (take count (drop (8 * index) r.entry.value) ++ drop (8 * index + count) buffer.old)) }
+{
+    let word = read_word(table, seat, slot, name, index);
+    put(buffer, 8 * index, count, word);
+}
+
+/// Copies the value of the entry that the record of this name is on to the front of a buffer. The
+/// answer is how many bytes it has. The rest of the buffer stays as it is.
+///
+/// The client has a record of that name, on this slot, of an entry whose value fits its slot and is of
+/// bytes, and the buffer has room for the value. What the client has stays. It refuses nothing and
+/// takes no memory. It costs one load for the length, and one for each eight bytes, the last ones too.
+pub fn read_bytes<T: Tag, A: Allocator>(
+    table: &RuleTable<T, A>,
+    seat: &mut RuleSeat<T>,
+    slot: u32,
+    name: u64,
+    buffer: &mut [u8],
+) -> usize
+    requires seat { IsSeatOf table.now.table.shared.table_id table.now.table.shared.key.tag seat.old }
+    requires slot { slot < table.now.geometry.slots }
+    requires holds { IsSomeAnd (record_in name (view seat.old).records)
+        (λ r. (r.slot ≡ slot) × IsReadable table.now.geometry.room r) }
+    requires space { IfSome (record_in name (view seat.old).records) (λ r. length r.entry.value ≤ length buffer.old) }
+    ensures seat { IsSameSeat seat.old seat.new }
+    ensures view { view seat.new ≡ view seat.old }
+    ensures length { IfSome (record_in name (view seat.old).records) (λ r. result ≡ length r.entry.value) }
+    ensures bytes { IfSome (record_in name (view seat.old).records)
+        (λ r. buffer.new ≡ r.entry.value ++ drop (length r.entry.value) buffer.old) }
+{
+    let length = read_len(table, seat, slot, name);
+    let whole = length / 8;
+    for index in 0..whole {
+        copy_word(table, seat, slot, name, index, 8, buffer);
+    }
+    let rest = length % 8;
+    if rest > 0 {
+        copy_word(table, seat, slot, name, whole, rest, buffer);
+    }
+    length
+}

@@ -1,0 +1,207 @@
+//! A client that makes calls at a table, and settles what a call freed. Between the calls here it has
+//! one handle, or none, and nothing else in hand.
+ghost use Rattle.std.specs.Prelude.{◌≡◌, ◌<◌, ◌≤◌, [], IfSome, IfNone, length};
+ghost use Rattle.hcc_core.specs.declared.state.Place.TheVariants.{Granted};
+ghost use Rattle.hcc_core.specs.Steps.{new_client};
+ghost use Rattle.hcc_rule.specs.Hands.{Carries, IsBench, IsReady};
+ghost use Rattle.hcc_rule.specs.Seats.{IsSeatOf, view};
+ghost use Rattle.hcc_table.specs.Handles.{HoldsOne};
+
+use super::AnyBytes;
+use crate::{Erased, Found, Placement, Visit, displacement, find, give, hide, place, visit, word};
+use hcc_rule::{Draft, Key, RuleSeat, RuleTable};
+use std::alloc::Global;
+use std::process::Abort;
+
+/// A table for tests: of 8 slots, 2 payload words for each, and not strict.
+pub(super) type Bench = RuleTable<AnyBytes, Global>;
+
+/// The places that such a table grants.
+pub(super) const LIMIT: u64 = 6;
+
+/// The name of the handle.
+pub(super) const NAME: u64 = 7;
+
+/// The seat of a table's only client.
+#[derive(Drop)]
+pub(super) struct Caller<'a> {
+    pub(super) table: &'a Bench,
+    pub(super) seat: RuleSeat<AnyBytes>,
+    /// How many entries the client showed.
+    pub(super) shown: u64,
+    ghost bench: { IsBench table.now.table.shared.key },
+    ghost seated: { IsSeatOf table.now.table.shared.table_id table.now.table.shared.key.tag seat },
+    ghost numbered: { (view seat).client ≡ 0 },
+    ghost counted: { length (view seat).made ≡ shown },
+}
+
+impl Caller<'_> {
+    /// A slot's word.
+    pub(super) fn word(&mut self, slot: u32) -> u64
+        requires ready { IsReady (view self.old.seat) }
+        requires slot { slot < 8 }
+        ensures same { (self.new.table ≡ self.old.table) × (self.new.shown ≡ self.old.shown) }
+        ensures ready { IsReady (view self.new.seat) }
+    {
+        word(self.table, &mut self.seat, slot)
+    }
+
+    /// How often a slot stands in trails.
+    pub(super) fn displacement(&mut self, slot: u32) -> u64
+        requires ready { IsReady (view self.old.seat) }
+        requires slot { slot < 8 }
+        ensures same { (self.new.table ≡ self.old.table) × (self.new.shown ≡ self.old.shown) }
+        ensures ready { IsReady (view self.new.seat) }
+    {
+        displacement(self.table, &mut self.seat, slot)
+    }
+
+    /// The usage and the occupancy.
+    pub(super) fn totals(&mut self) -> [u64; 2]
+        requires ready { IsReady (view self.old.seat) }
+        ensures same { (self.new.table ≡ self.old.table) × (self.new.shown ≡ self.old.shown) }
+        ensures ready { IsReady (view self.new.seat) }
+    {
+        let usage = self.table.usage(&mut self.seat);
+        [usage, self.table.occupancy(&mut self.seat)]
+    }
+
+    /// How the next entry of the client is shown.
+    pub(super) fn draft(&self, key: Key, charge: u32, countdown: u32, name: Option<u64>) -> Draft
+        ensures key { result.key ≡ key }
+        ensures charge { result.charge ≡ charge }
+        ensures serial { result.serial ≡ self.now.shown }
+        ensures countdown { result.countdown ≡ countdown }
+        ensures name { result.name ≡ name }
+    {
+        Draft {
+            key,
+            charge,
+            serial: self.shown,
+            countdown,
+            name,
+        }
+    }
+
+    /// Asks for a place and a charge.
+    pub(super) fn reserve(&mut self, rt: &impl Abort, charge: u32)
+        requires ready { IsReady (view self.old.seat) }
+        ensures same { (self.new.table ≡ self.old.table) × (self.new.shown ≡ self.old.shown) }
+        ensures reserved { Carries (record new_client { place = Granted; granted = charge }) [] (view self.new.seat) }
+    {
+        let occupancy = self.table.enter(&mut self.seat);
+        assert!(rt; occupancy < LIMIT, "the table is full");
+        self.table.charge(&mut self.seat, charge);
+    }
+
+    /// Inserts an entry, and keeps no handle.
+    pub(super) fn insert(
+        &mut self,
+        rt: &impl Abort,
+        key: Key,
+        charge: u32,
+        countdown: u32,
+        value: &[u8],
+    ) -> Placement
+        requires ready { IsReady (view self.old.seat) }
+        requires charge { 0 < charge }
+        requires countdown { (1 ≤ countdown) × (countdown ≤ 3) }
+        requires short { length value.now ≤ 16 }
+        ensures same { self.new.table ≡ self.old.table }
+        ensures ready { IsReady (view self.new.seat) }
+    {
+        assert!(rt; self.shown < 100, "too many entries");
+        let draft = self.draft(key, charge, countdown, None);
+        self.reserve(rt, charge);
+        let placement = place(self.table, &mut self.seat, draft, value, 0, NAME);
+        if let Placement::Placed { .. } = placement {
+            self.shown += 1;
+            return placement;
+        }
+        self.table.waive(&mut self.seat, charge as u64);
+        self.table.quit(&mut self.seat, 1);
+        placement
+    }
+
+    /// Takes what was freed from the occupancy and the usage.
+    pub(super) fn settle(&mut self, slots: u64, charge: u64)
+        requires freed { Carries (record new_client { freed = charge; freed_slots = slots }) [] (view self.old.seat) }
+        ensures same { (self.new.table ≡ self.old.table) × (self.new.shown ≡ self.old.shown) }
+        ensures ready { IsReady (view self.new.seat) }
+    {
+        if slots > 0 {
+            self.table.slots(&mut self.seat, slots);
+        }
+        if charge > 0 {
+            self.table.settle(&mut self.seat, charge);
+        }
+    }
+
+    /// Finds an entry, and holds it.
+    pub(super) fn find(&mut self, key: Key, marks: bool) -> Option<Found>
+        requires ready { IsReady (view self.old.seat) }
+        ensures same { (self.new.table ≡ self.old.table) × (self.new.shown ≡ self.old.shown) }
+        ensures inside { IfSome result (λ found. found.slot < 8) }
+        ensures holds { IfSome result (λ found. HoldsOne found.slot NAME found.counting (view self.new.seat)) }
+        ensures ready { IfNone result (IsReady (view self.new.seat)) }
+    {
+        find(self.table, &mut self.seat, key, NAME, marks)
+    }
+
+    /// Gives a handle back.
+    pub(super) fn give(&mut self, found: Found, useful: bool, erase: bool) -> Option<u64>
+        requires slot { found.slot < 8 }
+        requires holds { HoldsOne found.slot NAME found.counting (view self.old.seat) }
+        ensures same { (self.new.table ≡ self.old.table) × (self.new.shown ≡ self.old.shown) }
+        ensures ready { IsReady (view self.new.seat) }
+    {
+        let freed = give(
+            self.table,
+            &mut self.seat,
+            found.slot,
+            NAME,
+            found.counting,
+            useful,
+            erase,
+        );
+        if let Some(charge) = freed {
+            self.settle(1, charge);
+        }
+        freed
+    }
+
+    /// Hides the entries of a key.
+    pub(super) fn hide(&mut self, key: Key) -> Erased
+        requires ready { IsReady (view self.old.seat) }
+        ensures same { (self.new.table ≡ self.old.table) × (self.new.shown ≡ self.old.shown) }
+        ensures ready { IsReady (view self.new.seat) }
+    {
+        let erased = hide(self.table, &mut self.seat, key, NAME);
+        self.settle(erased.slots as u64, erased.charge);
+        erased
+    }
+
+    /// A visit of the clock.
+    pub(super) fn visit(&mut self, slot: u32) -> Visit
+        requires ready { IsReady (view self.old.seat) }
+        requires slot { slot < 8 }
+        ensures same { (self.new.table ≡ self.old.table) × (self.new.shown ≡ self.old.shown) }
+        ensures ready { IsReady (view self.new.seat) }
+    {
+        let done = visit(self.table, &mut self.seat, slot);
+        if let Visit::Freed { charge } = done {
+            self.settle(1, charge);
+        }
+        done
+    }
+
+    /// The word of the slot of a handle.
+    pub(super) fn word_held(&mut self, found: Found) -> u64
+        requires slot { found.slot < 8 }
+        requires holds { HoldsOne found.slot NAME found.counting (view self.old.seat) }
+        ensures same { (self.new.table ≡ self.old.table) × (self.new.shown ≡ self.old.shown) }
+        ensures holds { HoldsOne found.slot NAME found.counting (view self.new.seat) }
+    {
+        word(self.table, &mut self.seat, found.slot)
+    }
+}

@@ -1,0 +1,158 @@
+//! One of several clients at a shard. Between the calls of a mate its client has nothing in hand and
+//! holds no reference.
+ghost use Rattle.std.specs.Prelude.{◌≡◌, ◌+◌, ◌*◌, ◌<◌, ◌≤◌, [], IfOk, length};
+ghost use Rattle.hcc_core.specs.declared.limits.TheConstants.{MOST_CLIENTS, STAMPS_PER_CLIENT};
+ghost use Rattle.hcc_core.specs.declared.state.Place.TheVariants.{Granted};
+ghost use Rattle.hcc_core.specs.Steps.{new_client};
+ghost use Rattle.hcc_rule.specs.Hands.{Carries, IsReady, IsReadySeat};
+ghost use Rattle.hcc_rule.specs.Seats.{AreNewSeats, IsSeatOf, view};
+ghost use Rattle.hcc_table.specs.Mates.{IsPlain};
+
+use super::AnyBytes;
+use crate::{Placement, find, give, place, read_bytes, word};
+use hcc_rule::{Draft, Geometry, Key, RuleSeat, RuleTable};
+use std::alloc::{AllocError, Global};
+use std::process::Abort;
+
+/// A shard for tests: of 16 slots, with a capacity of 600 that is not strict.
+pub(super) type Shard = RuleTable<AnyBytes, Global>;
+
+/// The places that such a shard grants.
+pub(super) const LIMIT: u64 = 13;
+
+/// The name of a reference that is held within a call.
+pub(super) const NAME: u64 = 7;
+
+/// What a look-up found: the slot, how long the value is, and its bytes with 0 behind them.
+#[derive(Clone, Copy, Debug, PartialEq, Eq)]
+pub(super) struct Hit {
+    pub(super) slot: u32,
+    pub(super) length: usize,
+    pub(super) bytes: [u8; 16],
+}
+
+/// A shard for so many clients with so many payload words for each slot, and the clients' seats.
+pub(super) fn shard(
+    alloc: Global,
+    clients: u32,
+    room: u32,
+) -> Result<(Shard, Vec<RuleSeat<AnyBytes>, Global>), AllocError>
+    requires clients { (1 ≤ clients) × (clients ≤ 1024) }
+    requires room { (1 ≤ room) × (room ≤ 2) }
+    ensures plain { IfOk result (λ made. IsPlain made.0.table.shared.key) }
+    ensures room { IfOk result (λ made. made.0.table.shared.key.geometry.room ≡ room) }
+    ensures count { IfOk result (λ made. length made.1.items ≡ clients) }
+    ensures seats { IfOk result (λ made. AreNewSeats made.0.table.shared.table_id made.0.table.shared.key.tag 0 made.1.items) }
+{
+    let sizes = Geometry {
+        slots: 16,
+        room,
+        clients,
+    };
+    RuleTable::<AnyBytes, Global>::new(alloc, sizes, 600, false, AnyBytes)
+}
+
+/// The last seat, whose client is the number of those that are left.
+pub(super) fn seated(
+    rt: &impl Abort,
+    table: &Shard,
+    seats: &mut Vec<RuleSeat<AnyBytes>, Global>,
+) -> RuleSeat<AnyBytes>
+    requires new { AreNewSeats table.now.table.shared.table_id table.now.table.shared.key.tag 0 seats.old.items }
+    ensures rest { AreNewSeats table.now.table.shared.table_id table.now.table.shared.key.tag 0 seats.new.items }
+    ensures count { length seats.new.items + 1 ≡ length seats.old.items }
+    ensures ready { IsReadySeat table.now.table.shared.table_id table.now.table.shared.key.tag (length seats.new.items) 0 result }
+{
+    seats.pop().expect(rt, "no seat is left")
+}
+
+/// A seat of a shard.
+#[derive(Drop)]
+pub(super) struct Mate<'a> {
+    pub(super) table: &'a Shard,
+    pub(super) seat: RuleSeat<AnyBytes>,
+    pub(super) client: u32,
+    /// How many entries the client showed.
+    pub(super) shown: u64,
+    ghost plain: { IsPlain table.now.table.shared.key },
+    ghost seated: { IsSeatOf table.now.table.shared.table_id table.now.table.shared.key.tag seat },
+    ghost numbered: { (view seat).client ≡ client },
+    ghost counted: { length (view seat).made ≡ shown },
+}
+
+impl Mate<'_> {
+    /// A slot's word.
+    pub(super) fn word(&mut self, slot: u32) -> u64
+        requires ready { IsReady (view self.old.seat) }
+        requires slot { slot < 16 }
+        ensures same { (self.new.table ≡ self.old.table) × (self.new.client ≡ self.old.client) × (self.new.shown ≡ self.old.shown) }
+        ensures ready { IsReady (view self.new.seat) }
+    {
+        word(self.table, &mut self.seat, slot)
+    }
+
+    /// Asks for a place and a charge of 1.
+    fn reserve(&mut self, rt: &impl Abort)
+        requires ready { IsReady (view self.old.seat) }
+        ensures same { (self.new.table ≡ self.old.table) × (self.new.client ≡ self.old.client) × (self.new.shown ≡ self.old.shown) }
+        ensures holds { Carries (record new_client { place = Granted; granted = 1 }) [] (view self.new.seat) }
+    {
+        let occupancy = self.table.enter(&mut self.seat);
+        assert!(rt; occupancy < LIMIT, "the shard is full");
+        self.table.charge(&mut self.seat, 1);
+    }
+
+    /// Places an entry of charge 1 and countdown 2, and keeps no reference. It answers the slot.
+    pub(super) fn insert(&mut self, rt: &impl Abort, key: Key, value: &[u8]) -> u32
+        requires ready { IsReady (view self.old.seat) }
+        requires client { self.old.client < MOST_CLIENTS }
+        requires shown { self.old.shown < STAMPS_PER_CLIENT }
+        requires short { length value.now ≤ 8 * self.old.table.now.table.shared.key.geometry.room }
+        ensures same { (self.new.table ≡ self.old.table) × (self.new.client ≡ self.old.client) × (self.new.shown ≡ self.old.shown + 1) }
+        ensures ready { IsReady (view self.new.seat) }
+    {
+        self.reserve(rt);
+        let draft = Draft {
+            key,
+            charge: 1,
+            serial: self.shown,
+            countdown: 2,
+            name: None,
+        };
+        let placement = place(self.table, &mut self.seat, draft, value, self.client, NAME);
+        match placement {
+            Placement::Placed { slot } => {
+                self.shown += 1;
+                slot
+            }
+            _ => panic!(rt; "the entry was not placed"),
+        }
+    }
+
+    /// Finds the key's entry, reads its value, and gives the reference back without use.
+    pub(super) fn hit(&mut self, rt: &impl Abort, key: Key) -> Hit
+        requires ready { IsReady (view self.old.seat) }
+        ensures same { (self.new.table ≡ self.old.table) × (self.new.client ≡ self.old.client) × (self.new.shown ≡ self.old.shown) }
+        ensures ready { IsReady (view self.new.seat) }
+    {
+        let found = find(self.table, &mut self.seat, key, NAME, false);
+        let found = found.expect(rt, "the key has no entry");
+        let mut bytes = [0; 16];
+        let length = read_bytes(self.table, &mut self.seat, found.slot, NAME, &mut bytes);
+        let freed = give(
+            self.table,
+            &mut self.seat,
+            found.slot,
+            NAME,
+            found.counting,
+            false,
+            false,
+        );
+        assert!(rt; freed.is_none(), "the entry went");
+        Hit {
+            slot: found.slot,
+            length,
+            bytes,
+        }
+    }
+}

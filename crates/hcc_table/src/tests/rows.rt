@@ -1,0 +1,245 @@
+//! The words that stand after calls. A meta word is `acquires + releases·2^30 + hit·2^60 + state·2^61`.
+use super::held::UNREAD;
+use super::hired::{bench, hired};
+use crate::{Erased, Found, Placement, Visit};
+use hcc_rule::Key;
+use hcc_word::refs;
+use std::alloc::AllocError;
+
+/// Keys whose first place is slot 1. The others' next one is slot 4 and slot 6.
+const FIRST: Key = Key { w0: 0, w1: 1 };
+
+const SECOND: Key = Key { w0: 2, w1: 1 };
+
+const THIRD: Key = Key { w0: 4, w1: 1 };
+
+/// A key that no test inserts, whose first place is slot 1 and whose next one is slot 4.
+const ABSENT: Key = Key { w0: 2, w1: 9 };
+
+/// What comes of hiding an entry of charge 10 that nobody holds, and of hiding one that is held.
+const GONE: Erased = Erased {
+    hidden: 1,
+    slots: 1,
+    charge: 10,
+};
+
+const HIDDEN: Erased = Erased {
+    hidden: 1,
+    slots: 0,
+    charge: 0,
+};
+
+/// The words of an entry that nobody holds, by its countdown, and by that with the maker's handle.
+const COUNTDOWNS: [(u32, u64, u64); 3] = [
+    (1, 0xe000_0000_4000_0001, 0xe000_0000_0000_0001),
+    (2, 0xe000_0000_8000_0002, 0xe000_0000_4000_0002),
+    (3, 0xe000_0000_c000_0003, 0xe000_0000_8000_0003),
+];
+
+/// A new entry's uses are its countdown, less one where its maker keeps a handle, until that is given
+/// back as a use. Whoever takes the entry frees its slot.
+#[test]
+fn a_new_word_tells_the_countdown(rt: HostRuntime) -> Result<(), AllocError> {
+    let (table, mut seats) = bench(rt.alloc())?;
+    let mut me = hired(&rt, &table, &mut seats);
+    for (countdown, alone, held) in COUNTDOWNS {
+        let placed = me.insert(&rt, FIRST, 200, countdown, &[]);
+        assert_eq!(rt; placed, Placement::Placed { slot: 1 });
+        assert_eq!(rt; me.word(1), alone);
+        assert_eq!(rt; me.totals(), [200, 1]);
+        assert_eq!(rt; me.evict(&rt, 1), 200);
+        assert_eq!(rt; me.word(1), 0);
+        let kept = me.keep(&rt, FIRST, 200, countdown, &[]);
+        assert_eq!(rt; kept.slot, 1);
+        let word = me.word_held(kept);
+        assert_eq!(rt; word, held);
+        assert_eq!(rt; refs(word), 1);
+        assert_eq!(rt; me.give(kept, true, false), None);
+        assert_eq!(rt; me.word(1), alone);
+        assert_eq!(rt; me.evict(&rt, 1), 200);
+        assert_eq!(rt; me.totals(), [0, 0]);
+    }
+    Ok(())
+}
+
+/// A find holds the entry; its give is a use or not, and a mark stays.
+#[test]
+fn a_find_is_a_use_where_its_give_is_useful(rt: HostRuntime) -> Result<(), AllocError> {
+    let rows = [
+        (false, true, 0xe000_0000_8000_0003, 0xe000_0000_c000_0003),
+        (false, false, 0xe000_0000_8000_0003, 0xe000_0000_8000_0002),
+        (true, true, 0xf000_0000_8000_0003, 0xf000_0000_c000_0003),
+    ];
+    let (table, mut seats) = bench(rt.alloc())?;
+    let mut me = hired(&rt, &table, &mut seats);
+    for (marks, useful, held, left) in rows {
+        let placed = me.insert(&rt, FIRST, 200, 2, &[]);
+        assert_eq!(rt; placed, Placement::Placed { slot: 1 });
+        let found = me.find(FIRST, marks).expect(&rt, "the entry is not found");
+        let there = Found {
+            slot: 1,
+            counting: true,
+        };
+        assert_eq!(rt; found, there);
+        assert_eq!(rt; me.word_held(found), held);
+        assert_eq!(rt; me.give(found, useful, false), None);
+        assert_eq!(rt; me.word(1), left);
+        assert_eq!(rt; me.evict(&rt, 1), 200);
+    }
+    Ok(())
+}
+
+/// A key's trail is counted while its entry stands. Another key of the same places is not found, and
+/// nothing is changed by that.
+#[test]
+fn a_displacement_lasts_as_long_as_its_entry(rt: HostRuntime) -> Result<(), AllocError> {
+    let (table, mut seats) = bench(rt.alloc())?;
+    let mut me = hired(&rt, &table, &mut seats);
+    let first = me.insert(&rt, FIRST, 10, 2, &[]);
+    assert_eq!(rt; first, Placement::Placed { slot: 1 });
+    let second = me.insert(&rt, SECOND, 10, 2, &[]);
+    assert_eq!(rt; second, Placement::Placed { slot: 4 });
+    assert_eq!(rt; me.displacement(1), 1);
+    assert!(rt; me.misses(ABSENT));
+    assert_eq!(rt; [me.word(1), me.word(4)], [0xe000_0000_8000_0002; 2]);
+    assert_eq!(rt; me.hide(SECOND), GONE);
+    assert_eq!(rt; me.displacement(1), 0);
+    assert!(rt; me.misses(ABSENT));
+    assert_eq!(rt; [me.word(1), me.word(4)], [0xe000_0000_8000_0002, 0]);
+    assert_eq!(rt; me.totals(), [10, 1]);
+    Ok(())
+}
+
+/// Trails of several keys meet in one slot, and one is taken back.
+#[test]
+fn a_slot_counts_each_trail(rt: HostRuntime) -> Result<(), AllocError> {
+    let (table, mut seats) = bench(rt.alloc())?;
+    let mut me = hired(&rt, &table, &mut seats);
+    let first = me.insert(&rt, FIRST, 10, 2, &[]);
+    assert_eq!(rt; first, Placement::Placed { slot: 1 });
+    let second = me.insert(&rt, SECOND, 10, 2, &[]);
+    assert_eq!(rt; second, Placement::Placed { slot: 4 });
+    let third = me.insert(&rt, THIRD, 10, 2, &[]);
+    assert_eq!(rt; third, Placement::Placed { slot: 6 });
+    for slot in 0..8 {
+        let count = me.displacement(slot);
+        assert!(rt; count == if slot == 1 { 2 } else { 0 });
+    }
+    assert_eq!(rt; me.hide(SECOND), GONE);
+    assert_eq!(rt; me.displacement(1), 1);
+    Ok(())
+}
+
+/// A second entry of a key isn't placed, and the first is used as often as its countdown. The clock
+/// counts it down and frees it then.
+#[test]
+fn the_clock_counts_down_and_frees(rt: HostRuntime) -> Result<(), AllocError> {
+    let visits = [
+        (Visit::Counted, 0xe000_0000_8000_0002),
+        (Visit::Counted, 0xe000_0000_4000_0001),
+        (Visit::Counted, 0xe000_0000_0000_0000),
+        (Visit::Freed { charge: 200 }, 0),
+        (Visit::Passed, 0),
+    ];
+    let (table, mut seats) = bench(rt.alloc())?;
+    let mut me = hired(&rt, &table, &mut seats);
+    let first = me.insert(&rt, FIRST, 200, 2, &[]);
+    assert_eq!(rt; first, Placement::Placed { slot: 1 });
+    assert_eq!(rt; me.insert(&rt, FIRST, 200, 2, &[]), Placement::Matched);
+    assert_eq!(rt; me.word(1), 0xe000_0001_0000_0004);
+    assert_eq!(rt; me.totals(), [200, 1]);
+    for (done, left) in visits {
+        assert_eq!(rt; me.visit(1), done);
+        assert_eq!(rt; me.word(1), left);
+    }
+    assert_eq!(rt; me.totals(), [0, 0]);
+    Ok(())
+}
+
+/// A hidden entry is read by its handle while another of its key stands and is found.
+#[test]
+fn a_hidden_entry_and_its_successor_are_both_read(rt: HostRuntime) -> Result<(), AllocError> {
+    let (table, mut seats) = bench(rt.alloc())?;
+    let mut me = hired(&rt, &table, &mut seats);
+    let old = me.keep(&rt, FIRST, 10, 2, &[0xaa]);
+    assert_eq!(rt; me.hide_held(&rt, old, FIRST), HIDDEN);
+    assert_eq!(rt; me.word_held(old), 0xc000_0000_4000_0002);
+    let new = me.keep_other(&rt, old, FIRST, 10, &[0xbb]);
+    assert_eq!(rt; [old.slot, new.slot], [1, 2]);
+    let found = (2, 0xe000_0000_4000_0003, 0xbb);
+    assert_eq!(rt; me.read_three(&rt, old, new, FIRST), (0xaa, 0xbb, found));
+    me.give_other(&rt, old, new);
+    assert_eq!(rt; me.give(old, true, false), Some(10));
+    assert_eq!(rt; [me.word(1), me.word(2)], [0, 0xe000_0000_8000_0002]);
+    assert_eq!(rt; [me.displacement(1), me.displacement(2)], [1, 0]);
+    assert_eq!(rt; me.totals(), [10, 1]);
+    Ok(())
+}
+
+/// A hidden entry is freed with its last handle.
+#[test]
+fn a_hidden_entry_goes_with_its_last_handle(rt: HostRuntime) -> Result<(), AllocError> {
+    let (table, mut seats) = bench(rt.alloc())?;
+    let mut me = hired(&rt, &table, &mut seats);
+    let kept = me.keep(&rt, FIRST, 200, 2, &[]);
+    assert_eq!(rt; me.hide_held(&rt, kept, FIRST), HIDDEN);
+    assert!(rt; me.misses_held(kept, FIRST));
+    assert_eq!(rt; me.give(kept, true, false), Some(200));
+    assert_eq!(rt; me.word(1), 0);
+    assert_eq!(rt; me.totals(), [0, 0]);
+    Ok(())
+}
+
+/// Values of no bytes and of as many as fit are read, and the rest of the buffer stays.
+#[test]
+fn a_value_is_read_as_it_was_written(rt: HostRuntime) -> Result<(), AllocError> {
+    let (table, mut seats) = bench(rt.alloc())?;
+    let mut me = hired(&rt, &table, &mut seats);
+    let empty = me.keep(&rt, FIRST, 10, 2, &[]);
+    assert_eq!(rt; me.read(empty), (FIRST, 0, 0, [UNREAD; 20]));
+    assert_eq!(rt; me.give(empty, true, false), None);
+    let whole = me.keep(
+        &rt,
+        SECOND,
+        10,
+        2,
+        &[0, 1, 2, 3, 4, 5, 6, 7, 8, 9, 10, 11, 12, 13, 14, 15],
+    );
+    let bytes = [
+        0, 1, 2, 3, 4, 5, 6, 7, 8, 9, 10, 11, 12, 13, 14, 15, UNREAD, UNREAD, UNREAD, UNREAD,
+    ];
+    assert_eq!(rt; me.read(whole), (SECOND, 16, 16, bytes));
+    assert_eq!(rt; me.give(whole, true, false), None);
+    Ok(())
+}
+
+/// An entry is held twice by one client, and each reference is a use in the end.
+#[test]
+fn an_entry_is_held_again(rt: HostRuntime) -> Result<(), AllocError> {
+    let (table, mut seats) = bench(rt.alloc())?;
+    let mut me = hired(&rt, &table, &mut seats);
+    let kept = me.keep(&rt, FIRST, 200, 2, &[]);
+    assert_eq!(rt;
+        me.hold_twice(&rt, kept),
+        [
+            0xe000_0000_4000_0003,
+            0xe000_0000_8000_0003,
+            0xe000_0000_c000_0003
+        ]
+    );
+    Ok(())
+}
+
+/// The clock leaves an entry that is held, and its last handle frees it where that is asked for.
+#[test]
+fn a_held_entry_goes_where_its_last_handle_says(rt: HostRuntime) -> Result<(), AllocError> {
+    let (table, mut seats) = bench(rt.alloc())?;
+    let mut me = hired(&rt, &table, &mut seats);
+    let kept = me.keep(&rt, FIRST, 200, 2, &[]);
+    me.visit_held(&rt, kept);
+    assert_eq!(rt; me.word_held(kept), 0xe000_0000_4000_0002);
+    assert_eq!(rt; me.give(kept, true, true), Some(200));
+    assert_eq!(rt; me.word(1), 0);
+    assert_eq!(rt; me.totals(), [0, 0]);
+    Ok(())
+}

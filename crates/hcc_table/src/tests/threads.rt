@@ -1,0 +1,176 @@
+//! Two clients on two threads: in every order of their steps all entries are placed and found.
+ghost use Rattle.std.specs.Prelude.{◌≡◌, ◌<◌, ◌≤◌};
+ghost use Rattle.std.specs.Thread.{IsSync};
+ghost use Rattle.hcc_rule.specs.Hands.{IsReadySeat};
+ghost use Rattle.hcc_rule.specs.Seats.{IsSeatOf};
+ghost use Rattle.hcc_table.specs.Mates.{IsPlain};
+
+use super::AnyBytes;
+use super::mate::{Hit, Mate, Shard, seated, shard};
+use hcc_rule::{Key, RuleSeat};
+use std::alloc::AllocError;
+use std::process::Abort;
+use std::thread::{Threads, join};
+
+/// The word of a slot whose entry has a countdown of 2 and no reference.
+const SHOWN: u64 = 0xe000_0000_8000_0002;
+
+/// Keys whose first place is the slot of that number, in a shard of 16 slots.
+fn key(number: u8) -> Key {
+    Key {
+        w0: 0,
+        w1: number as u64,
+    }
+}
+
+/// Places the entries of four keys, from this number on, each in its key's first place.
+fn places(
+    rt: &impl Abort,
+    table: &Shard,
+    seat: RuleSeat<AnyBytes>,
+    client: u32,
+    first: u8,
+) -> RuleSeat<AnyBytes>
+    requires plain { IsPlain table.now.table.shared.key }
+    requires client { client < 1024 }
+    requires first { first ≤ 4 }
+    requires ready { IsReadySeat table.now.table.shared.table_id table.now.table.shared.key.tag client 0 seat }
+    ensures ready { IsReadySeat table.now.table.shared.table_id table.now.table.shared.key.tag client 4 result }
+{
+    let mut me = Mate {
+        table,
+        seat,
+        client,
+        shown: 0,
+    };
+    let slots = [
+        me.insert(rt, key(first), &[first]),
+        me.insert(rt, key(first + 1), &[first + 1]),
+        me.insert(rt, key(first + 2), &[first + 2]),
+        me.insert(rt, key(first + 3), &[first + 3]),
+    ];
+    let first = first as u32;
+    assert_eq!(rt; slots, [first, first + 1, first + 2, first + 3]);
+    me.seat
+}
+
+/// Finds and reads the entries of all eight keys.
+fn finds(
+    rt: &impl Abort,
+    table: &Shard,
+    seat: RuleSeat<AnyBytes>,
+    client: u32,
+) -> RuleSeat<AnyBytes>
+    requires plain { IsPlain table.now.table.shared.key }
+    requires ready { IsReadySeat table.now.table.shared.table_id table.now.table.shared.key.tag client 4 seat }
+    ensures ready { IsReadySeat table.now.table.shared.table_id table.now.table.shared.key.tag client 4 result }
+{
+    let mut me = Mate {
+        table,
+        seat,
+        client,
+        shown: 4,
+    };
+    for number in 0..8 {
+        let mut bytes = [0; 16];
+        bytes[0] = number;
+        let want = Hit {
+            slot: number as u32,
+            length: 1,
+            bytes,
+        };
+        assert_eq!(rt; me.hit(rt, key(number)), want);
+    }
+    me.seat
+}
+
+/// Clients 0 and 1 place four entries each at once.
+fn both_place<R: Abort + Threads + Sync>(
+    rt: &R,
+    table: &Shard,
+    first: RuleSeat<AnyBytes>,
+    second: RuleSeat<AnyBytes>,
+) -> (RuleSeat<AnyBytes>, RuleSeat<AnyBytes>)
+    requires plain { IsPlain table.now.table.shared.key }
+    requires first { IsReadySeat table.now.table.shared.table_id table.now.table.shared.key.tag 0 0 first }
+    requires second { IsReadySeat table.now.table.shared.table_id table.now.table.shared.key.tag 1 0 second }
+    ensures first { IsReadySeat table.now.table.shared.table_id table.now.table.shared.key.tag 0 4 result.0 }
+    ensures second { IsReadySeat table.now.table.shared.table_id table.now.table.shared.key.tag 1 4 result.1 }
+{
+    join(
+        rt,
+        move ||
+            requires { IsSync R.row × IsPlain table.now.table.shared.key × IsReadySeat table.now.table.shared.table_id table.now.table.shared.key.tag 0 0 first }
+            ensures { IsReadySeat table.entry.now.table.shared.table_id table.entry.now.table.shared.key.tag 0 4 result }
+        { places(rt, table, first, 0, 0) },
+        move ||
+            requires { IsSync R.row × IsPlain table.now.table.shared.key × IsReadySeat table.now.table.shared.table_id table.now.table.shared.key.tag 1 0 second }
+            ensures { IsReadySeat table.entry.now.table.shared.table_id table.entry.now.table.shared.key.tag 1 4 result }
+        { places(rt, table, second, 1, 4) },
+    )
+}
+
+/// Clients 0 and 1 find all entries at once.
+fn both_find<R: Abort + Threads + Sync>(
+    rt: &R,
+    table: &Shard,
+    first: RuleSeat<AnyBytes>,
+    second: RuleSeat<AnyBytes>,
+) -> (RuleSeat<AnyBytes>, RuleSeat<AnyBytes>)
+    requires plain { IsPlain table.now.table.shared.key }
+    requires first { IsReadySeat table.now.table.shared.table_id table.now.table.shared.key.tag 0 4 first }
+    requires second { IsReadySeat table.now.table.shared.table_id table.now.table.shared.key.tag 1 4 second }
+    ensures first { IsReadySeat table.now.table.shared.table_id table.now.table.shared.key.tag 0 4 result.0 }
+    ensures second { IsReadySeat table.now.table.shared.table_id table.now.table.shared.key.tag 1 4 result.1 }
+{
+    join(
+        rt,
+        move ||
+            requires { IsSync R.row × IsPlain table.now.table.shared.key × IsReadySeat table.now.table.shared.table_id table.now.table.shared.key.tag 0 4 first }
+            ensures { IsReadySeat table.entry.now.table.shared.table_id table.entry.now.table.shared.key.tag 0 4 result }
+        { finds(rt, table, first, 0) },
+        move ||
+            requires { IsSync R.row × IsPlain table.now.table.shared.key × IsReadySeat table.now.table.shared.table_id table.now.table.shared.key.tag 1 4 second }
+            ensures { IsReadySeat table.entry.now.table.shared.table_id table.entry.now.table.shared.key.tag 1 4 result }
+        { finds(rt, table, second, 1) },
+    )
+}
+
+/// Ends client 1. The seat that is left names both clients.
+fn end_both(
+    table: &Shard,
+    mut first: RuleSeat<AnyBytes>,
+    second: RuleSeat<AnyBytes>,
+) -> RuleSeat<AnyBytes>
+    requires first { IsReadySeat table.now.table.shared.table_id table.now.table.shared.key.tag 0 4 first }
+    requires second { IsReadySeat table.now.table.shared.table_id table.now.table.shared.key.tag 1 4 second }
+    ensures { IsSeatOf table.now.table.shared.table_id table.now.table.shared.key.tag result }
+{
+    table.join(&mut first, second);
+    first
+}
+
+/// The two clients place eight entries at once, each in its key's first place, and both find all of them
+/// at once. No reference is a use, so each word is as it was when its entry was shown.
+#[test]
+fn two_threads_place_and_find_entries(rt: HostRuntime) -> Result<(), AllocError> {
+    let (table, mut seats) = shard(rt.alloc(), 2, 1)?;
+    let second = seated(&rt, &table, &mut seats);
+    let first = seated(&rt, &table, &mut seats);
+    let (first, second) = both_place(&rt, &table, first, second);
+    let (first, second) = both_find(&rt, &table, first, second);
+    let last = end_both(&table, first, second);
+    let closed = table.close(last);
+    for slot in 0..16 {
+        let want = if slot < 8 { SHOWN } else { 0 };
+        assert_eq!(rt; closed.meta(slot), want, "the word of slot {slot}");
+        assert_eq!(rt;
+            closed.displacement(slot),
+            0,
+            "the displacement of slot {slot}"
+        );
+    }
+    let totals = [closed.usage(), closed.occupancy(), closed.standing()];
+    assert_eq!(rt; totals, [8, 8, 0]);
+    Ok(())
+}
