@@ -8,7 +8,7 @@ use Rattle.hcc_table.specs.Searched.{Grows, times_met}
 module _ {T : Type 0} where
   -- The client hid visible entries of these keys, and freed so many entries, whose places and charges
   -- are its to settle. It may have looked at slots, seen entries dead, met keys, and hold other records
-  -- than before. All else stays.
+  -- than before, and other words in a slot of its own. All else stays.
   pub record Erases (keys : List Key) (slots charge : ℕ) (v w : View T) : Type 0 where
     pub same : w ≡ record v {
       hand = record v.hand {

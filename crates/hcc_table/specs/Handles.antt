@@ -1,4 +1,4 @@
--- What a client has between calls: at most two handles, and nothing else in hand.
+-- What the clients of tests have between calls, in shards of 2 payload words for each slot.
 use Rattle.std.specs.Prelude.{◌≡◌, ℕ, Bool, [], ◌∷◌}
 use Rattle.hcc_core.specs.Steps.{new_client}
 use Rattle.hcc_rule.specs.declared.view.Record.{Record}

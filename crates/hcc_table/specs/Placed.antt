@@ -14,9 +14,9 @@ use Rattle.hcc_table.specs.declared.placing.Placement.{Placement}
 use Rattle.hcc_table.specs.declared.placing.Placement.TheVariants.{Placed, Matched, NoSlot}
 use Rattle.hcc_table.specs.Searched.{Grows}
 
--- What a client has that may place an entry: its place and its charge granted, nothing needed and no
--- slot in hand, a value that is right for the key, a free name, and room for the references that it
--- acquires where it meets a visible entry.
+-- What a client has that may place an entry: its own number, its place and its charge granted, nothing
+-- needed and no slot in hand, a value that is right for the key, a countdown of 1 to 3, a free name, room
+-- for the references that it acquires where it meets a visible entry, and for one more entry.
 pub record MayPlace {T : Type 0} (fits : T → Key → List ℕ → Type 0) (p : Plan T) (draft : Draft) (value : List ℕ) (client name : ℕ) (v : View T) : Type 0 where
   pub own : client ≡ v.client
   pub known : client < MOST_CLIENTS

@@ -16,10 +16,11 @@ use Rattle.hcc_core.specs.Sums.{when, total}
 abbrev pub Grows : List Stamp → List Stamp → Type 0
 Grows old new = (stamp : Stamp) → is_in stamp old ≡ true → is_in stamp new ≡ true
 
--- how often a key stands in a list
+-- whether two keys are equal
 abbrev pub is_key : Key → Key → Bool
 is_key a b = (a.w0 == b.w0) && (a.w1 == b.w1)
 
+-- how often a key stands in a list
 abbrev pub times_met : Key → List Key → ℕ
 times_met key = total (λ k. when (is_key key k) 1)
 

@@ -23,7 +23,7 @@ use std::alloc::Allocator;
 /// the slot meanwhile may be the one that goes.
 ///
 /// The client needs a record of that name, on this slot, of weight 1, and says whether it counts. It
-/// owns no slot, has an empty trail, and has freed less than `2^49` less `2^32`. The record is gone
+/// owns no slot, has an empty trail, and has freed at most `2^49 - 2^32` that isn't settled. The record is gone
 /// afterwards, and no other. A visible entry is taken only where `erase_if_last` asks for it. It takes
 /// no memory. It costs one atomic add or take; where nobody holds the entry and it may go an exchange,
 /// and where that wins what `free_taken` costs.
@@ -88,7 +88,8 @@ fn may_free(word: u64, erase_if_last: bool) -> bool
 }
 
 /// Acquires one more reference on the entry that the client holds by a record of the name `held`,
-/// under the name `name`, which it doesn't hold. The answer says whether it counts.
+/// under the name `name`, which it doesn't hold; it has room for one more. The answer says whether it
+/// counts.
 ///
 /// The record of it is behind the client's others, on the very same entry. It takes no memory. It
 /// costs one atomic add, and an exchange where the reference doesn't count.

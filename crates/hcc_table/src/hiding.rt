@@ -43,10 +43,11 @@ impl Erased {
 /// the key in turn the slot is looked at, as in a search that doesn't stop at a match. An entry that
 /// only this call holds then is taken by one exchange and freed; where that loses it stays hidden.
 ///
-/// The name is one that the client doesn't hold. It owns no slot, has an empty trail, and nothing
-/// freed to settle. Each entry of the key that it holds has been seen dead afterwards. It frees no more
+/// The name is one that the client doesn't hold, and there is room for one more reference. The client
+/// owns no slot, has an empty trail, and no freed charge to settle. Each entry of the key that it holds has been seen dead afterwards. It frees no more
 /// entries than it met of the key. It takes no memory. Each place costs what it costs a search; each
-/// match an atomic and, and an exchange and the freeing, or a take.
+/// match an atomic and, an exchange where nobody else holds the entry, and the freeing where that wins,
+/// else a take.
 pub fn hide<T: Tag, A: Allocator>(
     table: &RuleTable<T, A>,
     seat: &mut RuleSeat<T>,

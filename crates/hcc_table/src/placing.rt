@@ -129,17 +129,19 @@ fn place_at<T: Tag, A: Allocator>(
 /// as the draft's countdown says are acquired on that one, under this name, and released as uses where
 /// they count. Each place is tried once, and no entry is freed.
 ///
-/// The client has its place and its charge granted, nothing needed, no slot and no trail. The value is
-/// right for the key. The name is none that the client holds; the reference that it keeps of the entry
+/// The client, which is `client`, has its place and its charge granted, nothing needed, no slot and no
+/// trail, room for three more references and for one more entry. The countdown is 1 to 3, and the value
+/// is right for the key. The name is none that the client holds; the reference that it keeps of the entry
 /// that it shows, if the draft asks for one, has that name.
 ///
 /// Placed: the entry is the newest that the client made, behind the trail to its slot, and its place
 /// and its charge are spent. Matched, or no slot: the client has what it had. In each case it may have
-/// looked at slots, seen entries dead and met keys, and it counts the slots that it tried and that
-/// weren't empty.
+/// looked at slots, seen entries dead and met keys, and counted slots that weren't empty: all of them,
+/// where there was no empty one.
 ///
 /// It takes no memory. Each place costs an or, an add to the displacement word where another place
-/// follows, and where the slot shows an entry an add, a load of each half of the key and a take. An
+/// follows, and where the slot shows an entry an add, a load of each half of the key and a take, with an
+/// exchange where references don't count. An
 /// entry that is placed costs a store for each of its words and one more; else each place that was
 /// passed costs a take.
 pub fn place<T: Tag, A: Allocator>(

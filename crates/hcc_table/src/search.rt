@@ -122,7 +122,7 @@ pub struct Found {
 }
 
 /// Finds a visible entry of the key, and acquires a reference on it under this name, which the client
-/// doesn't hold. With `marks` the entry's hit bit is set. At each place of the key in turn the slot is
+/// doesn't hold; it has room for one more. With `marks` the entry's hit bit is set. At each place of the key in turn the slot is
 /// looked at; the search ends where no trail goes on, or after all places.
 ///
 /// Where it finds one, the client has one record more, behind its others: of an entry of this key,

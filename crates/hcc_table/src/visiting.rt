@@ -17,8 +17,8 @@ use std::alloc::Allocator;
 /// counted down by one exchange; one with countdown 0, or a hidden one, is taken by one exchange and
 /// freed.
 ///
-/// The client owns no slot, has an empty trail, and has freed less than `2^49` less `2^32`. It takes
-/// no memory. It costs a load, an exchange where the entry has no references, and where it frees what
+/// The client owns no slot, has an empty trail, and has freed at most `2^49 - 2^32` that isn't settled.
+/// It takes no memory. It costs a load, an exchange where the entry has no references, and where it frees what
 /// `free_taken` costs.
 pub fn visit<T: Tag, A: Allocator>(
     table: &RuleTable<T, A>,

@@ -80,8 +80,8 @@ impl<T: Tag, A: Allocator> RuleTable<T, A> {
     /// slot, has its trail to take back and its charge and its place to settle, and knows its words.
     /// Else the step was a look.
     ///
-    /// The client owns no slot, has an empty trail, and has freed less than `2^49` less `2^32`. It takes
-    /// no memory. It costs one compare-exchange.
+    /// The client owns no slot, has an empty trail, and has freed at most `2^49 - 2^32` that isn't settled.
+    /// It takes no memory. It costs one compare-exchange.
     pub fn free(&self, seat: &mut RuleSeat<T>, slot: u32, old: u64, name: Option<u64>) -> u64
         requires seat { IsSeatOf self.now.table.shared.table_id self.now.table.shared.key.tag seat.old }
         requires slot { slot < self.now.geometry.slots }

@@ -46,4 +46,19 @@ impl Worker<'_> {
         self.table.settle(&mut self.seat, charge as u64);
         [usage, charged, standing, fallen]
     }
+
+    /// Gives an insertion up, has an entry that stands alone, turns the hand twice and loads what all
+    /// clients have, so often.
+    pub(super) fn come_and_go(&mut self, rt: &impl Abort, times: u32)
+        requires ready { IsReady (view self.old.seat) }
+        ensures same { (self.new.table ≡ self.old.table) × (self.new.client ≡ self.old.client) × (self.new.shown ≡ self.old.shown) × ((view self.new.seat).others ≡ (view self.old.seat).others) }
+        ensures ready { IsReady (view self.new.seat) }
+    {
+        for _ in 0..times {
+            self.give_up(rt, 4, 50);
+            self.stand(70);
+            self.turn_twice();
+            self.totals();
+        }
+    }
 }

@@ -17,7 +17,11 @@ use std::thread::{Threads, join};
 /// How often each client looks its own entry up.
 const ROUNDS: u32 = 10_000;
 
-/// Shows an entry, and looks it up and the other client's.
+/// How often each client gives an insertion up, has an entry that stands alone, and turns the hand
+/// twice.
+const TURNS: u32 = 1_000;
+
+/// Shows an entry, and looks it up and the other client's. Then amounts come and go, and the hand turns.
 fn works(
     rt: &impl Abort,
     table: &Bench,
@@ -43,6 +47,7 @@ fn works(
         me.glance(1);
         me.glance(2);
     }
+    me.come_and_go(rt, TURNS);
     me.seat
 }
 
@@ -126,6 +131,7 @@ fn two_threads_show_and_find_entries(rt: HostRuntime) -> Result<(), AllocError> 
     let closed = table.close(last);
     let (usage, occupancy, standing) = (closed.usage(), closed.occupancy(), closed.standing());
     assert_eq!(rt; [usage, occupancy, standing], [410, 3, 0]);
+    assert!(rt; closed.hand() == 16_000);
     let charges = [
         closed.data(1, CHARGE),
         closed.data(2, CHARGE),
