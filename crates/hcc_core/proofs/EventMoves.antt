@@ -11,7 +11,7 @@ use Rattle.hcc_core.specs.declared.state.Slot.TheVariants as slots
 use Rattle.hcc_core.specs.declared.event.CoreError.{CoreError}
 use Rattle.hcc_core.specs.declared.event.CoreError.TheVariants.{NotAllowed}
 use Rattle.hcc_core.specs.World.{State, references_of, usage_of, uses_of, is_placed, occupancy_of, standing_in, weight_of, has_client, slot_holding}
-use Rattle.hcc_core.specs.Steps.{Outcome, ◌>>=◌, allow, slot_at, client_at, live_at, holding, with_both, start_of, look_of, looks_at, most_weight, acquire_of, may_acquire, give_of, use_of, counting_in, occupied, occupy_of, owns_nothing, hide_of, free_of, may_free, empty_of, freed_by, has_no_member, write_of, is_building, read_of, entry_read, enter_of, is_absent, slots_of, charge_by, may_charge, settle_of, may_settle, end_of, is_idle, holds_nothing, clock_of, may_clock, clocked, mark_of, correct_of, may_correct, waive_of, may_waive, quit_of, told, usage_told, occupancy_told, standing_told, stand_of, may_stand, fall_of, is_standing, count_of, pass_of, unpass_of, is_place, turn_of}
+use Rattle.hcc_core.specs.Steps.{Outcome, ◌>>=◌, allow, slot_at, client_at, live_at, holding, with_both, start_of, look_of, looks_at, most_weight, acquire_of, may_acquire, give_of, use_of, counting_in, occupied, occupy_of, owns_nothing, hide_of, free_of, may_free, empty_of, freed_by, has_no_member, write_of, is_building, read_of, entry_read, enter_of, is_absent, slots_of, charge_by, may_charge, settle_of, may_settle, end_of, is_idle, holds_nothing, clock_of, may_clock, clocked, mark_of, correct_of, may_correct, waive_of, may_waive, quit_of, told, usage_told, occupancy_told, standing_told, stand_of, may_stand, fall_of, is_standing, count_of, pass_of, unpass_of, is_slot, turn_of}
 use Rattle.hcc_core.specs.Lawful.{stamps_by}
 use Rattle.hcc_core.proofs.ListLemmas.{read_same}
 use Rattle.hcc_core.proofs.Keeps.{found_ok, live_ok, may_ok}
@@ -261,7 +261,7 @@ pub unpass_moves : (w : State) (client slot : ℕ) → Moved w (unpass_of w clie
 unfolding unpass_of
 unpass_moves w client slot =
     chain w (slot_at w slot) _ (λ seen at. chain w (live_at w client) _ (λ found live.
-    chain w (allow (list_any (is_place slot) found.trail)) _ (λ u passed.
+    chain w (allow (list_any (is_slot slot) found.trail)) _ (λ u passed.
     live_moves w client found _ live refl)))
 
 pub turn_moves : (w : State) (client : ℕ) → Moved w (turn_of w client)

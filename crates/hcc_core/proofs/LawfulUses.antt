@@ -13,7 +13,7 @@ use Rattle.hcc_core.proofs.ListLemmas.{set_same}
 use Rattle.hcc_core.proofs.LawfulParts.{ledgers_client}
 use Rattle.hcc_core.proofs.LawfulQuiet.{QuietSlot, quiet, QuietClient}
 use Rattle.hcc_core.specs.World.{uses_of}
-use Rattle.hcc_core.specs.Steps.{with_slot, slot_with_uses, slot_marked, is_place, dropped}
+use Rattle.hcc_core.specs.Steps.{with_slot, slot_with_uses, slot_marked, is_slot, dropped}
 use Rattle.hcc_core.proofs.SumLemmas.{length-push}
 use Rattle.hcc_core.proofs.LawfulQuiet.{one_client}
 use Rattle.hcc_core.proofs.LawfulParts.{ledgers_client}
@@ -116,11 +116,11 @@ lawful_pass w client slot found l at_client room =
 
 pub lawful_unpass : (w : State) (client slot : ℕ) (found : Client) → Lawful w
     → slice_get w.clients client ≡ Some found
-    → Lawful (with_client w client (record found { trail = dropped (is_place slot) found.trail }))
+    → Lawful (with_client w client (record found { trail = dropped (is_slot slot) found.trail }))
 lawful_unpass w client slot found l at_client =
-    let new : Client = record found { trail = dropped (is_place slot) found.trail } in
+    let new : Client = record found { trail = dropped (is_slot slot) found.trail } in
     let short = l.trailed.hands client found at_client in
-    let shorter = dropped-length (is_place slot) found.trail in
+    let shorter = dropped-length (is_slot slot) found.trail in
     one_client w client found new l at_client (λ s. omega arith) refl refl refl (omega arith)
     (ledgers_client w client found new l.ledgers at_client (omega arith) (omega arith) (omega arith))
 

@@ -617,15 +617,15 @@ pass_of world client slot = do
   room ← allow (nat_lt (length found.trail) world.setup.slots)
   Ok (replies.Ok, with_client world client (record found { trail = found.trail ++ slot ∷ [] }))
 
-abbrev pub is_place : ℕ → ℕ → Bool
-is_place slot place = place == slot
+abbrev pub is_slot : ℕ → ℕ → Bool
+is_slot slot passed = passed == slot
 
 unfoldable pub unpass_of : State → ℕ → ℕ → Outcome
 unpass_of world client slot = do
   seen ← slot_at world slot
   found ← live_at world client
-  passed ← allow (list_any (is_place slot) found.trail)
-  Ok (replies.Ok, with_client world client (record found { trail = dropped (is_place slot) found.trail }))
+  passed ← allow (list_any (is_slot slot) found.trail)
+  Ok (replies.Ok, with_client world client (record found { trail = dropped (is_slot slot) found.trail }))
 
 -- The hand.
 

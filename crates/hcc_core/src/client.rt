@@ -3,7 +3,7 @@ ghost use Rattle.std.specs.Prelude.{◌≡◌, ◌<◌, ◌^◌, IfOk, unwrap_or
 ghost use Rattle.std.specs.List.{find, list_any};
 ghost use Rattle.std.specs.Option.{option_copied};
 ghost use Rattle.hcc_core.specs.World.{standing_of, is_placed, is_granted};
-ghost use Rattle.hcc_core.specs.Steps.{owns_nothing, built_by, freed_by, is_building, is_absent, place_granted, is_stamp, joined, dropped, is_idle, may_stand, is_standing, is_place};
+ghost use Rattle.hcc_core.specs.Steps.{owns_nothing, built_by, freed_by, is_building, is_absent, place_granted, is_stamp, joined, dropped, is_idle, may_stand, is_standing, is_slot};
 
 use crate::listed::Listed;
 use crate::state::{Client, Owned, Place, Stamp, Standalone};
@@ -144,8 +144,8 @@ impl Client {
     pub(crate) fn fell(&mut self, name: u64)
         ensures { self.new ≡ record self.old { standalones = dropped (is_standing name) self.old.standalones } }
     {
-        if let Some(place) = place_of(self.standalones.as_slice(), name) {
-            self.standalones.remove(place);
+        if let Some(index) = index_of(self.standalones.as_slice(), name) {
+            self.standalones.remove(index);
         }
     }
 
@@ -159,17 +159,17 @@ impl Client {
 
     /// Whether the slot stands in its trail.
     pub(crate) fn has_passed(&self, slot: u32) -> bool
-        ensures { result ≡ list_any (is_place slot) self.now.trail }
+        ensures { result ≡ list_any (is_slot slot) self.now.trail }
     {
         has_place(self.trail.as_slice(), slot)
     }
 
     /// The slot leaves its trail once.
     pub(crate) fn unpass(&mut self, slot: u32)
-        ensures { self.new ≡ record self.old { trail = dropped (is_place slot) self.old.trail } }
+        ensures { self.new ≡ record self.old { trail = dropped (is_slot slot) self.old.trail } }
     {
-        if let Some(place) = place_in(self.trail.as_slice(), slot) {
-            self.trail.remove(place);
+        if let Some(index) = index_in(self.trail.as_slice(), slot) {
+            self.trail.remove(index);
         }
     }
 
@@ -232,9 +232,9 @@ fn standalone_of(standalones: &[Standalone], name: u64) -> Option<&Standalone>
         .find(|standalone| standalone.name == name)
 }
 
-fn place_of(standalones: &[Standalone], name: u64) -> Option<usize>
+fn index_of(standalones: &[Standalone], name: u64) -> Option<usize>
     ensures first { result ≡ position (is_standing name) standalones.now }
-    ensures within { IfSome result (λ place. place < length standalones.now) }
+    ensures within { IfSome result (λ index. index < length standalones.now) }
 {
     standalones
         .iter()
@@ -242,14 +242,14 @@ fn place_of(standalones: &[Standalone], name: u64) -> Option<usize>
 }
 
 fn has_place(trail: &[u32], slot: u32) -> bool
-    ensures { result ≡ list_any (is_place slot) trail.now }
+    ensures { result ≡ list_any (is_slot slot) trail.now }
 {
     trail.iter().any(|passed| *passed == slot)
 }
 
-fn place_in(trail: &[u32], slot: u32) -> Option<usize>
-    ensures first { result ≡ position (is_place slot) trail.now }
-    ensures within { IfSome result (λ place. place < length trail.now) }
+fn index_in(trail: &[u32], slot: u32) -> Option<usize>
+    ensures first { result ≡ position (is_slot slot) trail.now }
+    ensures within { IfSome result (λ index. index < length trail.now) }
 {
     trail.iter().position(|passed| *passed == slot)
 }

@@ -362,14 +362,14 @@ fn is_free_for(references: &[Reference], client: u32, name: Option<u64>) -> bool
 fn take_away(references: &mut Listed<Reference>, client: u32, name: u64)
     ensures { references.new ≡ dropped (is_named client name) references.old }
 {
-    if let Some(place) = place_of(references.as_slice(), client, name) {
-        references.remove(place);
+    if let Some(index) = index_of(references.as_slice(), client, name) {
+        references.remove(index);
     }
 }
 
-fn place_of(references: &[Reference], client: u32, name: u64) -> Option<usize>
+fn index_of(references: &[Reference], client: u32, name: u64) -> Option<usize>
     ensures first { result ≡ position (is_named client name) references.now }
-    ensures within { IfSome result (λ place. place < length references.now) }
+    ensures within { IfSome result (λ index. index < length references.now) }
 {
     references.iter().position(|reference| reference.client == client && reference.name == name)
 }

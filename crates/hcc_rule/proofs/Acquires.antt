@@ -39,8 +39,8 @@ use Rattle.hcc_rule.proofs.Findings.{none_passes}
 use Rattle.hcc_rule.proofs.Looks.{client_fits, slot_fits, slot_there, backed}
 use Rattle.hcc_rule.proofs.Reaches.{room_left, reached, is_met}
 use Rattle.hcc_rule.proofs.References.{fresh_name}
-use Rattle.hcc_rule.proofs.Turns.{Shard}
-use Rattle.hcc_rule.proofs.Touches.{Alike, by_hand, touched, Goes, goes, client_is, live_is}
+use Rattle.hcc_rule.proofs.SlotSteps.{Shard}
+use Rattle.hcc_rule.proofs.Touches.{Alike, by_client, touched, Goes, goes, client_is, live_is}
 
 may_is : (w : State) (c i n x : ℕ) (found : Client) (t : Slot) → 0 < n → n ≤ MOST_WEIGHT
     → slot_holding w.slots c x ≡ None → (looks_at found i || has_client c t) ≡ true
@@ -65,7 +65,7 @@ module _ {T : Type 0} (fits : T → Key → List ℕ → Type 0) (p : Plan T) wh
     pub at_view : slice_get s.views id ≡ Some me.0
     pub at_slot : slice_get r.world.slots i ≡ Some t
     pub seated : is_seated me.0 ≡ true
-    pub place : a ≡ field_at p.geometry.room i META
+    pub address : a ≡ field_at p.geometry.room i META
     pub some : 0 < n
     pub few : n ≤ MOST_WEIGHT
     pub small : x < 2 ^ 64
@@ -79,17 +79,17 @@ module _ {T : Type 0} (fits : T → Key → List ℕ → Type 0) (p : Plan T) wh
 
     -- the event is allowed
     allowed : outcome_of r.world (events.Acquire me.0.client i n x)
-        ≡ Ok (acquired t (counts_in t), with_both r.world i (slot_acquired t (new_reference me.0.client x n t)) me.0.client (client_acquired me.0.client (slot_acquired t (new_reference me.0.client x n t)) me.0.hand))
+        ≡ Ok (acquired t (counts_in t), with_both r.world i (slot_acquired t (new_reference me.0.client x n t)) me.0.client (client_acquired me.0.client (slot_acquired t (new_reference me.0.client x n t)) me.0.work))
     allowed =
         let client = client_is fits p s r id me.0 o.at_view o.seated in
         let live = live_is fits p s r id me.0 o.at_view o.seated in
         let fresh = fresh_name p.tag r.world.slots r.world.clients r.books s.views r.references r.seats id me.0 o.at_view o.seated x o.fresh in
         let reach = reached fits p s r id i me.0 o.at_view o.seated t o.at_slot o.reach in
-        acquire_allowed r.world me.0.client i n x me.0.hand t (is_lawful r.world r.lawful) o.few o.small o.at_slot client live
-        (may_is r.world me.0.client i n x me.0.hand t o.some o.few fresh reach room_is)
+        acquire_allowed r.world me.0.client i n x me.0.work t (is_lawful r.world r.lawful) o.few o.small o.at_slot client live
+        (may_is r.world me.0.client i n x me.0.work t o.some o.few fresh reach room_is)
 
     word_is : slice_index s.words a ≡ code_of t
-    word_is = ap (slice_index s.words) o.place ∙ r.coded.meta i t o.at_slot
+    word_is = ap (slice_index s.words) o.address ∙ r.coded.meta i t o.at_slot
 
     entry_is : is_shareable (slice_index s.words a) ≡ is_shareable (code_of t)
     entry_is = ap is_shareable word_is
@@ -122,7 +122,7 @@ module _ {T : Type 0} (fits : T → Key → List ℕ → Type 0) (p : Plan T) wh
         → references_of left ≡ references_of t → (code_of t + n) % 2 ^ 64 ≡ code_of left
         → Goes fits p s a ((slice_index s.words a + n) % 2 ^ 64) id me (acquires fits p.geometry.room i x (step 0 a n 0 none) me)
     strays_on left left_is away unhidden like bare code =
-        goes fits p s r a ((word + n) % 2 ^ 64) id i me new t left event reply (acquires fits p.geometry.room i x (step 0 a n 0 none) me) o.place
+        goes fits p s r a ((word + n) % 2 ^ 64) id i me new t left event reply (acquires fits p.geometry.room i x (step 0 a n 0 none) me) o.address
         (ap (λ y. (y + n) % 2 ^ 64) word_is ∙ code)
         (touched fits p s r id i me.0 new t left event reply record {
           at_view = o.at_view;
@@ -131,7 +131,7 @@ module _ {T : Type 0} (fits : T → Key → List ℕ → Type 0) (p : Plan T) wh
           same = record { tag = refl; client = refl; others = refl; turns = refl };
           work = refl;
           store = record { written = refl; made = refl; takings = refl };
-          allowed = rw left_is (by_hand r.world event reply i me.0.client (slot_acquired t (new_reference me.0.client x n t)) (client_acquired me.0.client (slot_acquired t (new_reference me.0.client x n t)) me.0.hand) new.hand becomes allowed);
+          allowed = rw left_is (by_client r.world event reply i me.0.client (slot_acquired t (new_reference me.0.client x n t)) (client_acquired me.0.client (slot_acquired t (new_reference me.0.client x n t)) me.0.work) new.work becomes allowed);
           like = like;
           here = λ h. ap (λ ks. total h ks + held i h me.0) bare;
           elsewhere = λ j h other. refl;
@@ -157,7 +157,7 @@ module _ {T : Type 0} (fits : T → Key → List ℕ → Type 0) (p : Plan T) wh
         new : View T
         new = after_stray me.0
 
-        becomes : client_acquired me.0.client (slot_acquired t (new_reference me.0.client x n t)) me.0.hand ≡ new.hand
+        becomes : client_acquired me.0.client (slot_acquired t (new_reference me.0.client x n t)) me.0.work ≡ new.work
         becomes = rw (dead_acquired me.0.client x n t, unhidden) refl
 
   -- Where the slot has an entry, it is referenced.
@@ -165,7 +165,7 @@ module _ {T : Type 0} (fits : T → Key → List ℕ → Type 0) (p : Plan T) wh
       → Asks s r id i a n x me (slots.Shareable k)
       → Goes fits p s a ((slice_index s.words a + n) % 2 ^ 64) id me (acquires fits p.geometry.room i x (step 0 a n 0 none) me)
   got_on s r id i a n x me k o =
-      goes fits p s r a ((word + n) % 2 ^ 64) id i me new t left event reply (acquires fits p.geometry.room i x (step 0 a n 0 none) me) o.place code
+      goes fits p s r a ((word + n) % 2 ^ 64) id i me new t left event reply (acquires fits p.geometry.room i x (step 0 a n 0 none) me) o.address code
       (touched fits p s r id i me.0 new t left event reply record {
         at_view = o.at_view;
         at_slot = o.at_slot;
@@ -173,7 +173,7 @@ module _ {T : Type 0} (fits : T → Key → List ℕ → Type 0) (p : Plan T) wh
         same = record { tag = refl; client = refl; others = refl; turns = refl };
         work = refl;
         store = record { written = refl; made = refl; takings = refl };
-        allowed = by_hand r.world event reply i me.0.client left (client_acquired me.0.client left me.0.hand) new.hand becomes (allowed s r id i a n x me t o);
+        allowed = by_client r.world event reply i me.0.client left (client_acquired me.0.client left me.0.work) new.work becomes (allowed s r id i a n x me t o);
         like = record { entry = refl; trail = refl };
         here = λ h.
             let refs = total-append h k.references (j ∷ []) in
@@ -242,7 +242,7 @@ module _ {T : Type 0} (fits : T → Key → List ℕ → Type 0) (p : Plan T) wh
           ap (λ y. (y + n) % 2 ^ 64) here
           ∙ add_acquires-shareable k.hit k.shown near n (weight (k.references ++ j ∷ [])) count (omega arith)
 
-      becomes : client_acquired me.0.client left me.0.hand ≡ new.hand
+      becomes : client_acquired me.0.client left me.0.work ≡ new.work
       becomes = rw (dead_acquired me.0.client x n t, here, tells_shown r.world l i k o.at_slot) refl
 
   -- An acquire keeps the rule, and tells what it found.
@@ -251,7 +251,7 @@ module _ {T : Type 0} (fits : T → Key → List ℕ → Type 0) (p : Plan T) wh
       → record_in x me.0.records ≡ None → may_reach i me.0 ≡ true
       → load_of me.0.records + n ≤ REFERENCES_PER_CLIENT
       → Allows (Holds fits p) count id me a (λ y. (y + n) % 2 ^ 64) (acquires fits p.geometry.room i x (step count a n 0 none) me)
-  acquire_step count id i a n x me near seated place some few small fresh reach room s r homes at low =
+  acquire_step count id i a n x me near seated address some few small fresh reach room s r homes at low =
       let slot = slot_there fits p s r i near in
       by slot.0 (asks slot.0 slot.1)
     where
@@ -260,7 +260,7 @@ module _ {T : Type 0} (fits : T → Key → List ℕ → Type 0) (p : Plan T) wh
         at_view = read_at s.views id me.0 at;
         at_slot = at_slot;
         seated = seated;
-        place = place;
+        address = address;
         some = some;
         few = few;
         small = small;

@@ -11,8 +11,8 @@ further : (x y n : ℕ) → x < y → x * n + n ≤ y * n
 further x y n h = let a : suc x * n ≤ y * n = mul-le-mul_right n h in omega (arith, suc-mul x n)
 
 -- fields of slots of n words each have one place only where they are one
-one_place : (n i j f g : ℕ) → f < n → g < n → i * n + f ≡ j * n + g → (i ≡ j) × (f ≡ g)
-one_place n i j f g a b e = dite (ℕ_discrete i j)
+one_address : (n i j f g : ℕ) → f < n → g < n → i * n + f ≡ j * n + g → (i ≡ j) × (f ≡ g)
+one_address n i j f g a b e = dite (ℕ_discrete i j)
     (λ same. let p : i * n ≡ j * n = ap (λ k. k * n) same in (same, omega arith))
     (λ other. dite (dec_le i j)
     (λ below. let h = further i j n (omega arith) in absurd (omega arith))
@@ -21,7 +21,7 @@ one_place n i j f g a b e = dite (ℕ_discrete i j)
 -- the fields of slots are apart
 pub fields_apart : (room s t f g : ℕ) → f < room + SLOT_HEAD → g < room + SLOT_HEAD
     → field_at room s f ≡ field_at room t g → (s ≡ t) × (f ≡ g)
-fields_apart room s t f g a b e = one_place (room + SLOT_HEAD) s t f g a b e
+fields_apart room s t f g a b e = one_address (room + SLOT_HEAD) s t f g a b e
 
 -- the ledger words stand behind all slots
 pub field_low : (size room s f : ℕ) → s < size → f < room + SLOT_HEAD

@@ -12,7 +12,7 @@ use Rattle.hcc_rule.specs.Rule.{Holds}
 use Rattle.hcc_rule.proofs.Asides.{law_is}
 use Rattle.hcc_rule.proofs.Different.{total_ones}
 use Rattle.hcc_rule.proofs.Touches.{client_is, book_is}
-use Rattle.hcc_rule.proofs.Turns.{Shard}
+use Rattle.hcc_rule.proofs.SlotSteps.{Shard}
 
 -- where no member has any of one sum, and so none of another, that is 0
 no_total : {A : Type 0} (f g : A → ℕ) (xs : List A) → total f xs ≤ 0
@@ -71,11 +71,11 @@ module _ {T : Type 0} (fits : T → Key → List ℕ → Type 0) (p : Plan T) (s
       alone_total named_by (λ (u : View T). u.takings) s.views id v at (omega arith) took_none
 
   -- The occupancy is what the client made and did not take, and what it has in hand.
-  pub occupancy_alone : occupancy_of r.world + v.takings ≡ length v.made + occupied_by v.hand
+  pub occupancy_alone : occupancy_of r.world + v.takings ≡ length v.made + occupied_by v.work
   occupancy_alone =
       let client = client_is fits p s r id v at seated in
       let book = book_is fits p s r id v at seated in
-      let hands = one_total occupied_by r.world.clients v.client v.hand client one_client in
+      let hands = one_total occupied_by r.world.clients v.client v.work client one_client in
       let one_book = r.stamps.sized ∙ one_client in
       let made = one_total (λ (l : List Made). length l) r.books v.client v.made book one_book in
       let takings = all_takings in

@@ -13,16 +13,16 @@ use Rattle.hcc_rule.specs.declared.view.View.{View}
 use Rattle.hcc_rule.specs.Told.{Held}
 use Rattle.hcc_rule.specs.Views.{is_seated}
 use Rattle.hcc_rule.specs.Rule.{IsModest, Holds}
-use Rattle.hcc_rule.proofs.ClientParts.{SameView, SameHand}
-use Rattle.hcc_rule.proofs.LedgerTurns.{Pays, goes_aside}
-use Rattle.hcc_rule.proofs.Turns.{Shard}
+use Rattle.hcc_rule.proofs.ClientParts.{SameView, SameSlotWork}
+use Rattle.hcc_rule.proofs.LedgerSteps.{Pays, goes_aside}
+use Rattle.hcc_rule.proofs.SlotSteps.{Shard}
 use Rattle.hcc_rule.proofs.Touches.{Goes, client_is}
 use Rattle.hcc_rule.proofs.Bounds.{usage_small, charge_small}
 
 -- a view of which these fields alone change
-pub view_kept : {T : Type 0} (v : View T) (hand : Client) (asked turns : ℕ) (seen tight : List ℕ)
-    → SameView v (record v { hand = hand; open_places = asked; turns = turns; seen = seen; tight = tight })
-view_kept v hand asked turns seen tight = record {
+pub view_kept : {T : Type 0} (v : View T) (left : Client) (asked turns : ℕ) (seen tight : List ℕ)
+    → SameView v (record v { work = left; open_places = asked; turns = turns; seen = seen; tight = tight })
+view_kept v left asked turns seen tight = record {
   tag = refl;
   client = refl;
   others = refl;
@@ -39,8 +39,8 @@ pays_at size room a b x y h k old new same pays = rw same pays
 module _ {T : Type 0} (fits : T → Key → List ℕ → Type 0) (p : Plan T) where
   module _ (s : Shard fits p) (r : Holds fits p s) (id : ℕ) (v : View T) (at : slice_get s.views id ≡ Some v) (seated : is_seated v ≡ true) where
     -- what is in hand is modest
-    pub modest_is : IsModest v.hand
-    modest_is = r.ledgers.modest v.client v.hand (client_is fits p s r id v at seated)
+    pub modest_is : IsModest v.work
+    modest_is = r.ledgers.modest v.client v.work (client_is fits p s r id v at seated)
 
   pub law_is : (s : Shard fits p) (r : Holds fits p s) → Lawful r.world
   law_is s r = is_lawful r.world r.lawful
@@ -53,18 +53,18 @@ module _ {T : Type 0} (fits : T → Key → List ℕ → Type 0) (p : Plan T) wh
       (λ c client there. r.ledgers.modest c client there)
 
   -- A step that moves no hand and makes no turn.
-  pub goes_by : (s : Shard fits p) (r : Holds fits p s) (id a y : ℕ) (me : Held T) (hand : Client) (asked : ℕ) (seen tight : List ℕ) (event : Event) (reply : Reply) (then : ℕ → Held T → Type 0)
-      → slice_get s.views id ≡ Some me.0 → is_seated me.0 ≡ true → SameHand me.0.hand hand → IsModest hand
-      → outcome_of r.world event ≡ Ok (reply, with_client r.world me.0.client hand)
-      → Pays p.geometry.slots p.geometry.room a (slice_index s.words a) y r.world.hand r.world.hand me.0.hand hand
-      → then (slice_index s.words a) (record me.0 { hand = hand; open_places = asked; seen = seen; tight = tight }, me.1)
+  pub goes_by : (s : Shard fits p) (r : Holds fits p s) (id a y : ℕ) (me : Held T) (left : Client) (asked : ℕ) (seen tight : List ℕ) (event : Event) (reply : Reply) (then : ℕ → Held T → Type 0)
+      → slice_get s.views id ≡ Some me.0 → is_seated me.0 ≡ true → SameSlotWork me.0.work left → IsModest left
+      → outcome_of r.world event ≡ Ok (reply, with_client r.world me.0.client left)
+      → Pays p.geometry.slots p.geometry.room a (slice_index s.words a) y r.world.hand r.world.hand me.0.work left
+      → then (slice_index s.words a) (record me.0 { work = left; open_places = asked; seen = seen; tight = tight }, me.1)
       → Goes fits p s a y id me then
-  goes_by s r id a y me hand asked seen tight event reply then at seated work modest allowed pays told =
-      goes_aside fits p s r id a y r.world.hand me (record me.0 { hand = hand; open_places = asked; seen = seen; tight = tight }) event reply then
+  goes_by s r id a y me left asked seen tight event reply then at seated work modest allowed pays told =
+      goes_aside fits p s r id a y r.world.hand me (record me.0 { work = left; open_places = asked; seen = seen; tight = tight }) event reply then
       (record {
         at_view = at;
         seated = seated;
-        same = view_kept me.0 hand asked me.0.turns seen tight;
+        same = view_kept me.0 left asked me.0.turns seen tight;
         written = refl;
         turning = inl (refl, refl);
         work = work;

@@ -23,8 +23,8 @@ pub record SameView {T : Type 0} (v new : View T) : Type 0 where
   pub takings : new.takings ≡ v.takings
 
 -- of what is in hand, the trail, the place and the amounts may differ
-abbrev pub SameHand : Client → Client → Type 0
-SameHand old new = new ≡ record old {
+abbrev pub SameSlotWork : Client → Client → Type 0
+SameSlotWork old new = new ≡ record old {
   trail = new.trail;
   place = new.place;
   granted = new.granted;
@@ -64,8 +64,8 @@ holding_view all views id v new holding at same =
 -- the client stays its view's
 pub seats_view : {T : Type 0} (tag : T) (clients : List Client) (books : Books) (views : List (View T)) (id : ℕ) (v new : View T)
     → Seats tag clients books views → slice_get views id ≡ Some v → is_seated v ≡ true
-    → SameView v new → SameHand v.hand new.hand
-    → Seats tag (slice_set clients v.client new.hand) books (slice_set views id new)
+    → SameView v new → SameSlotWork v.work new.work
+    → Seats tag (slice_set clients v.client new.work) books (slice_set views id new)
 seats_view tag clients books views id v new seats at seated same work =
     let old = seats.each id v at in
     let live = ap (λ (c : Client). c.live) work ∙ old.live seated in
@@ -76,12 +76,12 @@ seats_view tag clients books views id v new seats at seated same work =
 -- what was shown stays shown
 pub stamps_view : {T : Type 0} (fits : T → Key → List ℕ → Type 0) (tag : T) (room : ℕ) (all : List Slot) (clients : List Client) (books : Books) (views : List (View T)) (id : ℕ) (v new : View T)
     → Stamps fits tag room all clients books views → slice_get views id ≡ Some v
-    → slice_get clients v.client ≡ Some v.hand → SameView v new → SameHand v.hand new.hand
-    → Stamps fits tag room all (slice_set clients v.client new.hand) books (slice_set views id new)
+    → slice_get clients v.client ≡ Some v.work → SameView v new → SameSlotWork v.work new.work
+    → Stamps fits tag room all (slice_set clients v.client new.work) books (slice_set views id new)
 stamps_view {T} fits tag room all clients books views id v new stamps at at_client same work = record {
-  sized = stamps.sized ∙ sym (length-set clients v.client new.hand);
-  counted = each_set (λ c client. client.stamps ≡ length (book_of books c)) clients v.client new.hand
-      (ap (λ (c : Client). c.stamps) work ∙ stamps.counted v.client v.hand at_client)
+  sized = stamps.sized ∙ sym (length-set clients v.client new.work);
+  counted = each_set (λ c client. client.stamps ≡ length (book_of books c)) clients v.client new.work
+      (ap (λ (c : Client). c.stamps) work ∙ stamps.counted v.client v.work at_client)
       (λ c client other there. stamps.counted c client there);
   right = stamps.right;
   left =
@@ -94,20 +94,20 @@ stamps_view {T} fits tag room all clients books views id v new stamps at at_clie
 -- The same where the client's work in hand stays.
 pub seats_still : {T : Type 0} (tag : T) (clients : List Client) (books : Books) (views : List (View T)) (id : ℕ) (v new : View T)
     → Seats tag clients books views → slice_get views id ≡ Some v → is_seated v ≡ true
-    → SameView v new → new.hand ≡ v.hand
+    → SameView v new → new.work ≡ v.work
     → Seats tag clients books (slice_set views id new)
-seats_still tag clients books views id v new seats at seated same hand =
-    let changed = seats_view tag clients books views id v new seats at seated same (rw hand refl) in
-    let clients_same : slice_set clients v.client new.hand ≡ clients = rw hand (set_same clients v.client v.hand ((seats.each id v at).hand seated)) in
+seats_still tag clients books views id v new seats at seated same same_work =
+    let changed = seats_view tag clients books views id v new seats at seated same (rw same_work refl) in
+    let clients_same : slice_set clients v.client new.work ≡ clients = rw same_work (set_same clients v.client v.work ((seats.each id v at).work seated)) in
     rw clients_same at changed
 
 pub stamps_still : {T : Type 0} (fits : T → Key → List ℕ → Type 0) (tag : T) (room : ℕ) (all : List Slot) (clients : List Client) (books : Books) (views : List (View T)) (id : ℕ) (v new : View T)
     → Stamps fits tag room all clients books views → slice_get views id ≡ Some v
-    → slice_get clients v.client ≡ Some v.hand → SameView v new → new.hand ≡ v.hand
+    → slice_get clients v.client ≡ Some v.work → SameView v new → new.work ≡ v.work
     → Stamps fits tag room all clients books (slice_set views id new)
-stamps_still fits tag room all clients books views id v new stamps at at_client same hand =
-    let changed = stamps_view fits tag room all clients books views id v new stamps at at_client same (rw hand refl) in
-    let clients_same : slice_set clients v.client new.hand ≡ clients = rw hand (set_same clients v.client v.hand at_client) in
+stamps_still fits tag room all clients books views id v new stamps at at_client same same_work =
+    let changed = stamps_view fits tag room all clients books views id v new stamps at at_client same (rw same_work refl) in
+    let clients_same : slice_set clients v.client new.work ≡ clients = rw same_work (set_same clients v.client v.work at_client) in
     rw clients_same at changed
 
 -- Sums over clients that stand in a word.

@@ -19,7 +19,7 @@ use Rattle.hcc_rule.proofs.Clients.{total-only}
 use Rattle.hcc_rule.proofs.ClosingSums.{else_nothing}
 use Rattle.hcc_rule.proofs.Findings.{find_passes, find_each, some_found, none_weighs, one_weighs}
 use Rattle.hcc_rule.proofs.Lists.{there, within}
-use Rattle.hcc_rule.proofs.Turns.{Shard}
+use Rattle.hcc_rule.proofs.SlotSteps.{Shard}
 
 -- nothing stands for the client anywhere
 pub record IsQuiet (client : Client) : Type 0 where
@@ -64,7 +64,7 @@ module _ {T : Type 0} (fits : T → Key → List ℕ → Type 0) (p : Plan T) (s
 
   -- so each other view holds nothing
   pub spent : (j : ℕ) (u : View T) → j ≢ id → slice_get s.views j ≡ Some u
-      → (u.records ≡ []) × (u.others ≡ []) × (owned_slot u.hand.owned ≡ None) × (u.takings ≡ 0)
+      → (u.records ≡ []) × (u.others ≡ []) × (owned_slot u.work.owned ≡ None) × (u.takings ≡ 0)
   spent j u other there = (r.seats.each j u there).spent (unseated j u other there)
 
   -- so this view names each client once
@@ -100,8 +100,8 @@ module _ {T : Type 0} (fits : T → Key → List ℕ → Type 0) (p : Plan T) (s
     own is =
         let same : v.client ≡ c = eqb-true v.client c is in
         let mine = r.seats.each id v at in
-        let both : Some client ≡ Some v.hand = sym there ∙ (ap (slice_get r.world.clients) (sym same) ∙ mine.hand seated) in
-        let hand : client ≡ v.hand = cc in
+        let both : Some client ≡ Some v.work = sym there ∙ (ap (slice_get r.world.clients) (sym same) ∙ mine.work seated) in
+        let hand : client ≡ v.work = cc in
         let none = none_weighs (is_of c) (λ (o : Other). length o.made) v.others (let once = others_once true is in omega arith) in
         rw hand record {
           quiet = record {

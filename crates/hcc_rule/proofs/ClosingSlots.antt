@@ -35,7 +35,7 @@ use Rattle.hcc_rule.proofs.ClosingClients.{IsQuiet, made_of, lawful, client_coun
 use Rattle.hcc_rule.proofs.ClosingSums.{total_range, total_both, one_at, made_by_client}
 use Rattle.hcc_rule.proofs.Codes.{few_strays, is_near, tells_entry}
 use Rattle.hcc_rule.proofs.Lists.{there, within, each_map}
-use Rattle.hcc_rule.proofs.Turns.{Shard}
+use Rattle.hcc_rule.proofs.SlotSteps.{Shard}
 
 -- an empty slot's word is its strays
 strays_are : (strays : ℕ) → code_of_empty strays ≡ strays
@@ -84,7 +84,7 @@ module _ {T : Type 0} (fits : T → Key → List ℕ → Type 0) (p : Plan T) (s
 
   -- a sum over the views is what this view gives, where spent ones give nothing
   of_view : (f : View T → ℕ)
-      → ((u : View T) → (u.records ≡ []) × (u.others ≡ []) × (owned_slot u.hand.owned ≡ None) × (u.takings ≡ 0) → f u ≡ 0)
+      → ((u : View T) → (u.records ≡ []) × (u.others ≡ []) × (owned_slot u.work.owned ≡ None) × (u.takings ≡ 0) → f u ≡ 0)
       → total f s.views ≡ f v
   of_view f none =
       total-only f s.views id v at
@@ -317,7 +317,7 @@ module _ {T : Type 0} (fits : T → Key → List ℕ → Type 0) (p : Plan T) (s
   -- the clients that the view names are those of the shard
   own_low : v.client < p.geometry.clients
   own_low =
-      let near = within r.world.clients v.client v.hand ((r.seats.each id v at).hand seated) in
+      let near = within r.world.clients v.client v.work ((r.seats.each id v at).work seated) in
       let clients = clients_are in
       omega arith
 

@@ -12,7 +12,7 @@ use Rattle.hcc_rule.specs.Rule.{Holds}
 use Rattle.hcc_rule.specs.Views.{is_seated}
 use Rattle.hcc_rule.proofs.Lists.{read_at}
 use Rattle.hcc_rule.proofs.ClosingSlots.{settled, stamp_at, kept, apart, references, clear, strays, left}
-use Rattle.hcc_rule.proofs.Turns.{Shard}
+use Rattle.hcc_rule.proofs.SlotSteps.{Shard}
 
 -- a word that was loaded
 pub word_read : (words : List ℕ) (i word : ℕ) → get_elem? words i ≡ some word

@@ -21,7 +21,7 @@ use Rattle.hcc_rule.proofs.Lists.{read_at, each_set}
 use Rattle.hcc_rule.proofs.Findings.{find_each}
 use Rattle.hcc_rule.proofs.ClientParts.{SameView, references_view, holding_view, seats_still, stamps_still}
 use Rattle.hcc_rule.proofs.WorldParts.{hand_kept}
-use Rattle.hcc_rule.proofs.Turns.{Shard}
+use Rattle.hcc_rule.proofs.SlotSteps.{Shard}
 use Rattle.hcc_rule.proofs.Touches.{client_is}
 
 -- a word written over itself
@@ -92,7 +92,7 @@ module _ {T : Type 0} (fits : T → Key → List ℕ → Type 0) (p : Plan T) wh
       → a ≡ field_at p.geometry.room i DATA + index
       → IsSomeAnd (record_in x me.0.records) (λ q. q.slot ≡ i)
       → Allows (Holds fits p) count id me a (λ n. n) (reads x index (step count a 0 0 none) me)
-  read_step count id i x index a me seated place so s r homes at low = (
+  read_step count id i x index a me seated address so s r homes at low = (
     after_read x index me.0,
     keeps,
     tt,
@@ -115,17 +115,17 @@ module _ {T : Type 0} (fits : T → Key → List ℕ → Type 0) (p : Plan T) wh
           → IfSome o (λ q. IsDataWord q.entry index (slice_index s.words a))
       told None called so = absurd so
       told (Some q) called so =
-          rw place (data_word s r id i index me.0 q at_view (find_each (is_called x) (IsRecorded r.world.slots) me.0.records q (r.holding id me.0 at_view).recorded called) so)
+          rw address (data_word s r id i index me.0 q at_view (find_each (is_called x) (IsRecorded r.world.slots) me.0.records q (r.holding id me.0 at_view).recorded called) so)
 
   -- A load by the owner of a slot tells the word that stands in its view.
-  pub read_own_step : (count id i index a : ℕ) (me : Held T) → owned_slot me.0.hand.owned ≡ Some i
+  pub read_own_step : (count id i index a : ℕ) (me : Held T) → owned_slot me.0.work.owned ≡ Some i
       → is_seated me.0 ≡ true → a ≡ field_at p.geometry.room i DATA + index
       → Allows (Holds fits p) count id me a (λ n. n) (reads_own index (step count a 0 0 none) me)
-  read_own_step count id i index a me owns seated place s r homes at low =
+  read_own_step count id i index a me owns seated address s r homes at low =
       let at_view = read_at s.views id me.0 at in (
         me.0,
         keeps,
         tt,
         rw (word_same s.words a) (met_holds s r id me.0 me.0.met at_view seated),
-        (refl, refl, (λ near. ap (slice_index s.words) place ∙ (r.drafted id me.0 at_view).lies i owns index near)),
+        (refl, refl, (λ near. ap (slice_index s.words) address ∙ (r.drafted id me.0 at_view).lies i owns index near)),
       )

@@ -103,10 +103,10 @@ charge_there (slots.Empty strays) e is = cc
 charge_there (slots.Building client strays) e is = cc
 charge_there (slots.Shareable r) e is = ap (λ (x : Entry). x.charge) (let same : r.entry ≡ e = cc in same)
 
-place_there : (slot : Slot) (e : Entry) → entry_by slot ≡ Some e → taken_by_slot slot ≡ 1
-place_there (slots.Empty strays) e is = cc
-place_there (slots.Building client strays) e is = cc
-place_there (slots.Shareable r) e is = refl
+taken_there : (slot : Slot) (e : Entry) → entry_by slot ≡ Some e → taken_by_slot slot ≡ 1
+taken_there (slots.Empty strays) e is = cc
+taken_there (slots.Building client strays) e is = cc
+taken_there (slots.Shareable r) e is = refl
 
 -- the charges of the entries that a client holds are among those of all slots
 pub charges_within : (all : List Slot) (rs : List Record) → Each (IsRecorded all) rs
@@ -117,6 +117,6 @@ charges_within = different_within charge_of (λ e. e.charge) charge_there refl
 pub places_within : (all : List Slot) (rs : List Record) → Each (IsRecorded all) rs
     → length (different rs) ≤ total taken_by_slot all
 places_within all rs recorded =
-    let within = different_within taken_by_slot (λ e. 1) place_there refl all rs recorded in
+    let within = different_within taken_by_slot (λ e. 1) taken_there refl all rs recorded in
     let ones = total_ones (different rs) in
     omega arith

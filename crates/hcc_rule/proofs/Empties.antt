@@ -26,8 +26,8 @@ use Rattle.hcc_rule.specs.Words.{field_at}
 use Rattle.hcc_rule.specs.Rule.{Holds}
 use Rattle.hcc_rule.proofs.Lists.{within, read_at}
 use Rattle.hcc_rule.proofs.Looks.{client_fits, slot_there}
-use Rattle.hcc_rule.proofs.Owners.{owned_turn}
-use Rattle.hcc_rule.proofs.Turns.{Shard}
+use Rattle.hcc_rule.proofs.Owners.{owned_step}
+use Rattle.hcc_rule.proofs.SlotSteps.{Shard}
 use Rattle.hcc_rule.proofs.Touches.{Goes, goes, client_is, live_is}
 
 -- an owner may empty the slot that it took to free
@@ -43,7 +43,7 @@ module _ {T : Type 0} (fits : T → Key → List ℕ → Type 0) (p : Plan T) wh
   module _ (s : Shard fits p) (r : Holds fits p s) (id i : ℕ) (v : View T)
       (at : slice_get s.views id ≡ Some v) (seated : is_seated v ≡ true) where
     -- a slot that the seat's client owns is under construction by it
-    pub owner_there : (t : Slot) → owned_slot v.hand.owned ≡ Some i → slice_get r.world.slots i ≡ Some t
+    pub owner_there : (t : Slot) → owned_slot v.work.owned ≡ Some i → slice_get r.world.slots i ≡ Some t
         → owner_of t ≡ Some v.client
     owner_there t owns at_slot =
         let owned : owned_by (slice_get r.world.clients v.client) ≡ Some i = ap owned_by (client_is fits p s r id v at seated) ∙ owns in
@@ -51,9 +51,9 @@ module _ {T : Type 0} (fits : T → Key → List ℕ → Type 0) (p : Plan T) wh
 
   -- The owner's store keeps the rule.
   pub empty_step : (count id i a : ℕ) (me : Held T) → i < p.geometry.slots → is_seated me.0 ≡ true
-      → me.0.hand.owned ≡ owned.ForFreeing i → me.0.hand.trail ≡ [] → a ≡ field_at p.geometry.room i META
+      → me.0.work.owned ≡ owned.ForFreeing i → me.0.work.trail ≡ [] → a ≡ field_at p.geometry.room i META
       → Allows (Holds fits p) count id me a (λ y. EMPTY_WORD) (λ y. empties (step count a EMPTY_WORD 0 none) me EMPTY_WORD)
-  empty_step count id i a me near seated owns back place s r homes at low =
+  empty_step count id i a me near seated owns back address s r homes at low =
       let slot = slot_there fits p s r i near in
       by slot.0 slot.1 (owner_there s r id i me.0 at_view seated slot.0 (ap owned_slot owns) slot.1)
     where
@@ -68,15 +68,15 @@ module _ {T : Type 0} (fits : T → Key → List ℕ → Type 0) (p : Plan T) wh
       by (slots.Empty strays) at_slot owner = cc
       by (slots.Shareable k) at_slot owner = cc
       by (slots.Building d strays) at_slot owner =
-          goes fits p s r a EMPTY_WORD id i me (after_empty me.0) (slots.Building d strays) (slots.Empty 0) (events.Empty me.0.client) replies.Ok then place store_empty
-          (owned_turn fits p s r id i me.0 (after_empty me.0) (slots.Building d strays) (slots.Empty 0) (events.Empty me.0.client) replies.Ok record {
+          goes fits p s r a EMPTY_WORD id i me (after_empty me.0) (slots.Building d strays) (slots.Empty 0) (events.Empty me.0.client) replies.Ok then address store_empty
+          (owned_step fits p s r id i me.0 (after_empty me.0) (slots.Building d strays) (slots.Empty 0) (events.Empty me.0.client) replies.Ok record {
             at_view = at_view;
             at_slot = at_slot;
             seated = seated;
             same = record { tag = refl; client = refl; others = refl; turns = refl };
             work = refl;
             store = record { records = refl; made = refl; takings = refl; written = refl };
-            allowed = empty_allowed r.world me.0.client i me.0.hand (is_lawful r.world r.lawful) (client_is fits p s r id me.0 at_view seated) (live_is fits p s r id me.0 at_view seated) owns back;
+            allowed = empty_allowed r.world me.0.client i me.0.work (is_lawful r.world r.lawful) (client_is fits p s r id me.0 at_view seated) (live_is fits p s r id me.0 at_view seated) owns back;
             bare = refl;
             left_bare = refl;
           })

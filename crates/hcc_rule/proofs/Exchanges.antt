@@ -39,8 +39,8 @@ use Rattle.hcc_rule.proofs.Codes.{few_strays, is_near}
 use Rattle.hcc_rule.proofs.Looks.{client_fits, slot_fits, slot_there, looks_on}
 use Rattle.hcc_rule.proofs.Marks.{rested}
 use Rattle.hcc_rule.proofs.OnEntries.{OnEntry, on_some, name_held, reference_there, code_there, dead_there}
-use Rattle.hcc_rule.proofs.Turns.{Shard}
-use Rattle.hcc_rule.proofs.Touches.{by_hand, Goes, goes, client_is, live_is}
+use Rattle.hcc_rule.proofs.SlotSteps.{Shard}
+use Rattle.hcc_rule.proofs.Touches.{by_client, Goes, goes, client_is, live_is}
 
 -- A clock's event is allowed at a shown entry with no references and some uses.
 clock_allowed : (w : State) (c i : ℕ) (found : Client) (k : Resident) → Lawful w
@@ -96,11 +96,11 @@ module _ {T : Type 0} (fits : T → Key → List ℕ → Type 0) (p : Plan T) wh
       → code_of (slots.Shareable k) ≡ old → IsClockable old → new ≡ clocked_word old
       → then (slice_index s.words a) (me.0, me.1)
       → Goes fits p s a new id me then
-  clocks_on s r id i a old new me k then at seated at_slot place same clockable clocks told =
-      goes fits p s r a new id i me me.0 (slots.Shareable k) (slots.Shareable left) event (replies.Uses (clocked k.uses)) then place code
+  clocks_on s r id i a old new me k then at seated at_slot address same clockable clocks told =
+      goes fits p s r a new id i me me.0 (slots.Shareable k) (slots.Shareable left) event (replies.Uses (clocked k.uses)) then address code
       (rested fits p s r id i me.0 me.0 k left event (replies.Uses (clocked k.uses)) at at_slot seated
       record { tag = refl; client = refl; others = refl; turns = refl } refl record { written = refl; made = refl; takings = refl } refl refl refl refl
-      (clock_allowed r.world me.0.client i me.0.hand k l at_slot (client_is fits p s r id me.0 at seated) (live_is fits p s r id me.0 at seated) may))
+      (clock_allowed r.world me.0.client i me.0.work k l at_slot (client_is fits p s r id me.0 at seated) (live_is fits p s r id me.0 at seated) may))
       told
     where
       l : Lawful r.world
@@ -130,7 +130,7 @@ module _ {T : Type 0} (fits : T → Key → List ℕ → Type 0) (p : Plan T) wh
   pub clock_step : (count id i a old new : ℕ) (me : Held T) → i < p.geometry.slots → is_seated me.0 ≡ true
       → a ≡ field_at p.geometry.room i META → IsClockable old → new ≡ clocked_word old
       → Allows (Holds fits p) count id me a (λ y. either (y == old) new y) (clocks i (step count a old new none) me)
-  clock_step count id i a old new me near seated place clockable clocks_to s r homes at low =
+  clock_step count id i a old new me near seated address clockable clocks_to s r homes at low =
       let slot = slot_there fits p s r i near in
       by slot.0 slot.1 (slice_index s.words a == old) refl
     where
@@ -144,7 +144,7 @@ module _ {T : Type 0} (fits : T → Key → List ℕ → Type 0) (p : Plan T) wh
       here = read_at s.views id me.0 at
 
       word_is : (t : Slot) → slice_get r.world.slots i ≡ Some t → word ≡ code_of t
-      word_is t at_slot = ap (slice_index s.words) place ∙ r.coded.meta i t at_slot
+      word_is t at_slot = ap (slice_index s.words) address ∙ r.coded.meta i t at_slot
 
       wins : (t : Slot) → slice_get r.world.slots i ≡ Some t → code_of t ≡ old → then word (me.0, me.1) → Goes fits p s a new id me then
       wins (slots.Empty strays) at_slot same told =
@@ -154,11 +154,11 @@ module _ {T : Type 0} (fits : T → Key → List ℕ → Type 0) (p : Plan T) wh
           let few = few_strays r.world (is_lawful r.world r.lawful) i (slots.Building client strays) at_slot in
           absurd (IsClockable-building strays (omega arith) (rw same clockable))
       wins (slots.Shareable k) at_slot same told =
-          clocks_on s r id i a old new me k then here seated at_slot place same clockable clocks_to told
+          clocks_on s r id i a old new me k then here seated at_slot address same clockable clocks_to told
 
       by : (t : Slot) → slice_get r.world.slots i ≡ Some t → (b : Bool) → (word == old) ≡ b → Goes fits p s a (either b new word) id me then
       by t at_slot true is = wins t at_slot (sym (word_is t at_slot) ∙ eqb-true word old is) (refl, rw is refl)
-      by t at_slot false is = looks_on fits p s r id i a me t then at_slot seated place here (refl, rw is refl)
+      by t at_slot false is = looks_on fits p s r id i a me t then at_slot seated address here (refl, rw is refl)
 
   -- Both counters are corrected.
   corrects_on : (s : Shard fits p) (r : Holds fits p s) (id i x a old new : ℕ) (me : Held T) (q : Record) (k : Resident) (then : ℕ → Held T → Type 0)
@@ -166,12 +166,12 @@ module _ {T : Type 0} (fits : T → Key → List ℕ → Type 0) (p : Plan T) wh
       → code_of (slots.Shareable k) ≡ old → IsCorrectable old → new ≡ corrected_word old
       → then (slice_index s.words a) (noticing i (slice_index s.words a) me.0, me.1)
       → Goes fits p s a new id me then
-  corrects_on s r id i x a old new me q k then o uncounted small place same correctable corrects told =
-      goes fits p s r a new id i me after t (slots.Shareable left) event replies.Ok then place code
+  corrects_on s r id i x a old new me q k then o uncounted small address same correctable corrects told =
+      goes fits p s r a new id i me after t (slots.Shareable left) event replies.Ok then address code
       (rested fits p s r id i me.0 after k left event replies.Ok o.at_view o.at_slot o.seated
       record { tag = refl; client = refl; others = refl; turns = refl } refl record { written = refl; made = refl; takings = refl } refl refl refl refl
-      (by_hand r.world event replies.Ok i me.0.client (slots.Shareable left) (client_noticed me.0.client t me.0.hand) after.hand becomes
-      (correct_allowed r.world me.0.client x i me.0.hand k l small (name_held fits p s r id i x me.0 q k o) o.at_slot (client_is fits p s r id me.0 o.at_view o.seated) (live_is fits p s r id me.0 o.at_view o.seated) may)))
+      (by_client r.world event replies.Ok i me.0.client (slots.Shareable left) (client_noticed me.0.client t me.0.work) after.work becomes
+      (correct_allowed r.world me.0.client x i me.0.work k l small (name_held fits p s r id i x me.0 q k o) o.at_slot (client_is fits p s r id me.0 o.at_view o.seated) (live_is fits p s r id me.0 o.at_view o.seated) may)))
       told
     where
       l : Lawful r.world
@@ -201,8 +201,8 @@ module _ {T : Type 0} (fits : T → Key → List ℕ → Type 0) (p : Plan T) wh
       code : new ≡ code_of (slots.Shareable left)
       code = corrects ∙ (ap corrected_word (sym same) ∙ corrected_word-shareable k.hit k.shown near high)
 
-      becomes : client_noticed me.0.client t me.0.hand ≡ after.hand
-      becomes = rw (code_there fits p s r id i x me.0 q k o a place, dead_there fits p s r id i x me.0 q k o) refl
+      becomes : client_noticed me.0.client t me.0.work ≡ after.work
+      becomes = rw (code_there fits p s r id i x me.0 q k o a address, dead_there fits p s r id i x me.0 q k o) refl
 
   -- A correction's exchange keeps the rule, and tells what it found.
   pub correct_step : (count id i x a old new : ℕ) (me : Held T) → is_seated me.0 ≡ true → x < 2 ^ 64
@@ -210,7 +210,7 @@ module _ {T : Type 0} (fits : T → Key → List ℕ → Type 0) (p : Plan T) wh
       → IsSomeAnd (record_in x me.0.records) (λ q. (q.slot ≡ i) × (q.counting ≡ false))
       → IsCorrectable old → new ≡ corrected_word old
       → Allows (Holds fits p) count id me a (λ y. either (y == old) new y) (corrects i (step count a old new none) me)
-  correct_step count id i x a old new me seated small place so correctable corrects_to s r homes at low =
+  correct_step count id i x a old new me seated small address so correctable corrects_to s r homes at low =
       by (record_in x me.0.records) refl so
     where
       word : ℕ
@@ -225,10 +225,10 @@ module _ {T : Type 0} (fits : T → Key → List ℕ → Type 0) (p : Plan T) wh
       tried : (q : Record) (k : Resident) → OnEntry fits p s r id i x me.0 q k → q.counting ≡ false
           → (b : Bool) → (word == old) ≡ b → Goes fits p s a (either b new word) id me then
       tried q k o uncounted true is =
-          corrects_on s r id i x a old new me q k then o uncounted small place
-          (sym (code_there fits p s r id i x me.0 q k o a place) ∙ eqb-true word old is)
+          corrects_on s r id i x a old new me q k then o uncounted small address
+          (sym (code_there fits p s r id i x me.0 q k o a address) ∙ eqb-true word old is)
           correctable corrects_to (refl, rw is refl)
-      tried q k o uncounted false is = looks_on fits p s r id i a me (slots.Shareable k) then o.at_slot seated place here (refl, rw is refl)
+      tried q k o uncounted false is = looks_on fits p s r id i a me (slots.Shareable k) then o.at_slot seated address here (refl, rw is refl)
 
       by : (found : Option Record) → record_in x me.0.records ≡ found
           → IsSomeAnd found (λ q. (q.slot ≡ i) × (q.counting ≡ false))

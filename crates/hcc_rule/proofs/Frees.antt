@@ -51,8 +51,8 @@ use Rattle.hcc_rule.proofs.OnEntries.{OnEntry, on_some, reference_there}
 use Rattle.hcc_rule.proofs.ShowParts.{names_fit}
 use Rattle.hcc_rule.proofs.ViewParts.{recorded_else, total-two}
 use Rattle.hcc_rule.proofs.WordParts.{made_short}
-use Rattle.hcc_rule.proofs.Turns.{Shard, Turn}
-use Rattle.hcc_rule.proofs.Touches.{by_hand, Goes, goes, client_is, live_is, stamps_are, was_right}
+use Rattle.hcc_rule.proofs.SlotSteps.{Shard, SlotStep}
+use Rattle.hcc_rule.proofs.Touches.{by_client, Goes, goes, client_is, live_is, stamps_are, was_right}
 
 -- a list of no member is empty
 empty_is : {A : Type 0} (xs : List A) → has_no_member xs ≡ true → xs ≡ []
@@ -80,11 +80,11 @@ records_else all i left (r ∷ rs) bare each = (
 )
 
 -- what the taker of an entry is then
-freeing_is : (c i : ℕ) (k : Resident) (hand : Client) (trail : List ℕ) (charge : ℕ) (dead : List Stamp)
-    → k.trail ≡ trail → k.entry.charge ≡ charge → noticed c (slots.Shareable k) hand.dead ≡ dead
-    → client_freeing c i (slots.Shareable k) hand
-    ≡ record hand { owned = owned.ForFreeing i; trail = trail; freed = hand.freed + charge; freed_slots = hand.freed_slots + 1; dead = dead }
-freeing_is c i k hand trail charge dead trail_is charge_is dead_is = rw (trail_is, charge_is, dead_is) refl
+freeing_is : (c i : ℕ) (k : Resident) (work : Client) (trail : List ℕ) (charge : ℕ) (dead : List Stamp)
+    → k.trail ≡ trail → k.entry.charge ≡ charge → noticed c (slots.Shareable k) work.dead ≡ dead
+    → client_freeing c i (slots.Shareable k) work
+    ≡ record work { owned = owned.ForFreeing i; trail = trail; freed = work.freed + charge; freed_slots = work.freed_slots + 1; dead = dead }
+freeing_is c i k work trail charge dead trail_is charge_is dead_is = rw (trail_is, charge_is, dead_is) refl
 
 -- a free is allowed to one that owns nothing, where no other reference stands
 free_allowed : (w : State) (c i : ℕ) (name : Option ℕ) (found : Client) (k : Resident) → Lawful w
@@ -167,8 +167,8 @@ module _ {T : Type 0} (fits : T → Key → List ℕ → Type 0) (p : Plan T) wh
         }
 
     module _ (word : ℕ) (leaves : Leaves s r i name v k (records_left name v.records))
-        (word_is : word ≡ code_of (slots.Shareable k)) (idle : owns_nothing v.hand.owned ≡ true)
-        (back : v.hand.trail ≡ []) (named : IfSome name (λ x. x < 2 ^ 64)) (space : v.hand.freed + 2 ^ 32 ≤ 2 ^ 49) where
+        (word_is : word ≡ code_of (slots.Shareable k)) (idle : owns_nothing v.work.owned ≡ true)
+        (back : v.work.trail ≡ []) (named : IfSome name (λ x. x < 2 ^ 64)) (space : v.work.freed + 2 ^ 32 ≤ 2 ^ 49) where
       abbrev new : View T
       new = after_free p.geometry.slots i word name stamp made v
 
@@ -181,7 +181,7 @@ module _ {T : Type 0} (fits : T → Key → List ℕ → Type 0) (p : Plan T) wh
       abbrev reply : Reply
       reply = replies.Freed k.entry.charge
 
-      client : slice_get r.world.clients v.client ≡ Some v.hand
+      client : slice_get r.world.clients v.client ≡ Some v.work
       client = client_is fits p s r id v at seated
 
       -- no record is left on the slot
@@ -202,21 +202,21 @@ module _ {T : Type 0} (fits : T → Key → List ℕ → Type 0) (p : Plan T) wh
           let both = total-two (held i (λ j. 1)) s.views j id u v other at_u at in
           omega arith
 
-      becomes : client_freeing v.client i (slots.Shareable k) v.hand ≡ new.hand
+      becomes : client_freeing v.client i (slots.Shareable k) v.work ≡ new.work
       becomes =
           let dead = dead_told p.tag r.world r.books s.views id i v (slots.Shareable k) (is_lawful r.world r.lawful) r.references r.seats (r.holding id v at).recorded at seated at_slot in
-          freeing_is v.client i k v.hand (trail_to p.geometry.slots made.key i) made.charge (joined v.hand.dead (found_dead i word v)) trail_is charge_is
-          (ap (joined v.hand.dead) (sym (ap (λ z. found_dead i z v) word_is ∙ dead)))
+          freeing_is v.client i k v.work (trail_to p.geometry.slots made.key i) made.charge (joined v.work.dead (found_dead i word v)) trail_is charge_is
+          (ap (joined v.work.dead) (sym (ap (λ z. found_dead i z v) word_is ∙ dead)))
 
-      pub free_turn : Turn fits p s r id i v new (slots.Shareable k) left event reply
-      free_turn = record {
+      pub freed_step : SlotStep fits p s r id i v new (slots.Shareable k) left event reply
+      freed_step = record {
         at_view = at;
         at_slot = at_slot;
         seated = seated;
         same = record { tag = refl; client = refl; others = refl; turns = refl };
         live = live_is fits p s r id v at seated;
-        allowed = by_hand r.world event reply i v.client left (client_freeing v.client i (slots.Shareable k) v.hand) new.hand becomes
-            (free_allowed r.world v.client i name v.hand k (is_lawful r.world r.lawful) at_slot client (live_is fits p s r id v at seated) idle back leaves.alone named);
+        allowed = by_client r.world event reply i v.client left (client_freeing v.client i (slots.Shareable k) v.work) new.work becomes
+            (free_allowed r.world v.client i name v.work k (is_lawful r.world r.lawful) at_slot client (live_is fits p s r id v at seated) idle back leaves.alone named);
         grows = λ n m listed. listed;
         stored = λ entry is. cc;
         drafted = record {
@@ -238,12 +238,12 @@ module _ {T : Type 0} (fits : T → Key → List ℕ → Type 0) (p : Plan T) wh
         occupancy = omega arith;
         standing = refl;
         modest =
-            let old = r.ledgers.modest v.client v.hand client in
+            let old = r.ledgers.modest v.client v.work client in
             let small = right.small in
             record { asked = old.asked; freed = omega arith; few = old.few; small = old.small };
         passed = λ j.
             let trail = ap (times j) trail_is in
-            let none : times j v.hand.trail ≡ 0 = ap (times j) back in
+            let none : times j v.work.trail ≡ 0 = ap (times j) back in
             omega arith;
         trailed = tt;
       }
@@ -251,11 +251,11 @@ module _ {T : Type 0} (fits : T → Key → List ℕ → Type 0) (p : Plan T) wh
   -- The exchange keeps the rule, and tells whether it took the slot.
   pub free_step : (count id i a old : ℕ) (name : Option ℕ) (me : Held T) → i < p.geometry.slots
       → is_seated me.0 ≡ true → a ≡ field_at p.geometry.room i META → is_shareable old ≡ true
-      → IsLast i old name me.0 → owns_nothing me.0.hand.owned ≡ true → me.0.hand.trail ≡ []
-      → me.0.hand.freed + 2 ^ 32 ≤ 2 ^ 49
+      → IsLast i old name me.0 → owns_nothing me.0.work.owned ≡ true → me.0.work.trail ≡ []
+      → me.0.work.freed + 2 ^ 32 ≤ 2 ^ 49
       → Allows (Holds fits p) count id me a (λ y. either (y == old) CONSTRUCTION_WORD y)
       (frees fits p.geometry.slots p.geometry.room i name (step count a old CONSTRUCTION_WORD none) me)
-  free_step count id i a old name me near seated place entry last idle back space s r homes at low =
+  free_step count id i a old name me near seated address entry last idle back space s r homes at low =
       let slot = slot_there fits p s r i near in
       by slot.0 slot.1 (slice_index s.words a == old) refl
     where
@@ -269,7 +269,7 @@ module _ {T : Type 0} (fits : T → Key → List ℕ → Type 0) (p : Plan T) wh
       at_view = read_at s.views id me.0 at
 
       word_is : (t : Slot) → slice_get r.world.slots i ≡ Some t → word ≡ code_of t
-      word_is t at_slot = ap (slice_index s.words) place ∙ r.coded.meta i t at_slot
+      word_is t at_slot = ap (slice_index s.words) address ∙ r.coded.meta i t at_slot
 
       named : (o : Option ℕ) → IsLast i old o me.0 → IfSome o (λ x. x < 2 ^ 64)
       named None h = tt
@@ -322,8 +322,8 @@ module _ {T : Type 0} (fits : T → Key → List ℕ → Type 0) (p : Plan T) wh
           cc
       takes (slots.Shareable k) at_slot same is =
           goes fits p s r a CONSTRUCTION_WORD id i me (after_free p.geometry.slots i word name k.entry.stamp stored.made me.0) (slots.Shareable k) (slots.Building me.0.client 0)
-          (events.Free me.0.client i name) (replies.Freed k.entry.charge) then place exchange_to_construction
-          (free_turn s r id i name me.0 k at_view seated at_slot word
+          (events.Free me.0.client i name) (replies.Freed k.entry.charge) then address exchange_to_construction
+          (freed_step s r id i name me.0 k at_view seated at_slot word
           (leaving k at_slot refs name last) (word_is (slots.Shareable k) at_slot) idle back (named name last) space) (
             refl,
             record {
@@ -349,4 +349,4 @@ module _ {T : Type 0} (fits : T → Key → List ℕ → Type 0) (p : Plan T) wh
       by : (t : Slot) → slice_get r.world.slots i ≡ Some t → (b : Bool) → (word == old) ≡ b → Goes fits p s a (either b CONSTRUCTION_WORD word) id me then
       by t at_slot true is = takes t at_slot (sym (word_is t at_slot) ∙ eqb-true word old is) is
       by t at_slot false is =
-          looks_on fits p s r id i a me t then at_slot seated place at_view (refl, record { won = λ yes. let bad : true ≡ false = sym yes ∙ is in cc; lost = λ no. refl })
+          looks_on fits p s r id i a me t then at_slot seated address at_view (refl, record { won = λ yes. let bad : true ≡ false = sym yes ∙ is in cc; lost = λ no. refl })

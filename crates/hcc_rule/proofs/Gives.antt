@@ -35,8 +35,8 @@ use Rattle.hcc_rule.proofs.Codes.{is_near}
 use Rattle.hcc_rule.proofs.Findings.{dropped_each}
 use Rattle.hcc_rule.proofs.Looks.{client_fits}
 use Rattle.hcc_rule.proofs.OnEntries.{OnEntry, on_some, name_held, reference_there, code_there, dead_there}
-use Rattle.hcc_rule.proofs.Turns.{Shard}
-use Rattle.hcc_rule.proofs.Touches.{by_hand, touched, Goes, goes, client_is, live_is}
+use Rattle.hcc_rule.proofs.SlotSteps.{Shard}
+use Rattle.hcc_rule.proofs.Touches.{by_client, touched, Goes, goes, client_is, live_is}
 
 -- the records of a view without one of them weigh so much less, by any weighing
 held_less : {T : Type 0} (i x : ℕ) (v new : View T) (q : Record) (h : Reference → ℕ)
@@ -111,8 +111,8 @@ module _ {T : Type 0} (fits : T → Key → List ℕ → Type 0) (p : Plan T) wh
       → OnEntry fits p s r id i x me.0 q k → q.weight ≡ n → x < 2 ^ 64 → a ≡ field_at p.geometry.room i META
       → (IsReferenced n (slice_index s.words a) → then (slice_index s.words a) (after_give i x (slice_index s.words a) me.0, me.1))
       → Goes fits p s a ((slice_index s.words a + (2 ^ 64 - n)) % 2 ^ 64) id me then
-  gives_on s r id i x a n me q k then o weighs small place told =
-      goes fits p s r a ((word + (2 ^ 64 - n)) % 2 ^ 64) id i me new t left event reply then place code
+  gives_on s r id i x a n me q k then o weighs small address told =
+      goes fits p s r a ((word + (2 ^ 64 - n)) % 2 ^ 64) id i me new t left event reply then address code
       (touched fits p s r id i me.0 new t left event reply record {
         at_view = o.at_view;
         at_slot = o.at_slot;
@@ -120,8 +120,8 @@ module _ {T : Type 0} (fits : T → Key → List ℕ → Type 0) (p : Plan T) wh
         same = record { tag = refl; client = refl; others = refl; turns = refl };
         work = refl;
         store = record { written = refl; made = refl; takings = refl };
-        allowed = by_hand r.world event reply i me.0.client left (client_noticed me.0.client t me.0.hand) new.hand becomes
-            (give_allowed r.world me.0.client x i me.0.hand t l small (name_held fits p s r id i x me.0 q k o) o.at_slot (client_is fits p s r id me.0 o.at_view o.seated) (live_is fits p s r id me.0 o.at_view o.seated));
+        allowed = by_client r.world event reply i me.0.client left (client_noticed me.0.client t me.0.work) new.work becomes
+            (give_allowed r.world me.0.client x i me.0.work t l small (name_held fits p s r id i x me.0 q k o) o.at_slot (client_is fits p s r id me.0 o.at_view o.seated) (live_is fits p s r id me.0 o.at_view o.seated));
         like = record { entry = refl; trail = refl };
         here = loses s r id i x me.0 q k o (dropped (is_named me.0.client x) k.references) new refl refl refl;
         elsewhere = loses_no_other s r id i x me.0 q k o new refl refl;
@@ -151,7 +151,7 @@ module _ {T : Type 0} (fits : T → Key → List ℕ → Type 0) (p : Plan T) wh
       new = after_give i x word me.0
 
       word_is : word ≡ code_of t
-      word_is = code_there fits p s r id i x me.0 q k o a place
+      word_is = code_there fits p s r id i x me.0 q k o a address
 
       code : (word + (2 ^ 64 - n)) % 2 ^ 64 ≡ code_of left
       code =
@@ -159,7 +159,7 @@ module _ {T : Type 0} (fits : T → Key → List ℕ → Type 0) (p : Plan T) wh
           ap (λ y. (y + (2 ^ 64 - n)) % 2 ^ 64) word_is
           ∙ take_acquires-shareable k.hit k.shown (is_near r.world l i k o.at_slot) n (weight (dropped (is_named me.0.client x) k.references)) (omega arith)
 
-      becomes : client_noticed me.0.client t me.0.hand ≡ new.hand
+      becomes : client_noticed me.0.client t me.0.work ≡ new.work
       becomes = rw (word_is, dead_there fits p s r id i x me.0 q k o) refl
 
   -- A give keeps the rule, and tells what it found.
@@ -167,7 +167,7 @@ module _ {T : Type 0} (fits : T → Key → List ℕ → Type 0) (p : Plan T) wh
       → a ≡ field_at p.geometry.room i META
       → IsSomeAnd (record_in x me.0.records) (λ q. (q.slot ≡ i) × (q.weight ≡ n))
       → Allows (Holds fits p) count id me a (λ y. (y + (2 ^ 64 - n)) % 2 ^ 64) (gives i x (step count a n 0 none) me)
-  give_step count id i x a n me seated small place so s r homes at low = by (record_in x me.0.records) refl so
+  give_step count id i x a n me seated small address so s r homes at low = by (record_in x me.0.records) refl so
     where
       then : ℕ → Held T → Type 0
       then = gives i x (step count a n 0 none) me
@@ -177,4 +177,4 @@ module _ {T : Type 0} (fits : T → Key → List ℕ → Type 0) (p : Plan T) wh
       by None called so = absurd so
       by (Some q) called so =
           let there = on_some fits p s r id i x me.0 q (read_at s.views id me.0 at) seated called so.0 in
-          gives_on s r id i x a n me q there.0 then there.1 so.1 small place (λ told. (refl, refl, told))
+          gives_on s r id i x a n me q there.0 then there.1 so.1 small address (λ told. (refl, refl, told))

@@ -45,7 +45,7 @@ module _ {T : Type 0} where
         dead = joined h.dead dead;
       } in
       let with_freed : ℕ → Client =
-      λ n. record (took (carrying new_client before.hand)) { freed = n } in (
+      λ n. record (took (carrying new_client before.work)) { freed = n } in (
         won.0,
         won.1,
         record {

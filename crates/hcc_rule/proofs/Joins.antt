@@ -29,7 +29,7 @@ use Rattle.hcc_rule.proofs.ViewParts.{when_few, names_own, unnamed, seated_else,
 use Rattle.hcc_rule.proofs.WorldParts.{hand_same}
 use Rattle.hcc_rule.proofs.Looks.{client_fits}
 use Rattle.hcc_rule.proofs.Splits.{total_started}
-use Rattle.hcc_rule.proofs.Turns.{Shard}
+use Rattle.hcc_rule.proofs.SlotSteps.{Shard}
 use Rattle.hcc_rule.proofs.Touches.{stamps_are}
 
 -- no member passes where none of them does
@@ -52,9 +52,9 @@ module _ {T : Type 0} (fits : T → Key → List ℕ → Type 0) (p : Plan T) wh
   -- The second seat's client has nothing in hand and holds nothing.
   module _ (s : Shard fits p) (r : Holds fits p s) (id other : ℕ) (v w : View T)
       (at : slice_get s.views id ≡ Some v) (apart : other ≢ id) (there : slice_get s.views other ≡ Some w)
-      (seated : is_seated v ≡ true) (sits : is_seated w ≡ true) (idle : IsIdle w.hand) (free : w.records ≡ []) where
+      (seated : is_seated v ≡ true) (sits : is_seated w ≡ true) (idle : IsIdle w.work) (free : w.records ≡ []) where
     abbrev new : Client
-    new = resting w.made w.hand.dead
+    new = resting w.made w.work.dead
 
     abbrev both : View T
     both = joined_view v w
@@ -74,8 +74,8 @@ module _ {T : Type 0} (fits : T → Key → List ℕ → Type 0) (p : Plan T) wh
     second : IsSeated p.tag r.world.clients r.books w
     second = r.seats.each other w there
 
-    was : slice_get r.world.clients w.client ≡ Some w.hand
-    was = second.hand sits
+    was : slice_get r.world.clients w.client ≡ Some w.work
+    was = second.work sits
 
     still_there : slice_get (slice_set s.views id both) other ≡ Some w
     still_there = read_other s.views id other both apart ∙ there
@@ -89,17 +89,17 @@ module _ {T : Type 0} (fits : T → Key → List ℕ → Type 0) (p : Plan T) wh
     holds_none : holds_nothing r.world.slots w.client ≡ true
     holds_none = ap not (none_passes (has_client w.client) r.world.slots no_references)
 
-    idle_now : is_idle w.hand ≡ true
+    idle_now : is_idle w.work ≡ true
     idle_now = rw idle refl
 
-    left_idle : record w.hand { live = false; looked = None } ≡ new
-    left_idle = rw idle (ap (λ n. record new_client { stamps = n; dead = w.hand.dead }) (stamps_are fits p s r other w there sits))
+    left_idle : record w.work { live = false; looked = None } ≡ new
+    left_idle = rw idle (ap (λ n. record new_client { stamps = n; dead = w.work.dead }) (stamps_are fits p s r other w there sits))
 
     ends : outcome_of r.world (events.End w.client) ≡ Ok (replies.Ok, after)
     unfolding outcome_of end_of
     ends =
         rw (
-          client_fits r.world w.client (is_lawful r.world r.lawful) (within r.world.clients w.client w.hand was),
+          client_fits r.world w.client (is_lawful r.world r.lawful) (within r.world.clients w.client w.work was),
           was,
           second.live sits,
           idle_now,
@@ -140,19 +140,19 @@ module _ {T : Type 0} (fits : T → Key → List ℕ → Type 0) (p : Plan T) wh
         let none = not_named id v first_apart at in
         record {
           tagged = first.tagged;
-          hand = λ still. read_other r.world.clients w.client v.client new (seated_else w.client v seated none) ∙ first.hand seated;
+          work = λ still. read_other r.world.clients w.client v.client new (seated_else w.client v seated none) ∙ first.work seated;
           live = first.live;
           book = first.book;
           others = each_append (IsNamed after.clients r.books) v.others (as_other w ∷ w.others)
               (still_named v.others (omega arith) first.others)
-              (record { there = read_here r.world.clients w.client w.hand new was; book = second.book sits }, still_named w.others not_listed second.others);
+              (record { there = read_here r.world.clients w.client w.work new was; book = second.book sits }, still_named w.others not_listed second.others);
           spent = λ gone. let bad : is_seated v ≡ false = ap is_some gone in cc;
         }
 
     spent_seated : IsSeated p.tag after.clients r.books spent_view
     spent_seated = record {
       tagged = tt;
-      hand = λ still. cc;
+      work = λ still. cc;
       live = λ still. cc;
       book = λ still. cc;
       others = tt;
@@ -165,7 +165,7 @@ module _ {T : Type 0} (fits : T → Key → List ℕ → Type 0) (p : Plan T) wh
         let theirs_was = r.seats.each j u at_u in
         record {
           tagged = theirs_was.tagged;
-          hand = λ still. read_other r.world.clients w.client u.client new (seated_else w.client u still none) ∙ theirs_was.hand still;
+          work = λ still. read_other r.world.clients w.client u.client new (seated_else w.client u still none) ∙ theirs_was.work still;
           live = theirs_was.live;
           book = theirs_was.book;
           others = still_named u.others (omega arith) theirs_was.others;
@@ -228,9 +228,9 @@ module _ {T : Type 0} (fits : T → Key → List ℕ → Type 0) (p : Plan T) wh
 
     ledgers : Ledgers p.geometry.slots p.geometry.room after s.words
     ledgers = record {
-      usage = let same = total_started charged_to r.world.clients w.client w.hand new was (rw idle refl) in let is = r.ledgers.usage in omega arith;
-      occupancy = let same = total_started occupied_by r.world.clients w.client w.hand new was (rw idle refl) in let is = r.ledgers.occupancy in omega arith;
-      standing = let same = total_started standing_of r.world.clients w.client w.hand new was (rw idle refl) in let is = r.ledgers.standing in omega arith;
+      usage = let same = total_started charged_to r.world.clients w.client w.work new was (rw idle refl) in let is = r.ledgers.usage in omega arith;
+      occupancy = let same = total_started occupied_by r.world.clients w.client w.work new was (rw idle refl) in let is = r.ledgers.occupancy in omega arith;
+      standing = let same = total_started standing_of r.world.clients w.client w.work new was (rw idle refl) in let is = r.ledgers.standing in omega arith;
       modest = each_set (λ c client. IsModest client) r.world.clients w.client new
           record { asked = omega arith; freed = omega arith; few = omega arith; small = tt }
           (λ c client away at_c. r.ledgers.modest c client at_c);
@@ -239,7 +239,7 @@ module _ {T : Type 0} (fits : T → Key → List ℕ → Type 0) (p : Plan T) wh
     trails : Trails p.geometry.slots p.geometry.room after.slots after.clients s.words
     trails = record {
       passed = λ j near.
-          let same = total_started (λ (c : Client). times j c.trail) r.world.clients w.client w.hand new was (rw idle refl) in
+          let same = total_started (λ (c : Client). times j c.trail) r.world.clients w.client w.work new was (rw idle refl) in
           let is = r.trails.passed j near in
           omega arith;
       entries = r.trails.entries;
@@ -273,7 +273,7 @@ module _ {T : Type 0} (fits : T → Key → List ℕ → Type 0) (p : Plan T) wh
       turns = r.turns ∙ hand_same s.views views (total_joined (λ (u : View T). u.turns) s.views id other v w both spent at still_there (omega arith));
     }
 
-  pub joins : (id other : ℕ) (v w : View T) → is_seated v ≡ true → is_seated w ≡ true → IsIdle w.hand → w.records ≡ []
+  pub joins : (id other : ℕ) (v w : View T) → is_seated v ≡ true → is_seated w ≡ true → IsIdle w.work → w.records ≡ []
       → table.Joins (Holds fits p) id v other w (joined_view v w) spent_view
   joins id other v w seated sits idle free s r at apart there =
       join_holds s r id other v w (read_at s.views id v at) apart

@@ -12,7 +12,7 @@ use Rattle.hcc_core.specs.declared.state.Place.TheVariants as places
 use Rattle.hcc_core.specs.declared.state.Slot.{Slot}
 use Rattle.hcc_core.specs.declared.state.Standalone.{Standalone}
 use Rattle.hcc_core.specs.World.{State, usage_of, occupancy_of, standing_in, passed_at, limit_of, is_placed}
-use Rattle.hcc_core.specs.Steps.{with_client, outcome_of, fits as in_bits, usage_told, occupancy_told, standing_told, turn_of, grant_of, may_charge, may_settle, waive_of, enter_of, slots_of, place_granted, quit_of, stand_of, is_standing, dropped, count_of, pass_of, unpass_of, is_place}
+use Rattle.hcc_core.specs.Steps.{with_client, outcome_of, fits as in_bits, usage_told, occupancy_told, standing_told, turn_of, grant_of, may_charge, may_settle, waive_of, enter_of, slots_of, place_granted, quit_of, stand_of, is_standing, dropped, count_of, pass_of, unpass_of, is_slot}
 use Rattle.hcc_core.specs.Lawful.{Lawful}
 use Rattle.hcc_core.proofs.ListLemmas.{set_same}
 use Rattle.hcc_core.proofs.StepLemmas.{charge_gives, settle_gives, fall_gives}
@@ -138,8 +138,8 @@ module _ (w : State) (c : ℕ) (found : Client) (l : Lawful w) (at : slice_get w
       rw (c_fits, slot_fits w i l (within w.slots i t at_slot), at_slot, at, live, lt-ltb (length found.trail) w.setup.slots room) refl
 
   pub unpass_gives : (i : ℕ) (t : Slot) → slice_get w.slots i ≡ Some t
-      → list_any (is_place i) found.trail ≡ true
-      → outcome_of w (events.Unpass c i) ≡ Ok (replies.Ok, with_client w c (record found { trail = dropped (is_place i) found.trail }))
+      → list_any (is_slot i) found.trail ≡ true
+      → outcome_of w (events.Unpass c i) ≡ Ok (replies.Ok, with_client w c (record found { trail = dropped (is_slot i) found.trail }))
   unfolding outcome_of unpass_of
   unpass_gives i t at_slot passed =
       rw (c_fits, slot_fits w i l (within w.slots i t at_slot), at_slot, at, live, passed) refl

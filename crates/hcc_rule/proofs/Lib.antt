@@ -6,7 +6,7 @@ pub mod Addresses
 pub mod WordParts
 pub mod ViewParts
 pub mod WorldParts
-pub mod Turns
+pub mod SlotSteps
 pub mod Codes
 pub mod Clients
 pub mod Touches
@@ -19,13 +19,13 @@ pub mod Findings
 pub mod References
 pub mod OnEntries
 pub mod Gives
-pub mod Releases
+pub mod Spends
 pub mod Marks
 pub mod Exchanges
 pub mod Reaches
 pub mod Acquires
 pub mod ClientParts
-pub mod LedgerTurns
+pub mod LedgerSteps
 pub mod LedgerGives
 pub mod Bounds
 pub mod Asides

@@ -13,7 +13,7 @@ use Rattle.hcc_rule.specs.Rule.{setup_of, Holds}
 use Rattle.hcc_rule.proofs.Asides.{law_is, usage_low}
 use Rattle.hcc_rule.proofs.Bounds.{occupancy_near}
 use Rattle.hcc_rule.proofs.StandingSteps.{standing_used}
-use Rattle.hcc_rule.proofs.Turns.{Shard}
+use Rattle.hcc_rule.proofs.SlotSteps.{Shard}
 
 -- what is charged to clients is their real charge with what they still need
 charged_real : (clients : List Client)

@@ -31,8 +31,8 @@ use Rattle.hcc_rule.specs.Rule.{Holds, entry_in, IsRecorded}
 use Rattle.hcc_rule.proofs.Lists.{within, there, read_at, each_map}
 use Rattle.hcc_rule.proofs.Codes.{tells_entry, is_near}
 use Rattle.hcc_rule.proofs.Clients.{dead_told}
-use Rattle.hcc_rule.proofs.Turns.{Shard, size_is}
-use Rattle.hcc_rule.proofs.Touches.{by_hand, touched, Goes, goes, client_is, live_is}
+use Rattle.hcc_rule.proofs.SlotSteps.{Shard, size_is}
+use Rattle.hcc_rule.proofs.Touches.{by_client, touched, Goes, goes, client_is, live_is}
 use Rattle.std.specs.List.{list_any}
 use Rattle.hcc_core.specs.declared.state.Entry.{Entry}
 use Rattle.hcc_rule.specs.declared.view.Record.{Record}
@@ -85,8 +85,8 @@ module _ {T : Type 0} (fits : T → Key → List ℕ → Type 0) (p : Plan T) wh
       → slice_get s.views id ≡ Some me.0
       → then (slice_index s.words a) (after_look i (slice_index s.words a) me.0, me.1)
       → Goes fits p s a (slice_index s.words a) id me then
-  looks_on s r id i a me t then at_slot seated place at told =
-      goes fits p s r a word id i me new t t event reply then place word_is
+  looks_on s r id i a me t then at_slot seated address at told =
+      goes fits p s r a word id i me new t t event reply then address word_is
       (touched fits p s r id i me.0 new t t event reply record {
         at_view = at;
         at_slot = at_slot;
@@ -94,8 +94,8 @@ module _ {T : Type 0} (fits : T → Key → List ℕ → Type 0) (p : Plan T) wh
         same = record { tag = refl; client = refl; others = refl; turns = refl };
         work = refl;
         store = record { written = refl; made = refl; takings = refl };
-        allowed = by_hand r.world event reply i me.0.client t (client_looked me.0.client i t me.0.hand) new.hand becomes
-            (look_gives r.world me.0.client i me.0.hand t l at_slot (client_is fits p s r id me.0 at seated) (live_is fits p s r id me.0 at seated));
+        allowed = by_client r.world event reply i me.0.client t (client_looked me.0.client i t me.0.work) new.work becomes
+            (look_gives r.world me.0.client i me.0.work t l at_slot (client_is fits p s r id me.0 at seated) (live_is fits p s r id me.0 at seated));
         like = record { entry = refl; trail = refl };
         here = λ h. refl;
         elsewhere = λ j h other. refl;
@@ -119,9 +119,9 @@ module _ {T : Type 0} (fits : T → Key → List ℕ → Type 0) (p : Plan T) wh
       new = after_look i word me.0
 
       word_is : word ≡ code_of t
-      word_is = ap (slice_index s.words) place ∙ r.coded.meta i t at_slot
+      word_is = ap (slice_index s.words) address ∙ r.coded.meta i t at_slot
 
-      becomes : client_looked me.0.client i t me.0.hand ≡ new.hand
+      becomes : client_looked me.0.client i t me.0.work ≡ new.work
       becomes =
           let dead = dead_told p.tag r.world r.books s.views id i me.0 t l r.references r.seats (r.holding id me.0 at).recorded at seated at_slot in
           rw (word_is, dead, tells_entry r.world l i t at_slot) refl
@@ -184,7 +184,7 @@ module _ {T : Type 0} (fits : T → Key → List ℕ → Type 0) (p : Plan T) wh
   pub look_step : (count id i a : ℕ) (me : Held T) → i < p.geometry.slots → is_seated me.0 ≡ true
       → a ≡ field_at p.geometry.room i META
       → Allows (Holds fits p) count id me a (λ n. n) (looks i (step count a 0 0 none) me)
-  look_step count id i a me near seated place s r homes at low =
+  look_step count id i a me near seated address s r homes at low =
       let slot = slot_there s r i near in
-      looks_on s r id i a me slot.0 (looks i (step count a 0 0 none) me) slot.1 seated place (read_at s.views id me.0 at)
-      (refl, refl, backed s r id i (slice_index s.words a) me.0 slot.0 slot.1 (read_at s.views id me.0 at) (ap (slice_index s.words) place ∙ r.coded.meta i slot.0 slot.1))
+      looks_on s r id i a me slot.0 (looks i (step count a 0 0 none) me) slot.1 seated address (read_at s.views id me.0 at)
+      (refl, refl, backed s r id i (slice_index s.words a) me.0 slot.0 slot.1 (read_at s.views id me.0 at) (ap (slice_index s.words) address ∙ r.coded.meta i slot.0 slot.1))

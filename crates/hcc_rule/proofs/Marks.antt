@@ -36,8 +36,8 @@ use Rattle.hcc_rule.proofs.Lists.{within, read_at}
 use Rattle.hcc_rule.proofs.Codes.{is_near}
 use Rattle.hcc_rule.proofs.Looks.{client_fits}
 use Rattle.hcc_rule.proofs.OnEntries.{OnEntry, on_some, name_held, code_there, dead_there}
-use Rattle.hcc_rule.proofs.Turns.{Shard, SameName, Turn}
-use Rattle.hcc_rule.proofs.Touches.{by_hand, SameWork, SameStore, touched, Goes, goes, client_is, live_is}
+use Rattle.hcc_rule.proofs.SlotSteps.{Shard, SameName, SlotStep}
+use Rattle.hcc_rule.proofs.Touches.{by_client, SameWork, SameStore, touched, Goes, goes, client_is, live_is}
 
 -- a hide is allowed where the client holds the name
 hide_allowed : (w : State) (c x i : ℕ) (found : Client) (t : Slot) → Lawful w → x < 2 ^ 64
@@ -62,10 +62,10 @@ module _ {T : Type 0} (fits : T → Key → List ℕ → Type 0) (p : Plan T) wh
   -- A step that leaves the slot's references, and the records of the view.
   pub rested : (s : Shard fits p) (r : Holds fits p s) (id i : ℕ) (v new : View T) (k left : Resident) (event : Event) (reply : Reply)
       → slice_get s.views id ≡ Some v → slice_get r.world.slots i ≡ Some (slots.Shareable k) → is_seated v ≡ true
-      → SameName fits p v new → SameWork v.hand new.hand → SameStore v new → new.records ≡ v.records
+      → SameName fits p v new → SameWork v.work new.work → SameStore v new → new.records ≡ v.records
       → left.entry ≡ k.entry → left.trail ≡ k.trail → left.references ≡ k.references
-      → outcome_of r.world event ≡ Ok (reply, with_both r.world i (slots.Shareable left) v.client new.hand)
-      → Turn fits p s r id i v new (slots.Shareable k) (slots.Shareable left) event reply
+      → outcome_of r.world event ≡ Ok (reply, with_both r.world i (slots.Shareable left) v.client new.work)
+      → SlotStep fits p s r id i v new (slots.Shareable k) (slots.Shareable left) event reply
   rested s r id i v new k left event reply at at_slot seated same work store records entry trail refs allowed =
       touched fits p s r id i v new (slots.Shareable k) (slots.Shareable left) event reply record {
         at_view = at;
@@ -90,12 +90,12 @@ module _ {T : Type 0} (fits : T → Key → List ℕ → Type 0) (p : Plan T) wh
       → OnEntry fits p s r id i x me.0 q k → x < 2 ^ 64 → a ≡ field_at p.geometry.room i META
       → (is_shareable (slice_index s.words a) ≡ true → then (slice_index s.words a) (after_hide x (slice_index s.words a) me.0, me.1))
       → Goes fits p s a (bit_and (slice_index s.words a) HIDING_MASK) id me then
-  hides_on s r id i x a me q k then o small place told =
-      goes fits p s r a (bit_and word HIDING_MASK) id i me new t left event reply then place code
+  hides_on s r id i x a me q k then o small address told =
+      goes fits p s r a (bit_and word HIDING_MASK) id i me new t left event reply then address code
       (rested s r id i me.0 new k (record k { shown = false }) event reply o.at_view o.at_slot o.seated
       record { tag = refl; client = refl; others = refl; turns = refl } refl record { written = refl; made = refl; takings = refl } refl refl refl refl
-      (by_hand r.world event reply i me.0.client left (client_noticed me.0.client left me.0.hand) new.hand becomes
-      (hide_allowed r.world me.0.client x i me.0.hand t l small holds o.at_slot (client_is fits p s r id me.0 o.at_view o.seated) (live_is fits p s r id me.0 o.at_view o.seated))))
+      (by_client r.world event reply i me.0.client left (client_noticed me.0.client left me.0.work) new.work becomes
+      (hide_allowed r.world me.0.client x i me.0.work t l small holds o.at_slot (client_is fits p s r id me.0 o.at_view o.seated) (live_is fits p s r id me.0 o.at_view o.seated))))
       (told (ap is_shareable word_is ∙ is_shareable-shareable k.hit k.shown near))
     where
       l : Lawful r.world
@@ -123,7 +123,7 @@ module _ {T : Type 0} (fits : T → Key → List ℕ → Type 0) (p : Plan T) wh
       new = after_hide x word me.0
 
       word_is : word ≡ code_of t
-      word_is = code_there fits p s r id i x me.0 q k o a place
+      word_is = code_there fits p s r id i x me.0 q k o a address
 
       holds : slot_holding r.world.slots me.0.client x ≡ Some i
       holds = name_held fits p s r id i x me.0 q k o
@@ -131,7 +131,7 @@ module _ {T : Type 0} (fits : T → Key → List ℕ → Type 0) (p : Plan T) wh
       code : bit_and word HIDING_MASK ≡ code_of left
       code = ap (λ y. bit_and y HIDING_MASK) word_is ∙ and_hide-shareable k.hit k.shown near
 
-      becomes : client_noticed me.0.client left me.0.hand ≡ new.hand
+      becomes : client_noticed me.0.client left me.0.work ≡ new.work
       becomes =
           rw (dead_hidden me.0.client t (held_has_client r.world.slots me.0.client x i t holds o.at_slot), o.called, o.entry) refl
 
@@ -139,7 +139,7 @@ module _ {T : Type 0} (fits : T → Key → List ℕ → Type 0) (p : Plan T) wh
       → a ≡ field_at p.geometry.room i META
       → IsSomeAnd (record_in x me.0.records) (λ q. q.slot ≡ i)
       → Allows (Holds fits p) count id me a (λ y. bit_and y HIDING_MASK) (hides x (step count a HIDING_MASK 0 none) me)
-  hide_step count id i x a me seated small place so s r homes at low = by (record_in x me.0.records) refl so
+  hide_step count id i x a me seated small address so s r homes at low = by (record_in x me.0.records) refl so
     where
       then : ℕ → Held T → Type 0
       then = hides x (step count a HIDING_MASK 0 none) me
@@ -149,19 +149,19 @@ module _ {T : Type 0} (fits : T → Key → List ℕ → Type 0) (p : Plan T) wh
       by None called so = absurd so
       by (Some q) called so =
           let there = on_some fits p s r id i x me.0 q (read_at s.views id me.0 at) seated called so in
-          hides_on s r id i x a me q there.0 then there.1 small place (λ told. (refl, refl, told))
+          hides_on s r id i x a me q there.0 then there.1 small address (λ told. (refl, refl, told))
 
   -- The entry is marked.
   marks_on : (s : Shard fits p) (r : Holds fits p s) (id i x a : ℕ) (me : Held T) (q : Record) (k : Resident) (then : ℕ → Held T → Type 0)
       → OnEntry fits p s r id i x me.0 q k → x < 2 ^ 64 → a ≡ field_at p.geometry.room i META
       → (is_shareable (slice_index s.words a) ≡ true → then (slice_index s.words a) (noticing i (slice_index s.words a) me.0, me.1))
       → Goes fits p s a (bit_or (slice_index s.words a) HIT_BIT) id me then
-  marks_on s r id i x a me q k then o small place told =
-      goes fits p s r a (bit_or word HIT_BIT) id i me new t left event replies.Ok then place code
+  marks_on s r id i x a me q k then o small address told =
+      goes fits p s r a (bit_or word HIT_BIT) id i me new t left event replies.Ok then address code
       (rested s r id i me.0 new k (record k { hit = true }) event replies.Ok o.at_view o.at_slot o.seated
       record { tag = refl; client = refl; others = refl; turns = refl } refl record { written = refl; made = refl; takings = refl } refl refl refl refl
-      (by_hand r.world event replies.Ok i me.0.client left (client_noticed me.0.client t me.0.hand) new.hand becomes
-      (mark_allowed r.world me.0.client x i me.0.hand t l small (name_held fits p s r id i x me.0 q k o) o.at_slot (client_is fits p s r id me.0 o.at_view o.seated) (live_is fits p s r id me.0 o.at_view o.seated))))
+      (by_client r.world event replies.Ok i me.0.client left (client_noticed me.0.client t me.0.work) new.work becomes
+      (mark_allowed r.world me.0.client x i me.0.work t l small (name_held fits p s r id i x me.0 q k o) o.at_slot (client_is fits p s r id me.0 o.at_view o.seated) (live_is fits p s r id me.0 o.at_view o.seated))))
       (told (ap is_shareable word_is ∙ is_shareable-shareable k.hit k.shown near))
     where
       l : Lawful r.world
@@ -186,19 +186,19 @@ module _ {T : Type 0} (fits : T → Key → List ℕ → Type 0) (p : Plan T) wh
       new = noticing i word me.0
 
       word_is : word ≡ code_of t
-      word_is = code_there fits p s r id i x me.0 q k o a place
+      word_is = code_there fits p s r id i x me.0 q k o a address
 
       code : bit_or word HIT_BIT ≡ code_of left
       code = ap (λ y. bit_or y HIT_BIT) word_is ∙ or_hit-shareable k.hit k.shown near
 
-      becomes : client_noticed me.0.client t me.0.hand ≡ new.hand
+      becomes : client_noticed me.0.client t me.0.work ≡ new.work
       becomes = rw (word_is, dead_there fits p s r id i x me.0 q k o) refl
 
   pub mark_step : (count id i x a : ℕ) (me : Held T) → is_seated me.0 ≡ true → x < 2 ^ 64
       → a ≡ field_at p.geometry.room i META
       → IsSomeAnd (record_in x me.0.records) (λ q. q.slot ≡ i)
       → Allows (Holds fits p) count id me a (λ y. bit_or y HIT_BIT) (marks i (step count a HIT_BIT 0 none) me)
-  mark_step count id i x a me seated small place so s r homes at low = by (record_in x me.0.records) refl so
+  mark_step count id i x a me seated small address so s r homes at low = by (record_in x me.0.records) refl so
     where
       then : ℕ → Held T → Type 0
       then = marks i (step count a HIT_BIT 0 none) me
@@ -208,4 +208,4 @@ module _ {T : Type 0} (fits : T → Key → List ℕ → Type 0) (p : Plan T) wh
       by None called so = absurd so
       by (Some q) called so =
           let there = on_some fits p s r id i x me.0 q (read_at s.views id me.0 at) seated called so in
-          marks_on s r id i x a me q there.0 then there.1 small place (λ told. (refl, refl, told))
+          marks_on s r id i x a me q there.0 then there.1 small address (λ told. (refl, refl, told))

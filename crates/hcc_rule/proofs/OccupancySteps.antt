@@ -27,10 +27,10 @@ use Rattle.hcc_rule.proofs.Bounds.{occupancy_small, occupancy_beside}
 use Rattle.hcc_rule.proofs.Limits.{occupancy_limit}
 use Rattle.hcc_rule.proofs.Alone.{occupancy_alone}
 use Rattle.hcc_rule.proofs.Different.{places_within}
-use Rattle.hcc_rule.proofs.LedgerTurns.{on_occupancy, Pays}
+use Rattle.hcc_rule.proofs.LedgerSteps.{on_occupancy, Pays}
 use Rattle.hcc_rule.proofs.LedgerGives.{entered, occupancy_gives, enter_gives, slots_gives, quit_gives}
 use Rattle.hcc_rule.proofs.Asides.{pays_at, modest_is, law_is, goes_by}
-use Rattle.hcc_rule.proofs.Turns.{Shard}
+use Rattle.hcc_rule.proofs.SlotSteps.{Shard}
 use Rattle.hcc_rule.proofs.Touches.{client_is, live_is}
 
 -- what a client has of places and slots, with the entries of these records, each once
@@ -71,23 +71,23 @@ module _ {T : Type 0} (fits : T → Key → List ℕ → Type 0) (p : Plan T) (c
     occupied_told : slice_get s.views id ≡ Some me.0 → Occupied (setup_of p) me.0 (slice_index s.words a)
     occupied_told at = record {
       entries = rw found_occupancy
-          (occupied_beside r.world me.0.client me.0.hand (client_is fits p s r id me.0 at seated) me.0.records (r.holding id me.0 at).recorded);
+          (occupied_beside r.world me.0.client me.0.work (client_is fits p s r id me.0 at seated) me.0.records (r.holding id me.0 at).recorded);
       low = rw place (occupancy_limit fits p s r);
       alone = λ one. rw found_occupancy (occupancy_alone fits p s r id me.0 at seated one);
     }
 
     -- what is paid by a client of which the place and the freed slots alone change
-    paid_occupancy : (y : ℕ) (new : Client) → y + occupied_by me.0.hand ≡ slice_index s.words a + occupied_by new
-        → new ≡ record me.0.hand { place = new.place; freed_slots = new.freed_slots }
-        → Pays p.geometry.slots p.geometry.room a (slice_index s.words a) y r.world.hand r.world.hand me.0.hand new
+    paid_occupancy : (y : ℕ) (new : Client) → y + occupied_by me.0.work ≡ slice_index s.words a + occupied_by new
+        → new ≡ record me.0.work { place = new.place; freed_slots = new.freed_slots }
+        → Pays p.geometry.slots p.geometry.room a (slice_index s.words a) y r.world.hand r.world.hand me.0.work new
     paid_occupancy y new paid same =
-        pays_at p.geometry.slots p.geometry.room a _ (slice_index s.words a) y r.world.hand r.world.hand me.0.hand new place
-        (on_occupancy p.geometry.slots p.geometry.room (slice_index s.words a) y r.world.hand me.0.hand new paid
+        pays_at p.geometry.slots p.geometry.room a _ (slice_index s.words a) y r.world.hand r.world.hand me.0.work new place
+        (on_occupancy p.geometry.slots p.geometry.room (slice_index s.words a) y r.world.hand me.0.work new paid
         (ap charged_to same) (ap standing_of same) (ap (λ (c : Client). c.trail) same))
 
     -- its amounts stay modest
     modest_placed : (v : View T) → slice_get s.views id ≡ Some v → is_seated v ≡ true
-        → (place : Place) (freed_slots : ℕ) → IsModest (record v.hand { place = place; freed_slots = freed_slots })
+        → (place : Place) (freed_slots : ℕ) → IsModest (record v.work { place = place; freed_slots = freed_slots })
     modest_placed v at sits place freed_slots =
         let old = modest_is fits p s r id v at sits in
         record { asked = old.asked; freed = old.freed; few = old.few; small = old.small }
@@ -95,11 +95,11 @@ module _ {T : Type 0} (fits : T → Key → List ℕ → Type 0) (p : Plan T) (c
   pub occupancy_step : (setup : Setup) → setup ≡ setup_of p
       → Allows (Holds fits p) count id me a (λ n. n) (occupancies setup (step count a 0 0 none) me)
   occupancy_step setup said s r homes there low =
-      goes_by fits p s r id a word me v.hand v.open_places v.seen v.tight
+      goes_by fits p s r id a word me v.work v.open_places v.seen v.tight
       (events.Occupancy v.client) (replies.Count (occupancy_of r.world)) (occupancies setup (step count a 0 0 none) me) at seated refl
       (modest_is fits p s r id v at seated)
-      (occupancy_gives r.world v.client v.hand (law_is fits p s r) client live)
-      (paid_occupancy s r word v.hand refl refl)
+      (occupancy_gives r.world v.client v.work (law_is fits p s r) client live)
+      (paid_occupancy s r word v.work refl refl)
       (refl, refl, rw said (occupied_told s r at))
     where
       v : View T
@@ -111,20 +111,20 @@ module _ {T : Type 0} (fits : T → Key → List ℕ → Type 0) (p : Plan T) (c
       at : slice_get s.views id ≡ Some v
       at = read_at s.views id v there
 
-      client : slice_get r.world.clients v.client ≡ Some v.hand
+      client : slice_get r.world.clients v.client ≡ Some v.work
       client = client_is fits p s r id v at seated
 
-      live : v.hand.live ≡ true
+      live : v.work.live ≡ true
       live = live_is fits p s r id v at seated
 
   -- An add of one place.
-  pub enter_step : (setup : Setup) → setup ≡ setup_of p → me.0.hand.place ≡ places.Absent
+  pub enter_step : (setup : Setup) → setup ≡ setup_of p → me.0.work.place ≡ places.Absent
       → Allows (Holds fits p) count id me a (λ n. (n + 1) % 2 ^ 64) (enters setup (step count a 1 0 none) me)
   enter_step setup said absent s r homes there low =
       goes_by fits p s r id a ((word + 1) % 2 ^ 64) me new asked v.seen v.tight
       (events.Enter v.client) (entered r.world.setup word) (enters setup (step count a 1 0 none) me) at seated refl
-      (modest_placed s r v at seated (place_at r.world.setup word) v.hand.freed_slots)
-      (enter_gives r.world v.client v.hand (law_is fits p s r) client live word (found_occupancy s r) absent)
+      (modest_placed s r v at seated (place_at r.world.setup word) v.work.freed_slots)
+      (enter_gives r.world v.client v.work (law_is fits p s r) client live word (found_occupancy s r) absent)
       (paid_occupancy s r ((word + 1) % 2 ^ 64) new paid refl)
       told
     where
@@ -137,45 +137,45 @@ module _ {T : Type 0} (fits : T → Key → List ℕ → Type 0) (p : Plan T) (c
       at : slice_get s.views id ≡ Some v
       at = read_at s.views id v there
 
-      client : slice_get r.world.clients v.client ≡ Some v.hand
+      client : slice_get r.world.clients v.client ≡ Some v.work
       client = client_is fits p s r id v at seated
 
-      live : v.hand.live ≡ true
+      live : v.work.live ≡ true
       live = live_is fits p s r id v at seated
 
       new : Client
-      new = record v.hand { place = place_at r.world.setup word }
+      new = record v.work { place = place_at r.world.setup word }
 
       asked : ℕ
       asked = (if nat_lt word (limit_of r.world.setup) then v.open_places else v.open_places + 1)
 
-      paid : (word + 1) % 2 ^ 64 + occupied_by v.hand ≡ word + occupied_by new
+      paid : (word + 1) % 2 ^ 64 + occupied_by v.work ≡ word + occupied_by new
       paid =
           let found = found_occupancy s r in
           let few = occupancy_small r.world (law_is fits p s r) in
-          let before : when (is_placed v.hand.place) 1 ≡ 0 = ap (λ z. when (is_placed z) 1) absent in
+          let before : when (is_placed v.work.place) 1 ≡ 0 = ap (λ z. when (is_placed z) 1) absent in
           let now : when (is_placed (place_at r.world.setup word)) 1 ≡ 1 = ap (λ b. when b 1) (placed_at r.world.setup word) in
           omega arith
 
       below : word < limit_of (setup_of p) + p.geometry.clients
       below =
           let found = found_occupancy s r in
-          let near = occupancy_beside r.world (law_is fits p s r) v.client v.hand client absent in
+          let near = occupancy_beside r.world (law_is fits p s r) v.client v.work client absent in
           let limit : limit_of r.world.setup ≡ limit_of (setup_of p) = ap limit_of r.setup in
           let clients : r.world.setup.clients ≡ p.geometry.clients = ap (λ x. x.clients) r.setup in
           omega arith
 
-      told : enters setup (step count a 1 0 none) me word (record v { hand = new; open_places = asked }, me.1)
+      told : enters setup (step count a 1 0 none) me word (record v { work = new; open_places = asked }, me.1)
       told = rw (said, r.setup) (refl, refl, occupied_told s r at, below)
 
   -- A take of the slots that were freed.
-  pub slots_step : (n : ℕ) → n ≡ me.0.hand.freed_slots → 0 < n
+  pub slots_step : (n : ℕ) → n ≡ me.0.work.freed_slots → 0 < n
       → Allows (Holds fits p) count id me a (λ x. (x + (2 ^ 64 - n)) % 2 ^ 64) (gives_slots (step count a n 0 none) me)
   slots_step n is some s r homes there low =
       goes_by fits p s r id a ((word + (2 ^ 64 - n)) % 2 ^ 64) me new v.open_places v.seen v.tight
       (events.Slots v.client) replies.Ok (gives_slots (step count a n 0 none) me) at seated refl
-      (modest_placed s r v at seated (place_granted v.hand.place) 0)
-      (slots_gives r.world v.client v.hand (law_is fits p s r) client live (omega arith))
+      (modest_placed s r v at seated (place_granted v.work.place) 0)
+      (slots_gives r.world v.client v.work (law_is fits p s r) client live (omega arith))
       (paid_occupancy s r ((word + (2 ^ 64 - n)) % 2 ^ 64) new paid refl)
       (refl, refl)
     where
@@ -188,31 +188,31 @@ module _ {T : Type 0} (fits : T → Key → List ℕ → Type 0) (p : Plan T) (c
       at : slice_get s.views id ≡ Some v
       at = read_at s.views id v there
 
-      client : slice_get r.world.clients v.client ≡ Some v.hand
+      client : slice_get r.world.clients v.client ≡ Some v.work
       client = client_is fits p s r id v at seated
 
-      live : v.hand.live ≡ true
+      live : v.work.live ≡ true
       live = live_is fits p s r id v at seated
 
       new : Client
-      new = record v.hand { freed_slots = 0; place = place_granted v.hand.place }
+      new = record v.work { freed_slots = 0; place = place_granted v.work.place }
 
-      paid : (word + (2 ^ 64 - n)) % 2 ^ 64 + occupied_by v.hand ≡ word + occupied_by new
+      paid : (word + (2 ^ 64 - n)) % 2 ^ 64 + occupied_by v.work ≡ word + occupied_by new
       paid =
           let found = found_occupancy s r in
           let few = occupancy_small r.world (law_is fits p s r) in
-          let within = occupied_within r.world v.client v.hand client in
-          let same : when (is_placed (place_granted v.hand.place)) 1 ≡ when (is_placed v.hand.place) 1 = ap (λ b. when b 1) (placed_granted v.hand.place) in
+          let within = occupied_within r.world v.client v.work client in
+          let same : when (is_placed (place_granted v.work.place)) 1 ≡ when (is_placed v.work.place) 1 = ap (λ b. when b 1) (placed_granted v.work.place) in
           omega arith
 
   -- A take of the place, with the slots that were freed.
-  pub quit_step : (n : ℕ) → n ≡ 1 + me.0.hand.freed_slots → is_placed me.0.hand.place ≡ true
+  pub quit_step : (n : ℕ) → n ≡ 1 + me.0.work.freed_slots → is_placed me.0.work.place ≡ true
       → Allows (Holds fits p) count id me a (λ x. (x + (2 ^ 64 - n)) % 2 ^ 64) (quits (step count a n 0 none) me)
   quit_step n is placed s r homes there low =
       goes_by fits p s r id a ((word + (2 ^ 64 - n)) % 2 ^ 64) me new v.open_places v.seen v.tight
       (events.Quit v.client) replies.Ok (quits (step count a n 0 none) me) at seated refl
       (modest_placed s r v at seated places.Absent 0)
-      (quit_gives r.world v.client v.hand (law_is fits p s r) client live placed)
+      (quit_gives r.world v.client v.work (law_is fits p s r) client live placed)
       (paid_occupancy s r ((word + (2 ^ 64 - n)) % 2 ^ 64) new paid refl)
       (refl, refl)
     where
@@ -225,19 +225,19 @@ module _ {T : Type 0} (fits : T → Key → List ℕ → Type 0) (p : Plan T) (c
       at : slice_get s.views id ≡ Some v
       at = read_at s.views id v there
 
-      client : slice_get r.world.clients v.client ≡ Some v.hand
+      client : slice_get r.world.clients v.client ≡ Some v.work
       client = client_is fits p s r id v at seated
 
-      live : v.hand.live ≡ true
+      live : v.work.live ≡ true
       live = live_is fits p s r id v at seated
 
       new : Client
-      new = record v.hand { place = places.Absent; freed_slots = 0 }
+      new = record v.work { place = places.Absent; freed_slots = 0 }
 
-      paid : (word + (2 ^ 64 - n)) % 2 ^ 64 + occupied_by v.hand ≡ word + occupied_by new
+      paid : (word + (2 ^ 64 - n)) % 2 ^ 64 + occupied_by v.work ≡ word + occupied_by new
       paid =
           let found = found_occupancy s r in
           let few = occupancy_small r.world (law_is fits p s r) in
-          let within = occupied_within r.world v.client v.hand client in
-          let one : when (is_placed v.hand.place) 1 ≡ 1 = ap (λ b. when b 1) placed in
+          let within = occupied_within r.world v.client v.work client in
+          let one : when (is_placed v.work.place) 1 ≡ 1 = ap (λ b. when b 1) placed in
           omega arith

@@ -33,9 +33,9 @@ use Rattle.hcc_rule.proofs.Lists.{within, read_at}
 use Rattle.hcc_rule.proofs.Codes.{few_strays, is_near, tells_entry}
 use Rattle.hcc_rule.proofs.Clients.{dead_told}
 use Rattle.hcc_rule.proofs.Looks.{slot_fits, client_fits, slot_there, backed}
-use Rattle.hcc_rule.proofs.Owners.{owned_turn}
-use Rattle.hcc_rule.proofs.Turns.{Shard}
-use Rattle.hcc_rule.proofs.Touches.{by_hand, touched, Goes, goes, client_is, live_is}
+use Rattle.hcc_rule.proofs.Owners.{owned_step}
+use Rattle.hcc_rule.proofs.SlotSteps.{Shard}
+use Rattle.hcc_rule.proofs.Touches.{by_client, touched, Goes, goes, client_is, live_is}
 
 -- an empty slot is taken
 occupy_takes : (w : State) (c i strays : ℕ) (found : Client) → Lawful w
@@ -67,7 +67,7 @@ module _ {T : Type 0} (fits : T → Key → List ℕ → Type 0) (p : Plan T) wh
   -- What the cases share.
   module _ (s : Shard fits p) (r : Holds fits p s) (id i a : ℕ) (me : Held T)
       (at : slice_get s.views id ≡ Some me.0) (seated : is_seated me.0 ≡ true)
-      (place : a ≡ field_at p.geometry.room i META) where
+      (address : a ≡ field_at p.geometry.room i META) where
     abbrev word : ℕ
     word = slice_index s.words a
 
@@ -80,10 +80,10 @@ module _ {T : Type 0} (fits : T → Key → List ℕ → Type 0) (p : Plan T) wh
     -- A slot that isn't empty is looked at.
     sees : (t : Slot) → slice_get r.world.slots i ≡ Some t
         → bit_or (code_of t) OCCUPIED_BIT ≡ code_of t → is_empty (code_of t) ≡ false
-        → outcome_of r.world (events.Occupy me.0.client i) ≡ Ok (replies.Saw (phase_of t), with_both r.world i t me.0.client (client_looked me.0.client i t me.0.hand))
+        → outcome_of r.world (events.Occupy me.0.client i) ≡ Ok (replies.Saw (phase_of t), with_both r.world i t me.0.client (client_looked me.0.client i t me.0.work))
         → Next
     sees t at_slot stays full allowed =
-        goes fits p s r a (bit_or word OCCUPIED_BIT) id i me new t t event reply then place (ap (λ y. bit_or y OCCUPIED_BIT) word_is ∙ stays)
+        goes fits p s r a (bit_or word OCCUPIED_BIT) id i me new t t event reply then address (ap (λ y. bit_or y OCCUPIED_BIT) word_is ∙ stays)
         (touched fits p s r id i me.0 new t t event reply record {
           at_view = at;
           at_slot = at_slot;
@@ -91,7 +91,7 @@ module _ {T : Type 0} (fits : T → Key → List ℕ → Type 0) (p : Plan T) wh
           same = record { tag = refl; client = refl; others = refl; turns = refl };
           work = refl;
           store = record { written = refl; made = refl; takings = refl };
-          allowed = by_hand r.world event reply i me.0.client t (client_looked me.0.client i t me.0.hand) new.hand becomes allowed;
+          allowed = by_client r.world event reply i me.0.client t (client_looked me.0.client i t me.0.work) new.work becomes allowed;
           like = record { entry = refl; trail = refl };
           here = λ h. refl;
           elsewhere = λ j h other. refl;
@@ -109,30 +109,30 @@ module _ {T : Type 0} (fits : T → Key → List ℕ → Type 0) (p : Plan T) wh
         new = record (after_look i word me.0) { saw = me.0.saw + 1 }
 
         word_is : word ≡ code_of t
-        word_is = ap (slice_index s.words) place ∙ r.coded.meta i t at_slot
+        word_is = ap (slice_index s.words) address ∙ r.coded.meta i t at_slot
 
         told : new ≡ after_occupy i word me.0
         told = let no : is_empty word ≡ false = ap is_empty word_is ∙ full in rw no refl
 
-        becomes : client_looked me.0.client i t me.0.hand ≡ new.hand
+        becomes : client_looked me.0.client i t me.0.work ≡ new.work
         becomes =
             let l = is_lawful r.world r.lawful in
             let dead = dead_told p.tag r.world r.books s.views id i me.0 t l r.references r.seats (r.holding id me.0 at).recorded at seated at_slot in
             rw (word_is, dead, tells_entry r.world l i t at_slot) refl
 
     -- An empty one is the client's to build.
-    takes : (strays : ℕ) → slice_get r.world.slots i ≡ Some (slots.Empty strays) → owns_nothing me.0.hand.owned ≡ true → Next
+    takes : (strays : ℕ) → slice_get r.world.slots i ≡ Some (slots.Empty strays) → owns_nothing me.0.work.owned ≡ true → Next
     takes strays at_slot free =
-        goes fits p s r a (bit_or word OCCUPIED_BIT) id i me new t left event replies.Taken then place
+        goes fits p s r a (bit_or word OCCUPIED_BIT) id i me new t left event replies.Taken then address
         (ap (λ y. bit_or y OCCUPIED_BIT) word_is ∙ or_occupied-empty strays (let few = low in omega arith))
-        (owned_turn fits p s r id i me.0 new t left event replies.Taken record {
+        (owned_step fits p s r id i me.0 new t left event replies.Taken record {
           at_view = at;
           at_slot = at_slot;
           seated = seated;
           same = record { tag = refl; client = refl; others = refl; turns = refl };
           work = refl;
           store = record { records = refl; made = refl; takings = refl; written = refl };
-          allowed = occupy_takes r.world me.0.client i strays me.0.hand l at_slot (client_is fits p s r id me.0 at seated) (live_is fits p s r id me.0 at seated) free;
+          allowed = occupy_takes r.world me.0.client i strays me.0.work l at_slot (client_is fits p s r id me.0 at seated) (live_is fits p s r id me.0 at seated) free;
           bare = refl;
           left_bare = refl;
         })
@@ -151,10 +151,10 @@ module _ {T : Type 0} (fits : T → Key → List ℕ → Type 0) (p : Plan T) wh
         event = events.Occupy me.0.client i
 
         new : View T
-        new = record me.0 { hand = record me.0.hand { owned = owned.ForBuilding i }; written = [] }
+        new = record me.0 { work = record me.0.work { owned = owned.ForBuilding i }; written = [] }
 
         word_is : word ≡ code_of t
-        word_is = ap (slice_index s.words) place ∙ r.coded.meta i t at_slot
+        word_is = ap (slice_index s.words) address ∙ r.coded.meta i t at_slot
 
         low : strays + 3 < 2 ^ 30
         low = few_strays r.world l i t at_slot
@@ -162,23 +162,23 @@ module _ {T : Type 0} (fits : T → Key → List ℕ → Type 0) (p : Plan T) wh
         told : new ≡ after_occupy i word me.0
         told = let yes : is_empty word ≡ true = ap is_empty word_is ∙ is_empty-empty strays (let few = low in omega arith) in rw yes refl
 
-    by : (t : Slot) → slice_get r.world.slots i ≡ Some t → owns_nothing me.0.hand.owned ≡ true → Next
+    by : (t : Slot) → slice_get r.world.slots i ≡ Some t → owns_nothing me.0.work.owned ≡ true → Next
     by (slots.Empty strays) at_slot free = takes strays at_slot free
     by (slots.Building d strays) at_slot free =
         let l = is_lawful r.world r.lawful in
         let few = few_strays r.world l i (slots.Building d strays) at_slot in
         sees (slots.Building d strays) at_slot (or_occupied-building strays (omega arith)) (is_empty-building strays (omega arith))
-        (occupy_looks_building r.world me.0.client i d strays me.0.hand l at_slot (client_is fits p s r id me.0 at seated) (live_is fits p s r id me.0 at seated) free)
+        (occupy_looks_building r.world me.0.client i d strays me.0.work l at_slot (client_is fits p s r id me.0 at seated) (live_is fits p s r id me.0 at seated) free)
     by (slots.Shareable k) at_slot free =
         let l = is_lawful r.world r.lawful in
         let near = is_near r.world l i k at_slot in
         sees (slots.Shareable k) at_slot (or_occupied-shareable k.hit k.shown near) (is_empty-shareable k.hit k.shown near)
-        (occupy_looks_entry r.world me.0.client i k me.0.hand l at_slot (client_is fits p s r id me.0 at seated) (live_is fits p s r id me.0 at seated) free)
+        (occupy_looks_entry r.world me.0.client i k me.0.work l at_slot (client_is fits p s r id me.0 at seated) (live_is fits p s r id me.0 at seated) free)
 
   -- The or of the occupied bit keeps the rule, and tells what it found.
   pub occupy_step : (count id i a : ℕ) (me : Held T) → i < p.geometry.slots → is_seated me.0 ≡ true
-      → owns_nothing me.0.hand.owned ≡ true → a ≡ field_at p.geometry.room i META
+      → owns_nothing me.0.work.owned ≡ true → a ≡ field_at p.geometry.room i META
       → Allows (Holds fits p) count id me a (λ y. bit_or y OCCUPIED_BIT) (occupies i (step count a OCCUPIED_BIT 0 none) me)
-  occupy_step count id i a me near seated free place s r homes at low =
+  occupy_step count id i a me near seated free address s r homes at low =
       let slot = slot_there fits p s r i near in
-      by s r id i a me (read_at s.views id me.0 at) seated place slot.0 slot.1 free
+      by s r id i a me (read_at s.views id me.0 at) seated address slot.0 slot.1 free

@@ -19,7 +19,7 @@ use Rattle.hcc_rule.specs.Rule.{entry_in, IsRecorded, Holds}
 use Rattle.hcc_rule.proofs.Clients.{dead_told}
 use Rattle.hcc_rule.proofs.Findings.{find_each}
 use Rattle.hcc_rule.proofs.References.{slot_held, reference_held}
-use Rattle.hcc_rule.proofs.Turns.{Shard}
+use Rattle.hcc_rule.proofs.SlotSteps.{Shard}
 
 -- a slot that has an entry is Shown or Hidden
 pub resident_in : (o : Option Slot) (e : Entry) → entry_in o ≡ Some e
@@ -69,7 +69,7 @@ module _ {T : Type 0} (fits : T → Key → List ℕ → Type 0) (p : Plan T) wh
     -- the word that a step finds there is the entry's code
     pub code_there : (a : ℕ) → a ≡ field_at p.geometry.room i META
         → slice_index s.words a ≡ code_of (slots.Shareable k)
-    code_there a place = ap (slice_index s.words) place ∙ r.coded.meta i (slots.Shareable k) o.at_slot
+    code_there a address = ap (slice_index s.words) address ∙ r.coded.meta i (slots.Shareable k) o.at_slot
 
     -- and it tells what the client has seen dead
     pub dead_there : found_dead i (code_of (slots.Shareable k)) v ≡ dead_to v.client (slots.Shareable k)

@@ -113,7 +113,7 @@ module _ {T : Type 0} (p : Plan T) (can : CanOpen (setup_of p)) where
       let some = can.some_client in
       record {
         tagged = refl;
-        hand = λ sits. read_here (replicate p.geometry.clients new_client) 0 new_client (started [] []) some_there;
+        work = λ sits. read_here (replicate p.geometry.clients new_client) 0 new_client (started [] []) some_there;
         live = λ sits. refl;
         book = λ sits. replicate_at p.geometry.clients 0 [] (omega arith);
         others = others_rest 1 (p.geometry.clients - 1) (omega arith) (omega arith);

@@ -17,7 +17,7 @@ use Rattle.hcc_rule.specs.Views.{is_seated, held}
 use Rattle.hcc_rule.specs.Rule.{entry_by, IsRecorded, IsTrailed, Holds}
 use Rattle.hcc_rule.proofs.Lists.{each_map}
 use Rattle.hcc_rule.proofs.ViewParts.{recorded_kept}
-use Rattle.hcc_rule.proofs.Turns.{Shard, SameName, Turn}
+use Rattle.hcc_rule.proofs.SlotSteps.{Shard, SameName, SlotStep}
 use Rattle.hcc_rule.proofs.Touches.{client_is, live_is, stamps_are, was_right}
 
 -- a slot with no entry has no references, no trail, no charge and no place
@@ -55,15 +55,15 @@ module _ {T : Type 0} (fits : T → Key → List ℕ → Type 0) (p : Plan T) wh
     pub at_slot : slice_get r.world.slots i ≡ Some t
     pub seated : is_seated v ≡ true
     pub same : SameName fits p v new
-    pub work : SameButOwned v.hand new.hand
+    pub work : SameButOwned v.work new.work
     pub store : StartsAnew v new
-    pub allowed : outcome_of r.world event ≡ Ok (reply, with_both r.world i left v.client new.hand)
+    pub allowed : outcome_of r.world event ≡ Ok (reply, with_both r.world i left v.client new.work)
     pub bare : entry_by t ≡ None
     pub left_bare : entry_by left ≡ None
 
-  pub owned_turn : (s : Shard fits p) (r : Holds fits p s) (id i : ℕ) (v new : View T) (t left : Slot) (event : Event) (reply : Reply)
-      → Owning s r id i v new t left event reply → Turn fits p s r id i v new t left event reply
-  owned_turn s r id i v new t left event reply m = record {
+  pub owned_step : (s : Shard fits p) (r : Holds fits p s) (id i : ℕ) (v new : View T) (t left : Slot) (event : Event) (reply : Reply)
+      → Owning s r id i v new t left event reply → SlotStep fits p s r id i v new t left event reply
+  owned_step s r id i v new t left event reply m = record {
     at_view = m.at_view;
     at_slot = m.at_slot;
     seated = m.seated;
@@ -102,21 +102,21 @@ module _ {T : Type 0} (fits : T → Key → List ℕ → Type 0) (p : Plan T) wh
     usage =
         let was = before.charge in
         let now = later.charge in
-        let hand : charged_to new.hand ≡ charged_to v.hand = ap charged_to m.work in
+        let hand : charged_to new.work ≡ charged_to v.work = ap charged_to m.work in
         omega arith;
     occupancy =
         let was = before.taken in
         let now = later.taken in
-        let hand : occupied_by new.hand ≡ occupied_by v.hand = ap occupied_by m.work in
+        let hand : occupied_by new.work ≡ occupied_by v.work = ap occupied_by m.work in
         omega arith;
     standing = ap standing_of m.work;
     modest =
-        let old = r.ledgers.modest v.client v.hand client in
+        let old = r.ledgers.modest v.client v.work client in
         rw m.work record { asked = old.asked; freed = old.freed; few = old.few; small = old.small };
     passed = λ j.
         let was : times j (trail_of t) ≡ 0 = ap (times j) before.trail in
         let now : times j (trail_of left) ≡ 0 = ap (times j) later.trail in
-        let hand : times j new.hand.trail ≡ times j v.hand.trail = ap (λ (c : Client). times j c.trail) m.work in
+        let hand : times j new.work.trail ≡ times j v.work.trail = ap (λ (c : Client). times j c.trail) m.work in
         omega arith;
     trailed = trailed_bare p.geometry.slots i left m.left_bare;
   }
@@ -127,7 +127,7 @@ module _ {T : Type 0} (fits : T → Key → List ℕ → Type 0) (p : Plan T) wh
       later : IsBare left
       later = is_bare left m.left_bare
 
-      client : slice_get r.world.clients v.client ≡ Some v.hand
+      client : slice_get r.world.clients v.client ≡ Some v.work
       client = client_is fits p s r id v m.at_view m.seated
 
       held_same : (j : ℕ) (h : Reference → ℕ) → held j h new ≡ held j h v

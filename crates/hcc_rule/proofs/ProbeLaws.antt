@@ -8,10 +8,10 @@ use Rattle.std.proofs.lemmas.Bool.{cases_eq, cases_lt, eq-eqb}
 use Rattle.std.proofs.lemmas.List.FromFn.{length-map-range_with_len, map-range_with_len_more}
 use Rattle.hcc_core.specs.Sums.{when}
 use Rattle.hcc_core.specs.World.{times}
-use Rattle.hcc_core.specs.Steps.{dropped, is_place}
+use Rattle.hcc_core.specs.Steps.{dropped, is_slot}
 use Rattle.hcc_core.specs.declared.limits.TheConstants.{MOST_SLOTS}
 use Rattle.hcc_rule.specs.declared.key.Key.{Key}
-use Rattle.hcc_rule.specs.Probes.{probe_place, before, trail_to}
+use Rattle.hcc_rule.specs.Probes.{probe_slot, before, trail_to}
 use Rattle.hcc_rule.proofs.ProbeNumbers.{power_within, inverse_within, walk_apart, walk_reaches, or_one-odd, mask_within, wrap_within}
 
 -- What stands in front of one of the numbers that a function gives in turn, where it comes once.
@@ -58,14 +58,14 @@ times_later f (suc n) a p others =
 
 -- It goes from behind them.
 dropped_later : (f : ℕ → ℕ) (n a p : ℕ) → ((j : ℕ) → a ≤ j → j < a + n → f j ≢ p)
-    → dropped (is_place p) (map f (range_with_len a n) ++ p ∷ []) ≡ map f (range_with_len a n)
+    → dropped (is_slot p) (map f (range_with_len a n) ++ p ∷ []) ≡ map f (range_with_len a n)
 dropped_later f zero a p others =
     ap (λ (b : Bool). if b then [] else p ∷ []) (eq-eqb p p refl)
 dropped_later f (suc n) a p others =
     let later : List ℕ = map f (range_with_len (a + 1) n) ++ p ∷ [] in
     let other : f a ≢ p = others a (omega arith) (omega arith) in
     let rest = dropped_later f n (a + 1) p (λ j low high. others j (omega arith) (omega arith)) in
-    ap (λ (b : Bool). if b then later else f a ∷ dropped (is_place p) later) (ne_eqb (f a) p other)
+    ap (λ (b : Bool). if b then later else f a ∷ dropped (is_slot p) later) (ne_eqb (f a) p other)
     ∙ ap (λ l. f a ∷ l) rest
 
 -- A divisor of the most slots is a power of two.
@@ -77,113 +77,113 @@ pub some_slots : (slots : ℕ) → MOST_SLOTS % slots ≡ 0 → 0 < slots
 some_slots slots power = let k = is_power slots power in omega (arith, k.2, pow_pos k.0)
 
 -- A place is a slot.
-pub place_inside : (slots : ℕ) (key : Key) (i : ℕ) → 0 < slots → probe_place slots key i < slots
-place_inside slots key i some = mod-lt (key.w1 + i * bit_or key.w0 1) some
+pub probe_inside : (slots : ℕ) (key : Key) (i : ℕ) → 0 < slots → probe_slot slots key i < slots
+probe_inside slots key i some = mod-lt (key.w1 + i * bit_or key.w0 1) some
 
 module _ (slots : ℕ) (key : Key) (power : MOST_SLOTS % slots ≡ 0) where
   -- As many places as there are slots are apart.
-  pub places_apart : (i j : ℕ) → i < slots → j < slots
-      → probe_place slots key i ≡ probe_place slots key j → i ≡ j
-  places_apart i j i_in j_in same =
+  pub probes_apart : (i j : ℕ) → i < slots → j < slots
+      → probe_slot slots key i ≡ probe_slot slots key j → i ≡ j
+  probes_apart i j i_in j_in same =
       let stride : ℕ = bit_or key.w0 1 in
       let back = inverse_within 16 slots stride power (or_one-odd key.w0) in
       walk_apart slots stride back.0 back.1 (some_slots slots power) back.2 key.w1 i j i_in j_in same
 
   -- They are all the slots.
-  pub place_of_slot : (slot : ℕ) → slot < slots
-      → (i : ℕ) × (i < slots) × (probe_place slots key i ≡ slot)
-  place_of_slot slot inside =
+  pub probe_of_slot : (slot : ℕ) → slot < slots
+      → (i : ℕ) × (i < slots) × (probe_slot slots key i ≡ slot)
+  probe_of_slot slot inside =
       let stride : ℕ = bit_or key.w0 1 in
       let back = inverse_within 16 slots stride power (or_one-odd key.w0) in
       walk_reaches slots stride back.0 back.1 (some_slots slots power) back.2 key.w1 slot inside
 
   -- The places before a place are other slots, in the form that laws of lists ask for.
   earlier : (i : ℕ) → i < slots → (j : ℕ) → 0 ≤ j → j < 0 + i
-      → probe_place slots key j ≢ probe_place slots key i
+      → probe_slot slots key j ≢ probe_slot slots key i
   earlier i inside j low high same =
-      let one = places_apart j i (omega arith) inside same in
+      let one = probes_apart j i (omega arith) inside same in
       omega arith
 
   -- The trail to a place is the places before it.
   pub trail_at : (i : ℕ) → i < slots
-      → trail_to slots key (probe_place slots key i) ≡ map (probe_place slots key) (range_with_len 0 i)
+      → trail_to slots key (probe_slot slots key i) ≡ map (probe_slot slots key) (range_with_len 0 i)
   trail_at i inside =
-      before_at (probe_place slots key) slots i 0 (probe_place slots key i) inside first (earlier i inside)
+      before_at (probe_slot slots key) slots i 0 (probe_slot slots key i) inside first (earlier i inside)
     where
-      first : probe_place slots key (0 + i) ≡ probe_place slots key i
-      first = let same : 0 + i ≡ i = omega arith in ap (probe_place slots key) same
+      first : probe_slot slots key (0 + i) ≡ probe_slot slots key i
+      first = let same : 0 + i ≡ i = omega arith in ap (probe_slot slots key) same
 
   -- The trail to the first place is empty.
-  pub trail_start : trail_to slots key (probe_place slots key 0) ≡ []
+  pub trail_start : trail_to slots key (probe_slot slots key 0) ≡ []
   trail_start = trail_at 0 (some_slots slots power)
 
   -- The trail to the place after this one has this one behind it.
   pub trail_next : (i : ℕ) → i + 1 < slots
-      → trail_to slots key (probe_place slots key (i + 1))
-      ≡ trail_to slots key (probe_place slots key i) ++ probe_place slots key i ∷ []
+      → trail_to slots key (probe_slot slots key (i + 1))
+      ≡ trail_to slots key (probe_slot slots key i) ++ probe_slot slots key i ∷ []
   trail_next i inside =
       trail_at (i + 1) inside
-      ∙ map-range_with_len_more (probe_place slots key) 0 i i (omega arith)
-      ∙ ap (λ l. l ++ probe_place slots key i ∷ []) (sym (trail_at i (omega arith)))
+      ∙ map-range_with_len_more (probe_slot slots key) 0 i i (omega arith)
+      ∙ ap (λ l. l ++ probe_slot slots key i ∷ []) (sym (trail_at i (omega arith)))
 
   -- Without it that is the trail to this one again.
   pub trail_back : (i : ℕ) → i + 1 < slots
-      → dropped (is_place (probe_place slots key i))
-      (trail_to slots key (probe_place slots key (i + 1)))
-      ≡ trail_to slots key (probe_place slots key i)
+      → dropped (is_slot (probe_slot slots key i))
+      (trail_to slots key (probe_slot slots key (i + 1)))
+      ≡ trail_to slots key (probe_slot slots key i)
   trail_back i inside =
       let first = trail_at i (omega arith) in
-      ap (dropped (is_place (probe_place slots key i))) (trail_next i inside)
-      ∙ ap (λ l. dropped (is_place (probe_place slots key i)) (l ++ probe_place slots key i ∷ [])) first
-      ∙ dropped_later (probe_place slots key) i 0 (probe_place slots key i) (earlier i (omega arith))
+      ap (dropped (is_slot (probe_slot slots key i))) (trail_next i inside)
+      ∙ ap (λ l. dropped (is_slot (probe_slot slots key i)) (l ++ probe_slot slots key i ∷ [])) first
+      ∙ dropped_later (probe_slot slots key) i 0 (probe_slot slots key i) (earlier i (omega arith))
       ∙ sym first
 
   -- The trail to a place is as long as there are places before it.
-  pub trail_length : (i : ℕ) → i < slots → length (trail_to slots key (probe_place slots key i)) ≡ i
+  pub trail_length : (i : ℕ) → i < slots → length (trail_to slots key (probe_slot slots key i)) ≡ i
   trail_length i inside =
-      ap length (trail_at i inside) ∙ length-map-range_with_len (probe_place slots key) 0 i
+      ap length (trail_at i inside) ∙ length-map-range_with_len (probe_slot slots key) 0 i
 
   -- A place stands in the trail to each later one.
   pub passed_before : (i j : ℕ) → i < j → j < slots
-      → 1 ≤ times (probe_place slots key i) (trail_to slots key (probe_place slots key j))
+      → 1 ≤ times (probe_slot slots key i) (trail_to slots key (probe_slot slots key j))
   passed_before i j first inside =
-      let given = times_given (probe_place slots key) j i 0 (omega arith) (omega arith) in
-      let same = ap (times (probe_place slots key i)) (trail_at j inside) in
+      let given = times_given (probe_slot slots key) j i 0 (omega arith) (omega arith) in
+      let same = ap (times (probe_slot slots key i)) (trail_at j inside) in
       omega arith
 
   -- It stands in the trail to no other.
   pub passed_later : (i j : ℕ) → j ≤ i → i < slots
-      → times (probe_place slots key i) (trail_to slots key (probe_place slots key j)) ≡ 0
+      → times (probe_slot slots key i) (trail_to slots key (probe_slot slots key j)) ≡ 0
   passed_later i j later inside =
-      ap (times (probe_place slots key i)) (trail_at j (omega arith))
-      ∙ times_later (probe_place slots key) j 0 (probe_place slots key i)
+      ap (times (probe_slot slots key i)) (trail_at j (omega arith))
+      ∙ times_later (probe_slot slots key) j 0 (probe_slot slots key i)
       (λ k low high. earlier i inside k low (omega arith))
 
   -- A slot whose trail lacks a place is one of the places up to that one.
   pub stands_within : (slot i : ℕ) → slot < slots
-      → times (probe_place slots key i) (trail_to slots key slot) ≡ 0
-      → (j : ℕ) × (j ≤ i) × (probe_place slots key j ≡ slot)
+      → times (probe_slot slots key i) (trail_to slots key slot) ≡ 0
+      → (j : ℕ) × (j ≤ i) × (probe_slot slots key j ≡ slot)
   stands_within slot i inside none =
-      let found = place_of_slot slot inside in
+      let found = probe_of_slot slot inside in
       by found.0 found.1 found.2
     where
-      by : (j : ℕ) → j < slots → probe_place slots key j ≡ slot
-          → (j : ℕ) × (j ≤ i) × (probe_place slots key j ≡ slot)
+      by : (j : ℕ) → j < slots → probe_slot slots key j ≡ slot
+          → (j : ℕ) × (j ≤ i) × (probe_slot slots key j ≡ slot)
       by j j_in is = elim (cases_lt i j) [
         | inl later ↦
             let passed = passed_before i j later j_in in
-            let same = ap (λ z. times (probe_place slots key i) (trail_to slots key z)) is in
+            let same = ap (λ z. times (probe_slot slots key i) (trail_to slots key z)) is in
             absurd (omega arith)
         | inr within ↦ (j, within, is)
       ]
 
   -- The mask of the slots is a remainder.
-  pub mask_place : (x : ℕ) → bit_and x (slots - 1) ≡ x % slots
-  mask_place x = mask_within 16 slots x power
+  pub mask_probe : (x : ℕ) → bit_and x (slots - 1) ≡ x % slots
+  mask_probe x = mask_within 16 slots x power
 
   -- It leaves a place as it is.
-  pub masked_place : (i : ℕ) → bit_and (probe_place slots key i) (slots - 1) ≡ probe_place slots key i
-  masked_place i = mask_place (probe_place slots key i) ∙ mod-mod (key.w1 + i * bit_or key.w0 1) slots
+  pub masked_probe : (i : ℕ) → bit_and (probe_slot slots key i) (slots - 1) ≡ probe_slot slots key i
+  masked_probe i = mask_probe (probe_slot slots key i) ∙ mod-mod (key.w1 + i * bit_or key.w0 1) slots
 
   -- A word of 64 bits wraps without a change of place.
   pub wrapped_64 : (x : ℕ) → x % 2 ^ 64 % slots ≡ x % slots
@@ -194,15 +194,15 @@ module _ (slots : ℕ) (key : Key) (power : MOST_SLOTS % slots ≡ 0) where
   wrapped_32 x = wrap_within 16 32 slots x (omega arith) power
 
   -- A word that starts as the key's second one is at the first place.
-  pub first_place : key.w1 % slots ≡ probe_place slots key 0
-  first_place =
+  pub first_probe : key.w1 % slots ≡ probe_slot slots key 0
+  first_probe =
       let same : key.w1 ≡ key.w1 + 0 * bit_or key.w0 1 = omega arith in
       ap (λ z. z % slots) same
 
   -- A word at a place is at the next one once the stride was added.
-  pub next_place : (i place : ℕ) → place % slots ≡ probe_place slots key i
-      → (place + bit_or key.w0 1) % slots ≡ probe_place slots key (i + 1)
-  next_place i place at =
+  pub next_probe : (i place : ℕ) → place % slots ≡ probe_slot slots key i
+      → (place + bit_or key.w0 1) % slots ≡ probe_slot slots key (i + 1)
+  next_probe i place at =
       let stride : ℕ = bit_or key.w0 1 in
       let on : key.w1 + i * stride + stride ≡ key.w1 + (i + 1) * stride = omega arith in
       sym (mod-add-mod place slots stride)
@@ -211,25 +211,25 @@ module _ (slots : ℕ) (key : Key) (power : MOST_SLOTS % slots ≡ 0) where
       ∙ ap (λ z. z % slots) on
 
   -- So it is where the sum wraps.
-  pub next_place_wrapped : (i place : ℕ) → place % slots ≡ probe_place slots key i
-      → (place + bit_or key.w0 1) % 2 ^ 64 % slots ≡ probe_place slots key (i + 1)
-  next_place_wrapped i place at = wrapped_64 (place + bit_or key.w0 1) ∙ next_place i place at
+  pub next_probe_wrapped : (i place : ℕ) → place % slots ≡ probe_slot slots key i
+      → (place + bit_or key.w0 1) % 2 ^ 64 % slots ≡ probe_slot slots key (i + 1)
+  next_probe_wrapped i place at = wrapped_64 (place + bit_or key.w0 1) ∙ next_probe i place at
 
   -- From slot to slot, by the stride's remainder.
   pub next_slot : (i : ℕ)
-      → (probe_place slots key i + bit_or key.w0 1 % slots) % slots ≡ probe_place slots key (i + 1)
+      → (probe_slot slots key i + bit_or key.w0 1 % slots) % slots ≡ probe_slot slots key (i + 1)
   next_slot i =
       sym (add-mod (key.w1 + i * bit_or key.w0 1) (bit_or key.w0 1) slots)
       ∙ sym (mod-add-mod (key.w1 + i * bit_or key.w0 1) slots (bit_or key.w0 1))
-      ∙ next_place i (probe_place slots key i) (mod-mod (key.w1 + i * bit_or key.w0 1) slots)
+      ∙ next_probe i (probe_slot slots key i) (mod-mod (key.w1 + i * bit_or key.w0 1) slots)
 
   -- The first place, by the mask.
-  pub first_masked : bit_and key.w1 (slots - 1) ≡ probe_place slots key 0
-  first_masked = mask_place key.w1 ∙ first_place
+  pub first_masked : bit_and key.w1 (slots - 1) ≡ probe_slot slots key 0
+  first_masked = mask_probe key.w1 ∙ first_probe
 
   -- The next place, by the mask, of a sum that wraps.
-  pub next_masked : (i place : ℕ) → bit_and place (slots - 1) ≡ probe_place slots key i
-      → bit_and ((place + bit_or key.w0 1) % 2 ^ 64) (slots - 1) ≡ probe_place slots key (i + 1)
+  pub next_masked : (i place : ℕ) → bit_and place (slots - 1) ≡ probe_slot slots key i
+      → bit_and ((place + bit_or key.w0 1) % 2 ^ 64) (slots - 1) ≡ probe_slot slots key (i + 1)
   next_masked i place at =
-      mask_place ((place + bit_or key.w0 1) % 2 ^ 64)
-      ∙ next_place_wrapped i place (sym (mask_place place) ∙ at)
+      mask_probe ((place + bit_or key.w0 1) % 2 ^ 64)
+      ∙ next_probe_wrapped i place (sym (mask_probe place) ∙ at)

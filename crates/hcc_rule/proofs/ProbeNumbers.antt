@@ -71,8 +71,8 @@ inverse_within m n s whole odd =
     (found.0, found.1, found.2 ∙ ap (λ z. 1 + found.1 * z) (sym power.2))
 
 -- Whole turns do not count.
-whole_turns : (n a b x y : ℕ) → a + x * n ≡ b + y * n → a % n ≡ b % n
-whole_turns n a b x y h =
+whole_rounds : (n a b x y : ℕ) → a + x * n ≡ b + y * n → a % n ≡ b % n
+whole_rounds n a b x y h =
     sym (add-mul-mod_self_right a x n) ∙ ap (λ z. z % n) h ∙ add-mul-mod_self_right b y n
 
 -- A walk round n by a stride s that t takes back.
@@ -92,7 +92,7 @@ module _ (n s t u : ℕ) (some : 0 < n) (undo : t * s ≡ 1 + u * n) where
       let at_i = taken_back i in
       let at_j = taken_back j in
       let back : i + (i * u + x * t) * n ≡ j + (j * u + y * t) * n = omega arith in
-      sym (mod-eq_of_lt i_in) ∙ whole_turns n i j (i * u + x * t) (j * u + y * t) back ∙ mod-eq_of_lt j_in
+      sym (mod-eq_of_lt i_in) ∙ whole_rounds n i j (i * u + x * t) (j * u + y * t) back ∙ mod-eq_of_lt j_in
 
   -- They are all the places.
   pub walk_reaches : (a p : ℕ) → p < n → (i : ℕ) × (i < n) × ((a + i * s) % n ≡ p)
@@ -108,7 +108,7 @@ module _ (n s t u : ℕ) (some : 0 < n) (undo : t * s ≡ 1 + u * n) where
       let round : a + i * s + q * s * n ≡ p + (1 + a / n + c * u) * n = omega arith in (
         i,
         mod-lt (c * t) some,
-        whole_turns n (a + i * s) p (q * s) (1 + a / n + c * u) round ∙ mod-eq_of_lt p_in,
+        whole_rounds n (a + i * s) p (q * s) (1 + a / n + c * u) round ∙ mod-eq_of_lt p_in,
       )
 
 -- With its lowest bit set a number is odd.

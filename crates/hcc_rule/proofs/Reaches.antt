@@ -29,7 +29,7 @@ use Rattle.hcc_rule.proofs.Lists.{each_map}
 use Rattle.hcc_rule.proofs.Codes.{when_le, tells_shown}
 use Rattle.hcc_rule.proofs.Clients.{held_count, any_client}
 use Rattle.hcc_rule.proofs.Findings.{any_some}
-use Rattle.hcc_rule.proofs.Turns.{Shard}
+use Rattle.hcc_rule.proofs.SlotSteps.{Shard}
 use Rattle.hcc_rule.proofs.Touches.{client_is}
 
 -- where one member has room for n more, the sum has
@@ -97,8 +97,8 @@ module _ {T : Type 0} (fits : T → Key → List ℕ → Type 0) (p : Plan T) (s
 
   -- The client looked at the slot, or has a reference there.
   pub reached : (t : Slot) → slice_get r.world.slots i ≡ Some t → may_reach i v ≡ true
-      → (looks_at v.hand i || has_client v.client t) ≡ true
-  reached t at_slot reach = by (looks_at v.hand i) (list_any (is_on i) v.records) has reach
+      → (looks_at v.work i || has_client v.client t) ≡ true
+  reached t at_slot reach = by (looks_at v.work i) (list_any (is_on i) v.records) has reach
     where
       has : list_any (is_on i) v.records ≡ true → has_client v.client t ≡ true
       has some =
@@ -118,7 +118,7 @@ module _ {T : Type 0} (fits : T → Key → List ℕ → Type 0) (p : Plan T) (s
     short = right.1;
     small = right.2;
     bytes = right.3;
-    alive = λ visible. unseen (shown_is visible) (is_in k.entry.stamp v.hand.dead) refl;
+    alive = λ visible. unseen (shown_is visible) (is_in k.entry.stamp v.work.dead) refl;
     same = each_map (IsRecorded r.world.slots) (λ q. q.slot ≡ i → q.entry ≡ k.entry)
         (λ q recorded on.
         let both : Some q.entry ≡ Some k.entry = sym recorded.there ∙ (ap (λ j. entry_in (slice_get r.world.slots j)) on ∙ here) in
@@ -149,7 +149,7 @@ module _ {T : Type 0} (fits : T → Key → List ℕ → Type 0) (p : Plan T) (s
           rw (at_slot, shown) refl
 
       unseen : shown_in (slice_get r.world.slots i) ≡ Some k.entry.stamp → (b : Bool)
-          → is_in k.entry.stamp v.hand.dead ≡ b → b ≡ false
+          → is_in k.entry.stamp v.work.dead ≡ b → b ≡ false
       unseen shown true is =
           absurd (l.dead.unshown v.client i k.entry.stamp (ap (λ o. is_in k.entry.stamp (dead_by o)) (client_is fits p s r id v at seated) ∙ is) shown)
       unseen shown false is = refl

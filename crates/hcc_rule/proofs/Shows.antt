@@ -37,7 +37,7 @@ use Rattle.hcc_rule.proofs.ViewParts.{recorded_else}
 use Rattle.hcc_rule.proofs.Looks.{slot_there}
 use Rattle.hcc_rule.proofs.Empties.{owner_there}
 use Rattle.hcc_rule.proofs.ShowParts.{get_front, get_last, first_code, first_weighs, show_allowed}
-use Rattle.hcc_rule.proofs.Turns.{Shard, Turn}
+use Rattle.hcc_rule.proofs.SlotSteps.{Shard, SlotStep}
 use Rattle.hcc_rule.proofs.Touches.{Goes, goes, client_is, live_is, book_is, stamps_are, was_right}
 
 -- a sum over what the client keeps of an entry on one slot is nothing on another
@@ -66,7 +66,7 @@ module _ {T : Type 0} (fits : T → Key → List ℕ → Type 0) (p : Plan T) wh
       (at : slice_get s.views id ≡ Some v) (seated : is_seated v ≡ true) (may : MayShow fits p i countdown name made v)
       (at_slot : slice_get r.world.slots i ≡ Some (slots.Building d strays)) where
     abbrev left : Slot
-    left = slots.Shareable (resident_new v.client v.hand made.key.w0 made.key.w1 made.charge countdown name made.value)
+    left = slots.Shareable (resident_new v.client v.work made.key.w0 made.key.w1 made.charge countdown name made.value)
 
     abbrev new : View T
     new = after_show i name made v
@@ -74,13 +74,13 @@ module _ {T : Type 0} (fits : T → Key → List ℕ → Type 0) (p : Plan T) wh
     abbrev entry : Entry
     entry = shown_entry v made
 
-    client : slice_get r.world.clients v.client ≡ Some v.hand
+    client : slice_get r.world.clients v.client ≡ Some v.work
     client = client_is fits p s r id v at seated
 
     book : slice_get r.books v.client ≡ Some v.made
     book = book_is fits p s r id v at seated
 
-    counts : v.hand.stamps ≡ length v.made
+    counts : v.work.stamps ≡ length v.made
     counts = stamps_are fits p s r id v at seated
 
     -- no record is of a slot that is built
@@ -145,7 +145,7 @@ module _ {T : Type 0} (fits : T → Key → List ℕ → Type 0) (p : Plan T) wh
         let same : e ≡ entry = cc in
         rw same record {
           made = made;
-          listed = ap (λ l. slice_get l v.hand.stamps) (book_here r.books v.client v.made new.made book) ∙ (ap (slice_get new.made) counts ∙ get_last v.made made);
+          listed = ap (λ l. slice_get l v.work.stamps) (book_here r.books v.client v.made new.made book) ∙ (ap (slice_get new.made) counts ∙ get_last v.made made);
           same = refl;
           lies = let there = (r.drafted id v at).lies i (ap owned_slot may.builds) in rw may.written at there;
         }
@@ -156,14 +156,14 @@ module _ {T : Type 0} (fits : T → Key → List ℕ → Type 0) (p : Plan T) wh
       | inr is ↦ rw is may.right
     ]
 
-    pub show_turn : Turn fits p s r id i v new (slots.Building d strays) left (events.Show v.client made.key.w0 made.key.w1 made.charge countdown name made.value) replies.Ok
-    show_turn = record {
+    pub shown_step : SlotStep fits p s r id i v new (slots.Building d strays) left (events.Show v.client made.key.w0 made.key.w1 made.charge countdown name made.value) replies.Ok
+    shown_step = record {
       at_view = at;
       at_slot = at_slot;
       seated = seated;
       same = record { tag = refl; client = refl; others = refl; turns = refl };
       live = live_is fits p s r id v at seated;
-      allowed = show_allowed r.world v.client i countdown name made v.hand (is_lawful r.world r.lawful) client (live_is fits p s r id v at seated)
+      allowed = show_allowed r.world v.client i countdown name made v.work (is_lawful r.world r.lawful) client (live_is fits p s r id v at seated)
           may.builds may.place may.needed may.paid may.some may.few (named name may.fresh) (let few = may.stamps in let count = counts in omega arith)
           may.word0 may.word1 may.right.small (small_name name (λ x. record_in x v.records ≡ None) may.fresh) may.right.bytes;
       grows = λ n m there. get_front v.made (made ∷ []) n m there;
@@ -184,11 +184,11 @@ module _ {T : Type 0} (fits : T → Key → List ℕ → Type 0) (p : Plan T) wh
       paid = let push = length-push v.made made in omega arith;
       usage = let paid = may.paid in omega arith;
       occupancy =
-          let placed : when (is_placed v.hand.place) 1 ≡ 1 = ap (λ z. when (is_placed z) 1) may.place in
+          let placed : when (is_placed v.work.place) 1 ≡ 1 = ap (λ z. when (is_placed z) 1) may.place in
           omega arith;
       standing = refl;
       modest =
-          let old = r.ledgers.modest v.client v.hand client in
+          let old = r.ledgers.modest v.client v.work client in
           let asked = old.asked in
           record { asked = omega arith; freed = old.freed; few = old.few; small = old.small };
       passed = λ j. omega arith;
@@ -217,4 +217,4 @@ module _ {T : Type 0} (fits : T → Key → List ℕ → Type 0) (p : Plan T) wh
       by (slots.Building d strays) at_slot owner =
           goes fits p s r a y id i me (after_show i name made me.0) (slots.Building d strays) _ _ replies.Ok then place
           (code ∙ first_code me.0.client countdown name)
-          (show_turn s r id i countdown d strays name made me.0 at_view seated may at_slot) (refl, refl)
+          (shown_step s r id i countdown d strays name made me.0 at_view seated may at_slot) (refl, refl)

@@ -25,7 +25,7 @@ use Rattle.hcc_rule.proofs.Lists.{within, read_at, each_set}
 use Rattle.hcc_rule.proofs.ViewParts.{total-two, when_few, when_is, seated_else, others_else}
 use Rattle.hcc_rule.proofs.WorldParts.{hand_same}
 use Rattle.hcc_rule.proofs.Looks.{client_fits}
-use Rattle.hcc_rule.proofs.Turns.{Shard}
+use Rattle.hcc_rule.proofs.SlotSteps.{Shard}
 
 -- what holds of each member, and of one more
 pub each_snoc : {A : Type 0} (P : A → Type 0) (xs : List A) (y : A) → P y
@@ -131,7 +131,7 @@ module _ {T : Type 0} (fits : T → Key → List ℕ → Type 0) (p : Plan T) wh
     left_seated : IsSeated p.tag after.clients r.books left
     left_seated = record {
       tagged = old.tagged;
-      hand = λ sits. read_other r.world.clients o.client v.client new not_own ∙ old.hand sits;
+      work = λ sits. read_other r.world.clients o.client v.client new not_own ∙ old.work sits;
       live = old.live;
       book = old.book;
       others = still_named os not_rest others_named.1;
@@ -141,7 +141,7 @@ module _ {T : Type 0} (fits : T → Key → List ℕ → Type 0) (p : Plan T) wh
     right_seated : IsSeated p.tag after.clients r.books right
     right_seated = record {
       tagged = old.tagged;
-      hand = λ sits. read_here r.world.clients o.client (resting o.made o.dead) new was;
+      work = λ sits. read_here r.world.clients o.client (resting o.made o.dead) new was;
       live = λ sits. refl;
       book = λ sits. others_named.0.book;
       others = tt;
@@ -154,7 +154,7 @@ module _ {T : Type 0} (fits : T → Key → List ℕ → Type 0) (p : Plan T) wh
         let theirs_was = r.seats.each j u there in
         record {
           tagged = theirs_was.tagged;
-          hand = λ sits. read_other r.world.clients o.client u.client new (seated_else o.client u sits none) ∙ theirs_was.hand sits;
+          work = λ sits. read_other r.world.clients o.client u.client new (seated_else o.client u sits none) ∙ theirs_was.work sits;
           live = theirs_was.live;
           book = theirs_was.book;
           others = still_named u.others (omega arith) theirs_was.others;

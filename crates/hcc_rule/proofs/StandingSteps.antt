@@ -23,10 +23,10 @@ use Rattle.hcc_rule.specs.Words.{ledger_at}
 use Rattle.hcc_rule.specs.Rule.{IsModest, Holds}
 use Rattle.hcc_rule.proofs.Lists.{read_at, each_append}
 use Rattle.hcc_rule.proofs.Findings.{dropped_each}
-use Rattle.hcc_rule.proofs.LedgerTurns.{on_standing, Pays}
+use Rattle.hcc_rule.proofs.LedgerSteps.{on_standing, Pays}
 use Rattle.hcc_rule.proofs.LedgerGives.{standing_gives, stand_gives, fall_allowed}
 use Rattle.hcc_rule.proofs.Asides.{pays_at, modest_is, law_is, usage_low, goes_by}
-use Rattle.hcc_rule.proofs.Turns.{Shard}
+use Rattle.hcc_rule.proofs.SlotSteps.{Shard}
 use Rattle.hcc_rule.proofs.Touches.{client_is, live_is}
 
 -- what stands for a client is within all that stands
@@ -41,30 +41,30 @@ standing_used w = let each = total-le standing_of charged_to w.clients (λ i cli
     part : (client : Client) → standing_of client ≤ charged_to client
     part client = omega arith
 
-module _ {T : Type 0} (fits : T → Key → List ℕ → Type 0) (p : Plan T) (count id a : ℕ) (me : Held T) (seated : is_seated me.0 ≡ true) (place : a ≡ ledger_at p.geometry.slots p.geometry.room STANDING) where
+module _ {T : Type 0} (fits : T → Key → List ℕ → Type 0) (p : Plan T) (count id a : ℕ) (me : Held T) (seated : is_seated me.0 ≡ true) (address : a ≡ ledger_at p.geometry.slots p.geometry.room STANDING) where
   module _ (s : Shard fits p) (r : Holds fits p s) where
     -- the word found is all that stands
     found_standing : slice_index s.words a ≡ standing_in r.world
-    found_standing = ap (slice_index s.words) place ∙ r.ledgers.standing
+    found_standing = ap (slice_index s.words) address ∙ r.ledgers.standing
 
     -- what is paid by a client whose whole charge stays
-    paid_standing : (y : ℕ) (new : Client) → y + standing_of me.0.hand ≡ slice_index s.words a + standing_of new
-        → charged_to new ≡ charged_to me.0.hand
-        → new ≡ record me.0.hand { granted = new.granted; freed = new.freed; standalones = new.standalones }
-        → Pays p.geometry.slots p.geometry.room a (slice_index s.words a) y r.world.hand r.world.hand me.0.hand new
+    paid_standing : (y : ℕ) (new : Client) → y + standing_of me.0.work ≡ slice_index s.words a + standing_of new
+        → charged_to new ≡ charged_to me.0.work
+        → new ≡ record me.0.work { granted = new.granted; freed = new.freed; standalones = new.standalones }
+        → Pays p.geometry.slots p.geometry.room a (slice_index s.words a) y r.world.hand r.world.hand me.0.work new
     paid_standing y new paid charged same =
-        pays_at p.geometry.slots p.geometry.room a _ (slice_index s.words a) y r.world.hand r.world.hand me.0.hand new place
-        (on_standing p.geometry.slots p.geometry.room (slice_index s.words a) y r.world.hand me.0.hand new paid
+        pays_at p.geometry.slots p.geometry.room a _ (slice_index s.words a) y r.world.hand r.world.hand me.0.work new address
+        (on_standing p.geometry.slots p.geometry.room (slice_index s.words a) y r.world.hand me.0.work new paid
         charged (ap occupied_by same) (ap (λ (c : Client). c.trail) same))
 
   pub standing_step : Allows (Holds fits p) count id me a (λ n. n) (standings (step count a 0 0 none) me)
   standing_step s r homes there low =
-      goes_by fits p s r id a word me v.hand v.open_places v.seen v.tight
+      goes_by fits p s r id a word me v.work v.open_places v.seen v.tight
       (events.Standing v.client) (replies.Count (standing_in r.world)) (standings (step count a 0 0 none) me) at seated refl
       (modest_is fits p s r id v at seated)
-      (standing_gives r.world v.client v.hand (law_is fits p s r) client live)
-      (paid_standing s r word v.hand refl refl refl)
-      (refl, refl, rw (found_standing s r) (standing_within r.world v.client v.hand client))
+      (standing_gives r.world v.client v.work (law_is fits p s r) client live)
+      (paid_standing s r word v.work refl refl refl)
+      (refl, refl, rw (found_standing s r) (standing_within r.world v.client v.work client))
     where
       v : View T
       v = me.0
@@ -75,23 +75,23 @@ module _ {T : Type 0} (fits : T → Key → List ℕ → Type 0) (p : Plan T) (c
       at : slice_get s.views id ≡ Some v
       at = read_at s.views id v there
 
-      client : slice_get r.world.clients v.client ≡ Some v.hand
+      client : slice_get r.world.clients v.client ≡ Some v.work
       client = client_is fits p s r id v at seated
 
-      live : v.hand.live ≡ true
+      live : v.work.live ≡ true
       live = live_is fits p s r id v at seated
 
   -- An add: an entry stands alone from now on, with a charge that was granted.
   pub stand_step : (name charge : ℕ) → name < 2 ^ 64 → charge < 2 ^ 32
-      → me.0.hand.place ≡ places.Absent → charge ≤ me.0.hand.granted
-      → list_any (is_standing name) me.0.hand.standalones ≡ false
-      → length me.0.hand.standalones < MOST_HANDLES
+      → me.0.work.place ≡ places.Absent → charge ≤ me.0.work.granted
+      → list_any (is_standing name) me.0.work.standalones ≡ false
+      → length me.0.work.standalones < MOST_HANDLES
       → Allows (Holds fits p) count id me a (λ n. (n + charge) % 2 ^ 64) (stands name (step count a charge 0 none) me)
   stand_step name charge named cheap absent granted fresh few s r homes there low =
       goes_by fits p s r id a ((word + charge) % 2 ^ 64) me new v.open_places v.seen v.tight
       (events.Stand v.client charge name) replies.Ok (stands name (step count a charge 0 none) me) at seated refl
       modest
-      (stand_gives r.world v.client v.hand (law_is fits p s r) client live name charge named cheap absent granted fresh)
+      (stand_gives r.world v.client v.work (law_is fits p s r) client live name charge named cheap absent granted fresh)
       (paid_standing s r ((word + charge) % 2 ^ 64) new paid charged refl)
       (refl, refl)
     where
@@ -104,33 +104,33 @@ module _ {T : Type 0} (fits : T → Key → List ℕ → Type 0) (p : Plan T) (c
       at : slice_get s.views id ≡ Some v
       at = read_at s.views id v there
 
-      client : slice_get r.world.clients v.client ≡ Some v.hand
+      client : slice_get r.world.clients v.client ≡ Some v.work
       client = client_is fits p s r id v at seated
 
-      live : v.hand.live ≡ true
+      live : v.work.live ≡ true
       live = live_is fits p s r id v at seated
 
       one : Standalone
       one = record { name = name; charge = charge }
 
       new : Client
-      new = record v.hand { granted = v.hand.granted - charge; standalones = v.hand.standalones ++ one ∷ [] }
+      new = record v.work { granted = v.work.granted - charge; standalones = v.work.standalones ++ one ∷ [] }
 
-      grown : standing_of new ≡ standing_of v.hand + charge
-      grown = let sum = total-append (λ (z : Standalone). z.charge) v.hand.standalones (one ∷ []) in omega arith
+      grown : standing_of new ≡ standing_of v.work + charge
+      grown = let sum = total-append (λ (z : Standalone). z.charge) v.work.standalones (one ∷ []) in omega arith
 
       modest : IsModest new
       modest = let old = modest_is fits p s r id v at seated in record {
         asked = let asked = old.asked in omega arith;
         freed = old.freed;
-        few = let longer = length-push v.hand.standalones one in omega arith;
-        small = each_append (λ (z : Standalone). z.charge < 2 ^ 32) v.hand.standalones (one ∷ []) old.small (cheap, tt);
+        few = let longer = length-push v.work.standalones one in omega arith;
+        small = each_append (λ (z : Standalone). z.charge < 2 ^ 32) v.work.standalones (one ∷ []) old.small (cheap, tt);
       }
 
-      charged : charged_to new ≡ charged_to v.hand
+      charged : charged_to new ≡ charged_to v.work
       charged = let more = grown in omega arith
 
-      paid : (word + charge) % 2 ^ 64 + standing_of v.hand ≡ word + standing_of new
+      paid : (word + charge) % 2 ^ 64 + standing_of v.work ≡ word + standing_of new
       paid =
           let more = grown in
           let found = found_standing s r in
@@ -140,14 +140,14 @@ module _ {T : Type 0} (fits : T → Key → List ℕ → Type 0) (p : Plan T) (c
 
   -- A take: an entry that stood alone falls, and its charge is freed.
   pub fall_step : (name charge : ℕ) → name < 2 ^ 64
-      → find (is_standing name) me.0.hand.standalones ≡ Some (record { name = name; charge = charge })
-      → me.0.hand.freed + charge < 2 ^ 49
+      → find (is_standing name) me.0.work.standalones ≡ Some (record { name = name; charge = charge })
+      → me.0.work.freed + charge < 2 ^ 49
       → Allows (Holds fits p) count id me a (λ x. (x + (2 ^ 64 - charge)) % 2 ^ 64) (falls name (step count a charge 0 none) me)
   fall_step name charge named stood room s r homes there low =
       goes_by fits p s r id a ((word + (2 ^ 64 - charge)) % 2 ^ 64) me new v.open_places v.seen v.tight
       (events.Fall v.client name) replies.Ok (falls name (step count a charge 0 none) me) at seated refl
       modest
-      (fall_allowed r.world v.client v.hand (law_is fits p s r) client live name one named stood)
+      (fall_allowed r.world v.client v.work (law_is fits p s r) client live name one named stood)
       (paid_standing s r ((word + (2 ^ 64 - charge)) % 2 ^ 64) new paid charged refl)
       (refl, refl)
     where
@@ -160,35 +160,35 @@ module _ {T : Type 0} (fits : T → Key → List ℕ → Type 0) (p : Plan T) (c
       at : slice_get s.views id ≡ Some v
       at = read_at s.views id v there
 
-      client : slice_get r.world.clients v.client ≡ Some v.hand
+      client : slice_get r.world.clients v.client ≡ Some v.work
       client = client_is fits p s r id v at seated
 
-      live : v.hand.live ≡ true
+      live : v.work.live ≡ true
       live = live_is fits p s r id v at seated
 
       one : Standalone
       one = record { name = name; charge = charge }
 
       new : Client
-      new = record v.hand { freed = v.hand.freed + charge; standalones = dropped (is_standing name) v.hand.standalones }
+      new = record v.work { freed = v.work.freed + charge; standalones = dropped (is_standing name) v.work.standalones }
 
-      shrunk : standing_of new + charge ≡ standing_of v.hand
-      shrunk = dropped-total (is_standing name) (λ (z : Standalone). z.charge) v.hand.standalones one stood
+      shrunk : standing_of new + charge ≡ standing_of v.work
+      shrunk = dropped-total (is_standing name) (λ (z : Standalone). z.charge) v.work.standalones one stood
 
       modest : IsModest new
       modest = let old = modest_is fits p s r id v at seated in record {
         asked = old.asked;
         freed = room;
-        few = let shorter = dropped-length (is_standing name) v.hand.standalones in let most = old.few in omega arith;
-        small = dropped_each (is_standing name) (λ (z : Standalone). z.charge < 2 ^ 32) v.hand.standalones old.small;
+        few = let shorter = dropped-length (is_standing name) v.work.standalones in let most = old.few in omega arith;
+        small = dropped_each (is_standing name) (λ (z : Standalone). z.charge < 2 ^ 32) v.work.standalones old.small;
       }
 
-      charged : charged_to new ≡ charged_to v.hand
+      charged : charged_to new ≡ charged_to v.work
       charged = let less = shrunk in omega arith
 
-      paid : (word + (2 ^ 64 - charge)) % 2 ^ 64 + standing_of v.hand ≡ word + standing_of new
+      paid : (word + (2 ^ 64 - charge)) % 2 ^ 64 + standing_of v.work ≡ word + standing_of new
       paid =
           let less = shrunk in
           let found = found_standing s r in
-          let within = standing_within r.world v.client v.hand client in
+          let within = standing_within r.world v.client v.work client in
           omega arith

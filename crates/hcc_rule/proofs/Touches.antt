@@ -25,13 +25,13 @@ use Rattle.hcc_rule.specs.Words.{field_at, code_of}
 use Rattle.hcc_rule.specs.Rule.{entry_by, entry_in, IsRecorded, IsHolding, IsTrailed, Holds, IsRight}
 use Rattle.hcc_rule.proofs.Lists.{each_map}
 use Rattle.hcc_rule.proofs.ViewParts.{recorded_kept}
-use Rattle.hcc_rule.proofs.Turns.{Shard, SameName, Turn, turned}
+use Rattle.hcc_rule.proofs.SlotSteps.{Shard, SameName, SlotStep, slot_stepped}
 
 -- an outcome, by what the client is then
-pub by_hand : (w : State) (event : Event) (reply : Reply) (i c : ℕ) (left : Slot) (k j : Client) → k ≡ j
+pub by_client : (w : State) (event : Event) (reply : Reply) (i c : ℕ) (left : Slot) (k j : Client) → k ≡ j
     → outcome_of w event ≡ Ok (reply, with_both w i left c k)
     → outcome_of w event ≡ Ok (reply, with_both w i left c j)
-by_hand w event reply i c left k j same h = rw (← same) h
+by_client w event reply i c left k j same h = rw (← same) h
 
 -- the slot keeps its entry and its trail
 pub record Alike (t left : Slot) : Type 0 where
@@ -86,9 +86,9 @@ module _ {T : Type 0} (fits : T → Key → List ℕ → Type 0) (p : Plan T) wh
     pub at_slot : slice_get r.world.slots i ≡ Some t
     pub seated : is_seated v ≡ true
     pub same : SameName fits p v new
-    pub work : SameWork v.hand new.hand
+    pub work : SameWork v.work new.work
     pub store : SameStore v new
-    pub allowed : outcome_of r.world event ≡ Ok (reply, with_both r.world i left v.client new.hand)
+    pub allowed : outcome_of r.world event ≡ Ok (reply, with_both r.world i left v.client new.work)
     pub like : Alike t left
     pub here : (h : Reference → ℕ) → total h (references_of left) + held i h v ≡ total h (references_of t) + held i h new
     pub elsewhere : (j : ℕ) (h : Reference → ℕ) → j ≢ i → held j h new ≡ held j h v
@@ -96,25 +96,25 @@ module _ {T : Type 0} (fits : T → Key → List ℕ → Type 0) (p : Plan T) wh
 
   module _ (s : Shard fits p) (r : Holds fits p s) (id : ℕ) (v : View T) (at : slice_get s.views id ≡ Some v) (seated : is_seated v ≡ true) where
     -- the client of a seat, and its list
-    pub client_is : slice_get r.world.clients v.client ≡ Some v.hand
-    client_is = (r.seats.each id v at).hand seated
+    pub client_is : slice_get r.world.clients v.client ≡ Some v.work
+    client_is = (r.seats.each id v at).work seated
 
-    pub live_is : v.hand.live ≡ true
+    pub live_is : v.work.live ≡ true
     live_is = (r.seats.each id v at).live seated
 
     pub book_is : slice_get r.books v.client ≡ Some v.made
     book_is = (r.seats.each id v at).book seated
 
     -- it has as many stamps as it showed entries, and was right to show each
-    pub stamps_are : v.hand.stamps ≡ length v.made
-    stamps_are = r.stamps.counted v.client v.hand client_is ∙ ap (λ o. length (unwrap_or o [])) book_is
+    pub stamps_are : v.work.stamps ≡ length v.made
+    stamps_are = r.stamps.counted v.client v.work client_is ∙ ap (λ o. length (unwrap_or o [])) book_is
 
     pub was_right : (n : ℕ) (made : Made) → slice_get v.made n ≡ Some made → IsRight fits p.tag p.geometry.room made
     was_right n made there =
         r.stamps.right (record { client = v.client; number = n }) made (ap (λ o. slice_get (unwrap_or o []) n) book_is ∙ there)
 
   pub touched : (s : Shard fits p) (r : Holds fits p s) (id i : ℕ) (v new : View T) (t left : Slot) (event : Event) (reply : Reply)
-      → Touch s r id i v new t left event reply → Turn fits p s r id i v new t left event reply
+      → Touch s r id i v new t left event reply → SlotStep fits p s r id i v new t left event reply
   touched s r id i v new t left event reply m = record {
     at_view = m.at_view;
     at_slot = m.at_slot;
@@ -150,24 +150,24 @@ module _ {T : Type 0} (fits : T → Key → List ℕ → Type 0) (p : Plan T) wh
         omega arith;
     usage =
         let charge = charge_alike t left m.like in
-        let hand : charged_to new.hand ≡ charged_to v.hand = ap charged_to m.work in
+        let same_work : charged_to new.work ≡ charged_to v.work = ap charged_to m.work in
         omega arith;
     occupancy =
         let taken = taken_alike t left m.like in
-        let hand : occupied_by new.hand ≡ occupied_by v.hand = ap occupied_by m.work in
+        let same_work : occupied_by new.work ≡ occupied_by v.work = ap occupied_by m.work in
         omega arith;
     standing = ap standing_of m.work;
     modest =
-        let old = r.ledgers.modest v.client v.hand client in
+        let old = r.ledgers.modest v.client v.work client in
         rw m.work record { asked = old.asked; freed = old.freed; few = old.few; small = old.small };
     passed = λ j.
         let trail = ap (times j) m.like.trail in
-        let hand : times j new.hand.trail ≡ times j v.hand.trail = ap (λ (c : Client). times j c.trail) m.work in
+        let same_work : times j new.work.trail ≡ times j v.work.trail = ap (λ (c : Client). times j c.trail) m.work in
         omega arith;
     trailed = trailed_alike p.geometry.slots i t left m.like (r.trails.entries i t m.at_slot);
   }
     where
-      client : slice_get r.world.clients v.client ≡ Some v.hand
+      client : slice_get r.world.clients v.client ≡ Some v.work
       client = client_is s r id v m.at_view m.seated
 
       kept : (k : Record) → IsRecorded r.world.slots k → IsRecorded (slice_set r.world.slots i left) k
@@ -182,12 +182,12 @@ module _ {T : Type 0} (fits : T → Key → List ℕ → Type 0) (p : Plan T) wh
 
   pub goes : (s : Shard fits p) (r : Holds fits p s) (a y id i : ℕ) (me : Held T) (new : View T) (t left : Slot) (event : Event) (reply : Reply) (then : ℕ → Held T → Type 0)
       → a ≡ field_at p.geometry.room i META → y ≡ code_of left
-      → Turn fits p s r id i me.0 new t left event reply
+      → SlotStep fits p s r id i me.0 new t left event reply
       → then (slice_index s.words a) (new, me.1) → Goes s a y id me then
   goes s r a y id i me new t left event reply then place word m told = (
     new,
     keeps,
     tt,
-    rw (place, word) (turned fits p s r s.homes id i me.0 new t left event reply m),
+    rw (place, word) (slot_stepped fits p s r s.homes id i me.0 new t left event reply m),
     told,
   )

@@ -131,19 +131,19 @@ others_else c P Q f (o ∷ os) none h = (
 )
 
 -- a client that isn't the one that changes rests as it did
-named_else : (clients : List Client) (books : Books) (c : ℕ) (hand : Client) (made : List Made) (o : Other)
+named_else : (clients : List Client) (books : Books) (c : ℕ) (work : Client) (made : List Made) (o : Other)
     → o.client ≢ c → IsNamed clients books o
-    → IsNamed (slice_set clients c hand) (slice_set books c made) o
-named_else clients books c hand made o other old = record {
-  there = read_other clients c o.client hand other ∙ old.there;
+    → IsNamed (slice_set clients c work) (slice_set books c made) o
+named_else clients books c work made o other old = record {
+  there = read_other clients c o.client work other ∙ old.there;
   book = read_other books c o.client made other ∙ old.book;
 }
 
 -- One view's client and its list change, and the view with them.
 pub seats_set : {T : Type 0} (tag : T) (clients : List Client) (books : Books) (views : List (View T)) (id : ℕ) (v new : View T)
     → Seats tag clients books views → slice_get views id ≡ Some v → is_seated v ≡ true
-    → new.tag ≡ v.tag → new.client ≡ v.client → new.others ≡ v.others → new.hand.live ≡ true
-    → Seats tag (slice_set clients v.client new.hand) (slice_set books v.client new.made) (slice_set views id new)
+    → new.tag ≡ v.tag → new.client ≡ v.client → new.others ≡ v.others → new.work.live ≡ true
+    → Seats tag (slice_set clients v.client new.work) (slice_set books v.client new.made) (slice_set views id new)
 seats_set {T} tag clients books views id v new seats at seated tags client others live = record {
   each = each_set (λ j u. IsSeated tag after books_after u) views id new mine
       (λ j u other there. theirs j u (unnamed tag clients books views id j v u seats at there seated other) (seats.each j u there));
@@ -151,18 +151,18 @@ seats_set {T} tag clients books views id v new seats at seated tags client other
       let same : names c new ≡ names c v = rw (tags, client, others) refl in
       let change = total-set (names c) views id v new at in
       let was = seats.once c in
-      let size : when (nat_lt c (length after)) 1 ≡ when (nat_lt c (length clients)) 1 = ap (λ n. when (nat_lt c n) 1) (length-set clients v.client new.hand) in
+      let size : when (nat_lt c (length after)) 1 ≡ when (nat_lt c (length clients)) 1 = ap (λ n. when (nat_lt c n) 1) (length-set clients v.client new.work) in
       omega arith;
   all =
       let same : named_by new ≡ named_by v = rw (tags, others) refl in
       let change = total-set named_by views id v new at in
       let was = seats.all in
-      let size = length-set clients v.client new.hand in
+      let size = length-set clients v.client new.work in
       omega arith;
 }
   where
     after : List Client
-    after = slice_set clients v.client new.hand
+    after = slice_set clients v.client new.work
 
     books_after : Books
     books_after = slice_set books v.client new.made
@@ -181,11 +181,11 @@ seats_set {T} tag clients books views id v new seats at seated tags client other
     mine : IsSeated tag after books_after new
     mine = record {
       tagged = rw tags old.tagged;
-      hand = λ still. rw client (read_here clients v.client v.hand new.hand (old.hand seated));
+      work = λ still. rw client (read_here clients v.client v.work new.work (old.work seated));
       live = λ still. live;
       book = λ still. rw client (read_here books v.client v.made new.made (old.book seated));
       others = rw others (others_else v.client (IsNamed clients books) (IsNamed after books_after)
-          (λ o other h. named_else clients books v.client new.hand new.made o other h) v.others own_others old.others);
+          (λ o other h. named_else clients books v.client new.work new.made o other h) v.others own_others old.others);
       spent = λ none. let bad : is_seated v ≡ false = rw (sym tags ∙ none) refl in cc;
     }
 
@@ -193,10 +193,10 @@ seats_set {T} tag clients books views id v new seats at seated tags client other
         → IsSeated tag after books_after u
     theirs j u none was = record {
       tagged = was.tagged;
-      hand = λ sits. read_other clients v.client u.client new.hand (seated_else v.client u sits none) ∙ was.hand sits;
+      work = λ sits. read_other clients v.client u.client new.work (seated_else v.client u sits none) ∙ was.work sits;
       live = was.live;
       book = λ sits. read_other books v.client u.client new.made (seated_else v.client u sits none) ∙ was.book sits;
       others = others_else v.client (IsNamed clients books) (IsNamed after books_after)
-          (λ o other h. named_else clients books v.client new.hand new.made o other h) u.others (omega arith) was.others;
+          (λ o other h. named_else clients books v.client new.work new.made o other h) u.others (omega arith) was.others;
       spent = was.spent;
     }

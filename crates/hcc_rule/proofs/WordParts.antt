@@ -39,9 +39,9 @@ coded_meta room all words i t left c at = record {
     inside =
         let low = field_inside (length all) room i META (within all i t at) (omega arith) in
         let wide = c.wide in
-        let place : ℕ = field_at room i META in
+        let address : ℕ = field_at room i META in
         let count : ℕ = word_count (length all) room in
-        let g : place < length words = omega arith in
+        let g : address < length words = omega arith in
         g
 
 -- a word changes that is no meta word
@@ -118,7 +118,7 @@ stored_books room all words old new keeps stored s entry h =
 -- a word changes that is no data word of another owner's slot
 pub drafted_set : {T : Type 0} (room : ℕ) (words : List ℕ) (views : List (View T)) (id a y : ℕ) (new : View T)
     → IsDraft room (slice_set words a y) new
-    → ((j : ℕ) (v : View T) → j ≢ id → slice_get views j ≡ Some v → (s : ℕ) → owned_slot v.hand.owned ≡ Some s → Away room a s)
+    → ((j : ℕ) (v : View T) → j ≢ id → slice_get views j ≡ Some v → (s : ℕ) → owned_slot v.work.owned ≡ Some s → Away room a s)
     → Drafted room words views → Drafted room (slice_set words a y) (slice_set views id new)
 drafted_set room words views id a y new mine away drafted =
     each_set (λ j v. IsDraft room (slice_set words a y) v) views id new mine

@@ -51,14 +51,14 @@ made_grows books c old new at grows stamp made listed = elim (cases_eq stamp.cli
 pub stamps_set : {T : Type 0} (fits : T → Key → List ℕ → Type 0) (tag : T) (room : ℕ) (all : List Slot) (clients : List Client) (books : Books) (views : List (View T)) (i id : ℕ) (t left : Slot) (v new : View T)
     → Stamps fits tag room all clients books views
     → slice_get all i ≡ Some t → slice_get views id ≡ Some v
-    → slice_get clients v.client ≡ Some v.hand → slice_get books v.client ≡ Some v.made
-    → new.hand.stamps ≡ length new.made
+    → slice_get clients v.client ≡ Some v.work → slice_get books v.client ≡ Some v.made
+    → new.work.stamps ≡ length new.made
     → ((n : ℕ) (made : Made) → slice_get new.made n ≡ Some made → IsRight fits tag room made)
     → taken_by_slot left + new.takings + length v.made ≡ taken_by_slot t + v.takings + length new.made
-    → Stamps fits tag room (slice_set all i left) (slice_set clients v.client new.hand) (slice_set books v.client new.made) (slice_set views id new)
+    → Stamps fits tag room (slice_set all i left) (slice_set clients v.client new.work) (slice_set books v.client new.made) (slice_set views id new)
 stamps_set {T} fits tag room all clients books views i id t left v new stamps at_slot at_view at_client at_book count right paid = record {
-  sized = length-set books v.client new.made ∙ (stamps.sized ∙ sym (length-set clients v.client new.hand));
-  counted = each_set (λ c client. client.stamps ≡ length (book_of after c)) clients v.client new.hand
+  sized = length-set books v.client new.made ∙ (stamps.sized ∙ sym (length-set clients v.client new.work));
+  counted = each_set (λ c client. client.stamps ≡ length (book_of after c)) clients v.client new.work
       (count ∙ ap length (sym (book_here books v.client v.made new.made at_book)))
       (λ c client other there.
       stamps.counted c client there ∙ ap length (sym (book_else books v.client c new.made other)));

@@ -33,7 +33,7 @@ use Rattle.hcc_rule.proofs.ClientParts.{SameView, references_view, holding_view,
 use Rattle.hcc_rule.proofs.WorldParts.{hand_kept}
 use Rattle.hcc_rule.proofs.Looks.{client_fits, slot_there}
 use Rattle.hcc_rule.proofs.Empties.{owner_there}
-use Rattle.hcc_rule.proofs.Turns.{Shard, size_is}
+use Rattle.hcc_rule.proofs.SlotSteps.{Shard, size_is}
 use Rattle.hcc_rule.proofs.Touches.{client_is, live_is}
 
 -- the member at the end, and those before it
@@ -72,7 +72,7 @@ write_allowed w c i found l at_client live builds =
 module _ {T : Type 0} (fits : T → Key → List ℕ → Type 0) (p : Plan T) where
   module _ (s : Shard fits p) (r : Holds fits p s) (id i y : ℕ) (v : View T)
       (at : slice_get s.views id ≡ Some v) (seated : is_seated v ≡ true) (near : i < p.geometry.slots)
-      (builds : v.hand.owned ≡ owned.ForBuilding i) (room_left : length v.written < PAYLOAD + p.geometry.room) where
+      (builds : v.work.owned ≡ owned.ForBuilding i) (room_left : length v.written < PAYLOAD + p.geometry.room) where
     abbrev room : ℕ
     room = p.geometry.room
 
@@ -121,7 +121,7 @@ module _ {T : Type 0} (fits : T → Key → List ℕ → Type 0) (p : Plan T) wh
         cc
 
     -- and no other client builds it
-    owned_else : (j : ℕ) (u : View T) → j ≢ id → slice_get s.views j ≡ Some u → (k : ℕ) → owned_slot u.hand.owned ≡ Some k → k ≢ i
+    owned_else : (j : ℕ) (u : View T) → j ≢ id → slice_get s.views j ≡ Some u → (k : ℕ) → owned_slot u.work.owned ≡ Some k → k ≢ i
     owned_else j u other there k owns same = by (is_seated u) refl
       where
         by : (b : Bool) → is_seated u ≡ b → ⊥
@@ -159,11 +159,11 @@ module _ {T : Type 0} (fits : T → Key → List ℕ → Type 0) (p : Plan T) wh
               rw same (lies_more s.words (field_at p.geometry.room i DATA) y v.written inside (old.lies i (ap owned_slot builds)));
         }
 
-    client : slice_get r.world.clients v.client ≡ Some v.hand
+    client : slice_get r.world.clients v.client ≡ Some v.work
     client = client_is fits p s r id v at seated
 
     allowed : outcome_of r.world (events.Write v.client) ≡ Ok (replies.Ok, r.world)
-    allowed = write_allowed r.world v.client i v.hand (is_lawful r.world r.lawful) client (live_is fits p s r id v at seated) builds
+    allowed = write_allowed r.world v.client i v.work (is_lawful r.world r.lawful) client (live_is fits p s r id v at seated) builds
 
     same : SameView v new
     same = record { tag = refl; client = refl; others = refl; records = refl; made = refl; takings = refl }
@@ -199,13 +199,13 @@ module _ {T : Type 0} (fits : T → Key → List ℕ → Type 0) (p : Plan T) wh
 
   -- The store of the next data word keeps the rule.
   pub write_step : (count id i a y : ℕ) (me : Held T) → i < p.geometry.slots → is_seated me.0 ≡ true
-      → me.0.hand.owned ≡ owned.ForBuilding i → length me.0.written < PAYLOAD + p.geometry.room
+      → me.0.work.owned ≡ owned.ForBuilding i → length me.0.written < PAYLOAD + p.geometry.room
       → a ≡ field_at p.geometry.room i DATA + length me.0.written
       → Allows (Holds fits p) count id me a (λ n. y) (λ n. writes (step count a y 0 none) me y)
-  write_step count id i a y me near seated builds room_left place s r homes at low = (
+  write_step count id i a y me near seated builds room_left address s r homes at low = (
     after_write y me.0,
     keeps,
     tt,
-    rw place (write_holds s r id i y me.0 (read_at s.views id me.0 at) seated near builds room_left),
+    rw address (write_holds s r id i y me.0 (read_at s.views id me.0 at) seated near builds room_left),
     (refl, refl),
   )

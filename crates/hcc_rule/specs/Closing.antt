@@ -72,7 +72,7 @@ pub record IsSettled (slots room : ℕ) (words : List ℕ) : Type 0 where
 
 -- it names every client, and its own has nothing in hand; records may still stand
 pub record IsBack {T : Type 0} (clients : ℕ) (v : View T) : Type 0 where
-  pub idle : IsIdle v.hand
+  pub idle : IsIdle v.work
   pub all : named_by v ≡ clients
 
 -- the made list of a client that a view may name beside its own

@@ -4,6 +4,7 @@ use Rattle.atomic_table.specs.Seated.{TableId}
 use Rattle.hcc_core.specs.declared.state.Client.{Client}
 use Rattle.hcc_core.specs.Steps.{new_client}
 use Rattle.hcc_rule.specs.declared.rule.Plan.{Plan}
+use Rattle.hcc_rule.specs.declared.table.RuleTable.{RuleTable}
 use Rattle.hcc_rule.specs.declared.view.Record.{Record}
 use Rattle.hcc_rule.specs.declared.view.View.{View}
 use Rattle.hcc_rule.specs.Seats.{SeatOf, IsSeatOf, view}
@@ -16,7 +17,7 @@ carrying what now =
 module _ {T : Type 0} where
   -- the client of this view has this in hand, and these records
   pub record Carries (what : Client) (records : List Record) (v : View T) : Type 0 where
-    pub in_hand : v.hand ≡ carrying what v.hand
+    pub in_hand : v.work ≡ carrying what v.work
     pub records_are : v.records ≡ records
 
   -- nothing in hand, and no reference
@@ -35,3 +36,9 @@ module _ {T : Type 0} where
     pub slots : p.geometry.slots ≡ 8
     pub room : p.geometry.room ≡ 2
     pub lax : p.strict ≡ false
+
+module _ {T A : Type 0} where
+  -- a seat of this client at this table, in the same way
+  abbrev pub IsReadySeatAt : RuleTable T A → (client shown : ℕ) → SeatOf T → Type 0
+  IsReadySeatAt table client shown seat =
+      IsReadySeat table.table.shared.table_id table.table.shared.key.tag client shown seat

@@ -11,3 +11,4 @@ pub mod ToldTrails
 pub mod ToldOwners
 pub mod Closing
 pub mod Hands
+pub mod Callers

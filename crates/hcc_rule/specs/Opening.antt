@@ -23,7 +23,7 @@ abbrev pub fresh_view : {T : Type 0} → Option T → Other → List Other → V
 fresh_view tag o others = record {
   tag = tag;
   client = o.client;
-  hand = started o.made o.dead;
+  work = started o.made o.dead;
   others = others;
   records = [];
   written = [];
@@ -65,17 +65,17 @@ right_view v = first_view v.tag v.others
 
 -- a client with nothing in hand: it may have looked, and it may have stamps and a dead list
 abbrev pub IsIdle : Client → Type 0
-IsIdle hand = hand ≡ record new_client {
+IsIdle work = work ≡ record new_client {
   live = true;
-  looked = hand.looked;
-  stamps = hand.stamps;
-  dead = hand.dead;
+  looked = work.looked;
+  stamps = work.stamps;
+  dead = work.dead;
 }
 
 -- Two seats are joined: the client of the second, with nothing in hand, and those that it named
 -- are the first's to start, and what the second did counts as the first's.
 abbrev pub as_other : {T : Type 0} → View T → Other
-as_other v = record { client = v.client; made = v.made; dead = v.hand.dead }
+as_other v = record { client = v.client; made = v.made; dead = v.work.dead }
 
 abbrev pub joined_view : {T : Type 0} → View T → View T → View T
 joined_view v w = record v {

@@ -4,12 +4,12 @@ use Rattle.std.specs.List.{range_with_len}
 use Rattle.hcc_rule.specs.declared.key.Key.{Key}
 
 -- place i of a key: from its second word on, by steps of its first one, made odd
-abbrev pub probe_place : (slots : ℕ) → Key → (i : ℕ) → ℕ
-probe_place slots key i = (key.w1 + i * bit_or key.w0 1) % slots
+abbrev pub probe_slot : (slots : ℕ) → Key → (i : ℕ) → ℕ
+probe_slot slots key i = (key.w1 + i * bit_or key.w0 1) % slots
 
 -- all its places, in order: in a table of a power of two, each slot once
-abbrev pub probe_places : (slots : ℕ) → Key → List ℕ
-probe_places slots key = map (probe_place slots key) (range_with_len 0 slots)
+abbrev pub probe_slots : (slots : ℕ) → Key → List ℕ
+probe_slots slots key = map (probe_slot slots key) (range_with_len 0 slots)
 
 -- what stands in front of the first such number
 abbrev pub before : ℕ → List ℕ → List ℕ
@@ -18,4 +18,4 @@ before n (x ∷ xs) = if x == n then [] else x ∷ before n xs
 
 -- the slots that are passed on the way to a key's entry in this slot
 abbrev pub trail_to : (slots : ℕ) → Key → (slot : ℕ) → List ℕ
-trail_to slots key slot = before slot (probe_places slots key)
+trail_to slots key slot = before slot (probe_slots slots key)

@@ -69,7 +69,7 @@ Stored room all words books =
 -- all of the entry's that it took to free.
 pub record IsDraft {T : Type 0} (room : ℕ) (words : List ℕ) (v : View T) : Type 0 where
   pub short : length v.written ≤ PAYLOAD + room
-  pub lies : (s : ℕ) → owned_slot v.hand.owned ≡ Some s → Lies words (field_at room s DATA) v.written
+  pub lies : (s : ℕ) → owned_slot v.work.owned ≡ Some s → Lies words (field_at room s DATA) v.written
 
 abbrev pub Drafted : {T : Type 0} → ℕ → List ℕ → List (View T) → Type 0
 Drafted {T} room words views =
@@ -114,11 +114,11 @@ pub record IsNamed (clients : List Client) (books : Books) (o : Other) : Type 0 
 -- its own. One that stands for none names none and holds nothing.
 pub record IsSeated {T : Type 0} (tag : T) (clients : List Client) (books : Books) (v : View T) : Type 0 where
   pub tagged : IfSome v.tag (λ t. t ≡ tag)
-  pub hand : is_seated v ≡ true → slice_get clients v.client ≡ Some v.hand
-  pub live : is_seated v ≡ true → v.hand.live ≡ true
+  pub work : is_seated v ≡ true → slice_get clients v.client ≡ Some v.work
+  pub live : is_seated v ≡ true → v.work.live ≡ true
   pub book : is_seated v ≡ true → slice_get books v.client ≡ Some v.made
   pub others : Each (IsNamed clients books) v.others
-  pub spent : v.tag ≡ None → (v.records ≡ []) × (v.others ≡ []) × (owned_slot v.hand.owned ≡ None) × (v.takings ≡ 0)
+  pub spent : v.tag ≡ None → (v.records ≡ []) × (v.others ≡ []) × (owned_slot v.work.owned ≡ None) × (v.takings ≡ 0)
 
 -- each client is named by just one view
 pub record Seats {T : Type 0} (tag : T) (clients : List Client) (books : Books) (views : List (View T)) : Type 0 where

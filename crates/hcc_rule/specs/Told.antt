@@ -23,14 +23,14 @@ module _ {T : Type 0} where
   -- the view once its client noticed that
   abbrev pub noticing : (slot word : ℕ) → View T → View T
   noticing slot word v =
-      record v { hand = record v.hand { dead = joined v.hand.dead (found_dead slot word v) } }
+      record v { work = record v.work { dead = joined v.work.dead (found_dead slot word v) } }
 
   -- Load of the meta word: the client looks at a slot that has an entry.
   abbrev pub after_look : (slot word : ℕ) → View T → View T
   after_look slot word v = record v {
-    hand = record v.hand {
+    work = record v.work {
       looked = (if is_shareable word then Some slot else None);
-      dead = joined v.hand.dead (found_dead slot word v);
+      dead = joined v.work.dead (found_dead slot word v);
     };
   }
 

@@ -33,8 +33,8 @@ module _ {T : Type 0} where
   after_usage word v = record v { seen = v.seen ++ word ∷ [] }
 
   pub record Charged (v : View T) (word : ℕ) : Type 0 where
-    pub entries : charged_to v.hand + total (λ (r : Record). r.entry.charge) (different v.records) ≤ word
-    pub held : Each (λ (r : Record). charged_to v.hand + r.entry.charge ≤ word) v.records
+    pub entries : charged_to v.work + total (λ (r : Record). r.entry.charge) (different v.records) ≤ word
+    pub held : Each (λ (r : Record). charged_to v.work + r.entry.charge ≤ word) v.records
     pub low : word < 2 ^ 60
 
   abbrev pub usages : Step (Unit {0}) → Held T → ℕ → Held T → Type 0
@@ -43,9 +43,9 @@ module _ {T : Type 0} where
 
   -- A client that is alone made all entries, and took those that are gone.
   pub record Occupied (setup : Setup) (v : View T) (word : ℕ) : Type 0 where
-    pub entries : occupied_by v.hand + length (different v.records) ≤ word
+    pub entries : occupied_by v.work + length (different v.records) ≤ word
     pub low : word ≤ limit_of setup + setup.clients
-    pub alone : setup.clients ≡ 1 → word + v.takings ≡ length v.made + occupied_by v.hand
+    pub alone : setup.clients ≡ 1 → word + v.takings ≡ length v.made + occupied_by v.work
 
   abbrev pub occupancies : Setup → Step (Unit {0}) → Held T → ℕ → Held T → Type 0
   occupancies setup step me word after =
@@ -53,7 +53,7 @@ module _ {T : Type 0} where
 
   abbrev pub standings : Step (Unit {0}) → Held T → ℕ → Held T → Type 0
   standings step me word after =
-      (after.1 ≡ me.1) × (after.0 ≡ me.0) × (standing_of me.0.hand ≤ word)
+      (after.1 ≡ me.1) × (after.0 ≡ me.0) × (standing_of me.0.work ≤ word)
 
   -- A turn of the hand.
   abbrev pub after_turn : View T → View T
@@ -65,7 +65,7 @@ module _ {T : Type 0} where
   -- Add to the usage: what is granted at once, and what is needed beside.
   abbrev pub after_charge : Setup → (charge word : ℕ) → View T → View T
   after_charge setup charge word v = record v {
-    hand = record v.hand {
+    work = record v.work {
       granted = grant_of setup word charge;
       needed = needed_of setup word charge;
     };
@@ -79,14 +79,14 @@ module _ {T : Type 0} where
   -- Take from the usage.
   abbrev pub after_settle : View T → View T
   after_settle v = record v {
-    hand = record v.hand { granted = v.hand.granted + v.hand.needed; needed = 0; freed = 0 };
+    work = record v.work { granted = v.work.granted + v.work.needed; needed = 0; freed = 0 };
   }
 
   abbrev pub settles : Step (Unit {0}) → Held T → ℕ → Held T → Type 0
   settles step me word after = (after.1 ≡ me.1) × (after.0 ≡ after_settle me.0)
 
   abbrev pub after_waive : View T → View T
-  after_waive v = record v { hand = record v.hand { granted = 0; needed = 0; freed = 0 } }
+  after_waive v = record v { work = record v.work { granted = 0; needed = 0; freed = 0 } }
 
   abbrev pub waives : Step (Unit {0}) → Held T → ℕ → Held T → Type 0
   waives step me word after = (after.1 ≡ me.1) × (after.0 ≡ after_waive me.0)
@@ -94,7 +94,7 @@ module _ {T : Type 0} where
   -- Add to the occupancy.
   abbrev pub after_enter : Setup → (word : ℕ) → View T → View T
   after_enter setup word v = record v {
-    hand = record v.hand { place = place_at setup word };
+    work = record v.work { place = place_at setup word };
     open_places = (if nat_lt word (limit_of setup) then v.open_places else v.open_places + 1);
   }
 
@@ -106,14 +106,14 @@ module _ {T : Type 0} where
   -- Take from the occupancy.
   abbrev pub after_slots : View T → View T
   after_slots v = record v {
-    hand = record v.hand { freed_slots = 0; place = place_granted v.hand.place };
+    work = record v.work { freed_slots = 0; place = place_granted v.work.place };
   }
 
   abbrev pub gives_slots : Step (Unit {0}) → Held T → ℕ → Held T → Type 0
   gives_slots step me word after = (after.1 ≡ me.1) × (after.0 ≡ after_slots me.0)
 
   abbrev pub after_quit : View T → View T
-  after_quit v = record v { hand = record v.hand { place = places.Absent; freed_slots = 0 } }
+  after_quit v = record v { work = record v.work { place = places.Absent; freed_slots = 0 } }
 
   abbrev pub quits : Step (Unit {0}) → Held T → ℕ → Held T → Type 0
   quits step me word after = (after.1 ≡ me.1) × (after.0 ≡ after_quit me.0)
@@ -121,9 +121,9 @@ module _ {T : Type 0} where
   -- Add to what stands, and take from it.
   abbrev pub after_stand : (name charge : ℕ) → View T → View T
   after_stand name charge v = record v {
-    hand = record v.hand {
-      granted = v.hand.granted - charge;
-      standalones = v.hand.standalones ++ record { name = name; charge = charge } ∷ [];
+    work = record v.work {
+      granted = v.work.granted - charge;
+      standalones = v.work.standalones ++ record { name = name; charge = charge } ∷ [];
     };
   }
 
@@ -133,9 +133,9 @@ module _ {T : Type 0} where
 
   abbrev pub after_fall : (name charge : ℕ) → View T → View T
   after_fall name charge v = record v {
-    hand = record v.hand {
-      freed = v.hand.freed + charge;
-      standalones = dropped (is_standing name) v.hand.standalones;
+    work = record v.work {
+      freed = v.work.freed + charge;
+      standalones = dropped (is_standing name) v.work.standalones;
     };
   }
 

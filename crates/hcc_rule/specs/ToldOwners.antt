@@ -50,7 +50,7 @@ first_records slot (Some name) entry =
 
 -- that entry, by the client's count of stamps
 abbrev pub shown_entry : {T : Type 0} → View T → Made → Entry
-shown_entry v made = entry_of (record { client = v.client; number = v.hand.stamps }) made
+shown_entry v made = entry_of (record { client = v.client; number = v.work.stamps }) made
 
 -- what a draft makes of these bytes
 abbrev pub made_of : Draft → List ℕ → Made
@@ -74,27 +74,27 @@ room_for (Some name) = 1
 -- place and its charge granted, the trail to that slot, and a free name for the reference that it
 -- keeps, if any.
 pub record MayShow {T : Type 0} (fits : T → Key → List ℕ → Type 0) (p : Plan T) (slot countdown : ℕ) (name : Option ℕ) (made : Made) (v : View T) : Type 0 where
-  pub builds : v.hand.owned ≡ owned.ForBuilding slot
+  pub builds : v.work.owned ≡ owned.ForBuilding slot
   pub written : v.written ≡ made_words v.client made
   pub right : IsRight fits p.tag p.geometry.room made
   pub word0 : made.key.w0 < 2 ^ 64
   pub word1 : made.key.w1 < 2 ^ 64
-  pub place : v.hand.place ≡ places.Granted
-  pub needed : v.hand.needed ≡ 0
-  pub paid : made.charge ≤ v.hand.granted
+  pub place : v.work.place ≡ places.Granted
+  pub needed : v.work.needed ≡ 0
+  pub paid : made.charge ≤ v.work.granted
   pub some : 1 ≤ countdown
   pub few : countdown ≤ MOST_COUNTDOWN
   pub fresh : IfSome name (λ x. (x < 2 ^ 64) × (record_in x v.records ≡ None))
   pub room : load_of v.records + room_for name ≤ REFERENCES_PER_CLIENT
   pub stamps : length v.made < STAMPS_PER_CLIENT
-  pub trail : v.hand.trail ≡ trail_to p.geometry.slots made.key slot
+  pub trail : v.work.trail ≡ trail_to p.geometry.slots made.key slot
 
 module _ {T : Type 0} where
   -- Occupy: an empty slot is the client's to build, and any other is looked at.
   abbrev pub after_occupy : (slot word : ℕ) → View T → View T
   after_occupy slot word v =
       if is_empty word
-      then record v { hand = record v.hand { owned = owned.ForBuilding slot }; written = [] }
+      then record v { work = record v.work { owned = owned.ForBuilding slot }; written = [] }
       else record (after_look slot word v) { saw = v.saw + 1 }
 
   abbrev pub occupies : (slot : ℕ) → Step (Unit {0}) → Held T → ℕ → Held T → Type 0
@@ -103,7 +103,7 @@ module _ {T : Type 0} where
 
   -- Empty: the slot that was taken to be freed is given back.
   abbrev pub after_empty : View T → View T
-  after_empty v = record v { hand = record v.hand { owned = owned.Nothing }; written = [] }
+  after_empty v = record v { work = record v.work { owned = owned.Nothing }; written = [] }
 
   abbrev pub empties : Step (Unit {0}) → Held T → ℕ → Held T → Type 0
   empties step me word after = (after.1 ≡ me.1) × (after.0 ≡ after_empty me.0)
@@ -135,7 +135,7 @@ module _ {T : Type 0} where
   -- on it where it has a name for one.
   abbrev pub after_show : (slot : ℕ) → Option ℕ → Made → View T → View T
   after_show slot name made v = record v {
-    hand = client_shown made.charge v.hand;
+    work = client_shown made.charge v.work;
     written = [];
     made = v.made ++ made ∷ [];
     records = v.records ++ first_records slot name (shown_entry v made);
@@ -158,12 +158,12 @@ module _ {T : Type 0} where
   -- back, the entry's charge and its place are freed, and its words stand there still.
   abbrev pub after_free : (slots slot word : ℕ) → Option ℕ → Stamp → Made → View T → View T
   after_free slots slot word name stamp made v = record v {
-    hand = record v.hand {
+    work = record v.work {
       owned = owned.ForFreeing slot;
       trail = trail_to slots made.key slot;
-      freed = v.hand.freed + made.charge;
-      freed_slots = v.hand.freed_slots + 1;
-      dead = joined v.hand.dead (found_dead slot word v);
+      freed = v.work.freed + made.charge;
+      freed_slots = v.work.freed_slots + 1;
+      dead = joined v.work.dead (found_dead slot word v);
     };
     written = made_words stamp.client made;
     records = records_left name v.records;

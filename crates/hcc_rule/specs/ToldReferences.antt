@@ -45,18 +45,18 @@ module _ {T : Type 0} where
 
   -- the client looked at the slot, or holds a reference there
   abbrev pub may_reach : (slot : ℕ) → View T → Bool
-  may_reach slot v = looks_at v.hand slot || list_any (is_on slot) v.records
+  may_reach slot v = looks_at v.work slot || list_any (is_on slot) v.records
 
   -- the view once an acquire found no entry
   abbrev pub after_stray : View T → View T
-  after_stray v = record v { hand = record v.hand { looked = None } }
+  after_stray v = record v { work = record v.work { looked = None } }
 
   -- and once it found this one: it holds a record of it, and has seen it dead where it is hidden
   abbrev pub after_acquire : (slot weight name word : ℕ) → Entry → View T → View T
   after_acquire slot weight name word entry v = record v {
-    hand = record v.hand {
+    work = record v.work {
       looked = None;
-      dead = joined v.hand.dead (if is_visible word then None else Some entry.stamp);
+      dead = joined v.work.dead (if is_visible word then None else Some entry.stamp);
     };
     records = v.records ++ record_of slot weight name word entry ∷ [];
   }
@@ -68,7 +68,7 @@ module _ {T : Type 0} where
     pub short : length entry.value ≤ 8 * room
     pub small : entry.charge < 2 ^ 32
     pub bytes : Each (λ b. b < 256) entry.value
-    pub alive : is_visible word ≡ true → is_in entry.stamp v.hand.dead ≡ false
+    pub alive : is_visible word ≡ true → is_in entry.stamp v.work.dead ≡ false
     pub same : Each (λ r. r.slot ≡ slot → r.entry ≡ entry) v.records
 
   -- the view after an acquire, by the word that it found
@@ -93,8 +93,8 @@ module _ {T : Type 0} where
   gives slot name step me word after =
       (after.1 ≡ me.1) × (after.0 ≡ after_give slot name word me.0) × IsReferenced step.first word
 
-  abbrev pub releases : (slot name : ℕ) → Step (Unit {0}) → Held T → ℕ → Held T → Type 0
-  releases slot name step me word after =
+  abbrev pub spends : (slot name : ℕ) → Step (Unit {0}) → Held T → ℕ → Held T → Type 0
+  spends slot name step me word after =
       (after.1 ≡ me.1) × (after.0 ≡ after_give slot name word me.0)
       × IsReferenced (step.first / ONE_RELEASE) word
 
@@ -103,8 +103,8 @@ module _ {T : Type 0} where
   -- the view once its client hid the entry of this name, or found it hidden
   abbrev pub after_hide : (name word : ℕ) → View T → View T
   after_hide name word v = record v {
-    hand = record v.hand {
-      dead = joined v.hand.dead (option_map (λ (e : Entry). e.stamp) (entry_called name v.records));
+    work = record v.work {
+      dead = joined v.work.dead (option_map (λ (e : Entry). e.stamp) (entry_called name v.records));
     };
     hidden = (if is_visible word then with_key v.hidden (entry_called name v.records) else v.hidden);
   }

@@ -2,7 +2,8 @@
 ghost use Rattle.std.specs.Prelude.{◌≡◌, ◌+◌, ◌<◌, slice_index};
 ghost use Rattle.hcc_rule.specs.declared.layout.TheConstants.{SLOT_HEAD, LEDGER_WORDS, DISPLACEMENT, PAYLOAD, USAGE, OCCUPANCY, STANDING, HAND};
 ghost use Rattle.hcc_rule.specs.Closing.{words_of, meta_at, data_at, Shown, IsBack, Closes};
-ghost use Rattle.hcc_rule.specs.Seats.{IsSeatOf, view};
+ghost use Rattle.hcc_rule.specs.Callers.{plan_of, IsSeatAt};
+ghost use Rattle.hcc_rule.specs.Seats.{view};
 ghost use Rattle.hcc_rule.specs.Words.{field_at, ledger_at, word_count};
 
 use crate::closed::ClosedTable;
@@ -20,11 +21,11 @@ impl<T: Tag, A: Allocator> RuleTable<T, A> {
     ///
     /// It refuses nothing and takes no memory. It costs no pass over the words.
     pub fn close(self, seat: RuleSeat<T>) -> ClosedTable<A>
-        requires seat { IsSeatOf self.table.shared.table_id self.table.shared.key.tag seat }
+        requires seat { IsSeatAt self seat }
         ensures size { result.geometry ≡ self.geometry }
-        ensures shown { Shown T.fits self.table.shared.key (words_of result) (view seat) }
+        ensures shown { Shown T.fits (plan_of self) (words_of result) (view seat) }
         ensures closes { IsBack self.geometry.clients (view seat)
-            → Closes T.fits self.table.shared.key.tag self.geometry (words_of result) (view seat) }
+            → Closes T.fits (plan_of self).tag self.geometry (words_of result) (view seat) }
     {
         let RuleTable {
             table,
@@ -37,11 +38,11 @@ impl<T: Tag, A: Allocator> RuleTable<T, A> {
 }
 
 impl<A: Allocator> ClosedTable<A> {
-    fn word(&self, place: usize) -> u64
-        requires { place < word_count self.now.geometry.slots self.now.geometry.room }
-        ensures { result ≡ slice_index (words_of self.now) place }
+    fn word(&self, address: usize) -> u64
+        requires { address < word_count self.now.geometry.slots self.now.geometry.room }
+        ensures { result ≡ slice_index (words_of self.now) address }
     {
-        self.closed.word(place)
+        self.closed.word(address)
     }
 
     fn field(&self, slot: u32, field: usize) -> u64

@@ -8,6 +8,7 @@ mod closing;
 mod geometry;
 mod key;
 pub mod layout;
+mod opening;
 mod rule;
 mod steps;
 mod table;

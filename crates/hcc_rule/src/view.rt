@@ -40,7 +40,7 @@ pub struct View<T> {
     /// The client that it stands for, while it has a tag.
     pub client: u64,
     /// What that client has in hand, as the world has it.
-    pub hand: Client,
+    pub work: Client,
     /// The other clients that it names. None of them is live.
     pub others: LinkedList<Other>,
     /// The references that the client holds.

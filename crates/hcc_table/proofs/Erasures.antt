@@ -31,19 +31,19 @@ no_added n = omega arith
 module _ {T : Type 0} where
   -- nothing in hand
   abbrev pub IsAtRest : View T → Type 0
-  IsAtRest v = (v.hand.owned ≡ owned.Nothing) × (v.hand.trail ≡ [])
+  IsAtRest v = (v.work.owned ≡ owned.Nothing) × (v.work.trail ≡ [])
 
   -- A search erases nothing.
   pub erases_none : (v w : View T) → IsAtRest v → Searched v w → Erases [] 0 0 v w
   erases_none v w rest s = record {
     same = s.same ∙ (λ k. record v {
-      hand = record v.hand {
-        looked = w.hand.looked;
+      work = record v.work {
+        looked = w.work.looked;
         owned = rest.0 k;
         trail = rest.1 k;
-        freed = no_added v.hand.freed k;
-        freed_slots = no_added v.hand.freed_slots k;
-        dead = w.hand.dead;
+        freed = no_added v.work.freed k;
+        freed_slots = no_added v.work.freed_slots k;
+        dead = w.work.dead;
       };
       records = w.records;
       written = sym (ap (λ (z : View T). z.written) s.same) k;
@@ -57,7 +57,7 @@ module _ {T : Type 0} where
 
   -- The client is at rest afterwards.
   pub rests : (keys : List Key) (slots charge : ℕ) (v w : View T) → Erases keys slots charge v w → IsAtRest w
-  rests keys slots charge v w e = (ap (λ (z : View T). z.hand.owned) e.same, ap (λ (z : View T). z.hand.trail) e.same)
+  rests keys slots charge v w e = (ap (λ (z : View T). z.work.owned) e.same, ap (λ (z : View T). z.work.trail) e.same)
 
   -- One append_assoc another erases both.
   pub erases_then : (keys more : List Key) (slots other charge plus : ℕ) (u v w : View T) → Erases keys slots charge u v
@@ -65,13 +65,13 @@ module _ {T : Type 0} where
   erases_then keys more slots other charge plus u v w a b = record {
     same =
         b.same ∙ (ap (λ (z : View T). record z {
-          hand = record z.hand {
-            looked = w.hand.looked;
+          work = record z.work {
+            looked = w.work.looked;
             owned = owned.Nothing;
             trail = [];
-            freed = z.hand.freed + plus;
-            freed_slots = z.hand.freed_slots + other;
-            dead = w.hand.dead;
+            freed = z.work.freed + plus;
+            freed_slots = z.work.freed_slots + other;
+            dead = w.work.dead;
           };
           records = w.records;
           written = w.written;
@@ -79,13 +79,13 @@ module _ {T : Type 0} where
           takings = z.takings + other;
           met = w.met;
         }) a.same ∙ (λ k. record u {
-          hand = record u.hand {
-            looked = w.hand.looked;
+          work = record u.work {
+            looked = w.work.looked;
             owned = owned.Nothing;
             trail = [];
-            freed = sums u.hand.freed charge plus k;
-            freed_slots = sums u.hand.freed_slots slots other k;
-            dead = w.hand.dead;
+            freed = sums u.work.freed charge plus k;
+            freed_slots = sums u.work.freed_slots slots other k;
+            dead = w.work.dead;
           };
           records = w.records;
           written = w.written;
@@ -105,13 +105,13 @@ module _ {T : Type 0} where
       → Erases keys slots charge u w
   erases_first keys slots charge u v w a b = record {
     same = b.same ∙ ap (λ (z : View T). record z {
-      hand = record z.hand {
-        looked = w.hand.looked;
+      work = record z.work {
+        looked = w.work.looked;
         owned = owned.Nothing;
         trail = [];
-        freed = z.hand.freed + charge;
-        freed_slots = z.hand.freed_slots + slots;
-        dead = w.hand.dead;
+        freed = z.work.freed + charge;
+        freed_slots = z.work.freed_slots + slots;
+        dead = w.work.dead;
       };
       records = w.records;
       written = w.written;
@@ -128,17 +128,17 @@ module _ {T : Type 0} where
   erases_last keys slots charge u v w a b = record {
     same =
         b.same ∙ (ap (λ (z : View T). record z {
-          hand = record z.hand { looked = w.hand.looked; dead = w.hand.dead };
+          work = record z.work { looked = w.work.looked; dead = w.work.dead };
           records = w.records;
           met = w.met;
         }) a.same ∙ (λ k. record u {
-          hand = record u.hand {
-            looked = w.hand.looked;
+          work = record u.work {
+            looked = w.work.looked;
             owned = owned.Nothing;
             trail = [];
-            freed = u.hand.freed + charge;
-            freed_slots = u.hand.freed_slots + slots;
-            dead = w.hand.dead;
+            freed = u.work.freed + charge;
+            freed_slots = u.work.freed_slots + slots;
+            dead = w.work.dead;
           };
           records = w.records;
           written = sym (ap (λ (z : View T). z.written) b.same) k;
@@ -155,13 +155,13 @@ module _ {T : Type 0} where
       → is_warm word ≡ false → IsFreed fits room word last charge v w → Erases [] 1 charge v w
   erases_freed fits room word charge last v w cold f = record {
     same = f.same ∙ (λ k. record v {
-      hand = record v.hand {
-        looked = w.hand.looked;
+      work = record v.work {
+        looked = w.work.looked;
         owned = owned.Nothing;
         trail = [];
-        freed = v.hand.freed + charge;
-        freed_slots = v.hand.freed_slots + 1;
-        dead = w.hand.dead;
+        freed = v.work.freed + charge;
+        freed_slots = v.work.freed_slots + 1;
+        dead = w.work.dead;
       };
       records = w.records;
       written = sym (ap (λ (z : View T). z.written) f.same) k;
@@ -188,17 +188,17 @@ module _ {T : Type 0} where
   pub erases_hidden : (name word : ℕ) (r : Record) (v w : View T) → IsAtRest v → record_in name v.records ≡ Some r
       → w ≡ after_hide name word v
       → Erases (replicate (when (is_visible word) 1) (key_of r.entry)) 0 0 v w
-      × (is_in r.entry.stamp w.hand.dead ≡ true) × (w.records ≡ v.records)
+      × (is_in r.entry.stamp w.work.dead ≡ true) × (w.records ≡ v.records)
   erases_hidden name word r v w rest at same = (
     record {
       same = same ∙ (λ k. record v {
-        hand = record v.hand {
-          looked = sym (ap (λ (z : View T). z.hand.looked) same) k;
+        work = record v.work {
+          looked = sym (ap (λ (z : View T). z.work.looked) same) k;
           owned = rest.0 k;
           trail = rest.1 k;
-          freed = no_added v.hand.freed k;
-          freed_slots = no_added v.hand.freed_slots k;
-          dead = sym (ap (λ (z : View T). z.hand.dead) same) k;
+          freed = no_added v.work.freed k;
+          freed_slots = no_added v.work.freed_slots k;
+          dead = sym (ap (λ (z : View T). z.work.dead) same) k;
         };
         records = sym (ap (λ (z : View T). z.records) same) k;
         written = sym (ap (λ (z : View T). z.written) same) k;
@@ -206,10 +206,10 @@ module _ {T : Type 0} where
         takings = no_added v.takings k;
         met = sym (ap (λ (z : View T). z.met) same) k;
       });
-      dead = λ stamp h. rw same (grows_joined v.hand.dead (option_map (λ (e : Entry). e.stamp) (entry_called name v.records)) stamp h);
+      dead = λ stamp h. rw same (grows_joined v.work.dead (option_map (λ (e : Entry). e.stamp) (entry_called name v.records)) stamp h);
       met = ([], ap (λ (z : View T). z.met) same ∙ no_more v.met);
     },
-    rw (same, at) (joined_in r.entry.stamp v.hand.dead),
+    rw (same, at) (joined_in r.entry.stamp v.work.dead),
     ap (λ (z : View T). z.records) same,
   )
     where
@@ -221,7 +221,7 @@ module _ {T : Type 0} where
   -- The same of the record of a name, and what was searched then.
   pub hidden_then : (slot name word n : ℕ) (v a w : View T) → IsAtRest v → n ≡ from_bool (is_visible word)
       → IsSomeAnd (record_in name v.records) (λ r. (r.slot ≡ slot) × (r.weight ≡ 1)) → a ≡ after_hide name word v → Searched a w
-      → IsSomeAnd (record_in name v.records) (λ r. Erases (replicate n (key_of r.entry)) 0 0 v w × (is_in r.entry.stamp w.hand.dead ≡ true))
+      → IsSomeAnd (record_in name v.records) (λ r. Erases (replicate n (key_of r.entry)) 0 0 v w × (is_in r.entry.stamp w.work.dead ≡ true))
   hidden_then slot name word n v a w rest count holds same then = by (record_in name v.records) refl holds
     where
       count_is : (b : Bool) → from_bool b ≡ when b 1
@@ -229,7 +229,7 @@ module _ {T : Type 0} where
       count_is false = refl
 
       by : (o : Option Record) → record_in name v.records ≡ o → IsSomeAnd o (λ r. (r.slot ≡ slot) × (r.weight ≡ 1))
-          → IsSomeAnd o (λ r. Erases (replicate n (key_of r.entry)) 0 0 v w × (is_in r.entry.stamp w.hand.dead ≡ true))
+          → IsSomeAnd o (λ r. Erases (replicate n (key_of r.entry)) 0 0 v w × (is_in r.entry.stamp w.work.dead ≡ true))
       by None is none = absurd none
       by (Some r) is some =
           let hid = erases_hidden name word r v a rest is same in (
@@ -242,11 +242,11 @@ module _ {T : Type 0} where
   module _ (fits : T → Key → List ℕ → Type 0) (room slot name n slots charge : ℕ) (key : Key) (v a w : View T) (r : Record) (fresh : record_in name v.records ≡ None) (found : IsFound fits room slot name key v a r) where
     -- what hiding what is held there told
     abbrev pub Told : Type 0
-    Told = IsSomeAnd (record_in name a.records) (λ q. Erases (replicate n (key_of q.entry)) slots charge a w × (is_in q.entry.stamp w.hand.dead ≡ true))
+    Told = IsSomeAnd (record_in name a.records) (λ q. Erases (replicate n (key_of q.entry)) slots charge a w × (is_in q.entry.stamp w.work.dead ≡ true))
 
-    told_of : Told → Erases (replicate n (key_of r.entry)) slots charge a w × (is_in r.entry.stamp w.hand.dead ≡ true)
+    told_of : Told → Erases (replicate n (key_of r.entry)) slots charge a w × (is_in r.entry.stamp w.work.dead ≡ true)
     told_of told =
-        subst (λ o. IsSomeAnd o (λ q. Erases (replicate n (key_of q.entry)) slots charge a w × (is_in q.entry.stamp w.hand.dead ≡ true)))
+        subst (λ o. IsSomeAnd o (λ q. Erases (replicate n (key_of q.entry)) slots charge a w × (is_in q.entry.stamp w.work.dead ≡ true)))
         (found_held fits room slot name key v a r fresh found) told
 
     pub erased_there : slots ≤ 1 → Told → w.records ≡ dropped (is_called name) a.records → IsErased key n slots charge v w
@@ -270,8 +270,8 @@ module _ {T : Type 0} where
     pub buried_there : Told → Buried key (λ s. s ≡ slot) v w
     buried_there told =
         each_map (λ q. q.slot ≡ slot → q.entry ≡ r.entry)
-        (λ q. key_of q.entry ≡ key → q.slot ≡ slot → is_in q.entry.stamp w.hand.dead ≡ true)
-        (λ q same asked on. subst (λ (e : Entry). is_in e.stamp w.hand.dead ≡ true) (sym (same on)) (told_of told).1)
+        (λ q. key_of q.entry ≡ key → q.slot ≡ slot → is_in q.entry.stamp w.work.dead ≡ true)
+        (λ q same asked on. subst (λ (e : Entry). is_in e.stamp w.work.dead ≡ true) (sym (same on)) (told_of told).1)
         v.records found.one
 
   -- Nothing of a key was erased where none was found.

@@ -6,24 +6,24 @@ use Rattle.hcc_rule.specs.declared.key.Key.{Key}
 use Rattle.hcc_core.specs.declared.limits.TheConstants.{MOST_SLOTS}
 use Rattle.hcc_rule.specs.declared.view.Record.{Record}
 use Rattle.hcc_rule.specs.declared.view.View.{View}
-use Rattle.hcc_rule.specs.Probes.{probe_place, trail_to}
+use Rattle.hcc_rule.specs.Probes.{probe_slot, trail_to}
 use Rattle.hcc_rule.specs.Seats.{SeatOf, IsSameSeat, view}
 use Rattle.hcc_rule.specs.Views.{Each}
 use Rattle.hcc_rule.specs.Words.{key_of}
-use Rattle.hcc_rule.proofs.ProbeLaws.{place_of_slot, stands_within, first_masked, next_masked}
+use Rattle.hcc_rule.proofs.ProbeLaws.{probe_of_slot, stands_within, first_masked, next_masked}
 use Rattle.hcc_table.specs.declared.walk.Walk.{Walk}
 use Rattle.hcc_table.specs.Searched.{Grows, Sought, Buried, AllDead, IsMissed}
 use Rattle.hcc_table.proofs.Searches.{sought_then, searched_refl}
 
 -- a walk stands at this place of a key
 pub record IsAt (slots : ℕ) (key : Key) (i : ℕ) (walk : Walk) : Type 0 where
-  pub place : bit_and walk.place walk.mask ≡ probe_place slots key i
+  pub probe : bit_and walk.probe walk.mask ≡ probe_slot slots key i
   pub stride : walk.stride ≡ bit_or key.w0 1
   pub mask : walk.mask ≡ slots - 1
 
 -- it is one of the first so many places of the key
 abbrev pub IsBefore : (slots : ℕ) → Key → (i : ℕ) → ℕ → Type 0
-IsBefore slots key i slot = (j : ℕ) × (j < i) × (probe_place slots key j ≡ slot)
+IsBefore slots key i slot = (j : ℕ) × (j < i) × (probe_slot slots key j ≡ slot)
 
 -- what holds of the facts of two lists at once
 each_both : {A : Type 0} (P Q R : A → Type 0) → ((a : A) → P a → Q a → R a) → (xs : List A)
@@ -48,45 +48,45 @@ module _ {T : Type 0} where
     pub within : 0 < i → Each (λ (r : Record). r.slot < slots) (view seat).records
 
   -- a place more
-  pub buried_more : (slots : ℕ) (key : Key) (i : ℕ) (u v w : View T) → v.records ≡ u.records → Grows v.hand.dead w.hand.dead
-      → Buried key (IsBefore slots key i) u v → Buried key (λ s. s ≡ probe_place slots key i) v w
+  pub buried_more : (slots : ℕ) (key : Key) (i : ℕ) (u v w : View T) → v.records ≡ u.records → Grows v.work.dead w.work.dead
+      → Buried key (IsBefore slots key i) u v → Buried key (λ s. s ≡ probe_slot slots key i) v w
       → Buried key (IsBefore slots key (i + 1)) u w
   buried_more slots key i u v w first then old here =
       each_both
-      (λ (r : Record). key_of r.entry ≡ key → IsBefore slots key i r.slot → is_in r.entry.stamp v.hand.dead ≡ true)
-      (λ (r : Record). key_of r.entry ≡ key → r.slot ≡ probe_place slots key i → is_in r.entry.stamp w.hand.dead ≡ true)
-      (λ (r : Record). key_of r.entry ≡ key → IsBefore slots key (i + 1) r.slot → is_in r.entry.stamp w.hand.dead ≡ true)
+      (λ (r : Record). key_of r.entry ≡ key → IsBefore slots key i r.slot → is_in r.entry.stamp v.work.dead ≡ true)
+      (λ (r : Record). key_of r.entry ≡ key → r.slot ≡ probe_slot slots key i → is_in r.entry.stamp w.work.dead ≡ true)
+      (λ (r : Record). key_of r.entry ≡ key → IsBefore slots key (i + 1) r.slot → is_in r.entry.stamp w.work.dead ≡ true)
       (λ r before now asked passed. by r asked before now passed.0 passed.1 passed.2) u.records old (rw (← first) here)
     where
       by : (r : Record) → key_of r.entry ≡ key
-          → (key_of r.entry ≡ key → IsBefore slots key i r.slot → is_in r.entry.stamp v.hand.dead ≡ true)
-          → (key_of r.entry ≡ key → r.slot ≡ probe_place slots key i → is_in r.entry.stamp w.hand.dead ≡ true)
-          → (j : ℕ) → j < i + 1 → probe_place slots key j ≡ r.slot → is_in r.entry.stamp w.hand.dead ≡ true
+          → (key_of r.entry ≡ key → IsBefore slots key i r.slot → is_in r.entry.stamp v.work.dead ≡ true)
+          → (key_of r.entry ≡ key → r.slot ≡ probe_slot slots key i → is_in r.entry.stamp w.work.dead ≡ true)
+          → (j : ℕ) → j < i + 1 → probe_slot slots key j ≡ r.slot → is_in r.entry.stamp w.work.dead ≡ true
       by r asked before now j low at = elim (eq-or-lt_of_le (let most : j ≤ i = omega arith in most)) [
-        | inl same ↦ now asked (sym at ∙ ap (probe_place slots key) same)
+        | inl same ↦ now asked (sym at ∙ ap (probe_slot slots key) same)
         | inr less ↦ then r.entry.stamp (before asked (j, less, at))
       ]
 
   -- Where no trail goes on, each entry of the key that is held stands at a place that was seen.
   pub ended : (slots : ℕ) (key : Key) → MOST_SLOTS % slots ≡ 0 → (i n : ℕ) (v w : View T) → n ≡ 0
       → Buried key (IsBefore slots key (i + 1)) v w
-      → Each (λ (r : Record). times (probe_place slots key i) (trail_to slots (key_of r.entry) r.slot) ≤ n) v.records
+      → Each (λ (r : Record). times (probe_slot slots key i) (trail_to slots (key_of r.entry) r.slot) ≤ n) v.records
       → Each (λ (r : Record). r.slot < slots) v.records
       → AllDead key v w
   ended slots key power i n v w zero buried held within =
       each_both
-      (λ (r : Record). key_of r.entry ≡ key → IsBefore slots key (i + 1) r.slot → is_in r.entry.stamp w.hand.dead ≡ true)
-      (λ (r : Record). (times (probe_place slots key i) (trail_to slots (key_of r.entry) r.slot) ≤ n) × (r.slot < slots))
-      (λ (r : Record). key_of r.entry ≡ key → is_in r.entry.stamp w.hand.dead ≡ true)
+      (λ (r : Record). key_of r.entry ≡ key → IsBefore slots key (i + 1) r.slot → is_in r.entry.stamp w.work.dead ≡ true)
+      (λ (r : Record). (times (probe_slot slots key i) (trail_to slots (key_of r.entry) r.slot) ≤ n) × (r.slot < slots))
+      (λ (r : Record). key_of r.entry ≡ key → is_in r.entry.stamp w.work.dead ≡ true)
       (λ r dead passed asked. dead asked (seen r asked passed.0 passed.1)) v.records buried
       (each_both _ _ _ (λ r a b. (a, b)) v.records held within)
     where
       seen : (r : Record) → key_of r.entry ≡ key
-          → times (probe_place slots key i) (trail_to slots (key_of r.entry) r.slot) ≤ n → r.slot < slots
+          → times (probe_slot slots key i) (trail_to slots (key_of r.entry) r.slot) ≤ n → r.slot < slots
           → IsBefore slots key (i + 1) r.slot
       seen r asked few low =
-          let none : times (probe_place slots key i) (trail_to slots key r.slot) ≡ 0 =
-          (let same = ap (λ k. times (probe_place slots key i) (trail_to slots k r.slot)) asked in omega arith) in
+          let none : times (probe_slot slots key i) (trail_to slots key r.slot) ≡ 0 =
+          (let same = ap (λ k. times (probe_slot slots key i) (trail_to slots k r.slot)) asked in omega arith) in
           let at = stands_within slots key power r.slot i low none in
           (at.0, (let least = at.1 in omega arith), at.2)
 
@@ -96,32 +96,32 @@ module _ {T : Type 0} where
       → AllDead key v w
   all_seen slots key power v w buried within =
       each_both
-      (λ (r : Record). key_of r.entry ≡ key → IsBefore slots key slots r.slot → is_in r.entry.stamp w.hand.dead ≡ true)
+      (λ (r : Record). key_of r.entry ≡ key → IsBefore slots key slots r.slot → is_in r.entry.stamp w.work.dead ≡ true)
       (λ (r : Record). r.slot < slots)
-      (λ (r : Record). key_of r.entry ≡ key → is_in r.entry.stamp w.hand.dead ≡ true)
-      (λ r dead low asked. dead asked (place_of_slot slots key power r.slot low)) v.records buried within
+      (λ (r : Record). key_of r.entry ≡ key → is_in r.entry.stamp w.work.dead ≡ true)
+      (λ r dead low asked. dead asked (probe_of_slot slots key power r.slot low)) v.records buried within
 
   module _ (slots : ℕ) (key : Key) (power : MOST_SLOTS % slots ≡ 0) where
     -- A search begins.
-    pub begins : (walk : Walk) (seat : SeatOf T) → walk.place ≡ key.w1 → walk.stride ≡ bit_or key.w0 1
+    pub begins : (walk : Walk) (seat : SeatOf T) → walk.probe ≡ key.w1 → walk.stride ≡ bit_or key.w0 1
         → walk.mask ≡ slots - 1 → IsSearching slots key 0 walk seat seat
-    begins walk seat place stride mask = record {
+    begins walk seat probe stride mask = record {
       same = record { table = refl; number = refl; slots = refl };
       sought = searched_refl (view seat);
-      walking = record { place = rw (place, mask) (first_masked slots key power); stride = stride; mask = mask };
+      walking = record { probe = rw (probe, mask) (first_masked slots key power); stride = stride; mask = mask };
       buried = none_yet (view seat).records;
       within = λ some. absurd (omega arith);
     }
       where
         none_yet : (rs : List Record)
-            → Each (λ (r : Record). key_of r.entry ≡ key → IsBefore slots key 0 r.slot → is_in r.entry.stamp (view seat).hand.dead ≡ true) rs
+            → Each (λ (r : Record). key_of r.entry ≡ key → IsBefore slots key 0 r.slot → is_in r.entry.stamp (view seat).work.dead ≡ true) rs
         none_yet [] = tt
         none_yet (r ∷ rs) = ((λ asked before. (let low = before.1 in absurd (omega arith))), none_yet rs)
 
-    module _ (i n slot : ℕ) (walk : Walk) (seat now : SeatOf T) (s : IsSearching slots key i walk seat now) (there : slot ≡ bit_and walk.place walk.mask) where
+    module _ (i n slot : ℕ) (walk : Walk) (seat now : SeatOf T) (s : IsSearching slots key i walk seat now) (there : slot ≡ bit_and walk.probe walk.mask) where
       -- the slot that is probed
-      pub slot_is : slot ≡ probe_place slots key i
-      slot_is = there ∙ s.walking.place
+      pub slot_is : slot ≡ probe_slot slots key i
+      slot_is = there ∙ s.walking.probe
 
       module _ (probed counted : SeatOf T) (same : IsSameSeat now probed) (same_then : IsSameSeat probed counted) (missed : Sought (view now) (view probed) × Buried key (λ z. z ≡ slot) (view now) (view probed)) (kept : view counted ≡ view probed) (held : Each (λ (r : Record). times slot (trail_to slots (key_of r.entry) r.slot) ≤ n) (view probed).records) (within : Each (λ (r : Record). r.slot < slots) (view probed).records) where
         sought : Sought (view seat) (view counted)
@@ -137,15 +137,15 @@ module _ {T : Type 0} where
         low = rw (← records_are) within
 
         -- It goes on to the next place.
-        pub goes_on : (next : Walk) → next.place ≡ (walk.place + walk.stride) % 2 ^ 64 → next.stride ≡ walk.stride
+        pub goes_on : (next : Walk) → next.probe ≡ (walk.probe + walk.stride) % 2 ^ 64 → next.stride ≡ walk.stride
             → next.mask ≡ walk.mask → IsSearching slots key (i + 1) next seat counted
-        goes_on next place stride mask = record {
+        goes_on next probe stride mask = record {
           same = seat_then seat now counted s.same (seat_then now probed counted same same_then);
           sought = sought;
           walking = record {
-            place =
-                rw (place, mask, s.walking.stride, s.walking.mask)
-                (next_masked slots key power i walk.place (rw (← s.walking.mask) s.walking.place));
+            probe =
+                rw (probe, mask, s.walking.stride, s.walking.mask)
+                (next_masked slots key power i walk.probe (rw (← s.walking.mask) s.walking.probe));
             stride = stride ∙ s.walking.stride;
             mask = mask ∙ s.walking.mask;
           };

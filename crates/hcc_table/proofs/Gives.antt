@@ -39,7 +39,7 @@ module _ {T : Type 0} where
       by : (o : Option Record) → record_in held v.records ≡ o → IsSomeAnd o (λ r. r.slot ≡ slot) → may_reach slot v ≡ true
       by None is none = absurd none
       by (Some r) is on =
-          later (looks_at v.hand slot) (list_any (is_on slot) v.records)
+          later (looks_at v.work slot) (list_any (is_on slot) v.records)
           (any_found (is_on slot) (is_called held) v.records r is (eq-eqb r.slot slot on))
 
   -- One more reference is on the entry that is held there.

@@ -6,7 +6,7 @@ use Rattle.hcc_core.specs.Lawful.{is_in}
 use Rattle.hcc_rule.specs.declared.key.Key.{Key}
 use Rattle.hcc_rule.specs.declared.view.Record.{Record}
 use Rattle.hcc_rule.specs.declared.view.View.{View}
-use Rattle.hcc_rule.specs.Probes.{probe_place, trail_to}
+use Rattle.hcc_rule.specs.Probes.{probe_slot, trail_to}
 use Rattle.hcc_rule.specs.Seats.{SeatOf, IsSameSeat, view}
 use Rattle.hcc_rule.specs.Views.{Each}
 use Rattle.hcc_rule.specs.Words.{key_of}
@@ -57,13 +57,13 @@ module _ {T : Type 0} where
     pub small : all.charge ≤ i * 2 ^ 32
 
   module _ (slots : ℕ) (key : Key) (power : MOST_SLOTS % slots ≡ 0) where
-    pub hides_none : (walk : Walk) (all : Erased) (seat : SeatOf T) → IsAtRest (view seat) → walk.place ≡ key.w1
+    pub hides_none : (walk : Walk) (all : Erased) (seat : SeatOf T) → IsAtRest (view seat) → walk.probe ≡ key.w1
         → walk.stride ≡ bit_or key.w0 1 → walk.mask ≡ slots - 1 → all ≡ record { hidden = 0; slots = 0; charge = 0 }
         → IsHiding slots key 0 walk all seat seat
-    hides_none walk all seat rest place stride mask none = record {
+    hides_none walk all seat rest probe stride mask none = record {
       same = record { table = refl; number = refl; slots = refl };
       erased = rw none (erased_none key (view seat) (view seat) rest (searched_refl (view seat)));
-      walking = record { place = rw (place, mask) (first_masked slots key power); stride = stride; mask = mask };
+      walking = record { probe = rw (probe, mask) (first_masked slots key power); stride = stride; mask = mask };
       buried = none_yet (view seat).records;
       within = λ some. absurd (omega arith);
       few = rw none (omega arith);
@@ -72,13 +72,13 @@ module _ {T : Type 0} where
     }
       where
         none_yet : (rs : List Record)
-            → Each (λ (r : Record). key_of r.entry ≡ key → IsBefore slots key 0 r.slot → is_in r.entry.stamp (view seat).hand.dead ≡ true) rs
+            → Each (λ (r : Record). key_of r.entry ≡ key → IsBefore slots key 0 r.slot → is_in r.entry.stamp (view seat).work.dead ≡ true) rs
         none_yet [] = tt
         none_yet (r ∷ rs) = ((λ asked before. (let low = before.1 in absurd (omega arith))), none_yet rs)
 
-    module _ (i n slot : ℕ) (walk : Walk) (all here sum : Erased) (seat now : SeatOf T) (s : IsHiding slots key i walk all seat now) (there : slot ≡ bit_and walk.place walk.mask) where
-      slot_at : slot ≡ probe_place slots key i
-      slot_at = there ∙ s.walking.place
+    module _ (i n slot : ℕ) (walk : Walk) (all here sum : Erased) (seat now : SeatOf T) (s : IsHiding slots key i walk all seat now) (there : slot ≡ bit_and walk.probe walk.mask) where
+      slot_at : slot ≡ probe_slot slots key i
+      slot_at = there ∙ s.walking.probe
 
       module _ (hid counted : SeatOf T) (same : IsSameSeat now hid) (same_then : IsSameSeat hid counted) (erased : IsErased key here.hidden here.slots here.charge (view now) (view hid)) (dead : Buried key (λ z. z ≡ slot) (view now) (view hid)) (few : (here.hidden ≤ 1) × (here.slots ≤ 1) × (here.charge < 2 ^ 32)) (is_sum : (sum.hidden ≡ all.hidden + here.hidden) × (sum.slots ≡ all.slots + here.slots) × (sum.charge ≡ all.charge + here.charge)) (kept : view counted ≡ view hid) (held : Each (λ (r : Record). times slot (trail_to slots (key_of r.entry) r.slot) ≤ n) (view hid).records) (within : Each (λ (r : Record). r.slot < slots) (view hid).records) where
         pub both : IsErased key sum.hidden sum.slots sum.charge (view seat) (view counted)
@@ -95,15 +95,15 @@ module _ {T : Type 0} where
         all_within : Each (λ (r : Record). r.slot < slots) (view seat).records
         all_within = rw (← records_same) within
 
-        pub hides_on : (next : Walk) → next.place ≡ (walk.place + walk.stride) % 2 ^ 64 → next.stride ≡ walk.stride
+        pub hides_on : (next : Walk) → next.probe ≡ (walk.probe + walk.stride) % 2 ^ 64 → next.stride ≡ walk.stride
             → next.mask ≡ walk.mask → IsHiding slots key (i + 1) next sum seat counted
-        hides_on next place stride mask = record {
+        hides_on next probe stride mask = record {
           same = seat_then seat now counted s.same (seat_then now hid counted same same_then);
           erased = both;
           walking = record {
-            place =
-                rw (place, mask, s.walking.stride, s.walking.mask)
-                (next_masked slots key power i walk.place (rw (← s.walking.mask) s.walking.place));
+            probe =
+                rw (probe, mask, s.walking.stride, s.walking.mask)
+                (next_masked slots key power i walk.probe (rw (← s.walking.mask) s.walking.probe));
             stride = stride ∙ s.walking.stride;
             mask = mask ∙ s.walking.mask;
           };

@@ -8,7 +8,7 @@ pub mod Erasures
 pub mod Hidings
 pub mod Bytes
 pub mod Values
-pub mod PlacesWords
-pub mod Places
-pub mod PlacesMeets
-pub mod PlacesTries
+pub mod InsertsWords
+pub mod Inserts
+pub mod InsertsMeets
+pub mod InsertsTries

@@ -63,10 +63,10 @@ module _ {T : Type 0} where
     where
       from : (rs : List Record) → Each (λ (r : Record). r.slot ≡ slot → is_shareable word ≡ true) rs
           → Each (λ (r : Record). r.slot ≡ slot → stamp_on slot v.records ≡ Some r.entry.stamp) rs
-          → Each (λ (r : Record). key_of r.entry ≡ key → r.slot ≡ slot → is_in r.entry.stamp w.hand.dead ≡ true) rs
+          → Each (λ (r : Record). key_of r.entry ≡ key → r.slot ≡ slot → is_in r.entry.stamp w.work.dead ≡ true) rs
       from [] entries one = tt
       from (r ∷ rs) entries one = (
-        (λ asked on. rw (same, entries.0 on, hidden, one.0 on) (joined_in r.entry.stamp v.hand.dead)),
+        (λ asked on. rw (same, entries.0 on, hidden, one.0 on) (joined_in r.entry.stamp v.work.dead)),
         from rs entries.1 one.1,
       )
 
@@ -76,7 +76,7 @@ module _ {T : Type 0} where
     strayed away = (
       sought_then v a b looked record { searched = h.searched; records = h.stray away },
       each_map (λ r. r.slot ≡ slot → is_shareable word ≡ true)
-          (λ r. key_of r.entry ≡ key → r.slot ≡ slot → is_in r.entry.stamp b.hand.dead ≡ true)
+          (λ r. key_of r.entry ≡ key → r.slot ≡ slot → is_in r.entry.stamp b.work.dead ≡ true)
           (λ r held asked on. let bad : true ≡ false = sym (held on) ∙ away in cc)
           v.records (rw (← looked.records) h.held),
     )
@@ -124,15 +124,15 @@ module _ {T : Type 0} where
       pub buried_hidden : (d : View T) → is_visible word ≡ false → Searched b d → Buried key (λ s. s ≡ slot) v d
       buried_hidden d hidden kept =
           each_map (λ r. r.slot ≡ slot → r.entry ≡ entry)
-          (λ r. key_of r.entry ≡ key → r.slot ≡ slot → is_in r.entry.stamp d.hand.dead ≡ true)
-          (λ r same asked on. subst (λ (e : Entry). is_in e.stamp d.hand.dead ≡ true) (sym (same on)) (kept.dead entry.stamp ((h.got has).3 hidden)))
+          (λ r. key_of r.entry ≡ key → r.slot ≡ slot → is_in r.entry.stamp d.work.dead ≡ true)
+          (λ r same asked on. subst (λ (e : Entry). is_in e.stamp d.work.dead ≡ true) (sym (same on)) (kept.dead entry.stamp ((h.got has).3 hidden)))
           v.records one_entry
 
       -- An entry of another key is none that was asked for.
       pub buried_other : (d : View T) → ¬ (key_of entry ≡ key) → Buried key (λ s. s ≡ slot) v d
       buried_other d other =
           each_map (λ r. r.slot ≡ slot → r.entry ≡ entry)
-          (λ r. key_of r.entry ≡ key → r.slot ≡ slot → is_in r.entry.stamp d.hand.dead ≡ true)
+          (λ r. key_of r.entry ≡ key → r.slot ≡ slot → is_in r.entry.stamp d.work.dead ≡ true)
           (λ r same asked on. absurd (other (ap key_of (sym (same on)) ∙ asked)))
           v.records one_entry
 
@@ -162,7 +162,7 @@ module _ {T : Type 0} where
         short = met.short;
         bytes = met.bytes;
         small = met.small;
-        alive = unseen (is_in entry.stamp v.hand.dead) refl;
+        alive = unseen (is_in entry.stamp v.work.dead) refl;
         one = one_entry;
         met = met_last;
       }
@@ -186,7 +186,7 @@ module _ {T : Type 0} where
                 met_once key before.met.0,
               )
 
-          unseen : (seen : Bool) → is_in entry.stamp v.hand.dead ≡ seen → seen ≡ false
+          unseen : (seen : Bool) → is_in entry.stamp v.work.dead ≡ seen → seen ≡ false
           unseen true is = let bad : true ≡ false = sym (looked.searched.dead entry.stamp is) ∙ met.alive shown in cc
           unseen false is = refl
 
@@ -223,7 +223,7 @@ module _ {T : Type 0} where
     short = found.short;
     bytes = found.bytes;
     small = found.small;
-    alive = unseen (is_in r.entry.stamp u.hand.dead) refl;
+    alive = unseen (is_in r.entry.stamp u.work.dead) refl;
     one = rw (← first.records) found.one;
     met = (
       first.searched.met.0 ++ (found.met.0 ++ last.searched.met.0),
@@ -242,6 +242,6 @@ module _ {T : Type 0} where
           let some = found.met.2 in
           omega arith
 
-      unseen : (b : Bool) → is_in r.entry.stamp u.hand.dead ≡ b → b ≡ false
+      unseen : (b : Bool) → is_in r.entry.stamp u.work.dead ≡ b → b ≡ false
       unseen true is = let bad : true ≡ false = sym (first.searched.dead r.entry.stamp is) ∙ found.alive in cc
       unseen false is = refl

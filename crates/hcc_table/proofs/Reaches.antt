@@ -68,7 +68,7 @@ module _ {T : Type 0} (fits : T → Key → List ℕ → Type 0) (room slot weig
           let got = h.got is in
           rw got.2 record {
             same = refl;
-            dead = λ stamp h. grows_joined v.hand.dead (cond (is_visible word) None (Some got.0.stamp)) stamp h;
+            dead = λ stamp h. grows_joined v.work.dead (cond (is_visible word) None (Some got.0.stamp)) stamp h;
             met = ([], no_more v.met);
           }
 
@@ -88,8 +88,8 @@ module _ {T : Type 0} (fits : T → Key → List ℕ → Type 0) (room slot weig
   }
     where
       died : (entry : Entry) → is_visible word ≡ false → u ≡ after_acquire slot weight name word entry v
-          → is_in entry.stamp u.hand.dead ≡ true
-      died entry hidden same = rw (same, hidden) (joined_in entry.stamp v.hand.dead)
+          → is_in entry.stamp u.work.dead ≡ true
+      died entry hidden same = rw (same, hidden) (joined_in entry.stamp v.work.dead)
 
   -- where it doesn't count, the counters may be relieved
   pub relieves : is_shareable word ≡ true → record_in name v.records ≡ None → is_counting word ≡ false

@@ -40,21 +40,21 @@ module _ {T : Type 0} where
   -- a step that leaves all but what was looked at, seen dead and held
   pub searched_by : (v w : View T) (o : Option Stamp)
       → w ≡ record v {
-        hand = record v.hand { looked = w.hand.looked; dead = joined v.hand.dead o };
+        work = record v.work { looked = w.work.looked; dead = joined v.work.dead o };
         records = w.records;
       }
       → Searched v w
   searched_by v w o same = record {
     same = same ∙ rw (met, dead) refl;
-    dead = λ stamp h. rw dead (grows_joined v.hand.dead o stamp h);
+    dead = λ stamp h. rw dead (grows_joined v.work.dead o stamp h);
     met = ([], met ∙ no_more v.met);
   }
     where
       met : w.met ≡ v.met
       met = ap (λ (z : View T). z.met) same
 
-      dead : w.hand.dead ≡ joined v.hand.dead o
-      dead = ap (λ (z : View T). z.hand.dead) same
+      dead : w.work.dead ≡ joined v.work.dead o
+      dead = ap (λ (z : View T). z.work.dead) same
 
   pub searched_refl : (v : View T) → Sought v v
   searched_refl v = record { searched = record { same = refl; dead = λ stamp h. h; met = ([], no_more v.met) }; records = refl }
@@ -62,7 +62,7 @@ module _ {T : Type 0} where
   -- one search behind another
   pub searched_then : (u v w : View T) → Searched u v → Searched v w → Searched u w
   searched_then u v w a b = record {
-    same = b.same ∙ ap (λ (z : View T). record z { hand = record z.hand { looked = w.hand.looked; dead = w.hand.dead }; records = w.records; met = w.met }) a.same;
+    same = b.same ∙ ap (λ (z : View T). record z { work = record z.work { looked = w.work.looked; dead = w.work.dead }; records = w.records; met = w.met }) a.same;
     dead = λ stamp h. b.dead stamp (a.dead stamp h);
     met = (a.met.0 ++ b.met.0, b.met.1 ∙ (ap (λ z. z ++ b.met.0) a.met.1 ∙ append_assoc u.met a.met.0 b.met.0));
   }

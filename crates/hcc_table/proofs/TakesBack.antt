@@ -3,10 +3,10 @@ use Rattle.std.proofs.Common.{◌≡◌, ℕ, suc, ◌+◌, ◌-◌, ◌%◌, �
 use Rattle.std.specs.List.{list_any, range_with_len}
 use Rattle.std.proofs.lemmas.Bool.{eq-eqb, eqb-true}
 use Rattle.hcc_core.specs.declared.limits.TheConstants.{MOST_SLOTS}
-use Rattle.hcc_core.specs.Steps.{is_place, dropped, owns_nothing}
+use Rattle.hcc_core.specs.Steps.{is_slot, dropped, owns_nothing}
 use Rattle.hcc_rule.specs.declared.key.Key.{Key}
 use Rattle.hcc_rule.specs.declared.view.View.{View}
-use Rattle.hcc_rule.specs.Probes.{probe_place, trail_to, before}
+use Rattle.hcc_rule.specs.Probes.{probe_slot, trail_to, before}
 use Rattle.hcc_rule.specs.Seats.{SeatOf, IsSameSeat, view}
 use Rattle.hcc_rule.specs.ToldTrails.{after_unpass}
 use Rattle.hcc_rule.proofs.ProbeLaws.{first_masked, next_masked}
@@ -22,24 +22,24 @@ use Rattle.hcc_table.proofs.Searches.{grows_joined}
 
 -- the places from this one on, up to the slot
 abbrev pub trail_from : (slots : ℕ) → Key → (slot i : ℕ) → List ℕ
-trail_from slots key slot i = before slot (map (probe_place slots key) (range_with_len i (slots - i)))
+trail_from slots key slot i = before slot (map (probe_slot slots key) (range_with_len i (slots - i)))
 
 module _ (slots : ℕ) (key : Key) (slot i : ℕ) where
   -- The first of them is this place, where it isn't the slot.
-  pub trail_first : i < slots → probe_place slots key i ≢ slot
-      → trail_from slots key slot i ≡ probe_place slots key i ∷ trail_from slots key slot (i + 1)
+  pub trail_first : i < slots → probe_slot slots key i ≢ slot
+      → trail_from slots key slot i ≡ probe_slot slots key i ∷ trail_from slots key slot (i + 1)
   trail_first low other =
-      ap (λ n. before slot (map (probe_place slots key) (range_with_len i n))) more
-      ∙ ap (λ b. cond b [] (probe_place slots key i ∷ trail_from slots key slot (i + 1))) (ne_eqb (probe_place slots key i) slot other)
+      ap (λ n. before slot (map (probe_slot slots key) (range_with_len i n))) more
+      ∙ ap (λ b. cond b [] (probe_slot slots key i ∷ trail_from slots key slot (i + 1))) (ne_eqb (probe_slot slots key i) slot other)
     where
       more : slots - i ≡ suc (slots - (i + 1))
       more = omega arith
 
   -- There is none, where it is.
-  pub trail_over : i < slots → probe_place slots key i ≡ slot → trail_from slots key slot i ≡ []
+  pub trail_over : i < slots → probe_slot slots key i ≡ slot → trail_from slots key slot i ≡ []
   trail_over low same =
-      ap (λ n. before slot (map (probe_place slots key) (range_with_len i n))) more
-      ∙ ap (λ b. cond b [] (probe_place slots key i ∷ trail_from slots key slot (i + 1))) (eq-eqb (probe_place slots key i) slot same)
+      ap (λ n. before slot (map (probe_slot slots key) (range_with_len i n))) more
+      ∙ ap (λ b. cond b [] (probe_slot slots key i ∷ trail_from slots key slot (i + 1))) (eq-eqb (probe_slot slots key i) slot same)
     where
       more : slots - i ≡ suc (slots - (i + 1))
       more = omega arith
@@ -48,84 +48,84 @@ module _ (slots : ℕ) (key : Key) (slot i : ℕ) where
   pub trail_end : slots ≤ i → trail_from slots key slot i ≡ []
   trail_end past =
       let none : slots - i ≡ 0 = omega arith in
-      ap (λ n. before slot (map (probe_place slots key) (range_with_len i n))) none
+      ap (λ n. before slot (map (probe_slot slots key) (range_with_len i n))) none
 
 module _ {T : Type 0} where
   -- What is left of the trail, once the first so many places were taken back.
   pub record IsTakingBack (slots : ℕ) (key : Key) (slot i : ℕ) (walk : Walk) (seat now : SeatOf T) : Type 0 where
     pub same : IsSameSeat seat now
     pub walking : IsAt slots key i walk
-    pub left : view now ≡ record (view seat) { hand = record (view seat).hand { trail = trail_from slots key slot i } }
+    pub left : view now ≡ record (view seat) { work = record (view seat).work { trail = trail_from slots key slot i } }
 
   pub takes_back : (slots : ℕ) (key : Key) (slot : ℕ) (walk : Walk) (seat : SeatOf T) → MOST_SLOTS % slots ≡ 0
-      → (view seat).hand.trail ≡ trail_to slots key slot → walk.place ≡ key.w1
+      → (view seat).work.trail ≡ trail_to slots key slot → walk.probe ≡ key.w1
       → walk.stride ≡ bit_or key.w0 1 → walk.mask ≡ slots - 1 → IsTakingBack slots key slot 0 walk seat seat
-  takes_back slots key slot walk seat power trail place stride mask = record {
+  takes_back slots key slot walk seat power trail probe stride mask = record {
     same = record { table = refl; number = refl; slots = refl };
-    walking = record { place = rw (place, mask) (first_masked slots key power); stride = stride; mask = mask };
-    left = ap (λ t. record (view seat) { hand = record (view seat).hand { trail = t } }) (trail ∙ sym whole);
+    walking = record { probe = rw (probe, mask) (first_masked slots key power); stride = stride; mask = mask };
+    left = ap (λ t. record (view seat) { work = record (view seat).work { trail = t } }) (trail ∙ sym whole);
   }
     where
       whole : trail_from slots key slot 0 ≡ trail_to slots key slot
       whole =
           let all : slots - 0 ≡ slots = omega arith in
-          ap (λ n. before slot (map (probe_place slots key) (range_with_len 0 n))) all
+          ap (λ n. before slot (map (probe_slot slots key) (range_with_len 0 n))) all
 
-  module _ (slots : ℕ) (key : Key) (slot i there : ℕ) (walk : Walk) (seat now : SeatOf T) (s : IsTakingBack slots key slot i walk seat now) (is : there ≡ bit_and walk.place walk.mask) (low : i < slots) where
-    place_is : there ≡ probe_place slots key i
-    place_is = is ∙ s.walking.place
+  module _ (slots : ℕ) (key : Key) (slot i there : ℕ) (walk : Walk) (seat now : SeatOf T) (s : IsTakingBack slots key slot i walk seat now) (is : there ≡ bit_and walk.probe walk.mask) (low : i < slots) where
+    probe_is : there ≡ probe_slot slots key i
+    probe_is = is ∙ s.walking.probe
 
-    trail_is : (view now).hand.trail ≡ trail_from slots key slot i
-    trail_is = ap (λ (z : View T). z.hand.trail) s.left
+    trail_is : (view now).work.trail ≡ trail_from slots key slot i
+    trail_is = ap (λ (z : View T). z.work.trail) s.left
 
     -- all is taken back at the slot
-    pub back : there ≡ slot → view now ≡ record (view seat) { hand = record (view seat).hand { trail = [] } }
-    back same = s.left ∙ ap (λ t. record (view seat) { hand = record (view seat).hand { trail = t } }) (trail_over slots key slot i low (sym place_is ∙ same))
+    pub back : there ≡ slot → view now ≡ record (view seat) { work = record (view seat).work { trail = [] } }
+    back same = s.left ∙ ap (λ t. record (view seat) { work = record (view seat).work { trail = t } }) (trail_over slots key slot i low (sym probe_is ∙ same))
 
     module _ (other : there ≢ slot) where
-      first_is : (view now).hand.trail ≡ there ∷ trail_from slots key slot (i + 1)
+      first_is : (view now).work.trail ≡ there ∷ trail_from slots key slot (i + 1)
       first_is =
-          trail_is ∙ (trail_first slots key slot i low (λ e. other (place_is ∙ e))
-          ∙ ap (λ p. p ∷ trail_from slots key slot (i + 1)) (sym place_is))
+          trail_is ∙ (trail_first slots key slot i low (λ e. other (probe_is ∙ e))
+          ∙ ap (λ p. p ∷ trail_from slots key slot (i + 1)) (sym probe_is))
 
       -- else the place stands in it
-      pub stands : list_any (is_place there) (view now).hand.trail ≡ true
-      stands = ap (list_any (is_place there)) first_is ∙ ap (λ b. b || list_any (is_place there) (trail_from slots key slot (i + 1))) (eq-eqb there there refl)
+      pub stands : list_any (is_slot there) (view now).work.trail ≡ true
+      stands = ap (list_any (is_slot there)) first_is ∙ ap (λ b. b || list_any (is_slot there) (trail_from slots key slot (i + 1))) (eq-eqb there there refl)
 
       -- and goes
       pub goes_back : (new : SeatOf T) (next : Walk) → MOST_SLOTS % slots ≡ 0 → IsSameSeat now new
-          → view new ≡ after_unpass there (view now) → next.place ≡ (walk.place + walk.stride) % 2 ^ 64
+          → view new ≡ after_unpass there (view now) → next.probe ≡ (walk.probe + walk.stride) % 2 ^ 64
           → next.stride ≡ walk.stride → next.mask ≡ walk.mask
           → IsTakingBack slots key slot (i + 1) next seat new
-      goes_back new next power same told place stride mask = record {
+      goes_back new next power same told probe stride mask = record {
         same = seat_then seat now new s.same same;
         walking = record {
-          place =
-              rw (place, mask, s.walking.stride, s.walking.mask)
-              (next_masked slots key power i walk.place (rw (← s.walking.mask) s.walking.place));
+          probe =
+              rw (probe, mask, s.walking.stride, s.walking.mask)
+              (next_masked slots key power i walk.probe (rw (← s.walking.mask) s.walking.probe));
           stride = stride ∙ s.walking.stride;
           mask = mask ∙ s.walking.mask;
         };
         left =
-            told ∙ (ap (λ (v : View T). record v { hand = record v.hand { trail = dropped (is_place there) (view now).hand.trail } }) s.left
-            ∙ ap (λ t. record (view seat) { hand = record (view seat).hand { trail = t } }) gone);
+            told ∙ (ap (λ (v : View T). record v { work = record v.work { trail = dropped (is_slot there) (view now).work.trail } }) s.left
+            ∙ ap (λ t. record (view seat) { work = record (view seat).work { trail = t } }) gone);
       }
         where
-          gone : dropped (is_place there) (view now).hand.trail ≡ trail_from slots key slot (i + 1)
-          gone = ap (dropped (is_place there)) first_is ∙ ap (λ b. cond b (trail_from slots key slot (i + 1)) (there ∷ dropped (is_place there) (trail_from slots key slot (i + 1)))) (eq-eqb there there refl)
+          gone : dropped (is_slot there) (view now).work.trail ≡ trail_from slots key slot (i + 1)
+          gone = ap (dropped (is_slot there)) first_is ∙ ap (λ b. cond b (trail_from slots key slot (i + 1)) (there ∷ dropped (is_slot there) (trail_from slots key slot (i + 1)))) (eq-eqb there there refl)
 
   -- All is taken back after all places.
   pub back_at_end : (slots : ℕ) (key : Key) (slot i : ℕ) (walk : Walk) (seat now : SeatOf T) → slots ≤ i
       → IsTakingBack slots key slot i walk seat now
-      → view now ≡ record (view seat) { hand = record (view seat).hand { trail = [] } }
+      → view now ≡ record (view seat) { work = record (view seat).work { trail = [] } }
   back_at_end slots key slot i walk seat now past s =
-      s.left ∙ ap (λ t. record (view seat) { hand = record (view seat).hand { trail = t } }) (trail_end slots key slot i past)
+      s.left ∙ ap (λ t. record (view seat) { work = record (view seat).work { trail = t } }) (trail_end slots key slot i past)
 
   -- A taken entry's slot was emptied.
   pub freed : (fits : T → Key → List ℕ → Type 0) (slots room slot old word charge : ℕ) (name : Option ℕ) (u v w : View T)
       → (old == word) ≡ true → Freed fits slots room slot word old name u v → charge ≡ slice_index v.written CHARGE
-      → owns_nothing u.hand.owned ≡ true → u.hand.trail ≡ []
-      → w ≡ emptied v → IsFreed fits room word name charge u w × (w.records ≡ records_left name u.records) × (w.hand.looked ≡ u.hand.looked)
+      → owns_nothing u.work.owned ≡ true → u.work.trail ≡ []
+      → w ≡ emptied v → IsFreed fits room word name charge u w × (w.records ≡ records_left name u.records) × (w.work.looked ≡ u.work.looked)
   freed fits slots room slot old word charge name u v w won told charged idle bare same =
       let got = told.won won in
       let is : old ≡ word = eqb-true old word won in
@@ -135,11 +135,11 @@ module _ {T : Type 0} where
           made = got.1;
           taken = got.2;
           charged = charge_is got.0 got.1 got.3;
-          dead = λ stamp h. rw all (grows_joined u.hand.dead (found_dead slot old u) stamp h);
+          dead = λ stamp h. rw all (grows_joined u.work.dead (found_dead slot old u) stamp h);
           same = rw (all, charge_is got.0 got.1 got.3, is) refl;
         },
         ap (λ (z : View T). z.records) all,
-        ap (λ (z : View T). z.hand.looked) all,
+        ap (λ (z : View T). z.work.looked) all,
       )
     where
       charge_is : (stamp : Stamp) (made : Made) → v ≡ after_free slots slot old name stamp made u → charge ≡ made.charge

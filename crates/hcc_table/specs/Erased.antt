@@ -11,13 +11,13 @@ module _ {T : Type 0} where
   -- than before, and other words in a slot of its own. All else stays.
   pub record Erases (keys : List Key) (slots charge : ℕ) (v w : View T) : Type 0 where
     pub same : w ≡ record v {
-      hand = record v.hand {
-        looked = w.hand.looked;
+      work = record v.work {
+        looked = w.work.looked;
         owned = owned.Nothing;
         trail = [];
-        freed = v.hand.freed + charge;
-        freed_slots = v.hand.freed_slots + slots;
-        dead = w.hand.dead;
+        freed = v.work.freed + charge;
+        freed_slots = v.work.freed_slots + slots;
+        dead = w.work.dead;
       };
       records = w.records;
       written = w.written;
@@ -25,7 +25,7 @@ module _ {T : Type 0} where
       takings = v.takings + slots;
       met = w.met;
     }
-    pub dead : Grows v.hand.dead w.hand.dead
+    pub dead : Grows v.work.dead w.work.dead
     pub met : (more : List Key) × (w.met ≡ v.met ++ more)
 
   -- So many entries of one key, and it holds what it held. It freed no more than it met of the key.

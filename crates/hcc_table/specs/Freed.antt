@@ -20,14 +20,14 @@ module _ {T : Type 0} where
 
   -- The client took the slot's entry: its words are known, and its trail is the client's.
   pub record HasTaken (slots slot : ℕ) (v : View T) : Type 0 where
-    pub owns : v.hand.owned ≡ owned.ForFreeing slot
+    pub owns : v.work.owned ≡ owned.ForFreeing slot
     pub words : PAYLOAD ≤ length v.written
-    pub trail : v.hand.trail ≡ trail_to slots (owned_key v) slot
+    pub trail : v.work.trail ≡ trail_to slots (owned_key v) slot
 
   -- the view once the trail was taken back and the slot was emptied
   abbrev pub emptied : View T → View T
   emptied v = record v {
-    hand = record v.hand { owned = owned.Nothing; trail = [] };
+    work = record v.work { owned = owned.Nothing; trail = [] };
     written = [];
   }
 
@@ -38,15 +38,15 @@ module _ {T : Type 0} where
     pub made : Made
     pub taken : IsTaken fits room last v stamp made
     pub charged : charge ≡ made.charge
-    pub dead : Grows v.hand.dead w.hand.dead
+    pub dead : Grows v.work.dead w.work.dead
     pub same : w ≡ record v {
-      hand = record v.hand {
-        looked = w.hand.looked;
+      work = record v.work {
+        looked = w.work.looked;
         owned = owned.Nothing;
         trail = [];
-        freed = v.hand.freed + charge;
-        freed_slots = v.hand.freed_slots + 1;
-        dead = w.hand.dead;
+        freed = v.work.freed + charge;
+        freed_slots = v.work.freed_slots + 1;
+        dead = w.work.dead;
       };
       written = [];
       records = w.records;
@@ -58,5 +58,5 @@ module _ {T : Type 0} where
   pub record IsGiven (name : ℕ) (v w : View T) : Type 0 where
     pub searched : Searched v w
     pub records : w.records ≡ dropped (is_called name) v.records
-    pub looked : w.hand.looked ≡ v.hand.looked
+    pub looked : w.work.looked ≡ v.work.looked
     pub met : w.met ≡ v.met

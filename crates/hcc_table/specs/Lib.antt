@@ -3,6 +3,6 @@ pub mod Freed
 pub mod Visited
 pub mod Erased
 pub mod Readings
-pub mod Placed
+pub mod Inserted
 pub mod Mates
 pub mod Handles

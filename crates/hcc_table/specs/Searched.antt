@@ -29,11 +29,11 @@ module _ {T : Type 0} where
   -- entries dead, met keys, and holds other records than before. All else stays.
   pub record Searched (v w : View T) : Type 0 where
     pub same : w ≡ record v {
-      hand = record v.hand { looked = w.hand.looked; dead = w.hand.dead };
+      work = record v.work { looked = w.work.looked; dead = w.work.dead };
       records = w.records;
       met = w.met;
     }
-    pub dead : Grows v.hand.dead w.hand.dead
+    pub dead : Grows v.work.dead w.work.dead
     pub met : (more : List Key) × (w.met ≡ v.met ++ more)
 
   -- the same, and it holds what it held
@@ -44,12 +44,12 @@ module _ {T : Type 0} where
   -- each entry of the key that the client held before, on a slot of which P holds, is dead to it after
   abbrev pub Buried : Key → (ℕ → Type 0) → View T → View T → Type 0
   Buried key P v w =
-      Each (λ (r : Record). key_of r.entry ≡ key → P r.slot → is_in r.entry.stamp w.hand.dead ≡ true) v.records
+      Each (λ (r : Record). key_of r.entry ≡ key → P r.slot → is_in r.entry.stamp w.work.dead ≡ true) v.records
 
   -- each entry of the key that the client held before is dead to it after
   abbrev pub AllDead : Key → View T → View T → Type 0
   AllDead key v w =
-      Each (λ (r : Record). key_of r.entry ≡ key → is_in r.entry.stamp w.hand.dead ≡ true) v.records
+      Each (λ (r : Record). key_of r.entry ≡ key → is_in r.entry.stamp w.work.dead ≡ true) v.records
 
   -- Nothing was found: it holds what it held, and each entry of the key that it holds is dead to it.
   pub record IsMissed (key : Key) (v w : View T) : Type 0 where
@@ -63,7 +63,7 @@ module _ {T : Type 0} where
     pub got : is_shareable word ≡ true
         → (entry : Entry) × IsMet fits room slot word v entry
         × (w.records ≡ v.records ++ record_of slot weight name word entry ∷ [])
-        × (is_visible word ≡ false → is_in entry.stamp w.hand.dead ≡ true)
+        × (is_visible word ≡ false → is_in entry.stamp w.work.dead ≡ true)
     pub held : Each (λ (r : Record). r.slot ≡ slot → is_shareable word ≡ true) v.records
 
   -- One record more: of a visible entry of the key, which the client had not seen dead. All that it
@@ -80,6 +80,6 @@ module _ {T : Type 0} where
     pub short : length r.entry.value ≤ 8 * room
     pub bytes : Each (λ b. b < 256) r.entry.value
     pub small : r.entry.charge < 2 ^ 32
-    pub alive : is_in r.entry.stamp v.hand.dead ≡ false
+    pub alive : is_in r.entry.stamp v.work.dead ≡ false
     pub one : Each (λ (q : Record). q.slot ≡ slot → q.entry ≡ r.entry) v.records
     pub met : (more : List Key) × (w.met ≡ v.met ++ more) × (1 ≤ times_met key more)

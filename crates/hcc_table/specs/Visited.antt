@@ -25,7 +25,7 @@ Visited fits room slot visits.Counted v w =
 Visited fits room slot visits.Lost v w = Sought v w
 Visited fits room slot (visits.Freed charge) v w =
     (word : ℕ) × IsFreed fits room word None charge v w × (is_warm word ≡ false) × (refs_of word ≡ 0) × Backs slot word v
-    × (w.records ≡ v.records) × (w.hand.looked ≡ Some slot)
+    × (w.records ≡ v.records) × (w.work.looked ≡ Some slot)
 
 -- what an exchange that counts down does
 abbrev pub CountedDown : {T : Type 0} → Visit → View T → View T → Type 0
@@ -36,5 +36,5 @@ CountedDown visit v w = ⊥
 -- what a try to free does
 abbrev pub Swept : {T : Type 0} → (T → Key → List ℕ → Type 0) → (room word : ℕ) → Visit → View T → View T → Type 0
 Swept fits room word visits.Lost v w = Sought v w
-Swept fits room word (visits.Freed charge) v w = IsFreed fits room word None charge v w × (w.records ≡ v.records) × (w.hand.looked ≡ v.hand.looked)
+Swept fits room word (visits.Freed charge) v w = IsFreed fits room word None charge v w × (w.records ≡ v.records) × (w.work.looked ≡ v.work.looked)
 Swept fits room word visit v w = ⊥

@@ -1,7 +1,8 @@
 //! References on an entry, and the one try to take its counters back.
 ghost use Rattle.std.specs.Prelude.{◌≡◌, ◌+◌, ◌<◌, ◌≤◌, false, true, None, IsSomeAnd};
 ghost use Rattle.hcc_core.specs.declared.limits.TheConstants.{MOST_WEIGHT, REFERENCES_PER_CLIENT};
-ghost use Rattle.hcc_rule.specs.Seats.{IsSeatOf, IsSameSeat, view};
+ghost use Rattle.hcc_rule.specs.Callers.{room_of, IsSeatAt, IsSlotOf};
+ghost use Rattle.hcc_rule.specs.Seats.{IsSameSeat, view};
 ghost use Rattle.hcc_rule.specs.ToldReferences.{may_reach};
 ghost use Rattle.hcc_rule.specs.Views.{load_of, record_in};
 ghost use Rattle.hcc_table.specs.Searched.{Sought, Reached};
@@ -20,14 +21,14 @@ pub(crate) fn reach<T: Tag, A: Allocator>(
     weight: u32,
     name: u64,
 ) -> u64
-    requires seat { IsSeatOf table.now.table.shared.table_id table.now.table.shared.key.tag seat.old }
-    requires slot { slot < table.now.geometry.slots }
+    requires seat { IsSeatAt table.now seat.old }
+    requires slot { IsSlotOf table.now slot }
     requires weight { (0 < weight) × (weight ≤ MOST_WEIGHT) }
     requires fresh { record_in name (view seat.old).records ≡ None }
     requires reach { may_reach slot (view seat.old) ≡ true }
     requires load { load_of (view seat.old).records + weight ≤ REFERENCES_PER_CLIENT }
     ensures seat { IsSameSeat seat.old seat.new }
-    ensures view { Reached T.fits table.now.geometry.room slot weight name result (view seat.old) (view seat.new) }
+    ensures view { Reached T.fits (room_of table.now) slot weight name result (view seat.old) (view seat.new) }
 {
     let found = table.acquire(seat, slot, weight, name);
     if has_entry(found) && !counts(found) {
@@ -44,8 +45,8 @@ fn relieve<T: Tag, A: Allocator>(
     name: u64,
     word: u64,
 )
-    requires seat { IsSeatOf table.now.table.shared.table_id table.now.table.shared.key.tag seat.old }
-    requires slot { slot < table.now.geometry.slots }
+    requires seat { IsSeatAt table.now seat.old }
+    requires slot { IsSlotOf table.now slot }
     requires holds { IsSomeAnd (record_in name (view seat.old).records) (λ r. (r.slot ≡ slot) × (r.counting ≡ false)) }
     ensures seat { IsSameSeat seat.old seat.new }
     ensures view { Sought (view seat.old) (view seat.new) }

@@ -5,10 +5,11 @@ ghost use mir.Syntax.{w64};
 ghost use Rattle.hcc_core.specs.declared.limits.TheConstants.{MOST_CLIENTS, STAMPS_PER_CLIENT};
 ghost use Rattle.hcc_core.specs.declared.state.Owned.TheVariants.{ForBuilding};
 ghost use Rattle.hcc_rule.specs.declared.layout.TheConstants.{PAYLOAD};
-ghost use Rattle.hcc_rule.specs.Seats.{IsSeatOf, IsSameSeat, view};
+ghost use Rattle.hcc_rule.specs.Callers.{plan_of, room_of, IsSeatAt, IsSlotOf};
+ghost use Rattle.hcc_rule.specs.Seats.{IsSameSeat, view};
 ghost use Rattle.hcc_rule.specs.ToldOwners.{MayShow, after_show, made_of};
 ghost use Rattle.hcc_rule.specs.Words.{made_words, payload, stamp_word};
-ghost use Rattle.hcc_table.specs.Placed.{with_words};
+ghost use Rattle.hcc_table.specs.Inserted.{with_words};
 
 use hcc_core::limits::STAMPS_PER_CLIENT;
 use hcc_rule::layout::{CHARGE, KEY0, KEY1, LENGTH, PAYLOAD, STAMP};
@@ -25,12 +26,12 @@ fn short_word(bytes: &[u8]) -> u64
     u64::from_le_bytes(whole)
 }
 
-/// The word of the eight bytes from a place on.
-fn word_at(value: &[u8], place: usize) -> u64
-    requires { place ≤ length value.now }
-    ensures { result ≡ from_le_bytes w64 (take 8 (drop place value.now)) }
+/// The word of the eight bytes from a offset on.
+fn word_at(value: &[u8], offset: usize) -> u64
+    requires { offset ≤ length value.now }
+    ensures { result ≡ from_le_bytes w64 (take 8 (drop offset value.now)) }
 {
-    let rest = &value[place..];
+    let rest = &value[offset..];
     match rest.first_chunk::<8>() {
         Some(bytes) => u64::from_le_bytes(*bytes),
         None => short_word(rest),
@@ -46,9 +47,9 @@ fn write_head<T: Tag, A: Allocator>(
     bytes: u64,
     client: u32,
 )
-    requires seat { IsSeatOf table.now.table.shared.table_id table.now.table.shared.key.tag seat.old }
-    requires slot { slot < table.now.geometry.slots }
-    requires owned { (view seat.old).hand.owned ≡ ForBuilding slot }
+    requires seat { IsSeatAt table.now seat.old }
+    requires slot { IsSlotOf table.now slot }
+    requires owned { (view seat.old).work.owned ≡ ForBuilding slot }
     requires none { (view seat.old).written ≡ [] }
     requires client { client < MOST_CLIENTS }
     requires serial { draft.serial < STAMPS_PER_CLIENT }
@@ -70,11 +71,11 @@ fn write_payload<T: Tag, A: Allocator>(
     slot: u32,
     value: &[u8],
 )
-    requires seat { IsSeatOf table.now.table.shared.table_id table.now.table.shared.key.tag seat.old }
-    requires slot { slot < table.now.geometry.slots }
-    requires owned { (view seat.old).hand.owned ≡ ForBuilding slot }
+    requires seat { IsSeatAt table.now seat.old }
+    requires slot { IsSlotOf table.now slot }
+    requires owned { (view seat.old).work.owned ≡ ForBuilding slot }
     requires head { length (view seat.old).written ≡ PAYLOAD }
-    requires short { length value.now ≤ 8 * table.now.geometry.room }
+    requires short { length value.now ≤ 8 * (room_of table.now) }
     ensures seat { IsSameSeat seat.old seat.new }
     ensures view { view seat.new ≡ with_words ((view seat.old).written ++ payload value.now) (view seat.old) }
 {
@@ -92,11 +93,11 @@ pub(crate) fn build<T: Tag, A: Allocator>(
     value: &[u8],
     client: u32,
 )
-    requires seat { IsSeatOf table.now.table.shared.table_id table.now.table.shared.key.tag seat.old }
-    requires slot { slot < table.now.geometry.slots }
+    requires seat { IsSeatAt table.now seat.old }
+    requires slot { IsSlotOf table.now slot }
     requires none { (view seat.old).written ≡ [] }
     requires client { client < MOST_CLIENTS }
-    requires may { MayShow T.fits table.now.table.shared.key slot draft.countdown draft.name (made_of draft value.now)
+    requires may { MayShow T.fits (plan_of table.now) slot draft.countdown draft.name (made_of draft value.now)
         (with_words (made_words client (made_of draft value.now)) (view seat.old)) }
     ensures seat { IsSameSeat seat.old seat.new }
     ensures view { view seat.new ≡ after_show slot draft.name (made_of draft value.now) (view seat.old) }

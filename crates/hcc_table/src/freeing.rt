@@ -3,8 +3,9 @@ ghost use Rattle.std.specs.Prelude.{◌≡◌, ◌+◌, ◌^◌, ◌<◌, ◌≤
 ghost use Rattle.hcc_word.specs.Word.{is_shareable};
 ghost use Rattle.hcc_core.specs.Steps.{owns_nothing};
 ghost use Rattle.hcc_rule.specs.declared.layout.TheConstants.{CHARGE};
+ghost use Rattle.hcc_rule.specs.Callers.{slots_of, room_of, IsSeatAt, IsSlotOf};
 ghost use Rattle.hcc_rule.specs.Probes.{trail_to};
-ghost use Rattle.hcc_rule.specs.Seats.{IsSeatOf, IsSameSeat, view};
+ghost use Rattle.hcc_rule.specs.Seats.{IsSameSeat, view};
 ghost use Rattle.hcc_rule.specs.ToldOwners.{IsLast, records_left};
 ghost use Rattle.hcc_table.specs.Freed.{HasTaken, IsFreed, emptied};
 ghost use Rattle.hcc_table.specs.Searched.{Sought};
@@ -24,9 +25,9 @@ pub fn free_taken<T: Tag, A: Allocator>(
     seat: &mut RuleSeat<T>,
     slot: u32,
 ) -> u64
-    requires seat { IsSeatOf table.now.table.shared.table_id table.now.table.shared.key.tag seat.old }
-    requires slot { slot < table.now.geometry.slots }
-    requires taken { HasTaken table.now.geometry.slots slot (view seat.old) }
+    requires seat { IsSeatAt table.now seat.old }
+    requires slot { IsSlotOf table.now slot }
+    requires taken { HasTaken (slots_of table.now) slot (view seat.old) }
     ensures seat { IsSameSeat seat.old seat.new }
     ensures charge { result ≡ slice_index (view seat.old).written CHARGE }
     ensures view { view seat.new ≡ emptied (view seat.old) }
@@ -48,10 +49,10 @@ pub(crate) fn take_back<T: Tag, A: Allocator>(
     slot: u32,
     key: Key,
 )
-    requires seat { IsSeatOf table.now.table.shared.table_id table.now.table.shared.key.tag seat.old }
-    requires trail { (view seat.old).hand.trail ≡ trail_to table.now.geometry.slots key slot }
+    requires seat { IsSeatAt table.now seat.old }
+    requires trail { (view seat.old).work.trail ≡ trail_to (slots_of table.now) key slot }
     ensures seat { IsSameSeat seat.old seat.new }
-    ensures view { view seat.new ≡ record (view seat.old) { hand = record (view seat.old).hand { trail = [] } } }
+    ensures view { view seat.new ≡ record (view seat.old) { work = record (view seat.old).work { trail = [] } } }
 {
     let slots = table.geometry().slots;
     let mut walk = Walk::begin(key, slots);
@@ -74,18 +75,18 @@ pub(crate) fn try_free<T: Tag, A: Allocator>(
     word: u64,
     name: Option<u64>,
 ) -> Option<u64>
-    requires seat { IsSeatOf table.now.table.shared.table_id table.now.table.shared.key.tag seat.old }
-    requires slot { slot < table.now.geometry.slots }
+    requires seat { IsSeatAt table.now seat.old }
+    requires slot { IsSlotOf table.now slot }
     requires entry { is_shareable word ≡ true }
     requires last { IsLast slot word name (view seat.old) }
-    requires idle { (owns_nothing (view seat.old).hand.owned ≡ true) × ((view seat.old).hand.trail ≡ []) }
-    requires space { (view seat.old).hand.freed + 2 ^ 32 ≤ 2 ^ 49 }
+    requires idle { (owns_nothing (view seat.old).work.owned ≡ true) × ((view seat.old).work.trail ≡ []) }
+    requires space { (view seat.old).work.freed + 2 ^ 32 ≤ 2 ^ 49 }
     ensures seat { IsSameSeat seat.old seat.new }
     ensures lost { IfNone result (Sought (view seat.old) (view seat.new)) }
     ensures freed { IfSome result (λ charge.
-        IsFreed T.fits table.now.geometry.room word name charge (view seat.old) (view seat.new)
+        IsFreed T.fits (room_of table.now) word name charge (view seat.old) (view seat.new)
         × ((view seat.new).records ≡ records_left name (view seat.old).records)
-        × ((view seat.new).hand.looked ≡ (view seat.old).hand.looked)) }
+        × ((view seat.new).work.looked ≡ (view seat.old).work.looked)) }
 {
     if table.free(seat, slot, word, name) != word {
         return None;

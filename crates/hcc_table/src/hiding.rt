@@ -4,7 +4,8 @@ ghost use Rattle.hcc_core.specs.declared.limits.TheConstants.{REFERENCES_PER_CLI
 ghost use Rattle.hcc_core.specs.declared.state.Owned.TheVariants.{Nothing};
 ghost use Rattle.hcc_core.specs.Lawful.{is_in};
 ghost use Rattle.hcc_core.specs.Steps.{dropped};
-ghost use Rattle.hcc_rule.specs.Seats.{IsSeatOf, IsSameSeat, view};
+ghost use Rattle.hcc_rule.specs.Callers.{slots_of, IsSeatAt, IsSlotOf};
+ghost use Rattle.hcc_rule.specs.Seats.{IsSameSeat, view};
 ghost use Rattle.hcc_rule.specs.Views.{is_called, load_of, record_in};
 ghost use Rattle.hcc_rule.specs.Words.{key_of};
 ghost use Rattle.hcc_table.specs.Erased.{Erases, IsErased};
@@ -54,15 +55,15 @@ pub fn hide<T: Tag, A: Allocator>(
     key: Key,
     name: u64,
 ) -> Erased
-    requires seat { IsSeatOf table.now.table.shared.table_id table.now.table.shared.key.tag seat.old }
+    requires seat { IsSeatAt table.now seat.old }
     requires fresh { record_in name (view seat.old).records ≡ None }
     requires load { load_of (view seat.old).records + 1 ≤ REFERENCES_PER_CLIENT }
-    requires idle { ((view seat.old).hand.owned ≡ Nothing) × ((view seat.old).hand.trail ≡ []) }
-    requires settled { (view seat.old).hand.freed ≡ 0 }
+    requires idle { ((view seat.old).work.owned ≡ Nothing) × ((view seat.old).work.trail ≡ []) }
+    requires settled { (view seat.old).work.freed ≡ 0 }
     ensures seat { IsSameSeat seat.old seat.new }
     ensures view { IsErased key result.hidden result.slots result.charge (view seat.old) (view seat.new) }
     ensures dead { AllDead key (view seat.old) (view seat.new) }
-    ensures few { (result.hidden ≤ table.now.geometry.slots) × (result.slots ≤ table.now.geometry.slots) }
+    ensures few { (result.hidden ≤ (slots_of table.now)) × (result.slots ≤ (slots_of table.now)) }
 {
     let slots = table.geometry().slots;
     let mut walk = Walk::begin(key, slots);
@@ -105,12 +106,12 @@ fn hide_at<T: Tag, A: Allocator>(
     key: Key,
     name: u64,
 ) -> Erased
-    requires seat { IsSeatOf table.now.table.shared.table_id table.now.table.shared.key.tag seat.old }
-    requires slot { slot < table.now.geometry.slots }
+    requires seat { IsSeatAt table.now seat.old }
+    requires slot { IsSlotOf table.now slot }
     requires fresh { record_in name (view seat.old).records ≡ None }
     requires load { load_of (view seat.old).records + 1 ≤ REFERENCES_PER_CLIENT }
-    requires idle { ((view seat.old).hand.owned ≡ Nothing) × ((view seat.old).hand.trail ≡ []) }
-    requires space { (view seat.old).hand.freed + 2 ^ 32 ≤ 2 ^ 49 }
+    requires idle { ((view seat.old).work.owned ≡ Nothing) × ((view seat.old).work.trail ≡ []) }
+    requires space { (view seat.old).work.freed + 2 ^ 32 ≤ 2 ^ 49 }
     ensures seat { IsSameSeat seat.old seat.new }
     ensures view { IsErased key result.hidden result.slots result.charge (view seat.old) (view seat.new) }
     ensures dead { Buried key (λ s. s ≡ slot) (view seat.old) (view seat.new) }
@@ -130,15 +131,15 @@ fn hide_held<T: Tag, A: Allocator>(
     slot: u32,
     name: u64,
 ) -> Erased
-    requires seat { IsSeatOf table.now.table.shared.table_id table.now.table.shared.key.tag seat.old }
-    requires slot { slot < table.now.geometry.slots }
+    requires seat { IsSeatAt table.now seat.old }
+    requires slot { IsSlotOf table.now slot }
     requires holds { IsSomeAnd (record_in name (view seat.old).records) (λ r. (r.slot ≡ slot) × (r.weight ≡ 1)) }
-    requires idle { ((view seat.old).hand.owned ≡ Nothing) × ((view seat.old).hand.trail ≡ []) }
-    requires space { (view seat.old).hand.freed + 2 ^ 32 ≤ 2 ^ 49 }
+    requires idle { ((view seat.old).work.owned ≡ Nothing) × ((view seat.old).work.trail ≡ []) }
+    requires space { (view seat.old).work.freed + 2 ^ 32 ≤ 2 ^ 49 }
     ensures seat { IsSameSeat seat.old seat.new }
     ensures view { IsSomeAnd (record_in name (view seat.old).records) (λ r.
         Erases (replicate result.hidden (key_of r.entry)) result.slots result.charge (view seat.old) (view seat.new)
-        × (is_in r.entry.stamp (view seat.new).hand.dead ≡ true)) }
+        × (is_in r.entry.stamp (view seat.new).work.dead ≡ true)) }
     ensures records { (view seat.new).records ≡ dropped (is_called name) (view seat.old).records }
     ensures few { (result.hidden ≤ 1) × (result.slots ≤ 1) × (result.charge < 2 ^ 32) }
 {
@@ -170,11 +171,11 @@ fn free_last<T: Tag, A: Allocator>(
     name: u64,
     word: u64,
 ) -> Option<u64>
-    requires seat { IsSeatOf table.now.table.shared.table_id table.now.table.shared.key.tag seat.old }
-    requires slot { slot < table.now.geometry.slots }
+    requires seat { IsSeatAt table.now seat.old }
+    requires slot { IsSlotOf table.now slot }
     requires holds { IsSomeAnd (record_in name (view seat.old).records) (λ r. (r.slot ≡ slot) × (r.weight ≡ 1)) }
-    requires idle { ((view seat.old).hand.owned ≡ Nothing) × ((view seat.old).hand.trail ≡ []) }
-    requires space { (view seat.old).hand.freed + 2 ^ 32 ≤ 2 ^ 49 }
+    requires idle { ((view seat.old).work.owned ≡ Nothing) × ((view seat.old).work.trail ≡ []) }
+    requires space { (view seat.old).work.freed + 2 ^ 32 ≤ 2 ^ 49 }
     ensures seat { IsSameSeat seat.old seat.new }
     ensures lost { IfNone result (Sought (view seat.old) (view seat.new)) }
     ensures freed { IfSome result (λ charge. (charge < 2 ^ 32)

@@ -5,10 +5,10 @@
 mod acquire;
 mod build;
 mod freeing;
-mod giving;
 mod hiding;
-mod placing;
+mod inserting;
 mod readings;
+mod releasing;
 mod search;
 #[cfg(test)]
 mod tests;
@@ -18,10 +18,10 @@ mod walk;
 mod words;
 
 pub use freeing::free_taken;
-pub use giving::{again, give};
 pub use hiding::{Erased, hide};
-pub use placing::{Placement, place};
+pub use inserting::{Insertion, insert};
 pub use readings::{displacement, read_bytes, read_key, read_len, word};
+pub use releasing::{again, release};
 pub use search::{Found, find};
 pub use visiting::visit;
 pub use visits::Visit;

@@ -5,8 +5,9 @@ ghost use mir.Syntax.{w64};
 ghost use Rattle.hcc_core.specs.World.{times};
 ghost use Rattle.hcc_rule.specs.declared.layout.TheConstants.{KEY1};
 ghost use Rattle.hcc_rule.specs.declared.view.Record.{Record};
+ghost use Rattle.hcc_rule.specs.Callers.{slots_of, room_of, IsSeatAt, IsSlotOf, HasOn};
 ghost use Rattle.hcc_rule.specs.Probes.{trail_to};
-ghost use Rattle.hcc_rule.specs.Seats.{IsSeatOf, IsSameSeat, view};
+ghost use Rattle.hcc_rule.specs.Seats.{IsSameSeat, view};
 ghost use Rattle.hcc_rule.specs.Told.{after_look, Backs};
 ghost use Rattle.hcc_rule.specs.ToldOwners.{after_read};
 ghost use Rattle.hcc_rule.specs.Views.{Each, record_in};
@@ -24,8 +25,8 @@ use std::alloc::Allocator;
 /// and has seen an entry dead that it holds and that is hidden; the rest of what it has stays. It
 /// refuses nothing and takes no memory. It costs one load.
 pub fn word<T: Tag, A: Allocator>(table: &RuleTable<T, A>, seat: &mut RuleSeat<T>, slot: u32) -> u64
-    requires seat { IsSeatOf table.now.table.shared.table_id table.now.table.shared.key.tag seat.old }
-    requires slot { slot < table.now.geometry.slots }
+    requires seat { IsSeatAt table.now seat.old }
+    requires slot { IsSlotOf table.now slot }
     ensures seat { IsSameSeat seat.old seat.new }
     ensures view { view seat.new ≡ after_look slot result (view seat.old) }
     ensures backs { Backs slot result (view seat.old) }
@@ -43,13 +44,13 @@ pub fn displacement<T: Tag, A: Allocator>(
     seat: &mut RuleSeat<T>,
     slot: u32,
 ) -> u64
-    requires seat { IsSeatOf table.now.table.shared.table_id table.now.table.shared.key.tag seat.old }
-    requires slot { slot < table.now.geometry.slots }
+    requires seat { IsSeatAt table.now seat.old }
+    requires slot { IsSlotOf table.now slot }
     ensures seat { IsSameSeat seat.old seat.new }
     ensures view { view seat.new ≡ view seat.old }
-    ensures own { times slot (view seat.old).hand.trail ≤ result }
-    ensures held { Each (λ (r : Record). times slot (trail_to table.now.geometry.slots (key_of r.entry) r.slot) ≤ result) (view seat.old).records }
-    ensures within { Each (λ (r : Record). r.slot < table.now.geometry.slots) (view seat.old).records }
+    ensures own { times slot (view seat.old).work.trail ≤ result }
+    ensures held { Each (λ (r : Record). times slot (trail_to (slots_of table.now) (key_of r.entry) r.slot) ≤ result) (view seat.old).records }
+    ensures within { Each (λ (r : Record). r.slot < (slots_of table.now)) (view seat.old).records }
 {
     table.count(seat, slot)
 }
@@ -64,9 +65,9 @@ pub fn read_len<T: Tag, A: Allocator>(
     slot: u32,
     name: u64,
 ) -> usize
-    requires seat { IsSeatOf table.now.table.shared.table_id table.now.table.shared.key.tag seat.old }
-    requires slot { slot < table.now.geometry.slots }
-    requires holds { IsSomeAnd (record_in name (view seat.old).records) (λ r. r.slot ≡ slot) }
+    requires seat { IsSeatAt table.now seat.old }
+    requires slot { IsSlotOf table.now slot }
+    requires holds { HasOn slot name (view seat.old) }
     ensures seat { IsSameSeat seat.old seat.new }
     ensures view { view seat.new ≡ view seat.old }
     ensures exact { IfSome (record_in name (view seat.old).records) (λ r. result ≡ length r.entry.value) }
@@ -85,9 +86,9 @@ pub fn read_key<T: Tag, A: Allocator>(
     slot: u32,
     name: u64,
 ) -> Key
-    requires seat { IsSeatOf table.now.table.shared.table_id table.now.table.shared.key.tag seat.old }
-    requires slot { slot < table.now.geometry.slots }
-    requires holds { IsSomeAnd (record_in name (view seat.old).records) (λ r. r.slot ≡ slot) }
+    requires seat { IsSeatAt table.now seat.old }
+    requires slot { IsSlotOf table.now slot }
+    requires holds { HasOn slot name (view seat.old) }
     ensures seat { IsSameSeat seat.old seat.new }
     ensures view { view seat.new ≡ after_read name KEY1 (view seat.old) }
     ensures exact { IfSome (record_in name (view seat.old).records) (λ r. result ≡ key_of r.entry) }
@@ -106,10 +107,10 @@ fn read_word<T: Tag, A: Allocator>(
     name: u64,
     index: usize,
 ) -> u64
-    requires seat { IsSeatOf table.now.table.shared.table_id table.now.table.shared.key.tag seat.old }
-    requires slot { slot < table.now.geometry.slots }
-    requires within { index < table.now.geometry.room }
-    requires holds { IsSomeAnd (record_in name (view seat.old).records) (λ r. r.slot ≡ slot) }
+    requires seat { IsSeatAt table.now seat.old }
+    requires slot { IsSlotOf table.now slot }
+    requires within { index < room_of table.now }
+    requires holds { HasOn slot name (view seat.old) }
     ensures seat { IsSameSeat seat.old seat.new }
     ensures view { view seat.new ≡ view seat.old }
     ensures word { IfSome (record_in name (view seat.old).records)
@@ -143,14 +144,14 @@ fn copy_word<T: Tag, A: Allocator>(
     count: usize,
     buffer: &mut [u8],
 )
-    requires seat { IsSeatOf table.now.table.shared.table_id table.now.table.shared.key.tag seat.old }
-    requires slot { slot < table.now.geometry.slots }
-    requires within { index < table.now.geometry.room }
+    requires seat { IsSeatAt table.now seat.old }
+    requires slot { IsSlotOf table.now slot }
+    requires within { index < room_of table.now }
     requires some { 0 < count }
     requires few { count ≤ 8 }
     requires space { 8 * index + count ≤ length buffer.old }
     requires holds { IsSomeAnd (record_in name (view seat.old).records)
-        (λ r. (r.slot ≡ slot) × IsReadable table.now.geometry.room r × (8 * index + count ≤ length r.entry.value)) }
+        (λ r. (r.slot ≡ slot) × IsReadable (room_of table.now) r × (8 * index + count ≤ length r.entry.value)) }
     ensures seat { IsSameSeat seat.old seat.new }
     ensures view { view seat.new ≡ view seat.old }
     ensures bytes { IfSome (record_in name (view seat.old).records) (λ r. buffer.new ≡ take (8 * index) buffer.old
@@ -173,10 +174,10 @@ pub fn read_bytes<T: Tag, A: Allocator>(
     name: u64,
     buffer: &mut [u8],
 ) -> usize
-    requires seat { IsSeatOf table.now.table.shared.table_id table.now.table.shared.key.tag seat.old }
-    requires slot { slot < table.now.geometry.slots }
+    requires seat { IsSeatAt table.now seat.old }
+    requires slot { IsSlotOf table.now slot }
     requires holds { IsSomeAnd (record_in name (view seat.old).records)
-        (λ r. (r.slot ≡ slot) × IsReadable table.now.geometry.room r) }
+        (λ r. (r.slot ≡ slot) × IsReadable (room_of table.now) r) }
     requires space { IfSome (record_in name (view seat.old).records) (λ r. length r.entry.value ≤ length buffer.old) }
     ensures seat { IsSameSeat seat.old seat.new }
     ensures view { view seat.new ≡ view seat.old }

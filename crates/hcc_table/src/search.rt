@@ -1,9 +1,10 @@
 //! The search for a key's entry.
-ghost use Rattle.std.specs.Prelude.{◌≡◌, ◌+◌, ◌<◌, ◌≤◌, true, false, None, IfSome, IfNone, IsSomeAnd};
+ghost use Rattle.std.specs.Prelude.{◌≡◌, ◌+◌, ◌<◌, ◌≤◌, true, false, None, IfSome, IfNone};
 ghost use Rattle.hcc_word.specs.Word.{is_visible};
 ghost use Rattle.hcc_core.specs.declared.limits.TheConstants.{REFERENCES_PER_CLIENT};
 ghost use Rattle.hcc_rule.specs.declared.view.Record.{Record};
-ghost use Rattle.hcc_rule.specs.Seats.{IsSeatOf, IsSameSeat, view};
+ghost use Rattle.hcc_rule.specs.Callers.{slots_of, room_of, IsSeatAt, IsSlotOf, HasOn};
+ghost use Rattle.hcc_rule.specs.Seats.{IsSameSeat, view};
 ghost use Rattle.hcc_rule.specs.ToldOwners.{with_met};
 ghost use Rattle.hcc_rule.specs.Views.{load_of, record_in};
 ghost use Rattle.hcc_rule.specs.Words.{key_of};
@@ -25,9 +26,9 @@ pub(crate) fn has_key<T: Tag, A: Allocator>(
     key: Key,
     name: u64,
 ) -> bool
-    requires seat { IsSeatOf table.now.table.shared.table_id table.now.table.shared.key.tag seat.old }
-    requires slot { slot < table.now.geometry.slots }
-    requires holds { IsSomeAnd (record_in name (view seat.old).records) (λ r. r.slot ≡ slot) }
+    requires seat { IsSeatAt table.now seat.old }
+    requires slot { IsSlotOf table.now slot }
+    requires holds { HasOn slot name (view seat.old) }
     ensures seat { IsSameSeat seat.old seat.new }
     ensures view { Sought (view seat.old) (view seat.new) }
     ensures equal { result ≡ true → IfSome (record_in name (view seat.old).records) (λ r. key_of r.entry ≡ key) }
@@ -46,9 +47,9 @@ fn matches<T: Tag, A: Allocator>(
     name: u64,
     found: u64,
 ) -> bool
-    requires seat { IsSeatOf table.now.table.shared.table_id table.now.table.shared.key.tag seat.old }
-    requires slot { slot < table.now.geometry.slots }
-    requires holds { IsSomeAnd (record_in name (view seat.old).records) (λ r. r.slot ≡ slot) }
+    requires seat { IsSeatAt table.now seat.old }
+    requires slot { IsSlotOf table.now slot }
+    requires holds { HasOn slot name (view seat.old) }
     ensures seat { IsSameSeat seat.old seat.new }
     ensures view { Sought (view seat.old) (view seat.new) }
     ensures shown { result ≡ true → is_visible found ≡ true }
@@ -68,9 +69,9 @@ fn mark_if<T: Tag, A: Allocator>(
     name: u64,
     marks: bool,
 )
-    requires seat { IsSeatOf table.now.table.shared.table_id table.now.table.shared.key.tag seat.old }
-    requires slot { slot < table.now.geometry.slots }
-    requires holds { IsSomeAnd (record_in name (view seat.old).records) (λ r. r.slot ≡ slot) }
+    requires seat { IsSeatAt table.now seat.old }
+    requires slot { IsSlotOf table.now slot }
+    requires holds { HasOn slot name (view seat.old) }
     ensures seat { IsSameSeat seat.old seat.new }
     ensures view { Sought (view seat.old) (view seat.new) }
 {
@@ -87,13 +88,13 @@ pub(crate) fn hold<T: Tag, A: Allocator>(
     key: Key,
     name: u64,
 ) -> Option<bool>
-    requires seat { IsSeatOf table.now.table.shared.table_id table.now.table.shared.key.tag seat.old }
-    requires slot { slot < table.now.geometry.slots }
+    requires seat { IsSeatAt table.now seat.old }
+    requires slot { IsSlotOf table.now slot }
     requires fresh { record_in name (view seat.old).records ≡ None }
     requires load { load_of (view seat.old).records + 1 ≤ REFERENCES_PER_CLIENT }
     ensures seat { IsSameSeat seat.old seat.new }
     ensures found { IfSome result (λ counting. (r : Record)
-        × IsFound T.fits table.now.geometry.room slot name key (view seat.old) (view seat.new) r
+        × IsFound T.fits (room_of table.now) slot name key (view seat.old) (view seat.new) r
         × (r.counting ≡ counting)) }
     ensures missed { IfNone result (
         Sought (view seat.old) (view seat.new) × Buried key (λ s. s ≡ slot) (view seat.old) (view seat.new)) }
@@ -141,13 +142,13 @@ pub fn find<T: Tag, A: Allocator>(
     name: u64,
     marks: bool,
 ) -> Option<Found>
-    requires seat { IsSeatOf table.now.table.shared.table_id table.now.table.shared.key.tag seat.old }
+    requires seat { IsSeatAt table.now seat.old }
     requires fresh { record_in name (view seat.old).records ≡ None }
     requires load { load_of (view seat.old).records + 1 ≤ REFERENCES_PER_CLIENT }
     ensures seat { IsSameSeat seat.old seat.new }
-    ensures inside { IfSome result (λ found. found.slot < table.now.geometry.slots) }
+    ensures inside { IfSome result (λ found. found.slot < (slots_of table.now)) }
     ensures found { IfSome result (λ found. (r : Record)
-        × IsFound T.fits table.now.geometry.room found.slot name key (view seat.old) (view seat.new) r
+        × IsFound T.fits (room_of table.now) found.slot name key (view seat.old) (view seat.new) r
         × (r.counting ≡ found.counting)) }
     ensures missed { IfNone result (IsMissed key (view seat.old) (view seat.new)) }
 {

@@ -3,7 +3,8 @@ ghost use Rattle.std.specs.Prelude.{◌≡◌, ◌+◌, ◌^◌, ◌<◌, ◌≤
 ghost use Rattle.hcc_word.specs.Changes.{IsClockable, clocked_word};
 ghost use Rattle.hcc_word.specs.Word.{is_shareable, refs_of};
 ghost use Rattle.hcc_core.specs.Steps.{owns_nothing};
-ghost use Rattle.hcc_rule.specs.Seats.{IsSeatOf, IsSameSeat, view};
+ghost use Rattle.hcc_rule.specs.Callers.{room_of, IsSeatAt, IsSlotOf};
+ghost use Rattle.hcc_rule.specs.Seats.{IsSameSeat, view};
 ghost use Rattle.hcc_table.specs.Visited.{Visited, CountedDown, Swept};
 
 use crate::freeing::try_free;
@@ -25,12 +26,12 @@ pub fn visit<T: Tag, A: Allocator>(
     seat: &mut RuleSeat<T>,
     slot: u32,
 ) -> Visit
-    requires seat { IsSeatOf table.now.table.shared.table_id table.now.table.shared.key.tag seat.old }
-    requires slot { slot < table.now.geometry.slots }
-    requires idle { (owns_nothing (view seat.old).hand.owned ≡ true) × ((view seat.old).hand.trail ≡ []) }
-    requires space { (view seat.old).hand.freed + 2 ^ 32 ≤ 2 ^ 49 }
+    requires seat { IsSeatAt table.now seat.old }
+    requires slot { IsSlotOf table.now slot }
+    requires idle { (owns_nothing (view seat.old).work.owned ≡ true) × ((view seat.old).work.trail ≡ []) }
+    requires space { (view seat.old).work.freed + 2 ^ 32 ≤ 2 ^ 49 }
     ensures seat { IsSameSeat seat.old seat.new }
-    ensures view { Visited T.fits table.now.geometry.room slot result (view seat.old) (view seat.new) }
+    ensures view { Visited T.fits (room_of table.now) slot result (view seat.old) (view seat.new) }
 {
     let word = table.look(seat, slot);
     if !has_entry(word) {
@@ -53,8 +54,8 @@ fn count_down<T: Tag, A: Allocator>(
     word: u64,
     next: u64,
 ) -> Visit
-    requires seat { IsSeatOf table.now.table.shared.table_id table.now.table.shared.key.tag seat.old }
-    requires slot { slot < table.now.geometry.slots }
+    requires seat { IsSeatAt table.now seat.old }
+    requires slot { IsSlotOf table.now slot }
     requires clockable { IsClockable word }
     requires clocked { next ≡ clocked_word word }
     ensures seat { IsSameSeat seat.old seat.new }
@@ -74,14 +75,14 @@ fn sweep<T: Tag, A: Allocator>(
     slot: u32,
     word: u64,
 ) -> Visit
-    requires seat { IsSeatOf table.now.table.shared.table_id table.now.table.shared.key.tag seat.old }
-    requires slot { slot < table.now.geometry.slots }
+    requires seat { IsSeatAt table.now seat.old }
+    requires slot { IsSlotOf table.now slot }
     requires entry { is_shareable word ≡ true }
     requires unheld { refs_of word ≡ 0 }
-    requires idle { (owns_nothing (view seat.old).hand.owned ≡ true) × ((view seat.old).hand.trail ≡ []) }
-    requires space { (view seat.old).hand.freed + 2 ^ 32 ≤ 2 ^ 49 }
+    requires idle { (owns_nothing (view seat.old).work.owned ≡ true) × ((view seat.old).work.trail ≡ []) }
+    requires space { (view seat.old).work.freed + 2 ^ 32 ≤ 2 ^ 49 }
     ensures seat { IsSameSeat seat.old seat.new }
-    ensures view { Swept T.fits table.now.geometry.room word result (view seat.old) (view seat.new) }
+    ensures view { Swept T.fits (room_of table.now) word result (view seat.old) (view seat.new) }
 {
     match try_free(table, seat, slot, word, None) {
         Some(charge) => Visit::Freed { charge },

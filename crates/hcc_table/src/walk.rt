@@ -7,7 +7,7 @@ use hcc_rule::Key;
 /// steps.
 #[derive(Clone, Copy, Debug, PartialEq, Eq)]
 pub(crate) struct Walk {
-    pub(crate) place: u64,
+    pub(crate) probe: u64,
     pub(crate) stride: u64,
     pub(crate) mask: u32,
 }
@@ -16,12 +16,12 @@ impl Walk {
     /// A walk at a key's first place in a table of so many slots.
     pub(crate) fn begin(key: Key, slots: u32) -> Walk
         requires { 1 ≤ slots }
-        ensures place { result.place ≡ key.w1 }
+        ensures probe { result.probe ≡ key.w1 }
         ensures stride { result.stride ≡ bit_or key.w0 1 }
         ensures mask { result.mask ≡ slots - 1 }
     {
         Walk {
-            place: key.w1,
+            probe: key.w1,
             stride: key.w0 | 1,
             mask: slots - 1,
         }
@@ -29,19 +29,19 @@ impl Walk {
 
     /// The slot where it stands.
     pub(crate) fn slot(&self) -> u32
-        ensures { result ≡ bit_and self.now.place self.now.mask }
+        ensures { result ≡ bit_and self.now.probe self.now.mask }
     {
-        (self.place & self.mask as u64) as u32
+        (self.probe & self.mask as u64) as u32
     }
 
     /// The walk at the next place.
     pub(crate) fn next(&self) -> Walk
-        ensures place { result.place ≡ (self.now.place + self.now.stride) % 2 ^ 64 }
+        ensures probe { result.probe ≡ (self.now.probe + self.now.stride) % 2 ^ 64 }
         ensures stride { result.stride ≡ self.now.stride }
         ensures mask { result.mask ≡ self.now.mask }
     {
         Walk {
-            place: self.place.wrapping_add(self.stride),
+            probe: self.probe.wrapping_add(self.stride),
             stride: self.stride,
             mask: self.mask,
         }

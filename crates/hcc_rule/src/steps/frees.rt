@@ -2,7 +2,8 @@
 ghost use Rattle.std.specs.Prelude.{◌≡◌, ◌+◌, ◌^◌, ◌<◌, ◌≤◌, [], true};
 ghost use Rattle.hcc_word.specs.Word.{is_shareable};
 ghost use Rattle.hcc_core.specs.Steps.{owns_nothing};
-ghost use Rattle.hcc_rule.specs.Seats.{IsSeatOf, IsSameSeat, view};
+ghost use Rattle.hcc_rule.specs.Callers.{IsSeatAt};
+ghost use Rattle.hcc_rule.specs.Seats.{IsSameSeat, view};
 ghost use Rattle.hcc_rule.specs.ToldOwners.{IsLast, Freed};
 
 use crate::key::Tag;
@@ -59,19 +60,19 @@ impl<T: Tag, A: Allocator> RuleTable<T, A> {
         old: u64,
         name: Option<u64>,
     ) -> u64
-        requires seat { IsSeatOf self.now.table.shared.table_id self.now.table.shared.key.tag seat.old }
+        requires seat { IsSeatAt self.now seat.old }
         requires slot { slot < self.now.geometry.slots }
         requires entry { is_shareable old ≡ true }
         requires last { IsLast slot old name (view seat.old) }
-        requires idle { (owns_nothing (view seat.old).hand.owned ≡ true) × ((view seat.old).hand.trail ≡ []) }
-        requires space { (view seat.old).hand.freed + 2 ^ 32 ≤ 2 ^ 49 }
+        requires idle { (owns_nothing (view seat.old).work.owned ≡ true) × ((view seat.old).work.trail ≡ []) }
+        requires space { (view seat.old).work.freed + 2 ^ 32 ≤ 2 ^ 49 }
         requires said { (J.slot ≡ slot) × (J.name ≡ name) × (J.slots ≡ self.now.geometry.slots) × (J.room ≡ self.now.geometry.room) }
         ensures seat { IsSameSeat seat.old seat.new }
         ensures view { Freed T.fits self.now.geometry.slots self.now.geometry.room slot old result name (view seat.old) (view seat.new) }
     {
         self.table
             .shared
-            .compare_exchange::<Free<T, J>>(seat, self.place(slot, META), old, CONSTRUCTION_WORD)
+            .compare_exchange::<Free<T, J>>(seat, self.address(slot, META), old, CONSTRUCTION_WORD)
     }
 
     /// Tries to take the entry of a slot to free it: `old` is its word, with no reference, or with the
@@ -83,12 +84,12 @@ impl<T: Tag, A: Allocator> RuleTable<T, A> {
     /// The client owns no slot, has an empty trail, and has freed at most `2^49 - 2^32` that isn't settled.
     /// It takes no memory. It costs one compare-exchange.
     pub fn free(&self, seat: &mut RuleSeat<T>, slot: u32, old: u64, name: Option<u64>) -> u64
-        requires seat { IsSeatOf self.now.table.shared.table_id self.now.table.shared.key.tag seat.old }
+        requires seat { IsSeatAt self.now seat.old }
         requires slot { slot < self.now.geometry.slots }
         requires entry { is_shareable old ≡ true }
         requires last { IsLast slot old name (view seat.old) }
-        requires idle { (owns_nothing (view seat.old).hand.owned ≡ true) × ((view seat.old).hand.trail ≡ []) }
-        requires space { (view seat.old).hand.freed + 2 ^ 32 ≤ 2 ^ 49 }
+        requires idle { (owns_nothing (view seat.old).work.owned ≡ true) × ((view seat.old).work.trail ≡ []) }
+        requires space { (view seat.old).work.freed + 2 ^ 32 ≤ 2 ^ 49 }
         ensures seat { IsSameSeat seat.old seat.new }
         ensures view { Freed T.fits self.now.geometry.slots self.now.geometry.room slot old result name (view seat.old) (view seat.new) }
     {

@@ -1,6 +1,7 @@
 //! Turns of the hand.
 ghost use Rattle.std.specs.Prelude.{◌≡◌};
-ghost use Rattle.hcc_rule.specs.Seats.{IsSeatOf, IsSameSeat, view};
+ghost use Rattle.hcc_rule.specs.Callers.{IsSeatAt};
+ghost use Rattle.hcc_rule.specs.Seats.{IsSameSeat, view};
 ghost use Rattle.hcc_rule.specs.ToldLedgers.{after_turn};
 
 use crate::key::Tag;
@@ -26,7 +27,7 @@ impl<T: Tag, A: Allocator> RuleTable<T, A> {
     ///
     /// It answers where the hand was. It takes no memory. It costs one atomic add.
     pub fn turn(&self, seat: &mut RuleSeat<T>) -> u64
-        requires seat { IsSeatOf self.now.table.shared.table_id self.now.table.shared.key.tag seat.old }
+        requires seat { IsSeatAt self.now seat.old }
         ensures seat { IsSameSeat seat.old seat.new }
         ensures view { view seat.new ≡ after_turn (view seat.old) }
     {

@@ -4,8 +4,9 @@ ghost use Rattle.hcc_core.specs.Sums.{total};
 ghost use Rattle.hcc_core.specs.World.{charged_to};
 ghost use Rattle.hcc_rule.specs.declared.layout.TheConstants.{LEDGER_WORDS};
 ghost use Rattle.hcc_rule.specs.declared.view.Record.{Record};
+ghost use Rattle.hcc_rule.specs.Callers.{plan_of, IsSeatAt};
 ghost use Rattle.hcc_rule.specs.Rule.{setup_of};
-ghost use Rattle.hcc_rule.specs.Seats.{IsSeatOf, IsSameSeat, view};
+ghost use Rattle.hcc_rule.specs.Seats.{IsSameSeat, view};
 ghost use Rattle.hcc_rule.specs.ToldLedgers.{Charged, after_usage, after_charge, after_settle, after_waive, waived};
 ghost use Rattle.hcc_rule.specs.Views.{different, Each};
 ghost use Rattle.hcc_rule.specs.Words.{ledger_at};
@@ -74,21 +75,21 @@ impl<T: Tag, A: Allocator> RuleTable<T, A> {
     ///
     /// It takes no memory. It costs one load.
     pub fn usage(&self, seat: &mut RuleSeat<T>) -> u64
-        requires seat { IsSeatOf self.now.table.shared.table_id self.now.table.shared.key.tag seat.old }
+        requires seat { IsSeatAt self.now seat.old }
         ensures seat { IsSameSeat seat.old seat.new }
         ensures view { view seat.new ≡ after_usage result (view seat.old) }
-        ensures own { charged_to (view seat.old).hand ≤ result }
-        ensures entries { charged_to (view seat.old).hand + total (λ (r : Record). r.entry.charge) (different (view seat.old).records) ≤ result }
-        ensures held { Each (λ (r : Record). charged_to (view seat.old).hand + r.entry.charge ≤ result) (view seat.old).records }
+        ensures own { charged_to (view seat.old).work ≤ result }
+        ensures entries { charged_to (view seat.old).work + total (λ (r : Record). r.entry.charge) (different (view seat.old).records) ≤ result }
+        ensures held { Each (λ (r : Record). charged_to (view seat.old).work + r.entry.charge ≤ result) (view seat.old).records }
         ensures low { result < 2 ^ 60 }
     {
         self.table.shared.load::<Usage>(seat, self.ledger(USAGE))
     }
 
     fn charge_as<J: Planned>(&self, seat: &mut RuleSeat<T>, amount: u32) -> u64
-        requires seat { IsSeatOf self.now.table.shared.table_id self.now.table.shared.key.tag seat.old }
-        requires spent { ((view seat.old).hand.granted ≡ 0) × ((view seat.old).hand.needed ≡ 0) }
-        requires said { J.setup ≡ setup_of self.now.table.shared.key }
+        requires seat { IsSeatAt self.now seat.old }
+        requires spent { ((view seat.old).work.granted ≡ 0) × ((view seat.old).work.needed ≡ 0) }
+        requires said { J.setup ≡ setup_of (plan_of self.now) }
         ensures seat { IsSameSeat seat.old seat.new }
         ensures view { view seat.new ≡ after_charge J.setup amount result (view seat.old) }
         ensures found { Charged (view seat.old) result }
@@ -107,11 +108,11 @@ impl<T: Tag, A: Allocator> RuleTable<T, A> {
     /// charges of all entries that it holds references on. It takes no memory. It costs one atomic
     /// add.
     pub fn charge(&self, seat: &mut RuleSeat<T>, amount: u32) -> u64
-        requires seat { IsSeatOf self.now.table.shared.table_id self.now.table.shared.key.tag seat.old }
-        requires spent { ((view seat.old).hand.granted ≡ 0) × ((view seat.old).hand.needed ≡ 0) }
+        requires seat { IsSeatAt self.now seat.old }
+        requires spent { ((view seat.old).work.granted ≡ 0) × ((view seat.old).work.needed ≡ 0) }
         ensures seat { IsSameSeat seat.old seat.new }
-        ensures view { view seat.new ≡ after_charge (setup_of self.now.table.shared.key) amount result (view seat.old) }
-        ensures entries { charged_to (view seat.old).hand + total (λ (r : Record). r.entry.charge) (different (view seat.old).records) ≤ result }
+        ensures view { view seat.new ≡ after_charge (setup_of (plan_of self.now)) amount result (view seat.old) }
+        ensures entries { charged_to (view seat.old).work + total (λ (r : Record). r.entry.charge) (different (view seat.old).records) ≤ result }
         ensures low { result < 2 ^ 60 }
     {
         self.charge_as::<Brand>(seat, amount)
@@ -122,9 +123,9 @@ impl<T: Tag, A: Allocator> RuleTable<T, A> {
     ///
     /// It takes no memory. It costs one atomic subtraction.
     pub fn settle(&self, seat: &mut RuleSeat<T>, amount: u64)
-        requires seat { IsSeatOf self.now.table.shared.table_id self.now.table.shared.key.tag seat.old }
-        requires amount { ((view seat.old).hand.freed ≡ amount) × (0 < amount) }
-        requires covered { (view seat.old).hand.needed ≤ amount }
+        requires seat { IsSeatAt self.now seat.old }
+        requires amount { ((view seat.old).work.freed ≡ amount) × (0 < amount) }
+        requires covered { (view seat.old).work.needed ≤ amount }
         ensures seat { IsSameSeat seat.old seat.new }
         ensures view { view seat.new ≡ after_settle (view seat.old) }
     {
@@ -138,8 +139,8 @@ impl<T: Tag, A: Allocator> RuleTable<T, A> {
     ///
     /// It takes no memory. It costs one atomic subtraction.
     pub fn waive(&self, seat: &mut RuleSeat<T>, amount: u64)
-        requires seat { IsSeatOf self.now.table.shared.table_id self.now.table.shared.key.tag seat.old }
-        requires amount { (waived (view seat.old).hand ≡ amount) × (0 < amount) }
+        requires seat { IsSeatAt self.now seat.old }
+        requires amount { (waived (view seat.old).work ≡ amount) × (0 < amount) }
         ensures seat { IsSameSeat seat.old seat.new }
         ensures view { view seat.new ≡ after_waive (view seat.old) }
     {

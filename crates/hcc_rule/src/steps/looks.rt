@@ -1,6 +1,7 @@
 //! Loads of meta words.
 ghost use Rattle.std.specs.Prelude.{◌≡◌, ◌<◌};
-ghost use Rattle.hcc_rule.specs.Seats.{IsSeatOf, IsSameSeat, view};
+ghost use Rattle.hcc_rule.specs.Callers.{IsSeatAt};
+ghost use Rattle.hcc_rule.specs.Seats.{IsSameSeat, view};
 ghost use Rattle.hcc_rule.specs.Told.{after_look, Backs};
 
 use super::said::Said;
@@ -25,7 +26,7 @@ impl<T: Tag, J: Said> Play<(), View<T>> for Look<J> {
 
 impl<T: Tag, A: Allocator> RuleTable<T, A> {
     fn look_as<J: Said>(&self, seat: &mut RuleSeat<T>, slot: u32) -> u64
-        requires seat { IsSeatOf self.now.table.shared.table_id self.now.table.shared.key.tag seat.old }
+        requires seat { IsSeatAt self.now seat.old }
         requires slot { slot < self.now.geometry.slots }
         requires said { J.slot ≡ slot }
         ensures seat { IsSameSeat seat.old seat.new }
@@ -34,7 +35,7 @@ impl<T: Tag, A: Allocator> RuleTable<T, A> {
     {
         self.table
             .shared
-            .load::<Look<J>>(seat, self.place(slot, META))
+            .load::<Look<J>>(seat, self.address(slot, META))
     }
 
     /// Loads a slot's meta word. The client looks at the slot, and may acquire there next, where the
@@ -44,7 +45,7 @@ impl<T: Tag, A: Allocator> RuleTable<T, A> {
     ///
     /// It takes no memory. It costs one load.
     pub fn look(&self, seat: &mut RuleSeat<T>, slot: u32) -> u64
-        requires seat { IsSeatOf self.now.table.shared.table_id self.now.table.shared.key.tag seat.old }
+        requires seat { IsSeatAt self.now seat.old }
         requires slot { slot < self.now.geometry.slots }
         ensures seat { IsSameSeat seat.old seat.new }
         ensures view { view seat.new ≡ after_look slot result (view seat.old) }

@@ -2,7 +2,8 @@
 ghost use Rattle.std.specs.Prelude.{◌≡◌, ◌<◌, true, false, IsSomeAnd};
 ghost use Rattle.hcc_word.specs.Word.{is_shareable};
 ghost use Rattle.hcc_word.specs.Changes.{IsClockable, clocked_word, IsCorrectable, corrected_word};
-ghost use Rattle.hcc_rule.specs.Seats.{IsSeatOf, IsSameSeat, view};
+ghost use Rattle.hcc_rule.specs.Callers.{IsSeatAt};
+ghost use Rattle.hcc_rule.specs.Seats.{IsSameSeat, view};
 ghost use Rattle.hcc_rule.specs.Told.{noticing};
 ghost use Rattle.hcc_rule.specs.Views.{record_in};
 ghost use Rattle.hcc_rule.specs.ToldReferences.{after_hide, after_clock, after_correct};
@@ -63,7 +64,7 @@ impl<T: Tag, J: Said> Play<(), View<T>> for Correct<J> {
 
 impl<T: Tag, A: Allocator> RuleTable<T, A> {
     fn hide_as<J: Said>(&self, seat: &mut RuleSeat<T>, slot: u32, name: u64) -> u64
-        requires seat { IsSeatOf self.now.table.shared.table_id self.now.table.shared.key.tag seat.old }
+        requires seat { IsSeatAt self.now seat.old }
         requires slot { slot < self.now.geometry.slots }
         requires holds { IsSomeAnd (record_in name (view seat.old).records) (λ r. r.slot ≡ slot) }
         requires said { (J.slot ≡ slot) × (J.name ≡ name) }
@@ -73,7 +74,7 @@ impl<T: Tag, A: Allocator> RuleTable<T, A> {
     {
         self.table
             .shared
-            .fetch_and::<Hide<J>>(seat, self.place(slot, META), HIDING_MASK)
+            .fetch_and::<Hide<J>>(seat, self.address(slot, META), HIDING_MASK)
     }
 
     /// Hides the entry on which the client has a record of this name, on this slot: no look-up finds
@@ -83,7 +84,7 @@ impl<T: Tag, A: Allocator> RuleTable<T, A> {
     ///
     /// It takes no memory. It costs one atomic and.
     pub fn hide(&self, seat: &mut RuleSeat<T>, slot: u32, name: u64) -> u64
-        requires seat { IsSeatOf self.now.table.shared.table_id self.now.table.shared.key.tag seat.old }
+        requires seat { IsSeatAt self.now seat.old }
         requires slot { slot < self.now.geometry.slots }
         requires holds { IsSomeAnd (record_in name (view seat.old).records) (λ r. r.slot ≡ slot) }
         ensures seat { IsSameSeat seat.old seat.new }
@@ -94,7 +95,7 @@ impl<T: Tag, A: Allocator> RuleTable<T, A> {
     }
 
     fn mark_as<J: Said>(&self, seat: &mut RuleSeat<T>, slot: u32, name: u64) -> u64
-        requires seat { IsSeatOf self.now.table.shared.table_id self.now.table.shared.key.tag seat.old }
+        requires seat { IsSeatAt self.now seat.old }
         requires slot { slot < self.now.geometry.slots }
         requires holds { IsSomeAnd (record_in name (view seat.old).records) (λ r. r.slot ≡ slot) }
         requires said { (J.slot ≡ slot) × (J.name ≡ name) }
@@ -104,7 +105,7 @@ impl<T: Tag, A: Allocator> RuleTable<T, A> {
     {
         self.table
             .shared
-            .fetch_or::<Mark<J>>(seat, self.place(slot, META), HIT_BIT)
+            .fetch_or::<Mark<J>>(seat, self.address(slot, META), HIT_BIT)
     }
 
     /// Sets the hit bit of the entry on which the client has a record of this name, on this slot. The
@@ -113,7 +114,7 @@ impl<T: Tag, A: Allocator> RuleTable<T, A> {
     ///
     /// It takes no memory. It costs one atomic or.
     pub fn mark(&self, seat: &mut RuleSeat<T>, slot: u32, name: u64) -> u64
-        requires seat { IsSeatOf self.now.table.shared.table_id self.now.table.shared.key.tag seat.old }
+        requires seat { IsSeatAt self.now seat.old }
         requires slot { slot < self.now.geometry.slots }
         requires holds { IsSomeAnd (record_in name (view seat.old).records) (λ r. r.slot ≡ slot) }
         ensures seat { IsSameSeat seat.old seat.new }
@@ -124,7 +125,7 @@ impl<T: Tag, A: Allocator> RuleTable<T, A> {
     }
 
     fn clock_as<J: Said>(&self, seat: &mut RuleSeat<T>, slot: u32, old: u64, new: u64) -> u64
-        requires seat { IsSeatOf self.now.table.shared.table_id self.now.table.shared.key.tag seat.old }
+        requires seat { IsSeatAt self.now seat.old }
         requires slot { slot < self.now.geometry.slots }
         requires clockable { IsClockable old }
         requires clocked { new ≡ clocked_word old }
@@ -134,7 +135,7 @@ impl<T: Tag, A: Allocator> RuleTable<T, A> {
     {
         self.table
             .shared
-            .compare_exchange::<Clock<J>>(seat, self.place(slot, META), old, new)
+            .compare_exchange::<Clock<J>>(seat, self.address(slot, META), old, new)
     }
 
     /// Tries to count a visible entry with no references and a countdown above 0 down by one, and to 2
@@ -144,7 +145,7 @@ impl<T: Tag, A: Allocator> RuleTable<T, A> {
     ///
     /// It takes no memory. It costs one compare-exchange.
     pub fn clock(&self, seat: &mut RuleSeat<T>, slot: u32, old: u64, new: u64) -> u64
-        requires seat { IsSeatOf self.now.table.shared.table_id self.now.table.shared.key.tag seat.old }
+        requires seat { IsSeatAt self.now seat.old }
         requires slot { slot < self.now.geometry.slots }
         requires clockable { IsClockable old }
         requires clocked { new ≡ clocked_word old }
@@ -162,7 +163,7 @@ impl<T: Tag, A: Allocator> RuleTable<T, A> {
         old: u64,
         new: u64,
     ) -> u64
-        requires seat { IsSeatOf self.now.table.shared.table_id self.now.table.shared.key.tag seat.old }
+        requires seat { IsSeatAt self.now seat.old }
         requires slot { slot < self.now.geometry.slots }
         requires holds { IsSomeAnd (record_in name (view seat.old).records) (λ r. (r.slot ≡ slot) × (r.counting ≡ false)) }
         requires correctable { IsCorrectable old }
@@ -173,7 +174,7 @@ impl<T: Tag, A: Allocator> RuleTable<T, A> {
     {
         self.table
             .shared
-            .compare_exchange::<Correct<J>>(seat, self.place(slot, META), old, new)
+            .compare_exchange::<Correct<J>>(seat, self.address(slot, META), old, new)
     }
 
     /// Tries to take 2^29 from both counters of a slot near its end, on which the client has a record
@@ -184,7 +185,7 @@ impl<T: Tag, A: Allocator> RuleTable<T, A> {
     ///
     /// It takes no memory. It costs one compare-exchange.
     pub fn correct(&self, seat: &mut RuleSeat<T>, slot: u32, name: u64, old: u64, new: u64) -> u64
-        requires seat { IsSeatOf self.now.table.shared.table_id self.now.table.shared.key.tag seat.old }
+        requires seat { IsSeatAt self.now seat.old }
         requires slot { slot < self.now.geometry.slots }
         requires holds { IsSomeAnd (record_in name (view seat.old).records) (λ r. (r.slot ≡ slot) × (r.counting ≡ false)) }
         requires correctable { IsCorrectable old }

@@ -2,8 +2,9 @@
 ghost use Rattle.std.specs.Prelude.{◌≡◌, ◌+◌, ◌<◌, ◌≤◌, true, length};
 ghost use Rattle.hcc_core.specs.declared.state.Place.TheVariants.{Absent};
 ghost use Rattle.hcc_core.specs.World.{occupied_by, is_placed, limit_of};
+ghost use Rattle.hcc_rule.specs.Callers.{plan_of, IsSeatAt};
 ghost use Rattle.hcc_rule.specs.Rule.{setup_of};
-ghost use Rattle.hcc_rule.specs.Seats.{IsSeatOf, IsSameSeat, view};
+ghost use Rattle.hcc_rule.specs.Seats.{IsSameSeat, view};
 ghost use Rattle.hcc_rule.specs.ToldLedgers.{after_enter, after_slots, after_quit};
 ghost use Rattle.hcc_rule.specs.Views.{different};
 
@@ -58,13 +59,13 @@ impl<T: Tag> Play<(), View<T>> for Quit {
 
 impl<T: Tag, A: Allocator> RuleTable<T, A> {
     fn occupancy_as<J: Planned>(&self, seat: &mut RuleSeat<T>) -> u64
-        requires seat { IsSeatOf self.now.table.shared.table_id self.now.table.shared.key.tag seat.old }
-        requires said { J.setup ≡ setup_of self.now.table.shared.key }
+        requires seat { IsSeatAt self.now seat.old }
+        requires said { J.setup ≡ setup_of (plan_of self.now) }
         ensures seat { IsSameSeat seat.old seat.new }
         ensures view { view seat.new ≡ view seat.old }
-        ensures entries { occupied_by (view seat.old).hand + length (different (view seat.old).records) ≤ result }
+        ensures entries { occupied_by (view seat.old).work + length (different (view seat.old).records) ≤ result }
         ensures low { result ≤ limit_of J.setup + J.setup.clients }
-        ensures alone { J.setup.clients ≡ 1 → result + (view seat.old).takings ≡ length (view seat.old).made + occupied_by (view seat.old).hand }
+        ensures alone { J.setup.clients ≡ 1 → result + (view seat.old).takings ≡ length (view seat.old).made + occupied_by (view seat.old).work }
     {
         self.table
             .shared
@@ -79,26 +80,26 @@ impl<T: Tag, A: Allocator> RuleTable<T, A> {
     ///
     /// It takes no memory. It costs one load.
     pub fn occupancy(&self, seat: &mut RuleSeat<T>) -> u64
-        requires seat { IsSeatOf self.now.table.shared.table_id self.now.table.shared.key.tag seat.old }
+        requires seat { IsSeatAt self.now seat.old }
         ensures seat { IsSameSeat seat.old seat.new }
         ensures view { view seat.new ≡ view seat.old }
-        ensures own { occupied_by (view seat.old).hand ≤ result }
-        ensures entries { occupied_by (view seat.old).hand + length (different (view seat.old).records) ≤ result }
-        ensures low { result ≤ limit_of (setup_of self.now.table.shared.key) + self.now.geometry.clients }
-        ensures alone { self.now.geometry.clients ≡ 1 → result + (view seat.old).takings ≡ length (view seat.old).made + occupied_by (view seat.old).hand }
+        ensures own { occupied_by (view seat.old).work ≤ result }
+        ensures entries { occupied_by (view seat.old).work + length (different (view seat.old).records) ≤ result }
+        ensures low { result ≤ limit_of (setup_of (plan_of self.now)) + self.now.geometry.clients }
+        ensures alone { self.now.geometry.clients ≡ 1 → result + (view seat.old).takings ≡ length (view seat.old).made + occupied_by (view seat.old).work }
     {
         self.occupancy_as::<Brand>(seat)
     }
 
     fn enter_as<J: Planned>(&self, seat: &mut RuleSeat<T>) -> u64
-        requires seat { IsSeatOf self.now.table.shared.table_id self.now.table.shared.key.tag seat.old }
-        requires absent { (view seat.old).hand.place ≡ Absent }
-        requires said { J.setup ≡ setup_of self.now.table.shared.key }
+        requires seat { IsSeatAt self.now seat.old }
+        requires absent { (view seat.old).work.place ≡ Absent }
+        requires said { J.setup ≡ setup_of (plan_of self.now) }
         ensures seat { IsSameSeat seat.old seat.new }
         ensures view { view seat.new ≡ after_enter J.setup result (view seat.old) }
-        ensures entries { occupied_by (view seat.old).hand + length (different (view seat.old).records) ≤ result }
+        ensures entries { occupied_by (view seat.old).work + length (different (view seat.old).records) ≤ result }
         ensures low { result < limit_of J.setup + J.setup.clients }
-        ensures alone { J.setup.clients ≡ 1 → result + (view seat.old).takings ≡ length (view seat.old).made + occupied_by (view seat.old).hand }
+        ensures alone { J.setup.clients ≡ 1 → result + (view seat.old).takings ≡ length (view seat.old).made + occupied_by (view seat.old).work }
     {
         self.table
             .shared
@@ -114,13 +115,13 @@ impl<T: Tag, A: Allocator> RuleTable<T, A> {
     /// the shard has one client it is exact, as a load is. It takes no memory. It costs one atomic
     /// add.
     pub fn enter(&self, seat: &mut RuleSeat<T>) -> u64
-        requires seat { IsSeatOf self.now.table.shared.table_id self.now.table.shared.key.tag seat.old }
-        requires absent { (view seat.old).hand.place ≡ Absent }
+        requires seat { IsSeatAt self.now seat.old }
+        requires absent { (view seat.old).work.place ≡ Absent }
         ensures seat { IsSameSeat seat.old seat.new }
-        ensures view { view seat.new ≡ after_enter (setup_of self.now.table.shared.key) result (view seat.old) }
-        ensures entries { occupied_by (view seat.old).hand + length (different (view seat.old).records) ≤ result }
-        ensures low { result < limit_of (setup_of self.now.table.shared.key) + self.now.geometry.clients }
-        ensures alone { self.now.geometry.clients ≡ 1 → result + (view seat.old).takings ≡ length (view seat.old).made + occupied_by (view seat.old).hand }
+        ensures view { view seat.new ≡ after_enter (setup_of (plan_of self.now)) result (view seat.old) }
+        ensures entries { occupied_by (view seat.old).work + length (different (view seat.old).records) ≤ result }
+        ensures low { result < limit_of (setup_of (plan_of self.now)) + self.now.geometry.clients }
+        ensures alone { self.now.geometry.clients ≡ 1 → result + (view seat.old).takings ≡ length (view seat.old).made + occupied_by (view seat.old).work }
     {
         self.enter_as::<Brand>(seat)
     }
@@ -130,8 +131,8 @@ impl<T: Tag, A: Allocator> RuleTable<T, A> {
     ///
     /// It takes no memory. It costs one atomic subtraction.
     pub fn slots(&self, seat: &mut RuleSeat<T>, count: u64)
-        requires seat { IsSeatOf self.now.table.shared.table_id self.now.table.shared.key.tag seat.old }
-        requires count { ((view seat.old).hand.freed_slots ≡ count) × (0 < count) }
+        requires seat { IsSeatAt self.now seat.old }
+        requires count { ((view seat.old).work.freed_slots ≡ count) × (0 < count) }
         ensures seat { IsSameSeat seat.old seat.new }
         ensures view { view seat.new ≡ after_slots (view seat.old) }
     {
@@ -145,9 +146,9 @@ impl<T: Tag, A: Allocator> RuleTable<T, A> {
     ///
     /// It takes no memory. It costs one atomic subtraction.
     pub fn quit(&self, seat: &mut RuleSeat<T>, count: u64)
-        requires seat { IsSeatOf self.now.table.shared.table_id self.now.table.shared.key.tag seat.old }
-        requires placed { is_placed (view seat.old).hand.place ≡ true }
-        requires count { 1 + (view seat.old).hand.freed_slots ≡ count }
+        requires seat { IsSeatAt self.now seat.old }
+        requires placed { is_placed (view seat.old).work.place ≡ true }
+        requires count { 1 + (view seat.old).work.freed_slots ≡ count }
         ensures seat { IsSameSeat seat.old seat.new }
         ensures view { view seat.new ≡ after_quit (view seat.old) }
     {

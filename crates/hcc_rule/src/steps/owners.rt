@@ -3,7 +3,8 @@ ghost use Rattle.std.specs.Prelude.{◌≡◌, ◌+◌, ◌<◌, [], true, lengt
 ghost use Rattle.hcc_core.specs.declared.state.Owned.TheVariants.{ForBuilding, ForFreeing};
 ghost use Rattle.hcc_core.specs.Steps.{owns_nothing};
 ghost use Rattle.hcc_rule.specs.declared.layout.TheConstants.{PAYLOAD};
-ghost use Rattle.hcc_rule.specs.Seats.{IsSeatOf, IsSameSeat, view};
+ghost use Rattle.hcc_rule.specs.Callers.{IsSeatAt};
+ghost use Rattle.hcc_rule.specs.Seats.{IsSameSeat, view};
 ghost use Rattle.hcc_rule.specs.Told.{Backs};
 ghost use Rattle.hcc_rule.specs.ToldOwners.{after_occupy, after_empty, after_write};
 
@@ -48,9 +49,9 @@ impl<T: Tag> Play<(), View<T>> for Empty {
 
 impl<T: Tag, A: Allocator> RuleTable<T, A> {
     fn occupy_as<J: Said>(&self, seat: &mut RuleSeat<T>, slot: u32) -> u64
-        requires seat { IsSeatOf self.now.table.shared.table_id self.now.table.shared.key.tag seat.old }
+        requires seat { IsSeatAt self.now seat.old }
         requires slot { slot < self.now.geometry.slots }
-        requires idle { owns_nothing (view seat.old).hand.owned ≡ true }
+        requires idle { owns_nothing (view seat.old).work.owned ≡ true }
         requires said { J.slot ≡ slot }
         ensures seat { IsSameSeat seat.old seat.new }
         ensures view { view seat.new ≡ after_occupy slot result (view seat.old) }
@@ -58,7 +59,7 @@ impl<T: Tag, A: Allocator> RuleTable<T, A> {
     {
         self.table
             .shared
-            .fetch_or::<Occupy<J>>(seat, self.place(slot, META), OCCUPIED_BIT)
+            .fetch_or::<Occupy<J>>(seat, self.address(slot, META), OCCUPIED_BIT)
     }
 
     /// Sets the occupied bit of a slot's meta word. A slot whose word was an empty one's is the
@@ -67,9 +68,9 @@ impl<T: Tag, A: Allocator> RuleTable<T, A> {
     /// The client owns no slot. Where it holds references on the slot, the word is that of an entry
     /// with at least these. It takes no memory. It costs one atomic or.
     pub fn occupy(&self, seat: &mut RuleSeat<T>, slot: u32) -> u64
-        requires seat { IsSeatOf self.now.table.shared.table_id self.now.table.shared.key.tag seat.old }
+        requires seat { IsSeatAt self.now seat.old }
         requires slot { slot < self.now.geometry.slots }
-        requires idle { owns_nothing (view seat.old).hand.owned ≡ true }
+        requires idle { owns_nothing (view seat.old).work.owned ≡ true }
         ensures seat { IsSameSeat seat.old seat.new }
         ensures view { view seat.new ≡ after_occupy slot result (view seat.old) }
         ensures backs { Backs slot result (view seat.old) }
@@ -83,31 +84,31 @@ impl<T: Tag, A: Allocator> RuleTable<T, A> {
     /// `index` is how many it wrote, below the five words before the payload and the payload words of
     /// a slot. It takes no memory. It costs one atomic store.
     pub fn write(&self, seat: &mut RuleSeat<T>, slot: u32, index: usize, word: u64)
-        requires seat { IsSeatOf self.now.table.shared.table_id self.now.table.shared.key.tag seat.old }
+        requires seat { IsSeatAt self.now seat.old }
         requires slot { slot < self.now.geometry.slots }
-        requires owned { (view seat.old).hand.owned ≡ ForBuilding slot }
+        requires owned { (view seat.old).work.owned ≡ ForBuilding slot }
         requires next { (index ≡ length (view seat.old).written) × (index < PAYLOAD + self.now.geometry.room) }
         ensures seat { IsSameSeat seat.old seat.new }
         ensures view { view seat.new ≡ after_write word (view seat.old) }
     {
         self.table
             .shared
-            .store::<Write>(seat, self.place(slot, DATA + index), word);
+            .store::<Write>(seat, self.address(slot, DATA + index), word);
     }
 
     /// Empties the slot that the client took to free, once its trail was taken back.
     ///
     /// It takes no memory. It costs one atomic store.
     pub fn empty(&self, seat: &mut RuleSeat<T>, slot: u32)
-        requires seat { IsSeatOf self.now.table.shared.table_id self.now.table.shared.key.tag seat.old }
+        requires seat { IsSeatAt self.now seat.old }
         requires slot { slot < self.now.geometry.slots }
-        requires owned { (view seat.old).hand.owned ≡ ForFreeing slot }
-        requires back { (view seat.old).hand.trail ≡ [] }
+        requires owned { (view seat.old).work.owned ≡ ForFreeing slot }
+        requires back { (view seat.old).work.trail ≡ [] }
         ensures seat { IsSameSeat seat.old seat.new }
         ensures view { view seat.new ≡ after_empty (view seat.old) }
     {
         self.table
             .shared
-            .store::<Empty>(seat, self.place(slot, META), EMPTY_WORD);
+            .store::<Empty>(seat, self.address(slot, META), EMPTY_WORD);
     }
 }

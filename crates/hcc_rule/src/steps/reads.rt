@@ -2,7 +2,8 @@
 ghost use Rattle.std.specs.Prelude.{◌≡◌, ◌+◌, ◌<◌, Some, IfSome, IsSomeAnd, length, slice_index};
 ghost use Rattle.hcc_core.specs.Lawful.{owned_slot};
 ghost use Rattle.hcc_rule.specs.declared.layout.TheConstants.{PAYLOAD};
-ghost use Rattle.hcc_rule.specs.Seats.{IsSeatOf, IsSameSeat, view};
+ghost use Rattle.hcc_rule.specs.Callers.{IsSeatAt};
+ghost use Rattle.hcc_rule.specs.Seats.{IsSameSeat, view};
 ghost use Rattle.hcc_rule.specs.ToldOwners.{IsDataWord, after_read};
 ghost use Rattle.hcc_rule.specs.Views.{record_in};
 
@@ -39,7 +40,7 @@ impl<T: Tag, J: Said> Play<(), View<T>> for ReadOwn<J> {
 
 impl<T: Tag, A: Allocator> RuleTable<T, A> {
     fn read_as<J: Said>(&self, seat: &mut RuleSeat<T>, slot: u32, index: usize, name: u64) -> u64
-        requires seat { IsSeatOf self.now.table.shared.table_id self.now.table.shared.key.tag seat.old }
+        requires seat { IsSeatAt self.now seat.old }
         requires slot { slot < self.now.geometry.slots }
         requires within { index < PAYLOAD + self.now.geometry.room }
         requires holds { IsSomeAnd (record_in name (view seat.old).records) (λ r. r.slot ≡ slot) }
@@ -50,7 +51,7 @@ impl<T: Tag, A: Allocator> RuleTable<T, A> {
     {
         self.table
             .shared
-            .load::<Read<J>>(seat, self.place(slot, DATA + index))
+            .load::<Read<J>>(seat, self.address(slot, DATA + index))
     }
 
     /// Loads a data word of the entry that the record of a name is on: of the key, the charge, the
@@ -59,7 +60,7 @@ impl<T: Tag, A: Allocator> RuleTable<T, A> {
     /// The record is of that slot. Once the second key word of an entry was read that was got as Shown,
     /// its key joins the met keys. It takes no memory. It costs one load.
     pub fn read(&self, seat: &mut RuleSeat<T>, slot: u32, index: usize, name: u64) -> u64
-        requires seat { IsSeatOf self.now.table.shared.table_id self.now.table.shared.key.tag seat.old }
+        requires seat { IsSeatAt self.now seat.old }
         requires slot { slot < self.now.geometry.slots }
         requires within { index < PAYLOAD + self.now.geometry.room }
         requires holds { IsSomeAnd (record_in name (view seat.old).records) (λ r. r.slot ≡ slot) }
@@ -71,10 +72,10 @@ impl<T: Tag, A: Allocator> RuleTable<T, A> {
     }
 
     fn read_own_as<J: Said>(&self, seat: &mut RuleSeat<T>, slot: u32, index: usize) -> u64
-        requires seat { IsSeatOf self.now.table.shared.table_id self.now.table.shared.key.tag seat.old }
+        requires seat { IsSeatAt self.now seat.old }
         requires slot { slot < self.now.geometry.slots }
         requires within { index < PAYLOAD + self.now.geometry.room }
-        requires owned { owned_slot (view seat.old).hand.owned ≡ Some slot }
+        requires owned { owned_slot (view seat.old).work.owned ≡ Some slot }
         requires said { J.index ≡ index }
         ensures seat { IsSameSeat seat.old seat.new }
         ensures view { view seat.new ≡ view seat.old }
@@ -82,7 +83,7 @@ impl<T: Tag, A: Allocator> RuleTable<T, A> {
     {
         self.table
             .shared
-            .load::<ReadOwn<J>>(seat, self.place(slot, DATA + index))
+            .load::<ReadOwn<J>>(seat, self.address(slot, DATA + index))
     }
 
     /// Loads a data word of the slot that the client owns: one that it wrote, or one of the entry that
@@ -90,10 +91,10 @@ impl<T: Tag, A: Allocator> RuleTable<T, A> {
     ///
     /// It takes no memory. It costs one load.
     pub fn read_own(&self, seat: &mut RuleSeat<T>, slot: u32, index: usize) -> u64
-        requires seat { IsSeatOf self.now.table.shared.table_id self.now.table.shared.key.tag seat.old }
+        requires seat { IsSeatAt self.now seat.old }
         requires slot { slot < self.now.geometry.slots }
         requires within { index < PAYLOAD + self.now.geometry.room }
-        requires owned { owned_slot (view seat.old).hand.owned ≡ Some slot }
+        requires owned { owned_slot (view seat.old).work.owned ≡ Some slot }
         ensures seat { IsSameSeat seat.old seat.new }
         ensures view { view seat.new ≡ view seat.old }
         ensures word { index < length (view seat.old).written → result ≡ slice_index (view seat.old).written index }

@@ -2,7 +2,8 @@
 ghost use Rattle.std.specs.Prelude.{◌≡◌, ◌+◌, ◌<◌, ◌≤◌, true, None, IsSomeAnd};
 ghost use Rattle.hcc_word.specs.Word.{refs_of, is_shareable};
 ghost use Rattle.hcc_core.specs.declared.limits.TheConstants.{MOST_WEIGHT, REFERENCES_PER_CLIENT};
-ghost use Rattle.hcc_rule.specs.Seats.{IsSeatOf, IsSameSeat, view};
+ghost use Rattle.hcc_rule.specs.Callers.{IsSeatAt};
+ghost use Rattle.hcc_rule.specs.Seats.{IsSameSeat, view};
 ghost use Rattle.hcc_rule.specs.Views.{load_of, record_in};
 ghost use Rattle.hcc_rule.specs.ToldReferences.{may_reach, Acquired, after_give};
 
@@ -50,14 +51,14 @@ impl<T: Tag, J: Said> Play<(), View<T>> for Give<J> {
 }
 
 /// What adding releases to a meta word tells.
-pub struct Release<J> {
+pub struct Spend<J> {
     said: PhantomData<J>,
 }
 
-impl<T: Tag, J: Said> Play<(), View<T>> for Release<J> {
-    ghost use Rattle.hcc_rule.specs.ToldReferences.{releases};
+impl<T: Tag, J: Said> Play<(), View<T>> for Spend<J> {
+    ghost use Rattle.hcc_rule.specs.ToldReferences.{spends};
 
-    ghost then = { releases J.slot J.name };
+    ghost then = { spends J.slot J.name };
 }
 
 impl<T: Tag, A: Allocator> RuleTable<T, A> {
@@ -68,7 +69,7 @@ impl<T: Tag, A: Allocator> RuleTable<T, A> {
         weight: u32,
         name: u64,
     ) -> u64
-        requires seat { IsSeatOf self.now.table.shared.table_id self.now.table.shared.key.tag seat.old }
+        requires seat { IsSeatAt self.now seat.old }
         requires slot { slot < self.now.geometry.slots }
         requires weight { (0 < weight) × (weight ≤ MOST_WEIGHT) }
         requires fresh { record_in name (view seat.old).records ≡ None }
@@ -80,7 +81,7 @@ impl<T: Tag, A: Allocator> RuleTable<T, A> {
     {
         self.table
             .shared
-            .fetch_add::<Acquire<T, J>>(seat, self.place(slot, META), weight as u64)
+            .fetch_add::<Acquire<T, J>>(seat, self.address(slot, META), weight as u64)
     }
 
     /// Acquires references on a slot, under a name that the client doesn't hold: their weight, 1 to 3,
@@ -96,7 +97,7 @@ impl<T: Tag, A: Allocator> RuleTable<T, A> {
     ///
     /// It takes no memory. It costs one atomic add.
     pub fn acquire(&self, seat: &mut RuleSeat<T>, slot: u32, weight: u32, name: u64) -> u64
-        requires seat { IsSeatOf self.now.table.shared.table_id self.now.table.shared.key.tag seat.old }
+        requires seat { IsSeatAt self.now seat.old }
         requires slot { slot < self.now.geometry.slots }
         requires weight { (0 < weight) × (weight ≤ MOST_WEIGHT) }
         requires fresh { record_in name (view seat.old).records ≡ None }
@@ -109,7 +110,7 @@ impl<T: Tag, A: Allocator> RuleTable<T, A> {
     }
 
     fn give_as<J: Said>(&self, seat: &mut RuleSeat<T>, slot: u32, weight: u32, name: u64) -> u64
-        requires seat { IsSeatOf self.now.table.shared.table_id self.now.table.shared.key.tag seat.old }
+        requires seat { IsSeatAt self.now seat.old }
         requires slot { slot < self.now.geometry.slots }
         requires holds { IsSomeAnd (record_in name (view seat.old).records) (λ r. (r.slot ≡ slot) × (r.weight ≡ weight)) }
         requires said { (J.slot ≡ slot) × (J.name ≡ name) }
@@ -120,7 +121,7 @@ impl<T: Tag, A: Allocator> RuleTable<T, A> {
     {
         self.table
             .shared
-            .fetch_sub::<Give<J>>(seat, self.place(slot, META), weight as u64)
+            .fetch_sub::<Give<J>>(seat, self.address(slot, META), weight as u64)
     }
 
     /// Gives the references of this name back: their weight is taken from the acquires of the slot's
@@ -131,7 +132,7 @@ impl<T: Tag, A: Allocator> RuleTable<T, A> {
     /// The word that is found is that of an entry, with at least these references. It takes no
     /// memory. It costs one atomic take.
     pub fn give(&self, seat: &mut RuleSeat<T>, slot: u32, weight: u32, name: u64) -> u64
-        requires seat { IsSeatOf self.now.table.shared.table_id self.now.table.shared.key.tag seat.old }
+        requires seat { IsSeatAt self.now seat.old }
         requires slot { slot < self.now.geometry.slots }
         requires holds { IsSomeAnd (record_in name (view seat.old).records) (λ r. (r.slot ≡ slot) × (r.weight ≡ weight)) }
         ensures seat { IsSameSeat seat.old seat.new }
@@ -142,8 +143,8 @@ impl<T: Tag, A: Allocator> RuleTable<T, A> {
         self.give_as::<Brand>(seat, slot, weight, name)
     }
 
-    fn release_as<J: Said>(&self, seat: &mut RuleSeat<T>, slot: u32, weight: u32, name: u64) -> u64
-        requires seat { IsSeatOf self.now.table.shared.table_id self.now.table.shared.key.tag seat.old }
+    fn spend_as<J: Said>(&self, seat: &mut RuleSeat<T>, slot: u32, weight: u32, name: u64) -> u64
+        requires seat { IsSeatAt self.now seat.old }
         requires slot { slot < self.now.geometry.slots }
         requires holds { IsSomeAnd (record_in name (view seat.old).records) (λ r. (r.slot ≡ slot) × (r.weight ≡ weight) × (r.counting ≡ true)) }
         requires said { (J.slot ≡ slot) × (J.name ≡ name) }
@@ -152,9 +153,11 @@ impl<T: Tag, A: Allocator> RuleTable<T, A> {
         ensures entry { is_shareable result ≡ true }
         ensures references { weight ≤ refs_of result }
     {
-        self.table
-            .shared
-            .fetch_add::<Release<J>>(seat, self.place(slot, META), weight as u64 * ONE_RELEASE)
+        self.table.shared.fetch_add::<Spend<J>>(
+            seat,
+            self.address(slot, META),
+            weight as u64 * ONE_RELEASE,
+        )
     }
 
     /// Releases the references of this name as uses: their weight is added to the releases of the
@@ -164,8 +167,8 @@ impl<T: Tag, A: Allocator> RuleTable<T, A> {
     ///
     /// The word that is found is that of an entry, with at least these references. It takes no
     /// memory. It costs one atomic add.
-    pub fn release(&self, seat: &mut RuleSeat<T>, slot: u32, weight: u32, name: u64) -> u64
-        requires seat { IsSeatOf self.now.table.shared.table_id self.now.table.shared.key.tag seat.old }
+    pub fn spend(&self, seat: &mut RuleSeat<T>, slot: u32, weight: u32, name: u64) -> u64
+        requires seat { IsSeatAt self.now seat.old }
         requires slot { slot < self.now.geometry.slots }
         requires holds { IsSomeAnd (record_in name (view seat.old).records) (λ r. (r.slot ≡ slot) × (r.weight ≡ weight) × (r.counting ≡ true)) }
         ensures seat { IsSameSeat seat.old seat.new }
@@ -173,6 +176,6 @@ impl<T: Tag, A: Allocator> RuleTable<T, A> {
         ensures entry { is_shareable result ≡ true }
         ensures references { weight ≤ refs_of result }
     {
-        self.release_as::<Brand>(seat, slot, weight, name)
+        self.spend_as::<Brand>(seat, slot, weight, name)
     }
 }

@@ -1,8 +1,9 @@
 //! Seats that are split and joined.
 ghost use Rattle.std.specs.Prelude.{◌≡◌, ◌∷◌, [], List};
 ghost use Rattle.hcc_rule.specs.declared.view.Other.{Other};
+ghost use Rattle.hcc_rule.specs.Callers.{IsSeatAt};
 ghost use Rattle.hcc_rule.specs.Opening.{IsIdle, joined_view, left_view, right_view};
-ghost use Rattle.hcc_rule.specs.Seats.{IsSeatOf, IsSameSeat, view};
+ghost use Rattle.hcc_rule.specs.Seats.{IsSameSeat, view};
 
 use crate::key::Tag;
 use crate::table::{RuleSeat, RuleTable};
@@ -38,11 +39,11 @@ impl<T: Tag, A: Allocator> RuleTable<T, A> {
     ///
     /// It takes no memory. It costs one load.
     pub fn split(&self, seat: &mut RuleSeat<T>) -> RuleSeat<T>
-        requires seat { IsSeatOf self.now.table.shared.table_id self.now.table.shared.key.tag seat.old }
+        requires seat { IsSeatAt self.now seat.old }
         requires another { (o : Other) × (os : List Other) × ((view seat.old).others ≡ o ∷ os) }
         ensures seat { IsSameSeat seat.old seat.new }
         ensures left { view seat.new ≡ left_view (view seat.old) }
-        ensures new { IsSeatOf self.now.table.shared.table_id self.now.table.shared.key.tag result }
+        ensures new { IsSeatAt self.now result }
         ensures right { view result ≡ right_view (view seat.old) }
     {
         self.table.shared.split_seat::<Start>(seat)
@@ -54,9 +55,9 @@ impl<T: Tag, A: Allocator> RuleTable<T, A> {
     ///
     /// It takes no memory. It costs one load.
     pub fn join(&self, seat: &mut RuleSeat<T>, other: RuleSeat<T>)
-        requires seat { IsSeatOf self.now.table.shared.table_id self.now.table.shared.key.tag seat.old }
-        requires other { IsSeatOf self.now.table.shared.table_id self.now.table.shared.key.tag other }
-        requires idle { IsIdle (view other).hand × ((view other).records ≡ []) }
+        requires seat { IsSeatAt self.now seat.old }
+        requires other { IsSeatAt self.now other }
+        requires idle { IsIdle (view other).work × ((view other).records ≡ []) }
         ensures seat { IsSameSeat seat.old seat.new }
         ensures both { view seat.new ≡ joined_view (view seat.old) (view other) }
     {

@@ -1,6 +1,7 @@
 //! The store that shows an entry.
 ghost use Rattle.std.specs.Prelude.{◌≡◌, ◌<◌};
-ghost use Rattle.hcc_rule.specs.Seats.{IsSeatOf, IsSameSeat, view};
+ghost use Rattle.hcc_rule.specs.Callers.{plan_of, IsSeatAt};
+ghost use Rattle.hcc_rule.specs.Seats.{IsSameSeat, view};
 ghost use Rattle.hcc_rule.specs.ToldOwners.{MayShow, after_show, made_of};
 
 use crate::key::{Key, Tag};
@@ -61,9 +62,9 @@ impl<T: Tag, J: Drafted> Play<(), View<T>> for Show<J> {
 
 impl<T: Tag, A: Allocator> RuleTable<T, A> {
     fn show_as<J: Drafted>(&self, seat: &mut RuleSeat<T>, slot: u32, draft: Draft, value: &[u8])
-        requires seat { IsSeatOf self.now.table.shared.table_id self.now.table.shared.key.tag seat.old }
+        requires seat { IsSeatAt self.now seat.old }
         requires slot { slot < self.now.geometry.slots }
-        requires may { MayShow T.fits self.now.table.shared.key slot draft.countdown draft.name (made_of draft value.now) (view seat.old) }
+        requires may { MayShow T.fits (plan_of self.now) slot draft.countdown draft.name (made_of draft value.now) (view seat.old) }
         requires said { (J.slot ≡ slot) × (J.name ≡ draft.name) × (J.made ≡ made_of draft value.now) }
         ensures seat { IsSameSeat seat.old seat.new }
         ensures view { view seat.new ≡ after_show slot draft.name (made_of draft value.now) (view seat.old) }
@@ -71,7 +72,7 @@ impl<T: Tag, A: Allocator> RuleTable<T, A> {
         let word = started(draft.countdown, draft.name.is_some());
         self.table
             .shared
-            .store::<Show<J>>(seat, self.place(slot, META), word);
+            .store::<Show<J>>(seat, self.address(slot, META), word);
     }
 
     /// Shows the entry whose words the client wrote into the slot that it builds: look-ups find it from
@@ -81,9 +82,9 @@ impl<T: Tag, A: Allocator> RuleTable<T, A> {
     /// charge were granted, and nothing is needed. The client's trail is the places of the key before
     /// the slot, and becomes the entry's. It takes no memory. It costs one atomic store.
     pub fn show(&self, seat: &mut RuleSeat<T>, slot: u32, draft: Draft, value: &[u8])
-        requires seat { IsSeatOf self.now.table.shared.table_id self.now.table.shared.key.tag seat.old }
+        requires seat { IsSeatAt self.now seat.old }
         requires slot { slot < self.now.geometry.slots }
-        requires may { MayShow T.fits self.now.table.shared.key slot draft.countdown draft.name (made_of draft value.now) (view seat.old) }
+        requires may { MayShow T.fits (plan_of self.now) slot draft.countdown draft.name (made_of draft value.now) (view seat.old) }
         ensures seat { IsSameSeat seat.old seat.new }
         ensures view { view seat.new ≡ after_show slot draft.name (made_of draft value.now) (view seat.old) }
     {

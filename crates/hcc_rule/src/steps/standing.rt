@@ -5,7 +5,8 @@ ghost use Rattle.hcc_core.specs.declared.state.Place.TheVariants.{Absent};
 ghost use Rattle.hcc_core.specs.World.{standing_of};
 ghost use Rattle.hcc_core.specs.Steps.{is_standing};
 ghost use Rattle.hcc_rule.specs.declared.layout.TheConstants.{MOST_HANDLES};
-ghost use Rattle.hcc_rule.specs.Seats.{IsSeatOf, IsSameSeat, view};
+ghost use Rattle.hcc_rule.specs.Callers.{IsSeatAt};
+ghost use Rattle.hcc_rule.specs.Seats.{IsSameSeat, view};
 ghost use Rattle.hcc_rule.specs.ToldLedgers.{after_stand, after_fall};
 
 use super::said::Said;
@@ -53,10 +54,10 @@ impl<T: Tag, A: Allocator> RuleTable<T, A> {
     ///
     /// It takes no memory. It costs one load.
     pub fn standing(&self, seat: &mut RuleSeat<T>) -> u64
-        requires seat { IsSeatOf self.now.table.shared.table_id self.now.table.shared.key.tag seat.old }
+        requires seat { IsSeatAt self.now seat.old }
         ensures seat { IsSameSeat seat.old seat.new }
         ensures view { view seat.new ≡ view seat.old }
-        ensures own { standing_of (view seat.old).hand ≤ result }
+        ensures own { standing_of (view seat.old).work ≤ result }
     {
         self.table
             .shared
@@ -64,11 +65,11 @@ impl<T: Tag, A: Allocator> RuleTable<T, A> {
     }
 
     fn stand_as<J: Said>(&self, seat: &mut RuleSeat<T>, name: u64, charge: u32)
-        requires seat { IsSeatOf self.now.table.shared.table_id self.now.table.shared.key.tag seat.old }
-        requires absent { (view seat.old).hand.place ≡ Absent }
-        requires granted { charge ≤ (view seat.old).hand.granted }
-        requires fresh { list_any (is_standing name) (view seat.old).hand.standalones ≡ false }
-        requires few { length (view seat.old).hand.standalones < MOST_HANDLES }
+        requires seat { IsSeatAt self.now seat.old }
+        requires absent { (view seat.old).work.place ≡ Absent }
+        requires granted { charge ≤ (view seat.old).work.granted }
+        requires fresh { list_any (is_standing name) (view seat.old).work.standalones ≡ false }
+        requires few { length (view seat.old).work.standalones < MOST_HANDLES }
         requires said { J.name ≡ name }
         ensures seat { IsSameSeat seat.old seat.new }
         ensures view { view seat.new ≡ after_stand name charge (view seat.old) }
@@ -83,11 +84,11 @@ impl<T: Tag, A: Allocator> RuleTable<T, A> {
     ///
     /// It takes no memory. It costs one atomic add.
     pub fn stand(&self, seat: &mut RuleSeat<T>, name: u64, charge: u32)
-        requires seat { IsSeatOf self.now.table.shared.table_id self.now.table.shared.key.tag seat.old }
-        requires absent { (view seat.old).hand.place ≡ Absent }
-        requires granted { charge ≤ (view seat.old).hand.granted }
-        requires fresh { list_any (is_standing name) (view seat.old).hand.standalones ≡ false }
-        requires few { length (view seat.old).hand.standalones < MOST_HANDLES }
+        requires seat { IsSeatAt self.now seat.old }
+        requires absent { (view seat.old).work.place ≡ Absent }
+        requires granted { charge ≤ (view seat.old).work.granted }
+        requires fresh { list_any (is_standing name) (view seat.old).work.standalones ≡ false }
+        requires few { length (view seat.old).work.standalones < MOST_HANDLES }
         ensures seat { IsSameSeat seat.old seat.new }
         ensures view { view seat.new ≡ after_stand name charge (view seat.old) }
     {
@@ -95,9 +96,9 @@ impl<T: Tag, A: Allocator> RuleTable<T, A> {
     }
 
     fn fall_as<J: Said>(&self, seat: &mut RuleSeat<T>, name: u64, charge: u64)
-        requires seat { IsSeatOf self.now.table.shared.table_id self.now.table.shared.key.tag seat.old }
-        requires stood { find (is_standing name) (view seat.old).hand.standalones ≡ Some (record { name = name; charge = charge }) }
-        requires room { (view seat.old).hand.freed + charge < 2 ^ 49 }
+        requires seat { IsSeatAt self.now seat.old }
+        requires stood { find (is_standing name) (view seat.old).work.standalones ≡ Some (record { name = name; charge = charge }) }
+        requires room { (view seat.old).work.freed + charge < 2 ^ 49 }
         requires said { J.name ≡ name }
         ensures seat { IsSameSeat seat.old seat.new }
         ensures view { view seat.new ≡ after_fall name charge (view seat.old) }
@@ -112,9 +113,9 @@ impl<T: Tag, A: Allocator> RuleTable<T, A> {
     ///
     /// It takes no memory. It costs one atomic subtraction.
     pub fn fall(&self, seat: &mut RuleSeat<T>, name: u64, charge: u64)
-        requires seat { IsSeatOf self.now.table.shared.table_id self.now.table.shared.key.tag seat.old }
-        requires stood { find (is_standing name) (view seat.old).hand.standalones ≡ Some (record { name = name; charge = charge }) }
-        requires room { (view seat.old).hand.freed + charge < 2 ^ 49 }
+        requires seat { IsSeatAt self.now seat.old }
+        requires stood { find (is_standing name) (view seat.old).work.standalones ≡ Some (record { name = name; charge = charge }) }
+        requires room { (view seat.old).work.freed + charge < 2 ^ 49 }
         ensures seat { IsSameSeat seat.old seat.new }
         ensures view { view seat.new ≡ after_fall name charge (view seat.old) }
     {

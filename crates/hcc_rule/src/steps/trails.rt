@@ -2,10 +2,11 @@
 ghost use Rattle.std.specs.Prelude.{◌≡◌, ◌<◌, ◌≤◌, true, length};
 ghost use Rattle.std.specs.List.{list_any};
 ghost use Rattle.hcc_core.specs.World.{times};
-ghost use Rattle.hcc_core.specs.Steps.{is_place};
+ghost use Rattle.hcc_core.specs.Steps.{is_slot};
 ghost use Rattle.hcc_rule.specs.declared.view.Record.{Record};
+ghost use Rattle.hcc_rule.specs.Callers.{IsSeatAt};
 ghost use Rattle.hcc_rule.specs.Probes.{trail_to};
-ghost use Rattle.hcc_rule.specs.Seats.{IsSeatOf, IsSameSeat, view};
+ghost use Rattle.hcc_rule.specs.Seats.{IsSameSeat, view};
 ghost use Rattle.hcc_rule.specs.ToldTrails.{after_pass, after_unpass};
 ghost use Rattle.hcc_rule.specs.Views.{Each};
 ghost use Rattle.hcc_rule.specs.Words.{key_of};
@@ -55,19 +56,19 @@ impl<T: Tag, J: Said> Play<(), View<T>> for Unpass<J> {
 
 impl<T: Tag, A: Allocator> RuleTable<T, A> {
     fn count_as<J: Said, K: Planned>(&self, seat: &mut RuleSeat<T>, slot: u32) -> u64
-        requires seat { IsSeatOf self.now.table.shared.table_id self.now.table.shared.key.tag seat.old }
+        requires seat { IsSeatAt self.now seat.old }
         requires slot { slot < self.now.geometry.slots }
         requires said { J.slot ≡ slot }
         requires planned { K.setup.slots ≡ self.now.geometry.slots }
         ensures seat { IsSameSeat seat.old seat.new }
         ensures view { view seat.new ≡ view seat.old }
-        ensures own { times slot (view seat.old).hand.trail ≤ result }
+        ensures own { times slot (view seat.old).work.trail ≤ result }
         ensures held { Each (λ (r : Record). times slot (trail_to K.setup.slots (key_of r.entry) r.slot) ≤ result) (view seat.old).records }
         ensures within { Each (λ (r : Record). r.slot < K.setup.slots) (view seat.old).records }
     {
         self.table
             .shared
-            .load::<Count<J, K>>(seat, self.place(slot, DISPLACEMENT))
+            .load::<Count<J, K>>(seat, self.address(slot, DISPLACEMENT))
     }
 
     /// Loads how often a slot stands in the trails of entries and clients. The client's own trail is
@@ -76,11 +77,11 @@ impl<T: Tag, A: Allocator> RuleTable<T, A> {
     ///
     /// It takes no memory. It costs one load.
     pub fn count(&self, seat: &mut RuleSeat<T>, slot: u32) -> u64
-        requires seat { IsSeatOf self.now.table.shared.table_id self.now.table.shared.key.tag seat.old }
+        requires seat { IsSeatAt self.now seat.old }
         requires slot { slot < self.now.geometry.slots }
         ensures seat { IsSameSeat seat.old seat.new }
         ensures view { view seat.new ≡ view seat.old }
-        ensures own { times slot (view seat.old).hand.trail ≤ result }
+        ensures own { times slot (view seat.old).work.trail ≤ result }
         ensures held { Each (λ (r : Record). times slot (trail_to self.now.geometry.slots (key_of r.entry) r.slot) ≤ result) (view seat.old).records }
         ensures within { Each (λ (r : Record). r.slot < self.now.geometry.slots) (view seat.old).records }
     {
@@ -88,16 +89,16 @@ impl<T: Tag, A: Allocator> RuleTable<T, A> {
     }
 
     fn pass_as<J: Said>(&self, seat: &mut RuleSeat<T>, slot: u32)
-        requires seat { IsSeatOf self.now.table.shared.table_id self.now.table.shared.key.tag seat.old }
+        requires seat { IsSeatAt self.now seat.old }
         requires slot { slot < self.now.geometry.slots }
-        requires room { length (view seat.old).hand.trail < self.now.geometry.slots }
+        requires room { length (view seat.old).work.trail < self.now.geometry.slots }
         requires said { J.slot ≡ slot }
         ensures seat { IsSameSeat seat.old seat.new }
         ensures view { view seat.new ≡ after_pass slot (view seat.old) }
     {
         self.table
             .shared
-            .fetch_add::<Pass<J>>(seat, self.place(slot, DISPLACEMENT), 1);
+            .fetch_add::<Pass<J>>(seat, self.address(slot, DISPLACEMENT), 1);
     }
 
     /// Adds 1 to a slot's displacement word: the slot joins the client's trail, which has fewer
@@ -105,9 +106,9 @@ impl<T: Tag, A: Allocator> RuleTable<T, A> {
     ///
     /// It takes no memory. It costs one atomic add.
     pub fn pass(&self, seat: &mut RuleSeat<T>, slot: u32)
-        requires seat { IsSeatOf self.now.table.shared.table_id self.now.table.shared.key.tag seat.old }
+        requires seat { IsSeatAt self.now seat.old }
         requires slot { slot < self.now.geometry.slots }
-        requires room { length (view seat.old).hand.trail < self.now.geometry.slots }
+        requires room { length (view seat.old).work.trail < self.now.geometry.slots }
         ensures seat { IsSameSeat seat.old seat.new }
         ensures view { view seat.new ≡ after_pass slot (view seat.old) }
     {
@@ -115,16 +116,16 @@ impl<T: Tag, A: Allocator> RuleTable<T, A> {
     }
 
     fn unpass_as<J: Said>(&self, seat: &mut RuleSeat<T>, slot: u32)
-        requires seat { IsSeatOf self.now.table.shared.table_id self.now.table.shared.key.tag seat.old }
+        requires seat { IsSeatAt self.now seat.old }
         requires slot { slot < self.now.geometry.slots }
-        requires passed { list_any (is_place slot) (view seat.old).hand.trail ≡ true }
+        requires passed { list_any (is_slot slot) (view seat.old).work.trail ≡ true }
         requires said { J.slot ≡ slot }
         ensures seat { IsSameSeat seat.old seat.new }
         ensures view { view seat.new ≡ after_unpass slot (view seat.old) }
     {
         self.table
             .shared
-            .fetch_sub::<Unpass<J>>(seat, self.place(slot, DISPLACEMENT), 1);
+            .fetch_sub::<Unpass<J>>(seat, self.address(slot, DISPLACEMENT), 1);
     }
 
     /// Takes 1 from the displacement word of a slot in the client's trail: the slot leaves the trail
@@ -132,9 +133,9 @@ impl<T: Tag, A: Allocator> RuleTable<T, A> {
     ///
     /// It takes no memory. It costs one atomic subtraction.
     pub fn unpass(&self, seat: &mut RuleSeat<T>, slot: u32)
-        requires seat { IsSeatOf self.now.table.shared.table_id self.now.table.shared.key.tag seat.old }
+        requires seat { IsSeatAt self.now seat.old }
         requires slot { slot < self.now.geometry.slots }
-        requires passed { list_any (is_place slot) (view seat.old).hand.trail ≡ true }
+        requires passed { list_any (is_slot slot) (view seat.old).work.trail ≡ true }
         ensures seat { IsSameSeat seat.old seat.new }
         ensures view { view seat.new ≡ after_unpass slot (view seat.old) }
     {

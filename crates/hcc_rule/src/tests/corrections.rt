@@ -20,19 +20,19 @@ impl Worker<'_> {
         ensures ready { IsReady (view self.new.seat) }
     {
         for _ in 0..times {
-            self.spend(rt, slot);
+            self.use_often(rt, slot);
         }
     }
 
     /// Uses the entry of a slot three times at once.
-    fn spend(&mut self, rt: &impl Abort, slot: u32)
+    fn use_often(&mut self, rt: &impl Abort, slot: u32)
         requires ready { IsReady (view self.old.seat) }
         requires slot { slot < 8 }
         ensures same { (self.new.table ≡ self.old.table) × (self.new.client ≡ self.old.client) × (self.new.shown ≡ self.old.shown) × ((view self.new.seat).others ≡ (view self.old.seat).others) }
         ensures ready { IsReady (view self.new.seat) }
     {
         self.reach(rt, slot, 3);
-        self.table.release(&mut self.seat, slot, 3, NAME);
+        self.table.spend(&mut self.seat, slot, 3, NAME);
     }
 
     /// A look-up near the end of the counters, which takes them back. The words are those that the

@@ -19,10 +19,10 @@ use std::process::Abort;
 impl Worker<'_> {
     /// Takes the slot that was passed back, if there is one.
     fn take_trail(&mut self, passed: Option<u32>)
-        requires trail { (view self.old.seat).hand.trail ≡ option_to_list passed }
+        requires trail { (view self.old.seat).work.trail ≡ option_to_list passed }
         requires within { IfSome passed (λ s. s < 8) }
         ensures same { (self.new.table ≡ self.old.table) × (self.new.client ≡ self.old.client) × (self.new.shown ≡ self.old.shown) × ((view self.new.seat).others ≡ (view self.old.seat).others) }
-        ensures view { view self.new.seat ≡ record (view self.old.seat) { hand = record (view self.old.seat).hand { trail = [] } } }
+        ensures view { view self.new.seat ≡ record (view self.old.seat) { work = record (view self.old.seat).work { trail = [] } } }
     {
         if let Some(place) = passed {
             self.table.unpass(&mut self.seat, place);

@@ -1,7 +1,8 @@
 //! Tables for tests, and the workers of their seats.
 ghost use Rattle.std.specs.Prelude.{◌≡◌, ◌+◌, ◌≤◌, [], IfOk, length};
+ghost use Rattle.hcc_rule.specs.Callers.{plan_of, AreSeatsAt};
 ghost use Rattle.hcc_rule.specs.Hands.{IsBench, IsReady};
-ghost use Rattle.hcc_rule.specs.Seats.{AreNewSeats, view};
+ghost use Rattle.hcc_rule.specs.Seats.{view};
 
 use super::AnyBytes;
 use super::worker::{Bench, Worker};
@@ -15,9 +16,9 @@ pub(super) fn bench(
     clients: u32,
 ) -> Result<(Bench, Vec<RuleSeat<AnyBytes>, Global>), AllocError>
     requires clients { (1 ≤ clients) × (clients ≤ 1024) }
-    ensures bench { IfOk result (λ made. IsBench made.0.table.shared.key) }
+    ensures bench { IfOk result (λ made. IsBench (plan_of made.0)) }
     ensures count { IfOk result (λ made. length made.1.items ≡ clients) }
-    ensures seats { IfOk result (λ made. AreNewSeats made.0.table.shared.table_id made.0.table.shared.key.tag 0 made.1.items) }
+    ensures seats { IfOk result (λ made. AreSeatsAt made.0 0 made.1.items) }
 {
     let sizes = Geometry {
         slots: 8,
@@ -33,10 +34,10 @@ pub(super) fn hired<'a>(
     table: &'a Bench,
     seats: &mut Vec<RuleSeat<AnyBytes>, Global>,
 ) -> Worker<'a>
-    requires new { AreNewSeats table.now.table.shared.table_id table.now.table.shared.key.tag 0 seats.old.items }
-    requires bench { IsBench table.now.table.shared.key }
+    requires new { AreSeatsAt table.now 0 seats.old.items }
+    requires bench { IsBench (plan_of table.now) }
     requires few { length seats.old.items ≤ 1024 }
-    ensures rest { AreNewSeats table.now.table.shared.table_id table.now.table.shared.key.tag 0 seats.new.items }
+    ensures rest { AreSeatsAt table.now 0 seats.new.items }
     ensures count { length seats.new.items + 1 ≡ length seats.old.items }
     ensures worker { (result.table ≡ table.entry) × (result.client ≡ length seats.new.items) × (result.shown ≡ 0) }
     ensures ready { IsReady (view result.seat) }

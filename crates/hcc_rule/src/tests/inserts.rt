@@ -80,10 +80,10 @@ impl Worker<'_> {
 
     /// Passes a slot, if there is one to pass.
     fn pass_over(&mut self, passed: Option<u32>)
-        requires trail { (view self.old.seat).hand.trail ≡ [] }
+        requires trail { (view self.old.seat).work.trail ≡ [] }
         requires within { IfSome passed (λ s. s < 8) }
         ensures same { (self.new.table ≡ self.old.table) × (self.new.client ≡ self.old.client) × (self.new.shown ≡ self.old.shown) × ((view self.new.seat).others ≡ (view self.old.seat).others) }
-        ensures view { view self.new.seat ≡ record (view self.old.seat) { hand = record (view self.old.seat).hand { trail = option_to_list passed } } }
+        ensures view { view self.new.seat ≡ record (view self.old.seat) { work = record (view self.old.seat).work { trail = option_to_list passed } } }
     {
         if let Some(place) = passed {
             self.table.pass(&mut self.seat, place);
@@ -93,7 +93,7 @@ impl Worker<'_> {
     /// Writes all words of an entry into the slot that the client builds.
     fn write_all(&mut self, slot: u32, words: [u64; 7])
         requires slot { slot < 8 }
-        requires owned { (view self.old.seat).hand.owned ≡ ForBuilding slot }
+        requires owned { (view self.old.seat).work.owned ≡ ForBuilding slot }
         requires none { (view self.old.seat).written ≡ [] }
         ensures same { (self.new.table ≡ self.old.table) × (self.new.client ≡ self.old.client) × (self.new.shown ≡ self.old.shown) × ((view self.new.seat).others ≡ (view self.old.seat).others) }
         ensures view { view self.new.seat ≡ record (view self.old.seat) { written = words } }
@@ -180,7 +180,7 @@ impl Worker<'_> {
         ensures ready { IsReady (view self.new.seat) }
     {
         self.show_all(rt, slot, draft, passed);
-        let shown = self.table.release(&mut self.seat, slot, 1, NAME);
+        let shown = self.table.spend(&mut self.seat, slot, 1, NAME);
         [shown, self.table.look(&mut self.seat, slot)]
     }
 
@@ -206,7 +206,7 @@ impl Worker<'_> {
     {
         self.show_all(rt, slot, draft, passed);
         let shown = self.table.hide(&mut self.seat, slot, NAME);
-        let hidden = self.table.release(&mut self.seat, slot, 1, NAME);
+        let hidden = self.table.spend(&mut self.seat, slot, 1, NAME);
         [shown, hidden, self.table.look(&mut self.seat, slot)]
     }
 

@@ -61,7 +61,7 @@ impl Worker<'_> {
         let (seen, found) = self.reach(rt, slot, 1);
         let data = self.read_all(slot);
         let marked = self.table.mark(&mut self.seat, slot, NAME);
-        let released = self.table.release(&mut self.seat, slot, 1, NAME);
+        let released = self.table.spend(&mut self.seat, slot, 1, NAME);
         let left = self.table.look(&mut self.seat, slot);
         ([seen, found, marked, released, left], data)
     }
@@ -93,7 +93,7 @@ impl Worker<'_> {
         let found = self.table.acquire(&mut self.seat, slot, weight, NAME);
         assert!(rt; state(found) >= INVISIBLE, "slot {slot} lost its entry");
         assert!(rt; releases(found) < NEAR, "slot {slot} is near its end");
-        let released = self.table.release(&mut self.seat, slot, weight, NAME);
+        let released = self.table.spend(&mut self.seat, slot, weight, NAME);
         let left = self.table.look(&mut self.seat, slot);
         [tried, found, released, left]
     }

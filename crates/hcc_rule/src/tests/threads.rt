@@ -1,8 +1,9 @@
 //! Two clients on two threads: in every order of their steps the table is the same at the end.
 ghost use Rattle.std.specs.Prelude.{◌≡◌, ◌+◌, ◌<◌, []};
 ghost use Rattle.std.specs.Thread.{IsSync};
-ghost use Rattle.hcc_rule.specs.Hands.{IsBench, IsReadySeat};
-ghost use Rattle.hcc_rule.specs.Seats.{IsSeatOf, view};
+ghost use Rattle.hcc_rule.specs.Callers.{plan_of, IsSeatAt};
+ghost use Rattle.hcc_rule.specs.Hands.{IsBench, IsReadySeatAt};
+ghost use Rattle.hcc_rule.specs.Seats.{view};
 
 use super::AnyBytes;
 use super::hired::{bench, hired, restarted};
@@ -28,10 +29,10 @@ fn works(
     seat: RuleSeat<AnyBytes>,
     client: u32,
 ) -> RuleSeat<AnyBytes>
-    requires bench { IsBench table.now.table.shared.key }
+    requires bench { IsBench (plan_of table.now) }
     requires client { client < 1024 }
-    requires ready { IsReadySeat table.now.table.shared.table_id table.now.table.shared.key.tag client 0 seat }
-    ensures ready { IsReadySeat table.now.table.shared.table_id table.now.table.shared.key.tag client 1 result }
+    requires ready { IsReadySeatAt table.now client 0 seat }
+    ensures ready { IsReadySeatAt table.now client 1 result }
     ensures others { (view result).others ≡ (view seat).others }
 {
     let mut me = Worker {
@@ -58,21 +59,21 @@ fn both<R: Abort + Threads + Sync>(
     first: RuleSeat<AnyBytes>,
     second: RuleSeat<AnyBytes>,
 ) -> (RuleSeat<AnyBytes>, RuleSeat<AnyBytes>)
-    requires bench { IsBench table.now.table.shared.key }
-    requires first { IsReadySeat table.now.table.shared.table_id table.now.table.shared.key.tag 0 0 first }
-    requires second { IsReadySeat table.now.table.shared.table_id table.now.table.shared.key.tag 1 0 second }
-    ensures first { IsReadySeat table.now.table.shared.table_id table.now.table.shared.key.tag 0 1 result.0 × ((view result.0).others ≡ (view first).others) }
-    ensures second { IsReadySeat table.now.table.shared.table_id table.now.table.shared.key.tag 1 1 result.1 × ((view result.1).others ≡ (view second).others) }
+    requires bench { IsBench (plan_of table.now) }
+    requires first { IsReadySeatAt table.now 0 0 first }
+    requires second { IsReadySeatAt table.now 1 0 second }
+    ensures first { IsReadySeatAt table.now 0 1 result.0 × ((view result.0).others ≡ (view first).others) }
+    ensures second { IsReadySeatAt table.now 1 1 result.1 × ((view result.1).others ≡ (view second).others) }
 {
     join(
         rt,
         move ||
-            requires { IsSync R.row × IsBench table.now.table.shared.key × IsReadySeat table.now.table.shared.table_id table.now.table.shared.key.tag 0 0 first }
-            ensures { IsReadySeat table.entry.now.table.shared.table_id table.entry.now.table.shared.key.tag 0 1 result × ((view result).others ≡ (view first).others) }
+            requires { IsSync R.row × IsBench (plan_of table.now) × IsReadySeatAt table.now 0 0 first }
+            ensures { IsReadySeatAt table.entry.now 0 1 result × ((view result).others ≡ (view first).others) }
         { works(rt, table, first, 0) },
         move ||
-            requires { IsSync R.row × IsBench table.now.table.shared.key × IsReadySeat table.now.table.shared.table_id table.now.table.shared.key.tag 1 0 second }
-            ensures { IsReadySeat table.entry.now.table.shared.table_id table.entry.now.table.shared.key.tag 1 1 result × ((view result).others ≡ (view second).others) }
+            requires { IsSync R.row × IsBench (plan_of table.now) × IsReadySeatAt table.now 1 0 second }
+            ensures { IsReadySeatAt table.entry.now 1 1 result × ((view result).others ≡ (view second).others) }
         { works(rt, table, second, 1) },
     )
 }
@@ -85,10 +86,10 @@ fn end_both(
     first: RuleSeat<AnyBytes>,
     second: RuleSeat<AnyBytes>,
 ) -> RuleSeat<AnyBytes>
-    requires bench { IsBench table.now.table.shared.key }
-    requires first { IsReadySeat table.now.table.shared.table_id table.now.table.shared.key.tag 0 1 first × ((view first).others ≡ []) }
-    requires second { IsReadySeat table.now.table.shared.table_id table.now.table.shared.key.tag 1 1 second × ((view second).others ≡ []) }
-    ensures { IsSeatOf table.now.table.shared.table_id table.now.table.shared.key.tag result }
+    requires bench { IsBench (plan_of table.now) }
+    requires first { IsReadySeatAt table.now 0 1 first × ((view first).others ≡ []) }
+    requires second { IsReadySeatAt table.now 1 1 second × ((view second).others ≡ []) }
+    ensures { IsSeatAt table.now result }
 {
     let mut first = Worker {
         table,

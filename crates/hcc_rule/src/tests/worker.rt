@@ -1,9 +1,10 @@
 //! A client at a table. Between the calls of a worker its client has nothing in hand and holds no
 //! reference. Each call makes a few single steps and answers the words that they found.
 ghost use Rattle.std.specs.Prelude.{◌≡◌, ◌<◌, ◌∷◌, ◌++◌, length};
+ghost use Rattle.hcc_rule.specs.Callers.{plan_of, IsSeatAt};
 ghost use Rattle.hcc_rule.specs.Hands.{IsBench, IsReady};
 ghost use Rattle.hcc_rule.specs.Opening.{as_other};
-ghost use Rattle.hcc_rule.specs.Seats.{IsSeatOf, view};
+ghost use Rattle.hcc_rule.specs.Seats.{view};
 
 use super::AnyBytes;
 use crate::{RuleSeat, RuleTable};
@@ -31,8 +32,8 @@ pub(super) struct Worker<'a> {
     pub(super) client: u32,
     /// How many entries the client showed.
     pub(super) shown: u64,
-    ghost bench: { IsBench table.now.table.shared.key },
-    ghost seated: { IsSeatOf table.now.table.shared.table_id table.now.table.shared.key.tag seat },
+    ghost bench: { IsBench (plan_of table.now) },
+    ghost seated: { IsSeatAt table.now seat },
     ghost numbered: { (view seat).client ≡ client },
     ghost counted: { length (view seat).made ≡ shown },
 }

@@ -3,12 +3,15 @@
 ghost use Rattle.std.specs.Prelude.{◌≡◌, ◌<◌, ◌≤◌, [], IfSome, IfNone, length};
 ghost use Rattle.hcc_core.specs.declared.state.Place.TheVariants.{Granted};
 ghost use Rattle.hcc_core.specs.Steps.{new_client};
+ghost use Rattle.hcc_rule.specs.Callers.{plan_of, IsSeatAt};
 ghost use Rattle.hcc_rule.specs.Hands.{Carries, IsBench, IsReady};
-ghost use Rattle.hcc_rule.specs.Seats.{IsSeatOf, view};
+ghost use Rattle.hcc_rule.specs.Seats.{view};
 ghost use Rattle.hcc_table.specs.Handles.{HoldsOne};
 
 use super::AnyBytes;
-use crate::{Erased, Found, Placement, Visit, displacement, find, give, hide, place, visit, word};
+use crate::{
+    Erased, Found, Insertion, Visit, displacement, find, hide, insert, release, visit, word,
+};
 use hcc_rule::{Draft, Key, RuleSeat, RuleTable};
 use std::alloc::Global;
 use std::process::Abort;
@@ -29,8 +32,8 @@ pub(super) struct Caller<'a> {
     pub(super) seat: RuleSeat<AnyBytes>,
     /// How many entries the client showed.
     pub(super) shown: u64,
-    ghost bench: { IsBench table.now.table.shared.key },
-    ghost seated: { IsSeatOf table.now.table.shared.table_id table.now.table.shared.key.tag seat },
+    ghost bench: { IsBench (plan_of table.now) },
+    ghost seated: { IsSeatAt table.now seat },
     ghost numbered: { (view seat).client ≡ 0 },
     ghost counted: { length (view seat).made ≡ shown },
 }
@@ -102,7 +105,7 @@ impl Caller<'_> {
         charge: u32,
         countdown: u32,
         value: &[u8],
-    ) -> Placement
+    ) -> Insertion
         requires ready { IsReady (view self.old.seat) }
         requires charge { 0 < charge }
         requires countdown { (1 ≤ countdown) × (countdown ≤ 3) }
@@ -113,14 +116,14 @@ impl Caller<'_> {
         assert!(rt; self.shown < 100, "too many entries");
         let draft = self.draft(key, charge, countdown, None);
         self.reserve(rt, charge);
-        let placement = place(self.table, &mut self.seat, draft, value, 0, NAME);
-        if let Placement::Placed { .. } = placement {
+        let insertion = insert(self.table, &mut self.seat, draft, value, 0, NAME);
+        if let Insertion::Placed { .. } = insertion {
             self.shown += 1;
-            return placement;
+            return insertion;
         }
         self.table.waive(&mut self.seat, charge as u64);
         self.table.quit(&mut self.seat, 1);
-        placement
+        insertion
     }
 
     /// Takes what was freed from the occupancy and the usage.
@@ -155,7 +158,7 @@ impl Caller<'_> {
         ensures same { (self.new.table ≡ self.old.table) × (self.new.shown ≡ self.old.shown) }
         ensures ready { IsReady (view self.new.seat) }
     {
-        let freed = give(
+        let freed = release(
             self.table,
             &mut self.seat,
             found.slot,

@@ -6,7 +6,8 @@ ghost use Rattle.hcc_table.specs.Handles.{HoldsOne};
 
 use super::caller::{Caller, NAME};
 use crate::{
-    Found, Placement, again, find, free_taken, give, place, read_bytes, read_key, read_len, word,
+    Found, Insertion, again, find, free_taken, insert, read_bytes, read_key, read_len, release,
+    word,
 };
 use hcc_rule::Key;
 use hcc_word::layout::INVISIBLE;
@@ -39,8 +40,8 @@ impl Caller<'_> {
         assert!(rt; self.shown < 100, "too many entries");
         let draft = self.draft(key, charge, countdown, Some(NAME));
         self.reserve(rt, charge);
-        let placement = place(self.table, &mut self.seat, draft, value, 0, NAME);
-        let Placement::Placed { slot } = placement else {
+        let insertion = insert(self.table, &mut self.seat, draft, value, 0, NAME);
+        let Insertion::Placed { slot } = insertion else {
             panic!(rt; "the entry isn't placed")
         };
         self.shown += 1;
@@ -98,7 +99,7 @@ impl Caller<'_> {
     {
         let counting = again(self.table, &mut self.seat, found.slot, NAME, OTHER);
         let both = word(self.table, &mut self.seat, found.slot);
-        let freed = give(
+        let freed = release(
             self.table,
             &mut self.seat,
             found.slot,

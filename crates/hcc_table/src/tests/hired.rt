@@ -1,7 +1,8 @@
 //! A shard for tests, and the caller of its seat.
 ghost use Rattle.std.specs.Prelude.{◌≡◌, [], IfOk, length};
+ghost use Rattle.hcc_rule.specs.Callers.{plan_of, AreSeatsAt};
 ghost use Rattle.hcc_rule.specs.Hands.{IsBench, IsReady};
-ghost use Rattle.hcc_rule.specs.Seats.{AreNewSeats, view};
+ghost use Rattle.hcc_rule.specs.Seats.{view};
 
 use super::AnyBytes;
 use super::caller::{Bench, Caller};
@@ -11,8 +12,8 @@ use std::process::Abort;
 
 /// A table for one client, and its seat.
 pub(super) fn bench(alloc: Global) -> Result<(Bench, Vec<RuleSeat<AnyBytes>, Global>), AllocError>
-    ensures bench { IfOk result (λ made. IsBench made.0.table.shared.key) }
-    ensures seats { IfOk result (λ made. AreNewSeats made.0.table.shared.table_id made.0.table.shared.key.tag 0 made.1.items) }
+    ensures bench { IfOk result (λ made. IsBench (plan_of made.0)) }
+    ensures seats { IfOk result (λ made. AreSeatsAt made.0 0 made.1.items) }
     ensures count { IfOk result (λ made. length made.1.items ≡ 1) }
 {
     let sizes = Geometry {
@@ -29,8 +30,8 @@ pub(super) fn hired<'a>(
     table: &'a Bench,
     seats: &mut Vec<RuleSeat<AnyBytes>, Global>,
 ) -> Caller<'a>
-    requires new { AreNewSeats table.now.table.shared.table_id table.now.table.shared.key.tag 0 seats.old.items }
-    requires bench { IsBench table.now.table.shared.key }
+    requires new { AreSeatsAt table.now 0 seats.old.items }
+    requires bench { IsBench (plan_of table.now) }
     requires one { length seats.old.items ≡ 1 }
     ensures caller { (result.table ≡ table.entry) × (result.shown ≡ 0) }
     ensures ready { IsReady (view result.seat) }

@@ -2,7 +2,8 @@
 //! the same key, which is the worst case for threads, or each its own. `tests/measure-hits` takes the time.
 ghost use Rattle.std.specs.Prelude.{◌≡◌, ◌+◌, ◌<◌};
 ghost use Rattle.std.specs.Thread.{IsSync};
-ghost use Rattle.hcc_rule.specs.Hands.{IsReadySeat};
+ghost use Rattle.hcc_rule.specs.Callers.{plan_of};
+ghost use Rattle.hcc_rule.specs.Hands.{IsReadySeatAt};
 ghost use Rattle.hcc_table.specs.Mates.{IsPlain};
 
 use super::AnyBytes;
@@ -29,10 +30,10 @@ fn key(client: u32, apart: bool) -> Key {
 
 /// Places the entries of the keys of four clients.
 fn places(rt: &impl Abort, table: &Shard, seat: RuleSeat<AnyBytes>) -> RuleSeat<AnyBytes>
-    requires plain { IsPlain table.now.table.shared.key }
-    requires room { table.now.table.shared.key.geometry.room ≡ 2 }
-    requires ready { IsReadySeat table.now.table.shared.table_id table.now.table.shared.key.tag 0 0 seat }
-    ensures ready { IsReadySeat table.now.table.shared.table_id table.now.table.shared.key.tag 0 4 result }
+    requires plain { IsPlain (plan_of table.now) }
+    requires room { (plan_of table.now).geometry.room ≡ 2 }
+    requires ready { IsReadySeatAt table.now 0 0 seat }
+    ensures ready { IsReadySeatAt table.now 0 4 result }
 {
     let mut me = Mate {
         table,
@@ -59,9 +60,9 @@ fn hits(
     shown: u64,
     apart: bool,
 ) -> RuleSeat<AnyBytes>
-    requires plain { IsPlain table.now.table.shared.key }
-    requires ready { IsReadySeat table.now.table.shared.table_id table.now.table.shared.key.tag client shown seat }
-    ensures ready { IsReadySeat table.now.table.shared.table_id table.now.table.shared.key.tag client shown result }
+    requires plain { IsPlain (plan_of table.now) }
+    requires ready { IsReadySeatAt table.now client shown seat }
+    ensures ready { IsReadySeatAt table.now client shown result }
 {
     let mut me = Mate {
         table,
@@ -78,8 +79,8 @@ fn hits(
 
 /// Looks at the four slots: each entry has a countdown of 2 still, and no reference.
 fn looks(rt: &impl Abort, table: &Shard, seat: RuleSeat<AnyBytes>)
-    requires plain { IsPlain table.now.table.shared.key }
-    requires ready { IsReadySeat table.now.table.shared.table_id table.now.table.shared.key.tag 0 4 seat }
+    requires plain { IsPlain (plan_of table.now) }
+    requires ready { IsReadySeatAt table.now 0 4 seat }
 {
     let mut me = Mate {
         table,
@@ -103,22 +104,22 @@ fn two<R: Abort + Threads + Sync>(
     shown: u64,
     apart: bool,
 ) -> (RuleSeat<AnyBytes>, RuleSeat<AnyBytes>)
-    requires plain { IsPlain table.now.table.shared.key }
+    requires plain { IsPlain (plan_of table.now) }
     requires few { client < 1023 }
-    requires first { IsReadySeat table.now.table.shared.table_id table.now.table.shared.key.tag client shown first }
-    requires second { IsReadySeat table.now.table.shared.table_id table.now.table.shared.key.tag (client + 1) 0 second }
-    ensures first { IsReadySeat table.now.table.shared.table_id table.now.table.shared.key.tag client shown result.0 }
-    ensures second { IsReadySeat table.now.table.shared.table_id table.now.table.shared.key.tag (client + 1) 0 result.1 }
+    requires first { IsReadySeatAt table.now client shown first }
+    requires second { IsReadySeatAt table.now (client + 1) 0 second }
+    ensures first { IsReadySeatAt table.now client shown result.0 }
+    ensures second { IsReadySeatAt table.now (client + 1) 0 result.1 }
 {
     join(
         rt,
         move ||
-            requires { IsSync R.row × IsPlain table.now.table.shared.key × IsReadySeat table.now.table.shared.table_id table.now.table.shared.key.tag client shown first }
-            ensures { IsReadySeat table.entry.now.table.shared.table_id table.entry.now.table.shared.key.tag client shown result }
+            requires { IsSync R.row × IsPlain (plan_of table.now) × IsReadySeatAt table.now client shown first }
+            ensures { IsReadySeatAt table.entry.now client shown result }
         { hits(rt, table, first, client, shown, apart) },
         move ||
-            requires { IsSync R.row × (client < 1023) × IsPlain table.now.table.shared.key × IsReadySeat table.now.table.shared.table_id table.now.table.shared.key.tag (client + 1) 0 second }
-            ensures { IsReadySeat table.entry.now.table.shared.table_id table.entry.now.table.shared.key.tag (client + 1) 0 result }
+            requires { IsSync R.row × (client < 1023) × IsPlain (plan_of table.now) × IsReadySeatAt table.now (client + 1) 0 second }
+            ensures { IsReadySeatAt table.entry.now (client + 1) 0 result }
         { hits(rt, table, second, client + 1, 0, apart) },
     )
 }
@@ -133,22 +134,22 @@ fn four<R: Abort + Threads + Sync>(
     fourth: RuleSeat<AnyBytes>,
     apart: bool,
 ) -> RuleSeat<AnyBytes>
-    requires plain { IsPlain table.now.table.shared.key }
-    requires first { IsReadySeat table.now.table.shared.table_id table.now.table.shared.key.tag 0 4 first }
-    requires second { IsReadySeat table.now.table.shared.table_id table.now.table.shared.key.tag 1 0 second }
-    requires third { IsReadySeat table.now.table.shared.table_id table.now.table.shared.key.tag 2 0 third }
-    requires fourth { IsReadySeat table.now.table.shared.table_id table.now.table.shared.key.tag 3 0 fourth }
-    ensures ready { IsReadySeat table.now.table.shared.table_id table.now.table.shared.key.tag 0 4 result }
+    requires plain { IsPlain (plan_of table.now) }
+    requires first { IsReadySeatAt table.now 0 4 first }
+    requires second { IsReadySeatAt table.now 1 0 second }
+    requires third { IsReadySeatAt table.now 2 0 third }
+    requires fourth { IsReadySeatAt table.now 3 0 fourth }
+    ensures ready { IsReadySeatAt table.now 0 4 result }
 {
     let (one, _) = join(
         rt,
         move ||
-            requires { IsSync R.row × IsPlain table.now.table.shared.key × IsReadySeat table.now.table.shared.table_id table.now.table.shared.key.tag 0 4 first × IsReadySeat table.now.table.shared.table_id table.now.table.shared.key.tag 1 0 second }
-            ensures { IsReadySeat table.entry.now.table.shared.table_id table.entry.now.table.shared.key.tag 0 4 result }
+            requires { IsSync R.row × IsPlain (plan_of table.now) × IsReadySeatAt table.now 0 4 first × IsReadySeatAt table.now 1 0 second }
+            ensures { IsReadySeatAt table.entry.now 0 4 result }
         { two(rt, table, first, second, 0, 4, apart).0 },
         move ||
-            requires { IsSync R.row × IsPlain table.now.table.shared.key × IsReadySeat table.now.table.shared.table_id table.now.table.shared.key.tag 2 0 third × IsReadySeat table.now.table.shared.table_id table.now.table.shared.key.tag 3 0 fourth }
-            ensures { IsReadySeat table.entry.now.table.shared.table_id table.entry.now.table.shared.key.tag 2 0 result }
+            requires { IsSync R.row × IsPlain (plan_of table.now) × IsReadySeatAt table.now 2 0 third × IsReadySeatAt table.now 3 0 fourth }
+            ensures { IsReadySeatAt table.entry.now 2 0 result }
         { two(rt, table, third, fourth, 2, 0, apart).0 },
     );
     one

@@ -4,12 +4,13 @@ ghost use Rattle.std.specs.Prelude.{◌≡◌, ◌+◌, ◌*◌, ◌<◌, ◌≤
 ghost use Rattle.hcc_core.specs.declared.limits.TheConstants.{MOST_CLIENTS, STAMPS_PER_CLIENT};
 ghost use Rattle.hcc_core.specs.declared.state.Place.TheVariants.{Granted};
 ghost use Rattle.hcc_core.specs.Steps.{new_client};
-ghost use Rattle.hcc_rule.specs.Hands.{Carries, IsReady, IsReadySeat};
-ghost use Rattle.hcc_rule.specs.Seats.{AreNewSeats, IsSeatOf, view};
+ghost use Rattle.hcc_rule.specs.Callers.{plan_of, IsSeatAt, AreSeatsAt};
+ghost use Rattle.hcc_rule.specs.Hands.{Carries, IsReady, IsReadySeatAt};
+ghost use Rattle.hcc_rule.specs.Seats.{view};
 ghost use Rattle.hcc_table.specs.Mates.{IsPlain};
 
 use super::AnyBytes;
-use crate::{Placement, find, give, place, read_bytes, word};
+use crate::{Insertion, find, insert, read_bytes, release, word};
 use hcc_rule::{Draft, Geometry, Key, RuleSeat, RuleTable};
 use std::alloc::{AllocError, Global};
 use std::process::Abort;
@@ -39,10 +40,10 @@ pub(super) fn shard(
 ) -> Result<(Shard, Vec<RuleSeat<AnyBytes>, Global>), AllocError>
     requires clients { (1 ≤ clients) × (clients ≤ 1024) }
     requires room { (1 ≤ room) × (room ≤ 2) }
-    ensures plain { IfOk result (λ made. IsPlain made.0.table.shared.key) }
-    ensures room { IfOk result (λ made. made.0.table.shared.key.geometry.room ≡ room) }
+    ensures plain { IfOk result (λ made. IsPlain (plan_of made.0)) }
+    ensures room { IfOk result (λ made. (plan_of made.0).geometry.room ≡ room) }
     ensures count { IfOk result (λ made. length made.1.items ≡ clients) }
-    ensures seats { IfOk result (λ made. AreNewSeats made.0.table.shared.table_id made.0.table.shared.key.tag 0 made.1.items) }
+    ensures seats { IfOk result (λ made. AreSeatsAt made.0 0 made.1.items) }
 {
     let sizes = Geometry {
         slots: 16,
@@ -58,10 +59,10 @@ pub(super) fn seated(
     table: &Shard,
     seats: &mut Vec<RuleSeat<AnyBytes>, Global>,
 ) -> RuleSeat<AnyBytes>
-    requires new { AreNewSeats table.now.table.shared.table_id table.now.table.shared.key.tag 0 seats.old.items }
-    ensures rest { AreNewSeats table.now.table.shared.table_id table.now.table.shared.key.tag 0 seats.new.items }
+    requires new { AreSeatsAt table.now 0 seats.old.items }
+    ensures rest { AreSeatsAt table.now 0 seats.new.items }
     ensures count { length seats.new.items + 1 ≡ length seats.old.items }
-    ensures ready { IsReadySeat table.now.table.shared.table_id table.now.table.shared.key.tag (length seats.new.items) 0 result }
+    ensures ready { IsReadySeatAt table.now (length seats.new.items) 0 result }
 {
     seats.pop().expect(rt, "no seat is left")
 }
@@ -74,8 +75,8 @@ pub(super) struct Mate<'a> {
     pub(super) client: u32,
     /// How many entries the client showed.
     pub(super) shown: u64,
-    ghost plain: { IsPlain table.now.table.shared.key },
-    ghost seated: { IsSeatOf table.now.table.shared.table_id table.now.table.shared.key.tag seat },
+    ghost plain: { IsPlain (plan_of table.now) },
+    ghost seated: { IsSeatAt table.now seat },
     ghost numbered: { (view seat).client ≡ client },
     ghost counted: { length (view seat).made ≡ shown },
 }
@@ -107,7 +108,7 @@ impl Mate<'_> {
         requires ready { IsReady (view self.old.seat) }
         requires client { self.old.client < MOST_CLIENTS }
         requires shown { self.old.shown < STAMPS_PER_CLIENT }
-        requires short { length value.now ≤ 8 * self.old.table.now.table.shared.key.geometry.room }
+        requires short { length value.now ≤ 8 * (plan_of self.old.table.now).geometry.room }
         ensures same { (self.new.table ≡ self.old.table) × (self.new.client ≡ self.old.client) × (self.new.shown ≡ self.old.shown + 1) }
         ensures ready { IsReady (view self.new.seat) }
     {
@@ -119,9 +120,9 @@ impl Mate<'_> {
             countdown: 2,
             name: None,
         };
-        let placement = place(self.table, &mut self.seat, draft, value, self.client, NAME);
-        match placement {
-            Placement::Placed { slot } => {
+        let insertion = insert(self.table, &mut self.seat, draft, value, self.client, NAME);
+        match insertion {
+            Insertion::Placed { slot } => {
                 self.shown += 1;
                 slot
             }
@@ -139,7 +140,7 @@ impl Mate<'_> {
         let found = found.expect(rt, "the key has no entry");
         let mut bytes = [0; 16];
         let length = read_bytes(self.table, &mut self.seat, found.slot, NAME, &mut bytes);
-        let freed = give(
+        let freed = release(
             self.table,
             &mut self.seat,
             found.slot,

@@ -1,7 +1,7 @@
 //! The words that stand after calls. A meta word is `acquires + releases·2^30 + hit·2^60 + state·2^61`.
 use super::held::UNREAD;
 use super::hired::{bench, hired};
-use crate::{Erased, Found, Placement, Visit};
+use crate::{Erased, Found, Insertion, Visit};
 use hcc_rule::Key;
 use hcc_word::refs;
 use std::alloc::AllocError;
@@ -44,7 +44,7 @@ fn a_new_word_tells_the_countdown(rt: HostRuntime) -> Result<(), AllocError> {
     let mut me = hired(&rt, &table, &mut seats);
     for (countdown, alone, held) in COUNTDOWNS {
         let placed = me.insert(&rt, FIRST, 200, countdown, &[]);
-        assert_eq!(rt; placed, Placement::Placed { slot: 1 });
+        assert_eq!(rt; placed, Insertion::Placed { slot: 1 });
         assert_eq!(rt; me.word(1), alone);
         assert_eq!(rt; me.totals(), [200, 1]);
         assert_eq!(rt; me.evict(&rt, 1), 200);
@@ -74,7 +74,7 @@ fn a_find_is_a_use_where_its_give_is_useful(rt: HostRuntime) -> Result<(), Alloc
     let mut me = hired(&rt, &table, &mut seats);
     for (marks, useful, held, left) in rows {
         let placed = me.insert(&rt, FIRST, 200, 2, &[]);
-        assert_eq!(rt; placed, Placement::Placed { slot: 1 });
+        assert_eq!(rt; placed, Insertion::Placed { slot: 1 });
         let found = me.find(FIRST, marks).expect(&rt, "the entry is not found");
         let there = Found {
             slot: 1,
@@ -96,9 +96,9 @@ fn a_displacement_lasts_as_long_as_its_entry(rt: HostRuntime) -> Result<(), Allo
     let (table, mut seats) = bench(rt.alloc())?;
     let mut me = hired(&rt, &table, &mut seats);
     let first = me.insert(&rt, FIRST, 10, 2, &[]);
-    assert_eq!(rt; first, Placement::Placed { slot: 1 });
+    assert_eq!(rt; first, Insertion::Placed { slot: 1 });
     let second = me.insert(&rt, SECOND, 10, 2, &[]);
-    assert_eq!(rt; second, Placement::Placed { slot: 4 });
+    assert_eq!(rt; second, Insertion::Placed { slot: 4 });
     assert_eq!(rt; me.displacement(1), 1);
     assert!(rt; me.misses(ABSENT));
     assert_eq!(rt; [me.word(1), me.word(4)], [0xe000_0000_8000_0002; 2]);
@@ -116,11 +116,11 @@ fn a_slot_counts_each_trail(rt: HostRuntime) -> Result<(), AllocError> {
     let (table, mut seats) = bench(rt.alloc())?;
     let mut me = hired(&rt, &table, &mut seats);
     let first = me.insert(&rt, FIRST, 10, 2, &[]);
-    assert_eq!(rt; first, Placement::Placed { slot: 1 });
+    assert_eq!(rt; first, Insertion::Placed { slot: 1 });
     let second = me.insert(&rt, SECOND, 10, 2, &[]);
-    assert_eq!(rt; second, Placement::Placed { slot: 4 });
+    assert_eq!(rt; second, Insertion::Placed { slot: 4 });
     let third = me.insert(&rt, THIRD, 10, 2, &[]);
-    assert_eq!(rt; third, Placement::Placed { slot: 6 });
+    assert_eq!(rt; third, Insertion::Placed { slot: 6 });
     for slot in 0..8 {
         let count = me.displacement(slot);
         assert!(rt; count == if slot == 1 { 2 } else { 0 });
@@ -144,8 +144,8 @@ fn the_clock_counts_down_and_frees(rt: HostRuntime) -> Result<(), AllocError> {
     let (table, mut seats) = bench(rt.alloc())?;
     let mut me = hired(&rt, &table, &mut seats);
     let first = me.insert(&rt, FIRST, 200, 2, &[]);
-    assert_eq!(rt; first, Placement::Placed { slot: 1 });
-    assert_eq!(rt; me.insert(&rt, FIRST, 200, 2, &[]), Placement::Matched);
+    assert_eq!(rt; first, Insertion::Placed { slot: 1 });
+    assert_eq!(rt; me.insert(&rt, FIRST, 200, 2, &[]), Insertion::Matched);
     assert_eq!(rt; me.word(1), 0xe000_0001_0000_0004);
     assert_eq!(rt; me.totals(), [200, 1]);
     for (done, left) in visits {

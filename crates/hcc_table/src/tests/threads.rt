@@ -1,8 +1,8 @@
 //! Two clients on two threads: in every order of their steps all entries are placed and found.
 ghost use Rattle.std.specs.Prelude.{◌≡◌, ◌<◌, ◌≤◌};
 ghost use Rattle.std.specs.Thread.{IsSync};
-ghost use Rattle.hcc_rule.specs.Hands.{IsReadySeat};
-ghost use Rattle.hcc_rule.specs.Seats.{IsSeatOf};
+ghost use Rattle.hcc_rule.specs.Callers.{plan_of, IsSeatAt};
+ghost use Rattle.hcc_rule.specs.Hands.{IsReadySeatAt};
 ghost use Rattle.hcc_table.specs.Mates.{IsPlain};
 
 use super::AnyBytes;
@@ -31,11 +31,11 @@ fn places(
     client: u32,
     first: u8,
 ) -> RuleSeat<AnyBytes>
-    requires plain { IsPlain table.now.table.shared.key }
+    requires plain { IsPlain (plan_of table.now) }
     requires client { client < 1024 }
     requires first { first ≤ 4 }
-    requires ready { IsReadySeat table.now.table.shared.table_id table.now.table.shared.key.tag client 0 seat }
-    ensures ready { IsReadySeat table.now.table.shared.table_id table.now.table.shared.key.tag client 4 result }
+    requires ready { IsReadySeatAt table.now client 0 seat }
+    ensures ready { IsReadySeatAt table.now client 4 result }
 {
     let mut me = Mate {
         table,
@@ -61,9 +61,9 @@ fn finds(
     seat: RuleSeat<AnyBytes>,
     client: u32,
 ) -> RuleSeat<AnyBytes>
-    requires plain { IsPlain table.now.table.shared.key }
-    requires ready { IsReadySeat table.now.table.shared.table_id table.now.table.shared.key.tag client 4 seat }
-    ensures ready { IsReadySeat table.now.table.shared.table_id table.now.table.shared.key.tag client 4 result }
+    requires plain { IsPlain (plan_of table.now) }
+    requires ready { IsReadySeatAt table.now client 4 seat }
+    ensures ready { IsReadySeatAt table.now client 4 result }
 {
     let mut me = Mate {
         table,
@@ -91,21 +91,21 @@ fn both_place<R: Abort + Threads + Sync>(
     first: RuleSeat<AnyBytes>,
     second: RuleSeat<AnyBytes>,
 ) -> (RuleSeat<AnyBytes>, RuleSeat<AnyBytes>)
-    requires plain { IsPlain table.now.table.shared.key }
-    requires first { IsReadySeat table.now.table.shared.table_id table.now.table.shared.key.tag 0 0 first }
-    requires second { IsReadySeat table.now.table.shared.table_id table.now.table.shared.key.tag 1 0 second }
-    ensures first { IsReadySeat table.now.table.shared.table_id table.now.table.shared.key.tag 0 4 result.0 }
-    ensures second { IsReadySeat table.now.table.shared.table_id table.now.table.shared.key.tag 1 4 result.1 }
+    requires plain { IsPlain (plan_of table.now) }
+    requires first { IsReadySeatAt table.now 0 0 first }
+    requires second { IsReadySeatAt table.now 1 0 second }
+    ensures first { IsReadySeatAt table.now 0 4 result.0 }
+    ensures second { IsReadySeatAt table.now 1 4 result.1 }
 {
     join(
         rt,
         move ||
-            requires { IsSync R.row × IsPlain table.now.table.shared.key × IsReadySeat table.now.table.shared.table_id table.now.table.shared.key.tag 0 0 first }
-            ensures { IsReadySeat table.entry.now.table.shared.table_id table.entry.now.table.shared.key.tag 0 4 result }
+            requires { IsSync R.row × IsPlain (plan_of table.now) × IsReadySeatAt table.now 0 0 first }
+            ensures { IsReadySeatAt table.entry.now 0 4 result }
         { places(rt, table, first, 0, 0) },
         move ||
-            requires { IsSync R.row × IsPlain table.now.table.shared.key × IsReadySeat table.now.table.shared.table_id table.now.table.shared.key.tag 1 0 second }
-            ensures { IsReadySeat table.entry.now.table.shared.table_id table.entry.now.table.shared.key.tag 1 4 result }
+            requires { IsSync R.row × IsPlain (plan_of table.now) × IsReadySeatAt table.now 1 0 second }
+            ensures { IsReadySeatAt table.entry.now 1 4 result }
         { places(rt, table, second, 1, 4) },
     )
 }
@@ -117,21 +117,21 @@ fn both_find<R: Abort + Threads + Sync>(
     first: RuleSeat<AnyBytes>,
     second: RuleSeat<AnyBytes>,
 ) -> (RuleSeat<AnyBytes>, RuleSeat<AnyBytes>)
-    requires plain { IsPlain table.now.table.shared.key }
-    requires first { IsReadySeat table.now.table.shared.table_id table.now.table.shared.key.tag 0 4 first }
-    requires second { IsReadySeat table.now.table.shared.table_id table.now.table.shared.key.tag 1 4 second }
-    ensures first { IsReadySeat table.now.table.shared.table_id table.now.table.shared.key.tag 0 4 result.0 }
-    ensures second { IsReadySeat table.now.table.shared.table_id table.now.table.shared.key.tag 1 4 result.1 }
+    requires plain { IsPlain (plan_of table.now) }
+    requires first { IsReadySeatAt table.now 0 4 first }
+    requires second { IsReadySeatAt table.now 1 4 second }
+    ensures first { IsReadySeatAt table.now 0 4 result.0 }
+    ensures second { IsReadySeatAt table.now 1 4 result.1 }
 {
     join(
         rt,
         move ||
-            requires { IsSync R.row × IsPlain table.now.table.shared.key × IsReadySeat table.now.table.shared.table_id table.now.table.shared.key.tag 0 4 first }
-            ensures { IsReadySeat table.entry.now.table.shared.table_id table.entry.now.table.shared.key.tag 0 4 result }
+            requires { IsSync R.row × IsPlain (plan_of table.now) × IsReadySeatAt table.now 0 4 first }
+            ensures { IsReadySeatAt table.entry.now 0 4 result }
         { finds(rt, table, first, 0) },
         move ||
-            requires { IsSync R.row × IsPlain table.now.table.shared.key × IsReadySeat table.now.table.shared.table_id table.now.table.shared.key.tag 1 4 second }
-            ensures { IsReadySeat table.entry.now.table.shared.table_id table.entry.now.table.shared.key.tag 1 4 result }
+            requires { IsSync R.row × IsPlain (plan_of table.now) × IsReadySeatAt table.now 1 4 second }
+            ensures { IsReadySeatAt table.entry.now 1 4 result }
         { finds(rt, table, second, 1) },
     )
 }
@@ -142,9 +142,9 @@ fn end_both(
     mut first: RuleSeat<AnyBytes>,
     second: RuleSeat<AnyBytes>,
 ) -> RuleSeat<AnyBytes>
-    requires first { IsReadySeat table.now.table.shared.table_id table.now.table.shared.key.tag 0 4 first }
-    requires second { IsReadySeat table.now.table.shared.table_id table.now.table.shared.key.tag 1 4 second }
-    ensures { IsSeatOf table.now.table.shared.table_id table.now.table.shared.key.tag result }
+    requires first { IsReadySeatAt table.now 0 4 first }
+    requires second { IsReadySeatAt table.now 1 4 second }
+    ensures { IsSeatAt table.now result }
 {
     table.join(&mut first, second);
     first

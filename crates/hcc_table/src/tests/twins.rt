@@ -9,7 +9,9 @@ ghost use Rattle.hcc_table.specs.Handles.{HoldsOne, HoldsTwo, IsHandle};
 
 use super::caller::{Caller, LIMIT, NAME};
 use super::held::OTHER;
-use crate::{Erased, Found, Placement, Visit, find, give, hide, place, read_bytes, visit, word};
+use crate::{
+    Erased, Found, Insertion, Visit, find, hide, insert, read_bytes, release, visit, word,
+};
 use hcc_rule::Key;
 use std::process::Abort;
 
@@ -73,8 +75,8 @@ impl Caller<'_> {
         assert!(rt; self.shown < 100, "too many entries");
         let draft = self.draft(key, charge, 2, Some(OTHER));
         self.reserve_held(rt, found, charge);
-        let placement = place(self.table, &mut self.seat, draft, value, 0, OTHER);
-        let Placement::Placed { slot } = placement else {
+        let insertion = insert(self.table, &mut self.seat, draft, value, 0, OTHER);
+        let Insertion::Placed { slot } = insertion else {
             panic!(rt; "the entry isn't placed")
         };
         self.shown += 1;
@@ -112,7 +114,7 @@ impl Caller<'_> {
         let held = word(self.table, &mut self.seat, third.slot);
         let mut buffer = [0; 16];
         read_bytes(self.table, &mut self.seat, third.slot, THIRD, &mut buffer);
-        let freed = give(
+        let freed = release(
             self.table,
             &mut self.seat,
             third.slot,
@@ -150,7 +152,7 @@ impl Caller<'_> {
         ensures same { (self.new.table ≡ self.old.table) × (self.new.shown ≡ self.old.shown) }
         ensures holds { HoldsOne one.slot NAME one.counting (view self.new.seat) }
     {
-        let freed = give(
+        let freed = release(
             self.table,
             &mut self.seat,
             two.slot,

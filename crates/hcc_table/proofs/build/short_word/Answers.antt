@@ -1,5 +1,5 @@
 use Rattle.std.proofs.Common.{◌∙◌, length}
-use Rattle.hcc_table.proofs.PlacesWords.{word_copied}
+use Rattle.hcc_table.proofs.InsertsWords.{word_copied}
 use Rattle.hcc_table.proofs.build.short_word.Goals as goal
 
 pub returns : goal.returns

@@ -1,5 +1,5 @@
 use Rattle.std.proofs.Common.{arith}
-use Rattle.hcc_table.proofs.PlacesWords.{writes_none, still_seat, still_builds, next_word, writes_more, writes_all}
+use Rattle.hcc_table.proofs.InsertsWords.{writes_none, still_seat, still_builds, next_word, writes_more, writes_all}
 use Rattle.hcc_table.proofs.build.write_payload.Goals as goal
 
 pub loop-k-init : goal.loop-k-init

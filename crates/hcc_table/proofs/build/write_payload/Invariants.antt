@@ -1,4 +1,4 @@
-use Rattle.hcc_table.proofs.PlacesWords.{IsWriting}
+use Rattle.hcc_table.proofs.InsertsWords.{IsWriting}
 use Rattle.hcc_table.proofs.build.write_payload.Given as goal
 
 abbrev pub invariant-loop-k : goal.invariant-loop-k

@@ -8,7 +8,7 @@ loop-init g c =
     let table = c.args.table.now in
     let told = c.begin-walk.ensures in
     hides_none table.geometry.slots c.args.key table.limits.power c.begin-walk.result (record { hidden = 0; slots = 0; charge = 0 })
-    c.args.seat.now c.requires.idle told.place told.stride (rw (← c.geometry-slots.ensures) told.mask) refl
+    c.args.seat.now c.requires.idle told.probe told.stride (rw (← c.geometry-slots.ensures) told.mask) refl
 
 pub returns-then-count-eq0-clause-view : goal.returns-then-count-eq0-clause-view
 returns-then-count-eq0-clause-view g c =
@@ -41,7 +41,7 @@ loop-preserved g c =
     c.loop.all c.hide_at-here.result c.with-all.result c.args.seat.now c.loop.seat c.loop.invariant c.slot-slot.ensures
     c.hide_at-here.new.seat c.count.new.seat here.seat told.seat here.view here.dead here.few
     (all.hidden, all.slots, all.charge) told.view told.held told.within
-    c.next-walk.result next.place next.stride next.mask
+    c.next-walk.result next.probe next.stride next.mask
 
 pub returns-clause-dead : goal.returns-clause-dead
 returns-clause-dead g c =

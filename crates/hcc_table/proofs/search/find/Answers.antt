@@ -10,7 +10,7 @@ loop-init g c =
     let size = c.geometry-slots.ensures in
     let told = c.begin-walk.ensures in
     begins c.args.table.now.geometry.slots c.args.key c.args.table.now.limits.power c.begin-walk.result c.args.seat.now
-    told.place told.stride (rw (← size) told.mask)
+    told.probe told.stride (rw (← size) told.mask)
 
 pub returns-then-count-eq0-clause-missed : goal.returns-then-count-eq0-clause-missed
 returns-then-count-eq0-clause-missed g c =
@@ -29,7 +29,7 @@ loop-preserved g c =
     goes_on table.geometry.slots c.args.key table.limits.power c.loop.counter c.count.result c.slot-slot.result c.loop.walk
     c.args.seat.now c.loop.seat c.loop.invariant c.slot-slot.ensures c.hold.new.seat c.count.new.seat
     c.hold.ensures.seat told.seat (c.in_default.ensures.missed) told.view told.held told.within
-    c.next-walk.result next.place next.stride next.mask
+    c.next-walk.result next.probe next.stride next.mask
 
 pub returns-clause-missed : goal.returns-clause-missed
 returns-clause-missed g c =

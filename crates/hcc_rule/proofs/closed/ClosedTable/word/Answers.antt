@@ -3,4 +3,4 @@ use Rattle.hcc_rule.proofs.Closings.{word_read}
 use Rattle.hcc_rule.proofs.closed.ClosedTable.word.Goals as goal
 
 pub returns : goal.returns
-returns g c = sym (word_read _ c.args.place c.word.result c.word.ensures)
+returns g c = sym (word_read _ c.args.address c.word.result c.word.ensures)

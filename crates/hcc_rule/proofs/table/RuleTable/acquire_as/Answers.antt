@@ -9,9 +9,9 @@ fetch_add-requires g c =
     let said = c.requires.said in
     let weight = c.requires.weight in (
       seat.table,
-      c.place.ensures.inside,
+      c.address.ensures.inside,
       rw (said.2) (rw (← planned.0) (acquire_step g.T.Tag.fits c.args.self.now.table.shared.key _ _ g.J.Said.slot _ c.args.weight g.J.Said.name _
-          (rw (said.0, planned.0) c.requires.slot) (ap is_some seat.tagged) (rw (said.0, planned.0) c.place.ensures.value)
+          (rw (said.0, planned.0) c.requires.slot) (ap is_some seat.tagged) (rw (said.0, planned.0) c.address.ensures.value)
           weight.0 weight.1 (rw said.1 c.ranges.name.fits)
           (rw said.1 c.requires.fresh) (rw said.0 c.requires.reach) c.requires.load)),
     )

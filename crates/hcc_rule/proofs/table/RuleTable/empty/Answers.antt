@@ -7,8 +7,8 @@ store-requires g c =
     let planned = c.args.self.now.planned in
     let seat = c.requires.seat in (
       seat.table,
-      c.place.ensures.inside,
+      c.address.ensures.inside,
       empty_step g.T.Tag.fits c.args.self.now.table.shared.key _ _ c.args.slot _ _
           (rw planned.0 c.requires.slot) (ap is_some seat.tagged) c.requires.owned c.requires.back
-          (rw planned.0 c.place.ensures.value),
+          (rw planned.0 c.address.ensures.value),
     )

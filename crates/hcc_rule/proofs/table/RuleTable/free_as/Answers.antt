@@ -8,9 +8,9 @@ compare_exchange-requires g c =
     let seat = c.requires.seat in
     let said = c.requires.said in (
       seat.table,
-      c.place.ensures.inside,
+      c.address.ensures.inside,
       rw (said.2, said.3, ← planned.0) (free_step g.T.Tag.fits c.args.self.now.table.shared.key _ _ g.J.Taking.slot _ _ g.J.Taking.name _
           (rw (said.0, planned.0) c.requires.slot) (ap is_some seat.tagged)
-          (rw (said.0, planned.0) c.place.ensures.value) c.requires.entry (rw (said.0, said.1) c.requires.last)
+          (rw (said.0, planned.0) c.address.ensures.value) c.requires.entry (rw (said.0, said.1) c.requires.last)
           c.requires.idle.0 c.requires.idle.1 c.requires.space),
     )

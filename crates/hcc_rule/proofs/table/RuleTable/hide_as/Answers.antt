@@ -8,8 +8,8 @@ fetch_and-requires g c =
     let seat = c.requires.seat in
     let said = c.requires.said in (
       seat.table,
-      c.place.ensures.inside,
+      c.address.ensures.inside,
       hide_step g.T.Tag.fits c.args.self.now.table.shared.key _ _ g.J.Said.slot g.J.Said.name _ _
-          (ap is_some seat.tagged) (rw said.1 c.ranges.name.fits) (rw (said.0, planned.0) c.place.ensures.value)
+          (ap is_some seat.tagged) (rw said.1 c.ranges.name.fits) (rw (said.0, planned.0) c.address.ensures.value)
           (rw (said.1, said.0) c.requires.holds),
     )

@@ -9,8 +9,8 @@ load-requires g c =
     let seat = c.requires.seat in
     let said = c.requires.said in (
       seat.table,
-      c.place.ensures.inside,
+      c.address.ensures.inside,
       read_own_step g.T.Tag.fits c.args.self.now.table.shared.key _ _ c.args.slot g.J.Said.index _ _
           c.requires.owned (ap is_some seat.tagged)
-          (rw (planned.0, said) (c.place.ensures.value ∙ sym (data_field _ c.args.slot c.args.index))),
+          (rw (planned.0, said) (c.address.ensures.value ∙ sym (data_field _ c.args.slot c.args.index))),
     )

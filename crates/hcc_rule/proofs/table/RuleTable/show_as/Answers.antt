@@ -8,9 +8,9 @@ store-requires g c =
     let seat = c.requires.seat in
     let said = c.requires.said in (
       seat.table,
-      c.place.ensures.inside,
+      c.address.ensures.inside,
       show_step g.T.Tag.fits c.args.self.now.table.shared.key _ _ g.J.Drafted.slot c.args.draft.countdown _ _
           g.J.Drafted.name g.J.Drafted.made _ (rw (said.0, planned.0) c.requires.slot) (ap is_some seat.tagged)
           (rw (said.0, said.1, said.2) c.requires.may) (rw (said.1, ← c.is_some.ensures) c.started-word.ensures.entry)
-          (rw (said.0, planned.0) c.place.ensures.value),
+          (rw (said.0, planned.0) c.address.ensures.value),
     )

@@ -8,9 +8,9 @@ fetch_sub-requires g c =
     let seat = c.requires.seat in
     let said = c.requires.said in (
       seat.table,
-      c.place.ensures.inside,
+      c.address.ensures.inside,
       unpass_step g.T.Tag.fits c.args.self.now.table.shared.key _ _ g.J.Said.slot _ _
           (rw (said, planned.0) c.requires.slot) (ap is_some seat.tagged)
-          (rw (said, planned.0) c.place.ensures.value)
+          (rw (said, planned.0) c.address.ensures.value)
           (rw said c.requires.passed),
     )

@@ -9,9 +9,9 @@ store-requires g c =
     let seat = c.requires.seat in
     let next = c.requires.next in (
       seat.table,
-      c.place.ensures.inside,
+      c.address.ensures.inside,
       write_step g.T.Tag.fits c.args.self.now.table.shared.key _ _ c.args.slot _ _ _
           (rw planned.0 c.requires.slot) (ap is_some seat.tagged) c.requires.owned
           (rw (planned.0, ← next.0) next.1)
-          (rw (planned.0, ← next.0) (c.place.ensures.value ∙ sym (data_field _ c.args.slot c.args.index))),
+          (rw (planned.0, ← next.0) (c.address.ensures.value ∙ sym (data_field _ c.args.slot c.args.index))),
     )

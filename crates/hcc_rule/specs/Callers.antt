@@ -1,0 +1,55 @@
+-- What callers say of a table, by its public value alone, and of the view of a seat at it.
+use Rattle.std.specs.Prelude.{◌≡◌, ℕ, ◌+◌, ◌^◌, ◌<◌, ◌≤◌, true, Bool, List, [], IsSomeAnd}
+use Rattle.hcc_core.specs.Steps.{owns_nothing}
+use Rattle.hcc_rule.specs.declared.geometry.Geometry.{Geometry}
+use Rattle.hcc_rule.specs.declared.rule.Plan.{Plan}
+use Rattle.hcc_rule.specs.declared.table.RuleTable.{RuleTable}
+use Rattle.hcc_rule.specs.declared.view.View.{View}
+use Rattle.hcc_rule.specs.Seats.{SeatOf, IsSeatOf, AreNewSeats}
+use Rattle.hcc_rule.specs.Views.{record_in}
+
+module _ {T A : Type 0} where
+  -- its sizes, its rule of capacity and its tag
+  abbrev pub plan_of : RuleTable T A → Plan T
+  plan_of table = table.table.shared.key
+
+  abbrev pub geometry_of : RuleTable T A → Geometry
+  geometry_of table = table.geometry
+
+  abbrev pub capacity_of : RuleTable T A → ℕ
+  capacity_of table = table.capacity
+
+  abbrev pub is_strict : RuleTable T A → Bool
+  is_strict table = table.strict
+
+  abbrev pub slots_of : RuleTable T A → ℕ
+  slots_of table = table.geometry.slots
+
+  abbrev pub room_of : RuleTable T A → ℕ
+  room_of table = table.geometry.room
+
+  abbrev pub clients_of : RuleTable T A → ℕ
+  clients_of table = table.geometry.clients
+
+  -- a seat at this table that stands for a client
+  abbrev pub IsSeatAt : RuleTable T A → SeatOf T → Type 0
+  IsSeatAt table seat = IsSeatOf table.table.shared.table_id table.table.shared.key.tag seat
+
+  -- the seats of this table's clients, as it was made, from this client on
+  abbrev pub AreSeatsAt : RuleTable T A → ℕ → List (SeatOf T) → Type 0
+  AreSeatsAt table client seats =
+      AreNewSeats table.table.shared.table_id table.table.shared.key.tag client seats
+
+  -- a slot of this table
+  abbrev pub IsSlotOf : RuleTable T A → ℕ → Type 0
+  IsSlotOf table slot = slot < table.geometry.slots
+
+module _ {T : Type 0} where
+  -- the client may free an entry: it owns no slot, has no trail, and space for one more charge
+  abbrev pub MayFree : View T → Type 0
+  MayFree v =
+      (owns_nothing v.work.owned ≡ true) × (v.work.trail ≡ []) × (v.work.freed + 2 ^ 32 ≤ 2 ^ 49)
+
+  -- the client has a record of this name on this slot
+  abbrev pub HasOn : (slot name : ℕ) → View T → Type 0
+  HasOn slot name v = IsSomeAnd (record_in name v.records) (λ r. r.slot ≡ slot)

@@ -1,0 +1,91 @@
+-- What the tries of slots leave of a view, put together.
+use Rattle.std.proofs.Common.{◌≡◌, ℕ, ◌+◌, ◌++◌, false, List, [], ◌∷◌, sym, refl, ap, ◌∙◌, append_assoc, arith}
+use Rattle.hcc_word.specs.Word.{is_empty}
+use Rattle.hcc_rule.specs.declared.view.View.{View}
+use Rattle.hcc_rule.specs.Told.{after_look, found_dead}
+use Rattle.hcc_rule.specs.ToldOwners.{after_occupy}
+use Rattle.hcc_rule.specs.ToldTrails.{after_pass}
+use Rattle.hcc_table.specs.Inserted.{Tried, with_trail}
+use Rattle.hcc_table.specs.Searched.{Sought}
+use Rattle.hcc_table.proofs.Searches.{grows_joined, no_more}
+
+module _ {T : Type 0} where
+  pub tried_refl : (v : View T) → Tried v v
+  tried_refl v = record { same = refl; dead = λ stamp h. h; met = ([], no_more v.met); saw = omega arith }
+
+  -- one after the other
+  pub tried_then : (u v w : View T) → Tried u v → Tried v w → Tried u w
+  tried_then u v w a b = record {
+    same = b.same ∙ ap (λ (z : View T). record z { work = record z.work { looked = w.work.looked; dead = w.work.dead }; met = w.met; saw = w.saw }) a.same;
+    dead = λ stamp h. b.dead stamp (a.dead stamp h);
+    met = (a.met.0 ++ b.met.0, b.met.1 ∙ (ap (λ z. z ++ b.met.0) a.met.1 ∙ append_assoc u.met a.met.0 b.met.0));
+    saw = omega (arith, a.saw, b.saw);
+  }
+
+  -- a search is one that tries no slot
+  pub tried_sought : (v w : View T) → Sought v w → Tried v w
+  tried_sought v w h = record {
+    same = h.searched.same ∙ rw (h.records, ← saw) refl;
+    dead = h.searched.dead;
+    met = h.searched.met;
+    saw = omega (arith, saw);
+  }
+    where
+      saw : w.saw ≡ v.saw
+      saw = ap (λ (z : View T). z.saw) h.searched.same
+
+  -- the try of a slot that isn't empty
+  pub tried_slot : (slot word : ℕ) (v w : View T) → is_empty word ≡ false → w ≡ after_occupy slot word v
+      → Tried v w × (w.saw ≡ v.saw + 1)
+  tried_slot slot word v w taken tells = (
+    record {
+      same = rw same refl;
+      dead = rw same (λ stamp h. grows_joined v.work.dead (found_dead slot word v) stamp h);
+      met = ([], ap (λ (z : View T). z.met) same ∙ no_more v.met);
+      saw = omega (arith, saw);
+    },
+    saw,
+  )
+    where
+      same : w ≡ record (after_look slot word v) { saw = v.saw + 1 }
+      same = tells ∙ rw taken refl
+
+      saw : w.saw ≡ v.saw + 1
+      saw = ap (λ (z : View T). z.saw) same
+
+  -- the try of a slot that isn't empty, and a search there
+  pub tried_there : (slot word : ℕ) (v a w : View T) → is_empty word ≡ false → a ≡ after_occupy slot word v
+      → Sought a w → Tried v w × (w.saw ≡ v.saw + 1)
+  tried_there slot word v a w taken tells sought =
+      let first = tried_slot slot word v a taken tells in (
+        tried_then v a w first.0 (tried_sought a w sought),
+        ap (λ (z : View T). z.saw) sought.searched.same ∙ first.1,
+      )
+
+  module _ (trail : List ℕ) (v w : View T) (h : Tried (with_trail trail v) w) where
+    -- the trail that a client has then
+    pub trail_is : w.work.trail ≡ trail
+    trail_is = ap (λ (z : View T). z.work.trail) h.same
+
+    -- a place more is passed
+    pub tried_pass : (slot : ℕ) (more : List ℕ) (new : View T) → new ≡ after_pass slot w → more ≡ trail ++ slot ∷ []
+        → Tried (with_trail more v) new
+    tried_pass slot more new passed is = rw (is, passed) record {
+      same = ap (after_pass slot) h.same;
+      dead = h.dead;
+      met = h.met;
+      saw = h.saw;
+    }
+
+    -- the trail is taken back
+    pub tried_back : (new : View T) → v.work.trail ≡ [] → new ≡ with_trail [] w → Tried v new
+    tried_back new none back = rw back record {
+      same = ap (with_trail []) h.same ∙ ap (λ (z : List ℕ). record v {
+        work = record v.work { looked = w.work.looked; dead = w.work.dead; trail = z };
+        met = w.met;
+        saw = w.saw;
+      }) (sym none);
+      dead = h.dead;
+      met = h.met;
+      saw = h.saw;
+    }

@@ -1,0 +1,18 @@
+use Rattle.std.proofs.Common.{sym}
+use Rattle.hcc_rule.specs.Seats.{view}
+use Rattle.hcc_table.specs.Searched.{Sought}
+use Rattle.hcc_table.proofs.Searches.{searched_refl}
+use Rattle.hcc_table.proofs.Inserts.{tried_there}
+use Rattle.hcc_table.proofs.inserting.insert_at.Goals as goal
+use Rattle.hcc_table.proofs.inserting.insert_at.Goals.{else-is_shown-via-then-is_shown+else-meet, else-is_shown-via-else-is_shown}
+
+pub returns-clause-view : goal.returns-clause-view
+returns-clause-view g c =
+    tried_there c.args.slot c.occupy-found.result c.args.seat.now.me.0 c.occupy-found.new.seat.me.0 c.else-is_shown.seat.me.0
+    (sym c.if-is_free.ensures) c.occupy-found.ensures.view kept
+  where
+    kept : Sought (view c.occupy-found.new.seat) (view c.else-is_shown.seat)
+    kept = elim c.else-is_shown.branch [
+      | else-is_shown-via-then-is_shown+else-meet w ↦ rw w.seat-is w.meet.ensures.view
+      | else-is_shown-via-else-is_shown w ↦ rw w.seat-is (searched_refl (view c.occupy-found.new.seat))
+    ]

@@ -1,9 +1,0 @@
-use Rattle.std.proofs.Common.{◌-◌}
-use Rattle.hcc_table.proofs.PlacesTries.{IsTrying}
-use Rattle.hcc_table.proofs.placing.place.Given as goal
-
-abbrev pub invariant-loop-slot : goal.invariant-loop-slot
-invariant-loop-slot g l = IsTrying l.table.geometry.slots l.draft.key l.passed l.walk l.fn.seat l.seat
-
-abbrev pub decreases-loop-slot : goal.decreases-loop-slot
-decreases-loop-slot g l = l.table.geometry.slots - l.passed

@@ -1,0 +1,64 @@
+-- What a client needs to place an entry, and what that leaves of its view.
+use Rattle.std.specs.Prelude.{◌≡◌, ℕ, ◌+◌, ◌<◌, ◌≤◌, List, [], ◌∷◌, ◌++◌, None, IfSome, length}
+use Rattle.hcc_core.specs.declared.limits.TheConstants.{MOST_CLIENTS, MOST_COUNTDOWN, REFERENCES_PER_CLIENT, STAMPS_PER_CLIENT}
+use Rattle.hcc_core.specs.declared.state.Owned.TheVariants as owned
+use Rattle.hcc_core.specs.declared.state.Place.TheVariants as places
+use Rattle.hcc_rule.specs.declared.key.Key.{Key}
+use Rattle.hcc_rule.specs.declared.rule.Plan.{Plan}
+use Rattle.hcc_rule.specs.declared.steps.shows.Draft.{Draft}
+use Rattle.hcc_rule.specs.declared.view.View.{View}
+use Rattle.hcc_rule.specs.Rule.{IsRight}
+use Rattle.hcc_rule.specs.ToldOwners.{after_show, made_of}
+use Rattle.hcc_rule.specs.Views.{load_of, record_in}
+use Rattle.hcc_table.specs.declared.inserting.Insertion.{Insertion}
+use Rattle.hcc_table.specs.declared.inserting.Insertion.TheVariants.{Placed, Matched, NoSlot}
+use Rattle.hcc_table.specs.Searched.{Grows}
+
+-- What a client has that may place an entry: its own number, its place and its charge granted, nothing
+-- needed and no slot in hand, a value that is right for the key, a countdown of 1 to 3, a free name, room
+-- for the references that it acquires where it meets a visible entry, and for one more entry.
+pub record MayInsert {T : Type 0} (fits : T → Key → List ℕ → Type 0) (p : Plan T) (draft : Draft) (value : List ℕ) (client name : ℕ) (v : View T) : Type 0 where
+  pub own : client ≡ v.client
+  pub known : client < MOST_CLIENTS
+  pub idle : v.work.owned ≡ owned.Nothing
+  pub place : v.work.place ≡ places.Granted
+  pub needed : v.work.needed ≡ 0
+  pub paid : draft.charge ≤ v.work.granted
+  pub right : IsRight fits p.tag p.geometry.room (made_of draft value)
+  pub some : 1 ≤ draft.countdown
+  pub few : draft.countdown ≤ MOST_COUNTDOWN
+  pub fresh : record_in name v.records ≡ None
+  -- the reference that the client keeps, if any, has that name
+  pub called : IfSome draft.name (λ x. x ≡ name)
+  pub room : load_of v.records + MOST_COUNTDOWN ≤ REFERENCES_PER_CLIENT
+  pub stamps : length v.made < STAMPS_PER_CLIENT
+
+module _ {T : Type 0} where
+  -- the view with this trail
+  abbrev pub with_trail : List ℕ → View T → View T
+  with_trail trail v = record v { work = record v.work { trail = trail } }
+
+  -- the view with these words written
+  abbrev pub with_words : List ℕ → View T → View T
+  with_words words v = record v { written = words }
+
+  -- Slots were tried and looked at, entries were seen dead, and keys were met. All else stays.
+  pub record Tried (v w : View T) : Type 0 where
+    pub same : w ≡ record v {
+      work = record v.work { looked = w.work.looked; dead = w.work.dead };
+      met = w.met;
+      saw = w.saw;
+    }
+    pub dead : Grows v.work.dead w.work.dead
+    pub met : (more : List Key) × (w.met ≡ v.met ++ more)
+    pub saw : v.saw ≤ w.saw
+
+  -- The view after so many slots were tried, by the answer. Placed: the entry is the newest that the
+  -- client made, and all that it had in hand for it is spent. Matched: the key was met last. No slot:
+  -- none of those was empty.
+  abbrev pub InsertedBy : (slots tries : ℕ) → Draft → List ℕ → Insertion → View T → View T → Type 0
+  InsertedBy slots tries draft value (Placed slot) v w =
+      (slot < slots) × Tried (after_show slot draft.name (made_of draft value) v) w
+  InsertedBy slots tries draft value Matched v w =
+      Tried v w × (more : List Key) × (w.met ≡ v.met ++ more ++ draft.key ∷ [])
+  InsertedBy slots tries draft value NoSlot v w = Tried v w × (w.saw ≡ v.saw + tries)
