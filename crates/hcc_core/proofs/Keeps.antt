@@ -13,7 +13,7 @@ use Rattle.hcc_core.specs.declared.event.Event.{Event}
 use Rattle.hcc_core.specs.declared.event.Event.TheVariants as events
 use Rattle.hcc_core.specs.declared.event.Reply.{Reply}
 use Rattle.hcc_core.specs.World.{State, references_of, reference_in, usage_of, uses_of, is_placed, occupancy_of, standing_in}
-use Rattle.hcc_core.specs.Steps.{Outcome, ◌>>=◌, allow, slot_at, client_at, live_at, holding, start_of, look_of, acquire_of, may_acquire, give_of, use_of, counting_in, if_counting, occupied, occupy_of, owns_nothing, show_of, built_by, may_show, hide_of, free_of, may_free, empty_of, freed_by, has_no_member, write_of, is_building, read_of, entry_read, enter_of, is_absent, slots_of, charge_by, may_charge, settle_of, may_settle, in_range, rule_of, outcome_of, Follows, end_of, is_idle, holds_nothing, clock_of, may_clock, clocked, mark_of, correct_of, may_correct, waive_of, may_waive, quit_of, told, usage_told, occupancy_told, standing_told, stand_of, may_stand, fall_of, is_standing, count_of, pass_of, unpass_of, is_slot, turn_of}
+use Rattle.hcc_core.specs.Steps.{Outcome, takes_memory, ◌>>=◌, allow, slot_at, client_at, live_at, holding, start_of, look_of, acquire_of, may_acquire, give_of, use_of, counting_in, if_counting, occupied, occupy_of, owns_nothing, show_of, built_by, may_show, hide_of, free_of, may_free, empty_of, freed_by, has_no_member, write_of, is_building, read_of, entry_read, enter_of, is_absent, slots_of, charge_by, may_charge, settle_of, may_settle, in_range, rule_of, outcome_of, Follows, end_of, is_idle, holds_nothing, clock_of, may_clock, clocked, mark_of, correct_of, may_correct, waive_of, may_waive, quit_of, told, usage_told, occupancy_told, standing_told, stand_of, may_stand, fall_of, is_standing, count_of, pass_of, unpass_of, is_slot, turn_of}
 use Rattle.hcc_core.specs.Lawful.{Lawful, IsLawful}
 use Rattle.hcc_core.proofs.Opening.{lawful_is, is_lawful}
 use Rattle.hcc_core.proofs.LawfulReferences.{lawful_start, lawful_look, lawful_acquire, lawful_give, lawful_use, lawful_hide}
@@ -316,9 +316,9 @@ ok_lawful (Err error) reply new l h = cc
 -- what follows an outcome is lawful
 pub follows_lawful : (w : State) (event : Event) (result : Result Reply CoreError) (new : State)
     → IsLawful w
-    → Follows (outcome_of w event) w result new → IsLawful new
+    → Follows (outcome_of w event) (takes_memory event) w result new → IsLawful new
 follows_lawful w event (Ok reply) new l f = lawful_is new (ok_lawful (outcome_of w event) reply new (outcome_keeps w event (is_lawful w l)) f)
 follows_lawful w event (Err NoSuchSlot) new l f = rw f.1 l
 follows_lawful w event (Err NoSuchClient) new l f = rw f.1 l
 follows_lawful w event (Err NotAllowed) new l f = rw f.1 l
-follows_lawful w event (Err OutOfMemory) new l (due, same) = rw same l
+follows_lawful w event (Err OutOfMemory) new l (takes, due, same) = rw same l

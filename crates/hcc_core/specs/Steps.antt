@@ -1,6 +1,6 @@
 -- The steps: where an event is allowed, the world after it, and the reply to it.
 -- A step reads what it needs, in the order in which refusals are due, and then says both.
-use Rattle.std.specs.Prelude.{◌≡◌, ℕ, ◌+◌, ◌-◌, ◌*◌, ◌%◌, ◌^◌, min, ◌<◌, ◌≤◌, Bool, true, false, ◌&&◌, ◌||◌, ◌==◌, not, nat_lt, nat_le, List, [], ◌∷◌, ◌++◌, Option, Some, None, Result, Ok, Err, is_none, find, length, replicate, slice_get, slice_set, if◌then◌else◌}
+use Rattle.std.specs.Prelude.{◌≡◌, ℕ, ◌+◌, ◌-◌, ◌*◌, ◌%◌, ◌^◌, min, ◌<◌, ◌≤◌, Bool, true, false, ◌&&◌, ◌||◌, ◌==◌, not, nat_lt, nat_le, List, [], ◌∷◌, ◌++◌, Option, Some, None, Result, Ok, Err, is_none, is_some, find, length, replicate, slice_get, slice_set, if◌then◌else◌}
 use Rattle.std.specs.Option.{ok_or}
 use Rattle.std.specs.List.{list_any, list_all}
 use Rattle.hcc_core.specs.declared.limits.TheConstants.{MOST_SLOTS, MOST_CLIENTS, REFERENCES_PER_CLIENT, MOST_WEIGHT, MOST_COUNTDOWN, STAMPS_PER_CLIENT, MOST_USAGE, MOST_CLOCKED, NEAR, CORRECTION, SLOTS_PER_TURN}
@@ -719,14 +719,33 @@ abbrev pub is_made : Outcome → Bool
 is_made (Ok done) = true
 is_made (Err error) = false
 
--- A step answers this outcome, or memory ran out for one that was allowed. What is refused
--- changes nothing, and so does want of memory.
-abbrev pub Follows : Outcome → State → Result Reply CoreError → State → Type 0
-Follows outcome old (Ok reply) new = outcome ≡ Ok (reply, new)
-Follows outcome old (Err NoSuchSlot) new = (outcome ≡ Err NoSuchSlot) × (new ≡ old)
-Follows outcome old (Err NoSuchClient) new = (outcome ≡ Err NoSuchClient) × (new ≡ old)
-Follows outcome old (Err NotAllowed) new = (outcome ≡ Err NotAllowed) × (new ≡ old)
-Follows outcome old (Err OutOfMemory) new = (is_made outcome ≡ true) × (new ≡ old)
+-- whether the event may take memory: for a stamp of a dead list, a reference, a standalone entry, a
+-- slot of a trail, or a copy of the value that is read
+abbrev pub takes_memory : Event → Bool
+takes_memory (events.Look client slot) = true
+takes_memory (events.Acquire client slot weight name) = true
+takes_memory (events.Give client name) = true
+takes_memory (events.Use client name) = true
+takes_memory (events.Occupy client slot) = true
+takes_memory (events.Show client key0 key1 charge countdown name value) = is_some name
+takes_memory (events.Hide client name) = true
+takes_memory (events.Free client slot name) = is_some name
+takes_memory (events.Read client name) = true
+takes_memory (events.Mark client name) = true
+takes_memory (events.Correct client name) = true
+takes_memory (events.Stand client charge name) = true
+takes_memory (events.Pass client slot) = true
+takes_memory other = false
+
+-- A step answers this outcome or, where it may take memory, memory ran out for one that was
+-- allowed. What is refused changes nothing, and so does want of memory.
+abbrev pub Follows : Outcome → Bool → State → Result Reply CoreError → State → Type 0
+Follows outcome takes old (Ok reply) new = outcome ≡ Ok (reply, new)
+Follows outcome takes old (Err NoSuchSlot) new = (outcome ≡ Err NoSuchSlot) × (new ≡ old)
+Follows outcome takes old (Err NoSuchClient) new = (outcome ≡ Err NoSuchClient) × (new ≡ old)
+Follows outcome takes old (Err NotAllowed) new = (outcome ≡ Err NotAllowed) × (new ≡ old)
+Follows outcome takes old (Err OutOfMemory) new =
+    (takes ≡ true) × (is_made outcome ≡ true) × (new ≡ old)
 
 -- Runs.
 

@@ -1,5 +1,5 @@
 //! What a step reads of a client, and what it leaves of one.
-ghost use Rattle.std.specs.Prelude.{◌≡◌, ◌<◌, ◌^◌, IfOk, unwrap_or, sum_by, IfSome, length, position};
+ghost use Rattle.std.specs.Prelude.{◌≡◌, ◌<◌, ◌^◌, IfOk, IfErr, is_some, true, unwrap_or, sum_by, IfSome, length, position};
 ghost use Rattle.std.specs.List.{find, list_any};
 ghost use Rattle.std.specs.Option.{option_copied};
 ghost use Rattle.hcc_core.specs.World.{standing_of, is_placed, is_granted};
@@ -181,7 +181,8 @@ impl Client {
         alloc: Global,
         stamp: Option<Stamp>,
     ) -> Result<Option<Listed<Stamp>>, AllocError>
-        ensures { IfOk result (λ list. unwrap_or list self.now.dead ≡ joined self.now.dead stamp) }
+        ensures ok { IfOk result (λ list. unwrap_or list self.now.dead ≡ joined self.now.dead stamp) }
+        ensures err { IfErr result (λ _. is_some stamp ≡ true) }
     {
         let Some(stamp) = stamp else {
             return Ok(None);

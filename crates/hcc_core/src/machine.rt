@@ -4,7 +4,7 @@
 ghost use Rattle.std.specs.Prelude.{◌≡◌, ◌<◌, IfOk, MatchResult, length, replicate, slice_get, true};
 ghost use Rattle.hcc_core.specs.declared.event.CoreError.TheVariants.{NoSuchSlot, NoSuchClient, NotAllowed};
 ghost use Rattle.hcc_core.specs.World.{usage_of, occupancy_of, standing_in, passed_at, slot_holding};
-ghost use Rattle.hcc_core.specs.Steps.{opening_of, new_slot, new_client, why_not_live, Follows, outcome_of, fits, name_fits};
+ghost use Rattle.hcc_core.specs.Steps.{opening_of, new_slot, new_client, why_not_live, Follows, takes_memory, outcome_of, fits, name_fits};
 ghost use Rattle.std.specs.List.{list_all};
 ghost use Rattle.hcc_core.specs.Lawful.{IsLawful};
 
@@ -60,7 +60,7 @@ impl Machine {
     #[tactic(auto, unfolding(crate::specs::Steps::outcome_of))]
     pub(crate) fn step(&mut self, event: Event) -> Result<Reply, CoreError>
         requires { IsLawful self.old }
-        ensures { Follows (outcome_of self.old event) self.old result self.new }
+        ensures { Follows (outcome_of self.old event) (takes_memory event) self.old result self.new }
     {
         match event {
             Event::Start { client } => self.start(client),

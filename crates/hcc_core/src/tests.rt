@@ -228,6 +228,26 @@ fn opened(rt: &impl Abort, alloc: Global, setup: Setup) -> Result<World, AllocEr
     }
 }
 
+/// Whether the event may be answered that memory ran out.
+fn may_run_out(event: &Event) -> bool {
+    match event {
+        Event::Look { .. }
+        | Event::Acquire { .. }
+        | Event::Give { .. }
+        | Event::Use { .. }
+        | Event::Occupy { .. }
+        | Event::Show { name: Some(_), .. }
+        | Event::Hide { .. }
+        | Event::Free { name: Some(_), .. }
+        | Event::Read { .. }
+        | Event::Mark { .. }
+        | Event::Correct { .. }
+        | Event::Stand { .. }
+        | Event::Pass { .. } => true,
+        _ => false,
+    }
+}
+
 /// Plays the rows on this world, up to the first want of memory, which changes nothing.
 fn play<const N: usize>(
     rt: &impl Abort,
@@ -239,8 +259,10 @@ fn play<const N: usize>(
     for row in Vec::from_array(alloc, rows)? {
         let Row(event, wanted, slot, totals) = row;
         let before = printed(world);
+        let may_run_out = may_run_out(&event);
         let answer = world.step(event);
         if told(&answer) == told(&Err(CoreError::OutOfMemory)) {
+            assert!(rt; may_run_out, "{number} takes no memory");
             assert!(rt; printed(world) == before, "memory was refused at {number}");
             return Err(AllocError);
         }

@@ -3,7 +3,7 @@ ghost use Rattle.std.specs.Prelude.{◌≡◌, ◌≤◌, IfOk, IfErr, length, s
 ghost use Rattle.std.specs.Option.{option_copied};
 ghost use Rattle.hcc_core.specs.declared.event.CoreError.TheVariants.{OutOfMemory};
 ghost use Rattle.hcc_core.specs.World.{usage_of, occupancy_of, standing_in, passed_at};
-ghost use Rattle.hcc_core.specs.Steps.{Follows, outcome_of, opening_of, CanOpen};
+ghost use Rattle.hcc_core.specs.Steps.{Follows, takes_memory, outcome_of, opening_of, CanOpen};
 
 use crate::event::{CoreError, Event, Reply};
 use crate::limits::MOST_SLOTS;
@@ -54,13 +54,15 @@ impl World {
 
     /// Makes one step, or refuses it by the first name that is due: `NoSuchSlot`,
     /// `NoSuchClient`, `NotAllowed`. The world is unchanged after each refusal, and after
-    /// `OutOfMemory` too.
+    /// `OutOfMemory` too, which only events that may take memory answer: `Look`, `Acquire`,
+    /// `Give`, `Use`, `Occupy`, `Hide`, `Read`, `Mark`, `Correct`, `Stand` and `Pass`, and with a
+    /// name `Show` and `Free`.
     ///
     /// It costs at most a pass over the slots, their references and the clients, and of its own
     /// client over the trail, the standalone entries and the dead list. That list is copied where
     /// an entry joins it, and `Read` copies the value.
     pub fn step(&mut self, event: Event) -> Result<Reply, CoreError>
-        ensures { Follows (outcome_of self.old event) self.old result self.new }
+        ensures { Follows (outcome_of self.old event) (takes_memory event) self.old result self.new }
     {
         self.machine.step(event)
     }

@@ -1,5 +1,5 @@
 //! The steps that move entries: occupy, show, free, empty and write.
-ghost use Rattle.std.specs.Prelude.{◌≡◌, ◌<◌, ◌≤◌, IfOk, true};
+ghost use Rattle.std.specs.Prelude.{◌≡◌, ◌<◌, ◌≤◌, IfOk, IfErr, is_some, true, false};
 ghost use Rattle.hcc_core.specs.World.{references_of};
 ghost use Rattle.hcc_core.specs.Steps.{Follows, occupy_of, strays_if_empty, show_of, is_fresh, may_show, AllowsShow, client_shown, first_references, first_uses, free_of, may_free, empty_of, write_of};
 ghost use Rattle.hcc_core.specs.Lawful.{IsLawful};
@@ -15,7 +15,7 @@ use std::mem;
 
 impl Machine {
     pub(crate) fn occupy(&mut self, client: u32, slot: u32) -> Result<Reply, CoreError>
-        ensures { Follows (occupy_of self.old client slot) self.old result self.new }
+        ensures { Follows (occupy_of self.old client slot) true self.old result self.new }
     {
         let empty = strays_if_empty(slot_at(&self.slots, slot)?);
         if !live_at(&self.clients, client)?.owned.is_nothing() {
@@ -42,7 +42,7 @@ impl Machine {
         value: Listed<u8>,
     ) -> Result<Reply, CoreError>
         requires { IsLawful self.old }
-        ensures { Follows (show_of self.old client key.0 key.1 charge countdown name value) self.old result self.new }
+        ensures { Follows (show_of self.old client key.0 key.1 charge countdown name value) (is_some name) self.old result self.new }
     {
         let found = live_at(&self.clients, client)?;
         let Some(slot) = found.owned.built() else {
@@ -81,7 +81,7 @@ impl Machine {
         name: Option<u64>,
     ) -> Result<Reply, CoreError>
         requires { IsLawful self.old }
-        ensures { Follows (free_of self.old client slot name) self.old result self.new }
+        ensures { Follows (free_of self.old client slot name) (is_some name) self.old result self.new }
     {
         let seen = slot_at(&self.slots, slot)?;
         let found = live_at(&self.clients, client)?;
@@ -106,7 +106,7 @@ impl Machine {
     #[tactic(auto, unfolding(crate::specs::Steps::empty_of))]
     pub(crate) fn empty(&mut self, client: u32) -> Result<Reply, CoreError>
         requires { IsLawful self.old }
-        ensures { Follows (empty_of self.old client) self.old result self.new }
+        ensures { Follows (empty_of self.old client) false self.old result self.new }
     {
         let found = live_at(&self.clients, client)?;
         let Some(slot) = found.owned.freed() else {
@@ -121,7 +121,7 @@ impl Machine {
     }
 
     pub(crate) fn write(&mut self, client: u32) -> Result<Reply, CoreError>
-        ensures { Follows (write_of self.old client) self.old result self.new }
+        ensures { Follows (write_of self.old client) false self.old result self.new }
     {
         if !live_at(&self.clients, client)?.owned.is_building() {
             return Err(CoreError::NotAllowed);
@@ -192,7 +192,8 @@ fn first_references(
     client: u32,
     name: Option<u64>,
 ) -> Result<Listed<Reference>, AllocError>
-    ensures { IfOk result (λ references. references ≡ first_references client name) }
+    ensures ok { IfOk result (λ references. references ≡ first_references client name) }
+    ensures err { IfErr result (λ _. is_some name ≡ true) }
 {
     let mut references = Listed::new(alloc);
     if let Some(name) = name {

@@ -1,6 +1,6 @@
 //! The steps on the ledgers: enter, quit, slots, charge, settle, waive, stand and fall, and what
 //! the ledgers tell.
-ghost use Rattle.std.specs.Prelude.{◌≡◌, ◌<◌, ◌≤◌, ◌+◌, ◌^◌};
+ghost use Rattle.std.specs.Prelude.{◌≡◌, ◌<◌, ◌≤◌, ◌+◌, ◌^◌, true, false};
 ghost use Rattle.hcc_core.specs.Steps.{Follows, enter_of, slots_of, charge_by, grant_of, may_charge, settle_of, may_settle, waive_of, may_waive, quit_of, usage_told, occupancy_told, standing_told, stand_of, fall_of};
 ghost use Rattle.hcc_core.specs.Lawful.{IsLawful};
 
@@ -13,7 +13,7 @@ impl Machine {
     #[tactic(auto, unfolding(crate::specs::Steps::enter_of))]
     pub(crate) fn enter(&mut self, client: u32) -> Result<Reply, CoreError>
         requires { IsLawful self.old }
-        ensures { Follows (enter_of self.old client) self.old result self.new }
+        ensures { Follows (enter_of self.old client) false self.old result self.new }
     {
         if !live_at(&self.clients, client)?.place.is_absent() {
             return Err(CoreError::NotAllowed);
@@ -27,7 +27,7 @@ impl Machine {
 
     #[tactic(auto, unfolding(crate::specs::Steps::slots_of))]
     pub(crate) fn slots(&mut self, client: u32) -> Result<Reply, CoreError>
-        ensures { Follows (slots_of self.old client) self.old result self.new }
+        ensures { Follows (slots_of self.old client) false self.old result self.new }
     {
         let found = live_at(&self.clients, client)?;
         if found.freed_slots == 0 {
@@ -43,7 +43,7 @@ impl Machine {
     #[tactic(auto, unfolding(crate::specs::Steps::charge_by))]
     pub(crate) fn charge(&mut self, client: u32, charge: u32) -> Result<Reply, CoreError>
         requires { IsLawful self.old }
-        ensures { Follows (charge_by self.old client charge) self.old result self.new }
+        ensures { Follows (charge_by self.old client charge) false self.old result self.new }
     {
         let found = live_at(&self.clients, client)?;
         let usage = self.usage();
@@ -62,7 +62,7 @@ impl Machine {
     #[tactic(auto, unfolding(crate::specs::Steps::settle_of))]
     pub(crate) fn settle(&mut self, client: u32) -> Result<Reply, CoreError>
         requires { IsLawful self.old }
-        ensures { Follows (settle_of self.old client) self.old result self.new }
+        ensures { Follows (settle_of self.old client) false self.old result self.new }
     {
         let found = live_at(&self.clients, client)?;
         if !may_settle(found) {
@@ -78,7 +78,7 @@ impl Machine {
 
     #[tactic(auto, unfolding(crate::specs::Steps::waive_of))]
     pub(crate) fn waive(&mut self, client: u32) -> Result<Reply, CoreError>
-        ensures { Follows (waive_of self.old client) self.old result self.new }
+        ensures { Follows (waive_of self.old client) false self.old result self.new }
     {
         if !may_waive(live_at(&self.clients, client)?) {
             return Err(CoreError::NotAllowed);
@@ -92,7 +92,7 @@ impl Machine {
 
     #[tactic(auto, unfolding(crate::specs::Steps::quit_of))]
     pub(crate) fn quit(&mut self, client: u32) -> Result<Reply, CoreError>
-        ensures { Follows (quit_of self.old client) self.old result self.new }
+        ensures { Follows (quit_of self.old client) false self.old result self.new }
     {
         if !live_at(&self.clients, client)?.place.is_placed() {
             return Err(CoreError::NotAllowed);
@@ -104,7 +104,7 @@ impl Machine {
     #[tactic(auto, unfolding(crate::specs::Steps::usage_told))]
     pub(crate) fn tell_usage(&mut self, client: u32) -> Result<Reply, CoreError>
         requires { IsLawful self.old }
-        ensures { Follows (usage_told self.old client) self.old result self.new }
+        ensures { Follows (usage_told self.old client) false self.old result self.new }
     {
         live_at(&self.clients, client)?;
         Ok(Reply::Count(self.usage()))
@@ -113,7 +113,7 @@ impl Machine {
     #[tactic(auto, unfolding(crate::specs::Steps::occupancy_told))]
     pub(crate) fn tell_occupancy(&mut self, client: u32) -> Result<Reply, CoreError>
         requires { IsLawful self.old }
-        ensures { Follows (occupancy_told self.old client) self.old result self.new }
+        ensures { Follows (occupancy_told self.old client) false self.old result self.new }
     {
         live_at(&self.clients, client)?;
         Ok(Reply::Count(self.occupancy()))
@@ -122,7 +122,7 @@ impl Machine {
     #[tactic(auto, unfolding(crate::specs::Steps::standing_told))]
     pub(crate) fn tell_standing(&mut self, client: u32) -> Result<Reply, CoreError>
         requires { IsLawful self.old }
-        ensures { Follows (standing_told self.old client) self.old result self.new }
+        ensures { Follows (standing_told self.old client) false self.old result self.new }
     {
         live_at(&self.clients, client)?;
         Ok(Reply::Count(self.standing()))
@@ -130,7 +130,7 @@ impl Machine {
 
     #[tactic(auto, unfolding(crate::specs::Steps::stand_of))]
     pub(crate) fn stand(&mut self, client: u32, charge: u32, name: u64) -> Result<Reply, CoreError>
-        ensures { Follows (stand_of self.old client charge name) self.old result self.new }
+        ensures { Follows (stand_of self.old client charge name) true self.old result self.new }
     {
         let charge = charge as u64;
         let found = live_at(&self.clients, client)?;
@@ -147,7 +147,7 @@ impl Machine {
     #[tactic(auto, unfolding(crate::specs::Steps::fall_of))]
     pub(crate) fn fall(&mut self, client: u32, name: u64) -> Result<Reply, CoreError>
         requires { IsLawful self.old }
-        ensures { Follows (fall_of self.old client name) self.old result self.new }
+        ensures { Follows (fall_of self.old client name) false self.old result self.new }
     {
         let found = live_at(&self.clients, client)?;
         let Some(gone) = found.standalone(name) else {

@@ -1,5 +1,5 @@
 //! The steps on references: start, look, acquire, give, use, hide and read.
-ghost use Rattle.std.specs.Prelude.{◌≡◌, ◌<◌, ◌^◌};
+ghost use Rattle.std.specs.Prelude.{◌≡◌, ◌<◌, ◌^◌, true, false};
 ghost use Rattle.hcc_core.specs.World.{weight_of};
 ghost use Rattle.hcc_core.specs.Steps.{Follows, start_of, look_of, acquire_of, may_acquire, give_of, use_of, hide_of, read_of};
 ghost use Rattle.hcc_core.specs.Lawful.{IsLawful};
@@ -12,7 +12,7 @@ use crate::state::{Client, Reference, Setup, Slot};
 
 impl Machine {
     pub(crate) fn start(&mut self, client: u32) -> Result<Reply, CoreError>
-        ensures { Follows (start_of self.old client) self.old result self.new }
+        ensures { Follows (start_of self.old client) false self.old result self.new }
     {
         if client_at(&self.clients, client)?.live {
             return Err(CoreError::NotAllowed);
@@ -22,7 +22,7 @@ impl Machine {
     }
 
     pub(crate) fn look(&mut self, client: u32, slot: u32) -> Result<Reply, CoreError>
-        ensures { Follows (look_of self.old client slot) self.old result self.new }
+        ensures { Follows (look_of self.old client slot) true self.old result self.new }
     {
         let seen = slot_at(&self.slots, slot)?;
         let found = live_at(&self.clients, client)?;
@@ -48,7 +48,7 @@ impl Machine {
         name: u64,
     ) -> Result<Reply, CoreError>
         requires { IsLawful self.old }
-        ensures { Follows (acquire_of self.old client slot weight name) self.old result self.new }
+        ensures { Follows (acquire_of self.old client slot weight name) true self.old result self.new }
     {
         let seen = slot_at(&self.slots, slot)?;
         let found = live_at(&self.clients, client)?;
@@ -82,7 +82,7 @@ impl Machine {
     #[tactic(auto, unfolding(crate::specs::Steps::give_of))]
     pub(crate) fn give(&mut self, client: u32, name: u64) -> Result<Reply, CoreError>
         requires { IsLawful self.old }
-        ensures { Follows (give_of self.old client name) self.old result self.new }
+        ensures { Follows (give_of self.old client name) true self.old result self.new }
     {
         let found = live_at(&self.clients, client)?;
         let slot = holding(&self.slots, client, name)?;
@@ -96,7 +96,7 @@ impl Machine {
     #[tactic(auto, unfolding(crate::specs::Steps::use_of))]
     pub(crate) fn spend(&mut self, client: u32, name: u64) -> Result<Reply, CoreError>
         requires { IsLawful self.old }
-        ensures { Follows (use_of self.old client name) self.old result self.new }
+        ensures { Follows (use_of self.old client name) true self.old result self.new }
     {
         let found = live_at(&self.clients, client)?;
         let slot = holding(&self.slots, client, name)?;
@@ -113,7 +113,7 @@ impl Machine {
 
     #[tactic(auto, unfolding(crate::specs::Steps::hide_of))]
     pub(crate) fn hide(&mut self, client: u32, name: u64) -> Result<Reply, CoreError>
-        ensures { Follows (hide_of self.old client name) self.old result self.new }
+        ensures { Follows (hide_of self.old client name) true self.old result self.new }
     {
         let found = live_at(&self.clients, client)?;
         let slot = holding(&self.slots, client, name)?;
@@ -131,7 +131,7 @@ impl Machine {
 
     #[tactic(auto, unfolding(crate::specs::Steps::read_of))]
     pub(crate) fn read(&mut self, client: u32, name: u64) -> Result<Reply, CoreError>
-        ensures { Follows (read_of self.old client name) self.old result self.new }
+        ensures { Follows (read_of self.old client name) true self.old result self.new }
     {
         live_at(&self.clients, client)?;
         let slot = holding(&self.slots, client, name)?;

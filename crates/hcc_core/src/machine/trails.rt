@@ -1,5 +1,5 @@
 //! The steps on trails and the hand: count, pass, unpass and turn.
-ghost use Rattle.std.specs.Prelude.{◌≡◌};
+ghost use Rattle.std.specs.Prelude.{◌≡◌, true, false};
 ghost use Rattle.hcc_core.specs.Steps.{Follows, count_of, pass_of, unpass_of, turn_of};
 ghost use Rattle.hcc_core.specs.Lawful.{IsLawful};
 
@@ -11,7 +11,7 @@ impl Machine {
     #[tactic(auto, unfolding(crate::specs::Steps::count_of))]
     pub(crate) fn count(&mut self, client: u32, slot: u32) -> Result<Reply, CoreError>
         requires { IsLawful self.old }
-        ensures { Follows (count_of self.old client slot) self.old result self.new }
+        ensures { Follows (count_of self.old client slot) false self.old result self.new }
     {
         slot_at(&self.slots, slot)?;
         live_at(&self.clients, client)?;
@@ -20,7 +20,7 @@ impl Machine {
 
     #[tactic(auto, unfolding(crate::specs::Steps::pass_of))]
     pub(crate) fn pass(&mut self, client: u32, slot: u32) -> Result<Reply, CoreError>
-        ensures { Follows (pass_of self.old client slot) self.old result self.new }
+        ensures { Follows (pass_of self.old client slot) true self.old result self.new }
     {
         slot_at(&self.slots, slot)?;
         let found = live_at(&self.clients, client)?;
@@ -33,7 +33,7 @@ impl Machine {
 
     #[tactic(auto, unfolding(crate::specs::Steps::unpass_of))]
     pub(crate) fn unpass(&mut self, client: u32, slot: u32) -> Result<Reply, CoreError>
-        ensures { Follows (unpass_of self.old client slot) self.old result self.new }
+        ensures { Follows (unpass_of self.old client slot) false self.old result self.new }
     {
         slot_at(&self.slots, slot)?;
         if !live_at(&self.clients, client)?.has_passed(slot) {
@@ -45,7 +45,7 @@ impl Machine {
 
     #[tactic(auto, unfolding(crate::specs::Steps::turn_of))]
     pub(crate) fn turn(&mut self, client: u32) -> Result<Reply, CoreError>
-        ensures { Follows (turn_of self.old client) self.old result self.new }
+        ensures { Follows (turn_of self.old client) false self.old result self.new }
     {
         live_at(&self.clients, client)?;
         let hand = self.hand;

@@ -1,5 +1,5 @@
 //! The steps on uses and marks, and the end of a client: clock, mark, correct and end.
-ghost use Rattle.std.specs.Prelude.{◌≡◌, ◌&&◌};
+ghost use Rattle.std.specs.Prelude.{◌≡◌, ◌&&◌, true, false};
 ghost use Rattle.std.specs.List.{list_any};
 ghost use Rattle.hcc_core.specs.World.{has_client};
 ghost use Rattle.hcc_core.specs.Steps.{Follows, end_of, is_idle, holds_nothing, clock_of, clocked, mark_of, correct_of};
@@ -12,7 +12,7 @@ use crate::state::{Client, Slot};
 impl Machine {
     #[tactic(auto, unfolding(crate::specs::Steps::end_of))]
     pub(crate) fn end(&mut self, client: u32) -> Result<Reply, CoreError>
-        ensures { Follows (end_of self.old client) self.old result self.new }
+        ensures { Follows (end_of self.old client) false self.old result self.new }
     {
         let found = live_at(&self.clients, client)?;
         if !may_end(found, &self.slots, client) {
@@ -26,7 +26,7 @@ impl Machine {
 
     #[tactic(auto, unfolding(crate::specs::Steps::clock_of))]
     pub(crate) fn clock(&mut self, client: u32, slot: u32) -> Result<Reply, CoreError>
-        ensures { Follows (clock_of self.old client slot) self.old result self.new }
+        ensures { Follows (clock_of self.old client slot) false self.old result self.new }
     {
         let seen = slot_at(&self.slots, slot)?;
         live_at(&self.clients, client)?;
@@ -40,7 +40,7 @@ impl Machine {
 
     #[tactic(auto, unfolding(crate::specs::Steps::mark_of))]
     pub(crate) fn mark(&mut self, client: u32, name: u64) -> Result<Reply, CoreError>
-        ensures { Follows (mark_of self.old client name) self.old result self.new }
+        ensures { Follows (mark_of self.old client name) true self.old result self.new }
     {
         let found = live_at(&self.clients, client)?;
         let slot = holding(&self.slots, client, name)?;
@@ -52,7 +52,7 @@ impl Machine {
 
     #[tactic(auto, unfolding(crate::specs::Steps::correct_of))]
     pub(crate) fn correct(&mut self, client: u32, name: u64) -> Result<Reply, CoreError>
-        ensures { Follows (correct_of self.old client name) self.old result self.new }
+        ensures { Follows (correct_of self.old client name) true self.old result self.new }
     {
         let found = live_at(&self.clients, client)?;
         let slot = holding(&self.slots, client, name)?;

@@ -51,7 +51,7 @@ returns c =
     let may : may_acquire i.setup i.slots.items c.args.client found c.args.slot seen c.args.weight c.args.name ≡ true = search rules in
     let left = slot_acquired seen (new_reference c.args.client c.args.name c.args.weight seen) in
     let list : unwrap_or c.in_ok-dead.dead found.dead ≡ noticed c.args.client left found.dead =
-    c.in_ok-dead.ensures ∙ ap (joined found.dead) (c.hidden_stamp.ensures ∙ sym (dead_acquired c.args.client c.args.name c.args.weight seen)) in
+    c.in_ok-dead.ensures.ok ∙ ap (joined found.dead) (c.hidden_stamp.ensures ∙ sym (dead_acquired c.args.client c.args.name c.args.weight seen)) in
     let becomes : c.note.new.self ≡ client_acquired c.args.client left found = rw (c.note.ensures, client_is, list) refl in
     let leaves : c.acquire.new.self ≡ left = rw (c.in_ok-acquire.ensures.ok, slot_is, c.counts-counting.ensures) refl in
     let answers : c.acquired-reply.result ≡ acquired seen (counts_in seen) = rw (c.acquired-reply.ensures, c.counts-counting.ensures) refl in

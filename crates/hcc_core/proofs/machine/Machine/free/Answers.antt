@@ -45,7 +45,7 @@ returns c =
     let client_is : c.index_mut-found.result.now ≡ found = read_is i.clients.items c.args.client c.index_mut-found.result.now found at_client c.index_mut-found.ensures.value in
     let may : may_free c.args.client found seen c.args.name ≡ true = search rules in
     let trail : c.into_trail.result ≡ trail_of seen = c.into_trail.ensures ∙ ap trail_of (c.replace-taken.ensures.value ∙ slot_is) in
-    let list : unwrap_or c.in_ok-dead.dead found.dead ≡ noticed c.args.client seen found.dead = c.in_ok-dead.ensures ∙ ap (joined found.dead) c.dead_to.ensures in
+    let list : unwrap_or c.in_ok-dead.dead found.dead ≡ noticed c.args.client seen found.dead = c.in_ok-dead.ensures.ok ∙ ap (joined found.dead) c.dead_to.ensures in
     let becomes : c.note.new.self ≡ client_freeing c.args.client c.args.slot seen found =
     rw (c.note.ensures, client_is, list, trail, c.charge-charge.ensures) refl in
     rw (← c.self.view_is)

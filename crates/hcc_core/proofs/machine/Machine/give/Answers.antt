@@ -37,7 +37,7 @@ returns c =
     let at_slot : slice_get i.slots.items slot ≡ Some seen = slice_get_read i.slots.items (length i.slots.items) slot seen refl (search rules) c.index.ensures in
     let slot_is : c.index_mut-left.result.now ≡ seen = read_is i.slots.items slot c.index_mut-left.result.now seen at_slot c.index_mut-left.ensures.value in
     let client_is : c.index_mut.result.now ≡ found = read_is i.clients.items c.args.client c.index_mut.result.now found at_client c.index_mut.ensures.value in
-    let list = c.in_ok-dead.ensures ∙ ap (joined found.dead) c.dead_to.ensures in
+    let list = c.in_ok-dead.ensures.ok ∙ ap (joined found.dead) c.dead_to.ensures in
     let becomes = noted found c.index_mut.result.now c.note.new.self c.in_ok-dead.dead _ client_is c.note.ensures list in
     let leaves = c.give.ensures ∙ ap (slot_given c.args.client c.args.name) slot_is in
     rw (← c.self.view_is)

@@ -32,6 +32,6 @@ returns c =
     let may : may_show i.slots.items c.args.client found c.args.charge c.args.countdown c.args.name ≡ true = search rules in
     let trail_is : c.hand_over-trail.result ≡ found.trail = c.hand_over-trail.ensures.trail ∙ ap (λ (k : Client). k.trail) client_is in
     let becomes = c.hand_over-trail.ensures.after ∙ ap (client_shown c.args.charge) client_is in
-    rw (← c.self.view_is, trail_is, c.in_ok-references.ensures, c.first_uses.ensures)
+    rw (← c.self.view_is, trail_is, c.in_ok-references.ensures.ok, c.first_uses.ensures)
     (show_gives w c.args.client c.in-Some.slot c.args.key.0 c.args.key.1 c.args.charge c.args.countdown c.args.name c.args.value found _ _
     at_client c.in_ok-found.ensures.found.1 builds may refl becomes)
