@@ -12,11 +12,12 @@ use Rattle.hcc_core.specs.Sums.{when}
 use Rattle.hcc_core.specs.World.{State}
 use Rattle.hcc_core.specs.Steps.{Outcome, outcome_of, is_made, world_after, after, after_all, opening_of, new_slot, new_client, CanOpen}
 use Rattle.hcc_core.specs.Lawful.{Lawful, stamps_by}
-use Rattle.hcc_core.specs.Runs.{entry_held, held_at, named_on, named_in, Stands, StandsThrough, KeepsPlaces, FindsOne, entry_of, entry_at, is_show, shows_in, shows_of, entry_given, AreGiven}
+use Rattle.hcc_core.specs.Runs.{entry_held, held_at, named_on, named_in, Stands, StandsThrough, KeepsPlaces, FindsOne, CountersFit, entry_of, entry_at, is_show, shows_in, shows_of, entry_given, AreGiven}
 use Rattle.hcc_core.proofs.ListLemmas.{nothing_in, in_replicate, read_before, read_last}
 use Rattle.hcc_core.proofs.SumLemmas.{total-zero}
 use Rattle.hcc_core.proofs.Keeps.{KeepsLaw, outcome_keeps}
 use Rattle.hcc_core.proofs.Opening.{lawful_opening}
+use Rattle.hcc_core.proofs.Readable.{strays_few}
 use Rattle.hcc_core.proofs.HeldNames.{Apart, finds_one}
 use Rattle.hcc_core.proofs.Moves.{Holds, holds_still}
 use Rattle.hcc_core.proofs.Shows.{Adds, Added, outcome_adds}
@@ -40,6 +41,25 @@ lawful_all (event ∷ events) w l = lawful_all events (after w event) (lawful_af
 pub every_run : (setup : Setup) (events : List Event) → CanOpen setup
     → Lawful (after_all (opening_of setup) events)
 every_run setup events can = lawful_all events (opening_of setup) (lawful_opening setup can)
+
+-- Counters.
+
+-- in a lawful world uses stay near their bound, and references and strays weigh little
+counters_fit : (w : State) → Lawful w → CountersFit w
+counters_fit w l = record {
+  entries = λ s slot at_slot.
+      let bound = l.bounded s slot at_slot in
+      let references = bound.references in
+      let uses = bound.uses in
+      let few = l.sized.few_clients in
+      omega arith;
+  strays = λ s slot at_slot. let strays = strays_few w s slot l at_slot in omega arith;
+}
+
+pub run_counters_fit : (setup : Setup) (events : List Event) → CanOpen setup
+    → CountersFit (after_all (opening_of setup) events)
+run_counters_fit setup events can =
+    counters_fit (after_all (opening_of setup) events) (every_run setup events can)
 
 -- References.
 

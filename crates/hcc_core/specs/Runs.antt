@@ -1,6 +1,6 @@
 -- What is said of runs. A run tries events one after the other from a world; what is refused changes
 -- nothing. The worlds on the way are the worlds after the fronts of the run.
-use Rattle.std.specs.Prelude.{◌≡◌, ℕ, ◌≤◌, Bool, false, ◌&&◌, ◌==◌, List, [], ◌∷◌, ◌++◌, Option, Some, None, slice_get, option_and_then, if◌then◌else◌}
+use Rattle.std.specs.Prelude.{◌≡◌, ℕ, ◌+◌, ◌^◌, ◌<◌, ◌≤◌, Bool, false, ◌&&◌, ◌==◌, List, [], ◌∷◌, ◌++◌, Option, Some, None, slice_get, option_and_then, if◌then◌else◌}
 use Rattle.hcc_core.specs.declared.state.Stamp.{Stamp}
 use Rattle.hcc_core.specs.declared.state.Entry.{Entry}
 use Rattle.hcc_core.specs.declared.state.Slot.{Slot}
@@ -8,8 +8,19 @@ use Rattle.hcc_core.specs.declared.state.Slot.TheVariants as slots
 use Rattle.hcc_core.specs.declared.event.Event.{Event}
 use Rattle.hcc_core.specs.declared.event.Event.TheVariants as events
 use Rattle.hcc_core.specs.Sums.{when, total}
-use Rattle.hcc_core.specs.World.{State, references_of, is_named, has_reference, slot_holding}
+use Rattle.hcc_core.specs.World.{State, references_of, uses_of, weight_of, strays_of, is_named, has_reference, slot_holding}
 use Rattle.hcc_core.specs.Steps.{outcome_of, is_made, after, after_all}
+
+-- Counters.
+
+-- the acquires of each slot fit a counter of 30 bits: as uses and references of an entry, or strays
+pub record CountersFit (world : State) : Type 0 where
+  pub entries : (s : ℕ) (slot : Slot) → slice_get world.slots s ≡ Some slot
+      → uses_of slot + weight_of slot < 2 ^ 30
+  pub strays : (s : ℕ) (slot : Slot) → slice_get world.slots s ≡ Some slot
+      → strays_of slot < 2 ^ 30
+
+-- References.
 
 -- the entry of a slot
 abbrev pub entry_of : Slot → Option Entry
@@ -19,8 +30,6 @@ entry_of (slots.Shareable r) = Some r.entry
 
 abbrev pub entry_at : State → ℕ → Option Entry
 entry_at world slot = option_and_then entry_of (slice_get world.slots slot)
-
--- References.
 
 -- the entry on which this client holds a reference of this name, if it does so on this slot
 abbrev pub entry_held : ℕ → ℕ → Slot → Option Entry

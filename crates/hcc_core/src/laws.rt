@@ -3,18 +3,22 @@ ghost use Rattle.std.specs.Prelude.{List};
 ghost use Rattle.hcc_core.specs.declared.event.Event.{Event};
 ghost use Rattle.hcc_core.specs.declared.state.Setup.{Setup};
 ghost use Rattle.hcc_core.specs.Lawful.{Lawful};
-ghost use Rattle.hcc_core.specs.Runs.{AreGiven, FindsOne, KeepsPlaces};
+ghost use Rattle.hcc_core.specs.Runs.{AreGiven, CountersFit, FindsOne, KeepsPlaces};
 ghost use Rattle.hcc_core.specs.Steps.{CanOpen, opening_of, after_all};
 
 /// What holds of every world on the way of every run from an opening world, whatever events come
-/// and in whatever order. Events that are refused change nothing. Only the first clause needs that
-/// the setup can be opened.
+/// and in whatever order. Events that are refused change nothing. Only the first two clauses need
+/// that the setup can be opened.
 ///
 /// It does nothing when it runs: its contract is the law.
 pub fn law_every_run()
     // The world after any events is lawful.
     ensures lawful { (setup : Setup) (events : List Event) → CanOpen setup
         → Lawful (after_all (opening_of setup) events) }
+
+    // In each slot uses and references together are below 2^30, and so are strays.
+    ensures counters { (setup : Setup) (events : List Event) → CanOpen setup
+        → CountersFit (after_all (opening_of setup) events) }
 
     // A reference that stands in two worlds and in all between them has one slot and one entry.
     ensures places { (setup : Setup) (before events : List Event)

@@ -1,8 +1,11 @@
-use Rattle.hcc_core.proofs.EveryRun.{every_run, run_keeps_places, run_finds_one, run_is_given}
+use Rattle.hcc_core.proofs.EveryRun.{every_run, run_counters_fit, run_keeps_places, run_finds_one, run_is_given}
 use Rattle.hcc_core.proofs.laws.law_every_run.Goals as goal
 
 pub returns-clause-lawful : goal.returns-clause-lawful
 returns-clause-lawful c = every_run
+
+pub returns-clause-counters : goal.returns-clause-counters
+returns-clause-counters c = run_counters_fit
 
 pub returns-clause-places : goal.returns-clause-places
 returns-clause-places c = run_keeps_places
