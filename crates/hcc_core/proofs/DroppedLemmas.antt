@@ -3,7 +3,7 @@ use Rattle.std.proofs.Common.{◌≡◌, ℕ, suc, ◌+◌, ◌<◌, ◌≤◌, 
 use Rattle.std.specs.List.{find, position_or_len}
 use Rattle.std.proofs.lemmas.Bool.{ltb-true, ltb-false}
 use Rattle.hcc_core.specs.Sums.{total}
-use Rattle.hcc_core.specs.Steps.{dropped}
+use Rattle.hcc_core.specs.Outcomes.{dropped}
 
 module _ {X : Type 0} (p : X → Bool) where
   -- a sum over the members that are left, and the one that went

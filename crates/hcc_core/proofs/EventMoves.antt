@@ -4,14 +4,27 @@ use Rattle.std.specs.List.{find, list_any}
 use Rattle.std.specs.Option.{ok_or}
 use Rattle.std.proofs.lemmas.Bool.{and_parts}
 use Rattle.hcc_core.specs.declared.limits.TheConstants.{CORRECTION}
-use Rattle.hcc_core.specs.declared.state.Client.{Client}
-use Rattle.hcc_core.specs.declared.state.Setup.{Setup}
-use Rattle.hcc_core.specs.declared.state.Slot.{Slot}
-use Rattle.hcc_core.specs.declared.state.Slot.TheVariants as slots
+use Rattle.hcc_core.specs.declared.client.Client.{Client}
+use Rattle.hcc_core.specs.declared.setup.Setup.{Setup}
+use Rattle.hcc_core.specs.declared.slot.Slot.{Slot}
+use Rattle.hcc_core.specs.declared.slot.Slot.TheVariants as slots
 use Rattle.hcc_core.specs.declared.event.CoreError.{CoreError}
 use Rattle.hcc_core.specs.declared.event.CoreError.TheVariants.{NotAllowed}
-use Rattle.hcc_core.specs.World.{State, references_of, usage_of, uses_of, is_placed, occupancy_of, standing_in, weight_of, has_client, slot_holding}
-use Rattle.hcc_core.specs.Steps.{Outcome, ◌>>=◌, allow, slot_at, client_at, live_at, holding, with_both, start_of, look_of, looks_at, most_weight, acquire_of, may_acquire, give_of, use_of, counting_in, occupied, occupy_of, owns_nothing, hide_of, free_of, may_free, empty_of, freed_by, has_no_member, write_of, is_building, read_of, entry_read, enter_of, is_absent, slots_of, charge_by, may_charge, settle_of, may_settle, end_of, is_idle, holds_nothing, clock_of, may_clock, clocked, mark_of, correct_of, may_correct, waive_of, may_waive, quit_of, told, usage_told, occupancy_told, standing_told, stand_of, may_stand, fall_of, is_standing, count_of, pass_of, unpass_of, is_slot, turn_of}
+use Rattle.hcc_core.specs.World.{State, references_of, usage_of, uses_of, is_placed, occupancy_of}
+use Rattle.hcc_core.specs.World.{standing_in, weight_of, has_client, slot_holding, owns_nothing}
+use Rattle.hcc_core.specs.World.{is_absent}
+use Rattle.hcc_core.specs.Outcomes.{Outcome, ◌>>=◌, allow, slot_at, client_at, live_at, holding}
+use Rattle.hcc_core.specs.Outcomes.{with_both, has_no_member}
+use Rattle.hcc_core.specs.References.{start_of, look_of, looks_at, most_weight, acquire_of}
+use Rattle.hcc_core.specs.References.{may_acquire, give_of, use_of, counting_in, end_of, is_idle}
+use Rattle.hcc_core.specs.References.{holds_nothing}
+use Rattle.hcc_core.specs.Uses.{clock_of, may_clock, clocked, mark_of, correct_of, may_correct}
+use Rattle.hcc_core.specs.Entries.{occupied, occupy_of, hide_of, free_of, may_free, empty_of}
+use Rattle.hcc_core.specs.Entries.{freed_by, write_of, is_building, read_of, entry_read}
+use Rattle.hcc_core.specs.Ledgers.{enter_of, slots_of, charge_by, may_charge, settle_of, may_settle}
+use Rattle.hcc_core.specs.Ledgers.{waive_of, may_waive, quit_of, told, usage_told, occupancy_told}
+use Rattle.hcc_core.specs.Ledgers.{standing_told, stand_of, may_stand, fall_of, is_standing}
+use Rattle.hcc_core.specs.Trails.{count_of, pass_of, unpass_of, is_slot, turn_of}
 use Rattle.hcc_core.specs.Lawful.{stamps_by}
 use Rattle.hcc_core.proofs.ListLemmas.{read_same}
 use Rattle.hcc_core.proofs.Keeps.{found_ok, live_ok, may_ok}

@@ -4,15 +4,20 @@ use Rattle.std.proofs.Common.{◌≡◌, ◌⊎◌, inl, inr, ℕ, ◌&&◌, Boo
 use Rattle.std.specs.Prelude.{option_and_then}
 use Rattle.std.proofs.lemmas.List.{append_assoc, append-nil, length-append}
 use Rattle.hcc_core.specs.declared.event.Event.{Event}
-use Rattle.hcc_core.specs.declared.state.Client.{Client}
-use Rattle.hcc_core.specs.declared.state.Entry.{Entry}
-use Rattle.hcc_core.specs.declared.state.Setup.{Setup}
-use Rattle.hcc_core.specs.declared.state.Stamp.{Stamp}
+use Rattle.hcc_core.specs.declared.client.Client.{Client}
+use Rattle.hcc_core.specs.declared.slot.Entry.{Entry}
+use Rattle.hcc_core.specs.declared.setup.Setup.{Setup}
+use Rattle.hcc_core.specs.declared.slot.Stamp.{Stamp}
 use Rattle.hcc_core.specs.Sums.{when}
 use Rattle.hcc_core.specs.World.{State}
-use Rattle.hcc_core.specs.Steps.{Outcome, outcome_of, is_made, world_after, after, after_all, opening_of, new_slot, new_client, CanOpen}
+use Rattle.hcc_core.specs.Outcomes.{Outcome, is_made}
+use Rattle.hcc_core.specs.Steps.{outcome_of}
+use Rattle.hcc_core.specs.Opening.{opening_of, new_slot, new_client, CanOpen}
+use Rattle.hcc_core.specs.Runs.{world_after, after, after_all, entry_held, held_at, named_on}
+use Rattle.hcc_core.specs.Runs.{named_in, Stands, StandsThrough, KeepsPlaces, FindsOne, CountersFit}
+use Rattle.hcc_core.specs.Runs.{entry_of, entry_at, is_show, shows_in, shows_of, entry_given}
+use Rattle.hcc_core.specs.Runs.{AreGiven}
 use Rattle.hcc_core.specs.Lawful.{Lawful, stamps_by}
-use Rattle.hcc_core.specs.Runs.{entry_held, held_at, named_on, named_in, Stands, StandsThrough, KeepsPlaces, FindsOne, CountersFit, entry_of, entry_at, is_show, shows_in, shows_of, entry_given, AreGiven}
 use Rattle.hcc_core.proofs.ListLemmas.{nothing_in, in_replicate, read_before, read_last}
 use Rattle.hcc_core.proofs.SumLemmas.{total-zero}
 use Rattle.hcc_core.proofs.Keeps.{KeepsLaw, outcome_keeps}

@@ -3,17 +3,30 @@ use Rattle.std.proofs.Common.{◌≡◌, ℕ, nat_lt, Bool, true, false, cond, n
 use Rattle.std.specs.List.{find, list_any}
 use Rattle.hcc_core.specs.declared.limits.TheConstants.{CORRECTION}
 use Rattle.std.specs.Option.{ok_or}
-use Rattle.hcc_core.specs.declared.state.Client.{Client}
-use Rattle.hcc_core.specs.declared.state.Reference.{Reference}
-use Rattle.hcc_core.specs.declared.state.Slot.{Slot}
-use Rattle.hcc_core.specs.declared.state.Slot.TheVariants as slots
+use Rattle.hcc_core.specs.declared.client.Client.{Client}
+use Rattle.hcc_core.specs.declared.slot.Reference.{Reference}
+use Rattle.hcc_core.specs.declared.slot.Slot.{Slot}
+use Rattle.hcc_core.specs.declared.slot.Slot.TheVariants as slots
 use Rattle.hcc_core.specs.declared.event.CoreError.{CoreError}
 use Rattle.hcc_core.specs.declared.event.CoreError.TheVariants.{NoSuchSlot, NoSuchClient, NotAllowed, OutOfMemory}
 use Rattle.hcc_core.specs.declared.event.Event.{Event}
 use Rattle.hcc_core.specs.declared.event.Event.TheVariants as events
 use Rattle.hcc_core.specs.declared.event.Reply.{Reply}
-use Rattle.hcc_core.specs.World.{State, references_of, reference_in, usage_of, uses_of, is_placed, occupancy_of, standing_in}
-use Rattle.hcc_core.specs.Steps.{Outcome, takes_memory, ◌>>=◌, allow, slot_at, client_at, live_at, holding, start_of, look_of, acquire_of, may_acquire, give_of, use_of, counting_in, if_counting, occupied, occupy_of, owns_nothing, show_of, built_by, may_show, hide_of, free_of, may_free, empty_of, freed_by, has_no_member, write_of, is_building, read_of, entry_read, enter_of, is_absent, slots_of, charge_by, may_charge, settle_of, may_settle, in_range, rule_of, outcome_of, Follows, end_of, is_idle, holds_nothing, clock_of, may_clock, clocked, mark_of, correct_of, may_correct, waive_of, may_waive, quit_of, told, usage_told, occupancy_told, standing_told, stand_of, may_stand, fall_of, is_standing, count_of, pass_of, unpass_of, is_slot, turn_of}
+use Rattle.hcc_core.specs.World.{State, references_of, reference_in, usage_of, uses_of, is_placed}
+use Rattle.hcc_core.specs.World.{occupancy_of, standing_in, owns_nothing, is_absent}
+use Rattle.hcc_core.specs.Outcomes.{Outcome, ◌>>=◌, allow, slot_at, client_at, live_at, holding}
+use Rattle.hcc_core.specs.Outcomes.{has_no_member}
+use Rattle.hcc_core.specs.References.{start_of, look_of, acquire_of, may_acquire, give_of, use_of}
+use Rattle.hcc_core.specs.References.{counting_in, if_counting, end_of, is_idle, holds_nothing}
+use Rattle.hcc_core.specs.Uses.{clock_of, may_clock, clocked, mark_of, correct_of, may_correct}
+use Rattle.hcc_core.specs.Entries.{occupied, occupy_of, show_of, built_by, may_show, hide_of}
+use Rattle.hcc_core.specs.Entries.{free_of, may_free, empty_of, freed_by, write_of, is_building}
+use Rattle.hcc_core.specs.Entries.{read_of, entry_read}
+use Rattle.hcc_core.specs.Ledgers.{enter_of, slots_of, charge_by, may_charge, settle_of, may_settle}
+use Rattle.hcc_core.specs.Ledgers.{waive_of, may_waive, quit_of, told, usage_told, occupancy_told}
+use Rattle.hcc_core.specs.Ledgers.{standing_told, stand_of, may_stand, fall_of, is_standing}
+use Rattle.hcc_core.specs.Trails.{count_of, pass_of, unpass_of, is_slot, turn_of}
+use Rattle.hcc_core.specs.Steps.{takes_memory, in_range, rule_of, outcome_of, Follows}
 use Rattle.hcc_core.specs.Lawful.{Lawful, IsLawful}
 use Rattle.hcc_core.proofs.Opening.{lawful_is, is_lawful}
 use Rattle.hcc_core.proofs.LawfulReferences.{lawful_start, lawful_look, lawful_acquire, lawful_give, lawful_use, lawful_hide}

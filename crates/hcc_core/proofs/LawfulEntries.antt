@@ -4,17 +4,21 @@ use Rattle.std.proofs.lemmas.List.{length-set}
 use Rattle.std.proofs.lemmas.Option.{slice_get_within}
 use Rattle.std.proofs.lemmas.Bool.{and_parts, leb-true, ltb-true, false≢true, cases_eq}
 use Rattle.hcc_core.specs.declared.limits.TheConstants.{MOST_COUNTDOWN, STAMPS_PER_CLIENT}
-use Rattle.hcc_core.specs.declared.state.Client.{Client}
-use Rattle.hcc_core.specs.declared.state.Setup.{Setup}
-use Rattle.hcc_core.specs.declared.state.Stamp.{Stamp}
-use Rattle.hcc_core.specs.declared.state.Owned.{Owned}
-use Rattle.hcc_core.specs.declared.state.Owned.TheVariants as owned
-use Rattle.hcc_core.specs.declared.state.Place.{Place}
-use Rattle.hcc_core.specs.declared.state.Slot.{Slot}
-use Rattle.hcc_core.specs.declared.state.Slot.TheVariants as slots
+use Rattle.hcc_core.specs.declared.client.Client.{Client}
+use Rattle.hcc_core.specs.declared.setup.Setup.{Setup}
+use Rattle.hcc_core.specs.declared.slot.Stamp.{Stamp}
+use Rattle.hcc_core.specs.declared.client.Owned.{Owned}
+use Rattle.hcc_core.specs.declared.client.Owned.TheVariants as owned
+use Rattle.hcc_core.specs.declared.client.Place.{Place}
+use Rattle.hcc_core.specs.declared.slot.Slot.{Slot}
+use Rattle.hcc_core.specs.declared.slot.Slot.TheVariants as slots
 use Rattle.hcc_core.specs.Sums.{when}
-use Rattle.hcc_core.specs.World.{State, is_shareable, stamp_of, references_of, charge_of, taken_by_slot, is_granted}
-use Rattle.hcc_core.specs.Steps.{with_both, owns_nothing, built_by, freed_by, may_show, resident_new, client_shown, may_free, is_free_for, has_no_member, client_freeing, dead_to}
+use Rattle.hcc_core.specs.World.{State, is_shareable, stamp_of, references_of, charge_of}
+use Rattle.hcc_core.specs.World.{taken_by_slot, is_granted, owns_nothing}
+use Rattle.hcc_core.specs.Outcomes.{with_both, has_no_member}
+use Rattle.hcc_core.specs.References.{dead_to}
+use Rattle.hcc_core.specs.Entries.{built_by, freed_by, may_show, resident_new, client_shown}
+use Rattle.hcc_core.specs.Entries.{may_free, is_free_for, client_freeing}
 use Rattle.hcc_core.specs.Lawful.{Lawful, IsBounded, owner_of, owner_in, owned_slot, owned_by, stamp_in, stamps_by}
 use Rattle.hcc_core.proofs.ListLemmas.{read_same, read_here, read_other}
 use Rattle.hcc_core.proofs.DeadParts.{in_joined, dead_is_stamp, grave, dead_kept, dead_shown, lists_changed}

@@ -3,14 +3,17 @@ use Rattle.std.proofs.Common.{◌≡◌, ℕ, ◌+◌, ◌-◌, min, ◌<◌, �
 use Rattle.std.specs.List.{find, list_any}
 use Rattle.std.proofs.lemmas.Bool.{and_parts, leb-true, ltb-true, eqb-true, false≢true}
 use Rattle.hcc_core.specs.declared.limits.TheConstants.{MOST_USAGE}
-use Rattle.hcc_core.specs.declared.state.Client.{Client}
-use Rattle.hcc_core.specs.declared.state.Standalone.{Standalone}
-use Rattle.hcc_core.specs.declared.state.Setup.{Setup}
-use Rattle.hcc_core.specs.declared.state.Place.{Place}
-use Rattle.hcc_core.specs.declared.state.Place.TheVariants as places
+use Rattle.hcc_core.specs.declared.client.Client.{Client}
+use Rattle.hcc_core.specs.declared.client.Standalone.{Standalone}
+use Rattle.hcc_core.specs.declared.setup.Setup.{Setup}
+use Rattle.hcc_core.specs.declared.client.Place.{Place}
+use Rattle.hcc_core.specs.declared.client.Place.TheVariants as places
 use Rattle.hcc_core.specs.Sums.{when}
-use Rattle.hcc_core.specs.World.{State, charged_to, is_placed, is_granted, occupied_by, usage_of, occupancy_of, limit_of}
-use Rattle.hcc_core.specs.Steps.{with_client, is_absent, place_granted, grant_of, may_charge, may_settle, dropped, is_standing, may_stand}
+use Rattle.hcc_core.specs.World.{State, charged_to, is_placed, is_granted, occupied_by, usage_of}
+use Rattle.hcc_core.specs.World.{occupancy_of, limit_of, is_absent}
+use Rattle.hcc_core.specs.Outcomes.{with_client, dropped}
+use Rattle.hcc_core.specs.Ledgers.{place_granted, grant_of, may_charge, may_settle, is_standing}
+use Rattle.hcc_core.specs.Ledgers.{may_stand}
 use Rattle.hcc_core.specs.Lawful.{Lawful, Ledgers, taken_by, taken_in, real_to, real_in}
 use Rattle.hcc_core.proofs.SumLemmas.{total-set, total-le, total-append}
 use Rattle.hcc_core.proofs.DroppedLemmas.{dropped-total}

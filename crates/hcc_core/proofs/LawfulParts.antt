@@ -3,13 +3,14 @@
 use Rattle.std.proofs.Common.{◌≡◌, ◌⊎◌, inl, inr, ℕ, ◌+◌, ◌*◌, ◌≤◌, Bool, true, false, List, [], ◌∷◌, Option, Some, None, length, slice_set, slice_get, ap, sym, ◌∙◌, arith}
 use Rattle.std.proofs.lemmas.List.{length-set}
 use Rattle.std.proofs.lemmas.Bool.{cases_eq}
-use Rattle.hcc_core.specs.declared.state.Client.{Client}
-use Rattle.hcc_core.specs.declared.state.Setup.{Setup}
-use Rattle.hcc_core.specs.declared.state.Stamp.{Stamp}
-use Rattle.hcc_core.specs.declared.state.Slot.{Slot}
+use Rattle.hcc_core.specs.declared.client.Client.{Client}
+use Rattle.hcc_core.specs.declared.setup.Setup.{Setup}
+use Rattle.hcc_core.specs.declared.slot.Stamp.{Stamp}
+use Rattle.hcc_core.specs.declared.slot.Slot.{Slot}
 use Rattle.hcc_core.specs.Sums.{when}
 use Rattle.hcc_core.specs.World.{State, strays_of, charge_of, stamp_of, taken_by_slot, charged_to, trail_of}
-use Rattle.hcc_core.specs.Steps.{looks_at, with_client, with_both}
+use Rattle.hcc_core.specs.Outcomes.{with_client, with_both}
+use Rattle.hcc_core.specs.References.{looks_at}
 use Rattle.hcc_core.specs.Lawful.{Sized, IsBounded, Bounded, Strayed, Owners, Stamped, Trailed, Ledgers, lookers, owner_of, owner_in, owned_slot, owned_by, stamp_in, stamps_by, taken_by, real_to}
 use Rattle.hcc_core.proofs.ListLemmas.{get_at_set, read_here, read_other}
 use Rattle.hcc_core.proofs.SumLemmas.{total-set}

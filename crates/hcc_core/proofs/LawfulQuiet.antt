@@ -2,11 +2,11 @@
 use Rattle.std.proofs.Common.{◌≡◌, ◌⊎◌, inl, inr, ℕ, ◌+◌, ◌*◌, ◌≤◌, true, List, None, Some, length, slice_get, slice_set, refl, ap, sym, ◌∙◌, arith}
 use Rattle.std.proofs.lemmas.Bool.{cases_eq}
 use Rattle.std.proofs.lemmas.List.{length-set}
-use Rattle.hcc_core.specs.declared.state.Client.{Client}
-use Rattle.hcc_core.specs.declared.state.Stamp.{Stamp}
-use Rattle.hcc_core.specs.declared.state.Slot.{Slot}
+use Rattle.hcc_core.specs.declared.client.Client.{Client}
+use Rattle.hcc_core.specs.declared.slot.Stamp.{Stamp}
+use Rattle.hcc_core.specs.declared.slot.Slot.{Slot}
 use Rattle.hcc_core.specs.World.{State, stamp_of, strays_of, charge_of, trail_of, taken_by_slot, charged_to}
-use Rattle.hcc_core.specs.Steps.{with_client, with_both}
+use Rattle.hcc_core.specs.Outcomes.{with_client, with_both}
 use Rattle.hcc_core.specs.Lawful.{Lawful, IsBounded, Ledgers, owner_of, owner_in, owned_slot, owned_by, stamp_in, stamps_by, taken_by, real_to, shown_stamp, shown_in, is_in}
 use Rattle.hcc_core.proofs.ListLemmas.{read_same, read_here, read_other}
 use Rattle.hcc_core.proofs.DeadParts.{grave, dead_kept, lists_changed}

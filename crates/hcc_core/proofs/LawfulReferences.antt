@@ -2,15 +2,19 @@
 use Rattle.std.proofs.Common.{Option, ◌≡◌, ◌⊎◌, inl, inr, ℕ, ◌+◌, ◌*◌, ◌<◌, ◌≤◌, ◌||◌, ◌==◌, Bool, true, false, nat_le, nat_lt, is_none, List, [], ◌∷◌, ◌++◌, Some, slice_get, refl, sym, arith, None, ◌∙◌}
 use Rattle.std.proofs.lemmas.Bool.{and_parts, or_cases, leb-true, ltb-true, false≢true, ne_eqb}
 use Rattle.hcc_core.specs.declared.limits.TheConstants.{MOST_WEIGHT, MOST_CLIENTS, MOST_REFERENCES, NEAR}
-use Rattle.hcc_core.specs.declared.state.Client.{Client}
-use Rattle.hcc_core.specs.declared.state.Reference.{Reference}
-use Rattle.hcc_core.specs.declared.state.Setup.{Setup}
-use Rattle.hcc_core.specs.declared.state.Stamp.{Stamp}
-use Rattle.hcc_core.specs.declared.state.Slot.{Slot}
-use Rattle.hcc_core.specs.declared.state.Slot.TheVariants as slots
+use Rattle.hcc_core.specs.declared.client.Client.{Client}
+use Rattle.hcc_core.specs.declared.slot.Reference.{Reference}
+use Rattle.hcc_core.specs.declared.setup.Setup.{Setup}
+use Rattle.hcc_core.specs.declared.slot.Stamp.{Stamp}
+use Rattle.hcc_core.specs.declared.slot.Slot.{Slot}
+use Rattle.hcc_core.specs.declared.slot.Slot.TheVariants as slots
 use Rattle.hcc_core.specs.Sums.{when}
 use Rattle.hcc_core.specs.World.{State, is_named, stamp_of, strays_of, references_of, weight, weight_of, reference_in, has_client, slot_holding}
-use Rattle.hcc_core.specs.Steps.{with_client, with_both, looks_at, client_looked, most_weight, may_acquire, new_reference, slot_acquired, client_acquired, client_noticed, slot_given, slot_used, slot_hidden, noticed, dead_to}
+use Rattle.hcc_core.specs.Outcomes.{with_client, with_both}
+use Rattle.hcc_core.specs.References.{looks_at, client_looked, most_weight, may_acquire}
+use Rattle.hcc_core.specs.References.{new_reference, slot_acquired, client_acquired, client_noticed}
+use Rattle.hcc_core.specs.References.{slot_given, slot_used, noticed, dead_to}
+use Rattle.hcc_core.specs.Entries.{slot_hidden}
 use Rattle.hcc_core.specs.Lawful.{Lawful, IsBounded, shown_stamp, is_in}
 use Rattle.hcc_core.proofs.ListLemmas.{set_same}
 use Rattle.hcc_core.proofs.SumLemmas.{total-append}

@@ -2,18 +2,20 @@
 -- pass, unpass, turn.
 use Rattle.std.proofs.Common.{◌≡◌, inl, inr, ℕ, ◌<◌, ◌≤◌, true, false, nat_lt, [], ◌∷◌, ◌++◌, Some, slice_get, refl, arith, None, length}
 use Rattle.std.proofs.lemmas.Bool.{ltb-true}
-use Rattle.hcc_core.specs.declared.state.Client.{Client}
-use Rattle.hcc_core.specs.declared.state.Setup.{Setup}
-use Rattle.hcc_core.specs.declared.state.Slot.{Slot}
-use Rattle.hcc_core.specs.declared.state.Slot.TheVariants as slots
+use Rattle.hcc_core.specs.declared.client.Client.{Client}
+use Rattle.hcc_core.specs.declared.setup.Setup.{Setup}
+use Rattle.hcc_core.specs.declared.slot.Slot.{Slot}
+use Rattle.hcc_core.specs.declared.slot.Slot.TheVariants as slots
 use Rattle.hcc_core.specs.World.{State, strays_of}
-use Rattle.hcc_core.specs.Steps.{with_client, with_both, client_noticed}
+use Rattle.hcc_core.specs.Outcomes.{with_client, with_both, with_slot, dropped}
+use Rattle.hcc_core.specs.References.{client_noticed}
 use Rattle.hcc_core.specs.Lawful.{Lawful, IsBounded}
 use Rattle.hcc_core.proofs.ListLemmas.{set_same}
 use Rattle.hcc_core.proofs.LawfulParts.{ledgers_client}
 use Rattle.hcc_core.proofs.LawfulQuiet.{QuietSlot, quiet, QuietClient}
 use Rattle.hcc_core.specs.World.{uses_of}
-use Rattle.hcc_core.specs.Steps.{with_slot, slot_with_uses, slot_marked, is_slot, dropped}
+use Rattle.hcc_core.specs.Uses.{slot_with_uses, slot_marked}
+use Rattle.hcc_core.specs.Trails.{is_slot}
 use Rattle.hcc_core.proofs.SumLemmas.{length-push}
 use Rattle.hcc_core.proofs.LawfulQuiet.{one_client}
 use Rattle.hcc_core.proofs.LawfulParts.{ledgers_client}

@@ -3,15 +3,18 @@
 use Rattle.std.proofs.Common.{◌≡◌, ◌⊎◌, inl, inr, ℕ, Bool, true, false, cond, List, [], ◌∷◌, Option, Some, None, slice_set, slice_get, refl, sym, ap, ◌∙◌, ◌≤◌, ◌+◌, arith}
 use Rattle.std.specs.Prelude.{option_and_then}
 use Rattle.std.specs.List.{list_any}
-use Rattle.hcc_core.specs.declared.state.Client.{Client}
-use Rattle.hcc_core.specs.declared.state.Entry.{Entry}
-use Rattle.hcc_core.specs.declared.state.Reference.{Reference}
-use Rattle.hcc_core.specs.declared.state.Resident.{Resident}
-use Rattle.hcc_core.specs.declared.state.Slot.{Slot}
-use Rattle.hcc_core.specs.declared.state.Slot.TheVariants as slots
+use Rattle.hcc_core.specs.declared.client.Client.{Client}
+use Rattle.hcc_core.specs.declared.slot.Entry.{Entry}
+use Rattle.hcc_core.specs.declared.slot.Reference.{Reference}
+use Rattle.hcc_core.specs.declared.slot.Resident.{Resident}
+use Rattle.hcc_core.specs.declared.slot.Slot.{Slot}
+use Rattle.hcc_core.specs.declared.slot.Slot.TheVariants as slots
 use Rattle.hcc_core.specs.Sums.{when, total}
 use Rattle.hcc_core.specs.World.{State, is_named}
-use Rattle.hcc_core.specs.Steps.{with_client, new_reference, slot_acquired, slot_given, slot_used, slot_hidden, slot_marked, slot_with_uses}
+use Rattle.hcc_core.specs.Outcomes.{with_client}
+use Rattle.hcc_core.specs.References.{new_reference, slot_acquired, slot_given, slot_used}
+use Rattle.hcc_core.specs.Uses.{slot_marked, slot_with_uses}
+use Rattle.hcc_core.specs.Entries.{slot_hidden}
 use Rattle.hcc_core.specs.Lawful.{stamps_by}
 use Rattle.hcc_core.specs.Runs.{entry_held, held_at, named_on, named_in, entry_of, entry_at}
 use Rattle.hcc_core.proofs.ListLemmas.{read_same, read_at_set}

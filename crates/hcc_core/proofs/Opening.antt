@@ -1,13 +1,14 @@
 -- The opening world is lawful, and the name that tactics do not open.
 use Rattle.std.proofs.Common.{refl, arith, ◌⊎◌, inl, inr, true, Option, None, Some, sym, ap, ◌∙◌, replicate, slice_get, ◌≡◌, ℕ}
 use Rattle.std.proofs.lemmas.Bool.{false≢true}
-use Rattle.hcc_core.specs.declared.state.Stamp.{Stamp}
+use Rattle.hcc_core.specs.declared.slot.Stamp.{Stamp}
 use Rattle.std.proofs.lemmas.List.{length-replicate}
-use Rattle.hcc_core.specs.declared.state.Setup.{Setup}
-use Rattle.hcc_core.specs.declared.state.Client.{Client}
+use Rattle.hcc_core.specs.declared.setup.Setup.{Setup}
+use Rattle.hcc_core.specs.declared.client.Client.{Client}
 use Rattle.hcc_core.specs.Sums.{when}
 use Rattle.hcc_core.specs.World.{State, charge_of, taken_by_slot, charged_to}
-use Rattle.hcc_core.specs.Steps.{looks_at, opening_of, CanOpen, new_slot, new_client}
+use Rattle.hcc_core.specs.References.{looks_at}
+use Rattle.hcc_core.specs.Opening.{opening_of, CanOpen, new_slot, new_client}
 use Rattle.hcc_core.specs.Lawful.{Lawful, IsLawful, owner_in, owned_by, stamp_in, taken_by, real_to, dead_by, is_in}
 use Rattle.hcc_core.proofs.ListLemmas.{nothing_in, in_replicate, replicate_is}
 use Rattle.hcc_core.proofs.SumLemmas.{total-zero}

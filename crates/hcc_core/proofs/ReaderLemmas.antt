@@ -1,8 +1,8 @@
 -- What the readers add up is what the definitions say.
 use Rattle.std.proofs.Common.{◌≡◌, ℕ, ◌+◌, ◌==◌, Bool, true, false, cond, List, [], ◌∷◌, sum_by, count_by, refl, ◌∙◌, arith}
-use Rattle.hcc_core.specs.declared.state.Client.{Client}
-use Rattle.hcc_core.specs.declared.state.Slot.{Slot}
-use Rattle.hcc_core.specs.declared.state.Slot.TheVariants as slots
+use Rattle.hcc_core.specs.declared.client.Client.{Client}
+use Rattle.hcc_core.specs.declared.slot.Slot.{Slot}
+use Rattle.hcc_core.specs.declared.slot.Slot.TheVariants as slots
 use Rattle.hcc_core.specs.Sums.{when, total}
 use Rattle.hcc_core.specs.World.{is_shareable, taken_by_slot, is_placed, trail_of, standing_of, charged_to, occupied_by, times, passed_by}
 use Rattle.hcc_core.proofs.SumLemmas.{sum_by_total}

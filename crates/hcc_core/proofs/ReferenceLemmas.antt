@@ -1,9 +1,9 @@
 -- References that come and go.
 use Rattle.std.proofs.Common.{ℕ, ◌≤◌, Bool, true, false, List, [], ◌∷◌, Option, Some, None, arith}
-use Rattle.hcc_core.specs.declared.state.Reference.{Reference}
+use Rattle.hcc_core.specs.declared.slot.Reference.{Reference}
 use Rattle.hcc_core.specs.Sums.{when}
 use Rattle.hcc_core.specs.World.{weight, counted}
-use Rattle.hcc_core.specs.Steps.{first_references}
+use Rattle.hcc_core.specs.Entries.{first_references}
 
 when_le : (b : Bool) (n : ℕ) → when b n ≤ n
 when_le true n = omega arith

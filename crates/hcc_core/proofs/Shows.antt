@@ -5,18 +5,21 @@ use Rattle.std.specs.Prelude.{option_and_then}
 use Rattle.std.specs.Option.{ok_or}
 use Rattle.std.proofs.lemmas.Bool.{and_parts, eq-eqb, ne_eqb, cases_eq}
 use Rattle.hcc_core.specs.declared.limits.TheConstants.{STAMPS_PER_CLIENT}
-use Rattle.hcc_core.specs.declared.state.Client.{Client}
-use Rattle.hcc_core.specs.declared.state.Entry.{Entry}
-use Rattle.hcc_core.specs.declared.state.Resident.{Resident}
-use Rattle.hcc_core.specs.declared.state.Slot.{Slot}
-use Rattle.hcc_core.specs.declared.state.Slot.TheVariants as slots
+use Rattle.hcc_core.specs.declared.client.Client.{Client}
+use Rattle.hcc_core.specs.declared.slot.Entry.{Entry}
+use Rattle.hcc_core.specs.declared.slot.Resident.{Resident}
+use Rattle.hcc_core.specs.declared.slot.Slot.{Slot}
+use Rattle.hcc_core.specs.declared.slot.Slot.TheVariants as slots
 use Rattle.hcc_core.specs.declared.event.CoreError.{CoreError}
 use Rattle.hcc_core.specs.declared.event.CoreError.TheVariants.{NotAllowed}
 use Rattle.hcc_core.specs.declared.event.Event.{Event}
 use Rattle.hcc_core.specs.declared.event.Event.TheVariants as events
 use Rattle.hcc_core.specs.Sums.{when}
 use Rattle.hcc_core.specs.World.{State}
-use Rattle.hcc_core.specs.Steps.{Outcome, ◌>>=◌, allow, live_at, with_both, built_by, is_fresh, may_show, first_references, resident_new, client_shown, show_of, in_range, rule_of, outcome_of}
+use Rattle.hcc_core.specs.Outcomes.{Outcome, ◌>>=◌, allow, live_at, with_both}
+use Rattle.hcc_core.specs.Entries.{built_by, is_fresh, may_show, first_references, resident_new}
+use Rattle.hcc_core.specs.Entries.{client_shown, show_of}
+use Rattle.hcc_core.specs.Steps.{in_range, rule_of, outcome_of}
 use Rattle.hcc_core.specs.Lawful.{stamps_by}
 use Rattle.hcc_core.specs.Runs.{entry_held, named_on, entry_of, entry_at, is_show, entry_given}
 use Rattle.hcc_core.proofs.ListLemmas.{read_at_set, read_here, read_other}

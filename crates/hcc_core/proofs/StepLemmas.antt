@@ -2,18 +2,27 @@
 use Rattle.std.proofs.Common.{◌≡◌, ℕ, ◌+◌, ◌-◌, ◌&&◌, ◌||◌, ◌==◌, Bool, true, false, cond, not, nat_lt, List, [], ◌∷◌, ◌++◌, Option, Some, None, Ok, unwrap_or, slice_get, length, position, one-add, refl, sym, ap, ◌∙◌}
 use Rattle.std.specs.List.{list_any, position_or_len, find}
 use Rattle.std.proofs.lemmas.Bool.{eq-eqb}
-use Rattle.hcc_core.specs.declared.state.Client.{Client}
-use Rattle.hcc_core.specs.declared.state.Reference.{Reference}
-use Rattle.hcc_core.specs.declared.state.Resident.{Resident}
-use Rattle.hcc_core.specs.declared.state.Stamp.{Stamp}
-use Rattle.hcc_core.specs.declared.state.Standalone.{Standalone}
-use Rattle.hcc_core.specs.declared.state.Slot.{Slot}
-use Rattle.hcc_core.specs.declared.state.Slot.TheVariants as slots
-use Rattle.hcc_core.specs.declared.state.Owned.TheVariants as owned
+use Rattle.hcc_core.specs.declared.client.Client.{Client}
+use Rattle.hcc_core.specs.declared.slot.Reference.{Reference}
+use Rattle.hcc_core.specs.declared.slot.Resident.{Resident}
+use Rattle.hcc_core.specs.declared.slot.Stamp.{Stamp}
+use Rattle.hcc_core.specs.declared.client.Standalone.{Standalone}
+use Rattle.hcc_core.specs.declared.slot.Slot.{Slot}
+use Rattle.hcc_core.specs.declared.slot.Slot.TheVariants as slots
+use Rattle.hcc_core.specs.declared.client.Owned.TheVariants as owned
 use Rattle.hcc_core.specs.declared.event.Reply.{Reply}
 use Rattle.hcc_core.specs.declared.event.Reply.TheVariants as replies
 use Rattle.hcc_core.specs.World.{State, references_of, charge_of, stamp_of, hidden_stamp, is_named, has_reference, has_client, slot_holding, counts_in, usage_of}
-use Rattle.hcc_core.specs.Steps.{live_at, with_client, with_both, dead_to, joined, may_acquire, acquired, new_reference, slot_acquired, client_acquired, acquire_of, slot_given, client_noticed, left_on, give_of, counting_in, slot_used, use_of, built_by, may_show, resident_new, client_shown, show_of, slot_hidden, hidden, hide_of, may_free, client_freeing, free_of, freed_by, has_no_member, empty_of, may_charge, grant_of, charge_by, may_settle, settle_of, dropped, is_standing, fall_of}
+use Rattle.hcc_core.specs.Outcomes.{live_at, with_client, with_both, has_no_member, dropped}
+use Rattle.hcc_core.specs.References.{dead_to, joined, may_acquire, acquired, new_reference}
+use Rattle.hcc_core.specs.References.{slot_acquired, client_acquired, acquire_of, slot_given}
+use Rattle.hcc_core.specs.References.{client_noticed, left_on, give_of, counting_in, slot_used}
+use Rattle.hcc_core.specs.References.{use_of}
+use Rattle.hcc_core.specs.Entries.{built_by, may_show, resident_new, client_shown, show_of}
+use Rattle.hcc_core.specs.Entries.{slot_hidden, hidden, hide_of, may_free, client_freeing, free_of}
+use Rattle.hcc_core.specs.Entries.{freed_by, empty_of}
+use Rattle.hcc_core.specs.Ledgers.{may_charge, grant_of, charge_by, may_settle, settle_of}
+use Rattle.hcc_core.specs.Ledgers.{is_standing, fall_of}
 
 live_is : (w : State) (client : ℕ) (found : Client) → slice_get w.clients client ≡ Some found
     → found.live ≡ true

@@ -1,18 +1,22 @@
 -- The lawful worlds: what holds of each world that events lead to from an opening world. Each part
 -- speaks of some readings alone, so a step that leaves these readings keeps the part.
-use Rattle.std.specs.Prelude.{◌≡◌, ℕ, ◌+◌, ◌*◌, ◌<◌, ◌≤◌, List, Option, Some, None, length, slice_get, option_and_then, Bool, true, [], if◌then◌else◌}
+use Rattle.std.specs.Prelude.{◌≡◌, ℕ, ◌+◌, ◌*◌, ◌<◌, ◌≤◌, List, Option, Some, None, length}
+use Rattle.std.specs.Prelude.{slice_get, option_and_then, Bool, true, [], if◌then◌else◌}
 use Rattle.std.specs.List.{list_any}
-use Rattle.hcc_core.specs.declared.limits.TheConstants.{MOST_SLOTS, MOST_CLIENTS, MOST_WEIGHT, MOST_REFERENCES, NEAR, MOST_USAGE}
-use Rattle.hcc_core.specs.declared.state.Setup.{Setup}
-use Rattle.hcc_core.specs.declared.state.Stamp.{Stamp}
-use Rattle.hcc_core.specs.declared.state.Client.{Client}
-use Rattle.hcc_core.specs.declared.state.Owned.{Owned}
-use Rattle.hcc_core.specs.declared.state.Owned.TheVariants as owned
-use Rattle.hcc_core.specs.declared.state.Slot.{Slot}
-use Rattle.hcc_core.specs.declared.state.Slot.TheVariants as slots
+use Rattle.hcc_core.specs.declared.limits.TheConstants.{MOST_SLOTS, MOST_CLIENTS, MOST_WEIGHT}
+use Rattle.hcc_core.specs.declared.limits.TheConstants.{MOST_REFERENCES, NEAR, MOST_USAGE}
+use Rattle.hcc_core.specs.declared.setup.Setup.{Setup}
+use Rattle.hcc_core.specs.declared.slot.Stamp.{Stamp}
+use Rattle.hcc_core.specs.declared.client.Client.{Client}
+use Rattle.hcc_core.specs.declared.client.Owned.{Owned}
+use Rattle.hcc_core.specs.declared.client.Owned.TheVariants as owned
+use Rattle.hcc_core.specs.declared.slot.Slot.{Slot}
+use Rattle.hcc_core.specs.declared.slot.Slot.TheVariants as slots
 use Rattle.hcc_core.specs.Sums.{when, total}
-use Rattle.hcc_core.specs.World.{State, taken_by_slot, strays_of, references_of, uses_of, stamp_of, weight_of, counted, trail_of, is_granted, usage_of, limit_of, standing_of, charge_of}
-use Rattle.hcc_core.specs.Steps.{is_stamp, looks_at, most_weight}
+use Rattle.hcc_core.specs.World.{State, taken_by_slot, strays_of, references_of, uses_of, stamp_of}
+use Rattle.hcc_core.specs.World.{weight_of, counted, trail_of, is_granted, usage_of, limit_of}
+use Rattle.hcc_core.specs.World.{standing_of, charge_of}
+use Rattle.hcc_core.specs.References.{is_stamp, looks_at, most_weight}
 
 -- Readings of a slot or a client that may not be there.
 
@@ -66,7 +70,9 @@ lookers clients slot = total (λ client. when (looks_at client slot) 1) clients
 
 -- each client that looked may still leave as many strays as one acquire adds
 abbrev pub Strayed : Setup → List Slot → List Client → Type 0
-Strayed setup all clients = (s : ℕ) (slot : Slot) → slice_get all s ≡ Some slot → strays_of slot + MOST_WEIGHT * lookers clients s ≤ MOST_WEIGHT * setup.clients
+Strayed setup all clients =
+    (s : ℕ) (slot : Slot) → slice_get all s ≡ Some slot
+    → strays_of slot + MOST_WEIGHT * lookers clients s ≤ MOST_WEIGHT * setup.clients
 
 -- a slot is Building by a client exactly where that client owns it
 pub record Owners (all : List Slot) (clients : List Client) : Type 0 where

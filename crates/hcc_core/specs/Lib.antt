@@ -1,5 +1,12 @@
 pub mod Sums
 pub mod World
+pub mod Outcomes
+pub mod References
+pub mod Uses
+pub mod Entries
+pub mod Ledgers
+pub mod Trails
 pub mod Steps
+pub mod Opening
 pub mod Lawful
 pub mod Runs

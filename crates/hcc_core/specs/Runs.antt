@@ -1,15 +1,34 @@
--- What is said of runs. A run tries events one after the other from a world; what is refused changes
--- nothing. The worlds on the way are the worlds after the fronts of the run.
-use Rattle.std.specs.Prelude.{◌≡◌, ℕ, ◌+◌, ◌^◌, ◌<◌, ◌≤◌, Bool, false, ◌&&◌, ◌==◌, List, [], ◌∷◌, ◌++◌, Option, Some, None, slice_get, option_and_then, if◌then◌else◌}
-use Rattle.hcc_core.specs.declared.state.Stamp.{Stamp}
-use Rattle.hcc_core.specs.declared.state.Entry.{Entry}
-use Rattle.hcc_core.specs.declared.state.Slot.{Slot}
-use Rattle.hcc_core.specs.declared.state.Slot.TheVariants as slots
+-- What is said of runs. A run tries events one after the other from a world; what is refused
+-- changes nothing. The worlds on the way are the worlds after the fronts of the run.
+use Rattle.std.specs.Prelude.{◌≡◌, ℕ, ◌+◌, ◌^◌, ◌<◌, ◌≤◌, Bool, false, ◌&&◌, ◌==◌, List, [], ◌∷◌}
+use Rattle.std.specs.Prelude.{◌++◌, Option, Some, None, Result, Ok, Err, slice_get, option_and_then}
+use Rattle.std.specs.Prelude.{if◌then◌else◌}
+use Rattle.hcc_core.specs.declared.slot.Stamp.{Stamp}
+use Rattle.hcc_core.specs.declared.slot.Entry.{Entry}
+use Rattle.hcc_core.specs.declared.slot.Slot.{Slot}
+use Rattle.hcc_core.specs.declared.slot.Slot.TheVariants as slots
 use Rattle.hcc_core.specs.declared.event.Event.{Event}
 use Rattle.hcc_core.specs.declared.event.Event.TheVariants as events
 use Rattle.hcc_core.specs.Sums.{when, total}
-use Rattle.hcc_core.specs.World.{State, references_of, uses_of, weight_of, strays_of, is_named, has_reference, slot_holding}
-use Rattle.hcc_core.specs.Steps.{outcome_of, is_made, after, after_all}
+use Rattle.hcc_core.specs.World.{State, references_of, uses_of, weight_of, strays_of, is_named}
+use Rattle.hcc_core.specs.World.{has_reference, slot_holding}
+use Rattle.hcc_core.specs.Outcomes.{Outcome, is_made}
+use Rattle.hcc_core.specs.Steps.{outcome_of}
+
+-- The worlds on the way.
+
+-- the world after an outcome: a refusal changes nothing
+abbrev pub world_after : State → Outcome → State
+world_after world (Ok done) = done.1
+world_after world (Err error) = world
+
+-- the world after an event, and after events in turn
+abbrev pub after : State → Event → State
+after world event = world_after world (outcome_of world event)
+
+abbrev pub after_all : State → List Event → State
+after_all world [] = world
+after_all world (event ∷ events) = after_all (after world event) events
 
 -- Counters.
 
@@ -36,7 +55,8 @@ abbrev pub entry_held : ℕ → ℕ → Slot → Option Entry
 entry_held client name slot = if has_reference client name slot then entry_of slot else None
 
 abbrev pub held_at : State → ℕ → ℕ → ℕ → Option Entry
-held_at world client name slot = option_and_then (entry_held client name) (slice_get world.slots slot)
+held_at world client name slot =
+    option_and_then (entry_held client name) (slice_get world.slots slot)
 
 -- this client's reference of this name stands, on some slot
 abbrev pub Stands : State → ℕ → ℕ → Type 0
@@ -102,7 +122,8 @@ entry_given stamp other = None
 -- what the show of a stamp gave: of the shows of its client the one of its number, from 0
 abbrev pub given_as : Stamp → State → List Event → Option Entry
 given_as stamp world events =
-    option_and_then (entry_given stamp) (slice_get (shows_of stamp.client world events) stamp.number)
+    option_and_then (entry_given stamp)
+    (slice_get (shows_of stamp.client world events) stamp.number)
 
 -- each entry after the events is what the show of its stamp gave
 abbrev pub AreGiven : State → List Event → Type 0

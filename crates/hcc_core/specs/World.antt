@@ -1,16 +1,19 @@
 -- What a world is, and what is read of it. Nothing here is stored but the world itself.
-use Rattle.std.specs.Prelude.{ℕ, ◌+◌, ◌*◌, ◌/◌, Bool, true, false, ◌&&◌, ◌==◌, nat_lt, List, [], Option, Some, None, find, length, position, if◌then◌else◌}
+use Rattle.std.specs.Prelude.{ℕ, ◌+◌, ◌*◌, ◌/◌, Bool, true, false, ◌&&◌, ◌==◌, nat_lt, List, []}
+use Rattle.std.specs.Prelude.{Option, Some, None, find, length, position, if◌then◌else◌}
 use Rattle.std.specs.List.{list_any}
 use Rattle.hcc_core.specs.declared.limits.TheConstants.{OCCUPANCY_PERCENT, NEAR}
-use Rattle.hcc_core.specs.declared.state.Setup.{Setup}
-use Rattle.hcc_core.specs.declared.state.Stamp.{Stamp}
-use Rattle.hcc_core.specs.declared.state.Reference.{Reference}
-use Rattle.hcc_core.specs.declared.state.Standalone.{Standalone}
-use Rattle.hcc_core.specs.declared.state.Client.{Client}
-use Rattle.hcc_core.specs.declared.state.Slot.{Slot}
-use Rattle.hcc_core.specs.declared.state.Slot.TheVariants as slots
-use Rattle.hcc_core.specs.declared.state.Place.{Place}
-use Rattle.hcc_core.specs.declared.state.Place.TheVariants as places
+use Rattle.hcc_core.specs.declared.setup.Setup.{Setup}
+use Rattle.hcc_core.specs.declared.slot.Stamp.{Stamp}
+use Rattle.hcc_core.specs.declared.slot.Reference.{Reference}
+use Rattle.hcc_core.specs.declared.client.Standalone.{Standalone}
+use Rattle.hcc_core.specs.declared.client.Client.{Client}
+use Rattle.hcc_core.specs.declared.slot.Slot.{Slot}
+use Rattle.hcc_core.specs.declared.slot.Slot.TheVariants as slots
+use Rattle.hcc_core.specs.declared.client.Owned.{Owned}
+use Rattle.hcc_core.specs.declared.client.Owned.TheVariants as owned
+use Rattle.hcc_core.specs.declared.client.Place.{Place}
+use Rattle.hcc_core.specs.declared.client.Place.TheVariants as places
 use Rattle.hcc_core.specs.declared.event.Phase.{Phase}
 use Rattle.hcc_core.specs.declared.event.Phase.TheVariants as phases
 use Rattle.hcc_core.specs.Sums.{when, total}
@@ -126,6 +129,17 @@ standing_of client = total (λ (s : Standalone). s.charge) client.standalones
 abbrev pub charged_to : Client → ℕ
 charged_to client = client.granted + client.needed + client.freed + standing_of client
 
+-- whether a client owns no slot
+abbrev pub owns_nothing : Owned → Bool
+owns_nothing owned.Nothing = true
+owns_nothing (owned.ForBuilding slot) = false
+owns_nothing (owned.ForFreeing slot) = false
+
+abbrev pub is_absent : Place → Bool
+is_absent places.Absent = true
+is_absent places.Open = false
+is_absent places.Granted = false
+
 abbrev pub is_placed : Place → Bool
 is_placed places.Absent = false
 is_placed places.Open = true
@@ -165,7 +179,8 @@ passed_by all clients slot =
 
 -- the same in a world, for a slot that it has
 abbrev pub passed_at : State → ℕ → ℕ
-passed_at world slot = if nat_lt slot (length world.slots) then passed_by world.slots world.clients slot else 0
+passed_at world slot =
+    if nat_lt slot (length world.slots) then passed_by world.slots world.clients slot else 0
 
 -- how many places the table grants
 abbrev pub limit_of : Setup → ℕ

@@ -1,10 +1,10 @@
 //! What holds of every run.
 ghost use Rattle.std.specs.Prelude.{List};
 ghost use Rattle.hcc_core.specs.declared.event.Event.{Event};
-ghost use Rattle.hcc_core.specs.declared.state.Setup.{Setup};
+ghost use Rattle.hcc_core.specs.declared.setup.Setup.{Setup};
 ghost use Rattle.hcc_core.specs.Lawful.{Lawful};
-ghost use Rattle.hcc_core.specs.Runs.{AreGiven, CountersFit, FindsOne, KeepsPlaces};
-ghost use Rattle.hcc_core.specs.Steps.{CanOpen, opening_of, after_all};
+ghost use Rattle.hcc_core.specs.Runs.{AreGiven, CountersFit, FindsOne, KeepsPlaces, after_all};
+ghost use Rattle.hcc_core.specs.Opening.{CanOpen, opening_of};
 
 /// What holds of every world on the way of every run from an opening world, whatever events come
 /// and in whatever order. Events that are refused change nothing. Only the first two clauses need

@@ -5,14 +5,14 @@
 //! after it, stands in this crate's definitions; [`world::World::step`] does just that.
 #![tactic(auto)]
 
-mod client;
+pub mod client;
 pub mod event;
 pub mod laws;
 pub mod limits;
 pub mod listed;
 mod machine;
-mod slot;
-pub mod state;
+pub mod setup;
+pub mod slot;
 mod sums;
 #[cfg(test)]
 mod tests;

@@ -1,17 +1,23 @@
 //! The slots and clients of a world, what is read of them, and how a step finds its own.
 //!
 //! The steps stand in the modules below, by what they are about.
-ghost use Rattle.std.specs.Prelude.{◌≡◌, ◌<◌, IfOk, MatchResult, length, replicate, slice_get, true};
-ghost use Rattle.hcc_core.specs.declared.event.CoreError.TheVariants.{NoSuchSlot, NoSuchClient, NotAllowed};
-ghost use Rattle.hcc_core.specs.World.{usage_of, occupancy_of, standing_in, passed_at, slot_holding};
-ghost use Rattle.hcc_core.specs.Steps.{opening_of, new_slot, new_client, why_not_live, Follows, takes_memory, outcome_of, fits, name_fits};
+ghost use Rattle.std.specs.Prelude.{◌≡◌, ◌<◌, IfOk, MatchResult, length, replicate, slice_get};
+ghost use Rattle.std.specs.Prelude.{true};
+ghost use Rattle.hcc_core.specs.declared.event.CoreError.TheVariants.{NoSuchSlot, NoSuchClient};
+ghost use Rattle.hcc_core.specs.declared.event.CoreError.TheVariants.{NotAllowed};
+ghost use Rattle.hcc_core.specs.World.{usage_of, occupancy_of, standing_in, passed_at};
+ghost use Rattle.hcc_core.specs.World.{slot_holding};
+ghost use Rattle.hcc_core.specs.Outcomes.{why_not_live};
+ghost use Rattle.hcc_core.specs.Steps.{Follows, takes_memory, outcome_of, fits, name_fits};
+ghost use Rattle.hcc_core.specs.Opening.{opening_of, new_slot, new_client};
 ghost use Rattle.std.specs.List.{list_all};
 ghost use Rattle.hcc_core.specs.Lawful.{IsLawful};
 
+use crate::client::{Client, Owned, Place};
 use crate::event::{CoreError, Event, Reply};
 use crate::listed::Listed;
-use crate::slot::slot_holding;
-use crate::state::{Client, Owned, Place, Setup, Slot};
+use crate::setup::Setup;
+use crate::slot::{Slot, slot_holding};
 use crate::sums;
 use std::alloc::{AllocError, Global};
 use std::marker::Model;
@@ -37,7 +43,12 @@ impl Model for Machine {
 
     ghost Value = { State };
 
-    ghost view = { λ m. record { setup = m.setup; slots = m.slots.items; clients = m.clients.items; hand = m.hand } };
+    ghost view = { λ m. record {
+      setup = m.setup;
+      slots = m.slots.items;
+      clients = m.clients.items;
+      hand = m.hand;
+    } };
 }
 
 impl Machine {
@@ -60,7 +71,8 @@ impl Machine {
     #[tactic(auto, unfolding(crate::specs::Steps::outcome_of))]
     pub(crate) fn step(&mut self, event: Event) -> Result<Reply, CoreError>
         requires { IsLawful self.old }
-        ensures { Follows (outcome_of self.old event) (takes_memory event) self.old result self.new }
+        ensures { Follows (outcome_of self.old event) (takes_memory event)
+            self.old result self.new }
     {
         match event {
             Event::Start { client } => self.start(client),

@@ -1,15 +1,73 @@
-//! What a step reads of a slot, and what it leaves in one.
-ghost use Rattle.std.specs.Prelude.{◌≡◌, ◌<◌, ◌+◌, ◌^◌, ◌⊎◌, IfOk, IfErr, OnOk, OnErr, IfSome, length, position, sum_by, true};
+//! A slot with all that it holds: what a step reads of it, and what it leaves in it.
+ghost use Rattle.std.specs.Prelude.{◌≡◌, ◌<◌, ◌+◌, ◌^◌, ◌⊎◌, IfOk, IfErr, OnOk, OnErr, IfSome};
+ghost use Rattle.std.specs.Prelude.{length, position, sum_by, true};
 ghost use Rattle.hcc_core.specs.declared.event.CoreError.TheVariants.{OutOfMemory};
 ghost use Rattle.std.specs.Option.{option_copied};
-ghost use Rattle.hcc_core.specs.World.{phase_of, phase_if, is_shareable, strays_of, references_of, uses_of, charge_of, stamp_of, hidden_stamp, trail_of, weight_of, counts_in, is_named, reference_in, has_reference, has_client, slot_holding};
-ghost use Rattle.hcc_core.specs.Steps.{acquired, slot_acquired, dropped, slot_given, slot_used, slot_hidden, left_on, is_shown, dead_to, is_free_for, entry_read, counting_in, may_clock, may_correct, slot_with_uses, slot_marked};
+ghost use Rattle.hcc_core.specs.World.{phase_of, phase_if, is_shareable, strays_of, references_of};
+ghost use Rattle.hcc_core.specs.World.{uses_of, charge_of, stamp_of, hidden_stamp, trail_of};
+ghost use Rattle.hcc_core.specs.World.{weight_of, counts_in, is_named, reference_in, has_reference};
+ghost use Rattle.hcc_core.specs.World.{has_client, slot_holding};
+ghost use Rattle.hcc_core.specs.Outcomes.{dropped};
+ghost use Rattle.hcc_core.specs.References.{acquired, slot_acquired, slot_given, slot_used};
+ghost use Rattle.hcc_core.specs.References.{left_on, dead_to, counting_in};
+ghost use Rattle.hcc_core.specs.Uses.{may_clock, may_correct, slot_with_uses, slot_marked};
+ghost use Rattle.hcc_core.specs.Entries.{slot_hidden, is_shown, is_free_for, entry_read};
 
 use crate::event::{CoreError, Phase, Reply};
 use crate::limits::NEAR;
 use crate::listed::Listed;
-use crate::state::{Reference, Slot, Stamp};
 use std::alloc::{AllocError, Global};
+
+/// One place of the table.
+#[derive(Drop)]
+pub enum Slot {
+    Empty { strays: u64 },
+    Building { client: u32, strays: u64 },
+    Shareable(Resident),
+}
+
+/// An entry in its slot, with all that the slot keeps beside it.
+#[derive(Drop)]
+pub struct Resident {
+    /// Whether look-ups find the entry: Shown if so, else Hidden.
+    pub shown: bool,
+    pub entry: Entry,
+    /// The slots that were passed on the way to this one.
+    pub trail: Listed<u32>,
+    /// In the order of acquiring.
+    pub references: Listed<Reference>,
+    pub uses: u64,
+    pub hit: bool,
+}
+
+/// A key of 16 bytes as two words, with its value and its charge.
+#[derive(Drop)]
+pub struct Entry {
+    pub key0: u64,
+    pub key1: u64,
+    pub stamp: Stamp,
+    pub value: Listed<u8>,
+    pub charge: u64,
+}
+
+/// Which entry this is: the client that showed it, and its number among that client's entries,
+/// from 0.
+#[derive(Clone, Copy, Debug, PartialEq, Eq)]
+pub struct Stamp {
+    pub client: u32,
+    pub number: u64,
+}
+
+/// A reference that a client holds on a slot, under a name of its own.
+#[derive(Clone, Copy, Debug, PartialEq, Eq)]
+pub struct Reference {
+    pub client: u32,
+    pub name: u64,
+    /// 1 to 3.
+    pub weight: u64,
+    /// Whether its release may count as a use.
+    pub counting: bool,
+}
 
 impl Slot {
     /// Its phase.
@@ -321,7 +379,9 @@ impl Slot {
     /// The key and value of its entry.
     pub(crate) fn read(&self, alloc: Global) -> Result<Reply, CoreError>
         ensures ok { IfOk result (λ reply. entry_read self.now ≡ Ok reply) }
-        ensures err { IfErr result (λ e. ((e ≡ CoreError.OutOfMemory) × (is_shareable self.now ≡ true)) ⊎ (entry_read self.now ≡ Err e)) }
+        ensures err { IfErr result
+            (λ e. ((e ≡ CoreError.OutOfMemory) × (is_shareable self.now ≡ true))
+            ⊎ (entry_read self.now ≡ Err e)) }
     {
         match self {
             Slot::Empty { .. } => Err(CoreError::NotAllowed),

@@ -1,9 +1,11 @@
 //! Sums over the slots and the clients of a world, as they are now.
 ghost use Rattle.std.specs.Prelude.{◌≡◌, ◌<◌, ◌+◌, ◌^◌, ◌==◌, sum_by, count_by};
 ghost use Rattle.hcc_core.specs.Sums.{total};
-ghost use Rattle.hcc_core.specs.World.{charge_of, is_shareable, is_placed, trail_of, standing_of, charged_to, taken_by_slot, occupied_by, passed_by};
+ghost use Rattle.hcc_core.specs.World.{charge_of, is_shareable, is_placed, trail_of, standing_of};
+ghost use Rattle.hcc_core.specs.World.{charged_to, taken_by_slot, occupied_by, passed_by};
 
-use crate::state::{Client, Slot};
+use crate::client::Client;
+use crate::slot::Slot;
 
 /// The charges of all entries, and all that clients were granted, need, freed or keep in
 /// standalone entries.

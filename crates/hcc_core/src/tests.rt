@@ -3,11 +3,12 @@
 //!
 //! Where memory is refused a test ends early, with that as its result. Any other answer than the
 //! table's, and any other world, stops it by an assertion.
-ghost use Rattle.hcc_core.specs.Steps.{CanOpen};
+ghost use Rattle.hcc_core.specs.Opening.{CanOpen};
 
 use crate::event::{CoreError, Event, Phase, Reply};
 use crate::listed::Listed;
-use crate::state::{Entry, Reference, Setup, Slot, Stamp};
+use crate::setup::Setup;
+use crate::slot::{Entry, Reference, Slot, Stamp};
 use crate::world::World;
 use std::alloc::{AllocError, Global};
 use std::process::Abort;

@@ -3,12 +3,14 @@ ghost use Rattle.std.specs.Prelude.{◌≡◌, ◌≤◌, IfOk, IfErr, length, s
 ghost use Rattle.std.specs.Option.{option_copied};
 ghost use Rattle.hcc_core.specs.declared.event.CoreError.TheVariants.{OutOfMemory};
 ghost use Rattle.hcc_core.specs.World.{usage_of, occupancy_of, standing_in, passed_at};
-ghost use Rattle.hcc_core.specs.Steps.{Follows, takes_memory, outcome_of, opening_of, CanOpen};
+ghost use Rattle.hcc_core.specs.Steps.{Follows, takes_memory, outcome_of};
+ghost use Rattle.hcc_core.specs.Opening.{opening_of, CanOpen};
 
 use crate::event::{CoreError, Event, Reply};
 use crate::limits::MOST_SLOTS;
 use crate::machine::Machine;
-use crate::state::{Setup, Slot};
+use crate::setup::Setup;
+use crate::slot::Slot;
 use crate::sums;
 use std::alloc::{AllocError, Global};
 use std::marker::Model;
@@ -62,7 +64,8 @@ impl World {
     /// client over the trail, the standalone entries and the dead list. That list is copied where
     /// an entry joins it, and `Read` copies the value.
     pub fn step(&mut self, event: Event) -> Result<Reply, CoreError>
-        ensures { Follows (outcome_of self.old event) (takes_memory event) self.old result self.new }
+        ensures { Follows (outcome_of self.old event) (takes_memory event)
+            self.old result self.new }
     {
         self.machine.step(event)
     }

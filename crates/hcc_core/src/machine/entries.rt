@@ -1,15 +1,18 @@
-//! The steps that move entries: occupy, show, free, empty and write.
+//! The steps that move entries: occupy, write, show, read, hide, free and empty.
 ghost use Rattle.std.specs.Prelude.{◌≡◌, ◌<◌, ◌≤◌, IfOk, IfErr, is_some, true, false};
 ghost use Rattle.hcc_core.specs.World.{references_of};
-ghost use Rattle.hcc_core.specs.Steps.{Follows, occupy_of, strays_if_empty, show_of, is_fresh, may_show, AllowsShow, client_shown, first_references, first_uses, free_of, may_free, empty_of, write_of};
+ghost use Rattle.hcc_core.specs.Entries.{occupy_of, strays_if_empty, show_of, is_fresh, may_show};
+ghost use Rattle.hcc_core.specs.Entries.{AllowsShow, client_shown, first_references, first_uses};
+ghost use Rattle.hcc_core.specs.Entries.{write_of, read_of, hide_of, free_of, may_free, empty_of};
+ghost use Rattle.hcc_core.specs.Steps.{Follows};
 ghost use Rattle.hcc_core.specs.Lawful.{IsLawful};
 
+use crate::client::{Client, Owned, Place};
 use crate::event::{CoreError, Reply};
 use crate::limits::{MOST_COUNTDOWN, STAMPS_PER_CLIENT};
 use crate::listed::Listed;
-use crate::machine::{Machine, live_at, slot_at};
-use crate::slot::slot_holding;
-use crate::state::{Client, Entry, Owned, Place, Reference, Resident, Slot, Stamp};
+use crate::machine::{Machine, holding, live_at, slot_at};
+use crate::slot::{Entry, Reference, Resident, Slot, Stamp, slot_holding};
 use std::alloc::{AllocError, Global};
 use std::mem;
 
@@ -31,7 +34,16 @@ impl Machine {
         }
     }
 
-    #[tactic(auto, unfolding(crate::specs::Steps::show_of))]
+    pub(crate) fn write(&mut self, client: u32) -> Result<Reply, CoreError>
+        ensures { Follows (write_of self.old client) false self.old result self.new }
+    {
+        if !live_at(&self.clients, client)?.owned.is_building() {
+            return Err(CoreError::NotAllowed);
+        }
+        Ok(Reply::Ok)
+    }
+
+    #[tactic(auto, unfolding(crate::specs::Entries::show_of))]
     pub(crate) fn show(
         &mut self,
         client: u32,
@@ -42,7 +54,8 @@ impl Machine {
         value: Listed<u8>,
     ) -> Result<Reply, CoreError>
         requires { IsLawful self.old }
-        ensures { Follows (show_of self.old client key.0 key.1 charge countdown name value) (is_some name) self.old result self.new }
+        ensures { Follows (show_of self.old client key.0 key.1 charge countdown name value)
+            (is_some name) self.old result self.new }
     {
         let found = live_at(&self.clients, client)?;
         let Some(slot) = found.owned.built() else {
@@ -73,7 +86,34 @@ impl Machine {
         Ok(Reply::Ok)
     }
 
-    #[tactic(auto, unfolding(crate::specs::Steps::free_of))]
+    #[tactic(auto, unfolding(crate::specs::Entries::read_of))]
+    pub(crate) fn read(&mut self, client: u32, name: u64) -> Result<Reply, CoreError>
+        ensures { Follows (read_of self.old client name) true self.old result self.new }
+    {
+        live_at(&self.clients, client)?;
+        let slot = holding(&self.slots, client, name)?;
+        self.slots[slot].read(self.alloc)
+    }
+
+    #[tactic(auto, unfolding(crate::specs::Entries::hide_of))]
+    pub(crate) fn hide(&mut self, client: u32, name: u64) -> Result<Reply, CoreError>
+        ensures { Follows (hide_of self.old client name) true self.old result self.new }
+    {
+        let found = live_at(&self.clients, client)?;
+        let slot = holding(&self.slots, client, name)?;
+        let seen = &self.slots[slot];
+        let reply = if seen.is_shown() {
+            Reply::Hid
+        } else {
+            Reply::Again
+        };
+        let dead = found.with_dead(self.alloc, seen.stamp())?;
+        self.clients[client as usize].note(dead);
+        self.slots[slot].hide();
+        Ok(reply)
+    }
+
+    #[tactic(auto, unfolding(crate::specs::Entries::free_of))]
     pub(crate) fn free(
         &mut self,
         client: u32,
@@ -81,7 +121,8 @@ impl Machine {
         name: Option<u64>,
     ) -> Result<Reply, CoreError>
         requires { IsLawful self.old }
-        ensures { Follows (free_of self.old client slot name) (is_some name) self.old result self.new }
+        ensures { Follows (free_of self.old client slot name) (is_some name)
+            self.old result self.new }
     {
         let seen = slot_at(&self.slots, slot)?;
         let found = live_at(&self.clients, client)?;
@@ -103,7 +144,7 @@ impl Machine {
         Ok(Reply::Freed { charge })
     }
 
-    #[tactic(auto, unfolding(crate::specs::Steps::empty_of))]
+    #[tactic(auto, unfolding(crate::specs::Entries::empty_of))]
     pub(crate) fn empty(&mut self, client: u32) -> Result<Reply, CoreError>
         requires { IsLawful self.old }
         ensures { Follows (empty_of self.old client) false self.old result self.new }
@@ -117,15 +158,6 @@ impl Machine {
         }
         self.clients[client as usize].owned = Owned::Nothing;
         self.slots[slot as usize] = Slot::Empty { strays: 0 };
-        Ok(Reply::Ok)
-    }
-
-    pub(crate) fn write(&mut self, client: u32) -> Result<Reply, CoreError>
-        ensures { Follows (write_of self.old client) false self.old result self.new }
-    {
-        if !live_at(&self.clients, client)?.owned.is_building() {
-            return Err(CoreError::NotAllowed);
-        }
         Ok(Reply::Ok)
     }
 }
@@ -152,7 +184,7 @@ fn is_fresh(slots: &[Slot], client: u32, name: Option<u64>) -> bool
 }
 
 /// Whether a client that is live may show an entry in the slot that it builds.
-#[tactic(auto, unfolding(crate::specs::Steps::may_show))]
+#[tactic(auto, unfolding(crate::specs::Entries::may_show))]
 fn may_show(
     slots: &[Slot],
     client: u32,

@@ -1,16 +1,21 @@
 //! The steps on the ledgers: enter, quit, slots, charge, settle, waive, stand and fall, and what
 //! the ledgers tell.
 ghost use Rattle.std.specs.Prelude.{◌≡◌, ◌<◌, ◌≤◌, ◌+◌, ◌^◌, true, false};
-ghost use Rattle.hcc_core.specs.Steps.{Follows, enter_of, slots_of, charge_by, grant_of, may_charge, settle_of, may_settle, waive_of, may_waive, quit_of, usage_told, occupancy_told, standing_told, stand_of, fall_of};
+ghost use Rattle.hcc_core.specs.Ledgers.{enter_of, slots_of, charge_by, grant_of, may_charge};
+ghost use Rattle.hcc_core.specs.Ledgers.{settle_of, may_settle, waive_of, may_waive, quit_of};
+ghost use Rattle.hcc_core.specs.Ledgers.{usage_told, occupancy_told, standing_told, stand_of};
+ghost use Rattle.hcc_core.specs.Ledgers.{fall_of};
+ghost use Rattle.hcc_core.specs.Steps.{Follows};
 ghost use Rattle.hcc_core.specs.Lawful.{IsLawful};
 
+use crate::client::{Client, Place, Standalone};
 use crate::event::{CoreError, Reply};
 use crate::limits::{MOST_USAGE, OCCUPANCY_PERCENT};
 use crate::machine::{Machine, live_at};
-use crate::state::{Client, Place, Setup, Standalone};
+use crate::setup::Setup;
 
 impl Machine {
-    #[tactic(auto, unfolding(crate::specs::Steps::enter_of))]
+    #[tactic(auto, unfolding(crate::specs::Ledgers::enter_of))]
     pub(crate) fn enter(&mut self, client: u32) -> Result<Reply, CoreError>
         requires { IsLawful self.old }
         ensures { Follows (enter_of self.old client) false self.old result self.new }
@@ -25,7 +30,7 @@ impl Machine {
         Ok(if room { Reply::Granted } else { Reply::Open })
     }
 
-    #[tactic(auto, unfolding(crate::specs::Steps::slots_of))]
+    #[tactic(auto, unfolding(crate::specs::Ledgers::slots_of))]
     pub(crate) fn slots(&mut self, client: u32) -> Result<Reply, CoreError>
         ensures { Follows (slots_of self.old client) false self.old result self.new }
     {
@@ -40,7 +45,7 @@ impl Machine {
         Ok(Reply::Ok)
     }
 
-    #[tactic(auto, unfolding(crate::specs::Steps::charge_by))]
+    #[tactic(auto, unfolding(crate::specs::Ledgers::charge_by))]
     pub(crate) fn charge(&mut self, client: u32, charge: u32) -> Result<Reply, CoreError>
         requires { IsLawful self.old }
         ensures { Follows (charge_by self.old client charge) false self.old result self.new }
@@ -59,7 +64,7 @@ impl Machine {
         Ok(Reply::Split { granted, needed })
     }
 
-    #[tactic(auto, unfolding(crate::specs::Steps::settle_of))]
+    #[tactic(auto, unfolding(crate::specs::Ledgers::settle_of))]
     pub(crate) fn settle(&mut self, client: u32) -> Result<Reply, CoreError>
         requires { IsLawful self.old }
         ensures { Follows (settle_of self.old client) false self.old result self.new }
@@ -76,7 +81,7 @@ impl Machine {
         Ok(Reply::Ok)
     }
 
-    #[tactic(auto, unfolding(crate::specs::Steps::waive_of))]
+    #[tactic(auto, unfolding(crate::specs::Ledgers::waive_of))]
     pub(crate) fn waive(&mut self, client: u32) -> Result<Reply, CoreError>
         ensures { Follows (waive_of self.old client) false self.old result self.new }
     {
@@ -90,7 +95,7 @@ impl Machine {
         Ok(Reply::Ok)
     }
 
-    #[tactic(auto, unfolding(crate::specs::Steps::quit_of))]
+    #[tactic(auto, unfolding(crate::specs::Ledgers::quit_of))]
     pub(crate) fn quit(&mut self, client: u32) -> Result<Reply, CoreError>
         ensures { Follows (quit_of self.old client) false self.old result self.new }
     {
@@ -101,7 +106,7 @@ impl Machine {
         Ok(Reply::Ok)
     }
 
-    #[tactic(auto, unfolding(crate::specs::Steps::usage_told))]
+    #[tactic(auto, unfolding(crate::specs::Ledgers::usage_told))]
     pub(crate) fn tell_usage(&mut self, client: u32) -> Result<Reply, CoreError>
         requires { IsLawful self.old }
         ensures { Follows (usage_told self.old client) false self.old result self.new }
@@ -110,7 +115,7 @@ impl Machine {
         Ok(Reply::Count(self.usage()))
     }
 
-    #[tactic(auto, unfolding(crate::specs::Steps::occupancy_told))]
+    #[tactic(auto, unfolding(crate::specs::Ledgers::occupancy_told))]
     pub(crate) fn tell_occupancy(&mut self, client: u32) -> Result<Reply, CoreError>
         requires { IsLawful self.old }
         ensures { Follows (occupancy_told self.old client) false self.old result self.new }
@@ -119,7 +124,7 @@ impl Machine {
         Ok(Reply::Count(self.occupancy()))
     }
 
-    #[tactic(auto, unfolding(crate::specs::Steps::standing_told))]
+    #[tactic(auto, unfolding(crate::specs::Ledgers::standing_told))]
     pub(crate) fn tell_standing(&mut self, client: u32) -> Result<Reply, CoreError>
         requires { IsLawful self.old }
         ensures { Follows (standing_told self.old client) false self.old result self.new }
@@ -128,7 +133,7 @@ impl Machine {
         Ok(Reply::Count(self.standing()))
     }
 
-    #[tactic(auto, unfolding(crate::specs::Steps::stand_of))]
+    #[tactic(auto, unfolding(crate::specs::Ledgers::stand_of))]
     pub(crate) fn stand(&mut self, client: u32, charge: u32, name: u64) -> Result<Reply, CoreError>
         ensures { Follows (stand_of self.old client charge name) true self.old result self.new }
     {
@@ -144,7 +149,7 @@ impl Machine {
         Ok(Reply::Ok)
     }
 
-    #[tactic(auto, unfolding(crate::specs::Steps::fall_of))]
+    #[tactic(auto, unfolding(crate::specs::Ledgers::fall_of))]
     pub(crate) fn fall(&mut self, client: u32, name: u64) -> Result<Reply, CoreError>
         requires { IsLawful self.old }
         ensures { Follows (fall_of self.old client name) false self.old result self.new }

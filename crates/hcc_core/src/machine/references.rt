@@ -1,14 +1,18 @@
-//! The steps on references: start, look, acquire, give, use, hide and read.
-ghost use Rattle.std.specs.Prelude.{◌≡◌, ◌<◌, ◌^◌, true, false};
-ghost use Rattle.hcc_core.specs.World.{weight_of};
-ghost use Rattle.hcc_core.specs.Steps.{Follows, start_of, look_of, acquire_of, may_acquire, give_of, use_of, hide_of, read_of};
+//! The steps on clients and references: start, end, look, acquire, give and use.
+ghost use Rattle.std.specs.Prelude.{◌≡◌, ◌<◌, ◌^◌, ◌&&◌, true, false};
+ghost use Rattle.std.specs.List.{list_any};
+ghost use Rattle.hcc_core.specs.World.{weight_of, has_client};
+ghost use Rattle.hcc_core.specs.References.{start_of, end_of, is_idle, holds_nothing, look_of};
+ghost use Rattle.hcc_core.specs.References.{acquire_of, may_acquire, give_of, use_of};
+ghost use Rattle.hcc_core.specs.Steps.{Follows};
 ghost use Rattle.hcc_core.specs.Lawful.{IsLawful};
 
+use crate::client::Client;
 use crate::event::{CoreError, Reply};
 use crate::limits::{MOST_WEIGHT, REFERENCES_PER_CLIENT};
 use crate::machine::{Machine, client_at, holding, live_at, slot_at};
-use crate::slot::slot_holding;
-use crate::state::{Client, Reference, Setup, Slot};
+use crate::setup::Setup;
+use crate::slot::{Reference, Slot, slot_holding};
 
 impl Machine {
     pub(crate) fn start(&mut self, client: u32) -> Result<Reply, CoreError>
@@ -18,6 +22,20 @@ impl Machine {
             return Err(CoreError::NotAllowed);
         }
         self.clients[client as usize].live = true;
+        Ok(Reply::Ok)
+    }
+
+    #[tactic(auto, unfolding(crate::specs::References::end_of))]
+    pub(crate) fn end(&mut self, client: u32) -> Result<Reply, CoreError>
+        ensures { Follows (end_of self.old client) false self.old result self.new }
+    {
+        let found = live_at(&self.clients, client)?;
+        if !may_end(found, &self.slots, client) {
+            return Err(CoreError::NotAllowed);
+        }
+        let found = &mut self.clients[client as usize];
+        found.live = false;
+        found.looked = None;
         Ok(Reply::Ok)
     }
 
@@ -39,7 +57,7 @@ impl Machine {
         Ok(Reply::Saw(phase))
     }
 
-    #[tactic(auto, unfolding(crate::specs::Steps::acquire_of))]
+    #[tactic(auto, unfolding(crate::specs::References::acquire_of))]
     pub(crate) fn acquire(
         &mut self,
         client: u32,
@@ -48,7 +66,8 @@ impl Machine {
         name: u64,
     ) -> Result<Reply, CoreError>
         requires { IsLawful self.old }
-        ensures { Follows (acquire_of self.old client slot weight name) true self.old result self.new }
+        ensures { Follows (acquire_of self.old client slot weight name) true
+            self.old result self.new }
     {
         let seen = slot_at(&self.slots, slot)?;
         let found = live_at(&self.clients, client)?;
@@ -79,7 +98,7 @@ impl Machine {
         Ok(reply)
     }
 
-    #[tactic(auto, unfolding(crate::specs::Steps::give_of))]
+    #[tactic(auto, unfolding(crate::specs::References::give_of))]
     pub(crate) fn give(&mut self, client: u32, name: u64) -> Result<Reply, CoreError>
         requires { IsLawful self.old }
         ensures { Follows (give_of self.old client name) true self.old result self.new }
@@ -93,7 +112,7 @@ impl Machine {
         Ok(left.left())
     }
 
-    #[tactic(auto, unfolding(crate::specs::Steps::use_of))]
+    #[tactic(auto, unfolding(crate::specs::References::use_of))]
     pub(crate) fn spend(&mut self, client: u32, name: u64) -> Result<Reply, CoreError>
         requires { IsLawful self.old }
         ensures { Follows (use_of self.old client name) true self.old result self.new }
@@ -110,37 +129,24 @@ impl Machine {
         left.spend(client, name, reference);
         Ok(left.left())
     }
+}
 
-    #[tactic(auto, unfolding(crate::specs::Steps::hide_of))]
-    pub(crate) fn hide(&mut self, client: u32, name: u64) -> Result<Reply, CoreError>
-        ensures { Follows (hide_of self.old client name) true self.old result self.new }
-    {
-        let found = live_at(&self.clients, client)?;
-        let slot = holding(&self.slots, client, name)?;
-        let seen = &self.slots[slot];
-        let reply = if seen.is_shown() {
-            Reply::Hid
-        } else {
-            Reply::Again
-        };
-        let dead = found.with_dead(self.alloc, seen.stamp())?;
-        self.clients[client as usize].note(dead);
-        self.slots[slot].hide();
-        Ok(reply)
-    }
+/// Whether a client that is live has nothing in hand.
+fn may_end(found: &Client, slots: &[Slot], client: u32) -> bool
+    ensures { result ≡ (is_idle found.now && holds_nothing slots.now client) }
+{
+    found.is_idle() && !is_any_held(slots, client)
+}
 
-    #[tactic(auto, unfolding(crate::specs::Steps::read_of))]
-    pub(crate) fn read(&mut self, client: u32, name: u64) -> Result<Reply, CoreError>
-        ensures { Follows (read_of self.old client name) true self.old result self.new }
-    {
-        live_at(&self.clients, client)?;
-        let slot = holding(&self.slots, client, name)?;
-        self.slots[slot].read(self.alloc)
-    }
+/// Whether a slot has a reference of this client.
+fn is_any_held(slots: &[Slot], client: u32) -> bool
+    ensures { result ≡ list_any (has_client client) slots.now }
+{
+    slots.iter().any(|slot| slot.has_client(client))
 }
 
 /// Whether a client that is live may acquire a reference on the slot.
-#[tactic(auto, unfolding(crate::specs::Steps::may_acquire))]
+#[tactic(auto, unfolding(crate::specs::References::may_acquire))]
 fn may_acquire(
     setup: &Setup,
     slots: &[Slot],

@@ -1,6 +1,7 @@
 //! The steps on trails and the hand: count, pass, unpass and turn.
 ghost use Rattle.std.specs.Prelude.{◌≡◌, true, false};
-ghost use Rattle.hcc_core.specs.Steps.{Follows, count_of, pass_of, unpass_of, turn_of};
+ghost use Rattle.hcc_core.specs.Trails.{count_of, pass_of, unpass_of, turn_of};
+ghost use Rattle.hcc_core.specs.Steps.{Follows};
 ghost use Rattle.hcc_core.specs.Lawful.{IsLawful};
 
 use crate::event::{CoreError, Reply};
@@ -8,7 +9,7 @@ use crate::limits::SLOTS_PER_TURN;
 use crate::machine::{Machine, live_at, slot_at};
 
 impl Machine {
-    #[tactic(auto, unfolding(crate::specs::Steps::count_of))]
+    #[tactic(auto, unfolding(crate::specs::Trails::count_of))]
     pub(crate) fn count(&mut self, client: u32, slot: u32) -> Result<Reply, CoreError>
         requires { IsLawful self.old }
         ensures { Follows (count_of self.old client slot) false self.old result self.new }
@@ -18,7 +19,7 @@ impl Machine {
         Ok(Reply::Count(self.passed(slot)))
     }
 
-    #[tactic(auto, unfolding(crate::specs::Steps::pass_of))]
+    #[tactic(auto, unfolding(crate::specs::Trails::pass_of))]
     pub(crate) fn pass(&mut self, client: u32, slot: u32) -> Result<Reply, CoreError>
         ensures { Follows (pass_of self.old client slot) true self.old result self.new }
     {
@@ -31,7 +32,7 @@ impl Machine {
         Ok(Reply::Ok)
     }
 
-    #[tactic(auto, unfolding(crate::specs::Steps::unpass_of))]
+    #[tactic(auto, unfolding(crate::specs::Trails::unpass_of))]
     pub(crate) fn unpass(&mut self, client: u32, slot: u32) -> Result<Reply, CoreError>
         ensures { Follows (unpass_of self.old client slot) false self.old result self.new }
     {
@@ -43,7 +44,7 @@ impl Machine {
         Ok(Reply::Ok)
     }
 
-    #[tactic(auto, unfolding(crate::specs::Steps::turn_of))]
+    #[tactic(auto, unfolding(crate::specs::Trails::turn_of))]
     pub(crate) fn turn(&mut self, client: u32) -> Result<Reply, CoreError>
         ensures { Follows (turn_of self.old client) false self.old result self.new }
     {

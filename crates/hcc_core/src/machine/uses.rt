@@ -1,30 +1,14 @@
-//! The steps on uses and marks, and the end of a client: clock, mark, correct and end.
-ghost use Rattle.std.specs.Prelude.{◌≡◌, ◌&&◌, true, false};
-ghost use Rattle.std.specs.List.{list_any};
-ghost use Rattle.hcc_core.specs.World.{has_client};
-ghost use Rattle.hcc_core.specs.Steps.{Follows, end_of, is_idle, holds_nothing, clock_of, clocked, mark_of, correct_of};
+//! The steps on uses and marks: clock, mark and correct.
+ghost use Rattle.std.specs.Prelude.{◌≡◌, true, false};
+ghost use Rattle.hcc_core.specs.Uses.{clock_of, clocked, mark_of, correct_of};
+ghost use Rattle.hcc_core.specs.Steps.{Follows};
 
 use crate::event::{CoreError, Reply};
 use crate::limits::{CORRECTION, MOST_CLOCKED};
 use crate::machine::{Machine, holding, live_at, slot_at};
-use crate::state::{Client, Slot};
 
 impl Machine {
-    #[tactic(auto, unfolding(crate::specs::Steps::end_of))]
-    pub(crate) fn end(&mut self, client: u32) -> Result<Reply, CoreError>
-        ensures { Follows (end_of self.old client) false self.old result self.new }
-    {
-        let found = live_at(&self.clients, client)?;
-        if !may_end(found, &self.slots, client) {
-            return Err(CoreError::NotAllowed);
-        }
-        let found = &mut self.clients[client as usize];
-        found.live = false;
-        found.looked = None;
-        Ok(Reply::Ok)
-    }
-
-    #[tactic(auto, unfolding(crate::specs::Steps::clock_of))]
+    #[tactic(auto, unfolding(crate::specs::Uses::clock_of))]
     pub(crate) fn clock(&mut self, client: u32, slot: u32) -> Result<Reply, CoreError>
         ensures { Follows (clock_of self.old client slot) false self.old result self.new }
     {
@@ -38,7 +22,7 @@ impl Machine {
         Ok(Reply::Uses(uses))
     }
 
-    #[tactic(auto, unfolding(crate::specs::Steps::mark_of))]
+    #[tactic(auto, unfolding(crate::specs::Uses::mark_of))]
     pub(crate) fn mark(&mut self, client: u32, name: u64) -> Result<Reply, CoreError>
         ensures { Follows (mark_of self.old client name) true self.old result self.new }
     {
@@ -50,7 +34,7 @@ impl Machine {
         Ok(Reply::Ok)
     }
 
-    #[tactic(auto, unfolding(crate::specs::Steps::correct_of))]
+    #[tactic(auto, unfolding(crate::specs::Uses::correct_of))]
     pub(crate) fn correct(&mut self, client: u32, name: u64) -> Result<Reply, CoreError>
         ensures { Follows (correct_of self.old client name) true self.old result self.new }
     {
@@ -73,18 +57,4 @@ fn clocked(uses: u64) -> u64
     ensures { result ≡ clocked uses }
 {
     uses.saturating_sub(1).min(MOST_CLOCKED)
-}
-
-/// Whether a client that is live has nothing in hand.
-fn may_end(found: &Client, slots: &[Slot], client: u32) -> bool
-    ensures { result ≡ (is_idle found.now && holds_nothing slots.now client) }
-{
-    found.is_idle() && !is_any_held(slots, client)
-}
-
-/// Whether a slot has a reference of this client.
-fn is_any_held(slots: &[Slot], client: u32) -> bool
-    ensures { result ≡ list_any (has_client client) slots.now }
-{
-    slots.iter().any(|slot| slot.has_client(client))
 }

@@ -1,5 +1,5 @@
 use Rattle.std.proofs.Common.{◌≡◌, replicate}
-use Rattle.hcc_core.specs.Steps.{new_slot}
+use Rattle.hcc_core.specs.Opening.{new_slot}
 use Rattle.hcc_core.proofs.machine.new_slots.Given as goal
 
 abbrev pub invariant-loop : goal.invariant-loop

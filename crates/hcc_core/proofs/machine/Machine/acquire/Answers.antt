@@ -4,7 +4,8 @@ use Rattle.hcc_core.proofs.Opening.{is_lawful}
 use Rattle.hcc_core.proofs.ListLemmas.{read_is}
 use Rattle.std.proofs.Common.{unwrap_or}
 use Rattle.hcc_core.specs.World.{counts_in}
-use Rattle.hcc_core.specs.Steps.{joined, noticed, may_acquire, acquired, new_reference, slot_acquired, client_acquired}
+use Rattle.hcc_core.specs.References.{joined, noticed, may_acquire, acquired, new_reference}
+use Rattle.hcc_core.specs.References.{slot_acquired, client_acquired}
 use Rattle.hcc_core.proofs.LawfulReferences.{may_acquire_parts}
 use Rattle.hcc_core.proofs.Readable.{bounded_weight, strays_few}
 use Rattle.hcc_core.proofs.StepLemmas.{dead_acquired, acquire_gives}

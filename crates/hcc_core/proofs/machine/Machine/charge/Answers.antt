@@ -2,7 +2,7 @@ use Rattle.std.proofs.Common.{◌≡◌, true, Some, slice_get, rules, refl, sym
 use Rattle.hcc_core.specs.World.{State}
 use Rattle.hcc_core.proofs.ListLemmas.{read_is}
 use Rattle.hcc_core.specs.World.{usage_of}
-use Rattle.hcc_core.specs.Steps.{may_charge, grant_of}
+use Rattle.hcc_core.specs.Ledgers.{may_charge, grant_of}
 use Rattle.hcc_core.proofs.Readable.{usage_fits}
 use Rattle.hcc_core.proofs.StepLemmas.{charge_gives}
 use Rattle.hcc_core.proofs.machine.Machine.charge.Goals as goal

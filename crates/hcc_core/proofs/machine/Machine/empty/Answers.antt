@@ -3,7 +3,8 @@ use Rattle.std.proofs.lemmas.Option.{slice_get_within}
 use Rattle.hcc_core.specs.World.{State}
 use Rattle.hcc_core.proofs.Opening.{is_lawful}
 use Rattle.hcc_core.proofs.ListLemmas.{read_is}
-use Rattle.hcc_core.specs.Steps.{freed_by, has_no_member}
+use Rattle.hcc_core.specs.Outcomes.{has_no_member}
+use Rattle.hcc_core.specs.Entries.{freed_by}
 use Rattle.hcc_core.proofs.LawfulEntries.{owned_there, frees_slot}
 use Rattle.hcc_core.proofs.StepLemmas.{empty_gives}
 use Rattle.hcc_core.proofs.machine.Machine.empty.Goals as goal

@@ -1,7 +1,7 @@
 use Rattle.std.proofs.Common.{◌≡◌, Some, slice_get, rules, refl, arith}
 use Rattle.std.specs.List.{find}
 use Rattle.hcc_core.specs.World.{State}
-use Rattle.hcc_core.specs.Steps.{is_standing}
+use Rattle.hcc_core.specs.Ledgers.{is_standing}
 use Rattle.hcc_core.proofs.Opening.{is_lawful}
 use Rattle.hcc_core.proofs.ListLemmas.{read_is}
 use Rattle.hcc_core.proofs.Readable.{fallen_fits}

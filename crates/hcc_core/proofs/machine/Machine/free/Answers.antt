@@ -5,7 +5,8 @@ use Rattle.hcc_core.proofs.ListLemmas.{read_is}
 use Rattle.std.proofs.Common.{unwrap_or}
 use Rattle.hcc_core.specs.declared.event.Reply.TheVariants as replies
 use Rattle.hcc_core.specs.World.{trail_of}
-use Rattle.hcc_core.specs.Steps.{joined, noticed, may_free, client_freeing}
+use Rattle.hcc_core.specs.References.{joined, noticed}
+use Rattle.hcc_core.specs.Entries.{may_free, client_freeing}
 use Rattle.hcc_core.proofs.Readable.{both_charged_fit, freed_slots_few}
 use Rattle.hcc_core.proofs.StepLemmas.{free_gives}
 use Rattle.hcc_core.proofs.machine.Machine.free.Goals as goal

@@ -3,7 +3,7 @@ use Rattle.std.proofs.lemmas.Option.{slice_get_read}
 use Rattle.hcc_core.specs.World.{State, slot_holding}
 use Rattle.hcc_core.proofs.Opening.{is_lawful}
 use Rattle.hcc_core.proofs.ListLemmas.{read_is}
-use Rattle.hcc_core.specs.Steps.{joined, slot_given}
+use Rattle.hcc_core.specs.References.{joined, slot_given}
 use Rattle.hcc_core.proofs.LawfulReferences.{given_bounded}
 use Rattle.hcc_core.proofs.Readable.{bounded_weight}
 use Rattle.hcc_core.proofs.StepLemmas.{noted, give_gives}

@@ -2,7 +2,8 @@ use Rattle.std.proofs.Common.{◌≡◌, Some, slice_get, length, rules, refl, s
 use Rattle.std.proofs.lemmas.Option.{slice_get_read}
 use Rattle.hcc_core.specs.World.{State, slot_holding}
 use Rattle.hcc_core.proofs.ListLemmas.{read_is}
-use Rattle.hcc_core.specs.Steps.{joined, slot_hidden, hidden}
+use Rattle.hcc_core.specs.References.{joined}
+use Rattle.hcc_core.specs.Entries.{slot_hidden, hidden}
 use Rattle.hcc_core.proofs.StepLemmas.{noted, held_has_client, dead_hidden, hide_gives}
 use Rattle.hcc_core.proofs.machine.Machine.hide.Goals as goal
 

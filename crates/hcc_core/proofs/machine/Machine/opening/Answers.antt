@@ -1,5 +1,5 @@
 use Rattle.std.proofs.Common.{refl}
-use Rattle.hcc_core.specs.Steps.{opening_of}
+use Rattle.hcc_core.specs.Opening.{opening_of}
 use Rattle.hcc_core.proofs.machine.Machine.opening.Goals as goal
 
 pub returns : goal.returns

@@ -2,7 +2,7 @@ use Rattle.std.proofs.Common.{◌≡◌, true, Some, slice_get, rules, refl, ari
 use Rattle.hcc_core.specs.World.{State}
 use Rattle.hcc_core.proofs.Opening.{is_lawful}
 use Rattle.hcc_core.proofs.ListLemmas.{read_is}
-use Rattle.hcc_core.specs.Steps.{may_settle}
+use Rattle.hcc_core.specs.Ledgers.{may_settle}
 use Rattle.hcc_core.proofs.Readable.{charged_fits}
 use Rattle.hcc_core.proofs.StepLemmas.{settle_gives}
 use Rattle.hcc_core.proofs.machine.Machine.settle.Goals as goal

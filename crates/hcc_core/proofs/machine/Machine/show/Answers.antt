@@ -1,10 +1,10 @@
 use Rattle.std.proofs.Common.{◌≡◌, true, Some, slice_get, rules, refl, ap, ◌∙◌, arith}
 use Rattle.std.proofs.lemmas.Option.{slice_get_within}
-use Rattle.hcc_core.specs.declared.state.Client.{Client}
+use Rattle.hcc_core.specs.declared.client.Client.{Client}
 use Rattle.hcc_core.specs.World.{State}
 use Rattle.hcc_core.proofs.Opening.{is_lawful}
 use Rattle.hcc_core.proofs.ListLemmas.{read_is}
-use Rattle.hcc_core.specs.Steps.{built_by, may_show, client_shown}
+use Rattle.hcc_core.specs.Entries.{built_by, may_show, client_shown}
 use Rattle.hcc_core.proofs.LawfulEntries.{owned_there, builds_slot}
 use Rattle.hcc_core.proofs.StepLemmas.{show_gives}
 use Rattle.hcc_core.proofs.machine.Machine.show.Goals as goal

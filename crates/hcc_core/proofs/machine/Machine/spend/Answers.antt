@@ -3,7 +3,7 @@ use Rattle.std.proofs.lemmas.Option.{slice_get_read}
 use Rattle.hcc_core.specs.World.{State, slot_holding, references_of, reference_in}
 use Rattle.hcc_core.proofs.Opening.{is_lawful}
 use Rattle.hcc_core.proofs.ListLemmas.{read_is}
-use Rattle.hcc_core.specs.Steps.{joined, slot_used, counting_in}
+use Rattle.hcc_core.specs.References.{joined, slot_used, counting_in}
 use Rattle.hcc_core.proofs.LawfulReferences.{used_bounded}
 use Rattle.hcc_core.proofs.Keeps.{counting-is}
 use Rattle.hcc_core.proofs.Readable.{bounded_weight, used_fits}

@@ -1,8 +1,8 @@
 use Rattle.std.proofs.Common.{◌≡◌, ap, ◌∙◌, arith}
-use Rattle.hcc_core.specs.declared.state.Reference.{Reference}
+use Rattle.hcc_core.specs.declared.slot.Reference.{Reference}
 use Rattle.hcc_core.specs.World.{weight, weight_of}
 use Rattle.hcc_core.proofs.SumLemmas.{sum_by_total}
-use Rattle.hcc_core.proofs.state.Slot.weight.Goals as goal
+use Rattle.hcc_core.proofs.slot.Slot.weight.Goals as goal
 
 pub weight-requires : goal.weight-requires
 weight-requires c =

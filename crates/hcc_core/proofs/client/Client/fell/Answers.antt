@@ -1,7 +1,7 @@
 use Rattle.std.proofs.Common.{◌≡◌, Some, None, position, sym, ◌∙◌, ap}
-use Rattle.hcc_core.specs.Steps.{is_standing}
+use Rattle.hcc_core.specs.Ledgers.{is_standing}
 use Rattle.hcc_core.proofs.DroppedLemmas.{remove_at, keep_all}
-use Rattle.hcc_core.proofs.state.Client.fell.Goals as goal
+use Rattle.hcc_core.proofs.client.Client.fell.Goals as goal
 
 pub returns-in-Some : goal.returns-in-Some
 returns-in-Some c =

@@ -1,8 +1,8 @@
 use Rattle.std.proofs.Common.{ap, ◌∙◌, arith}
-use Rattle.hcc_core.specs.declared.state.Standalone.{Standalone}
+use Rattle.hcc_core.specs.declared.client.Standalone.{Standalone}
 use Rattle.hcc_core.specs.Sums.{total}
 use Rattle.hcc_core.proofs.SumLemmas.{sum_by_total}
-use Rattle.hcc_core.proofs.state.Client.standing.Goals as goal
+use Rattle.hcc_core.proofs.client.Client.standing.Goals as goal
 
 pub charges-requires : goal.charges-requires
 charges-requires c =
