@@ -1,13 +1,15 @@
 -- A shard with one client: one seat made all entries and took those that are gone.
 use Rattle.std.proofs.Common.{◌≡◌, ℕ, zero, suc, ◌+◌, ◌≤◌, true, List, [], ◌∷◌, Option, Some, None, is_some, length, slice_get, refl, ap, ◌∙◌, arith}
 use Rattle.hcc_core.specs.Sums.{when, total}
-use Rattle.hcc_core.specs.World.{occupied_by, occupancy_of}
+use Rattle.hcc_core.specs.World.{occupied_by, occupancy_of, standing_in, standing_of}
+use Rattle.hcc_core.specs.declared.state.Reference.{Reference}
+use Rattle.hcc_rule.specs.declared.view.Record.{Record}
 use Rattle.hcc_core.proofs.SumLemmas.{total-member}
 use Rattle.hcc_rule.specs.declared.key.Key.{Key}
 use Rattle.hcc_rule.specs.declared.rule.Plan.{Plan}
 use Rattle.hcc_rule.specs.declared.view.Made.{Made}
 use Rattle.hcc_rule.specs.declared.view.View.{View}
-use Rattle.hcc_rule.specs.Views.{is_seated, named_by}
+use Rattle.hcc_rule.specs.Views.{held, is_on, is_seated, named_by, reference_of}
 use Rattle.hcc_rule.specs.Rule.{Holds}
 use Rattle.hcc_rule.proofs.Asides.{law_is}
 use Rattle.hcc_rule.proofs.Different.{total_ones}
@@ -69,6 +71,27 @@ module _ {T : Type 0} (fits : T → Key → List ℕ → Type 0) (p : Plan T) (s
       let named = r.seats.all in
       let count = one_client in
       alone_total named_by (λ (u : View T). u.takings) s.views id v at (omega arith) took_none
+
+  -- all references are its records
+  pub held_alone : (i : ℕ) (h : Reference → ℕ) → total (held i h) s.views ≡ held i h v
+  held_alone i h =
+      let one : when (is_seated v) 1 ≡ 1 = ap (λ b. when b 1) seated in
+      let named = r.seats.all in
+      let count = one_client in
+      alone_total named_by (held i h) s.views id v at (omega arith) held_none
+    where
+      held_none : (j : ℕ) (u : View T) → slice_get s.views j ≡ Some u → named_by u ≡ 0 → held i h u ≡ 0
+      held_none j u there none = by u.tag refl
+        where
+          by : (o : Option T) → u.tag ≡ o → held i h u ≡ 0
+          by None is = ap (total (λ (q : Record). when (is_on i q) (h (reference_of u.client q)))) ((r.seats.each j u there).spent is).0
+          by (Some t) is =
+              let seated_one : when (is_seated u) 1 ≡ 1 = ap (λ o. when (is_some o) 1) is in
+              absurd (omega arith)
+
+  -- all that stands is its own
+  pub standing_alone : standing_in r.world ≡ standing_of v.work
+  standing_alone = one_total standing_of r.world.clients v.client v.work (client_is fits p s r id v at seated) one_client
 
   -- The occupancy is what the client made and did not take, and what it has in hand.
   pub occupancy_alone : occupancy_of r.world + v.takings ≡ length v.made + occupied_by v.work

@@ -27,7 +27,7 @@ use Rattle.hcc_core.specs.World.{weight, references_of}
 use Rattle.hcc_core.proofs.SumLemmas.{total-member}
 use Rattle.hcc_rule.specs.Views.{is_seated, held, weight_on, Each, stamp_on, is_on}
 use Rattle.hcc_rule.specs.Words.{field_at, code_of}
-use Rattle.hcc_rule.specs.Rule.{Holds, entry_in, IsRecorded}
+use Rattle.hcc_rule.specs.Rule.{Holds, entry_in, IsRecorded, setup_of}
 use Rattle.hcc_rule.proofs.Lists.{within, there, read_at, each_map}
 use Rattle.hcc_rule.proofs.Codes.{tells_entry, is_near}
 use Rattle.hcc_rule.proofs.Clients.{dead_told}
@@ -36,7 +36,9 @@ use Rattle.hcc_rule.proofs.Touches.{by_client, touched, Goes, goes, client_is, l
 use Rattle.std.specs.List.{list_any}
 use Rattle.hcc_core.specs.declared.state.Entry.{Entry}
 use Rattle.hcc_rule.specs.declared.view.Record.{Record}
-use Rattle.hcc_word.specs.Word.{is_shareable}
+use Rattle.hcc_word.specs.Word.{is_shareable, refs_of}
+use Rattle.hcc_core.specs.declared.state.Setup.{Setup}
+use Rattle.hcc_rule.proofs.Alone.{held_alone}
 use Rattle.hcc_rule.proofs.Findings.{some_found, any_some, find_passes, find_each}
 
 -- numbers of slots and clients fit their fields
@@ -175,16 +177,42 @@ module _ {T : Type 0} (fits : T → Key → List ℕ → Type 0) (p : Plan T) wh
         one = stamps_from i k.entry v.records v.records (stamp_found i k.entry v.records on) on;
       }
 
+  -- where there is no other client, its word has no more references than those
+  alone_there : (s : Shard fits p) (r : Holds fits p s) (id i word : ℕ) (v : View T) (t : Slot)
+      → slice_get r.world.slots i ≡ Some t → slice_get s.views id ≡ Some v → is_seated v ≡ true
+      → p.geometry.clients ≡ 1 → word ≡ code_of t → is_shareable word ≡ true
+      → refs_of word ≡ weight_on i v.records
+  alone_there s r id i word v (slots.Empty strays) at_slot at seated one word_is entry =
+      let near = tells_entry r.world (is_lawful r.world r.lawful) i (slots.Empty strays) at_slot in
+      let bad : true ≡ false = sym entry ∙ (ap is_shareable word_is ∙ near) in cc
+  alone_there s r id i word v (slots.Building client strays) at_slot at seated one word_is entry =
+      let near = tells_entry r.world (is_lawful r.world r.lawful) i (slots.Building client strays) at_slot in
+      let bad : true ≡ false = sym entry ∙ (ap is_shareable word_is ∙ near) in cc
+  alone_there s r id i word v (slots.Shareable k) at_slot at seated one word_is entry =
+      let weigh : Reference → ℕ = λ (q : Reference). q.weight in
+      ap refs_of word_is
+      ∙ (refs_of-shareable k.hit k.shown (is_near r.world (is_lawful r.world r.lawful) i k at_slot)
+      ∙ (r.references i (slots.Shareable k) at_slot weigh
+      ∙ held_alone fits p s r id v at seated one i weigh))
+
   -- the slot at an index
   pub slot_there : (s : Shard fits p) (r : Holds fits p s) (i : ℕ) → i < p.geometry.slots
       → (t : Slot) × (slice_get r.world.slots i ≡ Some t)
   slot_there s r i near = there r.world.slots i (let size = size_is fits p s r in omega arith)
 
   -- The load of a slot's meta word keeps the rule, and tells what it found.
-  pub look_step : (count id i a : ℕ) (me : Held T) → i < p.geometry.slots → is_seated me.0 ≡ true
+  pub look_step : (count id i a : ℕ) (me : Held T) (setup : Setup) → setup ≡ setup_of p
+      → i < p.geometry.slots → is_seated me.0 ≡ true
       → a ≡ field_at p.geometry.room i META
-      → Allows (Holds fits p) count id me a (λ n. n) (looks i (step count a 0 0 none) me)
-  look_step count id i a me near seated address s r homes at low =
+      → Allows (Holds fits p) count id me a (λ n. n) (looks setup i (step count a 0 0 none) me)
+  look_step count id i a me setup said near seated address s r homes at low =
       let slot = slot_there s r i near in
-      looks_on s r id i a me slot.0 (looks i (step count a 0 0 none) me) slot.1 seated address (read_at s.views id me.0 at)
-      (refl, refl, backed s r id i (slice_index s.words a) me.0 slot.0 slot.1 (read_at s.views id me.0 at) (ap (slice_index s.words) address ∙ r.coded.meta i slot.0 slot.1))
+      let mine = read_at s.views id me.0 at in
+      let word_is = ap (slice_index s.words) address ∙ r.coded.meta i slot.0 slot.1 in
+      looks_on s r id i a me slot.0 (looks setup i (step count a 0 0 none) me) slot.1 seated address mine (
+        refl,
+        refl,
+        backed s r id i (slice_index s.words a) me.0 slot.0 slot.1 mine word_is,
+        λ one. alone_there s r id i (slice_index s.words a) me.0 slot.0 slot.1 mine seated
+            (ap (λ (x : Setup). x.clients) (sym said) ∙ one) word_is,
+      )

@@ -1,5 +1,5 @@
 -- Steps on the word of standalone charges.
-use Rattle.std.proofs.Common.{◌≡◌, ℕ, ◌+◌, ◌-◌, ◌%◌, ◌^◌, ◌<◌, ◌≤◌, true, false, List, [], ◌∷◌, ◌++◌, Some, length, slice_get, slice_index, refl, ap, ◌∙◌, arith}
+use Rattle.std.proofs.Common.{◌≡◌, ℕ, ◌+◌, ◌-◌, ◌%◌, ◌^◌, ◌<◌, ◌≤◌, true, false, List, [], ◌∷◌, ◌++◌, Some, length, slice_get, slice_index, sym, refl, ap, ◌∙◌, arith}
 use Rattle.std.specs.List.{list_any, find}
 use mathlib.Core.Option.{none}
 use Rattle.atomic_table.specs.Table.{step, Allows}
@@ -20,7 +20,9 @@ use Rattle.hcc_rule.specs.Told.{Held}
 use Rattle.hcc_rule.specs.ToldLedgers.{standings, stands, falls}
 use Rattle.hcc_rule.specs.Views.{is_seated}
 use Rattle.hcc_rule.specs.Words.{ledger_at}
-use Rattle.hcc_rule.specs.Rule.{IsModest, Holds}
+use Rattle.hcc_core.specs.declared.state.Setup.{Setup}
+use Rattle.hcc_rule.proofs.Alone.{standing_alone}
+use Rattle.hcc_rule.specs.Rule.{IsModest, Holds, setup_of}
 use Rattle.hcc_rule.proofs.Lists.{read_at, each_append}
 use Rattle.hcc_rule.proofs.Findings.{dropped_each}
 use Rattle.hcc_rule.proofs.LedgerSteps.{on_standing, Pays}
@@ -57,14 +59,19 @@ module _ {T : Type 0} (fits : T → Key → List ℕ → Type 0) (p : Plan T) (c
         (on_standing p.geometry.slots p.geometry.room (slice_index s.words a) y r.world.hand me.0.work new paid
         charged (ap occupied_by same) (ap (λ (c : Client). c.trail) same))
 
-  pub standing_step : Allows (Holds fits p) count id me a (λ n. n) (standings (step count a 0 0 none) me)
-  standing_step s r homes there low =
+  pub standing_step : (setup : Setup) → setup ≡ setup_of p → Allows (Holds fits p) count id me a (λ n. n) (standings setup (step count a 0 0 none) me)
+  standing_step setup said s r homes there low =
       goes_by fits p s r id a word me v.work v.open_places v.seen v.tight
-      (events.Standing v.client) (replies.Count (standing_in r.world)) (standings (step count a 0 0 none) me) at seated refl
+      (events.Standing v.client) (replies.Count (standing_in r.world)) (standings setup (step count a 0 0 none) me) at seated refl
       (modest_is fits p s r id v at seated)
       (standing_gives r.world v.client v.work (law_is fits p s r) client live)
-      (paid_standing s r word v.work refl refl refl)
-      (refl, refl, rw (found_standing s r) (standing_within r.world v.client v.work client))
+      (paid_standing s r word v.work refl refl refl) (
+        refl,
+        refl,
+        rw (found_standing s r) (standing_within r.world v.client v.work client),
+        rw (found_standing s r) (let used = standing_used r.world in let few = usage_low fits p s r in omega arith),
+        λ one. found_standing s r ∙ standing_alone fits p s r id v at seated (ap (λ (x : Setup). x.clients) (sym said) ∙ one),
+      )
     where
       v : View T
       v = me.0

@@ -7,6 +7,7 @@ use Rattle.hcc_core.specs.declared.event.Reply.TheVariants as replies
 use Rattle.hcc_core.specs.declared.state.Setup.{Setup}
 use Rattle.hcc_core.specs.declared.state.Client.{Client}
 use Rattle.hcc_core.specs.Sums.{total}
+use Rattle.hcc_core.specs.Lawful.{real_to}
 use Rattle.hcc_core.specs.World.{State, charged_to, usage_of, occupied_by, standing_of}
 use Rattle.hcc_core.specs.Steps.{grant_of}
 use Rattle.hcc_core.proofs.LawfulLedgers.{grant-le}
@@ -57,13 +58,19 @@ module _ {T : Type 0} (fits : T → Key → List ℕ → Type 0) (p : Plan T) (c
     found_usage = ap (slice_index s.words) address ∙ r.ledgers.usage
 
     -- and this is told of it
-    charged_told : slice_get s.views id ≡ Some me.0 → Charged me.0 (slice_index s.words a)
+    charged_told : slice_get s.views id ≡ Some me.0 → Charged (setup_of p) me.0 (slice_index s.words a)
     charged_told at = rw found_usage record {
       entries = charged_beside r.world me.0.client me.0.work client me.0.records recorded;
       held =
           each_map (IsRecorded r.world.slots) (λ (q : Record). charged_to me.0.work + q.entry.charge ≤ usage_of r.world)
           (charged_one r.world me.0.client me.0.work client) me.0.records recorded;
       low = usage_low fits p s r;
+      real = λ strict.
+          let most = (law_is fits p s r).ledgers.real (ap (λ x. x.strict) r.setup ∙ strict) in
+          let same : r.world.setup.capacity ≡ p.capacity = ap (λ x. x.capacity) r.setup in
+          let member = total-member real_to r.world.clients me.0.client me.0.work client in
+          let entries = charges_within r.world.slots me.0.records recorded in
+          omega arith;
     }
       where
         client : slice_get r.world.clients me.0.client ≡ Some me.0.work
@@ -81,14 +88,14 @@ module _ {T : Type 0} (fits : T → Key → List ℕ → Type 0) (p : Plan T) (c
         (on_usage p.geometry.slots p.geometry.room (slice_index s.words a) y r.world.hand me.0.work new paid
         (ap occupied_by same) (ap standing_of same) (ap (λ (c : Client). c.trail) same))
 
-  pub usage_step : Allows (Holds fits p) count id me a (λ n. n) (usages (step count a 0 0 none) me)
-  usage_step s r homes there low =
+  pub usage_step : (setup : Setup) → setup ≡ setup_of p → Allows (Holds fits p) count id me a (λ n. n) (usages setup (step count a 0 0 none) me)
+  usage_step setup said s r homes there low =
       goes_by fits p s r id a word me v.work v.open_places (v.seen ++ word ∷ []) v.tight
-      (events.Usage v.client) (replies.Count (usage_of r.world)) (usages (step count a 0 0 none) me) at seated refl
+      (events.Usage v.client) (replies.Count (usage_of r.world)) (usages setup (step count a 0 0 none) me) at seated refl
       (modest_is fits p s r id v at seated)
       (usage_gives r.world v.client v.work (law_is fits p s r) client live)
       (paid_usage s r word v.work refl refl)
-      (refl, refl, charged_told s r at)
+      (refl, refl, rw said (charged_told s r at))
     where
       v : View T
       v = me.0

@@ -2,6 +2,7 @@
 use Rattle.std.specs.Prelude.{◌≡◌, ℕ, true, ◌<◌, ◌≤◌, Bool, ◌&&◌, not, Option, Some, None, if◌then◌else◌}
 use Rattle.atomic_table.specs.Table.{Me, Step}
 use Rattle.hcc_word.specs.Word.{is_shareable, is_visible, refs_of}
+use Rattle.hcc_core.specs.declared.state.Setup.{Setup}
 use Rattle.hcc_core.specs.declared.state.Stamp.{Stamp}
 use Rattle.hcc_core.specs.Steps.{joined}
 use Rattle.hcc_rule.specs.declared.view.View.{View}
@@ -41,6 +42,11 @@ module _ {T : Type 0} where
     pub enough : 0 < weight_on slot v.records → weight_on slot v.records ≤ refs_of word
     pub one : Each (λ (r : Record). r.slot ≡ slot → stamp_on slot v.records ≡ Some r.entry.stamp) v.records
 
-  abbrev pub looks : ℕ → Step (Unit {0}) → Held T → ℕ → Held T → Type 0
-  looks slot step me word after =
-      (after.1 ≡ me.1) × (after.0 ≡ after_look slot word me.0) × Backs slot word me.0
+  -- Where the shard has one client, it holds all references there are.
+  abbrev pub Alone : Setup → (slot word : ℕ) → View T → Type 0
+  Alone setup slot word v =
+      setup.clients ≡ 1 → is_shareable word ≡ true → refs_of word ≡ weight_on slot v.records
+
+  abbrev pub looks : Setup → ℕ → Step (Unit {0}) → Held T → ℕ → Held T → Type 0
+  looks setup slot step me word after =
+      (after.1 ≡ me.1) × (after.0 ≡ after_look slot word me.0) × Backs slot word me.0 × Alone setup slot word me.0

@@ -1,11 +1,12 @@
 -- What each step on a ledger word or the hand tells its seat, by the word that it found.
-use Rattle.std.specs.Prelude.{◌≡◌, ℕ, ◌+◌, ◌-◌, ◌^◌, ◌<◌, ◌≤◌, nat_lt, [], ◌∷◌, ◌++◌, length, if◌then◌else◌}
+use Rattle.std.specs.Prelude.{◌≡◌, ℕ, ◌+◌, ◌-◌, ◌^◌, ◌<◌, ◌≤◌, true, nat_lt, [], ◌∷◌, ◌++◌, length, if◌then◌else◌}
 use Rattle.atomic_table.specs.Table.{Step}
 use Rattle.hcc_core.specs.declared.state.Setup.{Setup}
 use Rattle.hcc_core.specs.declared.state.Place.{Place}
 use Rattle.hcc_core.specs.declared.state.Place.TheVariants as places
 use Rattle.hcc_core.specs.declared.state.Client.{Client}
 use Rattle.hcc_core.specs.Sums.{total}
+use Rattle.hcc_core.specs.Lawful.{real_to}
 use Rattle.hcc_core.specs.World.{charged_to, occupied_by, standing_of, limit_of}
 use Rattle.hcc_core.specs.Steps.{grant_of, place_granted, dropped, is_standing}
 use Rattle.hcc_rule.specs.declared.view.Record.{Record}
@@ -32,14 +33,17 @@ module _ {T : Type 0} where
   abbrev pub after_usage : (word : ℕ) → View T → View T
   after_usage word v = record v { seen = v.seen ++ word ∷ [] }
 
-  pub record Charged (v : View T) (word : ℕ) : Type 0 where
+  pub record Charged (setup : Setup) (v : View T) (word : ℕ) : Type 0 where
     pub entries : charged_to v.work + total (λ (r : Record). r.entry.charge) (different v.records) ≤ word
     pub held : Each (λ (r : Record). charged_to v.work + r.entry.charge ≤ word) v.records
     pub low : word < 2 ^ 60
+    -- under strict capacity what is the client's for good, with the entries that it holds, is within it
+    pub real : setup.strict ≡ true
+        → real_to v.work + total (λ (r : Record). r.entry.charge) (different v.records) ≤ setup.capacity
 
-  abbrev pub usages : Step (Unit {0}) → Held T → ℕ → Held T → Type 0
-  usages step me word after =
-      (after.1 ≡ me.1) × (after.0 ≡ after_usage word me.0) × Charged me.0 word
+  abbrev pub usages : Setup → Step (Unit {0}) → Held T → ℕ → Held T → Type 0
+  usages setup step me word after =
+      (after.1 ≡ me.1) × (after.0 ≡ after_usage word me.0) × Charged setup me.0 word
 
   -- A client that is alone made all entries, and took those that are gone.
   pub record Occupied (setup : Setup) (v : View T) (word : ℕ) : Type 0 where
@@ -51,9 +55,10 @@ module _ {T : Type 0} where
   occupancies setup step me word after =
       (after.1 ≡ me.1) × (after.0 ≡ me.0) × Occupied setup me.0 word
 
-  abbrev pub standings : Step (Unit {0}) → Held T → ℕ → Held T → Type 0
-  standings step me word after =
-      (after.1 ≡ me.1) × (after.0 ≡ me.0) × (standing_of me.0.work ≤ word)
+  abbrev pub standings : Setup → Step (Unit {0}) → Held T → ℕ → Held T → Type 0
+  standings setup step me word after =
+      (after.1 ≡ me.1) × (after.0 ≡ me.0) × (standing_of me.0.work ≤ word) × (word < 2 ^ 60)
+      × (setup.clients ≡ 1 → word ≡ standing_of me.0.work)
 
   -- A turn of the hand.
   abbrev pub after_turn : View T → View T
@@ -74,7 +79,7 @@ module _ {T : Type 0} where
 
   abbrev pub charges : Setup → Step (Unit {0}) → Held T → ℕ → Held T → Type 0
   charges setup step me word after =
-      (after.1 ≡ me.1) × (after.0 ≡ after_charge setup step.first word me.0) × Charged me.0 word
+      (after.1 ≡ me.1) × (after.0 ≡ after_charge setup step.first word me.0) × Charged setup me.0 word
 
   -- Take from the usage.
   abbrev pub after_settle : View T → View T

@@ -36,6 +36,20 @@ impl<T: Tag, A: Allocator> RuleTable<T, A> {
         self.geometry
     }
 
+    /// How much charge the shard's entries may have. It costs a copy.
+    pub fn capacity(&self) -> u64
+        ensures { result ≡ self.now.capacity }
+    {
+        self.capacity
+    }
+
+    /// Whether the capacity is kept at every moment. It costs a copy.
+    pub fn strict(&self) -> bool
+        ensures { result ≡ self.now.strict }
+    {
+        self.strict
+    }
+
     /// The address of a slot's word.
     pub(crate) fn address(&self, slot: u32, field: usize) -> usize
         requires { (slot < self.now.geometry.slots) × (field < self.now.geometry.room + SLOT_HEAD) }

@@ -1,10 +1,11 @@
 //! Steps on the usage word.
-ghost use Rattle.std.specs.Prelude.{◌≡◌, ◌+◌, ◌^◌, ◌<◌, ◌≤◌};
+ghost use Rattle.std.specs.Prelude.{◌≡◌, ◌+◌, ◌^◌, ◌<◌, ◌≤◌, true};
+ghost use Rattle.hcc_core.specs.Lawful.{real_to};
 ghost use Rattle.hcc_core.specs.Sums.{total};
 ghost use Rattle.hcc_core.specs.World.{charged_to};
 ghost use Rattle.hcc_rule.specs.declared.layout.TheConstants.{LEDGER_WORDS};
 ghost use Rattle.hcc_rule.specs.declared.view.Record.{Record};
-ghost use Rattle.hcc_rule.specs.Callers.{plan_of, IsSeatAt};
+ghost use Rattle.hcc_rule.specs.Callers.{capacity_of, is_strict, plan_of, IsSeatAt};
 ghost use Rattle.hcc_rule.specs.Rule.{setup_of};
 ghost use Rattle.hcc_rule.specs.Seats.{IsSameSeat, view};
 ghost use Rattle.hcc_rule.specs.ToldLedgers.{Charged, after_usage, after_charge, after_settle, after_waive, waived};
@@ -21,12 +22,14 @@ use std::alloc::Allocator;
 use std::marker::{Brand, PhantomData};
 
 /// What a load of the usage tells.
-pub struct Usage;
+pub struct Usage<J> {
+    said: PhantomData<J>,
+}
 
-impl<T: Tag> Play<(), View<T>> for Usage {
+impl<T: Tag, J: Planned> Play<(), View<T>> for Usage<J> {
     ghost use Rattle.hcc_rule.specs.ToldLedgers.{usages};
 
-    ghost then = { usages };
+    ghost then = { usages J.setup };
 }
 
 /// What an add of a charge tells.
@@ -68,10 +71,22 @@ impl<T: Tag, A: Allocator> RuleTable<T, A> {
         self.geometry.slots as usize * (self.geometry.room as usize + SLOT_HEAD) + ledger
     }
 
+    fn usage_as<J: Planned>(&self, seat: &mut RuleSeat<T>) -> u64
+        requires seat { IsSeatAt self.now seat.old }
+        requires said { J.setup ≡ setup_of (plan_of self.now) }
+        ensures seat { IsSameSeat seat.old seat.new }
+        ensures view { view seat.new ≡ after_usage result (view seat.old) }
+        ensures found { Charged J.setup (view seat.old) result }
+    {
+        self.table.shared.load::<Usage<J>>(seat, self.ledger(USAGE))
+    }
+
     /// Loads the usage: all charges of entries, and what stands for clients. The view's seen list
     /// grows by the answer. That is below 2^60, and at least what stands for the client itself with
     /// the charges of all entries that it holds references on. Each of these counts once: its records
     /// on one slot are on one entry, and the first of them stands for it in the sum (`different`).
+    /// Under strict capacity, these charges with the client's real charge (what it was granted, what
+    /// it freed, and its standalone entries) are at most the capacity.
     ///
     /// It takes no memory. It costs one load.
     pub fn usage(&self, seat: &mut RuleSeat<T>) -> u64
@@ -82,8 +97,9 @@ impl<T: Tag, A: Allocator> RuleTable<T, A> {
         ensures entries { charged_to (view seat.old).work + total (λ (r : Record). r.entry.charge) (different (view seat.old).records) ≤ result }
         ensures held { Each (λ (r : Record). charged_to (view seat.old).work + r.entry.charge ≤ result) (view seat.old).records }
         ensures low { result < 2 ^ 60 }
+        ensures real { is_strict self.now ≡ true → real_to (view seat.old).work + total (λ (r : Record). r.entry.charge) (different (view seat.old).records) ≤ capacity_of self.now }
     {
-        self.table.shared.load::<Usage>(seat, self.ledger(USAGE))
+        self.usage_as::<Brand>(seat)
     }
 
     fn charge_as<J: Planned>(&self, seat: &mut RuleSeat<T>, amount: u32) -> u64
@@ -92,7 +108,7 @@ impl<T: Tag, A: Allocator> RuleTable<T, A> {
         requires said { J.setup ≡ setup_of (plan_of self.now) }
         ensures seat { IsSameSeat seat.old seat.new }
         ensures view { view seat.new ≡ after_charge J.setup amount result (view seat.old) }
-        ensures found { Charged (view seat.old) result }
+        ensures found { Charged J.setup (view seat.old) result }
     {
         self.table
             .shared

@@ -1,9 +1,11 @@
 //! Loads of meta words.
 ghost use Rattle.std.specs.Prelude.{◌≡◌, ◌<◌};
-ghost use Rattle.hcc_rule.specs.Callers.{IsSeatAt};
+ghost use Rattle.hcc_rule.specs.Callers.{plan_of, IsSeatAt};
+ghost use Rattle.hcc_rule.specs.Rule.{setup_of};
 ghost use Rattle.hcc_rule.specs.Seats.{IsSameSeat, view};
-ghost use Rattle.hcc_rule.specs.Told.{after_look, Backs};
+ghost use Rattle.hcc_rule.specs.Told.{after_look, Alone, Backs};
 
+use super::planned::Planned;
 use super::said::Said;
 use crate::key::Tag;
 use crate::layout::META;
@@ -18,20 +20,21 @@ pub struct Look<J> {
     said: PhantomData<J>,
 }
 
-impl<T: Tag, J: Said> Play<(), View<T>> for Look<J> {
+impl<T: Tag, J: Said + Planned> Play<(), View<T>> for Look<J> {
     ghost use Rattle.hcc_rule.specs.Told.{looks};
 
-    ghost then = { looks J.slot };
+    ghost then = { looks J.setup J.slot };
 }
 
 impl<T: Tag, A: Allocator> RuleTable<T, A> {
-    fn look_as<J: Said>(&self, seat: &mut RuleSeat<T>, slot: u32) -> u64
+    fn look_as<J: Said + Planned>(&self, seat: &mut RuleSeat<T>, slot: u32) -> u64
         requires seat { IsSeatAt self.now seat.old }
         requires slot { slot < self.now.geometry.slots }
-        requires said { J.slot ≡ slot }
+        requires said { (J.slot ≡ slot) × (J.setup ≡ setup_of (plan_of self.now)) }
         ensures seat { IsSameSeat seat.old seat.new }
         ensures view { view seat.new ≡ after_look slot result (view seat.old) }
         ensures backs { Backs slot result (view seat.old) }
+        ensures alone { Alone J.setup slot result (view seat.old) }
     {
         self.table
             .shared
@@ -41,7 +44,8 @@ impl<T: Tag, A: Allocator> RuleTable<T, A> {
     /// Loads a slot's meta word. The client looks at the slot, and may acquire there next, where the
     /// word is that of an entry; where the entry is hidden and the client holds a reference on it,
     /// the client has seen it dead. Where the client holds references on the slot, the word is that of
-    /// an entry with at least these, and they all are on that entry.
+    /// an entry with at least these, and they all are on that entry; where the shard has one client, with
+    /// just these.
     ///
     /// It takes no memory. It costs one load.
     pub fn look(&self, seat: &mut RuleSeat<T>, slot: u32) -> u64
@@ -50,6 +54,7 @@ impl<T: Tag, A: Allocator> RuleTable<T, A> {
         ensures seat { IsSameSeat seat.old seat.new }
         ensures view { view seat.new ≡ after_look slot result (view seat.old) }
         ensures backs { Backs slot result (view seat.old) }
+        ensures alone { Alone (setup_of (plan_of self.now)) slot result (view seat.old) }
     {
         self.look_as::<Brand>(seat, slot)
     }

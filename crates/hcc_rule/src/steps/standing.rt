@@ -5,10 +5,12 @@ ghost use Rattle.hcc_core.specs.declared.state.Place.TheVariants.{Absent};
 ghost use Rattle.hcc_core.specs.World.{standing_of};
 ghost use Rattle.hcc_core.specs.Steps.{is_standing};
 ghost use Rattle.hcc_rule.specs.declared.layout.TheConstants.{MOST_HANDLES};
-ghost use Rattle.hcc_rule.specs.Callers.{IsSeatAt};
+ghost use Rattle.hcc_rule.specs.Callers.{clients_of, plan_of, IsSeatAt};
+ghost use Rattle.hcc_rule.specs.Rule.{setup_of};
 ghost use Rattle.hcc_rule.specs.Seats.{IsSameSeat, view};
 ghost use Rattle.hcc_rule.specs.ToldLedgers.{after_stand, after_fall};
 
+use super::planned::Planned;
 use super::said::Said;
 use crate::key::Tag;
 use crate::layout::STANDING;
@@ -19,12 +21,14 @@ use std::alloc::Allocator;
 use std::marker::{Brand, PhantomData};
 
 /// What a load of the standalone charges tells.
-pub struct Standing;
+pub struct Standing<J> {
+    said: PhantomData<J>,
+}
 
-impl<T: Tag> Play<(), View<T>> for Standing {
+impl<T: Tag, J: Planned> Play<(), View<T>> for Standing<J> {
     ghost use Rattle.hcc_rule.specs.ToldLedgers.{standings};
 
-    ghost then = { standings };
+    ghost then = { standings J.setup };
 }
 
 /// What an add of a standalone charge tells.
@@ -50,7 +54,22 @@ impl<T: Tag, J: Said> Play<(), View<T>> for Fall<J> {
 }
 
 impl<T: Tag, A: Allocator> RuleTable<T, A> {
-    /// Loads the charges of all standalone entries, the client's own among them.
+    fn standing_as<J: Planned>(&self, seat: &mut RuleSeat<T>) -> u64
+        requires seat { IsSeatAt self.now seat.old }
+        requires said { J.setup ≡ setup_of (plan_of self.now) }
+        ensures seat { IsSameSeat seat.old seat.new }
+        ensures view { view seat.new ≡ view seat.old }
+        ensures own { standing_of (view seat.old).work ≤ result }
+        ensures low { result < 2 ^ 60 }
+        ensures alone { J.setup.clients ≡ 1 → result ≡ standing_of (view seat.old).work }
+    {
+        self.table
+            .shared
+            .load::<Standing<J>>(seat, self.ledger(STANDING))
+    }
+
+    /// Loads the charges of all standalone entries, the client's own among them: below 2^60. In a shard
+    /// of one client the answer is just these.
     ///
     /// It takes no memory. It costs one load.
     pub fn standing(&self, seat: &mut RuleSeat<T>) -> u64
@@ -58,10 +77,10 @@ impl<T: Tag, A: Allocator> RuleTable<T, A> {
         ensures seat { IsSameSeat seat.old seat.new }
         ensures view { view seat.new ≡ view seat.old }
         ensures own { standing_of (view seat.old).work ≤ result }
+        ensures low { result < 2 ^ 60 }
+        ensures alone { clients_of self.now ≡ 1 → result ≡ standing_of (view seat.old).work }
     {
-        self.table
-            .shared
-            .load::<Standing>(seat, self.ledger(STANDING))
+        self.standing_as::<Brand>(seat)
     }
 
     fn stand_as<J: Said>(&self, seat: &mut RuleSeat<T>, name: u64, charge: u32)

@@ -1,6 +1,6 @@
 use Rattle.std.proofs.Common.{ap, is_some}
 use Rattle.hcc_rule.proofs.StandingSteps.{standing_step}
-use Rattle.hcc_rule.proofs.table.RuleTable.standing.Goals as goal
+use Rattle.hcc_rule.proofs.table.RuleTable.standing_as.Goals as goal
 
 pub load-requires : goal.load-requires
 load-requires g c =
@@ -9,5 +9,6 @@ load-requires g c =
       seat.table,
       c.ledger.ensures.inside,
       standing_step g.T.Tag.fits c.args.self.now.table.shared.key _ _ _ _
-          (ap is_some seat.tagged) (rw planned.0 c.ledger.ensures.value),
+          (ap is_some seat.tagged) (rw planned.0 c.ledger.ensures.value)
+          g.J.Planned.setup c.requires.said,
     )
