@@ -1,7 +1,7 @@
 -- A shard with one client: one seat made all entries and took those that are gone.
 use Rattle.std.proofs.Common.{◌≡◌, ℕ, zero, suc, ◌+◌, ◌≤◌, true, List, [], ◌∷◌, Option, Some, None, is_some, length, slice_get, refl, ap, ◌∙◌, arith}
 use Rattle.hcc_core.specs.Sums.{when, total}
-use Rattle.hcc_core.specs.World.{occupied_by, occupancy_of, standing_in, standing_of}
+use Rattle.hcc_core.specs.World.{taken_by_slot, occupied_by, occupancy_of, standing_in, standing_of}
 use Rattle.hcc_core.specs.declared.state.Reference.{Reference}
 use Rattle.hcc_rule.specs.declared.view.Record.{Record}
 use Rattle.hcc_core.proofs.SumLemmas.{total-member}
@@ -93,14 +93,20 @@ module _ {T : Type 0} (fits : T → Key → List ℕ → Type 0) (p : Plan T) (s
   pub standing_alone : standing_in r.world ≡ standing_of v.work
   standing_alone = one_total standing_of r.world.clients v.client v.work (client_is fits p s r id v at seated) one_client
 
-  -- The occupancy is what the client made and did not take, and what it has in hand.
-  pub occupancy_alone : occupancy_of r.world + v.takings ≡ length v.made + occupied_by v.work
-  occupancy_alone =
-      let client = client_is fits p s r id v at seated in
+  -- The entries are as many as it made and did not take.
+  pub entries_alone : total taken_by_slot r.world.slots + v.takings ≡ length v.made
+  entries_alone =
       let book = book_is fits p s r id v at seated in
-      let hands = one_total occupied_by r.world.clients v.client v.work client one_client in
       let one_book = r.stamps.sized ∙ one_client in
       let made = one_total (λ (l : List Made). length l) r.books v.client v.made book one_book in
       let takings = all_takings in
       let left = r.stamps.left in
+      omega arith
+
+  -- The occupancy is these, with what it has in hand.
+  pub occupancy_alone : occupancy_of r.world + v.takings ≡ length v.made + occupied_by v.work
+  occupancy_alone =
+      let client = client_is fits p s r id v at seated in
+      let hands = one_total occupied_by r.world.clients v.client v.work client one_client in
+      let entries = entries_alone in
       omega arith

@@ -1,5 +1,5 @@
 -- The sums that stand in words stay far below a word's end.
-use Rattle.std.proofs.Common.{◌≡◌, ℕ, zero, suc, ◌+◌, ◌*◌, ◌^◌, ◌<◌, ◌≤◌, ◌==◌, Bool, true, false, List, [], ◌∷◌, Some, length, slice_get, refl, ap, ◌∙◌, arith}
+use Rattle.std.proofs.Common.{◌≡◌, ℕ, zero, suc, ◌+◌, ◌-◌, ◌*◌, ◌^◌, ◌<◌, ◌≤◌, ◌==◌, Bool, true, false, List, [], ◌∷◌, Some, length, slice_get, refl, ap, ◌∙◌, arith}
 use Rattle.hcc_core.specs.declared.state.Client.{Client}
 use Rattle.hcc_core.specs.declared.state.Entry.{Entry}
 use Rattle.hcc_core.specs.declared.state.Slot.{Slot}
@@ -14,6 +14,7 @@ use Rattle.hcc_rule.specs.declared.key.Key.{Key}
 use Rattle.hcc_rule.specs.declared.view.View.{View}
 use Rattle.hcc_rule.specs.Views.{Each}
 use Rattle.hcc_rule.specs.Rule.{Books, entry_in, Stored, Stamps, IsModest}
+use Rattle.hcc_rule.proofs.Lists.{within}
 
 -- a sum of members that are at most k each
 pub total-bound : {A : Type 0} (f : A → ℕ) (k : ℕ) (xs : List A)
@@ -25,6 +26,38 @@ total-bound f k (x ∷ xs) h =
     let n : ℕ = length xs in
     let p : ℕ = k * n in
     let step : k * suc n ≡ p + k = omega arith in
+    omega arith
+
+-- one member, and others that are at most k each
+pub total_beside : {A : Type 0} (f : A → ℕ) (k : ℕ) (xs : List A) (i : ℕ) (x : A)
+    → slice_get xs i ≡ Some x → ((j : ℕ) (y : A) → slice_get xs j ≡ Some y → f y ≤ k)
+    → total f xs ≤ f x + k * (length xs - 1)
+total_beside f k [] i x at h = cc
+total_beside f k (y ∷ ys) zero x at h =
+    let same : f y ≡ f x = ap f (let e : y ≡ x = cc in e) in
+    let rest = total-bound f k ys (λ j z there. h (suc j) z there) in
+    let n : ℕ = length ys in
+    let one : suc n - 1 ≡ n = omega arith in
+    rw one (omega arith)
+total_beside f k (y ∷ ys) (suc i) x at h =
+    let first = h 0 y refl in
+    let rest = total_beside f k ys i x at (λ j z there. h (suc j) z there) in
+    let some = within ys i x at in
+    let n : ℕ = length ys in
+    let m : ℕ = n - 1 in
+    let more : n ≡ suc m = omega arith in
+    let whole : k * n ≡ k * m + k = ap (λ (z : ℕ). k * z) more ∙ omega arith in
+    let one : suc n - 1 ≡ n = omega arith in
+    rw one (omega arith)
+
+-- a sum of what is left of each member
+pub total_minus : {A : Type 0} (f g : A → ℕ) (xs : List A)
+    → ((j : ℕ) (y : A) → slice_get xs j ≡ Some y → f y ≤ g y)
+    → total (λ y. g y - f y) xs + total f xs ≡ total g xs
+total_minus f g [] h = refl
+total_minus f g (y ∷ ys) h =
+    let first = h 0 y refl in
+    let rest = total_minus f g ys (λ j z there. h (suc j) z there) in
     omega arith
 
 -- what stands for one client

@@ -10,7 +10,8 @@ use Rattle.hcc_core.proofs.SumLemmas.{total-set}
 use Rattle.hcc_rule.specs.declared.view.Record.{Record}
 use Rattle.hcc_rule.specs.Views.{is_on, off, different, Each}
 use Rattle.hcc_rule.specs.Rule.{entry_by, entry_in, IsRecorded}
-use Rattle.hcc_rule.proofs.ViewParts.{recorded_else}
+use Rattle.hcc_core.proofs.ListLemmas.{read_other}
+use Rattle.hcc_rule.proofs.Lists.{each_map}
 
 -- a sum of ones is a length
 pub total_ones : {A : Type 0} (xs : List A) → total (λ x. 1) xs ≡ length xs
@@ -61,41 +62,47 @@ different_apart [] = tt
 different_apart (r ∷ rs) =
     (off_others r.slot (different rs), off_apart r.slot (different rs) (different_apart rs))
 
--- records of other slots stay
-recorded_others : (all : List Slot) (i : ℕ) (left : Slot) (rs : List Record)
-    → Each (λ (q : Record). q.slot ≢ i) rs → Each (IsRecorded all) rs
-    → Each (IsRecorded (slice_set all i left)) rs
-recorded_others all i left [] others recorded = tt
-recorded_others all i left (r ∷ rs) others recorded = (
-  recorded_else all i left r others.0 recorded.0,
-  recorded_others all i left rs others.1 recorded.1,
-)
+-- Where the slot of each record gives what the record does, and an empty slot gives nothing, a sum over
+-- records of different slots is within the sum over all slots.
+module _ (f : Slot → ℕ) (g : Record → ℕ) where
+  -- the slot of a record gives as much
+  abbrev pub Gives : List Slot → Record → Type 0
+  Gives all r = (slot : Slot) × (slice_get all r.slot ≡ Some slot) × (f slot ≡ g r)
 
--- Where a slot has what its entry has, and an empty one has none, a sum over the entries of records of
--- different slots is within the sum over all slots.
-module _ (f : Slot → ℕ) (g : Entry → ℕ) (same : (slot : Slot) (e : Entry) → entry_by slot ≡ Some e → f slot ≡ g e) (none_there : f (slots.Empty 0) ≡ 0) where
-  apart_within : (all : List Slot) (rs : List Record) → Each (IsRecorded all) rs → Apart rs
-      → total (λ (r : Record). g r.entry) rs ≤ total f all
-  apart_within all [] recorded apart = omega arith
-  apart_within all (r ∷ rs) recorded apart =
-      by (slice_get all r.slot) refl recorded.0.there
-      (apart_within (slice_set all r.slot (slots.Empty 0)) rs
-      (recorded_others all r.slot (slots.Empty 0) rs apart.0 recorded.1) apart.1)
-    where
-      by : (o : Option Slot) → slice_get all r.slot ≡ o → entry_in o ≡ Some r.entry
-          → total (λ (r : Record). g r.entry) rs ≤ total f (slice_set all r.slot (slots.Empty 0))
-          → g r.entry + total (λ (r : Record). g r.entry) rs ≤ total f all
-      by None at is rest = cc
-      by (Some slot) at is rest =
-          let change = total-set f all r.slot slot (slots.Empty 0) at in
-          let mine = same slot r.entry is in
-          let gone = none_there in
-          omega arith
+  -- the slots of other records stay
+  gives_others : (all : List Slot) (i : ℕ) (left : Slot) (rs : List Record)
+      → Each (λ (q : Record). q.slot ≢ i) rs → Each (Gives all) rs → Each (Gives (slice_set all i left)) rs
+  gives_others all i left [] others gives = tt
+  gives_others all i left (r ∷ rs) others gives = (
+    (gives.0.0, read_other all i r.slot left others.0 ∙ gives.0.1, gives.0.2),
+    gives_others all i left rs others.1 gives.1,
+  )
 
-  pub different_within : (all : List Slot) (rs : List Record) → Each (IsRecorded all) rs
-      → total (λ (r : Record). g r.entry) (different rs) ≤ total f all
-  different_within all rs recorded =
-      apart_within all (different rs) (different_each (IsRecorded all) rs recorded) (different_apart rs)
+  apart_within : f (slots.Empty 0) ≡ 0 → (all : List Slot) (rs : List Record) → Each (Gives all) rs
+      → Apart rs → total g rs ≤ total f all
+  apart_within none_there all [] gives apart = omega arith
+  apart_within none_there all (r ∷ rs) gives apart =
+      let rest = apart_within none_there (slice_set all r.slot (slots.Empty 0)) rs
+      (gives_others all r.slot (slots.Empty 0) rs apart.0 gives.1) apart.1 in
+      let change = total-set f all r.slot gives.0.0 (slots.Empty 0) gives.0.1 in
+      let mine = gives.0.2 in
+      omega arith
+
+  pub different_within : f (slots.Empty 0) ≡ 0 → (all : List Slot) (rs : List Record)
+      → Each (Gives all) rs → total g (different rs) ≤ total f all
+  different_within none_there all rs gives =
+      apart_within none_there all (different rs) (different_each (Gives all) rs gives) (different_apart rs)
+
+-- what a slot gives by its entry, its records give
+pub gives_entry : (f : Slot → ℕ) (g : Entry → ℕ)
+    → ((slot : Slot) (e : Entry) → entry_by slot ≡ Some e → f slot ≡ g e)
+    → (all : List Slot) (r : Record) → IsRecorded all r → Gives f (λ (q : Record). g q.entry) all r
+gives_entry f g same all r recorded = by (slice_get all r.slot) refl recorded.there
+  where
+    by : (o : Option Slot) → slice_get all r.slot ≡ o → entry_in o ≡ Some r.entry
+        → Gives f (λ (q : Record). g q.entry) all r
+    by None at is = cc
+    by (Some slot) at is = (slot, at, same slot r.entry is)
 
 -- a slot has its entry's charge, and is one place
 charge_there : (slot : Slot) (e : Entry) → entry_by slot ≡ Some e → charge_of slot ≡ e.charge
@@ -111,12 +118,17 @@ taken_there (slots.Shareable r) e is = refl
 -- the charges of the entries that a client holds are among those of all slots
 pub charges_within : (all : List Slot) (rs : List Record) → Each (IsRecorded all) rs
     → total (λ (r : Record). r.entry.charge) (different rs) ≤ total charge_of all
-charges_within = different_within charge_of (λ e. e.charge) charge_there refl
+charges_within all rs recorded =
+    different_within charge_of (λ (r : Record). r.entry.charge) refl all rs
+    (each_map (IsRecorded all) (Gives charge_of (λ (r : Record). r.entry.charge) all)
+    (gives_entry charge_of (λ e. e.charge) charge_there all) rs recorded)
 
 -- and their places among the places of all
 pub places_within : (all : List Slot) (rs : List Record) → Each (IsRecorded all) rs
     → length (different rs) ≤ total taken_by_slot all
 places_within all rs recorded =
-    let within = different_within taken_by_slot (λ e. 1) taken_there refl all rs recorded in
+    let within = different_within taken_by_slot (λ r. 1) refl all rs
+    (each_map (IsRecorded all) (Gives taken_by_slot (λ r. 1) all)
+    (gives_entry taken_by_slot (λ e. 1) taken_there all) rs recorded) in
     let ones = total_ones (different rs) in
     omega arith

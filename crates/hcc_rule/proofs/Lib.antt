@@ -36,6 +36,7 @@ pub mod UsageSteps
 pub mod OccupancySteps
 pub mod StandingSteps
 pub mod HandSteps
+pub mod Passed
 pub mod TrailSteps
 pub mod Owners
 pub mod Occupies

@@ -1,10 +1,10 @@
 -- The places of a key: in a table of a power of two the first ones are all slots, each once, and the
 -- trail to a place is the places before it.
-use Rattle.std.proofs.Common.{◌≡◌, ◌≢◌, inl, inr, ℕ, zero, suc, ◌+◌, ◌-◌, ◌*◌, ◌%◌, ◌^◌, ◌<◌, ◌≤◌, ◌==◌, Bool, List, [], ◌∷◌, ◌++◌, map, length, sym, refl, ap, ◌∙◌, arith, bit_or, bit_and, mod-lt, pow_pos, ne_eqb}
+use Rattle.std.proofs.Common.{◌≡◌, ◌≢◌, inl, inr, ℕ, zero, suc, ◌+◌, ◌-◌, ◌*◌, ◌%◌, ◌^◌, ◌<◌, ◌≤◌, ◌==◌, Bool, List, [], ◌∷◌, ◌++◌, map, length, sym, refl, ap, ◌∙◌, arith, bit_or, bit_and, mod-lt, pow_pos, ne_eqb, true, false}
 use Rattle.std.specs.Prelude.{if◌then◌else◌}
 use Rattle.std.specs.List.{range_with_len}
 use Rattle.std.proofs.Math.Nat.{mod-mod, mod-add-mod, add-mod}
-use Rattle.std.proofs.lemmas.Bool.{cases_eq, cases_lt, eq-eqb}
+use Rattle.std.proofs.lemmas.Bool.{cases_eq, cases_lt, eq-eqb, eqb-true}
 use Rattle.std.proofs.lemmas.List.FromFn.{length-map-range_with_len, map-range_with_len_more}
 use Rattle.hcc_core.specs.Sums.{when}
 use Rattle.hcc_core.specs.World.{times}
@@ -56,6 +56,34 @@ times_later f (suc n) a p others =
     let rest = times_later f n (a + 1) p (λ j low high. others j (omega arith) (omega arith)) in
     omega arith
 
+-- A number stands once at most among those of a function that gives no number twice.
+times_once : (f : ℕ → ℕ) (n a p : ℕ)
+    → ((i j : ℕ) → a ≤ i → i < j → j < a + n → f i ≢ f j)
+    → times p (map f (range_with_len a n)) ≤ 1
+times_once f zero a p apart = omega arith
+times_once f (suc n) a p apart =
+    let rest = times_once f n (a + 1) p (λ i j low first high. apart i j (omega arith) first (omega arith)) in
+    by (f a == p) refl rest
+  where
+    by : (b : Bool) → (f a == p) ≡ b → times p (map f (range_with_len (a + 1) n)) ≤ 1
+        → when b 1 + times p (map f (range_with_len (a + 1) n)) ≤ 1
+    by true is rest =
+        let here : f a ≡ p = eqb-true (f a) p is in
+        let none = times_later f n (a + 1) p
+        (λ j low high same. apart a j (omega arith) (omega arith) (omega arith) (here ∙ sym same)) in
+        omega arith
+    by false is rest = omega arith
+
+-- What stands in front of a number stands there as often at most.
+times_before : (p n : ℕ) (xs : List ℕ) → times p (before n xs) ≤ times p xs
+times_before p n [] = omega arith
+times_before p n (x ∷ xs) = by (x == n) (times_before p n xs)
+  where
+    by : (b : Bool) → times p (before n xs) ≤ times p xs
+        → times p (if b then [] else x ∷ before n xs) ≤ when (x == p) 1 + times p xs
+    by true rest = omega arith
+    by false rest = omega arith
+
 -- It goes from behind them.
 dropped_later : (f : ℕ → ℕ) (n a p : ℕ) → ((j : ℕ) → a ≤ j → j < a + n → f j ≢ p)
     → dropped (is_slot p) (map f (range_with_len a n) ++ p ∷ []) ≡ map f (range_with_len a n)
@@ -88,6 +116,14 @@ module _ (slots : ℕ) (key : Key) (power : MOST_SLOTS % slots ≡ 0) where
       let stride : ℕ = bit_or key.w0 1 in
       let back = inverse_within 16 slots stride power (or_one-odd key.w0) in
       walk_apart slots stride back.0 back.1 (some_slots slots power) back.2 key.w1 i j i_in j_in same
+
+  -- A trail has a slot once at most.
+  pub trail_once : (slot i : ℕ) → times i (trail_to slots key slot) ≤ 1
+  trail_once slot i =
+      let part = times_before i slot (map (probe_slot slots key) (range_with_len 0 slots)) in
+      let one = times_once (probe_slot slots key) slots 0 i
+      (λ a b low first high same. let e = probes_apart a b (omega arith) (omega arith) same in absurd (omega arith)) in
+      omega arith
 
   -- They are all the slots.
   pub probe_of_slot : (slot : ℕ) → slot < slots

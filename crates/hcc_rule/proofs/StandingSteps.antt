@@ -22,6 +22,7 @@ use Rattle.hcc_rule.specs.Views.{is_seated}
 use Rattle.hcc_rule.specs.Words.{ledger_at}
 use Rattle.hcc_core.specs.declared.state.Setup.{Setup}
 use Rattle.hcc_rule.proofs.Alone.{standing_alone}
+use Rattle.hcc_rule.proofs.Limits.{standing_beside, standing_used}
 use Rattle.hcc_rule.specs.Rule.{IsModest, Holds, setup_of}
 use Rattle.hcc_rule.proofs.Lists.{read_at, each_append}
 use Rattle.hcc_rule.proofs.Findings.{dropped_each}
@@ -35,13 +36,6 @@ use Rattle.hcc_rule.proofs.Touches.{client_is, live_is}
 standing_within : (w : State) (c : ℕ) (client : Client) → slice_get w.clients c ≡ Some client
     → standing_of client ≤ standing_in w
 standing_within w c client at = let member = total-member standing_of w.clients c client at in omega arith
-
--- which is within the usage
-pub standing_used : (w : State) → standing_in w ≤ usage_of w
-standing_used w = let each = total-le standing_of charged_to w.clients (λ i client at. part client) in omega arith
-  where
-    part : (client : Client) → standing_of client ≤ charged_to client
-    part client = omega arith
 
 module _ {T : Type 0} (fits : T → Key → List ℕ → Type 0) (p : Plan T) (count id a : ℕ) (me : Held T) (seated : is_seated me.0 ≡ true) (address : a ≡ ledger_at p.geometry.slots p.geometry.room STANDING) where
   module _ (s : Shard fits p) (r : Holds fits p s) where
@@ -71,6 +65,8 @@ module _ {T : Type 0} (fits : T → Key → List ℕ → Type 0) (p : Plan T) (c
         rw (found_standing s r) (standing_within r.world v.client v.work client),
         rw (found_standing s r) (let used = standing_used r.world in let few = usage_low fits p s r in omega arith),
         λ one. found_standing s r ∙ standing_alone fits p s r id v at seated (ap (λ (x : Setup). x.clients) (sym said) ∙ one),
+        rw (found_standing s r, said)
+            (λ strict. standing_beside fits p s r strict v.client v.work client v.records (r.holding id v at).recorded),
       )
     where
       v : View T

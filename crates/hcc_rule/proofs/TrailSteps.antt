@@ -7,33 +7,31 @@ use Rattle.atomic_table.specs.Table.{step, Allows}
 use Rattle.hcc_core.specs.declared.event.Event.TheVariants as events
 use Rattle.hcc_core.specs.declared.event.Reply.TheVariants as replies
 use Rattle.hcc_core.specs.declared.state.Client.{Client}
-use Rattle.hcc_core.specs.declared.state.Entry.{Entry}
+use Rattle.hcc_core.specs.declared.limits.TheConstants.{MOST_SLOTS}
+use Rattle.hcc_core.specs.declared.state.Setup.{Setup}
 use Rattle.hcc_core.specs.declared.state.Slot.{Slot}
-use Rattle.hcc_core.specs.declared.state.Slot.TheVariants as slots
 use Rattle.hcc_core.specs.Sums.{when}
-use Rattle.hcc_core.specs.World.{State, trail_of, times, passed_by, passed_at}
+use Rattle.hcc_core.specs.World.{times, passed_by, passed_at}
 use Rattle.hcc_core.specs.Steps.{dropped, is_slot}
-use Rattle.hcc_core.proofs.SumLemmas.{total-member, total-append}
+use Rattle.hcc_core.proofs.SumLemmas.{total-append}
 use Rattle.hcc_rule.specs.declared.key.Key.{Key}
 use Rattle.hcc_rule.specs.declared.layout.TheConstants.{DISPLACEMENT}
 use Rattle.hcc_rule.specs.declared.rule.Plan.{Plan}
-use Rattle.hcc_rule.specs.declared.view.Record.{Record}
 use Rattle.hcc_rule.specs.declared.view.View.{View}
-use Rattle.hcc_rule.specs.Probes.{trail_to}
 use Rattle.hcc_rule.specs.Told.{Held}
-use Rattle.hcc_rule.specs.ToldTrails.{Passed, counts, passes, unpasses}
+use Rattle.hcc_rule.specs.ToldTrails.{counts, passes, unpasses}
 use Rattle.hcc_rule.specs.Views.{is_seated}
-use Rattle.hcc_rule.specs.Words.{field_at, key_of}
-use Rattle.hcc_rule.specs.Rule.{entry_in, IsRecorded, IsTrailed, IsModest, Holds}
-use Rattle.hcc_rule.proofs.Lists.{read_at, each_map, within}
+use Rattle.hcc_rule.specs.Words.{field_at}
+use Rattle.hcc_rule.specs.Rule.{setup_of, IsModest, Holds}
+use Rattle.hcc_rule.proofs.Lists.{read_at}
 use Rattle.hcc_rule.proofs.Bounds.{passed_few}
+use Rattle.hcc_rule.proofs.Passed.{own_within, passed_told}
 use Rattle.hcc_rule.proofs.LedgerSteps.{on_displacement, Pays}
 use Rattle.hcc_rule.proofs.LedgerGives.{count_gives, pass_gives, unpass_gives}
 use Rattle.hcc_rule.proofs.Asides.{pays_at, modest_is, law_is, goes_by}
-use Rattle.hcc_rule.proofs.SlotSteps.{Shard, size_is}
+use Rattle.hcc_rule.proofs.SlotSteps.{Shard}
 use Rattle.hcc_rule.proofs.Touches.{client_is, live_is}
 use Rattle.hcc_rule.proofs.Looks.{slot_there}
-use Rattle.hcc_rule.proofs.OnEntries.{resident_in}
 
 -- Of trails.
 
@@ -80,36 +78,6 @@ times_kept s i (x ∷ xs) other = by (x == i) refl (times_kept s i xs other)
         omega arith
     by false is later = omega arith
 
--- a client's trail is within what is passed
-trail_within : (w : State) (i c : ℕ) (client : Client) → slice_get w.clients c ≡ Some client
-    → times i client.trail ≤ passed_by w.slots w.clients i
-trail_within w i c client at =
-    let member = total-member (λ (k : Client). times i k.trail) w.clients c client at in
-    omega arith
-
--- and so is the trail of an entry
-entry_within : (w : State) (size i : ℕ)
-    → ((s : ℕ) (slot : Slot) → slice_get w.slots s ≡ Some slot → IsTrailed size s slot)
-    → (r : Record) → IsRecorded w.slots r
-    → times i (trail_to size (key_of r.entry) r.slot) ≤ passed_by w.slots w.clients i
-entry_within w size i trailed r recorded = by (slice_get w.slots r.slot) refl recorded.there
-  where
-    of_slot : (slot : Slot) → IsTrailed size r.slot slot → entry_in (Some slot) ≡ Some r.entry
-        → trail_of slot ≡ trail_to size (key_of r.entry) r.slot
-    of_slot (slots.Empty strays) is has = cc
-    of_slot (slots.Building client strays) is has = cc
-    of_slot (slots.Shareable q) is has =
-        let same : q.entry ≡ r.entry = cc in
-        is ∙ ap (λ (e : Entry). trail_to size (key_of e) r.slot) same
-
-    by : (o : Option Slot) → slice_get w.slots r.slot ≡ o → entry_in o ≡ Some r.entry
-        → times i (trail_to size (key_of r.entry) r.slot) ≤ passed_by w.slots w.clients i
-    by None there has = cc
-    by (Some slot) there has =
-        let member = total-member (λ z. times i (trail_of z)) w.slots r.slot slot there in
-        let same = ap (times i) (of_slot slot (trailed r.slot slot there) has) in
-        omega arith
-
 module _ {T : Type 0} (fits : T → Key → List ℕ → Type 0) (p : Plan T) (count id i a : ℕ) (me : Held T) (close : i < p.geometry.slots) (seated : is_seated me.0 ≡ true) (address : a ≡ field_at p.geometry.room i DISPLACEMENT) where
   module _ (s : Shard fits p) (r : Holds fits p s) where
     -- the word found is how often the slot is passed
@@ -131,15 +99,15 @@ module _ {T : Type 0} (fits : T → Key → List ℕ → Type 0) (p : Plan T) (c
         let old = modest_is fits p s r id v at sits in
         record { asked = old.asked; freed = old.freed; few = old.few; small = old.small }
 
-  pub count_step : (size : ℕ) → size ≡ p.geometry.slots
-      → Allows (Holds fits p) count id me a (λ n. n) (counts size i (step count a 0 0 none) me)
-  count_step size said s r homes there low =
+  pub count_step : (setup : Setup) → setup ≡ setup_of p → MOST_SLOTS % p.geometry.slots ≡ 0
+      → Allows (Holds fits p) count id me a (λ n. n) (counts setup i (step count a 0 0 none) me)
+  count_step setup said power s r homes there low =
       goes_by fits p s r id a word me v.work v.open_places v.seen v.tight
-      (events.Count v.client i) (replies.Count (passed_at r.world i)) (counts size i (step count a 0 0 none) me) at seated refl
+      (events.Count v.client i) (replies.Count (passed_at r.world i)) (counts setup i (step count a 0 0 none) me) at seated refl
       (modest_is fits p s r id v at seated)
       (count_gives r.world v.client v.work (law_is fits p s r) client live i slot.0 slot.1)
       (paid_passed s r word v.work.trail refl (λ j other. refl))
-      (refl, refl, rw said passed)
+      (refl, refl, rw (said, found_passed s r) (passed_told fits p s r id v at seated i power))
     where
       v : View T
       v = me.0
@@ -158,22 +126,6 @@ module _ {T : Type 0} (fits : T → Key → List ℕ → Type 0) (p : Plan T) (c
 
       slot : (t : Slot) × (slice_get r.world.slots i ≡ Some t)
       slot = slot_there fits p s r i close
-
-      slot_within : (q : Record) → IsRecorded r.world.slots q → q.slot < p.geometry.slots
-      slot_within q recorded =
-          let resident = resident_in (slice_get r.world.slots q.slot) q.entry recorded.there in
-          let low = within r.world.slots q.slot (slots.Shareable resident.0) resident.1 in
-          let size = size_is fits p s r in
-          omega arith
-
-      passed : Passed p.geometry.slots i v word
-      passed = rw (found_passed s r) (
-        trail_within r.world i v.client v.work client,
-        each_map (IsRecorded r.world.slots) (λ (q : Record). times i (trail_to p.geometry.slots (key_of q.entry) q.slot) ≤ passed_by r.world.slots r.world.clients i)
-            (entry_within r.world p.geometry.slots i r.trails.entries) v.records (r.holding id v at).recorded,
-        each_map (IsRecorded r.world.slots) (λ (q : Record). q.slot < p.geometry.slots)
-            (λ q recorded. slot_within q recorded) v.records (r.holding id v at).recorded,
-      )
 
   pub pass_step : length me.0.work.trail < p.geometry.slots
       → Allows (Holds fits p) count id me a (λ n. (n + 1) % 2 ^ 64) (passes i (step count a 1 0 none) me)
@@ -255,6 +207,6 @@ module _ {T : Type 0} (fits : T → Key → List ℕ → Type 0) (p : Plan T) (c
       paid =
           let found = found_passed s r in
           let few = passed_few r.world i (law_is fits p s r) in
-          let within = trail_within r.world i v.client v.work client in
+          let within = own_within fits p s r id v at seated i in
           let left = times_left i v.work.trail passed in
           omega arith

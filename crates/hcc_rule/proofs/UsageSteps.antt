@@ -7,7 +7,6 @@ use Rattle.hcc_core.specs.declared.event.Reply.TheVariants as replies
 use Rattle.hcc_core.specs.declared.state.Setup.{Setup}
 use Rattle.hcc_core.specs.declared.state.Client.{Client}
 use Rattle.hcc_core.specs.Sums.{total}
-use Rattle.hcc_core.specs.Lawful.{real_to}
 use Rattle.hcc_core.specs.World.{State, charged_to, usage_of, occupied_by, standing_of}
 use Rattle.hcc_core.specs.Steps.{grant_of}
 use Rattle.hcc_core.proofs.LawfulLedgers.{grant-le}
@@ -24,6 +23,7 @@ use Rattle.hcc_rule.specs.Words.{ledger_at}
 use Rattle.hcc_rule.specs.Rule.{IsRecorded, IsModest, setup_of, Holds}
 use Rattle.hcc_rule.proofs.Lists.{read_at, each_map}
 use Rattle.hcc_rule.proofs.Different.{charges_within}
+use Rattle.hcc_rule.proofs.Limits.{real_beside, usage_most}
 use Rattle.hcc_rule.proofs.LedgerSteps.{on_usage, Pays}
 use Rattle.hcc_rule.proofs.LedgerGives.{usage_gives, charge_allowed, settle_allowed, waive_gives}
 use Rattle.hcc_rule.proofs.Asides.{pays_at, modest_is, law_is, usage_low, goes_by}
@@ -65,12 +65,8 @@ module _ {T : Type 0} (fits : T → Key → List ℕ → Type 0) (p : Plan T) (c
           each_map (IsRecorded r.world.slots) (λ (q : Record). charged_to me.0.work + q.entry.charge ≤ usage_of r.world)
           (charged_one r.world me.0.client me.0.work client) me.0.records recorded;
       low = usage_low fits p s r;
-      real = λ strict.
-          let most = (law_is fits p s r).ledgers.real (ap (λ x. x.strict) r.setup ∙ strict) in
-          let same : r.world.setup.capacity ≡ p.capacity = ap (λ x. x.capacity) r.setup in
-          let member = total-member real_to r.world.clients me.0.client me.0.work client in
-          let entries = charges_within r.world.slots me.0.records recorded in
-          omega arith;
+      real = λ strict. real_beside fits p s r strict me.0.client me.0.work client me.0.records recorded;
+      most = λ strict. usage_most fits p s r strict me.0.client me.0.work client;
     }
       where
         client : slice_get r.world.clients me.0.client ≡ Some me.0.work

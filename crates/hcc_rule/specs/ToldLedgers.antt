@@ -1,5 +1,5 @@
 -- What each step on a ledger word or the hand tells its seat, by the word that it found.
-use Rattle.std.specs.Prelude.{◌≡◌, ℕ, ◌+◌, ◌-◌, ◌^◌, ◌<◌, ◌≤◌, true, nat_lt, [], ◌∷◌, ◌++◌, length, if◌then◌else◌}
+use Rattle.std.specs.Prelude.{◌≡◌, ℕ, ◌+◌, ◌-◌, ◌*◌, ◌^◌, ◌<◌, ◌≤◌, true, nat_lt, [], ◌∷◌, ◌++◌, length, if◌then◌else◌}
 use Rattle.atomic_table.specs.Table.{Step}
 use Rattle.hcc_core.specs.declared.state.Setup.{Setup}
 use Rattle.hcc_core.specs.declared.state.Place.{Place}
@@ -11,7 +11,7 @@ use Rattle.hcc_core.specs.World.{charged_to, occupied_by, standing_of, limit_of}
 use Rattle.hcc_core.specs.Steps.{grant_of, place_granted, dropped, is_standing}
 use Rattle.hcc_rule.specs.declared.view.Record.{Record}
 use Rattle.hcc_rule.specs.declared.view.View.{View}
-use Rattle.hcc_rule.specs.Views.{different, Each}
+use Rattle.hcc_rule.specs.Views.{charge_held, different, Each}
 use Rattle.hcc_rule.specs.Told.{Held}
 
 -- what of a charge is not granted at once
@@ -34,12 +34,14 @@ module _ {T : Type 0} where
   after_usage word v = record v { seen = v.seen ++ word ∷ [] }
 
   pub record Charged (setup : Setup) (v : View T) (word : ℕ) : Type 0 where
-    pub entries : charged_to v.work + total (λ (r : Record). r.entry.charge) (different v.records) ≤ word
+    pub entries : charged_to v.work + charge_held v.records ≤ word
     pub held : Each (λ (r : Record). charged_to v.work + r.entry.charge ≤ word) v.records
     pub low : word < 2 ^ 60
-    -- under strict capacity what is the client's for good, with the entries that it holds, is within it
-    pub real : setup.strict ≡ true
-        → real_to v.work + total (λ (r : Record). r.entry.charge) (different v.records) ≤ setup.capacity
+    -- under strict the client's real charge, with the entries that it holds, is within the capacity
+    pub real : setup.strict ≡ true → real_to v.work + charge_held v.records ≤ setup.capacity
+    -- and the word is above it by what clients still need, less than 2^32 each
+    pub most : setup.strict ≡ true
+        → word ≤ setup.capacity + v.work.needed + 2 ^ 32 * (setup.clients - 1)
 
   abbrev pub usages : Setup → Step (Unit {0}) → Held T → ℕ → Held T → Type 0
   usages setup step me word after =
@@ -59,6 +61,8 @@ module _ {T : Type 0} where
   standings setup step me word after =
       (after.1 ≡ me.1) × (after.0 ≡ me.0) × (standing_of me.0.work ≤ word) × (word < 2 ^ 60)
       × (setup.clients ≡ 1 → word ≡ standing_of me.0.work)
+      × (setup.strict ≡ true
+      → word + me.0.work.granted + me.0.work.freed + charge_held me.0.records ≤ setup.capacity)
 
   -- A turn of the hand.
   abbrev pub after_turn : View T → View T

@@ -1,27 +1,40 @@
 -- What each step on a displacement word tells its seat, by the word that it found.
-use Rattle.std.specs.Prelude.{◌≡◌, ℕ, ◌≤◌, [], ◌∷◌, ◌++◌, ◌<◌}
+use Rattle.std.specs.Prelude.{◌≡◌, ℕ, ◌+◌, ◌-◌, ◌*◌, ◌≤◌, List, [], ◌∷◌, ◌++◌, ◌<◌, length}
 use Rattle.atomic_table.specs.Table.{Step}
-use Rattle.hcc_core.specs.World.{times}
+use Rattle.hcc_core.specs.declared.state.Setup.{Setup}
+use Rattle.hcc_core.specs.Sums.{total}
+use Rattle.hcc_core.specs.World.{times, limit_of}
 use Rattle.hcc_core.specs.Steps.{dropped, is_slot}
 use Rattle.hcc_rule.specs.declared.view.Record.{Record}
 use Rattle.hcc_rule.specs.declared.view.View.{View}
 use Rattle.hcc_rule.specs.Probes.{trail_to}
-use Rattle.hcc_rule.specs.Views.{Each}
+use Rattle.hcc_rule.specs.Views.{different, Each}
 use Rattle.hcc_rule.specs.Words.{key_of}
 use Rattle.hcc_rule.specs.Told.{Held}
 
-module _ {T : Type 0} where
-  -- A load: the count has the client's own trail, and the trail of each entry on record. So where
-  -- it is 0 the slot stands in none of them. Each record is of a slot of the table.
-  abbrev pub Passed : (slots slot : ℕ) → View T → ℕ → Type 0
-  Passed slots slot v word =
-      (times slot v.work.trail ≤ word)
-      × Each (λ (r : Record). times slot (trail_to slots (key_of r.entry) r.slot) ≤ word) v.records
-      × Each (λ (r : Record). r.slot < slots) v.records
+-- how often a slot stands in the trails of the entries that records are on, each once
+abbrev pub passed_held : (slots slot : ℕ) → List Record → ℕ
+passed_held slots slot records =
+    total (λ (r : Record). times slot (trail_to slots (key_of r.entry) r.slot)) (different records)
 
-  abbrev pub counts : (slots slot : ℕ) → Step (Unit {0}) → Held T → ℕ → Held T → Type 0
-  counts slots slot step me word after =
-      (after.1 ≡ me.1) × (after.0 ≡ me.0) × Passed slots slot me.0 word
+module _ {T : Type 0} where
+  -- A load: the count has the client's own trail, and that of each entry on record, once. Any other
+  -- entry has the slot in its trail once at most, and any other client as often as there are slots. In
+  -- a shard of one client the other entries are those that it made and did not take.
+  pub record Passed (setup : Setup) (slot : ℕ) (v : View T) (word : ℕ) : Type 0 where
+    pub entries : times slot v.work.trail + passed_held setup.slots slot v.records ≤ word
+    pub held : Each (λ (r : Record). times slot (trail_to setup.slots (key_of r.entry) r.slot) ≤ word) v.records
+    -- each record is of a slot of the table
+    pub within : Each (λ (r : Record). r.slot < setup.slots) v.records
+    pub most : word + length (different v.records)
+        ≤ times slot v.work.trail + passed_held setup.slots slot v.records
+        + limit_of setup + setup.slots * (setup.clients - 1)
+    pub alone : setup.clients ≡ 1 → word + v.takings + length (different v.records)
+        ≤ times slot v.work.trail + passed_held setup.slots slot v.records + length v.made
+
+  abbrev pub counts : Setup → (slot : ℕ) → Step (Unit {0}) → Held T → ℕ → Held T → Type 0
+  counts setup slot step me word after =
+      (after.1 ≡ me.1) × (after.0 ≡ me.0) × Passed setup slot me.0 word
 
   -- The slot joins the client's trail.
   abbrev pub after_pass : (slot : ℕ) → View T → View T

@@ -45,6 +45,10 @@ abbrev pub different : List Record → List Record
 different [] = []
 different (r ∷ rs) = r ∷ off r.slot (different rs)
 
+-- the charges of the entries that they are on, each once
+abbrev pub charge_held : List Record → ℕ
+charge_held records = total (λ (r : Record). r.entry.charge) (different records)
+
 -- the stamp of the entry that the records of a slot are on
 abbrev pub stamp_on : ℕ → List Record → Option Stamp
 stamp_on slot records = option_map (λ (r : Record). r.entry.stamp) (find (is_on slot) records)

@@ -1,15 +1,14 @@
 //! Steps on the usage word.
-ghost use Rattle.std.specs.Prelude.{◌≡◌, ◌+◌, ◌^◌, ◌<◌, ◌≤◌, true};
+ghost use Rattle.std.specs.Prelude.{◌≡◌, ◌+◌, ◌-◌, ◌*◌, ◌^◌, ◌<◌, ◌≤◌, true};
 ghost use Rattle.hcc_core.specs.Lawful.{real_to};
-ghost use Rattle.hcc_core.specs.Sums.{total};
 ghost use Rattle.hcc_core.specs.World.{charged_to};
 ghost use Rattle.hcc_rule.specs.declared.layout.TheConstants.{LEDGER_WORDS};
 ghost use Rattle.hcc_rule.specs.declared.view.Record.{Record};
-ghost use Rattle.hcc_rule.specs.Callers.{capacity_of, is_strict, plan_of, IsSeatAt};
+ghost use Rattle.hcc_rule.specs.Callers.{capacity_of, clients_of, is_strict, plan_of, IsSeatAt};
 ghost use Rattle.hcc_rule.specs.Rule.{setup_of};
 ghost use Rattle.hcc_rule.specs.Seats.{IsSameSeat, view};
 ghost use Rattle.hcc_rule.specs.ToldLedgers.{Charged, after_usage, after_charge, after_settle, after_waive, waived};
-ghost use Rattle.hcc_rule.specs.Views.{different, Each};
+ghost use Rattle.hcc_rule.specs.Views.{charge_held, Each};
 ghost use Rattle.hcc_rule.specs.Words.{ledger_at};
 
 use super::planned::Planned;
@@ -86,7 +85,8 @@ impl<T: Tag, A: Allocator> RuleTable<T, A> {
     /// the charges of all entries that it holds references on. Each of these counts once: its records
     /// on one slot are on one entry, and the first of them stands for it in the sum (`different`).
     /// Under strict capacity, these charges with the client's real charge (what it was granted, what
-    /// it freed, and its standalone entries) are at most the capacity.
+    /// it freed, and its standalone entries) are at most the capacity, and the usage is above that by
+    /// what clients still need at most: less than 2^32 for each other client.
     ///
     /// It takes no memory. It costs one load.
     pub fn usage(&self, seat: &mut RuleSeat<T>) -> u64
@@ -94,10 +94,13 @@ impl<T: Tag, A: Allocator> RuleTable<T, A> {
         ensures seat { IsSameSeat seat.old seat.new }
         ensures view { view seat.new ≡ after_usage result (view seat.old) }
         ensures own { charged_to (view seat.old).work ≤ result }
-        ensures entries { charged_to (view seat.old).work + total (λ (r : Record). r.entry.charge) (different (view seat.old).records) ≤ result }
+        ensures entries { charged_to (view seat.old).work + charge_held (view seat.old).records ≤ result }
         ensures held { Each (λ (r : Record). charged_to (view seat.old).work + r.entry.charge ≤ result) (view seat.old).records }
         ensures low { result < 2 ^ 60 }
-        ensures real { is_strict self.now ≡ true → real_to (view seat.old).work + total (λ (r : Record). r.entry.charge) (different (view seat.old).records) ≤ capacity_of self.now }
+        ensures real { is_strict self.now ≡ true
+            → real_to (view seat.old).work + charge_held (view seat.old).records ≤ capacity_of self.now }
+        ensures most { is_strict self.now ≡ true
+            → result ≤ capacity_of self.now + (view seat.old).work.needed + 2 ^ 32 * (clients_of self.now - 1) }
     {
         self.usage_as::<Brand>(seat)
     }
@@ -121,15 +124,19 @@ impl<T: Tag, A: Allocator> RuleTable<T, A> {
     /// the charge joins the view's tight list.
     ///
     /// It answers the usage before: below 2^60, and at least what stood for the client with the
-    /// charges of all entries that it holds references on. It takes no memory. It costs one atomic
-    /// add.
+    /// charges of all entries that it holds references on. Under strict capacity it is above the
+    /// capacity by what other clients still need at most. It takes no memory. It costs one atomic add.
     pub fn charge(&self, seat: &mut RuleSeat<T>, amount: u32) -> u64
         requires seat { IsSeatAt self.now seat.old }
         requires spent { ((view seat.old).work.granted ≡ 0) × ((view seat.old).work.needed ≡ 0) }
         ensures seat { IsSameSeat seat.old seat.new }
         ensures view { view seat.new ≡ after_charge (setup_of (plan_of self.now)) amount result (view seat.old) }
-        ensures entries { charged_to (view seat.old).work + total (λ (r : Record). r.entry.charge) (different (view seat.old).records) ≤ result }
+        ensures entries { charged_to (view seat.old).work + charge_held (view seat.old).records ≤ result }
         ensures low { result < 2 ^ 60 }
+        ensures real { is_strict self.now ≡ true
+            → real_to (view seat.old).work + charge_held (view seat.old).records ≤ capacity_of self.now }
+        ensures most { is_strict self.now ≡ true
+            → result ≤ capacity_of self.now + 2 ^ 32 * (clients_of self.now - 1) }
     {
         self.charge_as::<Brand>(seat, amount)
     }

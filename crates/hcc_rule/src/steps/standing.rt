@@ -1,14 +1,15 @@
 //! Steps on the word of standalone charges.
-ghost use Rattle.std.specs.Prelude.{◌≡◌, ◌+◌, ◌<◌, ◌≤◌, ◌^◌, false, Some, find, length};
+ghost use Rattle.std.specs.Prelude.{◌≡◌, ◌+◌, ◌<◌, ◌≤◌, ◌^◌, true, false, Some, find, length};
 ghost use Rattle.std.specs.List.{list_any};
 ghost use Rattle.hcc_core.specs.declared.state.Place.TheVariants.{Absent};
 ghost use Rattle.hcc_core.specs.World.{standing_of};
 ghost use Rattle.hcc_core.specs.Steps.{is_standing};
 ghost use Rattle.hcc_rule.specs.declared.layout.TheConstants.{MOST_HANDLES};
-ghost use Rattle.hcc_rule.specs.Callers.{clients_of, plan_of, IsSeatAt};
+ghost use Rattle.hcc_rule.specs.Callers.{capacity_of, clients_of, is_strict, plan_of, IsSeatAt};
 ghost use Rattle.hcc_rule.specs.Rule.{setup_of};
 ghost use Rattle.hcc_rule.specs.Seats.{IsSameSeat, view};
 ghost use Rattle.hcc_rule.specs.ToldLedgers.{after_stand, after_fall};
+ghost use Rattle.hcc_rule.specs.Views.{charge_held};
 
 use super::planned::Planned;
 use super::said::Said;
@@ -62,6 +63,9 @@ impl<T: Tag, A: Allocator> RuleTable<T, A> {
         ensures own { standing_of (view seat.old).work ≤ result }
         ensures low { result < 2 ^ 60 }
         ensures alone { J.setup.clients ≡ 1 → result ≡ standing_of (view seat.old).work }
+        ensures real { J.setup.strict ≡ true
+            → result + (view seat.old).work.granted + (view seat.old).work.freed
+            + charge_held (view seat.old).records ≤ J.setup.capacity }
     {
         self.table
             .shared
@@ -69,7 +73,8 @@ impl<T: Tag, A: Allocator> RuleTable<T, A> {
     }
 
     /// Loads the charges of all standalone entries, the client's own among them: below 2^60. In a shard
-    /// of one client the answer is just these.
+    /// of one client the answer is just these. Under strict capacity it is at most the capacity, with
+    /// what the client was granted and freed and the entries that it holds, each once.
     ///
     /// It takes no memory. It costs one load.
     pub fn standing(&self, seat: &mut RuleSeat<T>) -> u64
@@ -79,6 +84,9 @@ impl<T: Tag, A: Allocator> RuleTable<T, A> {
         ensures own { standing_of (view seat.old).work ≤ result }
         ensures low { result < 2 ^ 60 }
         ensures alone { clients_of self.now ≡ 1 → result ≡ standing_of (view seat.old).work }
+        ensures real { is_strict self.now ≡ true
+            → result + (view seat.old).work.granted + (view seat.old).work.freed
+            + charge_held (view seat.old).records ≤ capacity_of self.now }
     {
         self.standing_as::<Brand>(seat)
     }

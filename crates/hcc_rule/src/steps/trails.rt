@@ -1,14 +1,15 @@
 //! Steps on displacement words.
-ghost use Rattle.std.specs.Prelude.{◌≡◌, ◌<◌, ◌≤◌, true, length};
+ghost use Rattle.std.specs.Prelude.{◌≡◌, ◌+◌, ◌-◌, ◌*◌, ◌<◌, ◌≤◌, true, length};
 ghost use Rattle.std.specs.List.{list_any};
-ghost use Rattle.hcc_core.specs.World.{times};
+ghost use Rattle.hcc_core.specs.World.{times, limit_of};
 ghost use Rattle.hcc_core.specs.Steps.{is_slot};
 ghost use Rattle.hcc_rule.specs.declared.view.Record.{Record};
-ghost use Rattle.hcc_rule.specs.Callers.{IsSeatAt};
+ghost use Rattle.hcc_rule.specs.Callers.{clients_of, plan_of, slots_of, IsSeatAt};
 ghost use Rattle.hcc_rule.specs.Probes.{trail_to};
+ghost use Rattle.hcc_rule.specs.Rule.{setup_of};
 ghost use Rattle.hcc_rule.specs.Seats.{IsSameSeat, view};
-ghost use Rattle.hcc_rule.specs.ToldTrails.{after_pass, after_unpass};
-ghost use Rattle.hcc_rule.specs.Views.{Each};
+ghost use Rattle.hcc_rule.specs.ToldTrails.{after_pass, after_unpass, passed_held, Passed};
+ghost use Rattle.hcc_rule.specs.Views.{different, Each};
 ghost use Rattle.hcc_rule.specs.Words.{key_of};
 
 use super::planned::Planned;
@@ -22,14 +23,14 @@ use std::alloc::Allocator;
 use std::marker::{Brand, PhantomData};
 
 /// What a load of a displacement word tells.
-pub struct Count<J, K> {
-    said: PhantomData<(J, K)>,
+pub struct Count<J> {
+    said: PhantomData<J>,
 }
 
-impl<T: Tag, J: Said, K: Planned> Play<(), View<T>> for Count<J, K> {
+impl<T: Tag, J: Said + Planned> Play<(), View<T>> for Count<J> {
     ghost use Rattle.hcc_rule.specs.ToldTrails.{counts};
 
-    ghost then = { counts K.setup.slots J.slot };
+    ghost then = { counts J.setup J.slot };
 }
 
 /// What an add to a displacement word tells.
@@ -55,25 +56,25 @@ impl<T: Tag, J: Said> Play<(), View<T>> for Unpass<J> {
 }
 
 impl<T: Tag, A: Allocator> RuleTable<T, A> {
-    fn count_as<J: Said, K: Planned>(&self, seat: &mut RuleSeat<T>, slot: u32) -> u64
+    fn count_as<J: Said + Planned>(&self, seat: &mut RuleSeat<T>, slot: u32) -> u64
         requires seat { IsSeatAt self.now seat.old }
         requires slot { slot < self.now.geometry.slots }
-        requires said { J.slot ≡ slot }
-        requires planned { K.setup.slots ≡ self.now.geometry.slots }
+        requires said { (J.slot ≡ slot) × (J.setup ≡ setup_of (plan_of self.now)) }
         ensures seat { IsSameSeat seat.old seat.new }
         ensures view { view seat.new ≡ view seat.old }
-        ensures own { times slot (view seat.old).work.trail ≤ result }
-        ensures held { Each (λ (r : Record). times slot (trail_to K.setup.slots (key_of r.entry) r.slot) ≤ result) (view seat.old).records }
-        ensures within { Each (λ (r : Record). r.slot < K.setup.slots) (view seat.old).records }
+        ensures found { Passed J.setup slot (view seat.old) result }
     {
         self.table
             .shared
-            .load::<Count<J, K>>(seat, self.address(slot, DISPLACEMENT))
+            .load::<Count<J>>(seat, self.address(slot, DISPLACEMENT))
     }
 
     /// Loads how often a slot stands in the trails of entries and clients. The client's own trail is
     /// among them, and so is that of each entry that it holds a reference on: where the answer is 0,
-    /// none of them was put beyond this slot. All that it holds is on slots of the table.
+    /// none of them was put beyond this slot. All that it holds is on slots of the table. Any other
+    /// entry has the slot in its trail once at most, and any other client as often as there are slots;
+    /// in a shard of one client the other entries are those that it showed and did not take, so the
+    /// answer is exact where it holds all of these.
     ///
     /// It takes no memory. It costs one load.
     pub fn count(&self, seat: &mut RuleSeat<T>, slot: u32) -> u64
@@ -82,10 +83,22 @@ impl<T: Tag, A: Allocator> RuleTable<T, A> {
         ensures seat { IsSameSeat seat.old seat.new }
         ensures view { view seat.new ≡ view seat.old }
         ensures own { times slot (view seat.old).work.trail ≤ result }
+        ensures entries { times slot (view seat.old).work.trail
+            + passed_held (slots_of self.now) slot (view seat.old).records ≤ result }
+        ensures most { result + length (different (view seat.old).records)
+            ≤ times slot (view seat.old).work.trail
+            + passed_held (slots_of self.now) slot (view seat.old).records
+            + limit_of (setup_of (plan_of self.now))
+            + slots_of self.now * (clients_of self.now - 1) }
+        ensures alone { clients_of self.now ≡ 1
+            → result + (view seat.old).takings + length (different (view seat.old).records)
+            ≤ times slot (view seat.old).work.trail
+            + passed_held (slots_of self.now) slot (view seat.old).records
+            + length (view seat.old).made }
         ensures held { Each (λ (r : Record). times slot (trail_to self.now.geometry.slots (key_of r.entry) r.slot) ≤ result) (view seat.old).records }
         ensures within { Each (λ (r : Record). r.slot < self.now.geometry.slots) (view seat.old).records }
     {
-        self.count_as::<Brand, Brand>(seat, slot)
+        self.count_as::<Brand>(seat, slot)
     }
 
     fn pass_as<J: Said>(&self, seat: &mut RuleSeat<T>, slot: u32)

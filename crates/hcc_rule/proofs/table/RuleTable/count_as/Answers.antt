@@ -10,7 +10,7 @@ load-requires g c =
       seat.table,
       c.address.ensures.inside,
       count_step g.T.Tag.fits c.args.self.now.table.shared.key _ _ g.J.Said.slot _ _
-          (rw (said, planned.0) c.requires.slot) (ap is_some seat.tagged)
-          (rw (said, planned.0) c.address.ensures.value)
-          g.K.Planned.setup.slots (rw planned.0 c.requires.planned),
+          (rw (said.0, planned.0) c.requires.slot) (ap is_some seat.tagged)
+          (rw (said.0, planned.0) c.address.ensures.value)
+          g.J.Planned.setup said.1 (rw planned.0 c.args.self.now.limits.power),
     )
