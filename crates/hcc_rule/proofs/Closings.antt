@@ -1,5 +1,5 @@
 -- What is left of a shard that was closed.
-use Rattle.std.proofs.Common.{◌≡◌, ℕ, zero, suc, true, List, [], ◌∷◌, Some, slice_get, slice_index, sym}
+use Rattle.std.proofs.Common.{◌≡◌, ℕ, zero, suc, true, List, [], ◌∷◌, Some, slice_get, slice_index, length, sym, ap, ◌∙◌, ◌≤◌, ◌+◌, arith}
 use mathlib.Core.Option.{some, some-injective, some-ne-none}
 use lib.ListN.{get_elem?}
 use Rattle.atomic_table.specs.Table as table
@@ -9,7 +9,9 @@ use Rattle.hcc_rule.specs.declared.rule.Plan.{Plan}
 use Rattle.hcc_rule.specs.declared.view.View.{View}
 use Rattle.hcc_rule.specs.Closing.{Shown, IsBack, Closes}
 use Rattle.hcc_rule.specs.Rule.{Holds}
-use Rattle.hcc_rule.specs.Views.{is_seated}
+use Rattle.hcc_rule.specs.Views.{is_seated, named_by}
+use Rattle.hcc_core.proofs.SumLemmas.{total-member}
+use Rattle.hcc_rule.proofs.Asides.{law_is}
 use Rattle.hcc_rule.proofs.Lists.{read_at}
 use Rattle.hcc_rule.proofs.ClosingSlots.{settled, stamp_at, kept, apart, references, clear, strays, left}
 use Rattle.hcc_rule.proofs.SlotSteps.{Shard}
@@ -32,6 +34,22 @@ module _ {T : Type 0} (fits : T → Key → List ℕ → Type 0) (p : Plan T) wh
     number = id;
     seen = read_at final.0.views id v final.1.1;
   }
+
+  -- a view of a state names at most as many clients as there are
+  pub named_within : (s : Shard fits p) (r : Holds fits p s) (id : ℕ) (v : View T)
+      → slice_get s.views id ≡ Some v → named_by v ≤ p.geometry.clients
+  named_within s r id v at =
+      let mine = total-member named_by s.views id v at in
+      let all = r.seats.all in
+      let count : length r.world.clients ≡ p.geometry.clients =
+      (law_is fits p s r).sized.client_count ∙ ap (λ x. x.clients) r.setup in
+      omega arith
+
+  -- so does that of the last seat
+  pub named_last : (geometry : Geometry) (words : List ℕ) (v : View T) → p.geometry ≡ geometry
+      → Shown fits p words v → named_by v ≤ geometry.clients
+  named_last geometry words v same shown =
+      rw (sym same) (named_within shown.state shown.holds shown.number v shown.seen)
 
   closes_state : (s : Shard fits p) (r : Holds fits p s) (id : ℕ) (v : View T)
       → slice_get s.views id ≡ Some v → is_seated v ≡ true

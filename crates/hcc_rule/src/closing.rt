@@ -1,9 +1,10 @@
 //! Closing a shard, and loads of the words that are left.
-ghost use Rattle.std.specs.Prelude.{◌≡◌, ◌+◌, ◌<◌, slice_index};
+ghost use Rattle.std.specs.Prelude.{◌≡◌, ◌+◌, ◌<◌, ◌≤◌, slice_index};
 ghost use Rattle.hcc_rule.specs.declared.layout.TheConstants.{SLOT_HEAD, LEDGER_WORDS, DISPLACEMENT, PAYLOAD, USAGE, OCCUPANCY, STANDING, HAND};
 ghost use Rattle.hcc_rule.specs.Closing.{words_of, meta_at, data_at, Shown, IsBack, Closes};
 ghost use Rattle.hcc_rule.specs.Callers.{plan_of, IsSeatAt};
 ghost use Rattle.hcc_rule.specs.Seats.{view};
+ghost use Rattle.hcc_rule.specs.Views.{named_by};
 ghost use Rattle.hcc_rule.specs.Words.{field_at, ledger_at, word_count};
 
 use crate::closed::ClosedTable;
@@ -14,7 +15,7 @@ use std::alloc::Allocator;
 
 impl<T: Tag, A: Allocator> RuleTable<T, A> {
     /// Ends the shard, by any of its seats. The words that are left are those of a state that meets
-    /// the rule and has the seat's view. Where that view names every client and its own has nothing
+    /// the rule and has the seat's view, which names at most as many clients as the shard has. Where that view names every client and its own has nothing
     /// in hand, they tell more: the ledger words and the displacement words are those of the entries
     /// alone, each entry is one of the made lists and no two are the same, a slot without an entry
     /// has at most strays, and the entries are as many as were made less those that were taken.
@@ -24,6 +25,7 @@ impl<T: Tag, A: Allocator> RuleTable<T, A> {
         requires seat { IsSeatAt self seat }
         ensures size { result.geometry ≡ self.geometry }
         ensures shown { Shown T.fits (plan_of self) (words_of result) (view seat) }
+        ensures few { named_by (view seat) ≤ self.geometry.clients }
         ensures closes { IsBack self.geometry.clients (view seat)
             → Closes T.fits (plan_of self).tag self.geometry (words_of result) (view seat) }
     {
