@@ -32,6 +32,7 @@ impl<T: Tag, A: Allocator> RuleTable<T, A> {
         let RuleTable {
             table,
             geometry,
+            stride: _,
             capacity: _,
             strict: _,
         } = self;

@@ -60,7 +60,8 @@ impl<T: Tag, A: Allocator> RuleTable<T, A> {
             IsSeatAt made.0 made.1) }
         ensures view { IfOk result (λ made. view made.1 ≡ opening_view (plan_of made.0)) }
     {
-        let count = geometry.slots as usize * (geometry.room as usize + SLOT_HEAD) + LEDGER_WORDS;
+        let stride = geometry.room as usize + SLOT_HEAD;
+        let count = geometry.slots as usize * stride + LEDGER_WORDS;
         let words = Vec::from_elem(alloc.clone()?, 0u64, count)?;
         let plan = Plan {
             geometry,
@@ -73,6 +74,7 @@ impl<T: Tag, A: Allocator> RuleTable<T, A> {
             RuleTable {
                 table,
                 geometry,
+                stride,
                 capacity,
                 strict,
             },

@@ -1,12 +1,12 @@
 //! The table of a shard.
 ghost use Rattle.std.specs.Prelude.{◌≡◌, ◌+◌, ◌<◌};
-ghost use Rattle.hcc_rule.specs.declared.layout.TheConstants.{SLOT_HEAD};
+ghost use Rattle.hcc_rule.specs.declared.layout.TheConstants.{SLOT_HEAD, DATA, PAYLOAD};
 ghost use Rattle.hcc_rule.specs.Seats.{IsPlanned};
 ghost use Rattle.hcc_rule.specs.Words.{field_at, word_count};
 
 use crate::geometry::Geometry;
 use crate::key::Tag;
-use crate::layout::SLOT_HEAD;
+use crate::layout::DATA;
 use crate::rule::{Plan, ShardRule};
 use crate::view::View;
 use atomic_table::{Seat, Table};
@@ -17,9 +17,12 @@ use std::alloc::Allocator;
 pub struct RuleTable<T: Tag, A: Allocator> {
     pub(crate) table: Table<(), View<T>, Plan<T>, ShardRule<T>, A>,
     pub(crate) geometry: Geometry,
+    /// How many words a slot has.
+    pub(crate) stride: usize,
     pub(crate) capacity: u64,
     pub(crate) strict: bool,
     ghost sized: { table.shared.table_id.words ≡ word_count geometry.slots geometry.room },
+    ghost strided: { stride ≡ geometry.room + SLOT_HEAD },
     ghost slotless: { table.shared.table_id.slots ≡ 0 },
     ghost planned: { (table.shared.key.geometry ≡ geometry) × (table.shared.key.capacity ≡ capacity) × (table.shared.key.strict ≡ strict) },
     ghost limits: { IsPlanned geometry capacity },
@@ -51,11 +54,34 @@ impl<T: Tag, A: Allocator> RuleTable<T, A> {
     }
 
     /// The address of a slot's word.
+    #[inline(always)]
     pub(crate) fn address(&self, slot: u32, field: usize) -> usize
         requires { (slot < self.now.geometry.slots) × (field < self.now.geometry.room + SLOT_HEAD) }
         ensures value { result ≡ field_at self.now.geometry.room slot field }
         ensures inside { result < self.now.table.shared.table_id.words }
     {
-        slot as usize * (self.geometry.room as usize + SLOT_HEAD) + field
+        slot as usize * self.stride + field
+    }
+
+    /// The address of a slot's first data word, which `read_at` and `write_at` take. It costs a
+    /// multiplication.
+    #[inline(always)]
+    pub fn data_of(&self, slot: u32) -> usize
+        requires { slot < self.now.geometry.slots }
+        ensures { result ≡ field_at self.now.geometry.room slot DATA }
+    {
+        self.address(slot, DATA)
+    }
+
+    /// The address of a data word, by that of the slot's first one.
+    #[inline(always)]
+    pub(crate) fn data_address(&self, slot: u32, first: usize, index: usize) -> usize
+        requires slot { slot < self.now.geometry.slots }
+        requires first { first ≡ field_at self.now.geometry.room slot DATA }
+        requires within { index < PAYLOAD + self.now.geometry.room }
+        ensures value { result ≡ field_at self.now.geometry.room slot (DATA + index) }
+        ensures inside { result < self.now.table.shared.table_id.words }
+    {
+        first + index
     }
 }

@@ -13,7 +13,7 @@ ghost use Rattle.hcc_rule.specs.Words.{ledger_at};
 
 use super::planned::Planned;
 use crate::key::Tag;
-use crate::layout::{SLOT_HEAD, USAGE};
+use crate::layout::USAGE;
 use crate::table::{RuleSeat, RuleTable};
 use crate::view::View;
 use atomic_table::Play;
@@ -61,13 +61,14 @@ impl<T: Tag> Play<(), View<T>> for Waive {
 }
 
 impl<T: Tag, A: Allocator> RuleTable<T, A> {
-    /// The place of a ledger word.
+    /// The address of a ledger word.
+    #[inline(always)]
     pub(crate) fn ledger(&self, ledger: usize) -> usize
         requires { ledger < LEDGER_WORDS }
         ensures value { result ≡ ledger_at self.now.geometry.slots self.now.geometry.room ledger }
         ensures inside { result < self.now.table.shared.table_id.words }
     {
-        self.geometry.slots as usize * (self.geometry.room as usize + SLOT_HEAD) + ledger
+        self.geometry.slots as usize * self.stride + ledger
     }
 
     fn usage_as<J: Planned>(&self, seat: &mut RuleSeat<T>) -> u64

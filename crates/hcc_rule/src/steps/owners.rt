@@ -2,15 +2,16 @@
 ghost use Rattle.std.specs.Prelude.{◌≡◌, ◌+◌, ◌<◌, [], true, length};
 ghost use Rattle.hcc_core.specs.declared.state.Owned.TheVariants.{ForBuilding, ForFreeing};
 ghost use Rattle.hcc_core.specs.Steps.{owns_nothing};
-ghost use Rattle.hcc_rule.specs.declared.layout.TheConstants.{PAYLOAD};
+ghost use Rattle.hcc_rule.specs.declared.layout.TheConstants.{DATA, PAYLOAD};
 ghost use Rattle.hcc_rule.specs.Callers.{IsSeatAt};
 ghost use Rattle.hcc_rule.specs.Seats.{IsSameSeat, view};
 ghost use Rattle.hcc_rule.specs.Told.{Backs};
 ghost use Rattle.hcc_rule.specs.ToldOwners.{after_occupy, after_empty, after_write};
+ghost use Rattle.hcc_rule.specs.Words.{field_at};
 
 use super::said::Said;
 use crate::key::Tag;
-use crate::layout::{DATA, META};
+use crate::layout::META;
 use crate::table::{RuleSeat, RuleTable};
 use crate::view::View;
 use atomic_table::Play;
@@ -91,9 +92,22 @@ impl<T: Tag, A: Allocator> RuleTable<T, A> {
         ensures seat { IsSameSeat seat.old seat.new }
         ensures view { view seat.new ≡ after_write word (view seat.old) }
     {
+        self.write_at(seat, slot, self.data_of(slot), index, word);
+    }
+
+    /// The same as `write`, for a caller that has the address of the slot's first data word.
+    pub fn write_at(&self, seat: &mut RuleSeat<T>, slot: u32, first: usize, index: usize, word: u64)
+        requires seat { IsSeatAt self.now seat.old }
+        requires slot { slot < self.now.geometry.slots }
+        requires first { first ≡ field_at self.now.geometry.room slot DATA }
+        requires owned { (view seat.old).work.owned ≡ ForBuilding slot }
+        requires next { (index ≡ length (view seat.old).written) × (index < PAYLOAD + self.now.geometry.room) }
+        ensures seat { IsSameSeat seat.old seat.new }
+        ensures view { view seat.new ≡ after_write word (view seat.old) }
+    {
         self.table
             .shared
-            .store::<Write>(seat, self.address(slot, DATA + index), word);
+            .store::<Write>(seat, self.data_address(slot, first, index), word);
     }
 
     /// Empties the slot that the client took to free, once its trail was taken back.

@@ -1,11 +1,12 @@
 //! Loads of data words.
 ghost use Rattle.std.specs.Prelude.{◌≡◌, ◌+◌, ◌<◌, Some, IfSome, IsSomeAnd, length, slice_index};
 ghost use Rattle.hcc_core.specs.Lawful.{owned_slot};
-ghost use Rattle.hcc_rule.specs.declared.layout.TheConstants.{PAYLOAD};
+ghost use Rattle.hcc_rule.specs.declared.layout.TheConstants.{DATA, PAYLOAD};
 ghost use Rattle.hcc_rule.specs.Callers.{IsSeatAt};
 ghost use Rattle.hcc_rule.specs.Seats.{IsSameSeat, view};
 ghost use Rattle.hcc_rule.specs.ToldOwners.{IsDataWord, after_read};
 ghost use Rattle.hcc_rule.specs.Views.{record_in};
+ghost use Rattle.hcc_rule.specs.Words.{field_at};
 
 use super::said::Said;
 use crate::key::Tag;
@@ -39,9 +40,17 @@ impl<T: Tag, J: Said> Play<(), View<T>> for ReadOwn<J> {
 }
 
 impl<T: Tag, A: Allocator> RuleTable<T, A> {
-    fn read_as<J: Said>(&self, seat: &mut RuleSeat<T>, slot: u32, index: usize, name: u64) -> u64
+    fn read_as<J: Said>(
+        &self,
+        seat: &mut RuleSeat<T>,
+        slot: u32,
+        first: usize,
+        index: usize,
+        name: u64,
+    ) -> u64
         requires seat { IsSeatAt self.now seat.old }
         requires slot { slot < self.now.geometry.slots }
+        requires first { first ≡ field_at self.now.geometry.room slot DATA }
         requires within { index < PAYLOAD + self.now.geometry.room }
         requires holds { IsSomeAnd (record_in name (view seat.old).records) (λ r. r.slot ≡ slot) }
         requires said { (J.name ≡ name) × (J.index ≡ index) }
@@ -51,7 +60,7 @@ impl<T: Tag, A: Allocator> RuleTable<T, A> {
     {
         self.table
             .shared
-            .load::<Read<J>>(seat, self.address(slot, DATA + index))
+            .load::<Read<J>>(seat, self.data_address(slot, first, index))
     }
 
     /// Loads a data word of the entry that the record of a name is on: of the key, the charge, the
@@ -68,7 +77,28 @@ impl<T: Tag, A: Allocator> RuleTable<T, A> {
         ensures view { view seat.new ≡ after_read name index (view seat.old) }
         ensures word { IfSome (record_in name (view seat.old).records) (λ r. IsDataWord r.entry index result) }
     {
-        self.read_as::<Brand>(seat, slot, index, name)
+        self.read_at(seat, slot, self.data_of(slot), index, name)
+    }
+
+    /// The same as `read`, for a caller that has the address of the slot's first data word.
+    pub fn read_at(
+        &self,
+        seat: &mut RuleSeat<T>,
+        slot: u32,
+        first: usize,
+        index: usize,
+        name: u64,
+    ) -> u64
+        requires seat { IsSeatAt self.now seat.old }
+        requires slot { slot < self.now.geometry.slots }
+        requires first { first ≡ field_at self.now.geometry.room slot DATA }
+        requires within { index < PAYLOAD + self.now.geometry.room }
+        requires holds { IsSomeAnd (record_in name (view seat.old).records) (λ r. r.slot ≡ slot) }
+        ensures seat { IsSameSeat seat.old seat.new }
+        ensures view { view seat.new ≡ after_read name index (view seat.old) }
+        ensures word { IfSome (record_in name (view seat.old).records) (λ r. IsDataWord r.entry index result) }
+    {
+        self.read_as::<Brand>(seat, slot, first, index, name)
     }
 
     fn read_own_as<J: Said>(&self, seat: &mut RuleSeat<T>, slot: u32, index: usize) -> u64

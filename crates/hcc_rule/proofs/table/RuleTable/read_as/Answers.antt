@@ -9,9 +9,9 @@ load-requires g c =
     let seat = c.requires.seat in
     let said = c.requires.said in (
       seat.table,
-      c.address.ensures.inside,
+      c.data_address.ensures.inside,
       read_step g.T.Tag.fits c.args.self.now.table.shared.key _ _ c.args.slot g.J.Said.name g.J.Said.index _ _
           (ap is_some seat.tagged)
-          (rw (planned.0, said.1) (c.address.ensures.value ∙ sym (data_field _ c.args.slot c.args.index)))
+          (rw (planned.0, said.1) (c.data_address.ensures.value ∙ sym (data_field _ c.args.slot c.args.index)))
           (rw said.0 c.requires.holds),
     )

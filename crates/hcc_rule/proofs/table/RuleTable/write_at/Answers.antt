@@ -1,7 +1,7 @@
 use Rattle.std.proofs.Common.{ap, is_some, sym, ◌∙◌}
 use Rattle.hcc_rule.proofs.Addresses.{data_field}
 use Rattle.hcc_rule.proofs.Writes.{write_step}
-use Rattle.hcc_rule.proofs.table.RuleTable.write.Goals as goal
+use Rattle.hcc_rule.proofs.table.RuleTable.write_at.Goals as goal
 
 pub store-requires : goal.store-requires
 store-requires g c =
@@ -9,9 +9,9 @@ store-requires g c =
     let seat = c.requires.seat in
     let next = c.requires.next in (
       seat.table,
-      c.address.ensures.inside,
+      c.data_address.ensures.inside,
       write_step g.T.Tag.fits c.args.self.now.table.shared.key _ _ c.args.slot _ _ _
           (rw planned.0 c.requires.slot) (ap is_some seat.tagged) c.requires.owned
           (rw (planned.0, ← next.0) next.1)
-          (rw (planned.0, ← next.0) (c.address.ensures.value ∙ sym (data_field _ c.args.slot c.args.index))),
+          (rw (planned.0, ← next.0) (c.data_address.ensures.value ∙ sym (data_field _ c.args.slot c.args.index))),
     )
