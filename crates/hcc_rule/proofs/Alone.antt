@@ -12,7 +12,7 @@ use Rattle.hcc_rule.specs.declared.view.View.{View}
 use Rattle.hcc_rule.specs.Views.{held, is_on, is_seated, named_by, reference_of}
 use Rattle.hcc_rule.specs.Rule.{Holds}
 use Rattle.hcc_rule.proofs.Asides.{law_is}
-use Rattle.hcc_rule.proofs.Different.{total_ones}
+use Rattle.hcc_rule.proofs.Records.{total_ones}
 use Rattle.hcc_rule.proofs.Touches.{client_is, book_is}
 use Rattle.hcc_rule.proofs.SlotSteps.{Shard}
 

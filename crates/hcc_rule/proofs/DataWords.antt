@@ -73,7 +73,7 @@ module _ {T : Type 0} (fits : T → Key → List ℕ → Type 0) (p : Plan T) wh
       same = record { tag = refl; client = refl; others = refl; records = refl; made = refl; takings = refl }
 
   -- The word that stands for an entry on record.
-  data_word : (s : Shard fits p) (r : Holds fits p s) (id i index : ℕ) (v : View T) (q : Record)
+  pub data_word : (s : Shard fits p) (r : Holds fits p s) (id i index : ℕ) (v : View T) (q : Record)
       → slice_get s.views id ≡ Some v → IsRecorded r.world.slots q → q.slot ≡ i
       → IsDataWord q.entry index (slice_index s.words (field_at p.geometry.room i DATA + index))
   data_word s r id i index v q at recorded on other low =

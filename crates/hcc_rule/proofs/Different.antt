@@ -12,55 +12,7 @@ use Rattle.hcc_rule.specs.Views.{is_on, off, different, Each}
 use Rattle.hcc_rule.specs.Rule.{entry_by, entry_in, IsRecorded}
 use Rattle.hcc_core.proofs.ListLemmas.{read_other}
 use Rattle.hcc_rule.proofs.Lists.{each_map}
-
--- a sum of ones is a length
-pub total_ones : {A : Type 0} (xs : List A) → total (λ x. 1) xs ≡ length xs
-total_ones [] = refl
-total_ones (x ∷ xs) = let rest = total_ones xs in omega arith
-
--- no two of them are of one slot
-abbrev Apart : List Record → Type 0
-Apart [] = Unit {0}
-Apart (r ∷ rs) = Each (λ (q : Record). q.slot ≢ r.slot) rs × Apart rs
-
--- what holds of each record holds of those of other slots
-off_each : (P : Record → Type 0) (slot : ℕ) (rs : List Record) → Each P rs → Each P (off slot rs)
-off_each P slot [] h = tt
-off_each P slot (q ∷ qs) h = by (is_on slot q) (off_each P slot qs h.1)
-  where
-    by : (b : Bool) → Each P (off slot qs) → Each P (cond (not b) (q ∷ off slot qs) (off slot qs))
-    by true later = later
-    by false later = (h.0, later)
-
--- and these are of other slots
-off_others : (slot : ℕ) (rs : List Record) → Each (λ (q : Record). q.slot ≢ slot) (off slot rs)
-off_others slot [] = tt
-off_others slot (q ∷ qs) = by (is_on slot q) refl (off_others slot qs)
-  where
-    by : (b : Bool) → is_on slot q ≡ b → Each (λ (q : Record). q.slot ≢ slot) (off slot qs)
-        → Each (λ (q : Record). q.slot ≢ slot) (cond (not b) (q ∷ off slot qs) (off slot qs))
-    by true is later = later
-    by false is later = (λ e. let bad : true ≡ false = sym (eq-eqb q.slot slot e) ∙ is in cc, later)
-
--- and stay apart
-off_apart : (slot : ℕ) (rs : List Record) → Apart rs → Apart (off slot rs)
-off_apart slot [] h = tt
-off_apart slot (q ∷ qs) h = by (is_on slot q) (off_apart slot qs h.1)
-  where
-    by : (b : Bool) → Apart (off slot qs) → Apart (cond (not b) (q ∷ off slot qs) (off slot qs))
-    by true later = later
-    by false later = (off_each (λ (z : Record). z.slot ≢ q.slot) slot qs h.0, later)
-
--- the first records of slots are some of the records
-different_each : (P : Record → Type 0) (rs : List Record) → Each P rs → Each P (different rs)
-different_each P [] h = tt
-different_each P (r ∷ rs) h = (h.0, off_each P r.slot (different rs) (different_each P rs h.1))
-
--- and no two of them are of one slot
-different_apart : (rs : List Record) → Apart (different rs)
-different_apart [] = tt
-different_apart (r ∷ rs) =
-    (off_others r.slot (different rs), off_apart r.slot (different rs) (different_apart rs))
+use Rattle.hcc_rule.proofs.Records.{total_ones, Apart, different_each, different_apart}
 
 -- Where the slot of each record gives what the record does, and an empty slot gives nothing, a sum over
 -- records of different slots is within the sum over all slots.

@@ -29,6 +29,7 @@ pub mod LedgerSteps
 pub mod LedgerGives
 pub mod Bounds
 pub mod Asides
+pub mod Records
 pub mod Different
 pub mod Alone
 pub mod Limits
@@ -43,6 +44,7 @@ pub mod Occupies
 pub mod Empties
 pub mod Writes
 pub mod DataWords
+pub mod SlotLimits
 pub mod ShowParts
 pub mod Shows
 pub mod Frees

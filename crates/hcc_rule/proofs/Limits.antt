@@ -10,7 +10,7 @@ use Rattle.hcc_rule.specs.declared.layout.TheConstants.{USAGE, OCCUPANCY, STANDI
 use Rattle.hcc_rule.specs.declared.rule.Plan.{Plan}
 use Rattle.hcc_rule.specs.declared.view.Record.{Record}
 use Rattle.hcc_rule.specs.Views.{charge_held, Each}
-use Rattle.hcc_rule.specs.Words.{ledger_at}
+use Rattle.hcc_rule.specs.Laws.{ledger_word}
 use Rattle.hcc_rule.specs.Rule.{setup_of, IsRecorded, Holds}
 use Rattle.hcc_core.proofs.SumLemmas.{total-le, total-member}
 use Rattle.hcc_rule.proofs.Different.{charges_within}
@@ -47,10 +47,6 @@ standing_real (x ∷ xs) zero client at =
 standing_real (x ∷ xs) (suc c) client at = let rest = standing_real xs c client at in omega arith
 
 module _ {T : Type 0} (fits : T → Key → List ℕ → Type 0) (p : Plan T) (s : Shard fits p) (r : Holds fits p s) where
-  -- what a ledger word is
-  abbrev pub ledger_word : ℕ → ℕ
-  ledger_word ledger = slice_index s.words (ledger_at p.geometry.slots p.geometry.room ledger)
-
   -- under strict, all charges with what is granted and what was freed are at most the capacity
   pub real_limit : p.strict ≡ true → real_in r.world.slots r.world.clients ≤ p.capacity
   real_limit strict =
@@ -91,12 +87,12 @@ module _ {T : Type 0} (fits : T → Key → List ℕ → Type 0) (p : Plan T) (s
       omega arith
 
   -- the usage word is these, with what clients still need
-  pub usage_real : ledger_word USAGE
+  pub usage_real : ledger_word p s USAGE
       ≡ real_in r.world.slots r.world.clients + total (λ (c : Client). c.needed) r.world.clients
   usage_real = let word = r.ledgers.usage in let parts = charged_real r.world.clients in omega arith
 
   -- and is below 2^60
-  pub usage_limit : ledger_word USAGE < 2 ^ 60
+  pub usage_limit : ledger_word p s USAGE < 2 ^ 60
   usage_limit = rw r.ledgers.usage (usage_low fits p s r)
 
   -- the places that are taken, with the freed slots, are at most the limit
@@ -107,7 +103,7 @@ module _ {T : Type 0} (fits : T → Key → List ℕ → Type 0) (p : Plan T) (s
       omega arith
 
   -- the occupancy word is at most the limit, with an open place for each client
-  pub occupancy_limit : ledger_word OCCUPANCY ≤ limit_of (setup_of p) + p.geometry.clients
+  pub occupancy_limit : ledger_word p s OCCUPANCY ≤ limit_of (setup_of p) + p.geometry.clients
   occupancy_limit =
       let near = occupancy_near r.world (law_is fits p s r) in
       let word = r.ledgers.occupancy in
@@ -116,7 +112,7 @@ module _ {T : Type 0} (fits : T → Key → List ℕ → Type 0) (p : Plan T) (s
       omega arith
 
   -- the standing word is at most the usage word
-  pub standing_limit : ledger_word STANDING ≤ ledger_word USAGE
+  pub standing_limit : ledger_word p s STANDING ≤ ledger_word p s USAGE
   standing_limit =
       let used = standing_used r.world in
       let word = r.ledgers.standing in

@@ -19,7 +19,8 @@ use Rattle.hcc_rule.specs.Words.{key_of}
 use Rattle.hcc_rule.specs.Rule.{setup_of, entry_in, IsRecorded, IsTrailed, Holds}
 use Rattle.hcc_rule.proofs.Lists.{each_map, within}
 use Rattle.hcc_rule.proofs.Bounds.{times_few, total_beside, total_minus}
-use Rattle.hcc_rule.proofs.Different.{Gives, different_within, total_ones}
+use Rattle.hcc_rule.proofs.Different.{Gives, different_within}
+use Rattle.hcc_rule.proofs.Records.{total_ones}
 use Rattle.hcc_rule.proofs.Alone.{entries_alone}
 use Rattle.hcc_rule.proofs.Asides.{law_is}
 use Rattle.hcc_rule.proofs.Limits.{places_limit}

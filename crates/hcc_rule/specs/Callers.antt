@@ -1,6 +1,7 @@
 -- What callers say of a table, by its public value alone, and of the view of a seat at it.
 use Rattle.std.specs.Prelude.{◌≡◌, ℕ, ◌+◌, ◌^◌, ◌<◌, ◌≤◌, true, Bool, List, [], IsSomeAnd}
-use Rattle.hcc_core.specs.Steps.{owns_nothing}
+use Rattle.hcc_core.specs.declared.state.Client.{Client}
+use Rattle.hcc_core.specs.Steps.{new_client, owns_nothing}
 use Rattle.hcc_rule.specs.declared.geometry.Geometry.{Geometry}
 use Rattle.hcc_rule.specs.declared.rule.Plan.{Plan}
 use Rattle.hcc_rule.specs.declared.table.RuleTable.{RuleTable}
@@ -43,6 +44,16 @@ module _ {T A : Type 0} where
   -- a slot of this table
   abbrev pub IsSlotOf : RuleTable T A → ℕ → Type 0
   IsSlotOf table slot = slot < table.geometry.slots
+
+-- a live client with nothing in hand but its standalone entries, as it is between two calls of a cache
+abbrev pub IsBetweenCalls : Client → Type 0
+IsBetweenCalls work = work ≡ record new_client {
+  live = true;
+  looked = work.looked;
+  standalones = work.standalones;
+  stamps = work.stamps;
+  dead = work.dead;
+}
 
 module _ {T : Type 0} where
   -- the client may free an entry: it owns no slot, has no trail, and space for one more charge

@@ -10,5 +10,6 @@ pub mod ToldLedgers
 pub mod ToldTrails
 pub mod ToldOwners
 pub mod Closing
+pub mod Laws
 pub mod Hands
 pub mod Callers

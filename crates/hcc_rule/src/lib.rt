@@ -7,6 +7,7 @@ mod closed;
 mod closing;
 mod geometry;
 mod key;
+pub mod laws;
 pub mod layout;
 mod opening;
 mod rule;

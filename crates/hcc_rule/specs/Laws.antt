@@ -1,0 +1,49 @@
+-- The words of a state, by their names, for what holds of every state that keeps the rule.
+use Rattle.std.specs.Prelude.{◌≡◌, ◌≢◌, ℕ, ◌+◌, ◌<◌, Bool, slice_index, length}
+use Rattle.atomic_table.specs.Table as table
+use Rattle.hcc_word.specs.Word.{is_shareable, refs_of}
+use Rattle.hcc_core.specs.declared.state.Entry.{Entry}
+use Rattle.hcc_core.specs.Sums.{total}
+use Rattle.hcc_rule.specs.declared.layout.TheConstants.{META, DISPLACEMENT, DATA}
+use Rattle.hcc_rule.specs.declared.rule.Plan.{Plan}
+use Rattle.hcc_rule.specs.declared.view.Record.{Record}
+use Rattle.hcc_rule.specs.declared.view.View.{View}
+use Rattle.hcc_rule.specs.ToldOwners.{IsDataWord}
+use Rattle.hcc_rule.specs.Views.{weight_on, Each}
+use Rattle.hcc_rule.specs.Words.{field_at, ledger_at}
+
+-- the words of a shard and the views of all seats
+abbrev pub StateOf : Type 0 → Type 0
+StateOf T = table.State (Unit {0}) (View T)
+
+module _ {T : Type 0} (p : Plan T) (s : StateOf T) where
+  abbrev pub ledger_word : ℕ → ℕ
+  ledger_word ledger = slice_index s.words (ledger_at p.geometry.slots p.geometry.room ledger)
+
+  abbrev pub meta_word : (slot : ℕ) → ℕ
+  meta_word slot = slice_index s.words (field_at p.geometry.room slot META)
+
+  abbrev pub displacement_word : (slot : ℕ) → ℕ
+  displacement_word slot = slice_index s.words (field_at p.geometry.room slot DISPLACEMENT)
+
+  abbrev pub data_word : (slot index : ℕ) → ℕ
+  data_word slot index = slice_index s.words (field_at p.geometry.room slot (DATA + index))
+
+  -- whether a slot's word is an entry's, and how many references it counts: acquires less releases
+  abbrev pub has_entry : (slot : ℕ) → Bool
+  has_entry slot = is_shareable (meta_word slot)
+
+  abbrev pub references_counted : (slot : ℕ) → ℕ
+  references_counted slot = refs_of (meta_word slot)
+
+  -- the references that all views hold on a slot
+  abbrev pub references_held : (slot : ℕ) → ℕ
+  references_held slot = total (λ (v : View T). weight_on slot v.records) s.views
+
+  -- a slot's data words are the entry's, but for the serial
+  abbrev pub HasWordsOf : (slot : ℕ) → Entry → Type 0
+  HasWordsOf slot entry = (index : ℕ) → IsDataWord entry index (data_word slot index)
+
+  -- so they are of each record of the view that is on the slot
+  abbrev pub HasWordsOfRecords : (slot : ℕ) → View T → Type 0
+  HasWordsOfRecords slot v = Each (λ (r : Record). r.slot ≡ slot → HasWordsOf slot r.entry) v.records
