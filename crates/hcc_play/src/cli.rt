@@ -1,9 +1,9 @@
 //! The command line.
 ghost use Rattle.std.specs.Prelude.{◌≡◌, ◌≤◌, IfSome, false};
-ghost use Rattle.hcc_core.specs.Steps.{CanOpen};
+ghost use Rattle.hcc_core.specs.Opening.{CanOpen};
 
 use clap::{Arg, ArgAction, ArgMatches, Command, value_parser};
-use hcc_core::state::Setup;
+use hcc_core::setup::Setup;
 use std::alloc::{AllocError, Global};
 
 const ABOUT: &str = "Plays scripts of a block cache's protocol";

@@ -1,11 +1,11 @@
 //! Does what the words ask for, over any runtime.
-ghost use Rattle.hcc_core.specs.Steps.{CanOpen};
+ghost use Rattle.hcc_core.specs.Opening.{CanOpen};
 
 use crate::cli::{command, default_setup, setup_of};
 use crate::status::{Status, status_of};
 use clap::Error;
 use clap::error::ErrorKind;
-use hcc_core::state::Setup;
+use hcc_core::setup::Setup;
 use hcc_player::fault::PlayError;
 use hcc_player::play::play_core;
 use std::io;

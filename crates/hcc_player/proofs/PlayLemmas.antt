@@ -7,7 +7,7 @@ use Rattle.hcc_player.specs.declared.fault.ScriptFault.{ScriptFault}
 use Rattle.hcc_player.specs.declared.fault.TextFault.{TextFault}
 use Rattle.hcc_player.specs.Line.{line_event}
 use Rattle.hcc_player.specs.Script.{lines_of, script_from, then_events, ends_with, last_fault}
-use Rattle.hcc_core.specs.Steps.{after}
+use Rattle.hcc_core.specs.Runs.{after}
 use Rattle.hcc_player.specs.Text.{event_text, events_text}
 use Rattle.hcc_player.specs.Bytes.{Leaves, AppendsPart}
 use Rattle.hcc_player.proofs.LineLemmas.{script_line, script_end}

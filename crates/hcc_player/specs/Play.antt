@@ -1,10 +1,10 @@
 -- What a play reads, and what it writes.
 use Rattle.std.specs.Prelude.{◌≡◌, ℕ, ◌<◌, ◌≤◌, List, [], Option, Result, Ok, Err, length, IfSome, IsOk}
 use Rattle.std.specs.Io.KnownBytes.{Keeps}
-use Rattle.hcc_core.specs.declared.state.Setup.{Setup}
+use Rattle.hcc_core.specs.declared.setup.Setup.{Setup}
 use Rattle.hcc_core.specs.declared.event.Event.{Event}
 use Rattle.hcc_core.specs.World.{State}
-use Rattle.hcc_core.specs.Steps.{opening_of}
+use Rattle.hcc_core.specs.Opening.{opening_of}
 use Rattle.hcc_player.specs.declared.limits.TheConstants.{MOST_INPUT}
 use Rattle.hcc_player.specs.declared.fault.ScriptFault.{ScriptFault}
 use Rattle.hcc_player.specs.declared.fault.PlayError.{PlayError}

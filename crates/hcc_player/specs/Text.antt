@@ -2,11 +2,11 @@
 use Rattle.std.specs.Prelude.{ℕ, zero, suc, ◌+◌, ◌/◌, ◌%◌, Bool, false, ◌==◌, List, [], ◌∷◌, ◌++◌, Result, Ok, Err, length, codes, decimal, if◌then◌else◌}
 use Rattle.std.specs.Fmt.{digit_glyph}
 use Rattle.std.specs.List.{flat_map}
-use Rattle.hcc_core.specs.declared.state.Slot.{Slot}
-use Rattle.hcc_core.specs.declared.state.Slot.TheVariants as slots
-use Rattle.hcc_core.specs.declared.state.Resident.{Resident}
-use Rattle.hcc_core.specs.declared.state.Reference.{Reference}
-use Rattle.hcc_core.specs.declared.state.Entry.{Entry}
+use Rattle.hcc_core.specs.declared.slot.Slot.{Slot}
+use Rattle.hcc_core.specs.declared.slot.Slot.TheVariants as slots
+use Rattle.hcc_core.specs.declared.slot.Resident.{Resident}
+use Rattle.hcc_core.specs.declared.slot.Reference.{Reference}
+use Rattle.hcc_core.specs.declared.slot.Entry.{Entry}
 use Rattle.hcc_core.specs.declared.event.Phase.{Phase}
 use Rattle.hcc_core.specs.declared.event.Phase.TheVariants as phases
 use Rattle.hcc_core.specs.declared.event.Reply.{Reply}
@@ -15,7 +15,9 @@ use Rattle.hcc_core.specs.declared.event.Event.{Event}
 use Rattle.hcc_core.specs.declared.event.CoreError.{CoreError}
 use Rattle.hcc_core.specs.declared.event.CoreError.TheVariants.{NoSuchSlot, NoSuchClient, NotAllowed, OutOfMemory}
 use Rattle.hcc_core.specs.World.{State, usage_of, occupancy_of, standing_in, passed_at}
-use Rattle.hcc_core.specs.Steps.{Outcome, outcome_of, after}
+use Rattle.hcc_core.specs.Outcomes.{Outcome}
+use Rattle.hcc_core.specs.Steps.{outcome_of}
+use Rattle.hcc_core.specs.Runs.{after}
 
 abbrev pub phase_text : Phase → List ℕ
 phase_text phases.Empty = codes "empty"

@@ -1,7 +1,9 @@
 //! Plays a script from a reader to a writer.
 ghost use Rattle.std.specs.Prelude.{◌≡◌, ◌++◌, ◌+◌, ◌<◌, ◌≤◌, ◌⊎◌, [], Ok, IfOk, OnOk, OnErr, IfErr, IfSome, IsOk, length, false, string_bytes};
 ghost use Rattle.std.specs.Io.KnownBytes.{Appends, Keeps, Consumes, IsAtEnd};
-ghost use Rattle.hcc_core.specs.Steps.{CanOpen, outcome_of, after};
+ghost use Rattle.hcc_core.specs.Steps.{outcome_of};
+ghost use Rattle.hcc_core.specs.Opening.{CanOpen};
+ghost use Rattle.hcc_core.specs.Runs.{after};
 ghost use Rattle.hcc_player.specs.Bytes.{Leaves, AppendsPart, TakesAtMost, GivesPart};
 ghost use Rattle.hcc_player.specs.Text.{answer_of, event_text};
 ghost use Rattle.hcc_player.specs.Line.{line_event};
@@ -15,7 +17,7 @@ use crate::output::{flush, spill, write_out};
 use crate::print::push_line;
 use crate::script::{judge, next_line};
 use hcc_core::event::{CoreError, Event, Reply};
-use hcc_core::state::Setup;
+use hcc_core::setup::Setup;
 use hcc_core::world::World;
 use std::alloc::{AllocError, Global};
 use std::io::{ErrorKind, Read, Write};

@@ -4,7 +4,7 @@ ghost use Rattle.std.specs.List.{flat_map};
 ghost use Rattle.hcc_player.specs.Text.{phase_text, shown_text, mark_text, value_text, byte_text, reply_text, refusal_text, reference_text, references_text, entry_text, initial_text, hit_text, resident_text, slot_text, gap, slots_from, totals_text, world_text, answer_text, line_text};
 
 use hcc_core::event::{CoreError, Phase, Reply};
-use hcc_core::state::{Entry, Reference, Resident, Slot};
+use hcc_core::slot::{Entry, Reference, Resident, Slot};
 use hcc_core::world::World;
 use std::alloc::AllocError;
 

@@ -1,7 +1,7 @@
 //! Scripts from bytes to bytes: which text each fault names, and what events give.
 use crate::fault::{PlayError, TextFault};
 use crate::play::play_core;
-use hcc_core::state::Setup;
+use hcc_core::setup::Setup;
 use std::alloc::Global;
 use std::test::Fail;
 

@@ -11,14 +11,17 @@ use Rattle.hcc_core.specs.declared.limits.TheConstants.{MOST_REFERENCES, MOST_WE
 use Rattle.hcc_core.specs.declared.event.Event.{Event}
 use Rattle.hcc_core.specs.declared.event.Event.TheVariants as events
 use Rattle.hcc_core.specs.declared.event.Reply.{Reply}
-use Rattle.hcc_core.specs.declared.state.Client.{Client}
-use Rattle.hcc_core.specs.declared.state.Reference.{Reference}
-use Rattle.hcc_core.specs.declared.state.Resident.{Resident}
-use Rattle.hcc_core.specs.declared.state.Slot.{Slot}
-use Rattle.hcc_core.specs.declared.state.Slot.TheVariants as slots
+use Rattle.hcc_core.specs.declared.client.Client.{Client}
+use Rattle.hcc_core.specs.declared.slot.Reference.{Reference}
+use Rattle.hcc_core.specs.declared.slot.Resident.{Resident}
+use Rattle.hcc_core.specs.declared.slot.Slot.{Slot}
+use Rattle.hcc_core.specs.declared.slot.Slot.TheVariants as slots
 use Rattle.hcc_core.specs.Sums.{when, total}
 use Rattle.hcc_core.specs.World.{State, weight, counted, references_of, weight_of, counts_in, has_client, slot_holding, hidden_stamp}
-use Rattle.hcc_core.specs.Steps.{with_both, looks_at, most_weight, may_acquire, acquired, new_reference, slot_acquired, client_acquired, outcome_of}
+use Rattle.hcc_core.specs.Outcomes.{with_both}
+use Rattle.hcc_core.specs.References.{looks_at, most_weight, may_acquire, acquired, new_reference}
+use Rattle.hcc_core.specs.References.{slot_acquired, client_acquired}
+use Rattle.hcc_core.specs.Steps.{outcome_of}
 use Rattle.hcc_core.specs.Lawful.{Lawful}
 use Rattle.hcc_core.proofs.SumLemmas.{total-append}
 use Rattle.hcc_core.proofs.Opening.{is_lawful}

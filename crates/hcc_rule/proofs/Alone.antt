@@ -2,7 +2,7 @@
 use Rattle.std.proofs.Common.{◌≡◌, ℕ, zero, suc, ◌+◌, ◌≤◌, true, List, [], ◌∷◌, Option, Some, None, is_some, length, slice_get, refl, ap, ◌∙◌, arith}
 use Rattle.hcc_core.specs.Sums.{when, total}
 use Rattle.hcc_core.specs.World.{taken_by_slot, occupied_by, occupancy_of, standing_in, standing_of}
-use Rattle.hcc_core.specs.declared.state.Reference.{Reference}
+use Rattle.hcc_core.specs.declared.slot.Reference.{Reference}
 use Rattle.hcc_rule.specs.declared.view.Record.{Record}
 use Rattle.hcc_core.proofs.SumLemmas.{total-member}
 use Rattle.hcc_rule.specs.declared.key.Key.{Key}

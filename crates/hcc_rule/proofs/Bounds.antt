@@ -1,12 +1,12 @@
 -- The sums that stand in words stay far below a word's end.
 use Rattle.std.proofs.Common.{◌≡◌, ℕ, zero, suc, ◌+◌, ◌-◌, ◌*◌, ◌^◌, ◌<◌, ◌≤◌, ◌==◌, Bool, true, false, List, [], ◌∷◌, Some, length, slice_get, refl, ap, ◌∙◌, arith}
-use Rattle.hcc_core.specs.declared.state.Client.{Client}
-use Rattle.hcc_core.specs.declared.state.Entry.{Entry}
-use Rattle.hcc_core.specs.declared.state.Slot.{Slot}
-use Rattle.hcc_core.specs.declared.state.Slot.TheVariants as slots
-use Rattle.hcc_core.specs.declared.state.Place.{Place}
-use Rattle.hcc_core.specs.declared.state.Place.TheVariants as places
-use Rattle.hcc_core.specs.declared.state.Standalone.{Standalone}
+use Rattle.hcc_core.specs.declared.client.Client.{Client}
+use Rattle.hcc_core.specs.declared.slot.Entry.{Entry}
+use Rattle.hcc_core.specs.declared.slot.Slot.{Slot}
+use Rattle.hcc_core.specs.declared.slot.Slot.TheVariants as slots
+use Rattle.hcc_core.specs.declared.client.Place.{Place}
+use Rattle.hcc_core.specs.declared.client.Place.TheVariants as places
+use Rattle.hcc_core.specs.declared.client.Standalone.{Standalone}
 use Rattle.hcc_core.specs.Sums.{when, total}
 use Rattle.hcc_core.specs.World.{State, charge_of, charged_to, trail_of, times, usage_of, passed_by, occupied_by, occupancy_of, is_placed, is_granted, limit_of}
 use Rattle.hcc_core.specs.Lawful.{Lawful, taken_by}

@@ -7,14 +7,14 @@ use Rattle.hcc_word.specs.Code.{code_of_empty}
 use Rattle.hcc_word.specs.Word.{is_empty, is_shareable, refs_of}
 use Rattle.hcc_word.proofs.CodeLaws.{is_empty-empty, refs_of-shareable}
 use Rattle.hcc_core.specs.declared.limits.TheConstants.{MOST_WEIGHT}
-use Rattle.hcc_core.specs.declared.state.Client.{Client}
-use Rattle.hcc_core.specs.declared.state.Entry.{Entry}
-use Rattle.hcc_core.specs.declared.state.Reference.{Reference}
-use Rattle.hcc_core.specs.declared.state.Resident.{Resident}
-use Rattle.hcc_core.specs.declared.state.Setup.{Setup}
-use Rattle.hcc_core.specs.declared.state.Slot.{Slot}
-use Rattle.hcc_core.specs.declared.state.Slot.TheVariants as slots
-use Rattle.hcc_core.specs.declared.state.Stamp.{Stamp}
+use Rattle.hcc_core.specs.declared.client.Client.{Client}
+use Rattle.hcc_core.specs.declared.slot.Entry.{Entry}
+use Rattle.hcc_core.specs.declared.slot.Reference.{Reference}
+use Rattle.hcc_core.specs.declared.slot.Resident.{Resident}
+use Rattle.hcc_core.specs.declared.setup.Setup.{Setup}
+use Rattle.hcc_core.specs.declared.slot.Slot.{Slot}
+use Rattle.hcc_core.specs.declared.slot.Slot.TheVariants as slots
+use Rattle.hcc_core.specs.declared.slot.Stamp.{Stamp}
 use Rattle.hcc_core.specs.Sums.{when, total}
 use Rattle.hcc_core.specs.World.{taken_by_slot, charge_of, charged_to, occupied_by, standing_of, trail_of, times, is_shareable as slot_has_entry}
 use Rattle.hcc_core.specs.Lawful.{Lawful, owned_by, owned_slot, owner_in, stamp_in}

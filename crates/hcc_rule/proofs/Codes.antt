@@ -4,10 +4,10 @@ use Rattle.hcc_word.specs.Word.{is_shareable, is_visible}
 use Rattle.hcc_word.specs.Near.{IsNear}
 use Rattle.hcc_word.proofs.CodeLaws.{is_shareable-empty, is_shareable-building, is_shareable-shareable, is_visible-shareable}
 use Rattle.hcc_core.specs.declared.limits.TheConstants.{MOST_REFERENCES}
-use Rattle.hcc_core.specs.declared.state.Reference.{Reference}
-use Rattle.hcc_core.specs.declared.state.Resident.{Resident}
-use Rattle.hcc_core.specs.declared.state.Slot.{Slot}
-use Rattle.hcc_core.specs.declared.state.Slot.TheVariants as slots
+use Rattle.hcc_core.specs.declared.slot.Reference.{Reference}
+use Rattle.hcc_core.specs.declared.slot.Resident.{Resident}
+use Rattle.hcc_core.specs.declared.slot.Slot.{Slot}
+use Rattle.hcc_core.specs.declared.slot.Slot.TheVariants as slots
 use Rattle.hcc_core.specs.Sums.{when}
 use Rattle.hcc_core.specs.World.{State, strays_of, weight, counted, is_shareable as has_entry}
 use Rattle.hcc_core.specs.Lawful.{Lawful}

@@ -3,8 +3,8 @@
 use Rattle.std.proofs.Common.{◌≡◌, ℕ, zero, suc, ◌+◌, ◌<◌, ◌≢◌, ◌==◌, Bool, true, false, cond, List, [], ◌∷◌, Option, Some, None, IfSome, IsSomeAnd, length, slice_get, slice_index, slice_set, sym, refl, ap, ◌∙◌, arith}
 use mathlib.Core.Option.{none}
 use Rattle.atomic_table.specs.Table.{step, Allows, keeps}
-use Rattle.hcc_core.specs.declared.state.Entry.{Entry}
-use Rattle.hcc_core.specs.declared.state.Stamp.{Stamp}
+use Rattle.hcc_core.specs.declared.slot.Entry.{Entry}
+use Rattle.hcc_core.specs.declared.slot.Stamp.{Stamp}
 use Rattle.hcc_core.specs.Lawful.{owned_slot}
 use Rattle.hcc_rule.specs.declared.key.Key.{Key}
 use Rattle.hcc_rule.specs.declared.layout.TheConstants.{DATA, KEY1, STAMP}

@@ -1,9 +1,9 @@
 -- Records of different slots are on different entries: what these entries have in sum is within what
 -- all slots have.
 use Rattle.std.proofs.Common.{◌≡◌, ℕ, ◌+◌, ◌≤◌, ◌≢◌, Bool, true, false, cond, not, eq-eqb, List, [], ◌∷◌, Option, Some, None, length, slice_get, slice_set, sym, refl, ap, ◌∙◌, arith}
-use Rattle.hcc_core.specs.declared.state.Entry.{Entry}
-use Rattle.hcc_core.specs.declared.state.Slot.{Slot}
-use Rattle.hcc_core.specs.declared.state.Slot.TheVariants as slots
+use Rattle.hcc_core.specs.declared.slot.Entry.{Entry}
+use Rattle.hcc_core.specs.declared.slot.Slot.{Slot}
+use Rattle.hcc_core.specs.declared.slot.Slot.TheVariants as slots
 use Rattle.hcc_core.specs.Sums.{total}
 use Rattle.hcc_core.specs.World.{charge_of, taken_by_slot}
 use Rattle.hcc_core.proofs.SumLemmas.{total-set}

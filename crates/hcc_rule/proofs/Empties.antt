@@ -6,12 +6,14 @@ use Rattle.hcc_word.specs.declared.layout.TheConstants.{EMPTY_WORD}
 use Rattle.hcc_word.proofs.StepLaws.{store_empty}
 use Rattle.hcc_core.specs.declared.event.Event.TheVariants as events
 use Rattle.hcc_core.specs.declared.event.Reply.TheVariants as replies
-use Rattle.hcc_core.specs.declared.state.Client.{Client}
-use Rattle.hcc_core.specs.declared.state.Owned.TheVariants as owned
-use Rattle.hcc_core.specs.declared.state.Slot.{Slot}
-use Rattle.hcc_core.specs.declared.state.Slot.TheVariants as slots
+use Rattle.hcc_core.specs.declared.client.Client.{Client}
+use Rattle.hcc_core.specs.declared.client.Owned.TheVariants as owned
+use Rattle.hcc_core.specs.declared.slot.Slot.{Slot}
+use Rattle.hcc_core.specs.declared.slot.Slot.TheVariants as slots
 use Rattle.hcc_core.specs.World.{State}
-use Rattle.hcc_core.specs.Steps.{with_both, outcome_of, freed_by, has_no_member}
+use Rattle.hcc_core.specs.Outcomes.{with_both, has_no_member}
+use Rattle.hcc_core.specs.Entries.{freed_by}
+use Rattle.hcc_core.specs.Steps.{outcome_of}
 use Rattle.hcc_core.specs.Lawful.{Lawful, owner_of, owner_in, owned_slot, owned_by}
 use Rattle.hcc_core.proofs.Opening.{is_lawful}
 use Rattle.hcc_core.proofs.StepLemmas.{empty_gives}

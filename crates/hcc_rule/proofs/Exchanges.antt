@@ -12,14 +12,17 @@ use Rattle.hcc_core.specs.declared.limits.TheConstants.{MOST_REFERENCES, NEAR, C
 use Rattle.hcc_core.specs.declared.event.Event.{Event}
 use Rattle.hcc_core.specs.declared.event.Event.TheVariants as events
 use Rattle.hcc_core.specs.declared.event.Reply.TheVariants as replies
-use Rattle.hcc_core.specs.declared.state.Client.{Client}
-use Rattle.hcc_core.specs.declared.state.Reference.{Reference}
-use Rattle.hcc_core.specs.declared.state.Resident.{Resident}
-use Rattle.hcc_core.specs.declared.state.Slot.{Slot}
-use Rattle.hcc_core.specs.declared.state.Slot.TheVariants as slots
+use Rattle.hcc_core.specs.declared.client.Client.{Client}
+use Rattle.hcc_core.specs.declared.slot.Reference.{Reference}
+use Rattle.hcc_core.specs.declared.slot.Resident.{Resident}
+use Rattle.hcc_core.specs.declared.slot.Slot.{Slot}
+use Rattle.hcc_core.specs.declared.slot.Slot.TheVariants as slots
 use Rattle.hcc_core.specs.Sums.{when, total}
 use Rattle.hcc_core.specs.World.{State, weight, counted, slot_holding}
-use Rattle.hcc_core.specs.Steps.{with_both, clocked, may_clock, may_correct, has_no_member, client_noticed, outcome_of, clock_of, correct_of}
+use Rattle.hcc_core.specs.Outcomes.{with_both, has_no_member}
+use Rattle.hcc_core.specs.References.{client_noticed}
+use Rattle.hcc_core.specs.Uses.{clocked, may_clock, may_correct, clock_of, correct_of}
+use Rattle.hcc_core.specs.Steps.{outcome_of}
 use Rattle.hcc_core.specs.Lawful.{Lawful}
 use Rattle.hcc_core.proofs.ListLemmas.{set_same}
 use Rattle.hcc_core.proofs.SumLemmas.{total-le}

@@ -6,13 +6,18 @@ use Rattle.hcc_core.specs.declared.limits.TheConstants.{MOST_USAGE, SLOTS_PER_TU
 use Rattle.hcc_core.specs.declared.event.Event.TheVariants as events
 use Rattle.hcc_core.specs.declared.event.Reply.{Reply}
 use Rattle.hcc_core.specs.declared.event.Reply.TheVariants as replies
-use Rattle.hcc_core.specs.declared.state.Setup.{Setup}
-use Rattle.hcc_core.specs.declared.state.Client.{Client}
-use Rattle.hcc_core.specs.declared.state.Place.TheVariants as places
-use Rattle.hcc_core.specs.declared.state.Slot.{Slot}
-use Rattle.hcc_core.specs.declared.state.Standalone.{Standalone}
+use Rattle.hcc_core.specs.declared.setup.Setup.{Setup}
+use Rattle.hcc_core.specs.declared.client.Client.{Client}
+use Rattle.hcc_core.specs.declared.client.Place.TheVariants as places
+use Rattle.hcc_core.specs.declared.slot.Slot.{Slot}
+use Rattle.hcc_core.specs.declared.client.Standalone.{Standalone}
 use Rattle.hcc_core.specs.World.{State, usage_of, occupancy_of, standing_in, passed_at, limit_of, is_placed}
-use Rattle.hcc_core.specs.Steps.{with_client, outcome_of, fits as in_bits, usage_told, occupancy_told, standing_told, turn_of, grant_of, may_charge, may_settle, waive_of, enter_of, slots_of, place_granted, quit_of, stand_of, is_standing, dropped, count_of, pass_of, unpass_of, is_slot}
+use Rattle.hcc_core.specs.Outcomes.{with_client, dropped}
+use Rattle.hcc_core.specs.Ledgers.{usage_told, occupancy_told, standing_told, grant_of, may_charge}
+use Rattle.hcc_core.specs.Ledgers.{may_settle, waive_of, enter_of, slots_of, place_granted, quit_of}
+use Rattle.hcc_core.specs.Ledgers.{stand_of, is_standing}
+use Rattle.hcc_core.specs.Trails.{turn_of, count_of, pass_of, unpass_of, is_slot}
+use Rattle.hcc_core.specs.Steps.{outcome_of, fits as in_bits}
 use Rattle.hcc_core.specs.Lawful.{Lawful}
 use Rattle.hcc_core.proofs.ListLemmas.{set_same}
 use Rattle.hcc_core.proofs.StepLemmas.{charge_gives, settle_gives, fall_gives}

@@ -6,6 +6,7 @@ pub mod Addresses
 pub mod WordParts
 pub mod ViewParts
 pub mod WorldParts
+pub mod Lifts
 pub mod SlotSteps
 pub mod Codes
 pub mod Clients

@@ -1,7 +1,7 @@
 -- What holds at every moment: between any two steps the words show some lawful world, and these are
 -- its limits.
 use Rattle.std.proofs.Common.{◌≡◌, ℕ, zero, suc, ◌+◌, ◌-◌, ◌*◌, ◌^◌, ◌<◌, ◌≤◌, true, List, [], ◌∷◌, slice_get, slice_index, length, Some, refl, ap, ◌∙◌, arith}
-use Rattle.hcc_core.specs.declared.state.Client.{Client}
+use Rattle.hcc_core.specs.declared.client.Client.{Client}
 use Rattle.hcc_core.specs.Sums.{total}
 use Rattle.hcc_core.specs.World.{State, charged_to, standing_of, standing_in, usage_of, limit_of}
 use Rattle.hcc_core.specs.Lawful.{real_to, real_in, taken_in}

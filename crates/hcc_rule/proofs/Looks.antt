@@ -7,10 +7,12 @@ use Rattle.hcc_core.specs.declared.event.Event.{Event}
 use Rattle.hcc_core.specs.declared.event.Event.TheVariants as events
 use Rattle.hcc_core.specs.declared.event.Reply.{Reply}
 use Rattle.hcc_core.specs.declared.event.Reply.TheVariants as replies
-use Rattle.hcc_core.specs.declared.state.Client.{Client}
-use Rattle.hcc_core.specs.declared.state.Slot.{Slot}
+use Rattle.hcc_core.specs.declared.client.Client.{Client}
+use Rattle.hcc_core.specs.declared.slot.Slot.{Slot}
 use Rattle.hcc_core.specs.World.{State, phase_of}
-use Rattle.hcc_core.specs.Steps.{with_both, client_looked, outcome_of, fits as in_bits}
+use Rattle.hcc_core.specs.Outcomes.{with_both}
+use Rattle.hcc_core.specs.References.{client_looked}
+use Rattle.hcc_core.specs.Steps.{outcome_of, fits as in_bits}
 use Rattle.hcc_core.specs.Lawful.{Lawful}
 use Rattle.hcc_core.proofs.ListLemmas.{set_same}
 use Rattle.hcc_core.proofs.Opening.{is_lawful}
@@ -20,8 +22,8 @@ use Rattle.hcc_rule.specs.declared.rule.Plan.{Plan}
 use Rattle.hcc_rule.specs.declared.view.View.{View}
 use Rattle.hcc_rule.specs.Told.{Held, Backs, after_look, looks}
 use Rattle.hcc_word.proofs.CodeLaws.{refs_of-shareable}
-use Rattle.hcc_core.specs.declared.state.Reference.{Reference}
-use Rattle.hcc_core.specs.declared.state.Slot.TheVariants as slots
+use Rattle.hcc_core.specs.declared.slot.Reference.{Reference}
+use Rattle.hcc_core.specs.declared.slot.Slot.TheVariants as slots
 use Rattle.hcc_core.specs.Sums.{total}
 use Rattle.hcc_core.specs.World.{weight, references_of}
 use Rattle.hcc_core.proofs.SumLemmas.{total-member}
@@ -34,10 +36,10 @@ use Rattle.hcc_rule.proofs.Clients.{dead_told}
 use Rattle.hcc_rule.proofs.SlotSteps.{Shard, size_is}
 use Rattle.hcc_rule.proofs.Touches.{by_client, touched, Goes, goes, client_is, live_is}
 use Rattle.std.specs.List.{list_any}
-use Rattle.hcc_core.specs.declared.state.Entry.{Entry}
+use Rattle.hcc_core.specs.declared.slot.Entry.{Entry}
 use Rattle.hcc_rule.specs.declared.view.Record.{Record}
 use Rattle.hcc_word.specs.Word.{is_shareable, refs_of}
-use Rattle.hcc_core.specs.declared.state.Setup.{Setup}
+use Rattle.hcc_core.specs.declared.setup.Setup.{Setup}
 use Rattle.hcc_rule.proofs.Alone.{held_alone}
 use Rattle.hcc_rule.proofs.Findings.{some_found, any_some, find_passes, find_each}
 

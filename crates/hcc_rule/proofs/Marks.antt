@@ -13,12 +13,16 @@ use Rattle.hcc_core.specs.declared.event.Event.{Event}
 use Rattle.hcc_core.specs.declared.event.Event.TheVariants as events
 use Rattle.hcc_core.specs.declared.event.Reply.{Reply}
 use Rattle.hcc_core.specs.declared.event.Reply.TheVariants as replies
-use Rattle.hcc_core.specs.declared.state.Client.{Client}
-use Rattle.hcc_core.specs.declared.state.Resident.{Resident}
-use Rattle.hcc_core.specs.declared.state.Slot.{Slot}
-use Rattle.hcc_core.specs.declared.state.Slot.TheVariants as slots
+use Rattle.hcc_core.specs.declared.client.Client.{Client}
+use Rattle.hcc_core.specs.declared.slot.Resident.{Resident}
+use Rattle.hcc_core.specs.declared.slot.Slot.{Slot}
+use Rattle.hcc_core.specs.declared.slot.Slot.TheVariants as slots
 use Rattle.hcc_core.specs.World.{State, weight, counted, slot_holding}
-use Rattle.hcc_core.specs.Steps.{with_both, slot_hidden, slot_marked, hidden, client_noticed, outcome_of, mark_of}
+use Rattle.hcc_core.specs.Outcomes.{with_both}
+use Rattle.hcc_core.specs.References.{client_noticed}
+use Rattle.hcc_core.specs.Uses.{slot_marked, mark_of}
+use Rattle.hcc_core.specs.Entries.{slot_hidden, hidden}
+use Rattle.hcc_core.specs.Steps.{outcome_of}
 use Rattle.hcc_core.specs.Lawful.{Lawful}
 use Rattle.hcc_core.proofs.Opening.{is_lawful}
 use Rattle.hcc_core.proofs.StepLemmas.{dead_hidden, held_has_client, hide_gives}

@@ -4,13 +4,13 @@ use mathlib.Core.Option.{none}
 use Rattle.atomic_table.specs.Table.{step, Allows}
 use Rattle.hcc_core.specs.declared.event.Event.TheVariants as events
 use Rattle.hcc_core.specs.declared.event.Reply.TheVariants as replies
-use Rattle.hcc_core.specs.declared.state.Setup.{Setup}
-use Rattle.hcc_core.specs.declared.state.Place.{Place}
-use Rattle.hcc_core.specs.declared.state.Place.TheVariants as places
-use Rattle.hcc_core.specs.declared.state.Client.{Client}
+use Rattle.hcc_core.specs.declared.setup.Setup.{Setup}
+use Rattle.hcc_core.specs.declared.client.Place.{Place}
+use Rattle.hcc_core.specs.declared.client.Place.TheVariants as places
+use Rattle.hcc_core.specs.declared.client.Client.{Client}
 use Rattle.hcc_core.specs.Sums.{when}
 use Rattle.hcc_core.specs.World.{State, charged_to, occupied_by, standing_of, occupancy_of, limit_of, is_placed}
-use Rattle.hcc_core.specs.Steps.{place_granted}
+use Rattle.hcc_core.specs.Ledgers.{place_granted}
 use Rattle.hcc_core.proofs.SumLemmas.{total-member}
 use Rattle.hcc_rule.specs.declared.key.Key.{Key}
 use Rattle.hcc_rule.specs.declared.layout.TheConstants.{OCCUPANCY}

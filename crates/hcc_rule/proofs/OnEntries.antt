@@ -1,11 +1,11 @@
 -- A slot on which a view has a record: its entry, and what the record's client is told there.
 use Rattle.std.proofs.Common.{◌≡◌, ℕ, true, List, Option, Some, None, slice_get, slice_index, sym, refl, ap, ◌∙◌}
-use Rattle.hcc_core.specs.declared.state.Entry.{Entry}
-use Rattle.hcc_core.specs.declared.state.Resident.{Resident}
-use Rattle.hcc_core.specs.declared.state.Slot.{Slot}
-use Rattle.hcc_core.specs.declared.state.Slot.TheVariants as slots
+use Rattle.hcc_core.specs.declared.slot.Entry.{Entry}
+use Rattle.hcc_core.specs.declared.slot.Resident.{Resident}
+use Rattle.hcc_core.specs.declared.slot.Slot.{Slot}
+use Rattle.hcc_core.specs.declared.slot.Slot.TheVariants as slots
 use Rattle.hcc_core.specs.World.{reference_in, slot_holding}
-use Rattle.hcc_core.specs.Steps.{dead_to}
+use Rattle.hcc_core.specs.References.{dead_to}
 use Rattle.hcc_core.proofs.Opening.{is_lawful}
 use Rattle.hcc_rule.specs.declared.key.Key.{Key}
 use Rattle.hcc_rule.specs.declared.layout.TheConstants.{META}

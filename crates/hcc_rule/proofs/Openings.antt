@@ -9,15 +9,16 @@ use Rattle.std.proofs.lemmas.List.{length-set, length-replicate}
 use Rattle.std.proofs.lemmas.List.FromFn.{length-map-range_with_len}
 use Rattle.atomic_table.specs.Table.{opening}
 use Rattle.hcc_word.specs.Code.{code_of_empty}
-use Rattle.hcc_core.specs.declared.state.Client.{Client}
-use Rattle.hcc_core.specs.declared.state.Entry.{Entry}
-use Rattle.hcc_core.specs.declared.state.Stamp.{Stamp}
-use Rattle.hcc_core.specs.declared.state.Slot.{Slot}
+use Rattle.hcc_core.specs.declared.client.Client.{Client}
+use Rattle.hcc_core.specs.declared.slot.Entry.{Entry}
+use Rattle.hcc_core.specs.declared.slot.Stamp.{Stamp}
+use Rattle.hcc_core.specs.declared.slot.Slot.{Slot}
 use Rattle.hcc_core.specs.declared.event.Event.TheVariants as events
 use Rattle.hcc_core.specs.declared.event.Reply.TheVariants as replies
 use Rattle.hcc_core.specs.Sums.{when, total}
 use Rattle.hcc_core.specs.World.{State, taken_by_slot, charge_of, charged_to, occupied_by, standing_of, trail_of, times}
-use Rattle.hcc_core.specs.Steps.{new_client, new_slot, opening_of, CanOpen, outcome_of}
+use Rattle.hcc_core.specs.Steps.{outcome_of}
+use Rattle.hcc_core.specs.Opening.{new_client, new_slot, opening_of, CanOpen}
 use Rattle.hcc_core.specs.Lawful.{IsLawful}
 use Rattle.hcc_core.proofs.ListLemmas.{read_here, read_other, replicate_is, in_replicate, nothing_in}
 use Rattle.hcc_core.proofs.SumLemmas.{total-set, total-zero}

@@ -2,13 +2,14 @@
 use Rattle.std.proofs.Common.{◌≡◌, ℕ, true, List, [], Some, None, Ok, length, slice_get, slice_set, sym, refl, ap, ◌∙◌, arith}
 use Rattle.hcc_core.specs.declared.event.Event.{Event}
 use Rattle.hcc_core.specs.declared.event.Reply.{Reply}
-use Rattle.hcc_core.specs.declared.state.Client.{Client}
-use Rattle.hcc_core.specs.declared.state.Reference.{Reference}
-use Rattle.hcc_core.specs.declared.state.Slot.{Slot}
-use Rattle.hcc_core.specs.declared.state.Slot.TheVariants as slots
+use Rattle.hcc_core.specs.declared.client.Client.{Client}
+use Rattle.hcc_core.specs.declared.slot.Reference.{Reference}
+use Rattle.hcc_core.specs.declared.slot.Slot.{Slot}
+use Rattle.hcc_core.specs.declared.slot.Slot.TheVariants as slots
 use Rattle.hcc_core.specs.Sums.{total}
 use Rattle.hcc_core.specs.World.{references_of, taken_by_slot, charge_of, trail_of, charged_to, occupied_by, standing_of, times}
-use Rattle.hcc_core.specs.Steps.{with_both, outcome_of}
+use Rattle.hcc_core.specs.Outcomes.{with_both}
+use Rattle.hcc_core.specs.Steps.{outcome_of}
 use Rattle.hcc_rule.specs.declared.key.Key.{Key}
 use Rattle.hcc_rule.specs.declared.rule.Plan.{Plan}
 use Rattle.hcc_rule.specs.declared.view.Record.{Record}

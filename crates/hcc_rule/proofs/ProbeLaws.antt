@@ -8,7 +8,8 @@ use Rattle.std.proofs.lemmas.Bool.{cases_eq, cases_lt, eq-eqb, eqb-true}
 use Rattle.std.proofs.lemmas.List.FromFn.{length-map-range_with_len, map-range_with_len_more}
 use Rattle.hcc_core.specs.Sums.{when}
 use Rattle.hcc_core.specs.World.{times}
-use Rattle.hcc_core.specs.Steps.{dropped, is_slot}
+use Rattle.hcc_core.specs.Outcomes.{dropped}
+use Rattle.hcc_core.specs.Trails.{is_slot}
 use Rattle.hcc_core.specs.declared.limits.TheConstants.{MOST_SLOTS}
 use Rattle.hcc_rule.specs.declared.key.Key.{Key}
 use Rattle.hcc_rule.specs.Probes.{probe_slot, before, trail_to}

@@ -3,9 +3,9 @@
 use Rattle.std.proofs.Common.{◌≡◌, ◌≢◌, ℕ, ◌+◌, ◌≤◌, ◌==◌, ◌++◌, Bool, true, false, cond, not, eq-eqb, ne_eqb, List, [], ◌∷◌, Option, Some, None, length, sym, refl, ap, ◌∙◌, arith}
 use Rattle.std.specs.List.{find}
 use Rattle.std.proofs.lemmas.Bool.{eqb-true}
-use Rattle.hcc_core.specs.declared.state.Client.{Client}
+use Rattle.hcc_core.specs.declared.client.Client.{Client}
 use Rattle.hcc_core.specs.Sums.{when, total}
-use Rattle.hcc_core.specs.Steps.{dropped}
+use Rattle.hcc_core.specs.Outcomes.{dropped}
 use Rattle.hcc_core.proofs.SumLemmas.{sum_at, total-append}
 use Rattle.hcc_core.proofs.DroppedLemmas.{dropped-total, dropped-le}
 use Rattle.hcc_rule.specs.declared.view.Record.{Record}

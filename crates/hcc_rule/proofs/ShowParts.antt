@@ -7,15 +7,18 @@ use Rattle.hcc_word.specs.Code.{code_of_shareable}
 use Rattle.hcc_core.specs.declared.limits.TheConstants.{STAMPS_PER_CLIENT, MOST_COUNTDOWN}
 use Rattle.hcc_core.specs.declared.event.Event.TheVariants as events
 use Rattle.hcc_core.specs.declared.event.Reply.TheVariants as replies
-use Rattle.hcc_core.specs.declared.state.Client.{Client}
-use Rattle.hcc_core.specs.declared.state.Entry.{Entry}
-use Rattle.hcc_core.specs.declared.state.Owned.TheVariants as owned
-use Rattle.hcc_core.specs.declared.state.Place.TheVariants as places
-use Rattle.hcc_core.specs.declared.state.Reference.{Reference}
-use Rattle.hcc_core.specs.declared.state.Slot.TheVariants as slots
+use Rattle.hcc_core.specs.declared.client.Client.{Client}
+use Rattle.hcc_core.specs.declared.slot.Entry.{Entry}
+use Rattle.hcc_core.specs.declared.client.Owned.TheVariants as owned
+use Rattle.hcc_core.specs.declared.client.Place.TheVariants as places
+use Rattle.hcc_core.specs.declared.slot.Reference.{Reference}
+use Rattle.hcc_core.specs.declared.slot.Slot.TheVariants as slots
 use Rattle.hcc_core.specs.Sums.{when, total}
 use Rattle.hcc_core.specs.World.{State, weight}
-use Rattle.hcc_core.specs.Steps.{with_both, outcome_of, resident_new, client_shown, first_references, first_uses, may_show, is_fresh, built_by, name_fits, fits as in_bits}
+use Rattle.hcc_core.specs.Outcomes.{with_both}
+use Rattle.hcc_core.specs.Entries.{resident_new, client_shown, first_references, first_uses}
+use Rattle.hcc_core.specs.Entries.{may_show, is_fresh, built_by}
+use Rattle.hcc_core.specs.Steps.{outcome_of, name_fits, fits as in_bits}
 use Rattle.hcc_core.specs.Lawful.{Lawful}
 use Rattle.hcc_core.proofs.StepLemmas.{show_gives}
 use Rattle.hcc_rule.specs.declared.view.Made.{Made}

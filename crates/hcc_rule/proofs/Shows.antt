@@ -7,12 +7,12 @@ use Rattle.atomic_table.specs.Table.{step, Allows}
 use Rattle.hcc_word.specs.Code.{code_of_shareable}
 use Rattle.hcc_core.specs.declared.event.Event.TheVariants as events
 use Rattle.hcc_core.specs.declared.event.Reply.TheVariants as replies
-use Rattle.hcc_core.specs.declared.state.Entry.{Entry}
-use Rattle.hcc_core.specs.declared.state.Slot.{Slot}
-use Rattle.hcc_core.specs.declared.state.Slot.TheVariants as slots
+use Rattle.hcc_core.specs.declared.slot.Entry.{Entry}
+use Rattle.hcc_core.specs.declared.slot.Slot.{Slot}
+use Rattle.hcc_core.specs.declared.slot.Slot.TheVariants as slots
 use Rattle.hcc_core.specs.Sums.{when, total}
 use Rattle.hcc_core.specs.World.{is_placed}
-use Rattle.hcc_core.specs.Steps.{resident_new, is_fresh}
+use Rattle.hcc_core.specs.Entries.{resident_new, is_fresh}
 use Rattle.hcc_core.specs.Lawful.{owner_of, owned_slot}
 use Rattle.hcc_core.proofs.ListLemmas.{read_here}
 use Rattle.hcc_core.proofs.SumLemmas.{total-append, length-push}

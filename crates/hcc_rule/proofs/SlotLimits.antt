@@ -2,9 +2,9 @@
 use Rattle.std.proofs.Common.{◌≡◌, ℕ, ◌+◌, ◌<◌, Bool, true, false, List, Some, slice_get, slice_index, sym, refl, ap, ◌∙◌, arith}
 use Rattle.hcc_word.specs.Word.{is_shareable, refs_of}
 use Rattle.hcc_word.proofs.CodeLaws.{refs_of-shareable}
-use Rattle.hcc_core.specs.declared.state.Reference.{Reference}
-use Rattle.hcc_core.specs.declared.state.Slot.{Slot}
-use Rattle.hcc_core.specs.declared.state.Slot.TheVariants as slots
+use Rattle.hcc_core.specs.declared.slot.Reference.{Reference}
+use Rattle.hcc_core.specs.declared.slot.Slot.{Slot}
+use Rattle.hcc_core.specs.declared.slot.Slot.TheVariants as slots
 use Rattle.hcc_core.specs.Sums.{total}
 use Rattle.hcc_core.proofs.Opening.{is_lawful}
 use Rattle.hcc_rule.specs.declared.key.Key.{Key}

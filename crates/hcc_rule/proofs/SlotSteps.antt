@@ -4,14 +4,15 @@ use mathlib.Core.Option as maybe
 use Rattle.atomic_table.specs.Table as table
 use Rattle.hcc_core.specs.declared.event.Event.{Event}
 use Rattle.hcc_core.specs.declared.event.Reply.{Reply}
-use Rattle.hcc_core.specs.declared.state.Client.{Client}
-use Rattle.hcc_core.specs.declared.state.Entry.{Entry}
-use Rattle.hcc_core.specs.declared.state.Reference.{Reference}
-use Rattle.hcc_core.specs.declared.state.Slot.{Slot}
-use Rattle.hcc_core.specs.declared.state.Stamp.{Stamp}
+use Rattle.hcc_core.specs.declared.client.Client.{Client}
+use Rattle.hcc_core.specs.declared.slot.Entry.{Entry}
+use Rattle.hcc_core.specs.declared.slot.Reference.{Reference}
+use Rattle.hcc_core.specs.declared.slot.Slot.{Slot}
+use Rattle.hcc_core.specs.declared.slot.Stamp.{Stamp}
 use Rattle.hcc_core.specs.Sums.{total}
 use Rattle.hcc_core.specs.World.{references_of, taken_by_slot, charge_of, charged_to, occupied_by, standing_of, trail_of, times}
-use Rattle.hcc_core.specs.Steps.{with_both, outcome_of}
+use Rattle.hcc_core.specs.Outcomes.{with_both}
+use Rattle.hcc_core.specs.Steps.{outcome_of}
 use Rattle.hcc_core.proofs.Keeps.{follows_lawful}
 use Rattle.hcc_core.proofs.Opening.{is_lawful}
 use Rattle.hcc_rule.specs.declared.key.Key.{Key}

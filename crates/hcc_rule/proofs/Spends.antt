@@ -8,14 +8,16 @@ use Rattle.hcc_word.proofs.StepLaws.{add_releases-shareable}
 use Rattle.hcc_core.specs.declared.event.Event.{Event}
 use Rattle.hcc_core.specs.declared.event.Event.TheVariants as events
 use Rattle.hcc_core.specs.declared.event.Reply.{Reply}
-use Rattle.hcc_core.specs.declared.state.Client.{Client}
-use Rattle.hcc_core.specs.declared.state.Reference.{Reference}
-use Rattle.hcc_core.specs.declared.state.Resident.{Resident}
-use Rattle.hcc_core.specs.declared.state.Slot.{Slot}
-use Rattle.hcc_core.specs.declared.state.Slot.TheVariants as slots
+use Rattle.hcc_core.specs.declared.client.Client.{Client}
+use Rattle.hcc_core.specs.declared.slot.Reference.{Reference}
+use Rattle.hcc_core.specs.declared.slot.Resident.{Resident}
+use Rattle.hcc_core.specs.declared.slot.Slot.{Slot}
+use Rattle.hcc_core.specs.declared.slot.Slot.TheVariants as slots
 use Rattle.hcc_core.specs.Sums.{when}
 use Rattle.hcc_core.specs.World.{State, weight, references_of, is_named, slot_holding}
-use Rattle.hcc_core.specs.Steps.{with_both, dropped, counting_in, slot_used, left_on, client_noticed, outcome_of}
+use Rattle.hcc_core.specs.Outcomes.{with_both, dropped}
+use Rattle.hcc_core.specs.References.{counting_in, slot_used, left_on, client_noticed}
+use Rattle.hcc_core.specs.Steps.{outcome_of}
 use Rattle.hcc_core.specs.Lawful.{Lawful}
 use Rattle.hcc_core.proofs.DroppedLemmas.{dropped-total}
 use Rattle.hcc_core.proofs.Opening.{is_lawful}

@@ -6,10 +6,11 @@ use Rattle.std.proofs.lemmas.List.{length-set}
 use Rattle.atomic_table.specs.Table as table
 use Rattle.hcc_core.specs.declared.event.Event.TheVariants as events
 use Rattle.hcc_core.specs.declared.event.Reply.TheVariants as replies
-use Rattle.hcc_core.specs.declared.state.Client.{Client}
+use Rattle.hcc_core.specs.declared.client.Client.{Client}
 use Rattle.hcc_core.specs.Sums.{when, total}
 use Rattle.hcc_core.specs.World.{State, charged_to, occupied_by, standing_of, times}
-use Rattle.hcc_core.specs.Steps.{with_client, outcome_of}
+use Rattle.hcc_core.specs.Outcomes.{with_client}
+use Rattle.hcc_core.specs.Steps.{outcome_of}
 use Rattle.hcc_core.proofs.ListLemmas.{read_here, read_other}
 use Rattle.hcc_core.proofs.SumLemmas.{total-set, total-append, total-member}
 use Rattle.hcc_core.proofs.Keeps.{follows_lawful}

@@ -5,11 +5,12 @@ use mathlib.Core.Option.{none}
 use Rattle.atomic_table.specs.Table.{step, Allows}
 use Rattle.hcc_core.specs.declared.event.Event.TheVariants as events
 use Rattle.hcc_core.specs.declared.event.Reply.TheVariants as replies
-use Rattle.hcc_core.specs.declared.state.Place.TheVariants as places
-use Rattle.hcc_core.specs.declared.state.Client.{Client}
-use Rattle.hcc_core.specs.declared.state.Standalone.{Standalone}
+use Rattle.hcc_core.specs.declared.client.Place.TheVariants as places
+use Rattle.hcc_core.specs.declared.client.Client.{Client}
+use Rattle.hcc_core.specs.declared.client.Standalone.{Standalone}
 use Rattle.hcc_core.specs.World.{State, charged_to, occupied_by, standing_of, standing_in, usage_of}
-use Rattle.hcc_core.specs.Steps.{is_standing, dropped}
+use Rattle.hcc_core.specs.Outcomes.{dropped}
+use Rattle.hcc_core.specs.Ledgers.{is_standing}
 use Rattle.hcc_core.proofs.SumLemmas.{total-member, total-append, total-le, length-push}
 use Rattle.hcc_core.proofs.DroppedLemmas.{dropped-total, dropped-length}
 use Rattle.hcc_rule.specs.declared.key.Key.{Key}
@@ -20,7 +21,7 @@ use Rattle.hcc_rule.specs.Told.{Held}
 use Rattle.hcc_rule.specs.ToldLedgers.{standings, stands, falls}
 use Rattle.hcc_rule.specs.Views.{is_seated}
 use Rattle.hcc_rule.specs.Words.{ledger_at}
-use Rattle.hcc_core.specs.declared.state.Setup.{Setup}
+use Rattle.hcc_core.specs.declared.setup.Setup.{Setup}
 use Rattle.hcc_rule.proofs.Alone.{standing_alone}
 use Rattle.hcc_rule.proofs.Limits.{standing_beside, standing_used}
 use Rattle.hcc_rule.specs.Rule.{IsModest, Holds, setup_of}

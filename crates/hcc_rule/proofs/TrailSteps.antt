@@ -6,13 +6,14 @@ use mathlib.Core.Option.{none}
 use Rattle.atomic_table.specs.Table.{step, Allows}
 use Rattle.hcc_core.specs.declared.event.Event.TheVariants as events
 use Rattle.hcc_core.specs.declared.event.Reply.TheVariants as replies
-use Rattle.hcc_core.specs.declared.state.Client.{Client}
+use Rattle.hcc_core.specs.declared.client.Client.{Client}
 use Rattle.hcc_core.specs.declared.limits.TheConstants.{MOST_SLOTS}
-use Rattle.hcc_core.specs.declared.state.Setup.{Setup}
-use Rattle.hcc_core.specs.declared.state.Slot.{Slot}
+use Rattle.hcc_core.specs.declared.setup.Setup.{Setup}
+use Rattle.hcc_core.specs.declared.slot.Slot.{Slot}
 use Rattle.hcc_core.specs.Sums.{when}
 use Rattle.hcc_core.specs.World.{times, passed_by, passed_at}
-use Rattle.hcc_core.specs.Steps.{dropped, is_slot}
+use Rattle.hcc_core.specs.Outcomes.{dropped}
+use Rattle.hcc_core.specs.Trails.{is_slot}
 use Rattle.hcc_core.proofs.SumLemmas.{total-append}
 use Rattle.hcc_rule.specs.declared.key.Key.{Key}
 use Rattle.hcc_rule.specs.declared.layout.TheConstants.{DISPLACEMENT}

@@ -5,13 +5,14 @@ use mathlib.Core.Option.{none}
 use Rattle.atomic_table.specs.Table.{step, Allows, keeps}
 use Rattle.hcc_core.specs.declared.event.Event.TheVariants as events
 use Rattle.hcc_core.specs.declared.event.Reply.TheVariants as replies
-use Rattle.hcc_core.specs.declared.state.Client.{Client}
-use Rattle.hcc_core.specs.declared.state.Entry.{Entry}
-use Rattle.hcc_core.specs.declared.state.Owned.TheVariants as owned
-use Rattle.hcc_core.specs.declared.state.Slot.{Slot}
-use Rattle.hcc_core.specs.declared.state.Slot.TheVariants as slots
+use Rattle.hcc_core.specs.declared.client.Client.{Client}
+use Rattle.hcc_core.specs.declared.slot.Entry.{Entry}
+use Rattle.hcc_core.specs.declared.client.Owned.TheVariants as owned
+use Rattle.hcc_core.specs.declared.slot.Slot.{Slot}
+use Rattle.hcc_core.specs.declared.slot.Slot.TheVariants as slots
 use Rattle.hcc_core.specs.World.{State}
-use Rattle.hcc_core.specs.Steps.{outcome_of, is_building}
+use Rattle.hcc_core.specs.Entries.{is_building}
+use Rattle.hcc_core.specs.Steps.{outcome_of}
 use Rattle.hcc_core.specs.Lawful.{Lawful, owner_of, owned_slot}
 use Rattle.hcc_core.proofs.SumLemmas.{length-push}
 use Rattle.hcc_core.proofs.Keeps.{follows_lawful}

@@ -1,7 +1,8 @@
 -- What callers say of a table, by its public value alone, and of the view of a seat at it.
 use Rattle.std.specs.Prelude.{◌≡◌, ℕ, ◌+◌, ◌^◌, ◌<◌, ◌≤◌, true, Bool, List, [], IsSomeAnd}
-use Rattle.hcc_core.specs.declared.state.Client.{Client}
-use Rattle.hcc_core.specs.Steps.{new_client, owns_nothing}
+use Rattle.hcc_core.specs.declared.client.Client.{Client}
+use Rattle.hcc_core.specs.World.{owns_nothing}
+use Rattle.hcc_core.specs.Opening.{new_client}
 use Rattle.hcc_rule.specs.declared.geometry.Geometry.{Geometry}
 use Rattle.hcc_rule.specs.declared.rule.Plan.{Plan}
 use Rattle.hcc_rule.specs.declared.table.RuleTable.{RuleTable}

@@ -5,7 +5,7 @@ use Rattle.std.specs.Slots.{slots_items}
 use Rattle.atomic_table.specs.Table as table
 use Rattle.hcc_word.specs.Word.{is_empty, is_shareable, refs_of}
 use Rattle.hcc_core.specs.declared.limits.TheConstants.{MOST_WEIGHT}
-use Rattle.hcc_core.specs.declared.state.Stamp.{Stamp}
+use Rattle.hcc_core.specs.declared.slot.Stamp.{Stamp}
 use Rattle.hcc_core.specs.Sums.{when, total}
 use Rattle.hcc_core.specs.World.{times}
 use Rattle.hcc_rule.specs.declared.closed.ClosedTable.{ClosedTable}

@@ -2,7 +2,7 @@
 use Rattle.std.specs.Prelude.{◌≡◌, ◌≢◌, ℕ, ◌+◌, ◌<◌, Bool, slice_index, length}
 use Rattle.atomic_table.specs.Table as table
 use Rattle.hcc_word.specs.Word.{is_shareable, refs_of}
-use Rattle.hcc_core.specs.declared.state.Entry.{Entry}
+use Rattle.hcc_core.specs.declared.slot.Entry.{Entry}
 use Rattle.hcc_core.specs.Sums.{total}
 use Rattle.hcc_rule.specs.declared.layout.TheConstants.{META, DISPLACEMENT, DATA}
 use Rattle.hcc_rule.specs.declared.rule.Plan.{Plan}

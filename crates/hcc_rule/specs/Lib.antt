@@ -13,3 +13,4 @@ pub mod Closing
 pub mod Laws
 pub mod Hands
 pub mod Callers
+pub mod Logs

@@ -1,9 +1,9 @@
 -- The views of new seats.
 use Rattle.std.specs.Prelude.{◌≡◌, ℕ, ◌+◌, ◌-◌, true, Option, Some, None, List, [], ◌∷◌, ◌++◌, map}
 use Rattle.std.specs.List.{range_with_len}
-use Rattle.hcc_core.specs.declared.state.Client.{Client}
-use Rattle.hcc_core.specs.declared.state.Stamp.{Stamp}
-use Rattle.hcc_core.specs.Steps.{new_client}
+use Rattle.hcc_core.specs.declared.client.Client.{Client}
+use Rattle.hcc_core.specs.declared.slot.Stamp.{Stamp}
+use Rattle.hcc_core.specs.Opening.{new_client}
 use Rattle.hcc_rule.specs.declared.rule.Plan.{Plan}
 use Rattle.hcc_rule.specs.declared.view.Other.{Other}
 use Rattle.hcc_rule.specs.declared.view.Made.{Made}

@@ -1,14 +1,18 @@
 -- What the steps of owners tell their seat: those that take a slot, write it, show it, free it and
 -- empty it.
-use Rattle.std.specs.Prelude.{◌≡◌, ◌≢◌, ℕ, true, false, ◌+◌, ◌^◌, ◌<◌, ◌≤◌, ◌==◌, List, [], ◌∷◌, ◌++◌, Option, Some, None, IfSome, IsSomeAnd, Bool, ◌&&◌, nat_lt, length, slice_index, if◌then◌else◌}
+use Rattle.std.specs.Prelude.{◌≡◌, ◌≢◌, ℕ, true, false, ◌+◌, ◌-◌, ◌^◌, ◌<◌, ◌≤◌, ◌==◌, List, [], ◌∷◌, ◌++◌, Option, Some, None, is_some, IfSome, IsSomeAnd, Bool, ◌&&◌, nat_lt, length, slice_index, if◌then◌else◌}
+use Rattle.std.specs.Int.{from_bool}
 use Rattle.atomic_table.specs.Table.{Step}
-use Rattle.hcc_word.specs.Word.{is_empty, is_visible, refs_of, releases_of}
+use Rattle.hcc_word.specs.declared.layout.TheConstants.{VISIBLE}
+use Rattle.hcc_word.specs.Word.{is_empty, is_visible, refs_of, releases_of, word_of}
 use Rattle.hcc_core.specs.declared.limits.TheConstants.{REFERENCES_PER_CLIENT, STAMPS_PER_CLIENT, MOST_COUNTDOWN}
-use Rattle.hcc_core.specs.declared.state.Place.TheVariants as places
-use Rattle.hcc_core.specs.Steps.{client_shown, dropped, joined}
-use Rattle.hcc_core.specs.declared.state.Owned.TheVariants as owned
-use Rattle.hcc_core.specs.declared.state.Entry.{Entry}
-use Rattle.hcc_core.specs.declared.state.Stamp.{Stamp}
+use Rattle.hcc_core.specs.declared.client.Place.TheVariants as places
+use Rattle.hcc_core.specs.Outcomes.{dropped}
+use Rattle.hcc_core.specs.References.{joined}
+use Rattle.hcc_core.specs.Entries.{client_shown}
+use Rattle.hcc_core.specs.declared.client.Owned.TheVariants as owned
+use Rattle.hcc_core.specs.declared.slot.Entry.{Entry}
+use Rattle.hcc_core.specs.declared.slot.Stamp.{Stamp}
 use Rattle.hcc_core.specs.Sums.{when}
 use Rattle.hcc_rule.specs.declared.key.Key.{Key}
 use Rattle.hcc_rule.specs.declared.layout.TheConstants.{KEY1, STAMP}
@@ -22,6 +26,12 @@ use Rattle.hcc_rule.specs.Probes.{trail_to}
 use Rattle.hcc_rule.specs.Rule.{IsRight}
 use Rattle.hcc_rule.specs.Words.{key_of, entry_of, made_words}
 use Rattle.hcc_rule.specs.Told.{Held, Backs, after_look, found_dead}
+
+-- the word that an entry is shown with: its countdown in both counters, but one release less where
+-- its maker keeps a reference
+abbrev pub first_word : Draft → ℕ
+first_word draft =
+    word_of draft.countdown (draft.countdown - from_bool (is_some draft.name)) false VISIBLE
 
 -- the data words of an entry, but for the serial in its stamp word
 abbrev pub entry_words : Entry → List ℕ

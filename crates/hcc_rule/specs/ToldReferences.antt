@@ -5,8 +5,9 @@ use Rattle.std.specs.List.{list_any}
 use Rattle.atomic_table.specs.Table.{Step}
 use Rattle.hcc_word.specs.declared.layout.TheConstants.{ONE_RELEASE}
 use Rattle.hcc_word.specs.Word.{refs_of, is_counting, is_shareable, is_visible}
-use Rattle.hcc_core.specs.declared.state.Entry.{Entry}
-use Rattle.hcc_core.specs.Steps.{dropped, joined, looks_at}
+use Rattle.hcc_core.specs.declared.slot.Entry.{Entry}
+use Rattle.hcc_core.specs.Outcomes.{dropped}
+use Rattle.hcc_core.specs.References.{joined, looks_at}
 use Rattle.hcc_core.specs.Lawful.{is_in}
 use Rattle.hcc_rule.specs.declared.key.Key.{Key}
 use Rattle.hcc_rule.specs.declared.view.Record.{Record}

@@ -1,10 +1,11 @@
 -- What each step on a displacement word tells its seat, by the word that it found.
 use Rattle.std.specs.Prelude.{◌≡◌, ℕ, ◌+◌, ◌-◌, ◌*◌, ◌≤◌, List, [], ◌∷◌, ◌++◌, ◌<◌, length}
 use Rattle.atomic_table.specs.Table.{Step}
-use Rattle.hcc_core.specs.declared.state.Setup.{Setup}
+use Rattle.hcc_core.specs.declared.setup.Setup.{Setup}
 use Rattle.hcc_core.specs.Sums.{total}
 use Rattle.hcc_core.specs.World.{times, limit_of}
-use Rattle.hcc_core.specs.Steps.{dropped, is_slot}
+use Rattle.hcc_core.specs.Outcomes.{dropped}
+use Rattle.hcc_core.specs.Trails.{is_slot}
 use Rattle.hcc_rule.specs.declared.view.Record.{Record}
 use Rattle.hcc_rule.specs.declared.view.View.{View}
 use Rattle.hcc_rule.specs.Probes.{trail_to}

@@ -1,7 +1,7 @@
 -- What is read of the views of seats.
 use Rattle.std.specs.Prelude.{ℕ, ◌+◌, Bool, not, ◌&&◌, ◌==◌, List, [], ◌∷◌, Option, is_some, filter, find, option_map, length}
-use Rattle.hcc_core.specs.declared.state.Reference.{Reference}
-use Rattle.hcc_core.specs.declared.state.Stamp.{Stamp}
+use Rattle.hcc_core.specs.declared.slot.Reference.{Reference}
+use Rattle.hcc_core.specs.declared.slot.Stamp.{Stamp}
 use Rattle.hcc_core.specs.Sums.{when, total}
 use Rattle.hcc_rule.specs.declared.view.Record.{Record}
 use Rattle.hcc_rule.specs.declared.view.Other.{Other}

@@ -5,10 +5,10 @@ use mir.Syntax.{w64}
 use Rattle.std.specs.List.{range_with_len}
 use Rattle.hcc_word.specs.Code.{code_of_empty, code_of_building, code_of_shareable}
 use Rattle.hcc_core.specs.declared.limits.TheConstants.{STAMPS_PER_CLIENT}
-use Rattle.hcc_core.specs.declared.state.Entry.{Entry}
-use Rattle.hcc_core.specs.declared.state.Stamp.{Stamp}
-use Rattle.hcc_core.specs.declared.state.Slot.{Slot}
-use Rattle.hcc_core.specs.declared.state.Slot.TheVariants as slots
+use Rattle.hcc_core.specs.declared.slot.Entry.{Entry}
+use Rattle.hcc_core.specs.declared.slot.Stamp.{Stamp}
+use Rattle.hcc_core.specs.declared.slot.Slot.{Slot}
+use Rattle.hcc_core.specs.declared.slot.Slot.TheVariants as slots
 use Rattle.hcc_core.specs.World.{weight}
 use Rattle.hcc_rule.specs.declared.layout.TheConstants.{SLOT_HEAD, LEDGER_WORDS}
 use Rattle.hcc_rule.specs.declared.key.Key.{Key}

@@ -3,7 +3,7 @@
 //! No function here does anything when it runs: its contract is the law. `h.world` is the lawful
 //! world that the words and the views of a state show.
 ghost use Rattle.std.specs.Prelude.{◌≡◌, ℕ, ◌+◌, ◌^◌, ◌<◌, ◌≤◌, true, Some, slice_get};
-ghost use Rattle.hcc_core.specs.declared.state.Client.{Client};
+ghost use Rattle.hcc_core.specs.declared.client.Client.{Client};
 ghost use Rattle.hcc_core.specs.Lawful.{real_in, taken_in};
 ghost use Rattle.hcc_core.specs.Sums.{total};
 ghost use Rattle.hcc_core.specs.World.{limit_of, occupancy_of, passed_by, standing_in};

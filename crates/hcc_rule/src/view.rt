@@ -1,6 +1,7 @@
 //! What contracts see of a seat. No value of these types is ever made.
 use crate::key::Key;
-use hcc_core::state::{Client, Entry, Stamp};
+use hcc_core::client::Client;
+use hcc_core::slot::{Entry, Stamp};
 use std::collections::LinkedList;
 
 /// A reference that a client holds on a slot, under a name of its own, on this entry.
@@ -67,4 +68,20 @@ pub struct View<T> {
     pub seen: LinkedList<u64>,
     /// The charges of which not all was granted at once.
     pub tight: LinkedList<u64>,
+}
+
+/// An atomic step that a seat made: the address of its word, its operands (0 where it has fewer), and
+/// the word that it found, or stored. A load has none, a store, an add, a take, an and or an or has
+/// one, and an exchange has the word that it asks for and the one that it would leave.
+pub struct Atomic {
+    pub address: u64,
+    pub first: u64,
+    pub second: u64,
+    pub found: u64,
+}
+
+/// What a seat knows, and each atomic step that it made, in order.
+pub struct Logged<T> {
+    pub known: View<T>,
+    pub steps: LinkedList<Atomic>,
 }

@@ -2,16 +2,16 @@
 use Rattle.std.proofs.Common.{◌≡◌, ℕ, ◌+◌, ◌<◌, ◌^◌, ◌++◌, cond, Bool, true, false, List, [], Option, Some, None, IfSome, IsSomeAnd, option_map, replicate, sym, subst, refl, ap, ◌∙◌, arith, append_assoc, ◌≤◌}
 use Rattle.std.specs.Int.{from_bool}
 use Rattle.hcc_word.specs.Word.{is_visible}
-use Rattle.hcc_core.specs.declared.state.Owned.TheVariants as owned
+use Rattle.hcc_core.specs.declared.client.Owned.TheVariants as owned
 use Rattle.hcc_core.specs.Lawful.{is_in}
-use Rattle.hcc_core.specs.Steps.{dropped}
+use Rattle.hcc_core.specs.Outcomes.{dropped}
 use Rattle.hcc_core.specs.Sums.{when}
 use Rattle.hcc_rule.specs.declared.key.Key.{Key}
 use Rattle.hcc_rule.specs.declared.view.Record.{Record}
 use Rattle.hcc_rule.specs.declared.view.View.{View}
 use Rattle.hcc_rule.specs.ToldOwners.{is_warm}
 use Rattle.hcc_rule.specs.ToldReferences.{after_hide, entry_called, with_key}
-use Rattle.hcc_core.specs.declared.state.Entry.{Entry}
+use Rattle.hcc_core.specs.declared.slot.Entry.{Entry}
 use Rattle.hcc_rule.specs.Views.{record_in, is_called}
 use Rattle.hcc_rule.specs.Words.{key_of}
 use Rattle.hcc_rule.specs.Rule.{IsRight}

@@ -5,7 +5,7 @@ use Rattle.std.specs.List.{range_with_len}
 use Rattle.std.proofs.lemmas.List.{drop-replicate, length-append, length-drop, take_all, append_assoc}
 use Rattle.std.proofs.lemmas.List.FromFn.{length-map-range_with_len, map-range_with_len_more}
 use mir.Syntax.{w64}
-use Rattle.hcc_core.specs.declared.state.Owned.TheVariants as owned
+use Rattle.hcc_core.specs.declared.client.Owned.TheVariants as owned
 use Rattle.hcc_rule.specs.declared.layout.TheConstants.{PAYLOAD}
 use Rattle.hcc_rule.specs.declared.view.View.{View}
 use Rattle.hcc_rule.specs.Seats.{SeatOf, IsSeatOf, IsSameSeat, view}

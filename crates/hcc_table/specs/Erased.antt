@@ -1,6 +1,6 @@
 -- What hiding the entries of a key tells.
 use Rattle.std.specs.Prelude.{◌≡◌, ℕ, ◌+◌, ◌≤◌, ◌++◌, List, [], replicate}
-use Rattle.hcc_core.specs.declared.state.Owned.TheVariants as owned
+use Rattle.hcc_core.specs.declared.client.Owned.TheVariants as owned
 use Rattle.hcc_rule.specs.declared.key.Key.{Key}
 use Rattle.hcc_rule.specs.declared.view.View.{View}
 use Rattle.hcc_table.specs.Searched.{Grows, times_met}

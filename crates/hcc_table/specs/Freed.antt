@@ -1,9 +1,9 @@
 -- What a client has once it freed an entry.
 use Rattle.std.specs.Prelude.{◌≡◌, ℕ, ◌+◌, ◌≤◌, List, [], Option, length, slice_index}
-use Rattle.hcc_core.specs.declared.state.Owned.TheVariants as owned
-use Rattle.hcc_core.specs.declared.state.Stamp.{Stamp}
+use Rattle.hcc_core.specs.declared.client.Owned.TheVariants as owned
+use Rattle.hcc_core.specs.declared.slot.Stamp.{Stamp}
 use Rattle.hcc_core.specs.Sums.{when}
-use Rattle.hcc_core.specs.Steps.{dropped}
+use Rattle.hcc_core.specs.Outcomes.{dropped}
 use Rattle.hcc_rule.specs.Views.{is_called}
 use Rattle.hcc_rule.specs.declared.key.Key.{Key}
 use Rattle.hcc_rule.specs.declared.layout.TheConstants.{KEY0, KEY1, PAYLOAD}

@@ -1,6 +1,6 @@
 -- What the clients of tests have between calls, in shards of 2 payload words for each slot.
 use Rattle.std.specs.Prelude.{◌≡◌, ℕ, Bool, [], ◌∷◌}
-use Rattle.hcc_core.specs.Steps.{new_client}
+use Rattle.hcc_core.specs.Opening.{new_client}
 use Rattle.hcc_rule.specs.declared.view.Record.{Record}
 use Rattle.hcc_rule.specs.declared.view.View.{View}
 use Rattle.hcc_rule.specs.Hands.{Carries}

@@ -1,8 +1,8 @@
 -- What a client needs to place an entry, and what that leaves of its view.
 use Rattle.std.specs.Prelude.{◌≡◌, ℕ, ◌+◌, ◌<◌, ◌≤◌, List, [], ◌∷◌, ◌++◌, None, IfSome, length}
 use Rattle.hcc_core.specs.declared.limits.TheConstants.{MOST_CLIENTS, MOST_COUNTDOWN, REFERENCES_PER_CLIENT, STAMPS_PER_CLIENT}
-use Rattle.hcc_core.specs.declared.state.Owned.TheVariants as owned
-use Rattle.hcc_core.specs.declared.state.Place.TheVariants as places
+use Rattle.hcc_core.specs.declared.client.Owned.TheVariants as owned
+use Rattle.hcc_core.specs.declared.client.Place.TheVariants as places
 use Rattle.hcc_rule.specs.declared.key.Key.{Key}
 use Rattle.hcc_rule.specs.declared.rule.Plan.{Plan}
 use Rattle.hcc_rule.specs.declared.steps.shows.Draft.{Draft}

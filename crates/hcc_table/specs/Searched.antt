@@ -1,8 +1,8 @@
 -- What a search leaves of a view, and what it tells.
 use Rattle.std.specs.Prelude.{◌≡◌, ℕ, ◌*◌, ◌≤◌, ◌^◌, ◌<◌, true, false, List, [], ◌∷◌, ◌++◌, IfSome, length, ◌==◌, ◌&&◌, Bool}
 use Rattle.hcc_word.specs.Word.{is_visible, is_shareable}
-use Rattle.hcc_core.specs.declared.state.Entry.{Entry}
-use Rattle.hcc_core.specs.declared.state.Stamp.{Stamp}
+use Rattle.hcc_core.specs.declared.slot.Entry.{Entry}
+use Rattle.hcc_core.specs.declared.slot.Stamp.{Stamp}
 use Rattle.hcc_core.specs.Lawful.{is_in}
 use Rattle.hcc_rule.specs.declared.key.Key.{Key}
 use Rattle.hcc_rule.specs.declared.view.Record.{Record}

@@ -1,7 +1,7 @@
 //! Taking an entry to free it.
 ghost use Rattle.std.specs.Prelude.{◌≡◌, ◌+◌, ◌^◌, ◌<◌, ◌≤◌, [], true, IfSome, IfNone, slice_index};
 ghost use Rattle.hcc_word.specs.Word.{is_shareable};
-ghost use Rattle.hcc_core.specs.Steps.{owns_nothing};
+ghost use Rattle.hcc_core.specs.World.{owns_nothing};
 ghost use Rattle.hcc_rule.specs.declared.layout.TheConstants.{CHARGE};
 ghost use Rattle.hcc_rule.specs.Callers.{slots_of, room_of, IsSeatAt, IsSlotOf};
 ghost use Rattle.hcc_rule.specs.Probes.{trail_to};

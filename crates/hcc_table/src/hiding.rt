@@ -1,9 +1,9 @@
 //! Hiding the entries of a key.
 ghost use Rattle.std.specs.Prelude.{◌≡◌, ◌+◌, ◌*◌, ◌^◌, ◌<◌, ◌≤◌, [], true, None, IfSome, IfNone, IsSomeAnd, replicate};
 ghost use Rattle.hcc_core.specs.declared.limits.TheConstants.{REFERENCES_PER_CLIENT};
-ghost use Rattle.hcc_core.specs.declared.state.Owned.TheVariants.{Nothing};
+ghost use Rattle.hcc_core.specs.declared.client.Owned.TheVariants.{Nothing};
 ghost use Rattle.hcc_core.specs.Lawful.{is_in};
-ghost use Rattle.hcc_core.specs.Steps.{dropped};
+ghost use Rattle.hcc_core.specs.Outcomes.{dropped};
 ghost use Rattle.hcc_rule.specs.Callers.{slots_of, IsSeatAt, IsSlotOf};
 ghost use Rattle.hcc_rule.specs.Seats.{IsSameSeat, view};
 ghost use Rattle.hcc_rule.specs.Views.{is_called, load_of, record_in};

@@ -2,7 +2,8 @@
 ghost use Rattle.std.specs.Prelude.{ℕ, ◌≡◌, ◌+◌, ◌++◌, ◌∷◌, ◌^◌, ◌<◌, ◌≤◌, [], true, false, ◌&&◌, ◌||◌, ◌==◌, not, None, IfSome, IfNone, IsSomeAnd};
 ghost use Rattle.hcc_word.specs.Word.{is_shareable, is_visible, refs_of};
 ghost use Rattle.hcc_core.specs.declared.limits.TheConstants.{REFERENCES_PER_CLIENT};
-ghost use Rattle.hcc_core.specs.Steps.{dropped, owns_nothing};
+ghost use Rattle.hcc_core.specs.World.{owns_nothing};
+ghost use Rattle.hcc_core.specs.Outcomes.{dropped};
 ghost use Rattle.hcc_rule.specs.declared.view.Record.{Record};
 ghost use Rattle.hcc_rule.specs.Callers.{room_of, IsSeatAt, IsSlotOf, HasOn};
 ghost use Rattle.hcc_rule.specs.Seats.{IsSameSeat, view};

@@ -1,15 +1,18 @@
 //! The exchange that takes an entry to free it.
 ghost use Rattle.std.specs.Prelude.{◌≡◌, ◌+◌, ◌^◌, ◌<◌, ◌≤◌, [], true};
 ghost use Rattle.hcc_word.specs.Word.{is_shareable};
-ghost use Rattle.hcc_core.specs.Steps.{owns_nothing};
+ghost use Rattle.hcc_core.specs.World.{owns_nothing};
+ghost use Rattle.hcc_word.specs.declared.layout.TheConstants.{CONSTRUCTION_WORD};
+ghost use Rattle.hcc_rule.specs.Words.{field_at};
+ghost use Rattle.hcc_rule.specs.declared.layout.TheConstants.{META};
 ghost use Rattle.hcc_rule.specs.Callers.{IsSeatAt};
-ghost use Rattle.hcc_rule.specs.Seats.{IsSameSeat, view};
+ghost use Rattle.hcc_rule.specs.Seats.{IsSameSeat, view, Makes};
 ghost use Rattle.hcc_rule.specs.ToldOwners.{IsLast, Freed};
 
 use crate::key::Tag;
 use crate::layout::META;
 use crate::table::{RuleSeat, RuleTable};
-use crate::view::View;
+use crate::view::Logged;
 use atomic_table::Play;
 use hcc_word::layout::CONSTRUCTION_WORD;
 use std::alloc::Allocator;
@@ -46,10 +49,11 @@ pub struct Free<T, J> {
     said: PhantomData<(T, J)>,
 }
 
-impl<T: Tag, J: Taking> Play<(), View<T>> for Free<T, J> {
+impl<T: Tag, J: Taking> Play<(), Logged<T>> for Free<T, J> {
+    ghost use Rattle.hcc_rule.specs.Logs.{Logs};
     ghost use Rattle.hcc_rule.specs.ToldOwners.{frees};
 
-    ghost then = { frees T.fits J.slots J.room J.slot J.name };
+    ghost then = { Logs (frees T.fits J.slots J.room J.slot J.name) };
 }
 
 impl<T: Tag, A: Allocator> RuleTable<T, A> {
@@ -69,6 +73,8 @@ impl<T: Tag, A: Allocator> RuleTable<T, A> {
         requires said { (J.slot ≡ slot) × (J.name ≡ name) × (J.slots ≡ self.now.geometry.slots) × (J.room ≡ self.now.geometry.room) }
         ensures seat { IsSameSeat seat.old seat.new }
         ensures view { Freed T.fits self.now.geometry.slots self.now.geometry.room slot old result name (view seat.old) (view seat.new) }
+        ensures step {
+            Makes (field_at self.now.geometry.room slot META) old CONSTRUCTION_WORD result seat.old seat.new }
     {
         self.table
             .shared
@@ -92,6 +98,8 @@ impl<T: Tag, A: Allocator> RuleTable<T, A> {
         requires space { (view seat.old).work.freed + 2 ^ 32 ≤ 2 ^ 49 }
         ensures seat { IsSameSeat seat.old seat.new }
         ensures view { Freed T.fits self.now.geometry.slots self.now.geometry.room slot old result name (view seat.old) (view seat.new) }
+        ensures step {
+            Makes (field_at self.now.geometry.room slot META) old CONSTRUCTION_WORD result seat.old seat.new }
     {
         self.free_as::<Brand>(seat, slot, old, name)
     }

@@ -2,11 +2,11 @@
 ghost use Rattle.std.specs.Prelude.{◌≡◌, ◌+◌, ◌-◌, ◌*◌, ◌^◌, ◌<◌, ◌≤◌, true};
 ghost use Rattle.hcc_core.specs.Lawful.{real_to};
 ghost use Rattle.hcc_core.specs.World.{charged_to};
-ghost use Rattle.hcc_rule.specs.declared.layout.TheConstants.{LEDGER_WORDS};
+ghost use Rattle.hcc_rule.specs.declared.layout.TheConstants.{LEDGER_WORDS, USAGE};
 ghost use Rattle.hcc_rule.specs.declared.view.Record.{Record};
 ghost use Rattle.hcc_rule.specs.Callers.{capacity_of, clients_of, is_strict, plan_of, IsSeatAt};
 ghost use Rattle.hcc_rule.specs.Rule.{setup_of};
-ghost use Rattle.hcc_rule.specs.Seats.{IsSameSeat, view};
+ghost use Rattle.hcc_rule.specs.Seats.{IsSameSeat, view, Makes, MakesSome};
 ghost use Rattle.hcc_rule.specs.ToldLedgers.{Charged, after_usage, after_charge, after_settle, after_waive, waived};
 ghost use Rattle.hcc_rule.specs.Views.{charge_held, Each};
 ghost use Rattle.hcc_rule.specs.Words.{ledger_at};
@@ -15,7 +15,7 @@ use super::planned::Planned;
 use crate::key::Tag;
 use crate::layout::USAGE;
 use crate::table::{RuleSeat, RuleTable};
-use crate::view::View;
+use crate::view::Logged;
 use atomic_table::Play;
 use std::alloc::Allocator;
 use std::marker::{Brand, PhantomData};
@@ -25,10 +25,11 @@ pub struct Usage<J> {
     said: PhantomData<J>,
 }
 
-impl<T: Tag, J: Planned> Play<(), View<T>> for Usage<J> {
+impl<T: Tag, J: Planned> Play<(), Logged<T>> for Usage<J> {
+    ghost use Rattle.hcc_rule.specs.Logs.{Logs};
     ghost use Rattle.hcc_rule.specs.ToldLedgers.{usages};
 
-    ghost then = { usages J.setup };
+    ghost then = { Logs (usages J.setup) };
 }
 
 /// What an add of a charge tells.
@@ -36,28 +37,31 @@ pub struct Charge<J> {
     said: PhantomData<J>,
 }
 
-impl<T: Tag, J: Planned> Play<(), View<T>> for Charge<J> {
+impl<T: Tag, J: Planned> Play<(), Logged<T>> for Charge<J> {
+    ghost use Rattle.hcc_rule.specs.Logs.{Logs};
     ghost use Rattle.hcc_rule.specs.ToldLedgers.{charges};
 
-    ghost then = { charges J.setup };
+    ghost then = { Logs (charges J.setup) };
 }
 
 /// What a take of the freed charge tells.
 pub struct Settle;
 
-impl<T: Tag> Play<(), View<T>> for Settle {
+impl<T: Tag> Play<(), Logged<T>> for Settle {
+    ghost use Rattle.hcc_rule.specs.Logs.{Logs};
     ghost use Rattle.hcc_rule.specs.ToldLedgers.{settles};
 
-    ghost then = { settles };
+    ghost then = { Logs settles };
 }
 
 /// What a take of all of a client's amounts tells.
 pub struct Waive;
 
-impl<T: Tag> Play<(), View<T>> for Waive {
+impl<T: Tag> Play<(), Logged<T>> for Waive {
+    ghost use Rattle.hcc_rule.specs.Logs.{Logs};
     ghost use Rattle.hcc_rule.specs.ToldLedgers.{waives};
 
-    ghost then = { waives };
+    ghost then = { Logs waives };
 }
 
 impl<T: Tag, A: Allocator> RuleTable<T, A> {
@@ -77,6 +81,8 @@ impl<T: Tag, A: Allocator> RuleTable<T, A> {
         ensures seat { IsSameSeat seat.old seat.new }
         ensures view { view seat.new ≡ after_usage result (view seat.old) }
         ensures found { Charged J.setup (view seat.old) result }
+        ensures step {
+            Makes (ledger_at self.now.geometry.slots self.now.geometry.room USAGE) 0 0 result seat.old seat.new }
     {
         self.table.shared.load::<Usage<J>>(seat, self.ledger(USAGE))
     }
@@ -102,6 +108,8 @@ impl<T: Tag, A: Allocator> RuleTable<T, A> {
             → real_to (view seat.old).work + charge_held (view seat.old).records ≤ capacity_of self.now }
         ensures most { is_strict self.now ≡ true
             → result ≤ capacity_of self.now + (view seat.old).work.needed + 2 ^ 32 * (clients_of self.now - 1) }
+        ensures step {
+            Makes (ledger_at self.now.geometry.slots self.now.geometry.room USAGE) 0 0 result seat.old seat.new }
     {
         self.usage_as::<Brand>(seat)
     }
@@ -113,6 +121,8 @@ impl<T: Tag, A: Allocator> RuleTable<T, A> {
         ensures seat { IsSameSeat seat.old seat.new }
         ensures view { view seat.new ≡ after_charge J.setup amount result (view seat.old) }
         ensures found { Charged J.setup (view seat.old) result }
+        ensures step {
+            Makes (ledger_at self.now.geometry.slots self.now.geometry.room USAGE) amount 0 result seat.old seat.new }
     {
         self.table
             .shared
@@ -138,6 +148,8 @@ impl<T: Tag, A: Allocator> RuleTable<T, A> {
             → real_to (view seat.old).work + charge_held (view seat.old).records ≤ capacity_of self.now }
         ensures most { is_strict self.now ≡ true
             → result ≤ capacity_of self.now + 2 ^ 32 * (clients_of self.now - 1) }
+        ensures step {
+            Makes (ledger_at self.now.geometry.slots self.now.geometry.room USAGE) amount 0 result seat.old seat.new }
     {
         self.charge_as::<Brand>(seat, amount)
     }
@@ -152,6 +164,8 @@ impl<T: Tag, A: Allocator> RuleTable<T, A> {
         requires covered { (view seat.old).work.needed ≤ amount }
         ensures seat { IsSameSeat seat.old seat.new }
         ensures view { view seat.new ≡ after_settle (view seat.old) }
+        ensures step {
+            MakesSome (ledger_at self.now.geometry.slots self.now.geometry.room USAGE) amount 0 seat.old seat.new }
     {
         self.table
             .shared
@@ -167,6 +181,8 @@ impl<T: Tag, A: Allocator> RuleTable<T, A> {
         requires amount { (waived (view seat.old).work ≡ amount) × (0 < amount) }
         ensures seat { IsSameSeat seat.old seat.new }
         ensures view { view seat.new ≡ after_waive (view seat.old) }
+        ensures step {
+            MakesSome (ledger_at self.now.geometry.slots self.now.geometry.room USAGE) amount 0 seat.old seat.new }
     {
         self.table
             .shared

@@ -1,8 +1,10 @@
 //! Loads of meta words.
 ghost use Rattle.std.specs.Prelude.{◌≡◌, ◌<◌};
+ghost use Rattle.hcc_rule.specs.Words.{field_at};
+ghost use Rattle.hcc_rule.specs.declared.layout.TheConstants.{META};
 ghost use Rattle.hcc_rule.specs.Callers.{plan_of, IsSeatAt};
 ghost use Rattle.hcc_rule.specs.Rule.{setup_of};
-ghost use Rattle.hcc_rule.specs.Seats.{IsSameSeat, view};
+ghost use Rattle.hcc_rule.specs.Seats.{IsSameSeat, view, Makes};
 ghost use Rattle.hcc_rule.specs.Told.{after_look, Alone, Backs};
 
 use super::planned::Planned;
@@ -10,7 +12,7 @@ use super::said::Said;
 use crate::key::Tag;
 use crate::layout::META;
 use crate::table::{RuleSeat, RuleTable};
-use crate::view::View;
+use crate::view::Logged;
 use atomic_table::Play;
 use std::alloc::Allocator;
 use std::marker::{Brand, PhantomData};
@@ -20,10 +22,11 @@ pub struct Look<J> {
     said: PhantomData<J>,
 }
 
-impl<T: Tag, J: Said + Planned> Play<(), View<T>> for Look<J> {
+impl<T: Tag, J: Said + Planned> Play<(), Logged<T>> for Look<J> {
+    ghost use Rattle.hcc_rule.specs.Logs.{Logs};
     ghost use Rattle.hcc_rule.specs.Told.{looks};
 
-    ghost then = { looks J.setup J.slot };
+    ghost then = { Logs (looks J.setup J.slot) };
 }
 
 impl<T: Tag, A: Allocator> RuleTable<T, A> {
@@ -35,6 +38,8 @@ impl<T: Tag, A: Allocator> RuleTable<T, A> {
         ensures view { view seat.new ≡ after_look slot result (view seat.old) }
         ensures backs { Backs slot result (view seat.old) }
         ensures alone { Alone J.setup slot result (view seat.old) }
+        ensures step {
+            Makes (field_at self.now.geometry.room slot META) 0 0 result seat.old seat.new }
     {
         self.table
             .shared
@@ -55,6 +60,8 @@ impl<T: Tag, A: Allocator> RuleTable<T, A> {
         ensures view { view seat.new ≡ after_look slot result (view seat.old) }
         ensures backs { Backs slot result (view seat.old) }
         ensures alone { Alone (setup_of (plan_of self.now)) slot result (view seat.old) }
+        ensures step {
+            Makes (field_at self.now.geometry.room slot META) 0 0 result seat.old seat.new }
     {
         self.look_as::<Brand>(seat, slot)
     }

@@ -2,8 +2,11 @@
 ghost use Rattle.std.specs.Prelude.{◌≡◌, ◌<◌, true, false, IsSomeAnd};
 ghost use Rattle.hcc_word.specs.Word.{is_shareable};
 ghost use Rattle.hcc_word.specs.Changes.{IsClockable, clocked_word, IsCorrectable, corrected_word};
+ghost use Rattle.hcc_word.specs.declared.layout.TheConstants.{HIT_BIT, HIDING_MASK};
+ghost use Rattle.hcc_rule.specs.Words.{field_at};
+ghost use Rattle.hcc_rule.specs.declared.layout.TheConstants.{META};
 ghost use Rattle.hcc_rule.specs.Callers.{IsSeatAt};
-ghost use Rattle.hcc_rule.specs.Seats.{IsSameSeat, view};
+ghost use Rattle.hcc_rule.specs.Seats.{IsSameSeat, view, Makes};
 ghost use Rattle.hcc_rule.specs.Told.{noticing};
 ghost use Rattle.hcc_rule.specs.Views.{record_in};
 ghost use Rattle.hcc_rule.specs.ToldReferences.{after_hide, after_clock, after_correct};
@@ -12,7 +15,7 @@ use super::said::Said;
 use crate::key::Tag;
 use crate::layout::META;
 use crate::table::{RuleSeat, RuleTable};
-use crate::view::View;
+use crate::view::Logged;
 use atomic_table::Play;
 use hcc_word::layout::{HIDING_MASK, HIT_BIT};
 use std::alloc::Allocator;
@@ -23,10 +26,11 @@ pub struct Hide<J> {
     said: PhantomData<J>,
 }
 
-impl<T: Tag, J: Said> Play<(), View<T>> for Hide<J> {
+impl<T: Tag, J: Said> Play<(), Logged<T>> for Hide<J> {
+    ghost use Rattle.hcc_rule.specs.Logs.{Logs};
     ghost use Rattle.hcc_rule.specs.ToldReferences.{hides};
 
-    ghost then = { hides J.name };
+    ghost then = { Logs (hides J.name) };
 }
 
 /// What marking an entry tells.
@@ -34,10 +38,11 @@ pub struct Mark<J> {
     said: PhantomData<J>,
 }
 
-impl<T: Tag, J: Said> Play<(), View<T>> for Mark<J> {
+impl<T: Tag, J: Said> Play<(), Logged<T>> for Mark<J> {
+    ghost use Rattle.hcc_rule.specs.Logs.{Logs};
     ghost use Rattle.hcc_rule.specs.ToldReferences.{marks};
 
-    ghost then = { marks J.slot };
+    ghost then = { Logs (marks J.slot) };
 }
 
 /// What the clock's exchange tells.
@@ -45,10 +50,11 @@ pub struct Clock<J> {
     said: PhantomData<J>,
 }
 
-impl<T: Tag, J: Said> Play<(), View<T>> for Clock<J> {
+impl<T: Tag, J: Said> Play<(), Logged<T>> for Clock<J> {
+    ghost use Rattle.hcc_rule.specs.Logs.{Logs};
     ghost use Rattle.hcc_rule.specs.ToldReferences.{clocks};
 
-    ghost then = { clocks J.slot };
+    ghost then = { Logs (clocks J.slot) };
 }
 
 /// What a correction's exchange tells.
@@ -56,10 +62,11 @@ pub struct Correct<J> {
     said: PhantomData<J>,
 }
 
-impl<T: Tag, J: Said> Play<(), View<T>> for Correct<J> {
+impl<T: Tag, J: Said> Play<(), Logged<T>> for Correct<J> {
+    ghost use Rattle.hcc_rule.specs.Logs.{Logs};
     ghost use Rattle.hcc_rule.specs.ToldReferences.{corrects};
 
-    ghost then = { corrects J.slot };
+    ghost then = { Logs (corrects J.slot) };
 }
 
 impl<T: Tag, A: Allocator> RuleTable<T, A> {
@@ -71,6 +78,8 @@ impl<T: Tag, A: Allocator> RuleTable<T, A> {
         ensures seat { IsSameSeat seat.old seat.new }
         ensures view { view seat.new ≡ after_hide name result (view seat.old) }
         ensures entry { is_shareable result ≡ true }
+        ensures step {
+            Makes (field_at self.now.geometry.room slot META) HIDING_MASK 0 result seat.old seat.new }
     {
         self.table
             .shared
@@ -90,6 +99,8 @@ impl<T: Tag, A: Allocator> RuleTable<T, A> {
         ensures seat { IsSameSeat seat.old seat.new }
         ensures view { view seat.new ≡ after_hide name result (view seat.old) }
         ensures entry { is_shareable result ≡ true }
+        ensures step {
+            Makes (field_at self.now.geometry.room slot META) HIDING_MASK 0 result seat.old seat.new }
     {
         self.hide_as::<Brand>(seat, slot, name)
     }
@@ -102,6 +113,8 @@ impl<T: Tag, A: Allocator> RuleTable<T, A> {
         ensures seat { IsSameSeat seat.old seat.new }
         ensures view { view seat.new ≡ noticing slot result (view seat.old) }
         ensures entry { is_shareable result ≡ true }
+        ensures step {
+            Makes (field_at self.now.geometry.room slot META) HIT_BIT 0 result seat.old seat.new }
     {
         self.table
             .shared
@@ -120,6 +133,8 @@ impl<T: Tag, A: Allocator> RuleTable<T, A> {
         ensures seat { IsSameSeat seat.old seat.new }
         ensures view { view seat.new ≡ noticing slot result (view seat.old) }
         ensures entry { is_shareable result ≡ true }
+        ensures step {
+            Makes (field_at self.now.geometry.room slot META) HIT_BIT 0 result seat.old seat.new }
     {
         self.mark_as::<Brand>(seat, slot, name)
     }
@@ -132,6 +147,8 @@ impl<T: Tag, A: Allocator> RuleTable<T, A> {
         requires said { J.slot ≡ slot }
         ensures seat { IsSameSeat seat.old seat.new }
         ensures view { view seat.new ≡ after_clock slot old result (view seat.old) }
+        ensures step {
+            Makes (field_at self.now.geometry.room slot META) old new result seat.old seat.new }
     {
         self.table
             .shared
@@ -151,6 +168,8 @@ impl<T: Tag, A: Allocator> RuleTable<T, A> {
         requires clocked { new ≡ clocked_word old }
         ensures seat { IsSameSeat seat.old seat.new }
         ensures view { view seat.new ≡ after_clock slot old result (view seat.old) }
+        ensures step {
+            Makes (field_at self.now.geometry.room slot META) old new result seat.old seat.new }
     {
         self.clock_as::<Brand>(seat, slot, old, new)
     }
@@ -171,6 +190,8 @@ impl<T: Tag, A: Allocator> RuleTable<T, A> {
         requires said { (J.slot ≡ slot) × (J.name ≡ name) }
         ensures seat { IsSameSeat seat.old seat.new }
         ensures view { view seat.new ≡ after_correct slot old result (view seat.old) }
+        ensures step {
+            Makes (field_at self.now.geometry.room slot META) old new result seat.old seat.new }
     {
         self.table
             .shared
@@ -192,6 +213,8 @@ impl<T: Tag, A: Allocator> RuleTable<T, A> {
         requires corrected { new ≡ corrected_word old }
         ensures seat { IsSameSeat seat.old seat.new }
         ensures view { view seat.new ≡ after_correct slot old result (view seat.old) }
+        ensures step {
+            Makes (field_at self.now.geometry.room slot META) old new result seat.old seat.new }
     {
         self.correct_as::<Brand>(seat, slot, name, old, new)
     }

@@ -1,10 +1,12 @@
 //! Steps on the occupancy word.
 ghost use Rattle.std.specs.Prelude.{◌≡◌, ◌+◌, ◌<◌, ◌≤◌, true, length};
-ghost use Rattle.hcc_core.specs.declared.state.Place.TheVariants.{Absent};
+ghost use Rattle.hcc_core.specs.declared.client.Place.TheVariants.{Absent};
 ghost use Rattle.hcc_core.specs.World.{occupied_by, is_placed, limit_of};
+ghost use Rattle.hcc_rule.specs.Words.{ledger_at};
+ghost use Rattle.hcc_rule.specs.declared.layout.TheConstants.{OCCUPANCY};
 ghost use Rattle.hcc_rule.specs.Callers.{plan_of, IsSeatAt};
 ghost use Rattle.hcc_rule.specs.Rule.{setup_of};
-ghost use Rattle.hcc_rule.specs.Seats.{IsSameSeat, view};
+ghost use Rattle.hcc_rule.specs.Seats.{IsSameSeat, view, Makes, MakesSome};
 ghost use Rattle.hcc_rule.specs.ToldLedgers.{after_enter, after_slots, after_quit};
 ghost use Rattle.hcc_rule.specs.Views.{different};
 
@@ -12,7 +14,7 @@ use super::planned::Planned;
 use crate::key::Tag;
 use crate::layout::OCCUPANCY;
 use crate::table::{RuleSeat, RuleTable};
-use crate::view::View;
+use crate::view::Logged;
 use atomic_table::Play;
 use std::alloc::Allocator;
 use std::marker::{Brand, PhantomData};
@@ -22,10 +24,11 @@ pub struct Occupancy<J> {
     said: PhantomData<J>,
 }
 
-impl<T: Tag, J: Planned> Play<(), View<T>> for Occupancy<J> {
+impl<T: Tag, J: Planned> Play<(), Logged<T>> for Occupancy<J> {
+    ghost use Rattle.hcc_rule.specs.Logs.{Logs};
     ghost use Rattle.hcc_rule.specs.ToldLedgers.{occupancies};
 
-    ghost then = { occupancies J.setup };
+    ghost then = { Logs (occupancies J.setup) };
 }
 
 /// What an add of a place tells.
@@ -33,28 +36,31 @@ pub struct Enter<J> {
     said: PhantomData<J>,
 }
 
-impl<T: Tag, J: Planned> Play<(), View<T>> for Enter<J> {
+impl<T: Tag, J: Planned> Play<(), Logged<T>> for Enter<J> {
+    ghost use Rattle.hcc_rule.specs.Logs.{Logs};
     ghost use Rattle.hcc_rule.specs.ToldLedgers.{enters};
 
-    ghost then = { enters J.setup };
+    ghost then = { Logs (enters J.setup) };
 }
 
 /// What a take of the freed slots tells.
 pub struct GiveSlots;
 
-impl<T: Tag> Play<(), View<T>> for GiveSlots {
+impl<T: Tag> Play<(), Logged<T>> for GiveSlots {
+    ghost use Rattle.hcc_rule.specs.Logs.{Logs};
     ghost use Rattle.hcc_rule.specs.ToldLedgers.{gives_slots};
 
-    ghost then = { gives_slots };
+    ghost then = { Logs gives_slots };
 }
 
 /// What a take of a place and of the freed slots tells.
 pub struct Quit;
 
-impl<T: Tag> Play<(), View<T>> for Quit {
+impl<T: Tag> Play<(), Logged<T>> for Quit {
+    ghost use Rattle.hcc_rule.specs.Logs.{Logs};
     ghost use Rattle.hcc_rule.specs.ToldLedgers.{quits};
 
-    ghost then = { quits };
+    ghost then = { Logs quits };
 }
 
 impl<T: Tag, A: Allocator> RuleTable<T, A> {
@@ -66,6 +72,8 @@ impl<T: Tag, A: Allocator> RuleTable<T, A> {
         ensures entries { occupied_by (view seat.old).work + length (different (view seat.old).records) ≤ result }
         ensures low { result ≤ limit_of J.setup + J.setup.clients }
         ensures alone { J.setup.clients ≡ 1 → result + (view seat.old).takings ≡ length (view seat.old).made + occupied_by (view seat.old).work }
+        ensures step {
+            Makes (ledger_at self.now.geometry.slots self.now.geometry.room OCCUPANCY) 0 0 result seat.old seat.new }
     {
         self.table
             .shared
@@ -87,6 +95,8 @@ impl<T: Tag, A: Allocator> RuleTable<T, A> {
         ensures entries { occupied_by (view seat.old).work + length (different (view seat.old).records) ≤ result }
         ensures low { result ≤ limit_of (setup_of (plan_of self.now)) + self.now.geometry.clients }
         ensures alone { self.now.geometry.clients ≡ 1 → result + (view seat.old).takings ≡ length (view seat.old).made + occupied_by (view seat.old).work }
+        ensures step {
+            Makes (ledger_at self.now.geometry.slots self.now.geometry.room OCCUPANCY) 0 0 result seat.old seat.new }
     {
         self.occupancy_as::<Brand>(seat)
     }
@@ -100,6 +110,8 @@ impl<T: Tag, A: Allocator> RuleTable<T, A> {
         ensures entries { occupied_by (view seat.old).work + length (different (view seat.old).records) ≤ result }
         ensures low { result < limit_of J.setup + J.setup.clients }
         ensures alone { J.setup.clients ≡ 1 → result + (view seat.old).takings ≡ length (view seat.old).made + occupied_by (view seat.old).work }
+        ensures step {
+            Makes (ledger_at self.now.geometry.slots self.now.geometry.room OCCUPANCY) 1 0 result seat.old seat.new }
     {
         self.table
             .shared
@@ -122,6 +134,8 @@ impl<T: Tag, A: Allocator> RuleTable<T, A> {
         ensures entries { occupied_by (view seat.old).work + length (different (view seat.old).records) ≤ result }
         ensures low { result < limit_of (setup_of (plan_of self.now)) + self.now.geometry.clients }
         ensures alone { self.now.geometry.clients ≡ 1 → result + (view seat.old).takings ≡ length (view seat.old).made + occupied_by (view seat.old).work }
+        ensures step {
+            Makes (ledger_at self.now.geometry.slots self.now.geometry.room OCCUPANCY) 1 0 result seat.old seat.new }
     {
         self.enter_as::<Brand>(seat)
     }
@@ -135,6 +149,8 @@ impl<T: Tag, A: Allocator> RuleTable<T, A> {
         requires count { ((view seat.old).work.freed_slots ≡ count) × (0 < count) }
         ensures seat { IsSameSeat seat.old seat.new }
         ensures view { view seat.new ≡ after_slots (view seat.old) }
+        ensures step {
+            MakesSome (ledger_at self.now.geometry.slots self.now.geometry.room OCCUPANCY) count 0 seat.old seat.new }
     {
         self.table
             .shared
@@ -151,6 +167,8 @@ impl<T: Tag, A: Allocator> RuleTable<T, A> {
         requires count { 1 + (view seat.old).work.freed_slots ≡ count }
         ensures seat { IsSameSeat seat.old seat.new }
         ensures view { view seat.new ≡ after_quit (view seat.old) }
+        ensures step {
+            MakesSome (ledger_at self.now.geometry.slots self.now.geometry.room OCCUPANCY) count 0 seat.old seat.new }
     {
         self.table
             .shared

@@ -1,10 +1,11 @@
 //! Steps by which a client takes a slot, writes it and gives it back.
 ghost use Rattle.std.specs.Prelude.{◌≡◌, ◌+◌, ◌<◌, [], true, length};
-ghost use Rattle.hcc_core.specs.declared.state.Owned.TheVariants.{ForBuilding, ForFreeing};
-ghost use Rattle.hcc_core.specs.Steps.{owns_nothing};
-ghost use Rattle.hcc_rule.specs.declared.layout.TheConstants.{DATA, PAYLOAD};
+ghost use Rattle.hcc_core.specs.declared.client.Owned.TheVariants.{ForBuilding, ForFreeing};
+ghost use Rattle.hcc_core.specs.World.{owns_nothing};
+ghost use Rattle.hcc_word.specs.declared.layout.TheConstants.{OCCUPIED_BIT};
+ghost use Rattle.hcc_rule.specs.declared.layout.TheConstants.{DATA, PAYLOAD, META};
 ghost use Rattle.hcc_rule.specs.Callers.{IsSeatAt};
-ghost use Rattle.hcc_rule.specs.Seats.{IsSameSeat, view};
+ghost use Rattle.hcc_rule.specs.Seats.{IsSameSeat, view, Makes};
 ghost use Rattle.hcc_rule.specs.Told.{Backs};
 ghost use Rattle.hcc_rule.specs.ToldOwners.{after_occupy, after_empty, after_write};
 ghost use Rattle.hcc_rule.specs.Words.{field_at};
@@ -13,7 +14,7 @@ use super::said::Said;
 use crate::key::Tag;
 use crate::layout::META;
 use crate::table::{RuleSeat, RuleTable};
-use crate::view::View;
+use crate::view::Logged;
 use atomic_table::Play;
 use hcc_word::layout::{EMPTY_WORD, OCCUPIED_BIT};
 use std::alloc::Allocator;
@@ -24,28 +25,31 @@ pub struct Occupy<J> {
     said: PhantomData<J>,
 }
 
-impl<T: Tag, J: Said> Play<(), View<T>> for Occupy<J> {
+impl<T: Tag, J: Said> Play<(), Logged<T>> for Occupy<J> {
+    ghost use Rattle.hcc_rule.specs.Logs.{Logs};
     ghost use Rattle.hcc_rule.specs.ToldOwners.{occupies};
 
-    ghost then = { occupies J.slot };
+    ghost then = { Logs (occupies J.slot) };
 }
 
 /// What a store of a data word tells.
 pub struct Write;
 
-impl<T: Tag> Play<(), View<T>> for Write {
+impl<T: Tag> Play<(), Logged<T>> for Write {
+    ghost use Rattle.hcc_rule.specs.Logs.{Logs};
     ghost use Rattle.hcc_rule.specs.ToldOwners.{writes};
 
-    ghost then = { writes };
+    ghost then = { Logs writes };
 }
 
 /// What the store that empties a slot tells.
 pub struct Empty;
 
-impl<T: Tag> Play<(), View<T>> for Empty {
+impl<T: Tag> Play<(), Logged<T>> for Empty {
+    ghost use Rattle.hcc_rule.specs.Logs.{Logs};
     ghost use Rattle.hcc_rule.specs.ToldOwners.{empties};
 
-    ghost then = { empties };
+    ghost then = { Logs empties };
 }
 
 impl<T: Tag, A: Allocator> RuleTable<T, A> {
@@ -57,6 +61,8 @@ impl<T: Tag, A: Allocator> RuleTable<T, A> {
         ensures seat { IsSameSeat seat.old seat.new }
         ensures view { view seat.new ≡ after_occupy slot result (view seat.old) }
         ensures backs { Backs slot result (view seat.old) }
+        ensures step {
+            Makes (field_at self.now.geometry.room slot META) OCCUPIED_BIT 0 result seat.old seat.new }
     {
         self.table
             .shared
@@ -75,6 +81,8 @@ impl<T: Tag, A: Allocator> RuleTable<T, A> {
         ensures seat { IsSameSeat seat.old seat.new }
         ensures view { view seat.new ≡ after_occupy slot result (view seat.old) }
         ensures backs { Backs slot result (view seat.old) }
+        ensures step {
+            Makes (field_at self.now.geometry.room slot META) OCCUPIED_BIT 0 result seat.old seat.new }
     {
         self.occupy_as::<Brand>(seat, slot)
     }
@@ -91,6 +99,8 @@ impl<T: Tag, A: Allocator> RuleTable<T, A> {
         requires next { (index ≡ length (view seat.old).written) × (index < PAYLOAD + self.now.geometry.room) }
         ensures seat { IsSameSeat seat.old seat.new }
         ensures view { view seat.new ≡ after_write word (view seat.old) }
+        ensures step {
+            Makes (field_at self.now.geometry.room slot (DATA + index)) word 0 word seat.old seat.new }
     {
         self.write_at(seat, slot, self.data_of(slot), index, word);
     }
@@ -104,6 +114,8 @@ impl<T: Tag, A: Allocator> RuleTable<T, A> {
         requires next { (index ≡ length (view seat.old).written) × (index < PAYLOAD + self.now.geometry.room) }
         ensures seat { IsSameSeat seat.old seat.new }
         ensures view { view seat.new ≡ after_write word (view seat.old) }
+        ensures step {
+            Makes (field_at self.now.geometry.room slot (DATA + index)) word 0 word seat.old seat.new }
     {
         self.table
             .shared
@@ -120,6 +132,8 @@ impl<T: Tag, A: Allocator> RuleTable<T, A> {
         requires back { (view seat.old).work.trail ≡ [] }
         ensures seat { IsSameSeat seat.old seat.new }
         ensures view { view seat.new ≡ after_empty (view seat.old) }
+        ensures step {
+            Makes (field_at self.now.geometry.room slot META) 0 0 0 seat.old seat.new }
     {
         self.table
             .shared

@@ -3,7 +3,7 @@ use std::marker::Brand;
 
 /// The size of the shard and its rule of capacity. It is for the proofs alone.
 pub trait Planned {
-    ghost use Rattle.hcc_core.specs.declared.state.Setup.{Setup};
+    ghost use Rattle.hcc_core.specs.declared.setup.Setup.{Setup};
 
     ghost setup: { Setup };
 }

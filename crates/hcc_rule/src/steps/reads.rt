@@ -3,7 +3,7 @@ ghost use Rattle.std.specs.Prelude.{◌≡◌, ◌+◌, ◌<◌, Some, IfSome, I
 ghost use Rattle.hcc_core.specs.Lawful.{owned_slot};
 ghost use Rattle.hcc_rule.specs.declared.layout.TheConstants.{DATA, PAYLOAD};
 ghost use Rattle.hcc_rule.specs.Callers.{IsSeatAt};
-ghost use Rattle.hcc_rule.specs.Seats.{IsSameSeat, view};
+ghost use Rattle.hcc_rule.specs.Seats.{IsSameSeat, view, Makes};
 ghost use Rattle.hcc_rule.specs.ToldOwners.{IsDataWord, after_read};
 ghost use Rattle.hcc_rule.specs.Views.{record_in};
 ghost use Rattle.hcc_rule.specs.Words.{field_at};
@@ -12,7 +12,7 @@ use super::said::Said;
 use crate::key::Tag;
 use crate::layout::DATA;
 use crate::table::{RuleSeat, RuleTable};
-use crate::view::View;
+use crate::view::Logged;
 use atomic_table::Play;
 use std::alloc::Allocator;
 use std::marker::{Brand, PhantomData};
@@ -22,10 +22,11 @@ pub struct Read<J> {
     said: PhantomData<J>,
 }
 
-impl<T: Tag, J: Said> Play<(), View<T>> for Read<J> {
+impl<T: Tag, J: Said> Play<(), Logged<T>> for Read<J> {
+    ghost use Rattle.hcc_rule.specs.Logs.{Logs};
     ghost use Rattle.hcc_rule.specs.ToldOwners.{reads};
 
-    ghost then = { reads J.name J.index };
+    ghost then = { Logs (reads J.name J.index) };
 }
 
 /// What a load of a data word by the slot's owner tells.
@@ -33,10 +34,11 @@ pub struct ReadOwn<J> {
     said: PhantomData<J>,
 }
 
-impl<T: Tag, J: Said> Play<(), View<T>> for ReadOwn<J> {
+impl<T: Tag, J: Said> Play<(), Logged<T>> for ReadOwn<J> {
+    ghost use Rattle.hcc_rule.specs.Logs.{Logs};
     ghost use Rattle.hcc_rule.specs.ToldOwners.{reads_own};
 
-    ghost then = { reads_own J.index };
+    ghost then = { Logs (reads_own J.index) };
 }
 
 impl<T: Tag, A: Allocator> RuleTable<T, A> {
@@ -57,6 +59,8 @@ impl<T: Tag, A: Allocator> RuleTable<T, A> {
         ensures seat { IsSameSeat seat.old seat.new }
         ensures view { view seat.new ≡ after_read name index (view seat.old) }
         ensures word { IfSome (record_in name (view seat.old).records) (λ r. IsDataWord r.entry index result) }
+        ensures step {
+            Makes (field_at self.now.geometry.room slot (DATA + index)) 0 0 result seat.old seat.new }
     {
         self.table
             .shared
@@ -76,6 +80,8 @@ impl<T: Tag, A: Allocator> RuleTable<T, A> {
         ensures seat { IsSameSeat seat.old seat.new }
         ensures view { view seat.new ≡ after_read name index (view seat.old) }
         ensures word { IfSome (record_in name (view seat.old).records) (λ r. IsDataWord r.entry index result) }
+        ensures step {
+            Makes (field_at self.now.geometry.room slot (DATA + index)) 0 0 result seat.old seat.new }
     {
         self.read_at(seat, slot, self.data_of(slot), index, name)
     }
@@ -97,6 +103,8 @@ impl<T: Tag, A: Allocator> RuleTable<T, A> {
         ensures seat { IsSameSeat seat.old seat.new }
         ensures view { view seat.new ≡ after_read name index (view seat.old) }
         ensures word { IfSome (record_in name (view seat.old).records) (λ r. IsDataWord r.entry index result) }
+        ensures step {
+            Makes (field_at self.now.geometry.room slot (DATA + index)) 0 0 result seat.old seat.new }
     {
         self.read_as::<Brand>(seat, slot, first, index, name)
     }
@@ -110,6 +118,8 @@ impl<T: Tag, A: Allocator> RuleTable<T, A> {
         ensures seat { IsSameSeat seat.old seat.new }
         ensures view { view seat.new ≡ view seat.old }
         ensures word { index < length (view seat.old).written → result ≡ slice_index (view seat.old).written index }
+        ensures step {
+            Makes (field_at self.now.geometry.room slot (DATA + index)) 0 0 result seat.old seat.new }
     {
         self.table
             .shared
@@ -128,6 +138,8 @@ impl<T: Tag, A: Allocator> RuleTable<T, A> {
         ensures seat { IsSameSeat seat.old seat.new }
         ensures view { view seat.new ≡ view seat.old }
         ensures word { index < length (view seat.old).written → result ≡ slice_index (view seat.old).written index }
+        ensures step {
+            Makes (field_at self.now.geometry.room slot (DATA + index)) 0 0 result seat.old seat.new }
     {
         self.read_own_as::<Brand>(seat, slot, index)
     }

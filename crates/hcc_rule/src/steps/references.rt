@@ -1,9 +1,12 @@
 //! References: a client acquires them, gives them back, or releases them as uses.
-ghost use Rattle.std.specs.Prelude.{◌≡◌, ◌+◌, ◌<◌, ◌≤◌, true, None, IsSomeAnd};
+ghost use Rattle.std.specs.Prelude.{◌≡◌, ◌+◌, ◌<◌, ◌≤◌, true, None, IsSomeAnd, ◌*◌};
 ghost use Rattle.hcc_word.specs.Word.{refs_of, is_shareable};
 ghost use Rattle.hcc_core.specs.declared.limits.TheConstants.{MOST_WEIGHT, REFERENCES_PER_CLIENT};
+ghost use Rattle.hcc_word.specs.declared.layout.TheConstants.{ONE_RELEASE};
+ghost use Rattle.hcc_rule.specs.Words.{field_at};
+ghost use Rattle.hcc_rule.specs.declared.layout.TheConstants.{META};
 ghost use Rattle.hcc_rule.specs.Callers.{IsSeatAt};
-ghost use Rattle.hcc_rule.specs.Seats.{IsSameSeat, view};
+ghost use Rattle.hcc_rule.specs.Seats.{IsSameSeat, view, Makes};
 ghost use Rattle.hcc_rule.specs.Views.{load_of, record_in};
 ghost use Rattle.hcc_rule.specs.ToldReferences.{may_reach, Acquired, after_give};
 
@@ -11,7 +14,7 @@ use super::said::Said;
 use crate::key::Tag;
 use crate::layout::META;
 use crate::table::{RuleSeat, RuleTable};
-use crate::view::View;
+use crate::view::Logged;
 use atomic_table::Play;
 use hcc_word::layout::ONE_RELEASE;
 use std::alloc::Allocator;
@@ -33,10 +36,11 @@ pub struct Acquire<T, J> {
     said: PhantomData<(T, J)>,
 }
 
-impl<T: Tag, J: Said + Room> Play<(), View<T>> for Acquire<T, J> {
+impl<T: Tag, J: Said + Room> Play<(), Logged<T>> for Acquire<T, J> {
+    ghost use Rattle.hcc_rule.specs.Logs.{Logs};
     ghost use Rattle.hcc_rule.specs.ToldReferences.{acquires};
 
-    ghost then = { acquires T.fits J.room J.slot J.name };
+    ghost then = { Logs (acquires T.fits J.room J.slot J.name) };
 }
 
 /// What taking references from a meta word tells.
@@ -44,10 +48,11 @@ pub struct Give<J> {
     said: PhantomData<J>,
 }
 
-impl<T: Tag, J: Said> Play<(), View<T>> for Give<J> {
+impl<T: Tag, J: Said> Play<(), Logged<T>> for Give<J> {
+    ghost use Rattle.hcc_rule.specs.Logs.{Logs};
     ghost use Rattle.hcc_rule.specs.ToldReferences.{gives};
 
-    ghost then = { gives J.slot J.name };
+    ghost then = { Logs (gives J.slot J.name) };
 }
 
 /// What adding releases to a meta word tells.
@@ -55,10 +60,11 @@ pub struct Spend<J> {
     said: PhantomData<J>,
 }
 
-impl<T: Tag, J: Said> Play<(), View<T>> for Spend<J> {
+impl<T: Tag, J: Said> Play<(), Logged<T>> for Spend<J> {
+    ghost use Rattle.hcc_rule.specs.Logs.{Logs};
     ghost use Rattle.hcc_rule.specs.ToldReferences.{spends};
 
-    ghost then = { spends J.slot J.name };
+    ghost then = { Logs (spends J.slot J.name) };
 }
 
 impl<T: Tag, A: Allocator> RuleTable<T, A> {
@@ -78,6 +84,8 @@ impl<T: Tag, A: Allocator> RuleTable<T, A> {
         requires said { (J.slot ≡ slot) × (J.name ≡ name) × (J.room ≡ self.now.geometry.room) }
         ensures seat { IsSameSeat seat.old seat.new }
         ensures view { Acquired T.fits self.now.geometry.room slot weight name result (view seat.old) (view seat.new) }
+        ensures step {
+            Makes (field_at self.now.geometry.room slot META) weight 0 result seat.old seat.new }
     {
         self.table
             .shared
@@ -105,6 +113,8 @@ impl<T: Tag, A: Allocator> RuleTable<T, A> {
         requires load { load_of (view seat.old).records + weight ≤ REFERENCES_PER_CLIENT }
         ensures seat { IsSameSeat seat.old seat.new }
         ensures view { Acquired T.fits self.now.geometry.room slot weight name result (view seat.old) (view seat.new) }
+        ensures step {
+            Makes (field_at self.now.geometry.room slot META) weight 0 result seat.old seat.new }
     {
         self.acquire_as::<Brand>(seat, slot, weight, name)
     }
@@ -118,6 +128,8 @@ impl<T: Tag, A: Allocator> RuleTable<T, A> {
         ensures view { view seat.new ≡ after_give slot name result (view seat.old) }
         ensures entry { is_shareable result ≡ true }
         ensures references { weight ≤ refs_of result }
+        ensures step {
+            Makes (field_at self.now.geometry.room slot META) weight 0 result seat.old seat.new }
     {
         self.table
             .shared
@@ -139,6 +151,8 @@ impl<T: Tag, A: Allocator> RuleTable<T, A> {
         ensures view { view seat.new ≡ after_give slot name result (view seat.old) }
         ensures entry { is_shareable result ≡ true }
         ensures references { weight ≤ refs_of result }
+        ensures step {
+            Makes (field_at self.now.geometry.room slot META) weight 0 result seat.old seat.new }
     {
         self.give_as::<Brand>(seat, slot, weight, name)
     }
@@ -152,6 +166,8 @@ impl<T: Tag, A: Allocator> RuleTable<T, A> {
         ensures view { view seat.new ≡ after_give slot name result (view seat.old) }
         ensures entry { is_shareable result ≡ true }
         ensures references { weight ≤ refs_of result }
+        ensures step {
+            Makes (field_at self.now.geometry.room slot META) (weight * ONE_RELEASE) 0 result seat.old seat.new }
     {
         self.table.shared.fetch_add::<Spend<J>>(
             seat,
@@ -175,6 +191,8 @@ impl<T: Tag, A: Allocator> RuleTable<T, A> {
         ensures view { view seat.new ≡ after_give slot name result (view seat.old) }
         ensures entry { is_shareable result ≡ true }
         ensures references { weight ≤ refs_of result }
+        ensures step {
+            Makes (field_at self.now.geometry.room slot META) (weight * ONE_RELEASE) 0 result seat.old seat.new }
     {
         self.spend_as::<Brand>(seat, slot, weight, name)
     }

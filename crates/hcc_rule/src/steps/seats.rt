@@ -7,30 +7,30 @@ ghost use Rattle.hcc_rule.specs.Seats.{IsSameSeat, view};
 
 use crate::key::Tag;
 use crate::table::{RuleSeat, RuleTable};
-use crate::view::View;
+use crate::view::Logged;
 use atomic_table::{Join, Split};
 use std::alloc::Allocator;
 
 /// How a view is split: the new seat stands for the first of the other clients.
 pub struct Start;
 
-impl<T: Tag> Split<View<T>> for Start {
-    ghost use Rattle.hcc_rule.specs.Opening.{left_view, right_view};
+impl<T: Tag> Split<Logged<T>> for Start {
+    ghost use Rattle.hcc_rule.specs.Logs.{left_logged, right_logged};
 
-    ghost left = { left_view };
+    ghost left = { left_logged };
 
-    ghost right = { right_view };
+    ghost right = { right_logged };
 }
 
 /// How two views are joined: the client of the second ends.
 pub struct End;
 
-impl<T: Tag> Join<View<T>> for End {
-    ghost use Rattle.hcc_rule.specs.Opening.{joined_view, spent_view};
+impl<T: Tag> Join<Logged<T>> for End {
+    ghost use Rattle.hcc_rule.specs.Logs.{joined_logged, spent_logged};
 
-    ghost both = { joined_view };
+    ghost both = { joined_logged };
 
-    ghost spent = { spent_view };
+    ghost spent = { spent_logged };
 }
 
 impl<T: Tag, A: Allocator> RuleTable<T, A> {

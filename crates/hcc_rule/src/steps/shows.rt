@@ -1,13 +1,15 @@
 //! The store that shows an entry.
 ghost use Rattle.std.specs.Prelude.{◌≡◌, ◌<◌};
+ghost use Rattle.hcc_rule.specs.Words.{field_at};
+ghost use Rattle.hcc_rule.specs.declared.layout.TheConstants.{META};
 ghost use Rattle.hcc_rule.specs.Callers.{plan_of, IsSeatAt};
-ghost use Rattle.hcc_rule.specs.Seats.{IsSameSeat, view};
-ghost use Rattle.hcc_rule.specs.ToldOwners.{MayShow, after_show, made_of};
+ghost use Rattle.hcc_rule.specs.Seats.{IsSameSeat, view, Makes};
+ghost use Rattle.hcc_rule.specs.ToldOwners.{MayShow, after_show, made_of, first_word};
 
 use crate::key::{Key, Tag};
 use crate::layout::META;
 use crate::table::{RuleSeat, RuleTable};
-use crate::view::View;
+use crate::view::Logged;
 use atomic_table::Play;
 use hcc_word::started;
 use std::alloc::Allocator;
@@ -54,10 +56,11 @@ pub struct Show<J> {
     said: PhantomData<J>,
 }
 
-impl<T: Tag, J: Drafted> Play<(), View<T>> for Show<J> {
+impl<T: Tag, J: Drafted> Play<(), Logged<T>> for Show<J> {
+    ghost use Rattle.hcc_rule.specs.Logs.{Logs};
     ghost use Rattle.hcc_rule.specs.ToldOwners.{shows};
 
-    ghost then = { shows J.slot J.name J.made };
+    ghost then = { Logs (shows J.slot J.name J.made) };
 }
 
 impl<T: Tag, A: Allocator> RuleTable<T, A> {
@@ -68,6 +71,8 @@ impl<T: Tag, A: Allocator> RuleTable<T, A> {
         requires said { (J.slot ≡ slot) × (J.name ≡ draft.name) × (J.made ≡ made_of draft value.now) }
         ensures seat { IsSameSeat seat.old seat.new }
         ensures view { view seat.new ≡ after_show slot draft.name (made_of draft value.now) (view seat.old) }
+        ensures step {
+            Makes (field_at self.now.geometry.room slot META) (first_word draft) 0 (first_word draft) seat.old seat.new }
     {
         let word = started(draft.countdown, draft.name.is_some());
         self.table
@@ -87,6 +92,8 @@ impl<T: Tag, A: Allocator> RuleTable<T, A> {
         requires may { MayShow T.fits (plan_of self.now) slot draft.countdown draft.name (made_of draft value.now) (view seat.old) }
         ensures seat { IsSameSeat seat.old seat.new }
         ensures view { view seat.new ≡ after_show slot draft.name (made_of draft value.now) (view seat.old) }
+        ensures step {
+            Makes (field_at self.now.geometry.room slot META) (first_word draft) 0 (first_word draft) seat.old seat.new }
     {
         self.show_as::<Brand>(seat, slot, draft, value);
     }

@@ -1,13 +1,14 @@
 //! Steps on the word of standalone charges.
 ghost use Rattle.std.specs.Prelude.{◌≡◌, ◌+◌, ◌<◌, ◌≤◌, ◌^◌, true, false, Some, find, length};
 ghost use Rattle.std.specs.List.{list_any};
-ghost use Rattle.hcc_core.specs.declared.state.Place.TheVariants.{Absent};
+ghost use Rattle.hcc_core.specs.declared.client.Place.TheVariants.{Absent};
 ghost use Rattle.hcc_core.specs.World.{standing_of};
-ghost use Rattle.hcc_core.specs.Steps.{is_standing};
-ghost use Rattle.hcc_rule.specs.declared.layout.TheConstants.{MOST_HANDLES};
+ghost use Rattle.hcc_core.specs.Ledgers.{is_standing};
+ghost use Rattle.hcc_rule.specs.Words.{ledger_at};
+ghost use Rattle.hcc_rule.specs.declared.layout.TheConstants.{MOST_HANDLES, STANDING};
 ghost use Rattle.hcc_rule.specs.Callers.{capacity_of, clients_of, is_strict, plan_of, IsSeatAt};
 ghost use Rattle.hcc_rule.specs.Rule.{setup_of};
-ghost use Rattle.hcc_rule.specs.Seats.{IsSameSeat, view};
+ghost use Rattle.hcc_rule.specs.Seats.{IsSameSeat, view, Makes, MakesSome};
 ghost use Rattle.hcc_rule.specs.ToldLedgers.{after_stand, after_fall};
 ghost use Rattle.hcc_rule.specs.Views.{charge_held};
 
@@ -16,7 +17,7 @@ use super::said::Said;
 use crate::key::Tag;
 use crate::layout::STANDING;
 use crate::table::{RuleSeat, RuleTable};
-use crate::view::View;
+use crate::view::Logged;
 use atomic_table::Play;
 use std::alloc::Allocator;
 use std::marker::{Brand, PhantomData};
@@ -26,10 +27,11 @@ pub struct Standing<J> {
     said: PhantomData<J>,
 }
 
-impl<T: Tag, J: Planned> Play<(), View<T>> for Standing<J> {
+impl<T: Tag, J: Planned> Play<(), Logged<T>> for Standing<J> {
+    ghost use Rattle.hcc_rule.specs.Logs.{Logs};
     ghost use Rattle.hcc_rule.specs.ToldLedgers.{standings};
 
-    ghost then = { standings J.setup };
+    ghost then = { Logs (standings J.setup) };
 }
 
 /// What an add of a standalone charge tells.
@@ -37,10 +39,11 @@ pub struct Stand<J> {
     said: PhantomData<J>,
 }
 
-impl<T: Tag, J: Said> Play<(), View<T>> for Stand<J> {
+impl<T: Tag, J: Said> Play<(), Logged<T>> for Stand<J> {
+    ghost use Rattle.hcc_rule.specs.Logs.{Logs};
     ghost use Rattle.hcc_rule.specs.ToldLedgers.{stands};
 
-    ghost then = { stands J.name };
+    ghost then = { Logs (stands J.name) };
 }
 
 /// What a take of a standalone charge tells.
@@ -48,10 +51,11 @@ pub struct Fall<J> {
     said: PhantomData<J>,
 }
 
-impl<T: Tag, J: Said> Play<(), View<T>> for Fall<J> {
+impl<T: Tag, J: Said> Play<(), Logged<T>> for Fall<J> {
+    ghost use Rattle.hcc_rule.specs.Logs.{Logs};
     ghost use Rattle.hcc_rule.specs.ToldLedgers.{falls};
 
-    ghost then = { falls J.name };
+    ghost then = { Logs (falls J.name) };
 }
 
 impl<T: Tag, A: Allocator> RuleTable<T, A> {
@@ -66,6 +70,8 @@ impl<T: Tag, A: Allocator> RuleTable<T, A> {
         ensures real { J.setup.strict ≡ true
             → result + (view seat.old).work.granted + (view seat.old).work.freed
             + charge_held (view seat.old).records ≤ J.setup.capacity }
+        ensures step {
+            Makes (ledger_at self.now.geometry.slots self.now.geometry.room STANDING) 0 0 result seat.old seat.new }
     {
         self.table
             .shared
@@ -87,6 +93,8 @@ impl<T: Tag, A: Allocator> RuleTable<T, A> {
         ensures real { is_strict self.now ≡ true
             → result + (view seat.old).work.granted + (view seat.old).work.freed
             + charge_held (view seat.old).records ≤ capacity_of self.now }
+        ensures step {
+            Makes (ledger_at self.now.geometry.slots self.now.geometry.room STANDING) 0 0 result seat.old seat.new }
     {
         self.standing_as::<Brand>(seat)
     }
@@ -100,6 +108,8 @@ impl<T: Tag, A: Allocator> RuleTable<T, A> {
         requires said { J.name ≡ name }
         ensures seat { IsSameSeat seat.old seat.new }
         ensures view { view seat.new ≡ after_stand name charge (view seat.old) }
+        ensures step {
+            MakesSome (ledger_at self.now.geometry.slots self.now.geometry.room STANDING) charge 0 seat.old seat.new }
     {
         self.table
             .shared
@@ -118,6 +128,8 @@ impl<T: Tag, A: Allocator> RuleTable<T, A> {
         requires few { length (view seat.old).work.standalones < MOST_HANDLES }
         ensures seat { IsSameSeat seat.old seat.new }
         ensures view { view seat.new ≡ after_stand name charge (view seat.old) }
+        ensures step {
+            MakesSome (ledger_at self.now.geometry.slots self.now.geometry.room STANDING) charge 0 seat.old seat.new }
     {
         self.stand_as::<Brand>(seat, name, charge);
     }
@@ -129,6 +141,8 @@ impl<T: Tag, A: Allocator> RuleTable<T, A> {
         requires said { J.name ≡ name }
         ensures seat { IsSameSeat seat.old seat.new }
         ensures view { view seat.new ≡ after_fall name charge (view seat.old) }
+        ensures step {
+            MakesSome (ledger_at self.now.geometry.slots self.now.geometry.room STANDING) charge 0 seat.old seat.new }
     {
         self.table
             .shared
@@ -145,6 +159,8 @@ impl<T: Tag, A: Allocator> RuleTable<T, A> {
         requires room { (view seat.old).work.freed + charge < 2 ^ 49 }
         ensures seat { IsSameSeat seat.old seat.new }
         ensures view { view seat.new ≡ after_fall name charge (view seat.old) }
+        ensures step {
+            MakesSome (ledger_at self.now.geometry.slots self.now.geometry.room STANDING) charge 0 seat.old seat.new }
     {
         self.fall_as::<Brand>(seat, name, charge);
     }

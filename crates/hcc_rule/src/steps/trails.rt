@@ -2,22 +2,23 @@
 ghost use Rattle.std.specs.Prelude.{◌≡◌, ◌+◌, ◌-◌, ◌*◌, ◌<◌, ◌≤◌, true, length};
 ghost use Rattle.std.specs.List.{list_any};
 ghost use Rattle.hcc_core.specs.World.{times, limit_of};
-ghost use Rattle.hcc_core.specs.Steps.{is_slot};
+ghost use Rattle.hcc_core.specs.Trails.{is_slot};
+ghost use Rattle.hcc_rule.specs.declared.layout.TheConstants.{DISPLACEMENT};
 ghost use Rattle.hcc_rule.specs.declared.view.Record.{Record};
 ghost use Rattle.hcc_rule.specs.Callers.{clients_of, plan_of, slots_of, IsSeatAt};
 ghost use Rattle.hcc_rule.specs.Probes.{trail_to};
 ghost use Rattle.hcc_rule.specs.Rule.{setup_of};
-ghost use Rattle.hcc_rule.specs.Seats.{IsSameSeat, view};
+ghost use Rattle.hcc_rule.specs.Seats.{IsSameSeat, view, Makes, MakesSome};
 ghost use Rattle.hcc_rule.specs.ToldTrails.{after_pass, after_unpass, passed_held, Passed};
 ghost use Rattle.hcc_rule.specs.Views.{different, Each};
-ghost use Rattle.hcc_rule.specs.Words.{key_of};
+ghost use Rattle.hcc_rule.specs.Words.{key_of, field_at};
 
 use super::planned::Planned;
 use super::said::Said;
 use crate::key::Tag;
 use crate::layout::DISPLACEMENT;
 use crate::table::{RuleSeat, RuleTable};
-use crate::view::View;
+use crate::view::Logged;
 use atomic_table::Play;
 use std::alloc::Allocator;
 use std::marker::{Brand, PhantomData};
@@ -27,10 +28,11 @@ pub struct Count<J> {
     said: PhantomData<J>,
 }
 
-impl<T: Tag, J: Said + Planned> Play<(), View<T>> for Count<J> {
+impl<T: Tag, J: Said + Planned> Play<(), Logged<T>> for Count<J> {
+    ghost use Rattle.hcc_rule.specs.Logs.{Logs};
     ghost use Rattle.hcc_rule.specs.ToldTrails.{counts};
 
-    ghost then = { counts J.setup J.slot };
+    ghost then = { Logs (counts J.setup J.slot) };
 }
 
 /// What an add to a displacement word tells.
@@ -38,10 +40,11 @@ pub struct Pass<J> {
     said: PhantomData<J>,
 }
 
-impl<T: Tag, J: Said> Play<(), View<T>> for Pass<J> {
+impl<T: Tag, J: Said> Play<(), Logged<T>> for Pass<J> {
+    ghost use Rattle.hcc_rule.specs.Logs.{Logs};
     ghost use Rattle.hcc_rule.specs.ToldTrails.{passes};
 
-    ghost then = { passes J.slot };
+    ghost then = { Logs (passes J.slot) };
 }
 
 /// What a take from a displacement word tells.
@@ -49,10 +52,11 @@ pub struct Unpass<J> {
     said: PhantomData<J>,
 }
 
-impl<T: Tag, J: Said> Play<(), View<T>> for Unpass<J> {
+impl<T: Tag, J: Said> Play<(), Logged<T>> for Unpass<J> {
+    ghost use Rattle.hcc_rule.specs.Logs.{Logs};
     ghost use Rattle.hcc_rule.specs.ToldTrails.{unpasses};
 
-    ghost then = { unpasses J.slot };
+    ghost then = { Logs (unpasses J.slot) };
 }
 
 impl<T: Tag, A: Allocator> RuleTable<T, A> {
@@ -63,6 +67,8 @@ impl<T: Tag, A: Allocator> RuleTable<T, A> {
         ensures seat { IsSameSeat seat.old seat.new }
         ensures view { view seat.new ≡ view seat.old }
         ensures found { Passed J.setup slot (view seat.old) result }
+        ensures step {
+            Makes (field_at self.now.geometry.room slot DISPLACEMENT) 0 0 result seat.old seat.new }
     {
         self.table
             .shared
@@ -97,6 +103,8 @@ impl<T: Tag, A: Allocator> RuleTable<T, A> {
             + length (view seat.old).made }
         ensures held { Each (λ (r : Record). times slot (trail_to self.now.geometry.slots (key_of r.entry) r.slot) ≤ result) (view seat.old).records }
         ensures within { Each (λ (r : Record). r.slot < self.now.geometry.slots) (view seat.old).records }
+        ensures step {
+            Makes (field_at self.now.geometry.room slot DISPLACEMENT) 0 0 result seat.old seat.new }
     {
         self.count_as::<Brand>(seat, slot)
     }
@@ -108,6 +116,8 @@ impl<T: Tag, A: Allocator> RuleTable<T, A> {
         requires said { J.slot ≡ slot }
         ensures seat { IsSameSeat seat.old seat.new }
         ensures view { view seat.new ≡ after_pass slot (view seat.old) }
+        ensures step {
+            MakesSome (field_at self.now.geometry.room slot DISPLACEMENT) 1 0 seat.old seat.new }
     {
         self.table
             .shared
@@ -124,6 +134,8 @@ impl<T: Tag, A: Allocator> RuleTable<T, A> {
         requires room { length (view seat.old).work.trail < self.now.geometry.slots }
         ensures seat { IsSameSeat seat.old seat.new }
         ensures view { view seat.new ≡ after_pass slot (view seat.old) }
+        ensures step {
+            MakesSome (field_at self.now.geometry.room slot DISPLACEMENT) 1 0 seat.old seat.new }
     {
         self.pass_as::<Brand>(seat, slot);
     }
@@ -135,6 +147,8 @@ impl<T: Tag, A: Allocator> RuleTable<T, A> {
         requires said { J.slot ≡ slot }
         ensures seat { IsSameSeat seat.old seat.new }
         ensures view { view seat.new ≡ after_unpass slot (view seat.old) }
+        ensures step {
+            MakesSome (field_at self.now.geometry.room slot DISPLACEMENT) 1 0 seat.old seat.new }
     {
         self.table
             .shared
@@ -151,6 +165,8 @@ impl<T: Tag, A: Allocator> RuleTable<T, A> {
         requires passed { list_any (is_slot slot) (view seat.old).work.trail ≡ true }
         ensures seat { IsSameSeat seat.old seat.new }
         ensures view { view seat.new ≡ after_unpass slot (view seat.old) }
+        ensures step {
+            MakesSome (field_at self.now.geometry.room slot DISPLACEMENT) 1 0 seat.old seat.new }
     {
         self.unpass_as::<Brand>(seat, slot);
     }

@@ -1,8 +1,8 @@
 //! How a worker frees an entry.
 ghost use Rattle.std.specs.Prelude.{◌≡◌, ◌<◌, [], IfSome, option_to_list};
-ghost use Rattle.hcc_core.specs.declared.state.Owned.TheVariants.{ForFreeing};
-ghost use Rattle.hcc_core.specs.declared.state.Stamp.{Stamp};
-ghost use Rattle.hcc_core.specs.Steps.{new_client};
+ghost use Rattle.hcc_core.specs.declared.client.Owned.TheVariants.{ForFreeing};
+ghost use Rattle.hcc_core.specs.declared.slot.Stamp.{Stamp};
+ghost use Rattle.hcc_core.specs.Opening.{new_client};
 ghost use Rattle.hcc_rule.specs.declared.view.Made.{Made};
 ghost use Rattle.hcc_rule.specs.Hands.{Carries, IsReady};
 ghost use Rattle.hcc_rule.specs.Probes.{trail_to};

@@ -1,10 +1,10 @@
 //! How a worker shows an entry.
 ghost use Rattle.std.specs.Prelude.{◌≡◌, ◌+◌, ◌^◌, ◌<◌, ◌≤◌, [], Some, None, IfSome, option_to_list};
 ghost use Rattle.hcc_core.specs.declared.limits.TheConstants.{STAMPS_PER_CLIENT};
-ghost use Rattle.hcc_core.specs.declared.state.Entry.{Entry};
-ghost use Rattle.hcc_core.specs.declared.state.Owned.TheVariants.{ForBuilding};
-ghost use Rattle.hcc_core.specs.declared.state.Place.TheVariants.{Granted};
-ghost use Rattle.hcc_core.specs.Steps.{new_client};
+ghost use Rattle.hcc_core.specs.declared.slot.Entry.{Entry};
+ghost use Rattle.hcc_core.specs.declared.client.Owned.TheVariants.{ForBuilding};
+ghost use Rattle.hcc_core.specs.declared.client.Place.TheVariants.{Granted};
+ghost use Rattle.hcc_core.specs.Opening.{new_client};
 ghost use Rattle.hcc_rule.specs.Hands.{Carries, IsReady};
 ghost use Rattle.hcc_rule.specs.Probes.{trail_to};
 ghost use Rattle.hcc_rule.specs.Seats.{view};

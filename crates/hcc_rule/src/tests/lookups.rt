@@ -1,8 +1,8 @@
 //! How a worker looks an entry up, and counts it down.
 ghost use Rattle.std.specs.Prelude.{◌≡◌, ◌<◌, ◌≤◌, [], ◌∷◌, true, IsSomeAnd};
 ghost use Rattle.hcc_core.specs.declared.limits.TheConstants.{MOST_WEIGHT};
-ghost use Rattle.hcc_core.specs.declared.state.Entry.{Entry};
-ghost use Rattle.hcc_core.specs.Steps.{new_client};
+ghost use Rattle.hcc_core.specs.declared.slot.Entry.{Entry};
+ghost use Rattle.hcc_core.specs.Opening.{new_client};
 ghost use Rattle.hcc_word.specs.Word.{is_counting};
 ghost use Rattle.hcc_rule.specs.Hands.{Carries, IsReady};
 ghost use Rattle.hcc_rule.specs.Seats.{view};

@@ -1,8 +1,8 @@
 //! A client that makes calls at a table, and settles what a call freed. Between the calls here it has
 //! one handle, or none, and nothing else in hand.
 ghost use Rattle.std.specs.Prelude.{◌≡◌, ◌<◌, ◌≤◌, [], IfSome, IfNone, length};
-ghost use Rattle.hcc_core.specs.declared.state.Place.TheVariants.{Granted};
-ghost use Rattle.hcc_core.specs.Steps.{new_client};
+ghost use Rattle.hcc_core.specs.declared.client.Place.TheVariants.{Granted};
+ghost use Rattle.hcc_core.specs.Opening.{new_client};
 ghost use Rattle.hcc_rule.specs.Callers.{plan_of, IsSeatAt};
 ghost use Rattle.hcc_rule.specs.Hands.{Carries, IsBench, IsReady};
 ghost use Rattle.hcc_rule.specs.Seats.{view};

@@ -2,8 +2,8 @@
 //! holds no reference.
 ghost use Rattle.std.specs.Prelude.{◌≡◌, ◌+◌, ◌*◌, ◌<◌, ◌≤◌, [], IfOk, length};
 ghost use Rattle.hcc_core.specs.declared.limits.TheConstants.{MOST_CLIENTS, STAMPS_PER_CLIENT};
-ghost use Rattle.hcc_core.specs.declared.state.Place.TheVariants.{Granted};
-ghost use Rattle.hcc_core.specs.Steps.{new_client};
+ghost use Rattle.hcc_core.specs.declared.client.Place.TheVariants.{Granted};
+ghost use Rattle.hcc_core.specs.Opening.{new_client};
 ghost use Rattle.hcc_rule.specs.Callers.{plan_of, IsSeatAt, AreSeatsAt};
 ghost use Rattle.hcc_rule.specs.Hands.{Carries, IsReady, IsReadySeatAt};
 ghost use Rattle.hcc_rule.specs.Seats.{view};

@@ -1,7 +1,7 @@
 //! What a caller does that holds two handles: on an entry that is hidden, and on another of its key.
 ghost use Rattle.std.specs.Prelude.{◌≡◌, ◌<◌, ◌≤◌, [], ◌∷◌, length};
-ghost use Rattle.hcc_core.specs.declared.state.Place.TheVariants.{Granted};
-ghost use Rattle.hcc_core.specs.Steps.{new_client};
+ghost use Rattle.hcc_core.specs.declared.client.Place.TheVariants.{Granted};
+ghost use Rattle.hcc_core.specs.Opening.{new_client};
 ghost use Rattle.hcc_rule.specs.declared.view.Record.{Record};
 ghost use Rattle.hcc_rule.specs.Hands.{Carries};
 ghost use Rattle.hcc_rule.specs.Seats.{view};

@@ -1,4 +1,5 @@
 use Rattle.std.proofs.Common.{ap, is_some, arith}
+use Rattle.hcc_rule.proofs.Lifts.{added, lifted}
 use Rattle.hcc_rule.proofs.UsageSteps.{charge_step}
 use Rattle.hcc_rule.proofs.table.RuleTable.charge_as.Goals as goal
 
@@ -10,7 +11,8 @@ fetch_add-requires g c =
     let said = c.requires.said in (
       seat.table,
       c.ledger.ensures.inside,
-      charge_step g.T.Tag.fits c.args.self.now.table.shared.key _ _ _ _
+      lifted g.T.Tag.fits c.args.self.now.table.shared.key (added c.args.amount)
+          (charge_step g.T.Tag.fits c.args.self.now.table.shared.key _ _ _ _
           (ap is_some seat.tagged) (rw planned.0 c.ledger.ensures.value)
-          g.J.Planned.setup c.args.amount said (omega arith) spent.0 spent.1,
+          g.J.Planned.setup c.args.amount said (omega arith) spent.0 spent.1),
     )

@@ -1,4 +1,5 @@
 use Rattle.std.proofs.Common.{ap, is_some}
+use Rattle.hcc_rule.proofs.Lifts.{exchanged, lifted}
 use Rattle.hcc_rule.proofs.Exchanges.{correct_step}
 use Rattle.hcc_rule.proofs.table.RuleTable.correct_as.Goals as goal
 
@@ -9,7 +10,8 @@ compare_exchange-requires g c =
     let said = c.requires.said in (
       seat.table,
       c.address.ensures.inside,
-      correct_step g.T.Tag.fits c.args.self.now.table.shared.key _ _ g.J.Said.slot g.J.Said.name _ c.args.old c.args.new _
+      lifted g.T.Tag.fits c.args.self.now.table.shared.key (exchanged c.args.old c.args.new)
+          (correct_step g.T.Tag.fits c.args.self.now.table.shared.key _ _ g.J.Said.slot g.J.Said.name _ c.args.old c.args.new _
           (ap is_some seat.tagged) (rw said.1 c.ranges.name.fits) (rw (said.0, planned.0) c.address.ensures.value)
-          (rw (said.1, said.0) c.requires.holds) c.requires.correctable c.requires.corrected,
+          (rw (said.1, said.0) c.requires.holds) c.requires.correctable c.requires.corrected),
     )

@@ -1,4 +1,5 @@
 use Rattle.std.proofs.Common.{ap, is_some}
+use Rattle.hcc_rule.proofs.Lifts.{added, lifted}
 use Rattle.hcc_rule.proofs.OccupancySteps.{enter_step}
 use Rattle.hcc_rule.proofs.table.RuleTable.enter_as.Goals as goal
 
@@ -8,7 +9,8 @@ fetch_add-requires g c =
     let seat = c.requires.seat in (
       seat.table,
       c.ledger.ensures.inside,
-      enter_step g.T.Tag.fits c.args.self.now.table.shared.key _ _ _ _
+      lifted g.T.Tag.fits c.args.self.now.table.shared.key (added 1)
+          (enter_step g.T.Tag.fits c.args.self.now.table.shared.key _ _ _ _
           (ap is_some seat.tagged) (rw planned.0 c.ledger.ensures.value)
-          g.J.Planned.setup c.requires.said c.requires.absent,
+          g.J.Planned.setup c.requires.said c.requires.absent),
     )

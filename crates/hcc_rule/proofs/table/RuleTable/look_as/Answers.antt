@@ -1,4 +1,5 @@
 use Rattle.std.proofs.Common.{ap, is_some}
+use Rattle.hcc_rule.proofs.Lifts.{loaded, lifted}
 use Rattle.hcc_rule.proofs.Looks.{look_step}
 use Rattle.hcc_rule.proofs.table.RuleTable.look_as.Goals as goal
 
@@ -9,8 +10,9 @@ load-requires g c =
     let said = c.requires.said in (
       seat.table,
       c.address.ensures.inside,
-      look_step g.T.Tag.fits c.args.self.now.table.shared.key _ _ g.J.Said.slot _ _
+      lifted g.T.Tag.fits c.args.self.now.table.shared.key loaded
+          (look_step g.T.Tag.fits c.args.self.now.table.shared.key _ _ g.J.Said.slot _ _
           g.J.Planned.setup said.1
           (rw (said.0, planned.0) c.requires.slot) (ap is_some seat.tagged)
-          (rw (said.0, planned.0) c.address.ensures.value),
+          (rw (said.0, planned.0) c.address.ensures.value)),
     )

@@ -1,4 +1,5 @@
 use Rattle.std.proofs.Common.{ap, is_some}
+use Rattle.hcc_rule.proofs.Lifts.{added, lifted}
 use Rattle.hcc_rule.proofs.TrailSteps.{pass_step}
 use Rattle.hcc_rule.proofs.table.RuleTable.pass_as.Goals as goal
 
@@ -9,8 +10,9 @@ fetch_add-requires g c =
     let said = c.requires.said in (
       seat.table,
       c.address.ensures.inside,
-      pass_step g.T.Tag.fits c.args.self.now.table.shared.key _ _ g.J.Said.slot _ _
+      lifted g.T.Tag.fits c.args.self.now.table.shared.key (added 1)
+          (pass_step g.T.Tag.fits c.args.self.now.table.shared.key _ _ g.J.Said.slot _ _
           (rw (said, planned.0) c.requires.slot) (ap is_some seat.tagged)
           (rw (said, planned.0) c.address.ensures.value)
-          (rw planned.0 c.requires.room),
+          (rw planned.0 c.requires.room)),
     )

@@ -1,4 +1,5 @@
 use Rattle.std.proofs.Common.{ap, is_some, sym, ◌∙◌}
+use Rattle.hcc_rule.proofs.Lifts.{loaded, lifted}
 use Rattle.hcc_rule.proofs.Addresses.{data_field}
 use Rattle.hcc_rule.proofs.DataWords.{read_own_step}
 use Rattle.hcc_rule.proofs.table.RuleTable.read_own_as.Goals as goal
@@ -10,7 +11,8 @@ load-requires g c =
     let said = c.requires.said in (
       seat.table,
       c.address.ensures.inside,
-      read_own_step g.T.Tag.fits c.args.self.now.table.shared.key _ _ c.args.slot g.J.Said.index _ _
+      lifted g.T.Tag.fits c.args.self.now.table.shared.key loaded
+          (read_own_step g.T.Tag.fits c.args.self.now.table.shared.key _ _ c.args.slot g.J.Said.index _ _
           c.requires.owned (ap is_some seat.tagged)
-          (rw (planned.0, said) (c.address.ensures.value ∙ sym (data_field _ c.args.slot c.args.index))),
+          (rw (planned.0, said) (c.address.ensures.value ∙ sym (data_field _ c.args.slot c.args.index)))),
     )

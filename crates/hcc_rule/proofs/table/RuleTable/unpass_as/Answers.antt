@@ -1,4 +1,5 @@
 use Rattle.std.proofs.Common.{ap, is_some}
+use Rattle.hcc_rule.proofs.Lifts.{taken, lifted}
 use Rattle.hcc_rule.proofs.TrailSteps.{unpass_step}
 use Rattle.hcc_rule.proofs.table.RuleTable.unpass_as.Goals as goal
 
@@ -9,8 +10,9 @@ fetch_sub-requires g c =
     let said = c.requires.said in (
       seat.table,
       c.address.ensures.inside,
-      unpass_step g.T.Tag.fits c.args.self.now.table.shared.key _ _ g.J.Said.slot _ _
+      lifted g.T.Tag.fits c.args.self.now.table.shared.key (taken 1)
+          (unpass_step g.T.Tag.fits c.args.self.now.table.shared.key _ _ g.J.Said.slot _ _
           (rw (said, planned.0) c.requires.slot) (ap is_some seat.tagged)
           (rw (said, planned.0) c.address.ensures.value)
-          (rw said c.requires.passed),
+          (rw said c.requires.passed)),
     )
