@@ -14,7 +14,8 @@ use Rattle.hcc_core.specs.Ledgers.{is_standing}
 use Rattle.hcc_core.proofs.SumLemmas.{total-member, total-append, total-le, length-push}
 use Rattle.hcc_core.proofs.DroppedLemmas.{dropped-total, dropped-length}
 use Rattle.hcc_rule.specs.declared.key.Key.{Key}
-use Rattle.hcc_rule.specs.declared.layout.TheConstants.{STANDING, MOST_HANDLES}
+use Rattle.hcc_rule.specs.declared.layout.TheConstants.{STANDING}
+use Rattle.hcc_core.specs.declared.limits.TheConstants.{MOST_HANDLES}
 use Rattle.hcc_rule.specs.declared.rule.Plan.{Plan}
 use Rattle.hcc_rule.specs.declared.view.View.{View}
 use Rattle.hcc_rule.specs.Told.{Held}

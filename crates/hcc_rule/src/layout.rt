@@ -53,5 +53,3 @@ pub const MOST_ROOM: u32 = 512;
 /// The greatest capacity, `2^40`.
 pub const MOST_CAPACITY: u64 = 1_099_511_627_776;
 
-/// The most handles of one client: each is a reference, and a call in flight has three more.
-pub const MOST_HANDLES: u32 = 16_384;
