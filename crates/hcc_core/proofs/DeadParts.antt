@@ -1,5 +1,7 @@
 -- The entries that clients have seen dead stay hidden.
-use Rattle.std.proofs.Common.{◌≡◌, ◌⊎◌, inl, inr, ℕ, ◌+◌, ◌<◌, ◌≤◌, ◌||◌, ◌==◌, Bool, true, false, cond, List, [], ◌∷◌, ◌++◌, Option, Some, None, slice_set, slice_get, refl, ap, sym, ◌∙◌, arith}
+use Rattle.std.proofs.Common.{◌≡◌, ◌⊎◌, inl, inr, ℕ, ◌+◌, ◌<◌, ◌≤◌, ◌||◌, ◌==◌, Bool, true, false}
+use Rattle.std.proofs.Common.{cond, List, [], ◌∷◌, ◌++◌, Option, Some, None, slice_set, slice_get}
+use Rattle.std.proofs.Common.{refl, ap, sym, ◌∙◌, arith}
 use Rattle.std.specs.List.{list_any}
 use Rattle.std.proofs.lemmas.Bool.{and_parts, or_cases, cases_eq, eqb-true, false≢true}
 use Rattle.hcc_core.specs.declared.client.Client.{Client}
@@ -8,7 +10,8 @@ use Rattle.hcc_core.specs.declared.slot.Slot.{Slot}
 use Rattle.hcc_core.specs.declared.slot.Slot.TheVariants as slots
 use Rattle.hcc_core.specs.World.{stamp_of, hidden_stamp, has_client}
 use Rattle.hcc_core.specs.References.{is_stamp, joined, dead_to}
-use Rattle.hcc_core.specs.Lawful.{Dead, Stamped, stamp_in, stamps_by, dead_by, shown_stamp, shown_in, is_in}
+use Rattle.hcc_core.specs.Lawful.{Dead, Stamped, stamp_in, stamps_by, dead_by, shown_stamp}
+use Rattle.hcc_core.specs.Lawful.{shown_in, is_in}
 use Rattle.hcc_core.proofs.ListLemmas.{read_here, read_other}
 
 -- two stamps that test alike are one
@@ -22,7 +25,11 @@ same_stamp a b h =
 -- what stands in a list with one more
 in_push : (m : Stamp) (dead : List Stamp) (stamp : Stamp) → is_in m (dead ++ stamp ∷ []) ≡ true
     → (is_in m dead ≡ true) ⊎ (stamp ≡ m)
-in_push m [] stamp h = elim (or_cases (is_stamp m stamp) false h) [ inl e ↦ inr (sym (same_stamp m stamp e)) | inr e ↦ absurd (false≢true e) ]
+in_push m [] stamp h = elim (or_cases (is_stamp m stamp) false h) [
+  | inl e ↦
+      inr (sym (same_stamp m stamp e))
+  | inr e ↦ absurd (false≢true e)
+]
 in_push m (d ∷ ds) stamp h = by (is_stamp m d) (in_push m ds stamp) h
   where
     by : (b : Bool) → (is_in m (ds ++ stamp ∷ []) ≡ true → (is_in m ds ≡ true) ⊎ (stamp ≡ m))
@@ -39,7 +46,11 @@ in_joined m dead (Some stamp) h = by (list_any (is_stamp stamp) dead) h
     by : (b : Bool) → is_in m (cond b dead (dead ++ stamp ∷ [])) ≡ true
         → (is_in m dead ≡ true) ⊎ (Some stamp ≡ Some m)
     by true h = inl h
-    by false h = elim (in_push m dead stamp h) [ inl e ↦ inl e | inr e ↦ inr (ap (λ (x : Stamp). Some x) e) ]
+    by false h = elim (in_push m dead stamp h) [
+      | inl e ↦ inl e
+      | inr e ↦
+          inr (ap (λ (x : Stamp). Some x) e)
+    ]
 
 -- what a client sees dead is the stamp of the slot
 hidden_is_stamp : (slot : Slot) (m : Stamp) → hidden_stamp slot ≡ Some m
@@ -88,17 +99,23 @@ grave all clients slot seen left m stamped at_slot stamp none = record {
   unshown = λ s h. elim (cases_eq s slot) [
     | inl same ↦
         let here = ap shown_in (read_here all slot seen left at_slot) ∙ none in
-        let bad : None ≡ Some m = sym here ∙ ap (λ k. shown_in (slice_get (slice_set all slot left) k)) (sym same) ∙ h in
+        let bad : None ≡ Some m = sym here
+        ∙ ap (λ k. shown_in (slice_get (slice_set all slot left) k)) (sym same) ∙ h in
         cc
     | inr other ↦
-        let there : shown_in (slice_get all s) ≡ Some m = sym (ap shown_in (read_other all slot s left other)) ∙ h in
-        absurd (other (stamped.apart s slot m (shown_is_stamp (slice_get all s) m there) (ap stamp_in at_slot ∙ stamp)))
+        let there : shown_in (slice_get all s) ≡ Some m =
+        sym (ap shown_in (read_other all slot s left other)) ∙ h in
+        absurd
+        (other
+        (stamped.apart s slot m (shown_is_stamp (slice_get all s) m there)
+        (ap stamp_in at_slot ∙ stamp)))
   ];
 }
 
 -- no entry comes to be shown, and only graves join the lists
 pub dead_kept : (all all' : List Slot) (clients clients' : List Client) → Dead all clients
-    → ((s : ℕ) (m : Stamp) → shown_in (slice_get all' s) ≡ Some m → shown_in (slice_get all s) ≡ Some m)
+    → ((s : ℕ) (m : Stamp) → shown_in (slice_get all' s) ≡ Some m
+    → shown_in (slice_get all s) ≡ Some m)
     → ((c : ℕ) → stamps_by (slice_get clients' c) ≡ stamps_by (slice_get clients c))
     → ((c : ℕ) (m : Stamp) → is_in m (dead_by (slice_get clients' c)) ≡ true
     → (is_in m (dead_by (slice_get clients c)) ≡ true) ⊎ Grave all' clients m)
@@ -115,28 +132,35 @@ dead_kept all all' clients clients' d fewer counts lists = record {
 }
 
 -- one entry comes to be shown, with the next stamp of its maker, which nobody has seen
-pub dead_shown : (all : List Slot) (clients : List Client) (slot client : ℕ) (seen left : Slot) (old new : Client)
+pub dead_shown : (all : List Slot) (clients : List Client) (slot client : ℕ)
+    (seen left : Slot) (old new : Client)
     → Dead all clients
     → slice_get all slot ≡ Some seen → slice_get clients client ≡ Some old
     → shown_stamp left ≡ Some (record { client = client; number = old.stamps })
     → new.stamps ≡ old.stamps + 1 → new.dead ≡ old.dead
     → Dead (slice_set all slot left) (slice_set clients client new)
-dead_shown all clients slot client seen left old new d at_slot at_client stamp stamps dead = record {
-  made = λ c m h. let below = d.made c m (was c m h) in let more = count m.client in omega arith;
-  unshown = λ c s m h shown. elim (cases_eq s slot) [
-    | inl same ↦
-        let fresh : Stamp = record { client = client; number = old.stamps } in
-        let here : shown_in (slice_get (slice_set all slot left) slot) ≡ Some fresh = ap shown_in (read_here all slot seen left at_slot) ∙ stamp in
-        let there = ap (λ k. shown_in (slice_get (slice_set all slot left) k)) (sym same) ∙ shown in
-        let m_is : m ≡ fresh = cc in
-        let below = d.made c m (was c m h) in
-        let number = ap (λ (x : Stamp). x.number) m_is in
-        let maker = ap (λ (x : Stamp). stamps_by (slice_get clients x.client)) m_is in
-        let counted = ap stamps_by at_client in
-        absurd (omega arith)
-    | inr other ↦ d.unshown c s m (was c m h) (sym (ap shown_in (read_other all slot s left other)) ∙ shown)
-  ];
-}
+dead_shown all clients slot client seen left old new d at_slot at_client stamp stamps dead =
+    record {
+      made = λ c m h.
+          let below = d.made c m (was c m h) in let more = count m.client in omega arith;
+      unshown = λ c s m h shown. elim (cases_eq s slot) [
+        | inl same ↦
+            let fresh : Stamp = record { client = client; number = old.stamps } in
+            let here : shown_in (slice_get (slice_set all slot left) slot) ≡ Some fresh =
+            ap shown_in (read_here all slot seen left at_slot) ∙ stamp in
+            let there =
+            ap (λ k. shown_in (slice_get (slice_set all slot left) k)) (sym same) ∙ shown in
+            let m_is : m ≡ fresh = cc in
+            let below = d.made c m (was c m h) in
+            let number = ap (λ (x : Stamp). x.number) m_is in
+            let maker = ap (λ (x : Stamp). stamps_by (slice_get clients x.client)) m_is in
+            let counted = ap stamps_by at_client in
+            absurd (omega arith)
+        | inr other ↦
+            d.unshown c s m (was c m h)
+            (sym (ap shown_in (read_other all slot s left other)) ∙ shown)
+      ];
+    }
   where
     was : (c : ℕ) (m : Stamp)
         → is_in m (dead_by (slice_get (slice_set clients client new) c)) ≡ true

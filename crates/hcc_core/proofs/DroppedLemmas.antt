@@ -1,5 +1,7 @@
 -- A list without its first member that passes a test.
-use Rattle.std.proofs.Common.{◌≡◌, ℕ, suc, ◌+◌, ◌<◌, ◌≤◌, Bool, true, false, not, cond, nat_lt, List, [], ◌∷◌, Some, None, length, remove, position, one-add, refl, ap, arith}
+use Rattle.std.proofs.Common.{◌≡◌, ℕ, suc, ◌+◌, ◌<◌, ◌≤◌, Bool, true, false, not, cond, nat_lt}
+use Rattle.std.proofs.Common.{List, [], ◌∷◌, Some, None, length, remove, position, one-add, refl}
+use Rattle.std.proofs.Common.{ap, arith}
 use Rattle.std.specs.List.{find, position_or_len}
 use Rattle.std.proofs.lemmas.Bool.{ltb-true, ltb-false}
 use Rattle.hcc_core.specs.Sums.{total}
@@ -47,7 +49,8 @@ module _ {X : Type 0} (p : X → Bool) where
       by : (b : Bool)
           → (position_or_len p ys < length ys → remove ys (position_or_len p ys) ≡ dropped p ys)
           → cond (not b) (1 + position_or_len p ys) 0 < length (y ∷ ys)
-          → remove (y ∷ ys) (cond (not b) (1 + position_or_len p ys) 0) ≡ cond b ys (y ∷ dropped p ys)
+          → remove (y ∷ ys) (cond (not b) (1 + position_or_len p ys) 0)
+          ≡ cond b ys (y ∷ dropped p ys)
       by true later h = refl
       by false later h = rw one-add (ap (λ rest. y ∷ rest) (later (omega arith)))
 

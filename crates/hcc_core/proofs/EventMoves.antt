@@ -1,5 +1,6 @@
 -- What each event moves where it is allowed. What an event that shows adds, `Shows` says.
-use Rattle.std.proofs.Common.{◌≡◌, ℕ, ◌+◌, ◌-◌, ◌&&◌, ◌||◌, nat_lt, nat_le, is_none, true, not, length, List, Option, Some, Result, Ok, Err, slice_set, refl}
+use Rattle.std.proofs.Common.{◌≡◌, ℕ, ◌+◌, ◌-◌, ◌&&◌, ◌||◌, nat_lt, nat_le, is_none, true, not}
+use Rattle.std.proofs.Common.{length, List, Option, Some, Result, Ok, Err, slice_set, refl}
 use Rattle.std.specs.List.{find, list_any}
 use Rattle.std.specs.Option.{ok_or}
 use Rattle.std.proofs.lemmas.Bool.{and_parts}
@@ -29,7 +30,8 @@ use Rattle.hcc_core.specs.Lawful.{stamps_by}
 use Rattle.hcc_core.proofs.ListLemmas.{read_same}
 use Rattle.hcc_core.proofs.Keeps.{found_ok, live_ok, may_ok}
 use Rattle.hcc_core.proofs.HeldNames.{unheld}
-use Rattle.hcc_core.proofs.Moves.{Moves, Turns, still, client_moves, slot_moves, emptied, taken, given, used, hid, marked, recounted, got}
+use Rattle.hcc_core.proofs.Moves.{Moves, Turns, still, client_moves, slot_moves, emptied, taken}
+use Rattle.hcc_core.proofs.Moves.{given, used, hid, marked, recounted, got}
 
 -- what the world after moved, where the step is made
 abbrev pub Moved : State → Outcome → Type 0
@@ -88,7 +90,8 @@ acquire_moves w client slot weight name =
     chain w (allow (may_acquire w.setup w.slots client found slot seen weight name)) _ (λ u may.
     both_move w slot client seen _ found _ at live
     (got w client name weight seen (unheld w client name
-    (unheld_to_acquire w.setup w.slots client found slot seen weight name (may_ok _ u may)))) refl)))
+    (unheld_to_acquire w.setup w.slots client found slot seen weight name (may_ok _ u may))))
+    refl)))
 
 pub give_moves : (w : State) (client name : ℕ) → Moved w (give_of w client name)
 unfolding give_of
@@ -116,7 +119,8 @@ pub read_moves : (w : State) (client name : ℕ) → Moved w (read_of w client n
 unfolding read_of
 read_moves w client name =
     chain w (live_at w client) _ (λ found live. chain w (holding w client name) _ (λ slot held.
-    chain w (slot_at w slot) _ (λ seen at. chain w (entry_read seen) _ (λ entry is. still w w.hand))))
+    chain w (slot_at w slot) _
+    (λ seen at. chain w (entry_read seen) _ (λ entry is. still w w.hand))))
 
 -- The events on uses and marks.
 
@@ -139,7 +143,8 @@ pub correct_moves : (w : State) (client name : ℕ) → Moved w (correct_of w cl
 unfolding correct_of
 correct_moves w client name =
     chain w (live_at w client) _ (λ found live. chain w (holding w client name) _ (λ slot held.
-    chain w (slot_at w slot) _ (λ seen at. chain w (allow (may_correct client name seen)) _ (λ u may.
+    chain w (slot_at w slot) _
+    (λ seen at. chain w (allow (may_correct client name seen)) _ (λ u may.
     both_move w slot client seen _ found _ at live
     (recounted w (uses_of seen - CORRECTION) seen) refl))))
 
@@ -161,10 +166,12 @@ occupy_moves w client slot =
 
 pub write_moves : (w : State) (client : ℕ) → Moved w (write_of w client)
 write_moves w client =
-    chain w (live_at w client) _ (λ found live. chain w (allow (is_building found.owned)) _ (λ u builds.
+    chain w (live_at w client) _
+    (λ found live. chain w (allow (is_building found.owned)) _ (λ u builds.
     still w w.hand))
 
-pub free_moves : (w : State) (client slot : ℕ) (name : Option ℕ) → Moved w (free_of w client slot name)
+pub free_moves : (w : State) (client slot : ℕ) (name : Option ℕ)
+    → Moved w (free_of w client slot name)
 unfolding free_of
 free_moves w client slot name =
     chain w (slot_at w slot) _ (λ seen at. chain w (live_at w client) _ (λ found live.
@@ -185,7 +192,8 @@ empty_moves w client =
 pub enter_moves : (w : State) (client : ℕ) → Moved w (enter_of w client)
 unfolding enter_of
 enter_moves w client =
-    chain w (live_at w client) _ (λ found live. chain w (allow (is_absent found.place)) _ (λ u absent.
+    chain w (live_at w client) _
+    (λ found live. chain w (allow (is_absent found.place)) _ (λ u absent.
     live_moves w client found _ live refl))
 
 pub slots_moves : (w : State) (client : ℕ) → Moved w (slots_of w client)
@@ -198,7 +206,8 @@ slots_moves w client =
 pub quit_moves : (w : State) (client : ℕ) → Moved w (quit_of w client)
 unfolding quit_of
 quit_moves w client =
-    chain w (live_at w client) _ (λ found live. chain w (allow (is_placed found.place)) _ (λ u placed.
+    chain w (live_at w client) _
+    (λ found live. chain w (allow (is_placed found.place)) _ (λ u placed.
     live_moves w client found _ live refl))
 
 pub charge_moves : (w : State) (client charge : ℕ) → Moved w (charge_by w client charge)
@@ -261,7 +270,8 @@ end_moves w client =
 pub count_moves : (w : State) (client slot : ℕ) → Moved w (count_of w client slot)
 unfolding count_of
 count_moves w client slot =
-    chain w (slot_at w slot) _ (λ seen at. chain w (live_at w client) _ (λ found live. still w w.hand))
+    chain w (slot_at w slot) _
+    (λ seen at. chain w (live_at w client) _ (λ found live. still w w.hand))
 
 pub pass_moves : (w : State) (client slot : ℕ) → Moved w (pass_of w client slot)
 unfolding pass_of

@@ -1,6 +1,8 @@
 -- What holds of every run: its worlds are lawful, a reference that stands keeps its slot and its
 -- entry, and entries are what their shows gave.
-use Rattle.std.proofs.Common.{◌≡◌, ◌⊎◌, inl, inr, ℕ, ◌&&◌, Bool, true, false, cond, List, [], ◌∷◌, ◌++◌, Option, Some, None, Ok, Err, length, replicate, slice_get, refl, sym, ap, ◌∙◌, arith, ◌≤◌}
+use Rattle.std.proofs.Common.{◌≡◌, ◌⊎◌, inl, inr, ℕ, ◌&&◌, Bool, true, false, cond, List, [], ◌∷◌}
+use Rattle.std.proofs.Common.{◌++◌, Option, Some, None, Ok, Err, length, replicate, slice_get, refl}
+use Rattle.std.proofs.Common.{sym, ap, ◌∙◌, arith, ◌≤◌}
 use Rattle.std.specs.Prelude.{option_and_then}
 use Rattle.std.proofs.lemmas.List.{append_assoc, append-nil, length-append}
 use Rattle.hcc_core.specs.declared.event.Event.{Event}
@@ -131,7 +133,8 @@ keeps_places (event ∷ events) w apart client name through s t e f h k =
 apart_opening : (setup : Setup) → Apart (opening_of setup)
 unfolding opening_of
 apart_opening setup client name s t e f h k =
-    absurd (nothing_in (option_and_then (entry_held client name)) setup.slots s new_slot e refl refl h)
+    absurd (nothing_in (option_and_then (entry_held client name))
+    setup.slots s new_slot e refl refl h)
 
 pub run_keeps_places : (setup : Setup) (before events : List Event)
     → KeepsPlaces (after_all (opening_of setup) before) events
@@ -170,7 +173,8 @@ run_finds_one setup events =
 
 -- what the show of a stamp gave, of these shows of each client
 abbrev pub given_by : (ℕ → List Event) → Stamp → Option Entry
-given_by shows stamp = option_and_then (entry_given stamp) (slice_get (shows stamp.client) stamp.number)
+given_by shows stamp = option_and_then (entry_given stamp)
+    (slice_get (shows stamp.client) stamp.number)
 
 -- with these shows of each client so far, each client's count is that of its shows, and each entry
 -- is what its show gave
@@ -202,7 +206,8 @@ made_given w event w' shows g adds = record {
       omega arith;
   entries = λ s e h. elim (adds.entries s e h) [
     | inl old ↦
-        read_before (entry_given e.stamp) (shows e.stamp.client) _ e.stamp.number e (g.entries s e old)
+        read_before (entry_given e.stamp) (shows e.stamp.client)
+        _ e.stamp.number e (g.entries s e old)
     | inr new ↦
         let c : ℕ = e.stamp.client in
         let is_last : e.stamp.number ≡ length (shows c) = new.next ∙ sym (g.counts c) in
@@ -215,7 +220,8 @@ made_given w event w' shows g adds = record {
     one_more true = refl
     one_more false = refl
 
-outcome_given : (w : State) (event : Event) (outcome : Outcome) (shows : ℕ → List Event) → Given w shows
+outcome_given : (w : State) (event : Event) (outcome : Outcome) (shows : ℕ → List Event)
+    → Given w shows
     → Added w event outcome
     → Given (world_after w outcome)
     (λ c. shows c ++ cond (is_made outcome && is_show c event) (event ∷ []) [])
@@ -226,7 +232,8 @@ outcome_given w event (Err error) shows g added =
 -- after any event, refused or not
 after_given : (w : State) (event : Event) (shows : ℕ → List Event) → Given w shows
     → Given (after w event) (λ c. shows c ++ shows_in c w event)
-after_given w event shows g = outcome_given w event (outcome_of w event) shows g (outcome_adds w event)
+after_given w event shows g =
+    outcome_given w event (outcome_of w event) shows g (outcome_adds w event)
 
 -- and after any list of events
 all_given : (events : List Event) (w : State) (shows : ℕ → List Event) → Given w shows
@@ -241,7 +248,8 @@ given_opening : (setup : Setup) → Given (opening_of setup) (λ c. [])
 unfolding opening_of
 given_opening setup = record {
   counts = λ c.
-      none (slice_get (replicate setup.clients new_client) c) (in_replicate setup.clients c new_client);
+      none (slice_get (replicate setup.clients new_client) c)
+      (in_replicate setup.clients c new_client);
   entries = λ s e h.
       absurd (nothing_in (option_and_then entry_of) setup.slots s new_slot e refl refl h);
 }

@@ -1,5 +1,7 @@
 -- Names that clients hold: where they are found, and where not.
-use Rattle.std.proofs.Common.{◌≡◌, ℕ, zero, suc, ◌+◌, ◌<◌, ◌≤◌, ◌&&◌, ◌||◌, ◌==◌, Bool, true, false, cond, not, nat_lt, is_none, List, [], ◌∷◌, Option, Some, None, slice_get, length, position, one-add, refl, sym, ap, ◌∙◌, arith}
+use Rattle.std.proofs.Common.{◌≡◌, ℕ, zero, suc, ◌+◌, ◌<◌, ◌≤◌, ◌&&◌, ◌||◌, ◌==◌, Bool, true, false}
+use Rattle.std.proofs.Common.{cond, not, nat_lt, is_none, List, [], ◌∷◌, Option, Some, None}
+use Rattle.std.proofs.Common.{slice_get, length, position, one-add, refl, sym, ap, ◌∙◌, arith}
 use Rattle.std.specs.Prelude.{option_and_then}
 use Rattle.std.specs.List.{list_any, position_or_len}
 use Rattle.std.proofs.lemmas.Bool.{and_parts, eqb-true, ltb-true, ltb-false, false≢true}
@@ -63,7 +65,8 @@ unheld w client name none s entry h =
   where
     by : (b : Bool)
         → nat_lt (position_or_len (has_reference client name) w.slots) (length w.slots) ≡ b
-        → is_none (cond b (Some (position_or_len (has_reference client name) w.slots)) None) ≡ true → ⊥
+        → is_none (cond b (Some (position_or_len (has_reference client name) w.slots)) None) ≡ true
+        → ⊥
     by true is none = cc
     by false is none =
         let there = held_there client name (slice_get w.slots s) entry h in
@@ -94,7 +97,8 @@ counts_any p (x ∷ xs) h = by (p x) (counts_any p xs) h
 
 -- a slot whose entry is not held under the name has no reference of it
 none_on : (client name : ℕ) (slot : Slot)
-    → ((entry : Entry) → entry_held client name slot ≡ Some entry → ⊥) → named_on client name slot ≡ 0
+    → ((entry : Entry) → entry_held client name slot ≡ Some entry → ⊥)
+    → named_on client name slot ≡ 0
 none_on client name (slots.Empty strays) free = refl
 none_on client name (slots.Building other strays) free = refl
 none_on client name (slots.Shareable r) free = by (named_on client name (slots.Shareable r)) refl
@@ -170,7 +174,8 @@ Apart w = (client name slot slot' : ℕ) (entry entry' : Entry)
     → slot ≡ slot'
 
 -- so the slot that is found is the one where the reference stands
-pub finds_one : (w : State) → Apart w → ((client name : ℕ) → named_in w client name ≤ 1) → FindsOne w
+pub finds_one : (w : State) → Apart w → ((client name : ℕ) → named_in w client name ≤ 1)
+    → FindsOne w
 finds_one w apart one = record {
   one = one;
   stands = found_stands w;

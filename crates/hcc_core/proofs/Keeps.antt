@@ -1,5 +1,7 @@
 -- Every outcome keeps the law: a step that is allowed leads from a lawful world to a lawful one.
-use Rattle.std.proofs.Common.{◌≡◌, ℕ, nat_lt, Bool, true, false, cond, not, List, Option, Some, None, Result, Ok, Err, slice_get, refl, sym, ap, ◌∙◌, ◌-◌, ◌≤◌, ◌&&◌, length, arith}
+use Rattle.std.proofs.Common.{◌≡◌, ℕ, nat_lt, Bool, true, false, cond, not, List, Option, Some}
+use Rattle.std.proofs.Common.{None, Result, Ok, Err, slice_get, refl, sym, ap, ◌∙◌, ◌-◌, ◌≤◌, ◌&&◌}
+use Rattle.std.proofs.Common.{length, arith}
 use Rattle.std.specs.List.{find, list_any}
 use Rattle.hcc_core.specs.declared.limits.TheConstants.{CORRECTION}
 use Rattle.std.specs.Option.{ok_or}
@@ -8,7 +10,8 @@ use Rattle.hcc_core.specs.declared.slot.Reference.{Reference}
 use Rattle.hcc_core.specs.declared.slot.Slot.{Slot}
 use Rattle.hcc_core.specs.declared.slot.Slot.TheVariants as slots
 use Rattle.hcc_core.specs.declared.event.CoreError.{CoreError}
-use Rattle.hcc_core.specs.declared.event.CoreError.TheVariants.{NoSuchSlot, NoSuchClient, NotAllowed, OutOfMemory}
+use Rattle.hcc_core.specs.declared.event.CoreError.TheVariants.{NoSuchSlot, NoSuchClient}
+use Rattle.hcc_core.specs.declared.event.CoreError.TheVariants.{NotAllowed, OutOfMemory}
 use Rattle.hcc_core.specs.declared.event.Event.{Event}
 use Rattle.hcc_core.specs.declared.event.Event.TheVariants as events
 use Rattle.hcc_core.specs.declared.event.Reply.{Reply}
@@ -29,10 +32,13 @@ use Rattle.hcc_core.specs.Trails.{count_of, pass_of, unpass_of, is_slot, turn_of
 use Rattle.hcc_core.specs.Steps.{takes_memory, in_range, rule_of, outcome_of, Follows}
 use Rattle.hcc_core.specs.Lawful.{Lawful, IsLawful}
 use Rattle.hcc_core.proofs.Opening.{lawful_is, is_lawful}
-use Rattle.hcc_core.proofs.LawfulReferences.{lawful_start, lawful_look, lawful_acquire, lawful_give, lawful_use, lawful_hide}
-use Rattle.hcc_core.proofs.LawfulUses.{lawful_end, lawful_clock, lawful_mark, lawful_correct, lawful_pass, lawful_unpass, lawful_turn}
+use Rattle.hcc_core.proofs.LawfulReferences.{lawful_start, lawful_look, lawful_acquire, lawful_give}
+use Rattle.hcc_core.proofs.LawfulReferences.{lawful_use, lawful_hide}
+use Rattle.hcc_core.proofs.LawfulUses.{lawful_end, lawful_clock, lawful_mark, lawful_correct}
+use Rattle.hcc_core.proofs.LawfulUses.{lawful_pass, lawful_unpass, lawful_turn}
 use Rattle.hcc_core.proofs.LawfulEntries.{lawful_occupy, lawful_show, lawful_free, lawful_empty}
-use Rattle.hcc_core.proofs.LawfulLedgers.{lawful_enter, lawful_slots, lawful_charge, lawful_settle, lawful_waive, lawful_quit, lawful_stand, lawful_fall}
+use Rattle.hcc_core.proofs.LawfulLedgers.{lawful_enter, lawful_slots, lawful_charge, lawful_settle}
+use Rattle.hcc_core.proofs.LawfulLedgers.{lawful_waive, lawful_quit, lawful_stand, lawful_fall}
 
 -- the world after is lawful, where the step is made
 abbrev pub KeepsLaw : Outcome → Type 0
@@ -82,13 +88,16 @@ unfolding acquire_of
 acquire_keeps w client slot weight name l =
     chain (slot_at w slot) _ (λ seen at. chain (live_at w client) _ (λ found live.
     chain (allow (may_acquire w.setup w.slots client found slot seen weight name)) _ (λ u may.
-    lawful_acquire w client slot weight name found seen l (found_ok _ _ seen at) (live_ok w client found live) (may_ok _ u may))))
+    lawful_acquire w client slot weight name found seen l (found_ok _ _ seen at)
+    (live_ok w client found live) (may_ok _ u may))))
 
 give_keeps : (w : State) (client name : ℕ) → Lawful w → KeepsLaw (give_of w client name)
 unfolding give_of
 give_keeps w client name l =
-    chain (live_at w client) _ (λ found live. chain (holding w client name) _ (λ slot held. chain (slot_at w slot) _ (λ seen at.
-    lawful_give w client name slot found seen l (found_ok _ _ seen at) (live_ok w client found live))))
+    chain (live_at w client) _ (λ found live.
+    chain (holding w client name) _ (λ slot held. chain (slot_at w slot) _ (λ seen at.
+    lawful_give w client name slot found seen l (found_ok _ _ seen at)
+    (live_ok w client found live))))
 
 -- a counting reference is that reference, and counts
 pub counting-is : (o : Option Reference) (k : Reference) → if_counting o ≡ Some k
@@ -98,68 +107,87 @@ counting-is (Some j) k h = by j.counting refl h
   where
     by : (b : Bool) → j.counting ≡ b → cond b (Some j) None ≡ Some k
         → (Some j ≡ Some k) × (k.counting ≡ true)
-    by true counts h = let e : j ≡ k = cc in (h, ap (λ (r : Reference). r.counting) (sym e) ∙ counts)
+    by true counts h = let e : j ≡ k = cc in
+        (h, ap (λ (r : Reference). r.counting) (sym e) ∙ counts)
     by false counts h = cc
 
 use_keeps : (w : State) (client name : ℕ) → Lawful w → KeepsLaw (use_of w client name)
 unfolding use_of
 use_keeps w client name l =
-    chain (live_at w client) _ (λ found live. chain (holding w client name) _ (λ slot held. chain (slot_at w slot) _ (λ seen at.
+    chain (live_at w client) _ (λ found live.
+    chain (holding w client name) _ (λ slot held. chain (slot_at w slot) _ (λ seen at.
     chain (ok_or (counting_in client name (references_of seen)) NotAllowed) _ (λ k there.
-    let counts = counting-is (reference_in client name (references_of seen)) k (found_ok _ _ k there) in
-    lawful_use w client name slot found seen k l (found_ok _ _ seen at) (live_ok w client found live) counts.0 counts.1))))
+    let counts = counting-is (reference_in client name (references_of seen))
+    k (found_ok _ _ k there) in
+    lawful_use w client name slot found seen k l (found_ok _ _ seen at)
+    (live_ok w client found live) counts.0 counts.1))))
 
 occupied_keeps : (w : State) (client slot : ℕ) (found : Client) (seen : Slot) → Lawful w
     → slice_get w.slots slot ≡ Some seen → slice_get w.clients client ≡ Some found
     → owns_nothing found.owned ≡ true
     → KeepsLaw (occupied w client found slot seen)
-occupied_keeps w client slot found (slots.Empty strays) l at_slot at_client free = lawful_occupy w client slot strays found l at_slot at_client free
-occupied_keeps w client slot found (slots.Building other strays) l at_slot at_client free = look_keeps w client slot l
-occupied_keeps w client slot found (slots.Shareable r) l at_slot at_client free = look_keeps w client slot l
+occupied_keeps w client slot found (slots.Empty strays) l at_slot at_client free =
+    lawful_occupy w client slot strays found l at_slot at_client free
+occupied_keeps w client slot found (slots.Building other strays) l at_slot at_client free =
+    look_keeps w client slot l
+occupied_keeps w client slot found (slots.Shareable r) l at_slot at_client free =
+    look_keeps w client slot l
 
 occupy_keeps : (w : State) (client slot : ℕ) → Lawful w → KeepsLaw (occupy_of w client slot)
 occupy_keeps w client slot l =
-    chain (slot_at w slot) _ (λ seen at. chain (live_at w client) _ (λ found live. chain (allow (owns_nothing found.owned)) _ (λ u free.
-    occupied_keeps w client slot found seen l (found_ok _ _ seen at) (live_ok w client found live) (may_ok _ u free))))
+    chain (slot_at w slot) _
+    (λ seen at. chain (live_at w client) _
+    (λ found live. chain (allow (owns_nothing found.owned)) _ (λ u free.
+    occupied_keeps w client slot found seen l (found_ok _ _ seen at)
+    (live_ok w client found live) (may_ok _ u free))))
 
 show_keeps : (w : State) (client key0 key1 charge countdown : ℕ) (name : Option ℕ) (value : List ℕ)
     → Lawful w
     → KeepsLaw (show_of w client key0 key1 charge countdown name value)
 unfolding show_of
 show_keeps w client key0 key1 charge countdown name value l =
-    chain (live_at w client) _ (λ found live. chain (ok_or (built_by found.owned) NotAllowed) _ (λ slot builds.
+    chain (live_at w client) _
+    (λ found live. chain (ok_or (built_by found.owned) NotAllowed) _ (λ slot builds.
     chain (allow (may_show w.slots client found charge countdown name)) _ (λ u may.
-    lawful_show w client slot key0 key1 charge countdown name value found l (live_ok w client found live)
+    lawful_show w client slot key0 key1 charge countdown name
+    value found l (live_ok w client found live)
     (found_ok _ _ slot builds) (may_ok _ u may))))
 
 hide_keeps : (w : State) (client name : ℕ) → Lawful w → KeepsLaw (hide_of w client name)
 unfolding hide_of
 hide_keeps w client name l =
-    chain (live_at w client) _ (λ found live. chain (holding w client name) _ (λ slot held. chain (slot_at w slot) _ (λ seen at.
+    chain (live_at w client) _ (λ found live.
+    chain (holding w client name) _ (λ slot held. chain (slot_at w slot) _ (λ seen at.
     lawful_hide w client slot found seen l (found_ok _ _ seen at) (live_ok w client found live))))
 
 free_keeps : (w : State) (client slot : ℕ) (name : Option ℕ) → Lawful w
     → KeepsLaw (free_of w client slot name)
 unfolding free_of
 free_keeps w client slot name l =
-    chain (slot_at w slot) _ (λ seen at. chain (live_at w client) _ (λ found live. chain (allow (may_free client found seen name)) _ (λ u may.
-    lawful_free w client slot name found seen l (found_ok _ _ seen at) (live_ok w client found live) (may_ok _ u may))))
+    chain (slot_at w slot) _
+    (λ seen at. chain (live_at w client) _
+    (λ found live. chain (allow (may_free client found seen name)) _ (λ u may.
+    lawful_free w client slot name found seen l (found_ok _ _ seen at)
+    (live_ok w client found live) (may_ok _ u may))))
 
 empty_keeps : (w : State) (client : ℕ) → Lawful w → KeepsLaw (empty_of w client)
 unfolding empty_of
 empty_keeps w client l =
-    chain (live_at w client) _ (λ found live. chain (ok_or (freed_by found.owned) NotAllowed) _ (λ slot frees.
+    chain (live_at w client) _
+    (λ found live. chain (ok_or (freed_by found.owned) NotAllowed) _ (λ slot frees.
     chain (allow (has_no_member found.trail)) _ (λ u back.
     lawful_empty w client slot found l (live_ok w client found live) (found_ok _ _ slot frees))))
 
 write_keeps : (w : State) (client : ℕ) → Lawful w → KeepsLaw (write_of w client)
 write_keeps w client l =
-    chain (live_at w client) _ (λ found live. chain (allow (is_building found.owned)) _ (λ u builds. l))
+    chain (live_at w client) _
+    (λ found live. chain (allow (is_building found.owned)) _ (λ u builds. l))
 
 read_keeps : (w : State) (client name : ℕ) → Lawful w → KeepsLaw (read_of w client name)
 unfolding read_of
 read_keeps w client name l =
-    chain (live_at w client) _ (λ found live. chain (holding w client name) _ (λ slot held. chain (slot_at w slot) _ (λ seen at.
+    chain (live_at w client) _ (λ found live.
+    chain (holding w client name) _ (λ slot held. chain (slot_at w slot) _ (λ seen at.
     chain (entry_read seen) _ (λ entry is. l))))
 
 enter_keeps : (w : State) (client : ℕ) → Lawful w → KeepsLaw (enter_of w client)
@@ -171,13 +199,15 @@ enter_keeps w client l =
 charge_keeps : (w : State) (client charge : ℕ) → Lawful w → KeepsLaw (charge_by w client charge)
 unfolding charge_by
 charge_keeps w client charge l =
-    chain (live_at w client) _ (λ found live. chain (allow (may_charge found (usage_of w) charge)) _ (λ u may.
+    chain (live_at w client) _
+    (λ found live. chain (allow (may_charge found (usage_of w) charge)) _ (λ u may.
     lawful_charge w client charge found l (live_ok w client found live) (may_ok _ u may)))
 
 slots_keeps : (w : State) (client : ℕ) → Lawful w → KeepsLaw (slots_of w client)
 unfolding slots_of
 slots_keeps w client l =
-    chain (live_at w client) _ (λ found live. chain (allow (nat_lt 0 found.freed_slots)) _ (λ u some.
+    chain (live_at w client) _
+    (λ found live. chain (allow (nat_lt 0 found.freed_slots)) _ (λ u some.
     lawful_slots w client found l (live_ok w client found live) (may_ok _ u some)))
 
 settle_keeps : (w : State) (client : ℕ) → Lawful w → KeepsLaw (settle_of w client)
@@ -189,7 +219,8 @@ settle_keeps w client l =
 end_keeps : (w : State) (client : ℕ) → Lawful w → KeepsLaw (end_of w client)
 unfolding end_of
 end_keeps w client l =
-    chain (live_at w client) _ (λ found live. chain (allow (is_idle found && holds_nothing w.slots client)) _ (λ u idle.
+    chain (live_at w client) _
+    (λ found live. chain (allow (is_idle found && holds_nothing w.slots client)) _ (λ u idle.
     lawful_end w client found l (live_ok w client found live)))
 
 -- a clock visit and a correction leave no more uses
@@ -199,21 +230,27 @@ clocked-le uses = omega arith
 clock_keeps : (w : State) (client slot : ℕ) → Lawful w → KeepsLaw (clock_of w client slot)
 unfolding clock_of
 clock_keeps w client slot l =
-    chain (slot_at w slot) _ (λ seen at. chain (live_at w client) _ (λ found live. chain (allow (may_clock seen)) _ (λ u may.
-    lawful_clock w client slot (clocked (uses_of seen)) found seen l (found_ok _ _ seen at) (live_ok w client found live) (clocked-le (uses_of seen)))))
+    chain (slot_at w slot) _
+    (λ seen at.
+    chain (live_at w client) _ (λ found live. chain (allow (may_clock seen)) _ (λ u may.
+    lawful_clock w client slot (clocked (uses_of seen)) found
+    seen l (found_ok _ _ seen at) (live_ok w client found live) (clocked-le (uses_of seen)))))
 
 mark_keeps : (w : State) (client name : ℕ) → Lawful w → KeepsLaw (mark_of w client name)
 unfolding mark_of
 mark_keeps w client name l =
-    chain (live_at w client) _ (λ found live. chain (holding w client name) _ (λ slot held. chain (slot_at w slot) _ (λ seen at.
+    chain (live_at w client) _ (λ found live.
+    chain (holding w client name) _ (λ slot held. chain (slot_at w slot) _ (λ seen at.
     lawful_mark w client slot found seen l (found_ok _ _ seen at) (live_ok w client found live))))
 
 correct_keeps : (w : State) (client name : ℕ) → Lawful w → KeepsLaw (correct_of w client name)
 unfolding correct_of
 correct_keeps w client name l =
-    chain (live_at w client) _ (λ found live. chain (holding w client name) _ (λ slot held. chain (slot_at w slot) _ (λ seen at.
+    chain (live_at w client) _ (λ found live.
+    chain (holding w client name) _ (λ slot held. chain (slot_at w slot) _ (λ seen at.
     chain (allow (may_correct client name seen)) _ (λ u may.
-    lawful_correct w client slot (uses_of seen - CORRECTION) found seen l (found_ok _ _ seen at) (live_ok w client found live) (omega arith)))))
+    lawful_correct w client slot (uses_of seen - CORRECTION)
+    found seen l (found_ok _ _ seen at) (live_ok w client found live) (omega arith)))))
 
 waive_keeps : (w : State) (client : ℕ) → Lawful w → KeepsLaw (waive_of w client)
 unfolding waive_of
@@ -247,18 +284,21 @@ stand_keeps : (w : State) (client charge name : ℕ) → Lawful w
     → KeepsLaw (stand_of w client charge name)
 unfolding stand_of
 stand_keeps w client charge name l =
-    chain (live_at w client) _ (λ found live. chain (allow (may_stand found charge name)) _ (λ u may.
+    chain (live_at w client) _
+    (λ found live. chain (allow (may_stand found charge name)) _ (λ u may.
     lawful_stand w client charge name found l (live_ok w client found live) (may_ok _ u may)))
 
 fall_keeps : (w : State) (client name : ℕ) → Lawful w → KeepsLaw (fall_of w client name)
 unfolding fall_of
 fall_keeps w client name l =
-    chain (live_at w client) _ (λ found live. chain (ok_or (find (is_standing name) found.standalones) NotAllowed) _ (λ gone there.
+    chain (live_at w client) _ (λ found live.
+    chain (ok_or (find (is_standing name) found.standalones) NotAllowed) _ (λ gone there.
     lawful_fall w client name found gone l (live_ok w client found live) (found_ok _ _ gone there)))
 
 count_keeps : (w : State) (client slot : ℕ) → Lawful w → KeepsLaw (count_of w client slot)
 unfolding count_of
-count_keeps w client slot l = chain (slot_at w slot) _ (λ seen at. chain (live_at w client) _ (λ found live. l))
+count_keeps w client slot l =
+    chain (slot_at w slot) _ (λ seen at. chain (live_at w client) _ (λ found live. l))
 
 pass_keeps : (w : State) (client slot : ℕ) → Lawful w → KeepsLaw (pass_of w client slot)
 unfolding pass_of
@@ -285,7 +325,8 @@ rule_keeps w (events.Acquire client slot weight name) l = acquire_keeps w client
 rule_keeps w (events.Give client name) l = give_keeps w client name l
 rule_keeps w (events.Use client name) l = use_keeps w client name l
 rule_keeps w (events.Occupy client slot) l = occupy_keeps w client slot l
-rule_keeps w (events.Show client key0 key1 charge countdown name value) l = show_keeps w client key0 key1 charge countdown name value l
+rule_keeps w (events.Show client key0 key1 charge countdown name value) l =
+    show_keeps w client key0 key1 charge countdown name value l
 rule_keeps w (events.Hide client name) l = hide_keeps w client name l
 rule_keeps w (events.Free client slot name) l = free_keeps w client slot name l
 rule_keeps w (events.Empty client) l = empty_keeps w client l
@@ -323,14 +364,17 @@ outcome_keeps w event l = if_keeps (in_range event) (rule_of w event) (rule_keep
 
 ok_lawful : (outcome : Outcome) (reply : Reply) (new : State) → KeepsLaw outcome
     → outcome ≡ Ok (reply, new) → Lawful new
-ok_lawful (Ok done) reply new l h = let e : done ≡ (reply, new) = cc in rw (ap (λ (d : Reply × State). d.1) e) at l
+ok_lawful (Ok done) reply new l h = let e : done ≡ (reply, new) = cc in
+    rw (ap (λ (d : Reply × State). d.1) e) at l
 ok_lawful (Err error) reply new l h = cc
 
 -- what follows an outcome is lawful
 pub follows_lawful : (w : State) (event : Event) (result : Result Reply CoreError) (new : State)
     → IsLawful w
     → Follows (outcome_of w event) (takes_memory event) w result new → IsLawful new
-follows_lawful w event (Ok reply) new l f = lawful_is new (ok_lawful (outcome_of w event) reply new (outcome_keeps w event (is_lawful w l)) f)
+follows_lawful w event (Ok reply) new l f =
+    lawful_is new
+    (ok_lawful (outcome_of w event) reply new (outcome_keeps w event (is_lawful w l)) f)
 follows_lawful w event (Err NoSuchSlot) new l f = rw f.1 l
 follows_lawful w event (Err NoSuchClient) new l f = rw f.1 l
 follows_lawful w event (Err NotAllowed) new l f = rw f.1 l

@@ -1,5 +1,7 @@
--- The events on the ledgers keep a world lawful: enter, quit, slots, charge, settle, waive, stand, fall.
-use Rattle.std.proofs.Common.{◌≡◌, ℕ, ◌+◌, ◌-◌, min, ◌<◌, ◌≤◌, ◌==◌, Bool, true, false, cond, nat_le, nat_lt, Some, slice_get, refl, arith, ◌++◌, [], ◌∷◌, not}
+-- The events on the ledgers keep a world lawful: enter, quit, slots, charge, settle, waive, stand,
+-- fall.
+use Rattle.std.proofs.Common.{◌≡◌, ℕ, ◌+◌, ◌-◌, min, ◌<◌, ◌≤◌, ◌==◌, Bool, true, false, cond}
+use Rattle.std.proofs.Common.{nat_le, nat_lt, Some, slice_get, refl, arith, ◌++◌, [], ◌∷◌, not}
 use Rattle.std.specs.List.{find, list_any}
 use Rattle.std.proofs.lemmas.Bool.{and_parts, leb-true, ltb-true, eqb-true, false≢true}
 use Rattle.hcc_core.specs.declared.limits.TheConstants.{MOST_USAGE}
@@ -34,7 +36,8 @@ granted_is_placed places.Granted = omega arith
 -- the places taken are within the occupancy
 taken-le-occupied : (w : State) → taken_in w.slots w.clients ≤ occupancy_of w
 taken-le-occupied w =
-    let each = total-le taken_by occupied_by w.clients (λ i c h. let one = granted_is_placed c.place in taken_here c one) in
+    let each = total-le taken_by occupied_by w.clients
+    (λ i c h. let one = granted_is_placed c.place in taken_here c one) in
     omega arith
   where
     taken_here : (c : Client) → when (is_granted c.place) 1 ≤ when (is_placed c.place) 1
@@ -53,23 +56,31 @@ enter_ledgers w client found true l at_client absent e =
     let new : Client = record found { place = places.Granted } in
     let before = absent_place found.place absent in
     let ungranted = before.1 in
-    let below : occupancy_of w < limit_of w.setup = ltb-true (occupancy_of w) (limit_of w.setup) e in
+    let below : occupancy_of w < limit_of w.setup =
+    ltb-true (occupancy_of w) (limit_of w.setup) e in
     let within = taken-le-occupied w in
     record {
-      real = λ strict. let before = l.real strict in let change = total-set real_to w.clients client found new at_client in omega arith;
-      usage = let u = l.usage in let change = total-set charged_to w.clients client found new at_client in omega arith;
+      real = λ strict. let before = l.real strict in
+          let change = total-set real_to w.clients client found new at_client in omega arith;
+      usage = let u = l.usage in
+          let change = total-set charged_to w.clients client found new at_client in omega arith;
       places = let change = total-set taken_by w.clients client found new at_client in omega arith;
     }
 enter_ledgers w client found false l at_client absent e =
-    ledgers_client w client found (record found { place = places.Open }) l at_client (omega arith) (omega arith) (omega arith)
+    ledgers_client w client found (record found { place = places.Open })
+    l at_client (omega arith) (omega arith) (omega arith)
 
 pub lawful_enter : (w : State) (client : ℕ) (found : Client) → Lawful w
     → slice_get w.clients client ≡ Some found
     → is_absent found.place ≡ true
-    → Lawful (with_client w client (record found { place = cond (nat_lt (occupancy_of w) (limit_of w.setup)) places.Granted places.Open }))
+    → Lawful
+    (with_client w client
+    (record found
+    { place = cond (nat_lt (occupancy_of w) (limit_of w.setup)) places.Granted places.Open }))
 lawful_enter w client found l at_client absent =
     in_ledgers w client found _ l at_client refl refl refl refl refl
-    (enter_ledgers w client found (nat_lt (occupancy_of w) (limit_of w.setup)) l.ledgers at_client absent refl)
+    (enter_ledgers w client found (nat_lt (occupancy_of w) (limit_of w.setup))
+    l.ledgers at_client absent refl)
 
 -- an open place takes one of the slots that were freed
 granted_by_slots : (place : Place) (freed : ℕ) → nat_lt 0 freed ≡ true
@@ -81,11 +92,13 @@ granted_by_slots places.Granted freed some = omega arith
 pub lawful_slots : (w : State) (client : ℕ) (found : Client) → Lawful w
     → slice_get w.clients client ≡ Some found
     → nat_lt 0 found.freed_slots ≡ true
-    → Lawful (with_client w client (record found { freed_slots = 0; place = place_granted found.place }))
+    → Lawful
+    (with_client w client (record found { freed_slots = 0; place = place_granted found.place }))
 lawful_slots w client found l at_client some =
     let new : Client = record found { freed_slots = 0; place = place_granted found.place } in
     in_ledgers w client found new l at_client refl refl refl refl refl
-    (ledgers_client w client found new l.ledgers at_client (omega arith) (omega arith) (granted_by_slots found.place found.freed_slots some))
+    (ledgers_client w client found new l.ledgers at_client (omega arith)
+    (omega arith) (granted_by_slots found.place found.freed_slots some))
 
 -- what is granted at once is no more than what is asked
 pub grant-le : (setup : Setup) (usage charge : ℕ) → grant_of setup usage charge ≤ charge
@@ -103,7 +116,8 @@ grant-strict setup usage charge strict = rw strict (omega arith)
 
 -- the real charge is part of the usage
 real-le-usage : (w : State) → real_in w.slots w.clients ≤ usage_of w
-real-le-usage w = let each = total-le real_to charged_to w.clients (λ i c h. within c) in omega arith
+real-le-usage w = let each = total-le real_to charged_to w.clients (λ i c h. within c) in
+    omega arith
   where
     within : (c : Client) → real_to c ≤ charged_to c
     within c = omega arith
@@ -149,7 +163,8 @@ lawful_charge w client charge found l at_client may =
           let change = total-set real_to w.clients client found new at_client in
           let none = parts.nothing_granted in
           let less = real-le-usage w in
-          let capped : granted ≤ w.setup.capacity - min (usage_of w) w.setup.capacity = grant-strict w.setup (usage_of w) charge strict in
+          let capped : granted ≤ w.setup.capacity - min (usage_of w) w.setup.capacity =
+          grant-strict w.setup (usage_of w) charge strict in
           omega arith;
       places =
           let before = l.ledgers.places in
@@ -160,12 +175,18 @@ lawful_charge w client charge found l at_client may =
 pub lawful_settle : (w : State) (client : ℕ) (found : Client) → Lawful w
     → slice_get w.clients client ≡ Some found
     → may_settle found ≡ true
-    → Lawful (with_client w client (record found { granted = found.granted + found.needed; needed = 0; freed = 0 }))
+    → Lawful
+    (with_client w client
+    (record found { granted = found.granted + found.needed; needed = 0; freed = 0 }))
 lawful_settle w client found l at_client may =
-    let new : Client = record found { granted = found.granted + found.needed; needed = 0; freed = 0 } in
-    let covered : found.needed ≤ found.freed = leb-true found.needed found.freed (and_parts (nat_lt 0 found.freed) (nat_le found.needed found.freed) may).1 in
+    let new : Client =
+    record found { granted = found.granted + found.needed; needed = 0; freed = 0 } in
+    let covered : found.needed ≤ found.freed =
+    leb-true found.needed found.freed
+    (and_parts (nat_lt 0 found.freed) (nat_le found.needed found.freed) may).1 in
     in_ledgers w client found new l at_client refl refl refl refl refl
-    (ledgers_client w client found new l.ledgers at_client (omega arith) (omega arith) (omega arith))
+    (ledgers_client w client found new l.ledgers at_client (omega arith)
+    (omega arith) (omega arith))
 
 pub lawful_waive : (w : State) (client : ℕ) (found : Client) → Lawful w
     → slice_get w.clients client ≡ Some found
@@ -173,7 +194,8 @@ pub lawful_waive : (w : State) (client : ℕ) (found : Client) → Lawful w
 lawful_waive w client found l at_client =
     let new : Client = record found { granted = 0; needed = 0; freed = 0 } in
     in_ledgers w client found new l at_client refl refl refl refl refl
-    (ledgers_client w client found new l.ledgers at_client (omega arith) (omega arith) (omega arith))
+    (ledgers_client w client found new l.ledgers at_client (omega arith)
+    (omega arith) (omega arith))
 
 pub lawful_quit : (w : State) (client : ℕ) (found : Client) → Lawful w
     → slice_get w.clients client ≡ Some found
@@ -181,7 +203,8 @@ pub lawful_quit : (w : State) (client : ℕ) (found : Client) → Lawful w
 lawful_quit w client found l at_client =
     let new : Client = record found { place = places.Absent; freed_slots = 0 } in
     in_ledgers w client found new l at_client refl refl refl refl refl
-    (ledgers_client w client found new l.ledgers at_client (omega arith) (omega arith) (omega arith))
+    (ledgers_client w client found new l.ledgers at_client (omega arith)
+    (omega arith) (omega arith))
 
 -- what the test of a stand says of the charge
 pub may_stand_charge : (found : Client) (charge name : ℕ) → may_stand found charge name ≡ true
@@ -200,11 +223,17 @@ pub lawful_stand : (w : State) (client charge name : ℕ) (found : Client) → L
     }))
 lawful_stand w client charge name found l at_client may =
     let one : Standalone = record { name = name; charge = charge } in
-    let new : Client = record found { granted = found.granted - charge; standalones = found.standalones ++ one ∷ [] } in
+    let new : Client =
+    record found {
+      granted = found.granted - charge;
+      standalones =
+          found.standalones ++ one ∷ [];
+    } in
     let enough = may_stand_charge found charge name may in
     let sum = total-append (λ (s : Standalone). s.charge) found.standalones (one ∷ []) in
     in_ledgers w client found new l at_client refl refl refl refl refl
-    (ledgers_client w client found new l.ledgers at_client (omega arith) (omega arith) (omega arith))
+    (ledgers_client w client found new l.ledgers at_client (omega arith)
+    (omega arith) (omega arith))
 
 pub lawful_fall : (w : State) (client name : ℕ) (found : Client) (gone : Standalone) → Lawful w
     → slice_get w.clients client ≡ Some found
@@ -214,7 +243,14 @@ pub lawful_fall : (w : State) (client name : ℕ) (found : Client) (gone : Stand
       standalones = dropped (is_standing name) found.standalones;
     }))
 lawful_fall w client name found gone l at_client there =
-    let new : Client = record found { freed = found.freed + gone.charge; standalones = dropped (is_standing name) found.standalones } in
-    let sum = dropped-total (is_standing name) (λ (s : Standalone). s.charge) found.standalones gone there in
+    let new : Client =
+    record found {
+      freed = found.freed + gone.charge;
+      standalones =
+          dropped (is_standing name) found.standalones;
+    } in
+    let sum = dropped-total (is_standing name) (λ (s : Standalone). s.charge)
+    found.standalones gone there in
     in_ledgers w client found new l at_client refl refl refl refl refl
-    (ledgers_client w client found new l.ledgers at_client (omega arith) (omega arith) (omega arith))
+    (ledgers_client w client found new l.ledgers at_client (omega arith)
+    (omega arith) (omega arith))

@@ -1,6 +1,8 @@
 -- How each part of a lawful world is kept. A part that the step leaves alone has a frame law;
 -- the others say what the step owes.
-use Rattle.std.proofs.Common.{◌≡◌, ◌⊎◌, inl, inr, ℕ, ◌+◌, ◌*◌, ◌≤◌, Bool, true, false, List, [], ◌∷◌, Option, Some, None, length, slice_set, slice_get, ap, sym, ◌∙◌, arith}
+use Rattle.std.proofs.Common.{◌≡◌, ◌⊎◌, inl, inr, ℕ, ◌+◌, ◌*◌, ◌≤◌, Bool, true, false, List, []}
+use Rattle.std.proofs.Common.{◌∷◌, Option, Some, None, length, slice_set, slice_get, ap, sym, ◌∙◌}
+use Rattle.std.proofs.Common.{arith}
 use Rattle.std.proofs.lemmas.List.{length-set}
 use Rattle.std.proofs.lemmas.Bool.{cases_eq}
 use Rattle.hcc_core.specs.declared.client.Client.{Client}
@@ -8,10 +10,13 @@ use Rattle.hcc_core.specs.declared.setup.Setup.{Setup}
 use Rattle.hcc_core.specs.declared.slot.Stamp.{Stamp}
 use Rattle.hcc_core.specs.declared.slot.Slot.{Slot}
 use Rattle.hcc_core.specs.Sums.{when}
-use Rattle.hcc_core.specs.World.{State, strays_of, charge_of, stamp_of, taken_by_slot, charged_to, trail_of}
+use Rattle.hcc_core.specs.World.{State, strays_of, charge_of, stamp_of, taken_by_slot, charged_to}
+use Rattle.hcc_core.specs.World.{trail_of}
 use Rattle.hcc_core.specs.Outcomes.{with_client, with_both}
 use Rattle.hcc_core.specs.References.{looks_at}
-use Rattle.hcc_core.specs.Lawful.{Sized, IsBounded, Bounded, Strayed, Owners, Stamped, Trailed, Ledgers, lookers, owner_of, owner_in, owned_slot, owned_by, stamp_in, stamps_by, taken_by, real_to}
+use Rattle.hcc_core.specs.Lawful.{Sized, IsBounded, Bounded, Strayed, Owners, Stamped, Trailed}
+use Rattle.hcc_core.specs.Lawful.{Ledgers, lookers, owner_of, owner_in, owned_slot, owned_by}
+use Rattle.hcc_core.specs.Lawful.{stamp_in, stamps_by, taken_by, real_to}
 use Rattle.hcc_core.proofs.ListLemmas.{get_at_set, read_here, read_other}
 use Rattle.hcc_core.proofs.SumLemmas.{total-set}
 
@@ -49,10 +54,12 @@ when_few false = omega arith
 -- no more look than there are
 lookers_few : (clients : List Client) (slot : ℕ) → lookers clients slot ≤ length clients
 lookers_few [] slot = omega arith
-lookers_few (c ∷ cs) slot = let one = when_few (looks_at c slot) in let rest = lookers_few cs slot in omega arith
+lookers_few (c ∷ cs) slot = let one = when_few (looks_at c slot) in
+    let rest = lookers_few cs slot in omega arith
 
 -- one client looks no more than it did, and no slot changes
-pub strayed_client : (setup : Setup) (all : List Slot) (clients : List Client) (client : ℕ) (old new : Client)
+pub strayed_client : (setup : Setup) (all : List Slot) (clients : List Client)
+    (client : ℕ) (old new : Client)
     → Strayed setup all clients → slice_get clients client ≡ Some old
     → ((s : ℕ) → looking new s ≤ looking old s)
     → Strayed setup all (slice_set clients client new)
@@ -63,16 +70,20 @@ strayed_client setup all clients client old new l at_client fewer s x h =
     omega arith
 
 -- strays grow in one slot by what its client looked less, or there are none
-pub strayed_both : (setup : Setup) (all : List Slot) (clients : List Client) (slot client : ℕ) (seen left : Slot) (old new : Client)
+pub strayed_both : (setup : Setup) (all : List Slot) (clients : List Client)
+    (slot client : ℕ) (seen left : Slot) (old new : Client)
     → Strayed setup all clients → length clients ≡ setup.clients
     → slice_get all slot ≡ Some seen → slice_get clients client ≡ Some old
-    → (strays_of left + 3 * looking new slot ≤ strays_of seen + 3 * looking old slot) ⊎ (strays_of left ≡ 0)
+    → (strays_of left + 3 * looking new slot ≤ strays_of seen + 3 * looking old slot)
+    ⊎ (strays_of left ≡ 0)
     → ((s : ℕ) → (s ≡ slot → ⊥) → looking new s ≤ looking old s)
     → Strayed setup (slice_set all slot left) (slice_set clients client new)
-strayed_both setup all clients slot client seen left old new l count at_slot at_client first fewer s x h =
+strayed_both setup all clients slot client seen left old new
+    l count at_slot at_client first fewer s x h =
     elim (cases_eq s slot) [
       | inl same ↦
-          let here : slice_get (slice_set all slot left) s ≡ Some left = rw same (read_here all slot seen left at_slot) in
+          let here : slice_get (slice_set all slot left) s ≡ Some left =
+          rw same (read_here all slot seen left at_slot) in
           let is_left : x ≡ left = let e : Some x ≡ Some left = sym h ∙ here in cc in
           rw (is_left, same) (within first)
       | inr other ↦
@@ -82,7 +93,8 @@ strayed_both setup all clients slot client seen left old new l count at_slot at_
           omega arith
     ]
   where
-    within : (strays_of left + 3 * looking new slot ≤ strays_of seen + 3 * looking old slot) ⊎ (strays_of left ≡ 0)
+    within : (strays_of left + 3 * looking new slot ≤ strays_of seen + 3 * looking old slot)
+        ⊎ (strays_of left ≡ 0)
         → strays_of left + 3 * lookers (slice_set clients client new) slot ≤ 3 * setup.clients
     within (inl less) =
         let before = l slot seen at_slot in
@@ -107,8 +119,10 @@ owners_same all all' clients clients' o owner owned = record {
 
 -- a client and a slot that belong to each other after the step and to nobody before it,
 -- or the other way round
-module _ (all : List Slot) (clients : List Client) (slot client : ℕ) (seen left : Slot) (old new : Client)
-    (o : Owners all clients) (at_slot : slice_get all slot ≡ Some seen) (at_client : slice_get clients client ≡ Some old) where
+module _ (all : List Slot) (clients : List Client) (slot client : ℕ)
+    (seen left : Slot) (old new : Client)
+    (o : Owners all clients) (at_slot : slice_get all slot ≡ Some seen)
+    (at_client : slice_get clients client ≡ Some old) where
   owner_now : ℕ → Option ℕ
   owner_now s = owner_in (slice_get (slice_set all slot left) s)
 
@@ -145,28 +159,34 @@ module _ (all : List Slot) (clients : List Client) (slot client : ℕ) (seen lef
   owners_taken no_owner owner no_slot owned = record {
     owns = λ s c h. elim (cases_eq s slot) [
       | inl same ↦
-          let who : Some client ≡ Some c = sym owner ∙ sym owner_here ∙ ap owner_now (sym same) ∙ h in
+          let who : Some client ≡ Some c = sym owner ∙ sym owner_here
+          ∙ ap owner_now (sym same) ∙ h in
           let c_is : c ≡ client = cc in
           rw (c_is, same) (owned_here ∙ owned)
       | inr other ↦
-          let was : owned_by (slice_get clients c) ≡ Some s = o.owns s c (sym (owner_else s other) ∙ h) in
+          let was : owned_by (slice_get clients c) ≡ Some s =
+          o.owns s c (sym (owner_else s other) ∙ h) in
           elim (cases_eq c client) [
             | inl same ↦
-                let bad : None ≡ Some s = sym no_slot ∙ sym owned_was ∙ ap (λ k. owned_by (slice_get clients k)) (sym same) ∙ was in
+                let bad : None ≡ Some s = sym no_slot ∙ sym owned_was
+                ∙ ap (λ k. owned_by (slice_get clients k)) (sym same) ∙ was in
                 cc
             | inr away ↦ owned_else c away ∙ was
           ]
     ];
     owned = λ s c h. elim (cases_eq c client) [
       | inl same ↦
-          let what : Some slot ≡ Some s = sym owned ∙ sym owned_here ∙ ap owned_now (sym same) ∙ h in
+          let what : Some slot ≡ Some s = sym owned ∙ sym owned_here
+          ∙ ap owned_now (sym same) ∙ h in
           let s_is : s ≡ slot = cc in
           rw (s_is, same) (owner_here ∙ owner)
       | inr away ↦
-          let was : owner_in (slice_get all s) ≡ Some c = o.owned s c (sym (owned_else c away) ∙ h) in
+          let was : owner_in (slice_get all s) ≡ Some c =
+          o.owned s c (sym (owned_else c away) ∙ h) in
           elim (cases_eq s slot) [
             | inl same ↦
-                let bad : None ≡ Some c = sym no_owner ∙ sym owner_was ∙ ap (λ k. owner_in (slice_get all k)) (sym same) ∙ was in
+                let bad : None ≡ Some c = sym no_owner ∙ sym owner_was
+                ∙ ap (λ k. owner_in (slice_get all k)) (sym same) ∙ was in
                 cc
             | inr other ↦ owner_else s other ∙ was
           ]
@@ -180,24 +200,30 @@ module _ (all : List Slot) (clients : List Client) (slot client : ℕ) (seen lef
   unfolding owner_now owned_now
   owners_left owner no_owner owned no_slot = record {
     owns = λ s c h. elim (cases_eq s slot) [
-      | inl same ↦ let bad : None ≡ Some c = sym no_owner ∙ sym owner_here ∙ ap owner_now (sym same) ∙ h in cc
+      | inl same ↦ let bad : None ≡ Some c = sym no_owner ∙ sym owner_here
+          ∙ ap owner_now (sym same) ∙ h in cc
       | inr other ↦
-          let was : owned_by (slice_get clients c) ≡ Some s = o.owns s c (sym (owner_else s other) ∙ h) in
+          let was : owned_by (slice_get clients c) ≡ Some s =
+          o.owns s c (sym (owner_else s other) ∙ h) in
           elim (cases_eq c client) [
             | inl same ↦
-                let what : Some slot ≡ Some s = sym owned ∙ sym owned_was ∙ ap (λ k. owned_by (slice_get clients k)) (sym same) ∙ was in
+                let what : Some slot ≡ Some s = sym owned ∙ sym owned_was
+                ∙ ap (λ k. owned_by (slice_get clients k)) (sym same) ∙ was in
                 let s_is : s ≡ slot = cc in
                 absurd (other s_is)
             | inr away ↦ owned_else c away ∙ was
           ]
     ];
     owned = λ s c h. elim (cases_eq c client) [
-      | inl same ↦ let bad : None ≡ Some s = sym no_slot ∙ sym owned_here ∙ ap owned_now (sym same) ∙ h in cc
+      | inl same ↦ let bad : None ≡ Some s = sym no_slot ∙ sym owned_here
+          ∙ ap owned_now (sym same) ∙ h in cc
       | inr away ↦
-          let was : owner_in (slice_get all s) ≡ Some c = o.owned s c (sym (owned_else c away) ∙ h) in
+          let was : owner_in (slice_get all s) ≡ Some c =
+          o.owned s c (sym (owned_else c away) ∙ h) in
           elim (cases_eq s slot) [
             | inl same ↦
-                let who : Some client ≡ Some c = sym owner ∙ sym owner_was ∙ ap (λ k. owner_in (slice_get all k)) (sym same) ∙ was in
+                let who : Some client ≡ Some c = sym owner ∙ sym owner_was
+                ∙ ap (λ k. owner_in (slice_get all k)) (sym same) ∙ was in
                 let c_is : c ≡ client = cc in
                 absurd (away c_is)
             | inr other ↦ owner_else s other ∙ was
@@ -209,7 +235,8 @@ module _ (all : List Slot) (clients : List Client) (slot client : ℕ) (seen lef
 
 -- no entry comes, and no count changes
 pub stamped_fewer : (all all' : List Slot) (clients clients' : List Client) → Stamped all clients
-    → ((s : ℕ) (m : Stamp) → stamp_in (slice_get all' s) ≡ Some m → stamp_in (slice_get all s) ≡ Some m)
+    → ((s : ℕ) (m : Stamp) → stamp_in (slice_get all' s) ≡ Some m
+    → stamp_in (slice_get all s) ≡ Some m)
     → ((c : ℕ) → stamps_by (slice_get clients' c) ≡ stamps_by (slice_get clients c))
     → Stamped all' clients'
 stamped_fewer all all' clients clients' o fewer counts = record {
@@ -218,7 +245,8 @@ stamped_fewer all all' clients clients' o fewer counts = record {
 }
 
 -- one entry comes, with the next stamp of its maker
-pub stamped_shown : (all : List Slot) (clients : List Client) (slot client : ℕ) (seen left : Slot) (old new : Client)
+pub stamped_shown : (all : List Slot) (clients : List Client)
+    (slot client : ℕ) (seen left : Slot) (old new : Client)
     → Stamped all clients → slice_get all slot ≡ Some seen → slice_get clients client ≡ Some old
     → stamp_of left ≡ Some (record { client = client; number = old.stamps })
     → new.stamps ≡ old.stamps + 1
@@ -285,7 +313,11 @@ pub trailed_slot : (n : ℕ) (all : List Slot) (clients : List Client) (slot : �
     → Trailed n all clients → length (trail_of left) ≤ n
     → Trailed n (slice_set all slot left) clients
 trailed_slot n all clients slot left t short = record {
-  entries = λ s x h. elim (get_at_set all slot s left x h) [ inl e ↦ rw e.1 short | inr e ↦ t.entries s x e ];
+  entries = λ s x h. elim (get_at_set all slot s left x h) [
+    | inl e ↦
+        rw e.1 short
+    | inr e ↦ t.entries s x e
+  ];
   hands = t.hands;
 }
 
@@ -293,7 +325,11 @@ pub trailed_client : (n : ℕ) (all : List Slot) (clients : List Client) (client
     → Trailed n all clients → length new.trail ≤ n → Trailed n all (slice_set clients client new)
 trailed_client n all clients client new t short = record {
   entries = t.entries;
-  hands = λ c x h. elim (get_at_set clients client c new x h) [ inl e ↦ rw e.1 short | inr e ↦ t.hands c x e ];
+  hands = λ c x h. elim (get_at_set clients client c new x h) [
+    | inl e ↦
+        rw e.1 short
+    | inr e ↦ t.hands c x e
+  ];
 }
 
 -- The ledgers.
@@ -304,9 +340,12 @@ pub ledgers_client : (w : State) (client : ℕ) (old new : Client) → Ledgers w
     → charged_to new ≤ charged_to old → real_to new ≤ real_to old → taken_by new ≤ taken_by old
     → Ledgers (with_client w client new)
 ledgers_client w client old new l at_client charged real taken = record {
-  real = λ strict. let before = l.real strict in let change = total-set real_to w.clients client old new at_client in omega arith;
-  usage = let before = l.usage in let change = total-set charged_to w.clients client old new at_client in omega arith;
-  places = let before = l.places in let change = total-set taken_by w.clients client old new at_client in omega arith;
+  real = λ strict. let before = l.real strict in
+      let change = total-set real_to w.clients client old new at_client in omega arith;
+  usage = let before = l.usage in
+      let change = total-set charged_to w.clients client old new at_client in omega arith;
+  places = let before = l.places in
+      let change = total-set taken_by w.clients client old new at_client in omega arith;
 }
 
 -- one slot and one client have no more in sum

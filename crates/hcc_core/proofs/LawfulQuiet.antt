@@ -1,16 +1,22 @@
 -- Changes that move no entry and nothing in hand, and changes within the ledgers alone.
-use Rattle.std.proofs.Common.{◌≡◌, ◌⊎◌, inl, inr, ℕ, ◌+◌, ◌*◌, ◌≤◌, true, List, None, Some, length, slice_get, slice_set, refl, ap, sym, ◌∙◌, arith}
+use Rattle.std.proofs.Common.{◌≡◌, ◌⊎◌, inl, inr, ℕ, ◌+◌, ◌*◌, ◌≤◌, true, List, None, Some, length}
+use Rattle.std.proofs.Common.{slice_get, slice_set, refl, ap, sym, ◌∙◌, arith}
 use Rattle.std.proofs.lemmas.Bool.{cases_eq}
 use Rattle.std.proofs.lemmas.List.{length-set}
 use Rattle.hcc_core.specs.declared.client.Client.{Client}
 use Rattle.hcc_core.specs.declared.slot.Stamp.{Stamp}
 use Rattle.hcc_core.specs.declared.slot.Slot.{Slot}
-use Rattle.hcc_core.specs.World.{State, stamp_of, strays_of, charge_of, trail_of, taken_by_slot, charged_to}
+use Rattle.hcc_core.specs.World.{State, stamp_of, strays_of, charge_of, trail_of, taken_by_slot}
+use Rattle.hcc_core.specs.World.{charged_to}
 use Rattle.hcc_core.specs.Outcomes.{with_client, with_both}
-use Rattle.hcc_core.specs.Lawful.{Lawful, IsBounded, Ledgers, owner_of, owner_in, owned_slot, owned_by, stamp_in, stamps_by, taken_by, real_to, shown_stamp, shown_in, is_in}
+use Rattle.hcc_core.specs.Lawful.{Lawful, IsBounded, Ledgers, owner_of, owner_in, owned_slot}
+use Rattle.hcc_core.specs.Lawful.{owned_by, stamp_in, stamps_by, taken_by, real_to, shown_stamp}
+use Rattle.hcc_core.specs.Lawful.{shown_in, is_in}
 use Rattle.hcc_core.proofs.ListLemmas.{read_same, read_here, read_other}
 use Rattle.hcc_core.proofs.DeadParts.{grave, dead_kept, lists_changed}
-use Rattle.hcc_core.proofs.LawfulParts.{looking, sized_kept, bounded_set, strayed_client, strayed_both, owners_same, stamped_fewer, trailed_slot, trailed_client, ledgers_both}
+use Rattle.hcc_core.proofs.LawfulParts.{looking, sized_kept, bounded_set, strayed_client}
+use Rattle.hcc_core.proofs.LawfulParts.{strayed_both, owners_same, stamped_fewer, trailed_slot}
+use Rattle.hcc_core.proofs.LawfulParts.{trailed_client, ledgers_both}
 
 -- A change of one slot that moves no entry, and of one client that moves nothing in hand.
 pub record QuietSlot (seen left : Slot) : Type 0 where
@@ -39,7 +45,8 @@ shown_fewer all slot s seen left m at_slot fewer h = elim (cases_eq s slot) [
   | inl same ↦
       let here = ap shown_in (read_here all slot seen left at_slot) in
       let moved = ap (λ k. shown_in (slice_get (slice_set all slot left) k)) (sym same) in
-      ap (λ k. shown_in (slice_get all k)) same ∙ ap shown_in at_slot ∙ fewer m (sym here ∙ moved ∙ h)
+      ap (λ k. shown_in (slice_get all k)) same ∙ ap shown_in at_slot
+      ∙ fewer m (sym here ∙ moved ∙ h)
   | inr other ↦ sym (ap shown_in (read_other all slot s left other)) ∙ h
 ]
 
@@ -47,39 +54,47 @@ shown_fewer all slot s seen left m at_slot fewer h = elim (cases_eq s slot) [
 pub quiet : (w : State) (slot client : ℕ) (seen left : Slot) (old new : Client) → Lawful w
     → slice_get w.slots slot ≡ Some seen → slice_get w.clients client ≡ Some old
     → QuietSlot seen left → QuietClient old new → IsBounded w.setup left
-    → (strays_of left + 3 * looking new slot ≤ strays_of seen + 3 * looking old slot) ⊎ (strays_of left ≡ 0)
+    → (strays_of left + 3 * looking new slot ≤ strays_of seen + 3 * looking old slot)
+    ⊎ (strays_of left ≡ 0)
     → ((s : ℕ) → (s ≡ slot → ⊥) → looking new s ≤ looking old s)
-    → ((m : Stamp) → is_in m new.dead ≡ true → (is_in m old.dead ≡ true) ⊎ ((stamp_of seen ≡ Some m) × (shown_stamp left ≡ None)))
+    → ((m : Stamp) → is_in m new.dead ≡ true → (is_in m old.dead ≡ true)
+    ⊎ ((stamp_of seen ≡ Some m) × (shown_stamp left ≡ None)))
     → Lawful (with_both w slot left client new)
-quiet w slot client seen left old new l at_slot at_client calm hand bound first fewer dies = record {
-  sized = sized_kept w _ _ l.sized (length-set w.slots slot left) (length-set w.clients client new);
-  bounded = bounded_set w.setup w.slots slot left l.bounded bound;
-  strayed = strayed_both w.setup w.slots w.clients slot client seen left old new l.strayed l.sized.client_count at_slot at_client first fewer;
-  owners = owners_same w.slots _ w.clients _ l.owners
-      (λ s. read_same owner_in w.slots slot s seen left at_slot calm.owner)
-      (λ c. read_same owned_by w.clients client c old new at_client hand.owned);
-  stamped = stamped_fewer w.slots _ w.clients _ l.stamped
-      (λ s m h. sym (read_same stamp_in w.slots slot s seen left at_slot calm.stamp) ∙ h)
-      (λ c. read_same stamps_by w.clients client c old new at_client hand.stamps);
-  dead = dead_kept w.slots _ w.clients _ l.dead
-      (λ s m h. shown_fewer w.slots slot s seen left m at_slot calm.shown h)
-      (λ c. read_same stamps_by w.clients client c old new at_client hand.stamps)
-      (lists_changed _ w.clients client old new at_client (λ m h. elim (dies m h) [
-        | inl e ↦ inl e
-        | inr e ↦ inr (grave w.slots w.clients slot seen left m l.stamped at_slot e.0 e.1)
-      ]));
-  trailed =
-      let entry = l.trailed.entries slot seen at_slot in
-      let own = l.trailed.hands client old at_client in
-      trailed_client _ _ _ client new (trailed_slot _ _ _ slot left l.trailed (rw calm.trail entry)) (rw hand.trail own);
-  ledgers =
-      let charge = calm.charge in
-      let charged = hand.charged in
-      let taken = calm.taken in
-      let places = hand.taken in
-      let real = hand.real in
-      ledgers_both w slot client seen left old new l.ledgers at_slot at_client (omega arith) (omega arith) (omega arith);
-}
+quiet w slot client seen left old new l at_slot at_client calm hand bound first fewer dies =
+    record {
+      sized =
+          sized_kept w _ _ l.sized (length-set w.slots slot left) (length-set w.clients client new);
+      bounded = bounded_set w.setup w.slots slot left l.bounded bound;
+      strayed = strayed_both w.setup w.slots w.clients slot client
+          seen left old new l.strayed l.sized.client_count at_slot at_client first fewer;
+      owners = owners_same w.slots _ w.clients _ l.owners
+          (λ s. read_same owner_in w.slots slot s seen left at_slot calm.owner)
+          (λ c. read_same owned_by w.clients client c old new at_client hand.owned);
+      stamped = stamped_fewer w.slots _ w.clients _ l.stamped
+          (λ s m h. sym (read_same stamp_in w.slots slot s seen left at_slot calm.stamp) ∙ h)
+          (λ c. read_same stamps_by w.clients client c old new at_client hand.stamps);
+      dead = dead_kept w.slots _ w.clients _ l.dead
+          (λ s m h. shown_fewer w.slots slot s seen left m at_slot calm.shown h)
+          (λ c. read_same stamps_by w.clients client c old new at_client hand.stamps)
+          (lists_changed _ w.clients client old new at_client (λ m h. elim (dies m h) [
+            | inl e ↦ inl e
+            | inr e ↦ inr (grave w.slots w.clients slot seen left m l.stamped at_slot e.0 e.1)
+          ]));
+      trailed =
+          let entry = l.trailed.entries slot seen at_slot in
+          let own = l.trailed.hands client old at_client in
+          trailed_client _ _ _ client new
+          (trailed_slot _ _ _ slot left l.trailed (rw calm.trail entry))
+          (rw hand.trail own);
+      ledgers =
+          let charge = calm.charge in
+          let charged = hand.charged in
+          let taken = calm.taken in
+          let places = hand.taken in
+          let real = hand.real in
+          ledgers_both w slot client seen left old new l.ledgers
+          at_slot at_client (omega arith) (omega arith) (omega arith);
+    }
 
 -- one client changes in its looks, its amounts, its place or its trail, within the ledgers
 pub one_client : (w : State) (client : ℕ) (old new : Client) → Lawful w
@@ -98,7 +113,8 @@ one_client w client old new l at_client looks owned stamps dead trail ledgers = 
       (λ c. read_same stamps_by w.clients client c old new at_client stamps);
   dead = dead_kept w.slots _ w.clients _ l.dead (λ s m h. h)
       (λ c. read_same stamps_by w.clients client c old new at_client stamps)
-      (lists_changed _ w.clients client old new at_client (λ m h. inl (ap (is_in m) (sym dead) ∙ h)));
+      (lists_changed _ w.clients client old new at_client
+      (λ m h. inl (ap (is_in m) (sym dead) ∙ h)));
   trailed = trailed_client _ _ _ client new l.trailed trail;
   ledgers = ledgers;
 }

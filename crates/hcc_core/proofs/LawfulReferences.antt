@@ -1,7 +1,10 @@
 -- The events on references keep a world lawful: start, look, acquire, give, use, hide.
-use Rattle.std.proofs.Common.{Option, ◌≡◌, ◌⊎◌, inl, inr, ℕ, ◌+◌, ◌*◌, ◌<◌, ◌≤◌, ◌||◌, ◌==◌, Bool, true, false, nat_le, nat_lt, is_none, List, [], ◌∷◌, ◌++◌, Some, slice_get, refl, sym, arith, None, ◌∙◌}
+use Rattle.std.proofs.Common.{Option, ◌≡◌, ◌⊎◌, inl, inr, ℕ, ◌+◌, ◌*◌, ◌<◌, ◌≤◌, ◌||◌, ◌==◌, Bool}
+use Rattle.std.proofs.Common.{true, false, nat_le, nat_lt, is_none, List, [], ◌∷◌, ◌++◌, Some}
+use Rattle.std.proofs.Common.{slice_get, refl, sym, arith, None, ◌∙◌}
 use Rattle.std.proofs.lemmas.Bool.{and_parts, or_cases, leb-true, ltb-true, false≢true, ne_eqb}
-use Rattle.hcc_core.specs.declared.limits.TheConstants.{MOST_WEIGHT, MOST_CLIENTS, MOST_REFERENCES, NEAR}
+use Rattle.hcc_core.specs.declared.limits.TheConstants.{MOST_WEIGHT, MOST_CLIENTS, MOST_REFERENCES}
+use Rattle.hcc_core.specs.declared.limits.TheConstants.{NEAR}
 use Rattle.hcc_core.specs.declared.client.Client.{Client}
 use Rattle.hcc_core.specs.declared.slot.Reference.{Reference}
 use Rattle.hcc_core.specs.declared.setup.Setup.{Setup}
@@ -9,7 +12,8 @@ use Rattle.hcc_core.specs.declared.slot.Stamp.{Stamp}
 use Rattle.hcc_core.specs.declared.slot.Slot.{Slot}
 use Rattle.hcc_core.specs.declared.slot.Slot.TheVariants as slots
 use Rattle.hcc_core.specs.Sums.{when}
-use Rattle.hcc_core.specs.World.{State, is_named, stamp_of, strays_of, references_of, weight, weight_of, reference_in, has_client, slot_holding}
+use Rattle.hcc_core.specs.World.{State, is_named, stamp_of, strays_of, references_of, weight}
+use Rattle.hcc_core.specs.World.{weight_of, reference_in, has_client, slot_holding}
 use Rattle.hcc_core.specs.Outcomes.{with_client, with_both}
 use Rattle.hcc_core.specs.References.{looks_at, client_looked, most_weight, may_acquire}
 use Rattle.hcc_core.specs.References.{new_reference, slot_acquired, client_acquired, client_noticed}
@@ -30,7 +34,8 @@ pub lawful_start : (w : State) (client : ℕ) (found : Client) → Lawful w
 lawful_start w client found l at_client =
     let new : Client = record found { live = true } in
     in_ledgers w client found new l at_client refl refl refl refl refl
-    (ledgers_client w client found new l.ledgers at_client (omega arith) (omega arith) (omega arith))
+    (ledgers_client w client found new l.ledgers at_client (omega arith)
+    (omega arith) (omega arith))
 
 -- what joins a client's dead list is the stamp of a slot that shows nothing
 pub dies_here : (client : ℕ) (dead : List Stamp) (slot : Slot) (m : Stamp)
@@ -54,11 +59,20 @@ still_hidden seen left none fewer = by (shown_stamp left) refl
 -- Looks.
 
 calm : (slot : Slot) → QuietSlot slot slot
-calm slot = record { owner = refl; stamp = refl; trail = refl; charge = refl; taken = refl; shown = λ m h. h }
+calm slot = record {
+  owner = refl;
+  stamp = refl;
+  trail = refl;
+  charge =
+      refl;
+  taken = refl;
+  shown = λ m h. h;
+}
 
 -- who looks now sees a slot without strays, or has looked nowhere
 look_first : (client slot : ℕ) (seen : Slot) (found : Client)
-    → (strays_of seen + 3 * looking (client_looked client slot seen found) slot ≤ strays_of seen + 3 * looking found slot) ⊎ (strays_of seen ≡ 0)
+    → (strays_of seen + 3 * looking (client_looked client slot seen found) slot
+    ≤ strays_of seen + 3 * looking found slot) ⊎ (strays_of seen ≡ 0)
 look_first client slot (slots.Empty strays) found = inl (omega arith)
 look_first client slot (slots.Building other strays) found = inl (omega arith)
 look_first client slot (slots.Shareable r) found = inr refl
@@ -74,29 +88,68 @@ look_else client slot s (slots.Shareable r) found n =
 pub lawful_look : (w : State) (client slot : ℕ) (found : Client) (seen : Slot) → Lawful w
     → slice_get w.slots slot ≡ Some seen → slice_get w.clients client ≡ Some found
     → Lawful (with_client w client (client_looked client slot seen found))
-lawful_look w client slot found seen l at_slot at_client = rw (set_same w.slots slot seen at_slot) at both
+lawful_look w client slot found seen l at_slot at_client =
+    rw (set_same w.slots slot seen at_slot) at both
   where
     both : Lawful (with_both w slot seen client (client_looked client slot seen found))
     both =
-        quiet w slot client seen seen found (client_looked client slot seen found) l at_slot at_client (calm seen)
-        (record { owned = refl; stamps = refl; trail = refl; charged = refl; real = refl; taken = refl })
+        quiet w slot client seen seen found (client_looked client slot seen found)
+        l at_slot at_client (calm seen)
+        (record {
+          owned = refl;
+          stamps = refl;
+          trail = refl;
+          charged =
+              refl;
+          real = refl;
+          taken = refl;
+        })
         (l.bounded slot seen at_slot) (look_first client slot seen found)
         (λ s n. look_else client slot s seen found n) (λ m h. dies_here client found.dead seen m h)
 
 -- Acquires.
 
 calm_acquired : (seen : Slot) (k : Reference) → QuietSlot seen (slot_acquired seen k)
-calm_acquired (slots.Empty strays) k = record { owner = refl; stamp = refl; trail = refl; charge = refl; taken = refl; shown = λ m h. h }
-calm_acquired (slots.Building other strays) k = record { owner = refl; stamp = refl; trail = refl; charge = refl; taken = refl; shown = λ m h. h }
-calm_acquired (slots.Shareable r) k = record { owner = refl; stamp = refl; trail = refl; charge = refl; taken = refl; shown = λ m h. h }
+calm_acquired (slots.Empty strays) k =
+    record {
+      owner = refl;
+      stamp = refl;
+      trail = refl;
+      charge =
+          refl;
+      taken = refl;
+      shown = λ m h. h;
+    }
+calm_acquired (slots.Building other strays) k =
+    record {
+      owner = refl;
+      stamp = refl;
+      trail = refl;
+      charge =
+          refl;
+      taken = refl;
+      shown = λ m h. h;
+    }
+calm_acquired (slots.Shareable r) k =
+    record {
+      owner = refl;
+      stamp = refl;
+      trail = refl;
+      charge =
+          refl;
+      taken = refl;
+      shown = λ m h. h;
+    }
 
 -- what the test of an acquire says
-pub record MayAcquire (setup : Setup) (client slot : ℕ) (found : Client) (seen : Slot) (weight : ℕ) : Type 0 where
+pub record MayAcquire (setup : Setup) (client slot : ℕ) (found : Client)
+    (seen : Slot) (weight : ℕ) : Type 0 where
   pub few : weight ≤ MOST_WEIGHT
   pub near : (looks_at found slot || has_client client seen) ≡ true
   pub room : weight_of seen + weight ≤ most_weight setup
 
-pub may_acquire_parts : (setup : Setup) (all : List Slot) (client : ℕ) (found : Client) (slot : ℕ) (seen : Slot) (weight name : ℕ)
+pub may_acquire_parts : (setup : Setup) (all : List Slot) (client : ℕ)
+    (found : Client) (slot : ℕ) (seen : Slot) (weight name : ℕ)
     → may_acquire setup all client found slot seen weight name ≡ true
     → MayAcquire setup client slot found seen weight
 unfolding may_acquire
@@ -115,15 +168,18 @@ may_acquire_parts setup all client found slot seen weight name h =
 acquired_strays : (client slot : ℕ) (found : Client) (seen : Slot) (k : Reference)
     → k.weight ≤ MOST_WEIGHT
     → (looks_at found slot || has_client client seen) ≡ true
-    → (strays_of (slot_acquired seen k) + 3 * 0 ≤ strays_of seen + 3 * looking found slot) ⊎ (strays_of (slot_acquired seen k) ≡ 0)
-acquired_strays client slot found (slots.Empty strays) k few near = inl (elim (or_cases (looks_at found slot) false near) [
-  | inl e ↦ rw e (omega arith)
-  | inr e ↦ absurd (false≢true e)
-])
-acquired_strays client slot found (slots.Building other strays) k few near = inl (elim (or_cases (looks_at found slot) false near) [
-  | inl e ↦ rw e (omega arith)
-  | inr e ↦ absurd (false≢true e)
-])
+    → (strays_of (slot_acquired seen k) + 3 * 0 ≤ strays_of seen + 3 * looking found slot)
+    ⊎ (strays_of (slot_acquired seen k) ≡ 0)
+acquired_strays client slot found (slots.Empty strays) k few near =
+    inl (elim (or_cases (looks_at found slot) false near) [
+      | inl e ↦ rw e (omega arith)
+      | inr e ↦ absurd (false≢true e)
+    ])
+acquired_strays client slot found (slots.Building other strays) k few near =
+    inl (elim (or_cases (looks_at found slot) false near) [
+      | inl e ↦ rw e (omega arith)
+      | inr e ↦ absurd (false≢true e)
+    ])
 acquired_strays client slot found (slots.Shareable r) k few near = inr refl
 
 -- the most that a world's references weigh is within the product's bound
@@ -136,23 +192,52 @@ acquired_bounded : (setup : Setup) (client name weight : ℕ) (seen : Slot)
     → setup.clients ≤ MOST_CLIENTS
     → IsBounded setup seen → weight_of seen + weight ≤ most_weight setup
     → IsBounded setup (slot_acquired seen (new_reference client name weight seen))
-acquired_bounded setup client name weight (slots.Empty strays) few b room = record { references = omega arith; uses = omega arith }
-acquired_bounded setup client name weight (slots.Building other strays) few b room = record { references = omega arith; uses = omega arith }
-acquired_bounded setup client name weight (slots.Shareable r) few b room = by (nat_lt r.uses NEAR) refl
+acquired_bounded setup client name weight (slots.Empty strays) few b room =
+    record { references = omega arith; uses = omega arith }
+acquired_bounded setup client name weight (slots.Building other strays) few b room =
+    record { references = omega arith; uses = omega arith }
+acquired_bounded setup client name weight (slots.Shareable r) few b room =
+    by (nat_lt r.uses NEAR) refl
   where
     by : (counting : Bool) → nat_lt r.uses NEAR ≡ counting
-        → IsBounded setup (slots.Shareable (record r { references = r.references ++ record { client = client; name = name; weight = weight; counting = nat_lt r.uses NEAR } ∷ [] }))
+        → IsBounded setup
+        (slots.Shareable
+        (record r {
+          references =
+              r.references ++ record {
+                client = client;
+                name =
+                    name;
+                weight = weight;
+                counting = nat_lt r.uses NEAR;
+              } ∷ [];
+        }))
     by true e =
-        let k : Reference = record { client = client; name = name; weight = weight; counting = nat_lt r.uses NEAR } in
+        let k : Reference =
+        record {
+          client = client;
+          name = name;
+          weight = weight;
+          counting =
+              nat_lt r.uses NEAR;
+        } in
         let sum = total-append (λ (k : Reference). k.weight) r.references (k ∷ []) in
         let all = counted-le (r.references ++ k ∷ []) in
         let most = most_weight_few setup few in
         let early : r.uses < NEAR = ltb-true r.uses NEAR e in
         record { references = omega arith; uses = omega arith }
     by false e =
-        let k : Reference = record { client = client; name = name; weight = weight; counting = nat_lt r.uses NEAR } in
+        let k : Reference =
+        record {
+          client = client;
+          name = name;
+          weight = weight;
+          counting =
+              nat_lt r.uses NEAR;
+        } in
         let sum = total-append (λ (k : Reference). k.weight) r.references (k ∷ []) in
-        let counts = total-append (λ (k : Reference). when k.counting k.weight) r.references (k ∷ []) in
+        let counts = total-append (λ (k : Reference). when k.counting k.weight)
+        r.references (k ∷ []) in
         let none : when (nat_lt r.uses NEAR) weight ≡ 0 = rw e refl in
         let before = b.uses in
         record { references = omega arith; uses = omega arith }
@@ -166,9 +251,20 @@ pub lawful_acquire : (w : State) (client slot weight name : ℕ) (found : Client
 lawful_acquire w client slot weight name found seen l at_slot at_client may =
     let k : Reference = new_reference client name weight seen in
     let parts = may_acquire_parts w.setup w.slots client found slot seen weight name may in
-    quiet w slot client seen (slot_acquired seen k) found (client_acquired client (slot_acquired seen k) found) l at_slot at_client
-    (calm_acquired seen k) (record { owned = refl; stamps = refl; trail = refl; charged = refl; real = refl; taken = refl })
-    (acquired_bounded w.setup client name weight seen l.sized.few_clients (l.bounded slot seen at_slot) parts.room)
+    quiet w slot client seen (slot_acquired seen k) found
+    (client_acquired client (slot_acquired seen k) found) l at_slot at_client
+    (calm_acquired seen k)
+    (record {
+      owned = refl;
+      stamps = refl;
+      trail = refl;
+      charged =
+          refl;
+      real = refl;
+      taken = refl;
+    })
+    (acquired_bounded w.setup client name weight seen l.sized.few_clients
+    (l.bounded slot seen at_slot) parts.room)
     (acquired_strays client slot found seen k parts.few parts.near) (λ s n. omega arith)
     (λ m h. elim (dies_here client found.dead (slot_acquired seen k) m h) [
       | inl e ↦ inl e
@@ -178,9 +274,36 @@ lawful_acquire w client slot weight name found seen l at_slot at_client may =
 -- Gives and uses.
 
 calm_given : (client name : ℕ) (seen : Slot) → QuietSlot seen (slot_given client name seen)
-calm_given client name (slots.Empty strays) = record { owner = refl; stamp = refl; trail = refl; charge = refl; taken = refl; shown = λ m h. h }
-calm_given client name (slots.Building other strays) = record { owner = refl; stamp = refl; trail = refl; charge = refl; taken = refl; shown = λ m h. h }
-calm_given client name (slots.Shareable r) = record { owner = refl; stamp = refl; trail = refl; charge = refl; taken = refl; shown = λ m h. h }
+calm_given client name (slots.Empty strays) =
+    record {
+      owner = refl;
+      stamp = refl;
+      trail = refl;
+      charge =
+          refl;
+      taken = refl;
+      shown = λ m h. h;
+    }
+calm_given client name (slots.Building other strays) =
+    record {
+      owner = refl;
+      stamp = refl;
+      trail = refl;
+      charge =
+          refl;
+      taken = refl;
+      shown = λ m h. h;
+    }
+calm_given client name (slots.Shareable r) =
+    record {
+      owner = refl;
+      stamp = refl;
+      trail = refl;
+      charge =
+          refl;
+      taken = refl;
+      shown = λ m h. h;
+    }
 
 given_strays : (client name : ℕ) (seen : Slot)
     → strays_of (slot_given client name seen) ≡ strays_of seen
@@ -194,29 +317,73 @@ given_bounded setup client name (slots.Empty strays) b = b
 given_bounded setup client name (slots.Building other strays) b = b
 given_bounded setup client name (slots.Shareable r) b =
     let lighter = dropped-le (is_named client name) (λ (k : Reference). k.weight) r.references in
-    let fewer = dropped-le (is_named client name) (λ (k : Reference). when k.counting k.weight) r.references in
+    let fewer = dropped-le (is_named client name) (λ (k : Reference). when k.counting k.weight)
+    r.references in
     let references = b.references in
     let uses = b.uses in
     record { references = omega arith; uses = omega arith }
 
 pub lawful_give : (w : State) (client name slot : ℕ) (found : Client) (seen : Slot) → Lawful w
     → slice_get w.slots slot ≡ Some seen → slice_get w.clients client ≡ Some found
-    → Lawful (with_both w slot (slot_given client name seen) client (client_noticed client seen found))
+    → Lawful
+    (with_both w slot (slot_given client name seen) client (client_noticed client seen found))
 lawful_give w client name slot found seen l at_slot at_client =
-    quiet w slot client seen (slot_given client name seen) found (client_noticed client seen found) l at_slot at_client
-    (calm_given client name seen) (record { owned = refl; stamps = refl; trail = refl; charged = refl; real = refl; taken = refl })
+    quiet w slot client seen (slot_given client name seen) found
+    (client_noticed client seen found) l at_slot at_client
+    (calm_given client name seen)
+    (record {
+      owned = refl;
+      stamps = refl;
+      trail = refl;
+      charged =
+          refl;
+      real = refl;
+      taken = refl;
+    })
     (given_bounded w.setup client name seen (l.bounded slot seen at_slot))
     (inl (let same = given_strays client name seen in omega arith)) (λ s n. omega arith)
     (λ m h. elim (dies_here client found.dead seen m h) [
       | inl e ↦ inl e
-      | inr e ↦ inr (e.0, still_hidden seen (slot_given client name seen) e.1 (calm_given client name seen).shown)
+      | inr e ↦
+          inr (
+            e.0,
+            still_hidden seen (slot_given client name seen)
+                e.1 (calm_given client name seen).shown,
+          )
     ])
 
 calm_used : (client name : ℕ) (k : Reference) (seen : Slot)
     → QuietSlot seen (slot_used client name k seen)
-calm_used client name k (slots.Empty strays) = record { owner = refl; stamp = refl; trail = refl; charge = refl; taken = refl; shown = λ m h. h }
-calm_used client name k (slots.Building other strays) = record { owner = refl; stamp = refl; trail = refl; charge = refl; taken = refl; shown = λ m h. h }
-calm_used client name k (slots.Shareable r) = record { owner = refl; stamp = refl; trail = refl; charge = refl; taken = refl; shown = λ m h. h }
+calm_used client name k (slots.Empty strays) =
+    record {
+      owner = refl;
+      stamp = refl;
+      trail = refl;
+      charge =
+          refl;
+      taken = refl;
+      shown = λ m h. h;
+    }
+calm_used client name k (slots.Building other strays) =
+    record {
+      owner = refl;
+      stamp = refl;
+      trail = refl;
+      charge =
+          refl;
+      taken = refl;
+      shown = λ m h. h;
+    }
+calm_used client name k (slots.Shareable r) =
+    record {
+      owner = refl;
+      stamp = refl;
+      trail = refl;
+      charge =
+          refl;
+      taken = refl;
+      shown = λ m h. h;
+    }
 
 used_strays : (client name : ℕ) (k : Reference) (seen : Slot)
     → strays_of (slot_used client name k seen) ≡ strays_of seen
@@ -231,8 +398,10 @@ pub used_bounded : (setup : Setup) (client name : ℕ) (k : Reference) (seen : S
 used_bounded setup client name k (slots.Empty strays) there counts b = b
 used_bounded setup client name k (slots.Building other strays) there counts b = b
 used_bounded setup client name k (slots.Shareable r) there counts b =
-    let lighter = dropped-total (is_named client name) (λ (k : Reference). k.weight) r.references k there in
-    let fewer = dropped-total (is_named client name) (λ (k : Reference). when k.counting k.weight) r.references k there in
+    let lighter = dropped-total (is_named client name) (λ (k : Reference). k.weight)
+    r.references k there in
+    let fewer = dropped-total (is_named client name) (λ (k : Reference). when k.counting k.weight)
+    r.references k there in
     let whole : when k.counting k.weight ≡ k.weight = rw counts refl in
     let references = b.references in
     let uses = b.uses in
@@ -242,23 +411,66 @@ pub lawful_use : (w : State) (client name slot : ℕ) (found : Client) (seen : S
     → Lawful w
     → slice_get w.slots slot ≡ Some seen → slice_get w.clients client ≡ Some found
     → reference_in client name (references_of seen) ≡ Some k → k.counting ≡ true
-    → Lawful (with_both w slot (slot_used client name k seen) client (client_noticed client seen found))
+    → Lawful
+    (with_both w slot (slot_used client name k seen) client (client_noticed client seen found))
 lawful_use w client name slot found seen k l at_slot at_client there counts =
-    quiet w slot client seen (slot_used client name k seen) found (client_noticed client seen found) l at_slot at_client
-    (calm_used client name k seen) (record { owned = refl; stamps = refl; trail = refl; charged = refl; real = refl; taken = refl })
+    quiet w slot client seen (slot_used client name k seen) found
+    (client_noticed client seen found) l at_slot at_client
+    (calm_used client name k seen)
+    (record {
+      owned = refl;
+      stamps = refl;
+      trail = refl;
+      charged =
+          refl;
+      real = refl;
+      taken = refl;
+    })
     (used_bounded w.setup client name k seen there counts (l.bounded slot seen at_slot))
     (inl (let same = used_strays client name k seen in omega arith)) (λ s n. omega arith)
     (λ m h. elim (dies_here client found.dead seen m h) [
       | inl e ↦ inl e
-      | inr e ↦ inr (e.0, still_hidden seen (slot_used client name k seen) e.1 (calm_used client name k seen).shown)
+      | inr e ↦
+          inr (
+            e.0,
+            still_hidden seen (slot_used client name k seen)
+                e.1 (calm_used client name k seen).shown,
+          )
     ])
 
 -- Hides.
 
 calm_hidden : (seen : Slot) → QuietSlot seen (slot_hidden seen)
-calm_hidden (slots.Empty strays) = record { owner = refl; stamp = refl; trail = refl; charge = refl; taken = refl; shown = λ m h. h }
-calm_hidden (slots.Building other strays) = record { owner = refl; stamp = refl; trail = refl; charge = refl; taken = refl; shown = λ m h. h }
-calm_hidden (slots.Shareable r) = record { owner = refl; stamp = refl; trail = refl; charge = refl; taken = refl; shown = λ m h. cc }
+calm_hidden (slots.Empty strays) =
+    record {
+      owner = refl;
+      stamp = refl;
+      trail = refl;
+      charge =
+          refl;
+      taken = refl;
+      shown = λ m h. h;
+    }
+calm_hidden (slots.Building other strays) =
+    record {
+      owner = refl;
+      stamp = refl;
+      trail = refl;
+      charge =
+          refl;
+      taken = refl;
+      shown = λ m h. h;
+    }
+calm_hidden (slots.Shareable r) =
+    record {
+      owner = refl;
+      stamp = refl;
+      trail = refl;
+      charge =
+          refl;
+      taken = refl;
+      shown = λ m h. cc;
+    }
 
 hidden_strays : (seen : Slot) → strays_of (slot_hidden seen) ≡ strays_of seen
 hidden_strays (slots.Empty strays) = refl
@@ -273,10 +485,21 @@ hidden_bounded setup (slots.Shareable r) b = record { references = b.references;
 
 pub lawful_hide : (w : State) (client slot : ℕ) (found : Client) (seen : Slot) → Lawful w
     → slice_get w.slots slot ≡ Some seen → slice_get w.clients client ≡ Some found
-    → Lawful (with_both w slot (slot_hidden seen) client (client_noticed client (slot_hidden seen) found))
+    → Lawful (with_both w slot (slot_hidden seen) client
+    (client_noticed client (slot_hidden seen) found))
 lawful_hide w client slot found seen l at_slot at_client =
-    quiet w slot client seen (slot_hidden seen) found (client_noticed client (slot_hidden seen) found) l at_slot at_client
-    (calm_hidden seen) (record { owned = refl; stamps = refl; trail = refl; charged = refl; real = refl; taken = refl })
+    quiet w slot client seen (slot_hidden seen) found
+    (client_noticed client (slot_hidden seen) found) l at_slot at_client
+    (calm_hidden seen)
+    (record {
+      owned = refl;
+      stamps = refl;
+      trail = refl;
+      charged =
+          refl;
+      real = refl;
+      taken = refl;
+    })
     (hidden_bounded w.setup seen (l.bounded slot seen at_slot))
     (inl (let same = hidden_strays seen in omega arith)) (λ s n. omega arith)
     (λ m h. elim (dies_here client found.dead (slot_hidden seen) m h) [

@@ -1,6 +1,7 @@
 -- The events on uses, marks, trails and the hand keep a world lawful: clock, mark, correct, end,
 -- pass, unpass, turn.
-use Rattle.std.proofs.Common.{◌≡◌, inl, inr, ℕ, ◌<◌, ◌≤◌, true, false, nat_lt, [], ◌∷◌, ◌++◌, Some, slice_get, refl, arith, None, length}
+use Rattle.std.proofs.Common.{◌≡◌, inl, inr, ℕ, ◌<◌, ◌≤◌, true, false, nat_lt, [], ◌∷◌, ◌++◌, Some}
+use Rattle.std.proofs.Common.{slice_get, refl, arith, None, length}
 use Rattle.std.proofs.lemmas.Bool.{ltb-true}
 use Rattle.hcc_core.specs.declared.client.Client.{Client}
 use Rattle.hcc_core.specs.declared.setup.Setup.{Setup}
@@ -23,9 +24,36 @@ use Rattle.hcc_core.proofs.LawfulReferences.{dies_here, still_hidden}
 use Rattle.hcc_core.proofs.DroppedLemmas.{dropped-length}
 
 calm_uses : (uses : ℕ) (seen : Slot) → QuietSlot seen (slot_with_uses uses seen)
-calm_uses uses (slots.Empty strays) = record { owner = refl; stamp = refl; trail = refl; charge = refl; taken = refl; shown = λ m h. h }
-calm_uses uses (slots.Building other strays) = record { owner = refl; stamp = refl; trail = refl; charge = refl; taken = refl; shown = λ m h. h }
-calm_uses uses (slots.Shareable r) = record { owner = refl; stamp = refl; trail = refl; charge = refl; taken = refl; shown = λ m h. h }
+calm_uses uses (slots.Empty strays) =
+    record {
+      owner = refl;
+      stamp = refl;
+      trail = refl;
+      charge =
+          refl;
+      taken = refl;
+      shown = λ m h. h;
+    }
+calm_uses uses (slots.Building other strays) =
+    record {
+      owner = refl;
+      stamp = refl;
+      trail = refl;
+      charge =
+          refl;
+      taken = refl;
+      shown = λ m h. h;
+    }
+calm_uses uses (slots.Shareable r) =
+    record {
+      owner = refl;
+      stamp = refl;
+      trail = refl;
+      charge =
+          refl;
+      taken = refl;
+      shown = λ m h. h;
+    }
 
 uses_strays : (uses : ℕ) (seen : Slot) → strays_of (slot_with_uses uses seen) ≡ strays_of seen
 uses_strays uses (slots.Empty strays) = refl
@@ -37,20 +65,24 @@ fewer_bounded : (setup : Setup) (uses : ℕ) (seen : Slot) → uses ≤ uses_of 
     → IsBounded setup seen → IsBounded setup (slot_with_uses uses seen)
 fewer_bounded setup uses (slots.Empty strays) few b = b
 fewer_bounded setup uses (slots.Building other strays) few b = b
-fewer_bounded setup uses (slots.Shareable r) few b = let before = b.uses in record { references = b.references; uses = omega arith }
+fewer_bounded setup uses (slots.Shareable r) few b = let before = b.uses in
+    record { references = b.references; uses = omega arith }
 
 same_hand : (found : Client) → QuietClient found found
-same_hand found = record { owned = refl; stamps = refl; trail = refl; charged = refl; real = refl; taken = refl }
+same_hand found =
+    record { owned = refl; stamps = refl; trail = refl; charged = refl; real = refl; taken = refl }
 
 pub lawful_clock : (w : State) (client slot uses : ℕ) (found : Client) (seen : Slot) → Lawful w
     → slice_get w.slots slot ≡ Some seen → slice_get w.clients client ≡ Some found
     → uses ≤ uses_of seen
     → Lawful (with_slot w slot (slot_with_uses uses seen))
-lawful_clock w client slot uses found seen l at_slot at_client few = rw (set_same w.clients client found at_client) at both
+lawful_clock w client slot uses found seen l at_slot at_client few =
+    rw (set_same w.clients client found at_client) at both
   where
     both : Lawful (with_both w slot (slot_with_uses uses seen) client found)
     both =
-        quiet w slot client seen (slot_with_uses uses seen) found found l at_slot at_client (calm_uses uses seen) (same_hand found)
+        quiet w slot client seen (slot_with_uses uses seen) found
+        found l at_slot at_client (calm_uses uses seen) (same_hand found)
         (fewer_bounded w.setup uses seen few (l.bounded slot seen at_slot))
         (inl (let same = uses_strays uses seen in omega arith)) (λ s n. omega arith) (λ m h. inl h)
 
@@ -59,19 +91,57 @@ pub lawful_correct : (w : State) (client slot uses : ℕ) (found : Client) (seen
     → uses ≤ uses_of seen
     → Lawful (with_both w slot (slot_with_uses uses seen) client (client_noticed client seen found))
 lawful_correct w client slot uses found seen l at_slot at_client few =
-    quiet w slot client seen (slot_with_uses uses seen) found (client_noticed client seen found) l at_slot at_client
-    (calm_uses uses seen) (record { owned = refl; stamps = refl; trail = refl; charged = refl; real = refl; taken = refl })
+    quiet w slot client seen (slot_with_uses uses seen) found
+    (client_noticed client seen found) l at_slot at_client
+    (calm_uses uses seen)
+    (record {
+      owned = refl;
+      stamps = refl;
+      trail = refl;
+      charged =
+          refl;
+      real = refl;
+      taken = refl;
+    })
     (fewer_bounded w.setup uses seen few (l.bounded slot seen at_slot))
     (inl (let same = uses_strays uses seen in omega arith)) (λ s n. omega arith)
     (λ m h. elim (dies_here client found.dead seen m h) [
       | inl e ↦ inl e
-      | inr e ↦ inr (e.0, still_hidden seen (slot_with_uses uses seen) e.1 (calm_uses uses seen).shown)
+      | inr e ↦
+          inr (e.0, still_hidden seen (slot_with_uses uses seen) e.1 (calm_uses uses seen).shown)
     ])
 
 calm_marked : (seen : Slot) → QuietSlot seen (slot_marked seen)
-calm_marked (slots.Empty strays) = record { owner = refl; stamp = refl; trail = refl; charge = refl; taken = refl; shown = λ m h. h }
-calm_marked (slots.Building other strays) = record { owner = refl; stamp = refl; trail = refl; charge = refl; taken = refl; shown = λ m h. h }
-calm_marked (slots.Shareable r) = record { owner = refl; stamp = refl; trail = refl; charge = refl; taken = refl; shown = λ m h. h }
+calm_marked (slots.Empty strays) =
+    record {
+      owner = refl;
+      stamp = refl;
+      trail = refl;
+      charge =
+          refl;
+      taken = refl;
+      shown = λ m h. h;
+    }
+calm_marked (slots.Building other strays) =
+    record {
+      owner = refl;
+      stamp = refl;
+      trail = refl;
+      charge =
+          refl;
+      taken = refl;
+      shown = λ m h. h;
+    }
+calm_marked (slots.Shareable r) =
+    record {
+      owner = refl;
+      stamp = refl;
+      trail = refl;
+      charge =
+          refl;
+      taken = refl;
+      shown = λ m h. h;
+    }
 
 marked_strays : (seen : Slot) → strays_of (slot_marked seen) ≡ strays_of seen
 marked_strays (slots.Empty strays) = refl
@@ -88,8 +158,18 @@ pub lawful_mark : (w : State) (client slot : ℕ) (found : Client) (seen : Slot)
     → slice_get w.slots slot ≡ Some seen → slice_get w.clients client ≡ Some found
     → Lawful (with_both w slot (slot_marked seen) client (client_noticed client seen found))
 lawful_mark w client slot found seen l at_slot at_client =
-    quiet w slot client seen (slot_marked seen) found (client_noticed client seen found) l at_slot at_client
-    (calm_marked seen) (record { owned = refl; stamps = refl; trail = refl; charged = refl; real = refl; taken = refl })
+    quiet w slot client seen (slot_marked seen) found (client_noticed client seen found)
+    l at_slot at_client
+    (calm_marked seen)
+    (record {
+      owned = refl;
+      stamps = refl;
+      trail = refl;
+      charged =
+          refl;
+      real = refl;
+      taken = refl;
+    })
     (marked_bounded w.setup seen (l.bounded slot seen at_slot))
     (inl (let same = marked_strays seen in omega arith)) (λ s n. omega arith)
     (λ m h. elim (dies_here client found.dead seen m h) [
@@ -102,8 +182,10 @@ pub lawful_end : (w : State) (client : ℕ) (found : Client) → Lawful w
     → Lawful (with_client w client (record found { live = false; looked = None }))
 lawful_end w client found l at_client =
     let new : Client = record found { live = false; looked = None } in
-    one_client w client found new l at_client (λ s. omega arith) refl refl refl (l.trailed.hands client found at_client)
-    (ledgers_client w client found new l.ledgers at_client (omega arith) (omega arith) (omega arith))
+    one_client w client found new l at_client (λ s. omega arith)
+    refl refl refl (l.trailed.hands client found at_client)
+    (ledgers_client w client found new l.ledgers at_client (omega arith)
+    (omega arith) (omega arith))
 
 pub lawful_pass : (w : State) (client slot : ℕ) (found : Client) → Lawful w
     → slice_get w.clients client ≡ Some found
@@ -111,10 +193,12 @@ pub lawful_pass : (w : State) (client slot : ℕ) (found : Client) → Lawful w
     → Lawful (with_client w client (record found { trail = found.trail ++ slot ∷ [] }))
 lawful_pass w client slot found l at_client room =
     let new : Client = record found { trail = found.trail ++ slot ∷ [] } in
-    let short : length found.trail < w.setup.slots = ltb-true (length found.trail) w.setup.slots room in
+    let short : length found.trail < w.setup.slots =
+    ltb-true (length found.trail) w.setup.slots room in
     let one = length-push found.trail slot in
     one_client w client found new l at_client (λ s. omega arith) refl refl refl (omega arith)
-    (ledgers_client w client found new l.ledgers at_client (omega arith) (omega arith) (omega arith))
+    (ledgers_client w client found new l.ledgers at_client (omega arith)
+    (omega arith) (omega arith))
 
 pub lawful_unpass : (w : State) (client slot : ℕ) (found : Client) → Lawful w
     → slice_get w.clients client ≡ Some found
@@ -124,7 +208,8 @@ lawful_unpass w client slot found l at_client =
     let short = l.trailed.hands client found at_client in
     let shorter = dropped-length (is_slot slot) found.trail in
     one_client w client found new l at_client (λ s. omega arith) refl refl refl (omega arith)
-    (ledgers_client w client found new l.ledgers at_client (omega arith) (omega arith) (omega arith))
+    (ledgers_client w client found new l.ledgers at_client (omega arith)
+    (omega arith) (omega arith))
 
 pub lawful_turn : (w : State) (hand : ℕ) → Lawful w → Lawful (record w { hand = hand })
 lawful_turn w hand l = record {

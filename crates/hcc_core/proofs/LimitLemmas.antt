@@ -1,6 +1,7 @@
 -- How the limits hang together.
 use Rattle.std.proofs.Common.{◌≡◌, ◌+◌, ◌*◌, ◌<◌, ◌^◌, refl, arith}
-use Rattle.hcc_core.specs.declared.limits.TheConstants.{MOST_CLIENTS, REFERENCES_PER_CLIENT, MOST_REFERENCES}
+use Rattle.hcc_core.specs.declared.limits.TheConstants.{MOST_CLIENTS, REFERENCES_PER_CLIENT}
+use Rattle.hcc_core.specs.declared.limits.TheConstants.{MOST_REFERENCES}
 
 -- the bound on a slot's references is what the most clients hold together
 pub most_references : MOST_REFERENCES ≡ MOST_CLIENTS * REFERENCES_PER_CLIENT

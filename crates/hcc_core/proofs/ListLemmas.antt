@@ -1,5 +1,7 @@
 -- What a list reads once one of its members was written, and what it reads at the start.
-use Rattle.std.proofs.Common.{◌≡◌, ◌⊎◌, inl, inr, ℕ, zero, suc, List, [], ◌∷◌, Option, Some, None, slice_set, slice_get, get_or, replicate, refl, ap, sym, ◌∙◌, ◌++◌, length}
+use Rattle.std.proofs.Common.{◌≡◌, ◌⊎◌, inl, inr, ℕ, zero, suc, List, [], ◌∷◌, Option, Some, None}
+use Rattle.std.proofs.Common.{slice_set, slice_get, get_or, replicate, refl, ap, sym, ◌∙◌, ◌++◌}
+use Rattle.std.proofs.Common.{length}
 use Rattle.std.specs.Prelude.{option_and_then}
 use Rattle.std.proofs.lemmas.Option.{get_or_from_slice_get}
 
@@ -88,7 +90,8 @@ read_at_set f (x ∷ xs) (suc i) (suc j) new a h = elim (read_at_set f xs i j ne
 
 -- what is read of a list is read of it with more at its end
 pub read_before : {X A : Type 0} (f : X → Option A) (xs ys : List X) (i : ℕ) (a : A)
-    → option_and_then f (slice_get xs i) ≡ Some a → option_and_then f (slice_get (xs ++ ys) i) ≡ Some a
+    → option_and_then f (slice_get xs i) ≡ Some a
+    → option_and_then f (slice_get (xs ++ ys) i) ≡ Some a
 read_before f [] ys i a h = cc
 read_before f (x ∷ xs) ys zero a h = h
 read_before f (x ∷ xs) ys (suc i) a h = read_before f xs ys i a h

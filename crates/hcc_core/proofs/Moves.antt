@@ -1,6 +1,7 @@
 -- What a step moves. References stay where they are, but for those of one slot that come anew, and
 -- entries stay what they are. Only `show` adds an entry, of which `Shows` speaks.
-use Rattle.std.proofs.Common.{◌≡◌, ◌⊎◌, inl, inr, ℕ, Bool, true, false, cond, List, [], ◌∷◌, Option, Some, None, slice_set, slice_get, refl, sym, ap, ◌∙◌, ◌≤◌, ◌+◌, arith}
+use Rattle.std.proofs.Common.{◌≡◌, ◌⊎◌, inl, inr, ℕ, Bool, true, false, cond, List, [], ◌∷◌, Option}
+use Rattle.std.proofs.Common.{Some, None, slice_set, slice_get, refl, sym, ap, ◌∙◌, ◌≤◌, ◌+◌, arith}
 use Rattle.std.specs.Prelude.{option_and_then}
 use Rattle.std.specs.List.{list_any}
 use Rattle.hcc_core.specs.declared.client.Client.{Client}
@@ -43,7 +44,8 @@ pub holds_still : (w w' : State) → w'.slots ≡ w.slots → Holds w w'
 holds_still w w' same = record {
   here = 0;
   held = λ client name slot entry h.
-      inl (ap (λ all. option_and_then (entry_held client name) (slice_get all slot)) (sym same) ∙ h);
+      inl (ap (λ all. option_and_then (entry_held client name) (slice_get all slot)) (sym same)
+      ∙ h);
   times = λ client name.
       let as_many = ap (total (named_on client name)) same in inl (omega arith);
 }
@@ -194,7 +196,8 @@ marked w (slots.Empty strays) = same w _
 marked w (slots.Building other strays) = same w _
 marked w (slots.Shareable r) = stays w r _ refl (λ c n. inl (omega arith))
 
-pub recounted : (w : State) (uses : ℕ) (seen : Slot) → Turns w (Some seen) (slot_with_uses uses seen)
+pub recounted : (w : State) (uses : ℕ) (seen : Slot)
+    → Turns w (Some seen) (slot_with_uses uses seen)
 recounted w uses (slots.Empty strays) = same w _
 recounted w uses (slots.Building other strays) = same w _
 recounted w uses (slots.Shareable r) = stays w r _ refl (λ c n. inl (omega arith))

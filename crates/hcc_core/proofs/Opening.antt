@@ -1,5 +1,6 @@
 -- The opening world is lawful, and the name that tactics do not open.
-use Rattle.std.proofs.Common.{refl, arith, ◌⊎◌, inl, inr, true, Option, None, Some, sym, ap, ◌∙◌, replicate, slice_get, ◌≡◌, ℕ}
+use Rattle.std.proofs.Common.{refl, arith, ◌⊎◌, inl, inr, true, Option, None, Some, sym, ap, ◌∙◌}
+use Rattle.std.proofs.Common.{replicate, slice_get, ◌≡◌, ℕ}
 use Rattle.std.proofs.lemmas.Bool.{false≢true}
 use Rattle.hcc_core.specs.declared.slot.Stamp.{Stamp}
 use Rattle.std.proofs.lemmas.List.{length-replicate}
@@ -9,7 +10,8 @@ use Rattle.hcc_core.specs.Sums.{when}
 use Rattle.hcc_core.specs.World.{State, charge_of, taken_by_slot, charged_to}
 use Rattle.hcc_core.specs.References.{looks_at}
 use Rattle.hcc_core.specs.Opening.{opening_of, CanOpen, new_slot, new_client}
-use Rattle.hcc_core.specs.Lawful.{Lawful, IsLawful, owner_in, owned_by, stamp_in, taken_by, real_to, dead_by, is_in}
+use Rattle.hcc_core.specs.Lawful.{Lawful, IsLawful, owner_in, owned_by, stamp_in, taken_by, real_to}
+use Rattle.hcc_core.specs.Lawful.{dead_by, is_in}
 use Rattle.hcc_core.proofs.ListLemmas.{nothing_in, in_replicate, replicate_is}
 use Rattle.hcc_core.proofs.SumLemmas.{total-zero}
 
@@ -30,7 +32,8 @@ lawful_opening setup can = record {
     slot_count = length-replicate setup.slots new_slot;
     client_count = length-replicate setup.clients new_client;
   };
-  bounded = λ s slot h. rw (replicate_is setup.slots s new_slot slot h) (record { references = omega arith; uses = omega arith });
+  bounded = λ s slot h. rw (replicate_is setup.slots s new_slot slot h)
+      (record { references = omega arith; uses = omega arith });
   strayed = λ s slot h.
       let none = total-zero (λ (c : Client). when (looks_at c s) 1) setup.clients new_client refl in
       rw (replicate_is setup.slots s new_slot slot h) (omega arith);
@@ -73,4 +76,5 @@ lawful_opening setup can = record {
 
     nobody_dead : (n c : ℕ) (m : Stamp)
         → is_in m (dead_by (slice_get (replicate n new_client) c)) ≡ true → ⊥
-    nobody_dead n c m h = none_dead (slice_get (replicate n new_client) c) m (in_replicate n c new_client) h
+    nobody_dead n c m h =
+        none_dead (slice_get (replicate n new_client) c) m (in_replicate n c new_client) h

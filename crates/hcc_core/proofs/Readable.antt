@@ -1,5 +1,6 @@
 -- In a lawful world no sum that a reader or a step makes wraps.
-use Rattle.std.proofs.Common.{◌≡◌, ℕ, suc, ◌+◌, ◌*◌, ◌<◌, ◌≤◌, ◌==◌, Bool, true, false, List, [], ◌∷◌, Some, length, slice_get, refl, arith}
+use Rattle.std.proofs.Common.{◌≡◌, ℕ, suc, ◌+◌, ◌*◌, ◌<◌, ◌≤◌, ◌==◌, Bool, true, false, List, []}
+use Rattle.std.proofs.Common.{◌∷◌, Some, length, slice_get, refl, arith}
 use Rattle.hcc_core.specs.declared.limits.TheConstants.{MOST_SLOTS, MOST_CLIENTS, MOST_USAGE}
 use Rattle.hcc_core.specs.declared.client.Client.{Client}
 use Rattle.hcc_core.specs.declared.slot.Reference.{Reference}
@@ -10,7 +11,10 @@ use Rattle.hcc_core.specs.declared.slot.Slot.{Slot}
 use Rattle.hcc_core.specs.Ledgers.{is_standing}
 use Rattle.std.specs.List.{find}
 use Rattle.hcc_core.specs.Sums.{when, total}
-use Rattle.hcc_core.specs.World.{State, is_named, strays_of, references_of, reference_in, uses_of, weight_of, charge_of, trail_of, charged_to, standing_of, is_placed, is_granted, occupied_by, times, passed_by, usage_of, occupancy_of, standing_in, limit_of}
+use Rattle.hcc_core.specs.World.{State, is_named, strays_of, references_of, reference_in, uses_of}
+use Rattle.hcc_core.specs.World.{weight_of, charge_of, trail_of, charged_to, standing_of, is_placed}
+use Rattle.hcc_core.specs.World.{is_granted, occupied_by, times, passed_by, usage_of, occupancy_of}
+use Rattle.hcc_core.specs.World.{standing_in, limit_of}
 use Rattle.hcc_core.specs.Lawful.{Lawful, IsLawful, IsBounded, taken_by}
 use Rattle.hcc_core.proofs.SumLemmas.{total-le, total-member}
 use Rattle.hcc_core.proofs.DroppedLemmas.{dropped-total}
@@ -72,7 +76,8 @@ when_few false = omega arith
 -- a slot stands in a trail no more often than the trail has members
 times-le : (slot : ℕ) (trail : List ℕ) → times slot trail ≤ length trail
 times-le slot [] = omega arith
-times-le slot (t ∷ ts) = let one = when_few (t == slot) in let rest = times-le slot ts in omega arith
+times-le slot (t ∷ ts) = let one = when_few (t == slot) in let rest = times-le slot ts in
+    omega arith
 
 -- a total of as much from each as there may be slots
 total-few : {X : Type 0} (f : X → ℕ) (xs : List X)
@@ -91,8 +96,12 @@ passed_fits w l slot =
     let few = law.sized.few_slots in
     let slots_few = few_slots w l in
     let clients_few = few_clients w l in
-    let entries = total-few (λ s. times slot (trail_of s)) w.slots (λ i s e. let short = law.trailed.entries i s e in let some = times-le slot (trail_of s) in omega arith) in
-    let hands = total-few (λ (c : Client). times slot c.trail) w.clients (λ i c e. let short = law.trailed.hands i c e in let some = times-le slot c.trail in omega arith) in
+    let entries = total-few (λ s. times slot (trail_of s)) w.slots
+    (λ i s e. let short = law.trailed.entries i s e in let some = times-le slot (trail_of s) in
+    omega arith) in
+    let hands = total-few (λ (c : Client). times slot c.trail)
+    w.clients (λ i c e. let short = law.trailed.hands i c e in
+    let some = times-le slot c.trail in omega arith) in
     omega arith
 
 -- Of one slot and one client.
@@ -118,7 +127,8 @@ pub used_fits : (w : State) (client name : ℕ) (k : Reference) (slot : Slot) �
     → uses_of slot + k.weight < 4294967296
 used_fits w client name k slot b there counts =
     let whole : when k.counting k.weight ≡ k.weight = rw counts refl in
-    let part = dropped-total (is_named client name) (λ (k : Reference). when k.counting k.weight) (references_of slot) k there in
+    let part = dropped-total (is_named client name) (λ (k : Reference). when k.counting k.weight)
+    (references_of slot) k there in
     let uses = b.uses in
     omega arith
 
@@ -155,5 +165,6 @@ pub fallen_fits : (w : State) (c name : ℕ) (client : Client) (gone : Standalon
     → client.freed + gone.charge ≤ MOST_USAGE
 fallen_fits w c name client gone l at_client there =
     let all = charged_fits w c client l at_client in
-    let one = dropped-total (is_standing name) (λ (s : Standalone). s.charge) client.standalones gone there in
+    let one = dropped-total (is_standing name) (λ (s : Standalone). s.charge)
+    client.standalones gone there in
     omega arith

@@ -12,7 +12,8 @@ when_le false n = omega arith
 -- counting references weigh no more than all
 pub counted-le : (ks : List Reference) → counted ks ≤ weight ks
 counted-le [] = omega arith
-counted-le (k ∷ ks) = let one = when_le k.counting k.weight in let rest = counted-le ks in omega arith
+counted-le (k ∷ ks) = let one = when_le k.counting k.weight in
+    let rest = counted-le ks in omega arith
 
 -- a new entry has at most one reference, of weight 1
 pub first-weight : (client : ℕ) (name : Option ℕ) → weight (first_references client name) ≤ 1

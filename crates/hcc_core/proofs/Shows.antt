@@ -1,6 +1,8 @@
 -- What each event moves and shows. Only `show` adds an entry: what it says, under the next stamp of
 -- its client.
-use Rattle.std.proofs.Common.{◌≡◌, ◌⊎◌, inl, inr, ℕ, ◌+◌, ◌==◌, nat_lt, Bool, true, false, cond, List, Option, Some, None, Result, Ok, Err, slice_get, refl, sym, ap, arith, ◌&&◌, ◌||◌}
+use Rattle.std.proofs.Common.{◌≡◌, ◌⊎◌, inl, inr, ℕ, ◌+◌, ◌==◌, nat_lt, Bool, true, false, cond}
+use Rattle.std.proofs.Common.{List, Option, Some, None, Result, Ok, Err, slice_get, refl, sym, ap}
+use Rattle.std.proofs.Common.{arith, ◌&&◌, ◌||◌}
 use Rattle.std.specs.Prelude.{option_and_then}
 use Rattle.std.specs.Option.{ok_or}
 use Rattle.std.proofs.lemmas.Bool.{and_parts, eq-eqb, ne_eqb, cases_eq}
@@ -27,7 +29,14 @@ use Rattle.hcc_core.proofs.Keeps.{live_ok, may_ok}
 use Rattle.hcc_core.proofs.SumLemmas.{sum_at}
 use Rattle.hcc_core.proofs.HeldNames.{Unheld, unheld, named_free}
 use Rattle.hcc_core.proofs.Moves.{Holds, FewOrNew, KeepsHeld, holds_slot}
-use Rattle.hcc_core.proofs.EventMoves.{Moved, start_moves, look_moves, acquire_moves, give_moves, use_moves, occupy_moves, hide_moves, free_moves, empty_moves, write_moves, read_moves, enter_moves, charge_moves, slots_moves, settle_moves, end_moves, clock_moves, mark_moves, correct_moves, waive_moves, quit_moves, usage_moves, occupancy_moves, standing_moves, stand_moves, fall_moves, count_moves, pass_moves, unpass_moves, turn_moves}
+use Rattle.hcc_core.proofs.EventMoves.{Moved, start_moves, look_moves, acquire_moves, give_moves}
+use Rattle.hcc_core.proofs.EventMoves.{use_moves, occupy_moves, hide_moves, free_moves, empty_moves}
+use Rattle.hcc_core.proofs.EventMoves.{write_moves, read_moves, enter_moves, charge_moves}
+use Rattle.hcc_core.proofs.EventMoves.{slots_moves, settle_moves, end_moves, clock_moves}
+use Rattle.hcc_core.proofs.EventMoves.{mark_moves, correct_moves, waive_moves, quit_moves}
+use Rattle.hcc_core.proofs.EventMoves.{usage_moves, occupancy_moves, standing_moves, stand_moves}
+use Rattle.hcc_core.proofs.EventMoves.{fall_moves, count_moves, pass_moves, unpass_moves}
+use Rattle.hcc_core.proofs.EventMoves.{turn_moves}
 
 -- the entry is what this event says, under the next stamp of the client that shows it
 pub record IsNew (w : State) (event : Event) (entry : Entry) : Type 0 where
@@ -64,7 +73,8 @@ quiet w event (Err error) none m = tt
 -- Show.
 
 -- the test of a show finds the name fresh
-fresh_to_show : (all : List Slot) (client : ℕ) (found : Client) (charge countdown : ℕ) (name : Option ℕ)
+fresh_to_show : (all : List Slot) (client : ℕ) (found : Client)
+    (charge countdown : ℕ) (name : Option ℕ)
     → may_show all client found charge countdown name ≡ true → is_fresh all client name ≡ true
 unfolding may_show
 fresh_to_show all client found charge countdown name h =
@@ -166,7 +176,8 @@ show_adds w client key0 key1 charge countdown name value =
     chain w _ (live_at w client) _ (λ found live.
     chain w _ (ok_or (built_by found.owned) NotAllowed) _ (λ slot builds.
     chain w _ (allow (may_show w.slots client found charge countdown name)) _ (λ u may.
-    shown_adds w client slot key0 key1 charge countdown name value found (live_ok w client found live)
+    shown_adds w client slot key0 key1 charge countdown name
+    value found (live_ok w client found live)
     (fresh_to_show w.slots client found charge countdown name (may_ok _ u may)))))
 
 -- Any event.

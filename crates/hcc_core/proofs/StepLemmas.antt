@@ -1,5 +1,7 @@
 -- What each step does where it is allowed, by what the code read on the way.
-use Rattle.std.proofs.Common.{◌≡◌, ℕ, ◌+◌, ◌-◌, ◌&&◌, ◌||◌, ◌==◌, Bool, true, false, cond, not, nat_lt, List, [], ◌∷◌, ◌++◌, Option, Some, None, Ok, unwrap_or, slice_get, length, position, one-add, refl, sym, ap, ◌∙◌}
+use Rattle.std.proofs.Common.{◌≡◌, ℕ, ◌+◌, ◌-◌, ◌&&◌, ◌||◌, ◌==◌, Bool, true, false, cond, not}
+use Rattle.std.proofs.Common.{nat_lt, List, [], ◌∷◌, ◌++◌, Option, Some, None, Ok, unwrap_or}
+use Rattle.std.proofs.Common.{slice_get, length, position, one-add, refl, sym, ap, ◌∙◌}
 use Rattle.std.specs.List.{list_any, position_or_len, find}
 use Rattle.std.proofs.lemmas.Bool.{eq-eqb}
 use Rattle.hcc_core.specs.declared.client.Client.{Client}
@@ -12,7 +14,8 @@ use Rattle.hcc_core.specs.declared.slot.Slot.TheVariants as slots
 use Rattle.hcc_core.specs.declared.client.Owned.TheVariants as owned
 use Rattle.hcc_core.specs.declared.event.Reply.{Reply}
 use Rattle.hcc_core.specs.declared.event.Reply.TheVariants as replies
-use Rattle.hcc_core.specs.World.{State, references_of, charge_of, stamp_of, hidden_stamp, is_named, has_reference, has_client, slot_holding, counts_in, usage_of}
+use Rattle.hcc_core.specs.World.{State, references_of, charge_of, stamp_of, hidden_stamp, is_named}
+use Rattle.hcc_core.specs.World.{has_reference, has_client, slot_holding, counts_in, usage_of}
 use Rattle.hcc_core.specs.Outcomes.{live_at, with_client, with_both, has_no_member, dropped}
 use Rattle.hcc_core.specs.References.{dead_to, joined, may_acquire, acquired, new_reference}
 use Rattle.hcc_core.specs.References.{slot_acquired, client_acquired, acquire_of, slot_given}
@@ -54,7 +57,8 @@ position_passes : {X : Type 0} (p : X → Bool) (xs : List X) (i : ℕ) (x : X)
 position_passes p xs i x h at = by (nat_lt (position_or_len p xs) (length xs)) h
   where
     by : (b : Bool) → cond b (Some (position_or_len p xs)) None ≡ Some i → p x ≡ true
-    by true h = let e : position_or_len p xs ≡ i = cc in first_passes p xs x (ap (slice_get xs) e ∙ at)
+    by true h = let e : position_or_len p xs ≡ i = cc in
+        first_passes p xs x (ap (slice_get xs) e ∙ at)
     by false h = cc
 
 -- a client whose name a slot has is one of its clients
@@ -62,10 +66,12 @@ named_has_client : (client name : ℕ) (ks : List Reference)
     → list_any (is_named client name) ks ≡ true
     → list_any (λ (k : Reference). k.client == client) ks ≡ true
 named_has_client client name [] h = h
-named_has_client client name (k ∷ ks) h = by (k.client == client) (k.name == name) (named_has_client client name ks) h
+named_has_client client name (k ∷ ks) h =
+    by (k.client == client) (k.name == name) (named_has_client client name ks) h
   where
     by : (b d : Bool)
-        → (list_any (is_named client name) ks ≡ true → list_any (λ (k : Reference). k.client == client) ks ≡ true)
+        → (list_any (is_named client name) ks ≡ true
+        → list_any (λ (k : Reference). k.client == client) ks ≡ true)
         → ((b && d) || list_any (is_named client name) ks) ≡ true
         → (b || list_any (λ (k : Reference). k.client == client) ks) ≡ true
     by true d later h = refl
@@ -75,20 +81,24 @@ pub held_has_client : (all : List Slot) (client name slot : ℕ) (seen : Slot)
     → slot_holding all client name ≡ Some slot → slice_get all slot ≡ Some seen
     → has_client client seen ≡ true
 held_has_client all client name slot seen holding at_slot =
-    named_has_client client name (references_of seen) (position_passes (has_reference client name) all slot seen holding at_slot)
+    named_has_client client name (references_of seen)
+    (position_passes (has_reference client name) all slot seen holding at_slot)
 
 -- The steps.
 
-pub acquire_gives : (w : State) (client slot weight name : ℕ) (found new : Client) (seen left : Slot) (reply : Reply)
+pub acquire_gives : (w : State) (client slot weight name : ℕ)
+    (found new : Client) (seen left : Slot) (reply : Reply)
     → slice_get w.slots slot ≡ Some seen → slice_get w.clients client ≡ Some found
     → found.live ≡ true
     → may_acquire w.setup w.slots client found slot seen weight name ≡ true
     → reply ≡ acquired seen (counts_in seen)
     → left ≡ slot_acquired seen (new_reference client name weight seen)
-    → new ≡ client_acquired client (slot_acquired seen (new_reference client name weight seen)) found
+    → new ≡ client_acquired client (slot_acquired seen (new_reference client name weight seen))
+    found
     → acquire_of w client slot weight name ≡ Ok (reply, with_both w slot left client new)
 unfolding acquire_of
-acquire_gives w client slot weight name found new seen left reply at_slot at_client live may answers leaves becomes =
+acquire_gives w client slot weight name found new seen left reply
+    at_slot at_client live may answers leaves becomes =
     rw (at_slot, live_is w client found at_client live, may, answers, leaves, becomes) refl
 
 -- after an acquire the client holds a reference there
@@ -107,11 +117,13 @@ if_same true a = refl
 if_same false a = refl
 
 pub dead_acquired : (client name weight : ℕ) (seen : Slot)
-    → dead_to client (slot_acquired seen (new_reference client name weight seen)) ≡ hidden_stamp seen
+    → dead_to client (slot_acquired seen (new_reference client name weight seen))
+    ≡ hidden_stamp seen
 dead_acquired client name weight (slots.Empty strays) = refl
 dead_acquired client name weight (slots.Building other strays) = refl
 dead_acquired client name weight (slots.Shareable r) =
-    rw (any_last client r.references (new_reference client name weight (slots.Shareable r)) refl) refl
+    rw (any_last client r.references (new_reference client name weight (slots.Shareable r)) refl)
+    refl
 
 pub dead_hidden : (client : ℕ) (seen : Slot) → has_client client seen ≡ true
     → dead_to client (slot_hidden seen) ≡ stamp_of seen
@@ -119,17 +131,20 @@ dead_hidden client (slots.Empty strays) has = cc
 dead_hidden client (slots.Building other strays) has = cc
 dead_hidden client (slots.Shareable r) has = rw has refl
 
-pub give_gives : (w : State) (client name slot : ℕ) (found new : Client) (seen left : Slot) (reply : Reply)
+pub give_gives : (w : State) (client name slot : ℕ) (found new : Client)
+    (seen left : Slot) (reply : Reply)
     → slice_get w.clients client ≡ Some found → found.live ≡ true
     → slot_holding w.slots client name ≡ Some slot
     → slice_get w.slots slot ≡ Some seen → left ≡ slot_given client name seen → reply ≡ left_on left
     → new ≡ client_noticed client seen found
     → give_of w client name ≡ Ok (reply, with_both w slot left client new)
 unfolding give_of
-give_gives w client name slot found new seen left reply at_client live holds at_slot leaves answers becomes =
+give_gives w client name slot found new seen left reply at_client
+    live holds at_slot leaves answers becomes =
     rw (live_is w client found at_client live, holds, at_slot, answers, leaves, becomes) refl
 
-pub use_gives : (w : State) (client name slot : ℕ) (found new : Client) (seen left : Slot) (k : Reference) (reply : Reply)
+pub use_gives : (w : State) (client name slot : ℕ) (found new : Client)
+    (seen left : Slot) (k : Reference) (reply : Reply)
     → slice_get w.clients client ≡ Some found → found.live ≡ true
     → slot_holding w.slots client name ≡ Some slot
     → slice_get w.slots slot ≡ Some seen → counting_in client name (references_of seen) ≡ Some k
@@ -137,30 +152,37 @@ pub use_gives : (w : State) (client name slot : ℕ) (found new : Client) (seen 
     → new ≡ client_noticed client seen found
     → use_of w client name ≡ Ok (reply, with_both w slot left client new)
 unfolding use_of
-use_gives w client name slot found new seen left k reply at_client live holds at_slot there leaves answers becomes =
+use_gives w client name slot found new seen left k reply at_client
+    live holds at_slot there leaves answers becomes =
     rw (live_is w client found at_client live, holds, at_slot, there, answers, leaves, becomes) refl
 
-pub show_gives : (w : State) (client slot key0 key1 charge countdown : ℕ) (name : Option ℕ) (value : List ℕ) (found new : Client) (r : Resident)
+pub show_gives : (w : State) (client slot key0 key1 charge countdown : ℕ)
+    (name : Option ℕ) (value : List ℕ) (found new : Client) (r : Resident)
     → slice_get w.clients client ≡ Some found → found.live ≡ true → built_by found.owned ≡ Some slot
     → may_show w.slots client found charge countdown name ≡ true
     → r ≡ resident_new client found key0 key1 charge countdown name value
     → new ≡ client_shown charge found
-    → show_of w client key0 key1 charge countdown name value ≡ Ok (replies.Ok, with_both w slot (slots.Shareable r) client new)
+    → show_of w client key0 key1 charge countdown name value
+    ≡ Ok (replies.Ok, with_both w slot (slots.Shareable r) client new)
 unfolding show_of
-show_gives w client slot key0 key1 charge countdown name value found new r at_client live builds may leaves becomes =
+show_gives w client slot key0 key1 charge countdown name value
+    found new r at_client live builds may leaves becomes =
     rw (live_is w client found at_client live, builds, may, leaves, becomes) refl
 
-pub hide_gives : (w : State) (client name slot : ℕ) (found new : Client) (seen left : Slot) (reply : Reply)
+pub hide_gives : (w : State) (client name slot : ℕ) (found new : Client)
+    (seen left : Slot) (reply : Reply)
     → slice_get w.clients client ≡ Some found → found.live ≡ true
     → slot_holding w.slots client name ≡ Some slot
     → slice_get w.slots slot ≡ Some seen → left ≡ slot_hidden seen → reply ≡ hidden seen
     → new ≡ client_noticed client (slot_hidden seen) found
     → hide_of w client name ≡ Ok (reply, with_both w slot left client new)
 unfolding hide_of
-hide_gives w client name slot found new seen left reply at_client live holds at_slot leaves answers becomes =
+hide_gives w client name slot found new seen left reply at_client
+    live holds at_slot leaves answers becomes =
     rw (live_is w client found at_client live, holds, at_slot, answers, leaves, becomes) refl
 
-pub free_gives : (w : State) (client slot : ℕ) (name : Option ℕ) (found new : Client) (seen left : Slot) (reply : Reply)
+pub free_gives : (w : State) (client slot : ℕ) (name : Option ℕ)
+    (found new : Client) (seen left : Slot) (reply : Reply)
     → slice_get w.slots slot ≡ Some seen → slice_get w.clients client ≡ Some found
     → found.live ≡ true
     → may_free client found seen name ≡ true → left ≡ slots.Building client 0
@@ -168,7 +190,8 @@ pub free_gives : (w : State) (client slot : ℕ) (name : Option ℕ) (found new 
     → new ≡ client_freeing client slot seen found
     → free_of w client slot name ≡ Ok (reply, with_both w slot left client new)
 unfolding free_of
-free_gives w client slot name found new seen left reply at_slot at_client live may leaves answers becomes =
+free_gives w client slot name found new seen left reply at_slot
+    at_client live may leaves answers becomes =
     rw (at_slot, live_is w client found at_client live, may, leaves, answers, becomes) refl
 
 pub empty_gives : (w : State) (client slot : ℕ) (found new : Client)
@@ -183,11 +206,14 @@ pub charge_gives : (w : State) (client charge granted usage : ℕ) (found new : 
     → slice_get w.clients client ≡ Some found → found.live ≡ true → usage ≡ usage_of w
     → may_charge found usage charge ≡ true → granted ≡ grant_of w.setup usage charge
     → new ≡ record found { granted = granted; needed = charge - granted }
-    → charge_by w client charge ≡ Ok (replies.Split granted (charge - granted), with_client w client new)
+    → charge_by w client charge
+    ≡ Ok (replies.Split granted (charge - granted), with_client w client new)
 unfolding charge_by
 charge_gives w client charge granted usage found new at_client live used may grants becomes =
-    let may_now : may_charge found (usage_of w) charge ≡ true = ap (λ u. may_charge found u charge) (sym used) ∙ may in
-    let grants_now : granted ≡ grant_of w.setup (usage_of w) charge = grants ∙ ap (λ u. grant_of w.setup u charge) used in
+    let may_now : may_charge found (usage_of w) charge ≡ true =
+    ap (λ u. may_charge found u charge) (sym used) ∙ may in
+    let grants_now : granted ≡ grant_of w.setup (usage_of w) charge = grants
+    ∙ ap (λ u. grant_of w.setup u charge) used in
     rw (live_is w client found at_client live, may_now, becomes, grants_now) refl
 
 pub settle_gives : (w : State) (client : ℕ) (found new : Client)
@@ -201,7 +227,11 @@ settle_gives w client found new at_client live may becomes =
 pub fall_gives : (w : State) (client name : ℕ) (found new : Client) (gone : Standalone)
     → slice_get w.clients client ≡ Some found → found.live ≡ true
     → find (is_standing name) found.standalones ≡ Some gone
-    → new ≡ record found { freed = found.freed + gone.charge; standalones = dropped (is_standing name) found.standalones }
+    → new ≡ record found {
+      freed = found.freed + gone.charge;
+      standalones =
+          dropped (is_standing name) found.standalones;
+    }
     → fall_of w client name ≡ Ok (replies.Ok, with_client w client new)
 unfolding fall_of
 fall_gives w client name found new gone at_client live there becomes =

@@ -1,5 +1,7 @@
 -- Laws of sums over lists.
-use Rattle.std.proofs.Common.{◌≡◌, ℕ, zero, suc, ◌+◌, ◌<◌, ◌≤◌, drop, length, get_or, add-one, List, [], ◌∷◌, ◌++◌, Option, None, Some, slice_get, slice_set, sum_by, replicate, refl, ◌∙◌, ap, arith}
+use Rattle.std.proofs.Common.{◌≡◌, ℕ, zero, suc, ◌+◌, ◌<◌, ◌≤◌, drop, length, get_or, add-one, List}
+use Rattle.std.proofs.Common.{[], ◌∷◌, ◌++◌, Option, None, Some, slice_get, slice_set, sum_by}
+use Rattle.std.proofs.Common.{replicate, refl, ◌∙◌, ap, arith}
 use Rattle.std.proofs.lemmas.List.Sums.{sum_by-cons}
 use Rattle.hcc_core.specs.Sums.{total}
 
@@ -12,7 +14,8 @@ sum_by_total f (x ∷ xs) = sum_by-cons f x xs ∙ ap (λ n. f x + n) (sum_by_to
 pub total-set : {X : Type 0} (f : X → ℕ) (xs : List X) (i : ℕ) (old new : X)
     → slice_get xs i ≡ Some old → total f (slice_set xs i new) + f old ≡ total f xs + f new
 total-set f [] i old new h = cc
-total-set f (x ∷ xs) zero old new h = let e : f x ≡ f old = ap f (let q : x ≡ old = cc in q) in omega arith
+total-set f (x ∷ xs) zero old new h = let e : f x ≡ f old = ap f (let q : x ≡ old = cc in q) in
+    omega arith
 total-set f (x ∷ xs) (suc i) old new h = let rest = total-set f xs i old new h in omega arith
 
 -- what an index gives to a total
@@ -25,7 +28,8 @@ pub total-set-le : {X : Type 0} (f : X → ℕ) (xs : List X) (i : ℕ) (new : X
     → f new ≤ sum_at f (slice_get xs i) + more → total f (slice_set xs i new) ≤ total f xs + more
 total-set-le f [] i new more h = omega arith
 total-set-le f (x ∷ xs) zero new more h = omega arith
-total-set-le f (x ∷ xs) (suc i) new more h = let rest = total-set-le f xs i new more h in omega arith
+total-set-le f (x ∷ xs) (suc i) new more h = let rest = total-set-le f xs i new more h in
+    omega arith
 
 pub total-append : {X : Type 0} (f : X → ℕ) (xs ys : List X)
     → total f (xs ++ ys) ≡ total f xs + total f ys
@@ -58,7 +62,8 @@ pub total-drop : {X : Type 0} (f : X → ℕ) (xs : List X) (i : ℕ) (x : X)
     → i < length xs → x ≡ get_or xs i x → total f (drop i xs) ≡ f x + total f (drop (i + 1) xs)
 total-drop f [] i x h e = absurd (omega arith)
 total-drop f (y ∷ ys) zero x h e = rw e refl
-total-drop f (y ∷ ys) (suc i) x h e = rw (add-one, total-drop f ys i x (omega arith) e) (rw add-one refl)
+total-drop f (y ∷ ys) (suc i) x h e =
+    rw (add-one, total-drop f ys i x (omega arith) e) (rw add-one refl)
 
 -- nothing is left behind the last member
 pub total-none : {X : Type 0} (f : X → ℕ) (xs : List X) (i : ℕ) → length xs ≤ i

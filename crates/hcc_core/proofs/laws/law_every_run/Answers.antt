@@ -1,4 +1,5 @@
-use Rattle.hcc_core.proofs.EveryRun.{every_run, run_counters_fit, run_keeps_places, run_finds_one, run_is_given}
+use Rattle.hcc_core.proofs.EveryRun.{every_run, run_counters_fit, run_keeps_places, run_finds_one}
+use Rattle.hcc_core.proofs.EveryRun.{run_is_given}
 use Rattle.hcc_core.proofs.laws.law_every_run.Goals as goal
 
 pub returns-clause-lawful : goal.returns-clause-lawful

@@ -7,7 +7,8 @@ pub returns-in-Some : goal.returns-in-Some
 returns-in-Some c =
     let list = c.args.self.now.standalones in
     let found : position (is_standing c.args.name) list ≡ Some c.in-Some.index =
-    sym (ap (position (is_standing c.args.name)) c.as_slice.ensures) ∙ sym c.index_of.ensures.first ∙ c.in-Some.is in
+    sym (ap (position (is_standing c.args.name)) c.as_slice.ensures)
+    ∙ sym c.index_of.ensures.first ∙ c.in-Some.is in
     ap (λ xs. record c.args.self.now { standalones = xs })
     (c.remove.ensures.after ∙ remove_at (is_standing c.args.name) list c.in-Some.index found)
 
@@ -15,5 +16,7 @@ pub returns-in_default : goal.returns-in_default
 returns-in_default c =
     let list = c.args.self.now.standalones in
     let found : position (is_standing c.args.name) list ≡ None =
-    sym (ap (position (is_standing c.args.name)) c.as_slice.ensures) ∙ sym c.index_of.ensures.first ∙ c.in_default.is in
-    ap (λ xs. record c.args.self.now { standalones = xs }) (keep_all (is_standing c.args.name) list found)
+    sym (ap (position (is_standing c.args.name)) c.as_slice.ensures)
+    ∙ sym c.index_of.ensures.first ∙ c.in_default.is in
+    ap (λ xs. record c.args.self.now { standalones = xs })
+    (keep_all (is_standing c.args.name) list found)

@@ -7,7 +7,8 @@ pub returns-in-Some : goal.returns-in-Some
 returns-in-Some c =
     let list = c.args.self.now.trail in
     let found : position (is_slot c.args.slot) list ≡ Some c.in-Some.index =
-    sym (ap (position (is_slot c.args.slot)) c.as_slice.ensures) ∙ sym c.index_in.ensures.first ∙ c.in-Some.is in
+    sym (ap (position (is_slot c.args.slot)) c.as_slice.ensures)
+    ∙ sym c.index_in.ensures.first ∙ c.in-Some.is in
     ap (λ xs. record c.args.self.now { trail = xs })
     (c.remove.ensures.after ∙ remove_at (is_slot c.args.slot) list c.in-Some.index found)
 
@@ -15,5 +16,6 @@ pub returns-in_default : goal.returns-in_default
 returns-in_default c =
     let list = c.args.self.now.trail in
     let found : position (is_slot c.args.slot) list ≡ None =
-    sym (ap (position (is_slot c.args.slot)) c.as_slice.ensures) ∙ sym c.index_in.ensures.first ∙ c.in_default.is in
+    sym (ap (position (is_slot c.args.slot)) c.as_slice.ensures)
+    ∙ sym c.index_in.ensures.first ∙ c.in_default.is in
     ap (λ xs. record c.args.self.now { trail = xs }) (keep_all (is_slot c.args.slot) list found)
