@@ -1,7 +1,7 @@
 -- What is said of runs. A run tries events one after the other from a world; what is refused
 -- changes nothing. The worlds on the way are the worlds after the fronts of the run.
 use Rattle.std.specs.Prelude.{◌≡◌, ℕ, ◌+◌, ◌^◌, ◌<◌, ◌≤◌, Bool, false, ◌&&◌, ◌==◌, List, [], ◌∷◌}
-use Rattle.std.specs.Prelude.{◌++◌, Option, Some, None, Result, Ok, Err, slice_get, option_and_then}
+use Rattle.std.specs.Prelude.{◌++◌, Option, Some, None, Ok, Err, slice_get, option_and_then}
 use Rattle.std.specs.Prelude.{if◌then◌else◌}
 use Rattle.hcc_core.specs.declared.slot.Stamp.{Stamp}
 use Rattle.hcc_core.specs.declared.slot.Entry.{Entry}
