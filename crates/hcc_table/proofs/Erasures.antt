@@ -15,7 +15,7 @@ use Rattle.hcc_core.specs.declared.slot.Entry.{Entry}
 use Rattle.hcc_rule.specs.Views.{record_in, is_called}
 use Rattle.hcc_rule.specs.Words.{key_of}
 use Rattle.hcc_rule.specs.Rule.{IsRight}
-use Rattle.hcc_table.specs.Erased.{Erases, IsErased}
+use Rattle.hcc_table.specs.Erased.{Erases, IsAtRest, IsErased}
 use Rattle.hcc_table.specs.Freed.{IsFreed}
 use Rattle.hcc_table.specs.Searched.{Searched, IsFound, Buried, Sought, is_key, times_met}
 use Rattle.hcc_table.proofs.Searches.{grows_joined, no_more}
@@ -29,10 +29,6 @@ no_added : (n : ℕ) → n ≡ n + 0
 no_added n = omega arith
 
 module _ {T : Type 0} where
-  -- nothing in hand
-  abbrev pub IsAtRest : View T → Type 0
-  IsAtRest v = (v.work.owned ≡ owned.Nothing) × (v.work.trail ≡ [])
-
   -- A search erases nothing.
   pub erases_none : (v w : View T) → IsAtRest v → Searched v w → Erases [] 0 0 v w
   erases_none v w rest s = record {

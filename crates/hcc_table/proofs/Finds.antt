@@ -12,7 +12,7 @@ use Rattle.hcc_rule.specs.Views.{Each}
 use Rattle.hcc_rule.specs.Words.{key_of}
 use Rattle.hcc_rule.proofs.ProbeLaws.{probe_of_slot, stands_within, first_masked, next_masked}
 use Rattle.hcc_table.specs.declared.walk.Walk.{Walk}
-use Rattle.hcc_table.specs.Searched.{Grows, Sought, Buried, AllDead, IsMissed}
+use Rattle.hcc_table.specs.Searched.{Grows, Sought, Buried, AllDead, IsBefore, IsMissed}
 use Rattle.hcc_table.proofs.Searches.{sought_then, searched_refl}
 
 -- a walk stands at this place of a key
@@ -20,10 +20,6 @@ pub record IsAt (slots : ℕ) (key : Key) (i : ℕ) (walk : Walk) : Type 0 where
   pub probe : bit_and walk.probe walk.mask ≡ probe_slot slots key i
   pub stride : walk.stride ≡ bit_or key.w0 1
   pub mask : walk.mask ≡ slots - 1
-
--- it is one of the first so many places of the key
-abbrev pub IsBefore : (slots : ℕ) → Key → (i : ℕ) → ℕ → Type 0
-IsBefore slots key i slot = (j : ℕ) × (j < i) × (probe_slot slots key j ≡ slot)
 
 -- what holds of the facts of two lists at once
 each_both : {A : Type 0} (P Q R : A → Type 0) → ((a : A) → P a → Q a → R a) → (xs : List A)
@@ -47,7 +43,17 @@ module _ {T : Type 0} where
     pub buried : Buried key (IsBefore slots key i) (view seat) (view new)
     pub within : 0 < i → Each (λ (r : Record). r.slot < slots) (view seat).records
 
-  -- a place more
+  -- none was seen yet
+  pub buried_none : (slots : ℕ) (key : Key) (v w : View T) → Buried key (IsBefore slots key 0) v w
+  buried_none slots key v w = from v.records
+    where
+      from : (rs : List Record)
+          → Each (λ (r : Record). key_of r.entry ≡ key → IsBefore slots key 0 r.slot
+          → is_in r.entry.stamp w.work.dead ≡ true) rs
+      from [] = tt
+      from (r ∷ rs) = ((λ asked before. (let low = before.1 in absurd (omega arith))), from rs)
+
+  -- a probe more
   pub buried_more : (slots : ℕ) (key : Key) (i : ℕ) (u v w : View T) → v.records ≡ u.records → Grows v.work.dead w.work.dead
       → Buried key (IsBefore slots key i) u v → Buried key (λ s. s ≡ probe_slot slots key i) v w
       → Buried key (IsBefore slots key (i + 1)) u w
@@ -109,14 +115,9 @@ module _ {T : Type 0} where
       same = record { table = refl; number = refl; slots = refl };
       sought = searched_refl (view seat);
       walking = record { probe = rw (probe, mask) (first_masked slots key power); stride = stride; mask = mask };
-      buried = none_yet (view seat).records;
+      buried = buried_none slots key (view seat) (view seat);
       within = λ some. absurd (omega arith);
     }
-      where
-        none_yet : (rs : List Record)
-            → Each (λ (r : Record). key_of r.entry ≡ key → IsBefore slots key 0 r.slot → is_in r.entry.stamp (view seat).work.dead ≡ true) rs
-        none_yet [] = tt
-        none_yet (r ∷ rs) = ((λ asked before. (let low = before.1 in absurd (omega arith))), none_yet rs)
 
     module _ (i n slot : ℕ) (walk : Walk) (seat now : SeatOf T) (s : IsSearching slots key i walk seat now) (there : slot ≡ bit_and walk.probe walk.mask) where
       -- the slot that is probed

@@ -1,5 +1,5 @@
 -- One more reference on an entry that is held, and references that are given back.
-use Rattle.std.proofs.Common.{◌≡◌, ℕ, ◌++◌, ◌||◌, cond, Bool, true, false, List, [], ◌∷◌, Option, Some, None, IfSome, IsSomeAnd, sym, refl, ap, ◌∙◌}
+use Rattle.std.proofs.Common.{◌≡◌, ℕ, ◌++◌, ◌||◌, cond, Bool, true, false, List, [], ◌∷◌, Option, Some, None, IfSome, IfNone, IsSomeAnd, sym, refl, ap, ◌∙◌}
 use Rattle.std.specs.List.{find, list_any}
 use Rattle.std.proofs.lemmas.Bool.{eq-eqb}
 use Rattle.hcc_word.specs.Word.{is_shareable, is_counting}
@@ -7,9 +7,15 @@ use Rattle.hcc_core.specs.References.{looks_at}
 use Rattle.hcc_rule.specs.declared.key.Key.{Key}
 use Rattle.hcc_rule.specs.declared.view.Record.{Record}
 use Rattle.hcc_rule.specs.declared.view.View.{View}
+use Rattle.hcc_rule.specs.Callers.{HasOn}
 use Rattle.hcc_rule.specs.ToldReferences.{may_reach, record_of}
 use Rattle.hcc_rule.specs.Views.{is_on, is_called, record_in}
 use Rattle.hcc_rule.proofs.Findings.{find_each}
+use Rattle.hcc_table.specs.declared.pins.Pin.{Pin}
+use Rattle.hcc_table.specs.declared.efforts.Effort.{Effort}
+use Rattle.hcc_table.specs.Efforts.{Lost}
+use Rattle.hcc_table.specs.Freed.{TriedWhereDue}
+use Rattle.hcc_table.specs.Pins.{IsOf, IsPinned}
 use Rattle.hcc_table.specs.Searched.{Reached}
 
 -- one of a list that passes is found by a search for any
@@ -26,7 +32,26 @@ any_found p q (y ∷ ys) x found passes = by (q y) (any_found p q ys x) found
     by true rest found = let same : y ≡ x = cc in ap (λ b. b || list_any p ys) (ap p same ∙ passes)
     by false rest found = later (p y) (rest found passes)
 
+-- Where freeing was due, it was tried.
+pub tried_due : (A B : Type 0) (due : Bool) (o : Option ℕ) (old new : Effort) → due ≡ true
+    → IfSome o (λ _. new ≡ old) → IfNone o (A × B × Lost 1 1 old new) → TriedWhereDue due o old new
+tried_due A B due None old new is won lost =
+    (tt, (λ _. lost.2, λ not. let bad : true ≡ false = sym is ∙ not in cc))
+tried_due A B due (Some charge) old new is won lost = ((is, won), tt)
+
+pub not_due : (due : Bool) (old new : Effort) → due ≡ false → new ≡ old → TriedWhereDue due None old new
+not_due due old new not same =
+    (tt, (λ is. let bad : true ≡ false = sym is ∙ not in cc, λ _. same))
+
 module _ {T : Type 0} where
+  -- A pin that is held is a record on its slot.
+  pub pinned_on : (pin : Pin) (v : View T) → IsPinned pin v → HasOn pin.slot pin.name v
+  pinned_on pin v h = by (record_in pin.name v.records) h
+    where
+      by : (o : Option Record) → IsSomeAnd o (λ r. IsOf pin r) → IsSomeAnd o (λ r. r.slot ≡ pin.slot)
+      by None none = absurd none
+      by (Some r) is = is.0
+
   -- a client reaches a slot that it has a record of
   pub reaches_held : (slot held : ℕ) (v : View T) → IsSomeAnd (record_in held v.records) (λ r. r.slot ≡ slot)
       → may_reach slot v ≡ true

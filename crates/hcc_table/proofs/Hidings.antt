@@ -13,10 +13,10 @@ use Rattle.hcc_rule.specs.Words.{key_of}
 use Rattle.hcc_rule.proofs.ProbeLaws.{first_masked, next_masked}
 use Rattle.hcc_table.specs.declared.hiding.Erased.{Erased}
 use Rattle.hcc_table.specs.declared.walk.Walk.{Walk}
-use Rattle.hcc_table.specs.Erased.{Erases, IsErased}
-use Rattle.hcc_table.specs.Searched.{Buried, AllDead, is_key}
-use Rattle.hcc_table.proofs.Erasures.{IsAtRest, erases_then, erased_none}
-use Rattle.hcc_table.proofs.Finds.{IsAt, IsBefore, seat_then, buried_more, ended, all_seen}
+use Rattle.hcc_table.specs.Erased.{Erases, IsAtRest, IsErased}
+use Rattle.hcc_table.specs.Searched.{Buried, AllDead, IsBefore, is_key}
+use Rattle.hcc_table.proofs.Erasures.{erases_then, erased_none}
+use Rattle.hcc_table.proofs.Finds.{IsAt, seat_then, buried_none, buried_more, ended, all_seen}
 use Rattle.hcc_table.proofs.Searches.{searched_refl}
 use Rattle.hcc_core.specs.Sums.{when}
 use Rattle.hcc_core.proofs.SumLemmas.{total-append}
@@ -54,7 +54,7 @@ module _ {T : Type 0} where
     pub within : 0 < i → Each (λ (r : Record). r.slot < slots) (view seat).records
     pub few : all.hidden ≤ i
     pub fewer : all.slots ≤ i
-    pub small : all.charge ≤ i * 2 ^ 32
+    pub small : all.charge ≤ all.slots * (2 ^ 32 - 1)
 
   module _ (slots : ℕ) (key : Key) (power : MOST_SLOTS % slots ≡ 0) where
     pub hides_none : (walk : Walk) (all : Erased) (seat : SeatOf T) → IsAtRest (view seat) → walk.probe ≡ key.w1
@@ -64,23 +64,18 @@ module _ {T : Type 0} where
       same = record { table = refl; number = refl; slots = refl };
       erased = rw none (erased_none key (view seat) (view seat) rest (searched_refl (view seat)));
       walking = record { probe = rw (probe, mask) (first_masked slots key power); stride = stride; mask = mask };
-      buried = none_yet (view seat).records;
+      buried = buried_none slots key (view seat) (view seat);
       within = λ some. absurd (omega arith);
       few = rw none (omega arith);
       fewer = rw none (omega arith);
       small = rw none (omega arith);
     }
-      where
-        none_yet : (rs : List Record)
-            → Each (λ (r : Record). key_of r.entry ≡ key → IsBefore slots key 0 r.slot → is_in r.entry.stamp (view seat).work.dead ≡ true) rs
-        none_yet [] = tt
-        none_yet (r ∷ rs) = ((λ asked before. (let low = before.1 in absurd (omega arith))), none_yet rs)
 
     module _ (i n slot : ℕ) (walk : Walk) (all here sum : Erased) (seat now : SeatOf T) (s : IsHiding slots key i walk all seat now) (there : slot ≡ bit_and walk.probe walk.mask) where
       slot_at : slot ≡ probe_slot slots key i
       slot_at = there ∙ s.walking.probe
 
-      module _ (hid counted : SeatOf T) (same : IsSameSeat now hid) (same_then : IsSameSeat hid counted) (erased : IsErased key here.hidden here.slots here.charge (view now) (view hid)) (dead : Buried key (λ z. z ≡ slot) (view now) (view hid)) (few : (here.hidden ≤ 1) × (here.slots ≤ 1) × (here.charge < 2 ^ 32)) (is_sum : (sum.hidden ≡ all.hidden + here.hidden) × (sum.slots ≡ all.slots + here.slots) × (sum.charge ≡ all.charge + here.charge)) (kept : view counted ≡ view hid) (held : Each (λ (r : Record). times slot (trail_to slots (key_of r.entry) r.slot) ≤ n) (view hid).records) (within : Each (λ (r : Record). r.slot < slots) (view hid).records) where
+      module _ (hid counted : SeatOf T) (same : IsSameSeat now hid) (same_then : IsSameSeat hid counted) (erased : IsErased key here.hidden here.slots here.charge (view now) (view hid)) (dead : Buried key (λ z. z ≡ slot) (view now) (view hid)) (few : (here.hidden ≤ 1) × (here.slots ≤ 1) × (here.charge ≤ here.slots * (2 ^ 32 - 1))) (is_sum : (sum.hidden ≡ all.hidden + here.hidden) × (sum.slots ≡ all.slots + here.slots) × (sum.charge ≡ all.charge + here.charge)) (kept : view counted ≡ view hid) (held : Each (λ (r : Record). times slot (trail_to slots (key_of r.entry) r.slot) ≤ n) (view hid).records) (within : Each (λ (r : Record). r.slot < slots) (view hid).records) where
         pub both : IsErased key sum.hidden sum.slots sum.charge (view seat) (view counted)
         both =
             rw (kept, is_sum.0, is_sum.1, is_sum.2)
@@ -111,7 +106,7 @@ module _ {T : Type 0} where
           within = λ some. all_within;
           few = let old = s.few in let one = few.0 in let is = is_sum.0 in omega arith;
           fewer = let old = s.fewer in let one = few.1 in let is = is_sum.1 in omega arith;
-          small = let old = s.small in let one = few.2 in let is = is_sum.2 in omega arith;
+          small = let old = s.small in let one = few.2 in let is = is_sum.2 in let more = is_sum.1 in omega arith;
         }
 
         pub hides_last : n ≡ 0 → AllDead key (view seat) (view counted)

@@ -1,13 +1,16 @@
 -- What the tries of slots leave of a view, put together.
 use Rattle.std.proofs.Common.{◌≡◌, ℕ, ◌+◌, ◌++◌, false, List, [], ◌∷◌, sym, refl, ap, ◌∙◌, append_assoc, arith}
-use Rattle.hcc_word.specs.Word.{is_empty}
+use Rattle.hcc_word.specs.Word.{is_empty, is_visible}
+use Rattle.hcc_rule.specs.declared.key.Key.{Key}
 use Rattle.hcc_rule.specs.declared.view.View.{View}
-use Rattle.hcc_rule.specs.Told.{after_look, found_dead}
-use Rattle.hcc_rule.specs.ToldOwners.{after_occupy}
+use Rattle.hcc_rule.specs.Told.{Backs, after_look, found_dead}
+use Rattle.hcc_rule.specs.declared.steps.shows.Draft.{Draft}
+use Rattle.hcc_rule.specs.ToldOwners.{after_occupy, after_show, made_of}
 use Rattle.hcc_rule.specs.ToldTrails.{after_pass}
 use Rattle.hcc_table.specs.Inserted.{Tried, with_trail}
-use Rattle.hcc_table.specs.Searched.{Sought}
+use Rattle.hcc_table.specs.Searched.{Buried, Sought}
 use Rattle.hcc_table.proofs.Searches.{grows_joined, no_more}
+use Rattle.hcc_table.proofs.Probes.{buried_by_dead}
 
 module _ {T : Type 0} where
   pub tried_refl : (v : View T) → Tried v v
@@ -62,6 +65,22 @@ module _ {T : Type 0} where
         ap (λ (z : View T). z.saw) sought.searched.same ∙ first.1,
       )
 
+  -- Where the slot shows no entry, what is held there was hidden.
+  pub unshown_there : (key : Key) (slot word : ℕ) (v a : View T) → is_empty word ≡ false
+      → is_visible word ≡ false → Backs slot word v → a ≡ after_occupy slot word v
+      → Buried key (λ s. s ≡ slot) v a
+  unshown_there key slot word v a taken hidden backs tells =
+      let same : a ≡ record (after_look slot word v) { saw = v.saw + 1 } = tells ∙ rw taken refl in
+      buried_by_dead key slot word v a hidden backs (ap (λ (z : View T). z.work.dead) same)
+
+  -- a search there tells of what was held before the try
+  pub shown_there : (key : Key) (slot word : ℕ) (v a w : View T) → is_empty word ≡ false
+      → a ≡ after_occupy slot word v → Buried key (λ s. s ≡ slot) a w → Buried key (λ s. s ≡ slot) v w
+  shown_there key slot word v a w taken tells =
+      let all : a ≡ record (after_look slot word v) { saw = v.saw + 1 } = tells ∙ rw taken refl in
+      let same : a.records ≡ v.records = ap (λ (z : View T). z.records) all in
+      λ dead. rw (← same) dead
+
   module _ (trail : List ℕ) (v w : View T) (h : Tried (with_trail trail v) w) where
     -- the trail that a client has then
     pub trail_is : w.work.trail ≡ trail
@@ -85,6 +104,17 @@ module _ {T : Type 0} where
         met = w.met;
         saw = w.saw;
       }) (sym none);
+      dead = h.dead;
+      met = h.met;
+      saw = h.saw;
+    }
+
+    -- the entry is shown
+    pub tried_show : (slot : ℕ) (draft : Draft) (value : List ℕ) (new : View T)
+        → new ≡ after_show slot draft.name (made_of draft value) w
+        → Tried (after_show slot draft.name (made_of draft value) v) new
+    tried_show slot draft value new is = rw is record {
+      same = ap (after_show slot draft.name (made_of draft value)) h.same;
       dead = h.dead;
       met = h.met;
       saw = h.saw;

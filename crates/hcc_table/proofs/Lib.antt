@@ -1,3 +1,4 @@
+pub mod Rises
 pub mod Searches
 pub mod Reaches
 pub mod Probes
@@ -10,5 +11,4 @@ pub mod Bytes
 pub mod Values
 pub mod InsertsWords
 pub mod Inserts
-pub mod InsertsMeets
 pub mod InsertsTries

@@ -2,9 +2,10 @@
 use Rattle.std.proofs.Common.{◌≡◌, ℕ, ◌++◌, cond, Bool, true, false, List, [], ◌∷◌, Some, None, IfSome, IsSomeAnd, sym, subst, refl, ap, ◌∙◌, append_assoc, ◌≤◌, arith}
 use Rattle.std.specs.List.{find}
 use Rattle.std.proofs.lemmas.Bool.{eq-eqb}
-use Rattle.hcc_word.specs.Word.{is_shareable, is_visible}
+use Rattle.hcc_word.specs.Word.{is_counting, is_shareable, is_visible}
 use Rattle.hcc_core.specs.declared.slot.Entry.{Entry}
 use Rattle.hcc_core.specs.Outcomes.{dropped}
+use Rattle.hcc_core.specs.References.{joined}
 use Rattle.hcc_core.specs.Lawful.{is_in}
 use Rattle.hcc_rule.specs.declared.key.Key.{Key}
 use Rattle.hcc_rule.specs.declared.view.Record.{Record}
@@ -57,9 +58,10 @@ module _ {T : Type 0} where
   given_at slot name word v w same = searched_by v w (found_dead slot word v) (rw same refl)
 
   -- A look at a slot that isn't shown: each entry that is held there was hidden.
-  pub buried_by_look : (key : Key) (slot word : ℕ) (v w : View T) → is_visible word ≡ false
-      → Backs slot word v → w ≡ after_look slot word v → Buried key (λ s. s ≡ slot) v w
-  buried_by_look key slot word v w hidden backs same = from v.records backs.entry backs.one
+  pub buried_by_dead : (key : Key) (slot word : ℕ) (v w : View T) → is_visible word ≡ false
+      → Backs slot word v → w.work.dead ≡ joined v.work.dead (found_dead slot word v)
+      → Buried key (λ s. s ≡ slot) v w
+  buried_by_dead key slot word v w hidden backs same = from v.records backs.entry backs.one
     where
       from : (rs : List Record) → Each (λ (r : Record). r.slot ≡ slot → is_shareable word ≡ true) rs
           → Each (λ (r : Record). r.slot ≡ slot → stamp_on slot v.records ≡ Some r.entry.stamp) rs
@@ -70,7 +72,13 @@ module _ {T : Type 0} where
         from rs entries.1 one.1,
       )
 
-  module _ (fits : T → Key → List ℕ → Type 0) (room slot name word : ℕ) (key : Key) (v a b : View T) (looked : Sought v a) (h : Reached fits room slot 1 name word a b) where
+  pub buried_by_look : (key : Key) (slot word : ℕ) (v w : View T) → is_visible word ≡ false
+      → Backs slot word v → w ≡ after_look slot word v → Buried key (λ s. s ≡ slot) v w
+  buried_by_look key slot word v w hidden backs same =
+      buried_by_dead key slot word v w hidden backs (ap (λ (z : View T). z.work.dead) same)
+
+  module _ (fits : T → Key → List ℕ → Type 0) (room slot weight name word : ℕ) (key : Key) (v a b : View T)
+      (looked : Sought v a) (h : Reached fits room slot weight name word a b) where
     -- An acquire that strayed: nothing is held there.
     pub strayed : is_shareable word ≡ false → Sought v b × Buried key (λ s. s ≡ slot) v b
     strayed away = (
@@ -86,7 +94,7 @@ module _ {T : Type 0} where
       entry = (h.got has).0
 
       abbrev pub got_record : Record
-      got_record = record_of slot 1 name word entry
+      got_record = record_of slot weight name word entry
 
       records_are : b.records ≡ v.records ++ got_record ∷ []
       records_are = (h.got has).2 ∙ ap (λ rs. rs ++ got_record ∷ []) looked.records
@@ -96,8 +104,13 @@ module _ {T : Type 0} where
       on_record = ap (record_in name) records_are ∙ find_last (is_called name) v.records got_record fresh (eq-eqb name name refl)
 
       pub holds : (d : View T) → Sought b d
-          → IsSomeAnd (record_in name d.records) (λ r. (r.slot ≡ slot) × (r.weight ≡ 1))
+          → IsSomeAnd (record_in name d.records) (λ r. (r.slot ≡ slot) × (r.weight ≡ weight))
       holds d kept = rw (kept.records, on_record) (refl, refl)
+
+      pub holds_used : (d : View T) (used : Bool) → Sought b d → used ≡ is_counting word
+          → IsSomeAnd (record_in name d.records)
+          (λ r. (r.slot ≡ slot) × (r.weight ≡ weight) × (used ≡ true → r.counting ≡ true))
+      holds_used d used kept is = rw (kept.records, on_record) (refl, refl, λ yes. sym is ∙ yes)
 
       pub holds_slot : (d : View T) → Sought b d → IsSomeAnd (record_in name d.records) (λ r. r.slot ≡ slot)
       holds_slot d kept = rw (kept.records, on_record) refl
@@ -146,16 +159,33 @@ module _ {T : Type 0} where
           by true is = buried_other d (other is)
           by false is = buried_hidden d is (searched_then b c d kept.searched (given_at slot name left c d same))
 
+      -- An entry that was found visible is met once both its key words were read.
+      key_last : is_visible word ≡ true → key_of entry ≡ key
+          → with_met (record_in name b.records) b.met ≡ b.met ++ key ∷ []
+      key_last shown asked =
+          ap (λ o. with_met o b.met) on_record
+          ∙ (ap (λ s. cond s (b.met ++ key_of entry ∷ []) b.met) shown ∙ ap (λ k. b.met ++ k ∷ []) asked)
+
+      pub met_there : (left : ℕ) (c d : View T) → is_visible word ≡ true → key_of entry ≡ key
+          → c.met ≡ with_met (record_in name b.records) b.met → d ≡ after_give slot name left c
+          → (more : List Key) × (d.met ≡ v.met ++ more ++ key ∷ [])
+      met_there left c d shown asked meets same =
+          let before = searched_then v a b looked.searched h.searched in (
+            before.met.0,
+            ap (λ (z : View T). z.met) same
+                ∙ (meets ∙ (key_last shown asked ∙ ap (λ keys. keys ++ key ∷ []) before.met.1)),
+          )
+
       -- The entry that was found, with the key that was asked for.
-      pub found_there : (d : View T) → is_visible word ≡ true → key_of entry ≡ key → Sought b d
+      pub found_there : (d : View T) → weight ≡ 1 → is_visible word ≡ true → key_of entry ≡ key → Sought b d
           → d.met ≡ with_met (record_in name b.records) b.met
           → IsFound fits room slot name key v d got_record
-      found_there d shown asked kept meets = record {
+      found_there d one shown asked kept meets = record {
         searched = searched_then v b d (searched_then v a b looked.searched h.searched) kept.searched;
         records = kept.records ∙ records_are;
         on = refl;
         called = refl;
-        single = refl;
+        single = one;
         shown = shown;
         asked = asked;
         right = rw (tag, ← asked) met.right;
@@ -173,16 +203,11 @@ module _ {T : Type 0} where
           tag : v.tag ≡ a.tag
           tag = sym (ap (λ (z : View T). z.tag) looked.searched.same)
 
-          key_last : with_met (record_in name b.records) b.met ≡ b.met ++ key ∷ []
-          key_last =
-              ap (λ o. with_met o b.met) on_record
-              ∙ (ap (λ s. cond s (b.met ++ key_of entry ∷ []) b.met) shown ∙ ap (λ k. b.met ++ k ∷ []) asked)
-
           met_last : (more : List Key) × (d.met ≡ v.met ++ more) × (1 ≤ times_met key more)
           met_last =
               let before = searched_then v a b looked.searched h.searched in (
                 before.met.0 ++ key ∷ [],
-                meets ∙ (key_last ∙ (ap (λ keys. keys ++ key ∷ []) before.met.1 ∙ append_assoc v.met before.met.0 (key ∷ []))),
+                meets ∙ (key_last shown asked ∙ (ap (λ keys. keys ++ key ∷ []) before.met.1 ∙ append_assoc v.met before.met.0 (key ∷ []))),
                 met_once key before.met.0,
               )
 

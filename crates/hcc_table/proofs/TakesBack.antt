@@ -19,7 +19,7 @@ use Rattle.hcc_rule.specs.declared.layout.TheConstants.{CHARGE}
 use Rattle.hcc_rule.specs.declared.view.Made.{Made}
 use Rattle.hcc_rule.specs.Told.{found_dead}
 use Rattle.hcc_rule.specs.ToldOwners.{Freed, after_free, records_left}
-use Rattle.hcc_table.specs.Freed.{IsFreed, emptied}
+use Rattle.hcc_table.specs.Freed.{IsFreed, TakenAt, emptied}
 use Rattle.hcc_table.proofs.Searches.{grows_joined}
 
 -- the places from this one on, up to the slot
@@ -124,25 +124,36 @@ module _ {T : Type 0} where
       s.left ∙ ap (λ t. record (view seat) { work = record (view seat).work { trail = t } }) (trail_end slots key slot i past)
 
   -- A taken entry's slot was emptied.
-  pub freed : (fits : T → Key → List ℕ → Type 0) (slots room slot old word charge : ℕ) (name : Option ℕ) (u v w : View T)
-      → (old == word) ≡ true → Freed fits slots room slot word old name u v → charge ≡ slice_index v.written CHARGE
-      → owns_nothing u.work.owned ≡ true → u.work.trail ≡ []
-      → w ≡ emptied v → IsFreed fits room word name charge u w × (w.records ≡ records_left name u.records) × (w.work.looked ≡ u.work.looked)
-  freed fits slots room slot old word charge name u v w won told charged idle bare same =
+  pub taken_at : (fits : T → Key → List ℕ → Type 0) (slots room slot old word charge : ℕ)
+      (name : Option ℕ) (u v w : View T)
+      → (old == word) ≡ true → Freed fits slots room slot word old name u v
+      → charge ≡ slice_index v.written CHARGE → w ≡ emptied v
+      → TakenAt fits slots room slot word name charge u w
+  taken_at fits slots room slot old word charge name u v w won told charged same =
       let got = told.won won in
       let is : old ≡ word = eqb-true old word won in
-      let all : w ≡ emptied (after_free slots slot old name got.0 got.1 u) = same ∙ ap emptied got.3 in (
-        record {
-          stamp = got.0;
-          made = got.1;
-          taken = got.2;
-          charged = charge_is got.0 got.1 got.3;
-          dead = λ stamp h. rw all (grows_joined u.work.dead (found_dead slot old u) stamp h);
-          same = rw (all, charge_is got.0 got.1 got.3, is) refl;
-        },
-        ap (λ (z : View T). z.records) all,
-        ap (λ (z : View T). z.work.looked) all,
-      )
-    where
-      charge_is : (stamp : Stamp) (made : Made) → v ≡ after_free slots slot old name stamp made u → charge ≡ made.charge
-      charge_is stamp made is = charged ∙ ap (λ (z : View T). slice_index z.written CHARGE) is
+      record {
+        stamp = got.0;
+        made = got.1;
+        taken = got.2;
+        charged = charged ∙ ap (λ (z : View T). slice_index z.written CHARGE) got.3;
+        is = same ∙ (ap emptied got.3 ∙ ap (λ n. emptied (after_free slots slot n name got.0 got.1 u)) is);
+      }
+
+  -- So it was freed.
+  pub freed : (fits : T → Key → List ℕ → Type 0) (slots room slot word charge : ℕ) (name : Option ℕ)
+      (u w : View T) → TakenAt fits slots room slot word name charge u w
+      → IsFreed fits room word name charge u w × (w.records ≡ records_left name u.records)
+      × (w.work.looked ≡ u.work.looked)
+  freed fits slots room slot word charge name u w t = (
+    record {
+      stamp = t.stamp;
+      made = t.made;
+      taken = t.taken;
+      charged = t.charged;
+      dead = λ stamp h. rw t.is (grows_joined u.work.dead (found_dead slot word u) stamp h);
+      same = rw (t.is, t.charged) refl;
+    },
+    ap (λ (z : View T). z.records) t.is,
+    ap (λ (z : View T). z.work.looked) t.is,
+  )

@@ -6,6 +6,10 @@ use Rattle.hcc_rule.specs.declared.view.View.{View}
 use Rattle.hcc_table.specs.Searched.{Grows, times_met}
 
 module _ {T : Type 0} where
+  -- no slot of its own, and no trail
+  abbrev pub IsAtRest : View T → Type 0
+  IsAtRest v = (v.work.owned ≡ owned.Nothing) × (v.work.trail ≡ [])
+
   -- The client hid visible entries of these keys, and freed so many entries, whose places and charges
   -- are its to settle. It may have looked at slots, seen entries dead, met keys, and hold other records
   -- than before, and other words in a slot of its own. All else stays.

@@ -1,5 +1,7 @@
 -- What a client has once it freed an entry.
-use Rattle.std.specs.Prelude.{◌≡◌, ℕ, ◌+◌, ◌≤◌, List, [], Option, length, slice_index}
+use Rattle.std.specs.Prelude.{◌≡◌, ℕ, ◌+◌, ◌-◌, ◌*◌, ◌%◌, ◌^◌, ◌≤◌, ◌==◌, ◌&&◌, ◌||◌, not, Bool, true, false, List, [], Option, IfSome, IfNone, length, slice_index, if◌then◌else◌}
+use Rattle.hcc_word.specs.declared.layout.TheConstants.{ONE_RELEASE}
+use Rattle.hcc_word.specs.Word.{is_shareable, is_visible, refs_of}
 use Rattle.hcc_core.specs.declared.client.Owned.TheVariants as owned
 use Rattle.hcc_core.specs.declared.slot.Stamp.{Stamp}
 use Rattle.hcc_core.specs.Sums.{when}
@@ -10,8 +12,26 @@ use Rattle.hcc_rule.specs.declared.layout.TheConstants.{KEY0, KEY1, PAYLOAD}
 use Rattle.hcc_rule.specs.declared.view.Made.{Made}
 use Rattle.hcc_rule.specs.declared.view.View.{View}
 use Rattle.hcc_rule.specs.Probes.{trail_to}
-use Rattle.hcc_rule.specs.ToldOwners.{IsTaken, is_warm}
-use Rattle.hcc_table.specs.Searched.{Grows, Searched}
+use Rattle.hcc_rule.specs.ToldOwners.{IsTaken, after_free, is_warm}
+use Rattle.hcc_rule.specs.ToldReferences.{after_give}
+use Rattle.hcc_table.specs.declared.efforts.Effort.{Effort}
+use Rattle.hcc_table.specs.Efforts.{Lost}
+use Rattle.hcc_table.specs.Searched.{Grows}
+
+-- what a release of so many references, as uses or not, leaves of a word
+abbrev pub left_of : Bool → (weight found : ℕ) → ℕ
+left_of used weight found =
+    (if used then found + weight * ONE_RELEASE else found + (2 ^ 64 - weight)) % 2 ^ 64
+
+-- whether this is the word of an entry that nobody holds, and that is hidden or is to be erased
+abbrev pub is_due : (erase : Bool) → (left : ℕ) → Bool
+is_due erase left = is_shareable left && (refs_of left == 0) && (erase || not (is_visible left))
+
+-- Freeing an entry was tried where it was due: it was freed, or one exchange more lost.
+abbrev pub TriedWhereDue : (due : Bool) → Option ℕ → Effort → Effort → Type 0
+TriedWhereDue due freed old new =
+    IfSome freed (λ _. (due ≡ true) × (new ≡ old))
+    × IfNone freed ((due ≡ true → Lost 1 1 old new) × (due ≡ false → new ≡ old))
 
 module _ {T : Type 0} where
   -- the key of the entry whose words stand in the slot that the client owns
@@ -33,7 +53,8 @@ module _ {T : Type 0} where
 
   -- The client freed an entry whose slot had this word: its charge and its place are the client's to
   -- settle. Where the client had the last reference, it was on that entry.
-  pub record IsFreed (fits : T → Key → List ℕ → Type 0) (room word : ℕ) (last : Option ℕ) (charge : ℕ) (v w : View T) : Type 0 where
+  pub record IsFreed (fits : T → Key → List ℕ → Type 0) (room word : ℕ) (last : Option ℕ) (charge : ℕ)
+      (v w : View T) : Type 0 where
     pub stamp : Stamp
     pub made : Made
     pub taken : IsTaken fits room last v stamp made
@@ -54,9 +75,21 @@ module _ {T : Type 0} where
       warm = v.warm + when (is_warm word) 1;
     }
 
-  -- The client's record of this name is gone, and no other.
-  pub record IsGiven (name : ℕ) (v w : View T) : Type 0 where
-    pub searched : Searched v w
-    pub records : w.records ≡ dropped (is_called name) v.records
-    pub looked : w.work.looked ≡ v.work.looked
-    pub met : w.met ≡ v.met
+  -- The same, of the entry that was in this slot: the exchange that found its word took it, and then
+  -- its trail was taken back and its slot emptied.
+  pub record TakenAt (fits : T → Key → List ℕ → Type 0) (slots room slot word : ℕ) (last : Option ℕ)
+      (charge : ℕ) (v w : View T) : Type 0 where
+    pub stamp : Stamp
+    pub made : Made
+    pub taken : IsTaken fits room last v stamp made
+    pub charged : charge ≡ made.charge
+    pub is : w ≡ emptied (after_free slots slot word last stamp made v)
+
+  -- References of this name and weight were given back, as uses or not, and this word is left of the
+  -- one that was found.
+  pub record IsLeft (slot weight name : ℕ) (used : Bool) (left : ℕ) (v w : View T) : Type 0 where
+    pub found : ℕ
+    pub entry : is_shareable found ≡ true
+    pub enough : weight ≤ refs_of found
+    pub is : left ≡ left_of used weight found
+    pub view : w ≡ after_give slot name found v

@@ -1,3 +1,5 @@
+pub mod Efforts
+pub mod Pins
 pub mod Searched
 pub mod Freed
 pub mod Visited

@@ -7,6 +7,7 @@ use Rattle.hcc_core.specs.Lawful.{is_in}
 use Rattle.hcc_rule.specs.declared.key.Key.{Key}
 use Rattle.hcc_rule.specs.declared.view.Record.{Record}
 use Rattle.hcc_rule.specs.declared.view.View.{View}
+use Rattle.hcc_rule.specs.Probes.{probe_slot}
 use Rattle.hcc_rule.specs.ToldReferences.{IsMet, record_of}
 use Rattle.hcc_rule.specs.Views.{Each}
 use Rattle.hcc_rule.specs.Words.{key_of}
@@ -23,6 +24,10 @@ is_key a b = (a.w0 == b.w0) && (a.w1 == b.w1)
 -- how often a key stands in a list
 abbrev pub times_met : Key → List Key → ℕ
 times_met key = total (λ k. when (is_key key k) 1)
+
+-- the slot is one of the first so many probes of the key
+abbrev pub IsBefore : (slots : ℕ) → Key → (i : ℕ) → ℕ → Type 0
+IsBefore slots key i slot = (j : ℕ) × (j < i) × (probe_slot slots key j ≡ slot)
 
 module _ {T : Type 0} where
   -- Looks, acquires, loads of data words and gives leave this: the client may have looked at slots, seen

@@ -1,16 +1,54 @@
-//! References on an entry, and the one try to take its counters back.
-ghost use Rattle.std.specs.Prelude.{◌≡◌, ◌+◌, ◌<◌, ◌≤◌, false, true, None, IsSomeAnd};
+//! One more reference on an entry, and the one try to take its counters back.
+ghost use Rattle.std.specs.Prelude.{◌≡◌, ◌+◌, ◌++◌, ◌∷◌, ◌<◌, ◌≤◌, [], false, true, None, IfSome, IsSomeAnd};
 ghost use Rattle.hcc_core.specs.declared.limits.TheConstants.{MOST_WEIGHT, REFERENCES_PER_CLIENT};
+ghost use Rattle.hcc_rule.specs.declared.view.Record.{Record};
 ghost use Rattle.hcc_rule.specs.Callers.{room_of, IsSeatAt, IsSlotOf};
 ghost use Rattle.hcc_rule.specs.Seats.{IsSameSeat, view};
 ghost use Rattle.hcc_rule.specs.ToldReferences.{may_reach};
 ghost use Rattle.hcc_rule.specs.Views.{load_of, record_in};
-ghost use Rattle.hcc_table.specs.Searched.{Sought, Reached};
+ghost use Rattle.hcc_table.specs.Efforts.{Took};
+ghost use Rattle.hcc_table.specs.Pins.{IsOf, IsPinned};
+ghost use Rattle.hcc_table.specs.Searched.{Searched, Sought, Reached};
 
+use crate::efforts::Effort;
+use crate::pins::Pin;
 use crate::words::{counts, has_entry};
 use hcc_rule::{RuleSeat, RuleTable, Tag};
 use hcc_word::corrected;
 use std::alloc::Allocator;
+
+/// Acquires one more reference on the entry of a pin that the client holds, under this name, which it
+/// doesn't hold; it has room for one more. The answer is the pin of it.
+///
+/// The record of it is behind the client's others, on the very same entry. It takes no memory. It
+/// costs one atomic add, and an exchange where the reference doesn't count.
+pub fn again<T: Tag, A: Allocator>(
+    table: &RuleTable<T, A>,
+    seat: &mut RuleSeat<T>,
+    pin: Pin,
+    name: u64,
+    effort: &mut Effort,
+) -> Pin
+    requires seat { IsSeatAt table.now seat.old }
+    requires slot { IsSlotOf table.now pin.slot }
+    requires holds { IsPinned pin (view seat.old) }
+    requires fresh { record_in name (view seat.old).records ≡ None }
+    requires load { load_of (view seat.old).records + 1 ≤ REFERENCES_PER_CLIENT }
+    ensures seat { IsSameSeat seat.old seat.new }
+    ensures effort { Took 0 0 1 effort.old effort.new }
+    ensures view { Searched (view seat.old) (view seat.new) }
+    ensures pin { (result.slot ≡ pin.slot) × (result.name ≡ name) }
+    ensures record { (r : Record) × ((view seat.new).records ≡ (view seat.old).records ++ r ∷ [])
+        × IsOf result r × (r.name ≡ name)
+        × IfSome (record_in pin.name (view seat.old).records) (λ q. r.entry ≡ q.entry) }
+{
+    let found = reach(table, seat, pin.slot, 1, name, effort);
+    Pin {
+        slot: pin.slot,
+        name,
+        counting: counts(found),
+    }
+}
 
 /// Acquires references of this weight on a slot, and where they don't count, tries once to take
 /// both counters of the slot back.
@@ -20,6 +58,7 @@ pub(crate) fn reach<T: Tag, A: Allocator>(
     slot: u32,
     weight: u32,
     name: u64,
+    effort: &mut Effort,
 ) -> u64
     requires seat { IsSeatAt table.now seat.old }
     requires slot { IsSlotOf table.now slot }
@@ -28,11 +67,20 @@ pub(crate) fn reach<T: Tag, A: Allocator>(
     requires reach { may_reach slot (view seat.old) ≡ true }
     requires load { load_of (view seat.old).records + weight ≤ REFERENCES_PER_CLIENT }
     ensures seat { IsSameSeat seat.old seat.new }
-    ensures view { Reached T.fits (room_of table.now) slot weight name result (view seat.old) (view seat.new) }
+    ensures effort { Took 0 0 1 effort.old effort.new }
+    ensures view { Reached T.fits (room_of table.now) slot weight name result
+        (view seat.old) (view seat.new) }
 {
     let found = table.acquire(seat, slot, weight, name);
     if has_entry(found) && !counts(found) {
-        relieve(table, seat, slot, name, found.wrapping_add(weight as u64));
+        relieve(
+            table,
+            seat,
+            slot,
+            name,
+            found.wrapping_add(weight as u64),
+            effort,
+        );
     }
     found
 }
@@ -44,14 +92,22 @@ fn relieve<T: Tag, A: Allocator>(
     slot: u32,
     name: u64,
     word: u64,
+    effort: &mut Effort,
 )
     requires seat { IsSeatAt table.now seat.old }
     requires slot { IsSlotOf table.now slot }
-    requires holds { IsSomeAnd (record_in name (view seat.old).records) (λ r. (r.slot ≡ slot) × (r.counting ≡ false)) }
+    requires holds { IsSomeAnd (record_in name (view seat.old).records)
+        (λ r. (r.slot ≡ slot) × (r.counting ≡ false)) }
     ensures seat { IsSameSeat seat.old seat.new }
+    ensures effort { Took 0 0 1 effort.old effort.new }
     ensures view { Sought (view seat.old) (view seat.new) }
 {
-    if let Some(next) = corrected(word) {
-        table.correct(seat, slot, name, word, next);
+    let Some(next) = corrected(word) else {
+        return;
+    };
+    if table.correct(seat, slot, name, word, next) == word {
+        effort.correct();
+    } else {
+        effort.lose();
     }
 }

@@ -1,25 +1,26 @@
 //! Taking an entry to free it.
 ghost use Rattle.std.specs.Prelude.{◌≡◌, ◌+◌, ◌^◌, ◌<◌, ◌≤◌, [], true, IfSome, IfNone, slice_index};
 ghost use Rattle.hcc_word.specs.Word.{is_shareable};
-ghost use Rattle.hcc_core.specs.World.{owns_nothing};
 ghost use Rattle.hcc_rule.specs.declared.layout.TheConstants.{CHARGE};
-ghost use Rattle.hcc_rule.specs.Callers.{slots_of, room_of, IsSeatAt, IsSlotOf};
+ghost use Rattle.hcc_rule.specs.Callers.{slots_of, room_of, IsSeatAt, IsSlotOf, MayFree};
 ghost use Rattle.hcc_rule.specs.Probes.{trail_to};
 ghost use Rattle.hcc_rule.specs.Seats.{IsSameSeat, view};
 ghost use Rattle.hcc_rule.specs.ToldOwners.{IsLast, records_left};
-ghost use Rattle.hcc_table.specs.Freed.{HasTaken, IsFreed, emptied};
+ghost use Rattle.hcc_table.specs.Efforts.{Lost};
+ghost use Rattle.hcc_table.specs.Freed.{HasTaken, IsFreed, TakenAt, emptied};
 ghost use Rattle.hcc_table.specs.Searched.{Sought};
 
+use crate::efforts::Effort;
 use crate::walk::Walk;
 use hcc_rule::layout::{CHARGE, KEY0, KEY1};
 use hcc_rule::{Key, RuleSeat, RuleTable, Tag};
 use std::alloc::Allocator;
 
-/// Frees the slot whose entry the client took: takes back the displacements of the key's places
+/// Frees the slot whose entry the client took: takes back the displacements of the key's probes
 /// before the slot, and empties it. The answer is the entry's charge, which the client has to settle
 /// with its place.
 ///
-/// It takes no memory. It costs three loads, a take for each place before the slot, and a store.
+/// It takes no memory. It costs three loads, a take for each probe before the slot, and a store.
 pub fn free_taken<T: Tag, A: Allocator>(
     table: &RuleTable<T, A>,
     seat: &mut RuleSeat<T>,
@@ -42,7 +43,7 @@ pub fn free_taken<T: Tag, A: Allocator>(
     charge
 }
 
-/// Takes back the displacements of a key's places before the slot.
+/// Takes back the displacements of a key's probes before the slot.
 pub(crate) fn take_back<T: Tag, A: Allocator>(
     table: &RuleTable<T, A>,
     seat: &mut RuleSeat<T>,
@@ -74,21 +75,26 @@ pub(crate) fn try_free<T: Tag, A: Allocator>(
     slot: u32,
     word: u64,
     name: Option<u64>,
+    effort: &mut Effort,
 ) -> Option<u64>
     requires seat { IsSeatAt table.now seat.old }
     requires slot { IsSlotOf table.now slot }
     requires entry { is_shareable word ≡ true }
     requires last { IsLast slot word name (view seat.old) }
-    requires idle { (owns_nothing (view seat.old).work.owned ≡ true) × ((view seat.old).work.trail ≡ []) }
-    requires space { (view seat.old).work.freed + 2 ^ 32 ≤ 2 ^ 49 }
+    requires may { MayFree (view seat.old) }
     ensures seat { IsSameSeat seat.old seat.new }
-    ensures lost { IfNone result (Sought (view seat.old) (view seat.new)) }
+    ensures lost { IfNone result (Sought (view seat.old) (view seat.new)
+        × ((view seat.new).met ≡ (view seat.old).met) × Lost 1 1 effort.old effort.new) }
+    ensures won { IfSome result (λ _. effort.new ≡ effort.old) }
+    ensures taken { IfSome result (λ charge. TakenAt T.fits (slots_of table.now) (room_of table.now)
+        slot word name charge (view seat.old) (view seat.new)) }
     ensures freed { IfSome result (λ charge.
         IsFreed T.fits (room_of table.now) word name charge (view seat.old) (view seat.new)
         × ((view seat.new).records ≡ records_left name (view seat.old).records)
         × ((view seat.new).work.looked ≡ (view seat.old).work.looked)) }
 {
     if table.free(seat, slot, word, name) != word {
+        effort.lose();
         return None;
     }
     Some(free_taken(table, seat, slot))

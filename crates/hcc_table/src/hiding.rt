@@ -1,16 +1,17 @@
 //! Hiding the entries of a key.
-ghost use Rattle.std.specs.Prelude.{◌≡◌, ◌+◌, ◌*◌, ◌^◌, ◌<◌, ◌≤◌, [], true, None, IfSome, IfNone, IsSomeAnd, replicate};
+ghost use Rattle.std.specs.Prelude.{◌≡◌, ◌+◌, ◌-◌, ◌*◌, ◌^◌, ◌<◌, ◌≤◌, [], true, None, IfSome, IfNone, IsSomeAnd, replicate};
 ghost use Rattle.hcc_core.specs.declared.limits.TheConstants.{REFERENCES_PER_CLIENT};
-ghost use Rattle.hcc_core.specs.declared.client.Owned.TheVariants.{Nothing};
 ghost use Rattle.hcc_core.specs.Lawful.{is_in};
 ghost use Rattle.hcc_core.specs.Outcomes.{dropped};
 ghost use Rattle.hcc_rule.specs.Callers.{slots_of, IsSeatAt, IsSlotOf};
 ghost use Rattle.hcc_rule.specs.Seats.{IsSameSeat, view};
 ghost use Rattle.hcc_rule.specs.Views.{is_called, load_of, record_in};
 ghost use Rattle.hcc_rule.specs.Words.{key_of};
-ghost use Rattle.hcc_table.specs.Erased.{Erases, IsErased};
+ghost use Rattle.hcc_table.specs.Efforts.{Lost, Took};
+ghost use Rattle.hcc_table.specs.Erased.{Erases, IsAtRest, IsErased};
 ghost use Rattle.hcc_table.specs.Searched.{Sought, Buried, AllDead};
 
+use crate::efforts::Effort;
 use crate::freeing::try_free;
 use crate::search::hold;
 use crate::walk::Walk;
@@ -38,49 +39,7 @@ impl Erased {
         slots: 0,
         charge: 0,
     };
-}
 
-/// Hides each visible entry of the key: look-ups find none of them from then on. At each place of
-/// the key in turn the slot is looked at, as in a search that doesn't stop at a match. An entry that
-/// only this call holds then is taken by one exchange and freed; where that loses it stays hidden.
-///
-/// The name is one that the client doesn't hold, and there is room for one more reference. The client
-/// owns no slot, has an empty trail, and no freed charge to settle. Each entry of the key that it holds has been seen dead afterwards. It frees no more
-/// entries than it met of the key. It takes no memory. Each place costs what it costs a search; each
-/// match an atomic and, an exchange where nobody else holds the entry, and the freeing where that wins,
-/// else a take.
-pub fn hide<T: Tag, A: Allocator>(
-    table: &RuleTable<T, A>,
-    seat: &mut RuleSeat<T>,
-    key: Key,
-    name: u64,
-) -> Erased
-    requires seat { IsSeatAt table.now seat.old }
-    requires fresh { record_in name (view seat.old).records ≡ None }
-    requires load { load_of (view seat.old).records + 1 ≤ REFERENCES_PER_CLIENT }
-    requires idle { ((view seat.old).work.owned ≡ Nothing) × ((view seat.old).work.trail ≡ []) }
-    requires settled { (view seat.old).work.freed ≡ 0 }
-    ensures seat { IsSameSeat seat.old seat.new }
-    ensures view { IsErased key result.hidden result.slots result.charge (view seat.old) (view seat.new) }
-    ensures dead { AllDead key (view seat.old) (view seat.new) }
-    ensures few { (result.hidden ≤ (slots_of table.now)) × (result.slots ≤ (slots_of table.now)) }
-{
-    let slots = table.geometry().slots;
-    let mut walk = Walk::begin(key, slots);
-    let mut all = Erased::NOTHING;
-    for _ in 0..slots {
-        let slot = walk.slot();
-        let here = hide_at(table, seat, slot, key, name);
-        all = all.with(here);
-        if table.count(seat, slot) == 0 {
-            return all;
-        }
-        walk = walk.next();
-    }
-    all
-}
-
-impl Erased {
     /// Both in sum.
     fn with(&self, other: Erased) -> Erased
         requires hidden { self.now.hidden + other.hidden < 2 ^ 32 }
@@ -98,6 +57,51 @@ impl Erased {
     }
 }
 
+/// Hides each visible entry of the key: look-ups find none of them from then on. Each probe of the key
+/// in turn is looked at, as in a search that doesn't stop at a match. An entry that only this call
+/// holds then is taken by one exchange and freed; where that loses it stays hidden.
+///
+/// The name is one that the client doesn't hold, and there is room for one more reference. The client
+/// owns no slot, has an empty trail, and no freed charge to settle. Each entry of the key that it holds
+/// has been seen dead afterwards. It frees no more entries than it met of the key, each of a charge
+/// below 2^32. It takes no memory. Each probe costs what it costs a search; each match an atomic and,
+/// an exchange where nobody else holds the entry, and the freeing where that wins, else a take.
+pub fn hide<T: Tag, A: Allocator>(
+    table: &RuleTable<T, A>,
+    seat: &mut RuleSeat<T>,
+    key: Key,
+    name: u64,
+    effort: &mut Effort,
+) -> Erased
+    requires seat { IsSeatAt table.now seat.old }
+    requires fresh { record_in name (view seat.old).records ≡ None }
+    requires load { load_of (view seat.old).records + 1 ≤ REFERENCES_PER_CLIENT }
+    requires idle { IsAtRest (view seat.old) }
+    requires settled { (view seat.old).work.freed ≡ 0 }
+    ensures seat { IsSameSeat seat.old seat.new }
+    ensures effort { Took 1 (slots_of table.now) (2 * slots_of table.now) effort.old effort.new }
+    ensures view { IsErased key result.hidden result.slots result.charge
+        (view seat.old) (view seat.new) }
+    ensures dead { AllDead key (view seat.old) (view seat.new) }
+    ensures few { (result.hidden ≤ slots_of table.now) × (result.slots ≤ slots_of table.now) }
+    ensures charge { result.charge ≤ result.slots * (2 ^ 32 - 1) }
+{
+    let slots = table.geometry().slots;
+    let mut walk = Walk::begin(key, slots);
+    let mut all = Erased::NOTHING;
+    for _ in 0..slots {
+        let slot = walk.slot();
+        effort.probe();
+        let here = hide_at(table, seat, slot, key, name, effort);
+        all = all.with(here);
+        if table.count(seat, slot) == 0 {
+            return all;
+        }
+        walk = walk.next();
+    }
+    all
+}
+
 /// Hides the slot's entry, where it shows one of this key, and frees it where nobody else holds it.
 fn hide_at<T: Tag, A: Allocator>(
     table: &RuleTable<T, A>,
@@ -105,20 +109,24 @@ fn hide_at<T: Tag, A: Allocator>(
     slot: u32,
     key: Key,
     name: u64,
+    effort: &mut Effort,
 ) -> Erased
     requires seat { IsSeatAt table.now seat.old }
     requires slot { IsSlotOf table.now slot }
     requires fresh { record_in name (view seat.old).records ≡ None }
     requires load { load_of (view seat.old).records + 1 ≤ REFERENCES_PER_CLIENT }
-    requires idle { ((view seat.old).work.owned ≡ Nothing) × ((view seat.old).work.trail ≡ []) }
+    requires idle { IsAtRest (view seat.old) }
     requires space { (view seat.old).work.freed + 2 ^ 32 ≤ 2 ^ 49 }
     ensures seat { IsSameSeat seat.old seat.new }
-    ensures view { IsErased key result.hidden result.slots result.charge (view seat.old) (view seat.new) }
+    ensures effort { Took 0 0 2 effort.old effort.new }
+    ensures view { IsErased key result.hidden result.slots result.charge
+        (view seat.old) (view seat.new) }
     ensures dead { Buried key (λ s. s ≡ slot) (view seat.old) (view seat.new) }
-    ensures few { (result.hidden ≤ 1) × (result.slots ≤ 1) × (result.charge < 2 ^ 32) }
+    ensures few { (result.hidden ≤ 1) × (result.slots ≤ 1)
+        × (result.charge ≤ result.slots * (2 ^ 32 - 1)) }
 {
-    match hold(table, seat, slot, key, name) {
-        Some(_) => hide_held(table, seat, slot, name),
+    match hold(table, seat, slot, key, name, effort) {
+        Some(_) => hide_held(table, seat, slot, name, effort),
         None => Erased::NOTHING,
     }
 }
@@ -130,23 +138,28 @@ fn hide_held<T: Tag, A: Allocator>(
     seat: &mut RuleSeat<T>,
     slot: u32,
     name: u64,
+    effort: &mut Effort,
 ) -> Erased
     requires seat { IsSeatAt table.now seat.old }
     requires slot { IsSlotOf table.now slot }
-    requires holds { IsSomeAnd (record_in name (view seat.old).records) (λ r. (r.slot ≡ slot) × (r.weight ≡ 1)) }
-    requires idle { ((view seat.old).work.owned ≡ Nothing) × ((view seat.old).work.trail ≡ []) }
+    requires holds { IsSomeAnd (record_in name (view seat.old).records)
+        (λ r. (r.slot ≡ slot) × (r.weight ≡ 1)) }
+    requires idle { IsAtRest (view seat.old) }
     requires space { (view seat.old).work.freed + 2 ^ 32 ≤ 2 ^ 49 }
     ensures seat { IsSameSeat seat.old seat.new }
+    ensures effort { Lost 0 1 effort.old effort.new }
     ensures view { IsSomeAnd (record_in name (view seat.old).records) (λ r.
-        Erases (replicate result.hidden (key_of r.entry)) result.slots result.charge (view seat.old) (view seat.new)
+        Erases (replicate result.hidden (key_of r.entry)) result.slots result.charge
+        (view seat.old) (view seat.new)
         × (is_in r.entry.stamp (view seat.new).work.dead ≡ true)) }
     ensures records { (view seat.new).records ≡ dropped (is_called name) (view seat.old).records }
-    ensures few { (result.hidden ≤ 1) × (result.slots ≤ 1) × (result.charge < 2 ^ 32) }
+    ensures few { (result.hidden ≤ 1) × (result.slots ≤ 1)
+        × (result.charge ≤ result.slots * (2 ^ 32 - 1)) }
 {
     let found = table.hide(seat, slot, name);
     let left = found & HIDING_MASK;
     let hidden = u32::from(is_shown(found));
-    match free_last(table, seat, slot, name, left) {
+    match free_last(table, seat, slot, name, left, effort) {
         Some(charge) => Erased {
             hidden,
             slots: 1,
@@ -170,20 +183,23 @@ fn free_last<T: Tag, A: Allocator>(
     slot: u32,
     name: u64,
     word: u64,
+    effort: &mut Effort,
 ) -> Option<u64>
     requires seat { IsSeatAt table.now seat.old }
     requires slot { IsSlotOf table.now slot }
-    requires holds { IsSomeAnd (record_in name (view seat.old).records) (λ r. (r.slot ≡ slot) × (r.weight ≡ 1)) }
-    requires idle { ((view seat.old).work.owned ≡ Nothing) × ((view seat.old).work.trail ≡ []) }
+    requires holds { IsSomeAnd (record_in name (view seat.old).records)
+        (λ r. (r.slot ≡ slot) × (r.weight ≡ 1)) }
+    requires idle { IsAtRest (view seat.old) }
     requires space { (view seat.old).work.freed + 2 ^ 32 ≤ 2 ^ 49 }
     ensures seat { IsSameSeat seat.old seat.new }
+    ensures effort { Lost 0 1 effort.old effort.new }
     ensures lost { IfNone result (Sought (view seat.old) (view seat.new)) }
     ensures freed { IfSome result (λ charge. (charge < 2 ^ 32)
         × Erases [] 1 charge (view seat.old) (view seat.new)
         × ((view seat.new).records ≡ dropped (is_called name) (view seat.old).records)) }
 {
     if has_entry(word) && !is_shown(word) && refs(word) == 1 {
-        try_free(table, seat, slot, word, Some(name))
+        try_free(table, seat, slot, word, Some(name), effort)
     } else {
         None
     }

@@ -1,21 +1,23 @@
-//! The placing of an entry: at each place of its key in turn, until a slot is found that is empty, or
+//! The insertion of an entry: at each probe of its key in turn, until a slot is found that is empty, or
 //! one that shows an entry of the key.
-ghost use Rattle.std.specs.Prelude.{◌≡◌, ◌+◌, ◌<◌, ◌≤◌, true, None, [], ◌∷◌, ◌++◌, IsSomeAnd, List};
+ghost use Rattle.std.specs.Prelude.{◌≡◌, ◌+◌, ◌<◌, ◌≤◌, true, false, None, []};
 ghost use Rattle.hcc_word.specs.Word.{is_empty};
 ghost use Rattle.hcc_core.specs.declared.limits.TheConstants.{MOST_WEIGHT, REFERENCES_PER_CLIENT};
-ghost use Rattle.hcc_rule.specs.declared.key.Key.{Key};
 ghost use Rattle.hcc_rule.specs.Callers.{plan_of, slots_of, IsSeatAt, IsSlotOf};
 ghost use Rattle.hcc_rule.specs.Probes.{trail_to};
 ghost use Rattle.hcc_rule.specs.Seats.{IsSameSeat, view};
-ghost use Rattle.hcc_rule.specs.ToldReferences.{may_reach, after_give};
+ghost use Rattle.hcc_rule.specs.ToldReferences.{may_reach};
 ghost use Rattle.hcc_rule.specs.Views.{load_of, record_in};
-ghost use Rattle.hcc_table.specs.Inserted.{MayInsert, InsertedBy};
-ghost use Rattle.hcc_table.specs.Searched.{Sought};
+ghost use Rattle.hcc_table.specs.Efforts.{Took};
+ghost use Rattle.hcc_table.specs.Inserted.{InsertedBy, MayInsert, Meets, TriedAt};
+ghost use Rattle.hcc_table.specs.Searched.{Sought, Buried};
 
 use crate::acquire::reach;
 use crate::build::build;
+use crate::efforts::Effort;
 use crate::freeing::take_back;
-use crate::search::has_key;
+use crate::releasing::let_go;
+use crate::search::matches;
 use crate::walk::Walk;
 use crate::words::{counts, has_entry, is_shown};
 use hcc_rule::{Draft, Key, RuleSeat, RuleTable, Tag};
@@ -23,7 +25,7 @@ use hcc_word::layout::EMPTY;
 use hcc_word::state;
 use std::alloc::Allocator;
 
-/// What came of the placing of an entry.
+/// What came of the insertion of an entry.
 #[derive(Clone, Copy, Debug, PartialEq, Eq)]
 pub enum Insertion {
     /// The entry was put into this slot, and is shown.
@@ -34,117 +36,27 @@ pub enum Insertion {
     NoSlot,
 }
 
-/// Whether it is the word of an empty slot.
-fn is_free(word: u64) -> bool
-    ensures { result ≡ is_empty word }
-{
-    state(word) == EMPTY
-}
-
-/// Gives the references of this name back, as uses where they count.
-fn leave<T: Tag, A: Allocator>(
-    table: &RuleTable<T, A>,
-    seat: &mut RuleSeat<T>,
-    slot: u32,
-    weight: u32,
-    name: u64,
-    counting: bool,
-) -> u64
-    requires seat { IsSeatAt table.now seat.old }
-    requires slot { IsSlotOf table.now slot }
-    requires holds { IsSomeAnd (record_in name (view seat.old).records) (λ r. (r.slot ≡ slot) × (r.weight ≡ weight) × (r.counting ≡ counting)) }
-    ensures seat { IsSameSeat seat.old seat.new }
-    ensures view { view seat.new ≡ after_give slot name result (view seat.old) }
-{
-    if counting {
-        table.spend(seat, slot, weight, name)
-    } else {
-        table.give(seat, slot, weight, name)
-    }
-}
-
-/// Whether the slot, which was looked at, shows an entry of the key. References of this weight are
-/// acquired there; on an entry of the key they are released as uses, where they count.
-fn meet<T: Tag, A: Allocator>(
-    table: &RuleTable<T, A>,
-    seat: &mut RuleSeat<T>,
-    slot: u32,
-    key: Key,
-    weight: u32,
-    name: u64,
-) -> bool
-    requires seat { IsSeatAt table.now seat.old }
-    requires slot { IsSlotOf table.now slot }
-    requires weight { (0 < weight) × (weight ≤ MOST_WEIGHT) }
-    requires fresh { record_in name (view seat.old).records ≡ None }
-    requires reach { may_reach slot (view seat.old) ≡ true }
-    requires load { load_of (view seat.old).records + weight ≤ REFERENCES_PER_CLIENT }
-    ensures seat { IsSameSeat seat.old seat.new }
-    ensures view { Sought (view seat.old) (view seat.new) }
-    ensures met { result ≡ true → (more : List Key) × ((view seat.new).met ≡ (view seat.old).met ++ more ++ key ∷ []) }
-{
-    let found = reach(table, seat, slot, weight, name);
-    if !has_entry(found) {
-        return false;
-    }
-    if is_shown(found) && has_key(table, seat, slot, key, name) {
-        leave(table, seat, slot, weight, name, counts(found));
-        return true;
-    }
-    table.give(seat, slot, weight, name);
-    false
-}
-
-/// Places the entry into this slot, if it is empty. No slot: it is neither empty nor shows an entry of
-/// the key.
-fn insert_at<T: Tag, A: Allocator>(
-    table: &RuleTable<T, A>,
-    seat: &mut RuleSeat<T>,
-    slot: u32,
-    draft: Draft,
-    value: &[u8],
-    client: u32,
-    name: u64,
-) -> Insertion
-    requires seat { IsSeatAt table.now seat.old }
-    requires slot { IsSlotOf table.now slot }
-    requires may { MayInsert T.fits (plan_of table.now) draft value.now client name (view seat.old) }
-    requires trail { (view seat.old).work.trail ≡ trail_to (slots_of table.now) draft.key slot }
-    ensures seat { IsSameSeat seat.old seat.new }
-    ensures view { InsertedBy (slots_of table.now) 1 draft value.now result (view seat.old) (view seat.new) }
-{
-    let found = table.occupy(seat, slot);
-    if is_free(found) {
-        build(table, seat, slot, draft, value, client);
-        return Insertion::Placed { slot };
-    }
-    if is_shown(found) && meet(table, seat, slot, draft.key, draft.countdown, name) {
-        return Insertion::Matched;
-    }
-    Insertion::NoSlot
-}
-
-/// Puts an entry of a key into the table. At each place of the key in turn the occupied bit of the
+/// Puts an entry of a key into the table. At each probe of the key in turn the occupied bit of the
 /// slot is set. The first slot that was empty is the client's: it writes the words of the entry there
 /// and shows it. Where a slot before it shows an entry of the key, none is placed: as many references
 /// as the draft's countdown says are acquired on that one, under this name, and released as uses where
-/// they count. Each place is tried once, and no entry is freed.
+/// they count. Each slot is tried once, and no entry is freed.
 ///
 /// The client, which is `client`, has its place and its charge granted, nothing needed, no slot and no
 /// trail, room for three more references and for one more entry. The countdown is 1 to 3, and the value
 /// is right for the key. The name is none that the client holds; the reference that it keeps of the entry
-/// that it shows, if the draft asks for one, has that name.
+/// that it shows, if the draft asks for one, has that name, and counts.
 ///
 /// Placed: the entry is the newest that the client made, behind the trail to its slot, and its place
-/// and its charge are spent. Matched, or no slot: the client has what it had. In each case it may have
-/// looked at slots, seen entries dead and met keys, and counted slots that weren't empty: all of them,
-/// where there was no empty one.
+/// and its charge are spent. Each slot of the trail was taken, and each entry of the key that the client
+/// holds there is dead to it. Matched, or no slot: the client has what it had. In each case it may have
+/// looked at slots, seen entries dead and met keys, and counted slots that weren't empty: so many as the
+/// trail is long, at least one, or all of them.
 ///
-/// It takes no memory. Each place costs an or, an add to the displacement word where another place
+/// It takes no memory. Each probe costs an or, an add to the displacement word where another probe
 /// follows, and where the slot shows an entry an add, a load of each half of the key and a take, with an
-/// exchange where references don't count. An
-/// entry that is placed costs a store for each of its words and one more; else each place that was
-/// passed costs a take.
+/// exchange where references don't count. An entry that is placed costs a store for each of its words
+/// and one more; else each slot that was passed costs a take.
 pub fn insert<T: Tag, A: Allocator>(
     table: &RuleTable<T, A>,
     seat: &mut RuleSeat<T>,
@@ -152,19 +64,23 @@ pub fn insert<T: Tag, A: Allocator>(
     value: &[u8],
     client: u32,
     name: u64,
+    effort: &mut Effort,
 ) -> Insertion
     requires seat { IsSeatAt table.now seat.old }
     requires may { MayInsert T.fits (plan_of table.now) draft value.now client name (view seat.old) }
     requires trail { (view seat.old).work.trail ≡ [] }
     ensures seat { IsSameSeat seat.old seat.new }
-    ensures view { InsertedBy (slots_of table.now) (slots_of table.now) draft value.now result (view seat.old) (view seat.new) }
+    ensures effort { Took 1 (slots_of table.now) (slots_of table.now) effort.old effort.new }
+    ensures view { InsertedBy (slots_of table.now) draft value.now result
+        (view seat.old) (view seat.new) }
 {
     let slots = table.geometry().slots;
     let mut walk = Walk::begin(draft.key, slots);
     let mut passed = 0;
     loop {
         let slot = walk.slot();
-        match insert_at(table, seat, slot, draft, value, client, name) {
+        effort.probe();
+        match insert_at(table, seat, slot, draft, value, client, name, effort) {
             Insertion::Placed { slot } => return Insertion::Placed { slot },
             Insertion::Matched => {
                 take_back(table, seat, slot, draft.key);
@@ -180,4 +96,77 @@ pub fn insert<T: Tag, A: Allocator>(
         walk = walk.next();
         passed += 1;
     }
+}
+
+/// Puts the entry into this slot, if it is empty. No slot: it is neither empty nor shows an entry of
+/// the key.
+fn insert_at<T: Tag, A: Allocator>(
+    table: &RuleTable<T, A>,
+    seat: &mut RuleSeat<T>,
+    slot: u32,
+    draft: Draft,
+    value: &[u8],
+    client: u32,
+    name: u64,
+    effort: &mut Effort,
+) -> Insertion
+    requires seat { IsSeatAt table.now seat.old }
+    requires slot { IsSlotOf table.now slot }
+    requires may { MayInsert T.fits (plan_of table.now) draft value.now client name (view seat.old) }
+    requires trail { (view seat.old).work.trail ≡ trail_to (slots_of table.now) draft.key slot }
+    ensures seat { IsSameSeat seat.old seat.new }
+    ensures effort { Took 0 0 1 effort.old effort.new }
+    ensures view { TriedAt slot draft value.now result (view seat.old) (view seat.new) }
+{
+    let found = table.occupy(seat, slot);
+    if is_free(found) {
+        build(table, seat, slot, draft, value, client);
+        return Insertion::Placed { slot };
+    }
+    if is_shown(found) && meet(table, seat, slot, draft.key, draft.countdown, name, effort) {
+        return Insertion::Matched;
+    }
+    Insertion::NoSlot
+}
+
+/// Whether it is the word of an empty slot.
+fn is_free(word: u64) -> bool
+    ensures { result ≡ is_empty word }
+{
+    state(word) == EMPTY
+}
+
+/// Whether the slot, which was looked at, shows an entry of the key. References of this weight are
+/// acquired there; on an entry of the key they are released as uses, where they count.
+fn meet<T: Tag, A: Allocator>(
+    table: &RuleTable<T, A>,
+    seat: &mut RuleSeat<T>,
+    slot: u32,
+    key: Key,
+    weight: u32,
+    name: u64,
+    effort: &mut Effort,
+) -> bool
+    requires seat { IsSeatAt table.now seat.old }
+    requires slot { IsSlotOf table.now slot }
+    requires weight { (0 < weight) × (weight ≤ MOST_WEIGHT) }
+    requires fresh { record_in name (view seat.old).records ≡ None }
+    requires reach { may_reach slot (view seat.old) ≡ true }
+    requires load { load_of (view seat.old).records + weight ≤ REFERENCES_PER_CLIENT }
+    ensures seat { IsSameSeat seat.old seat.new }
+    ensures effort { Took 0 0 1 effort.old effort.new }
+    ensures view { Sought (view seat.old) (view seat.new) }
+    ensures met { result ≡ true → Meets key (view seat.old) (view seat.new) }
+    ensures dead { result ≡ false → Buried key (λ s. s ≡ slot) (view seat.old) (view seat.new) }
+{
+    let found = reach(table, seat, slot, weight, name, effort);
+    if !has_entry(found) {
+        return false;
+    }
+    if matches(table, seat, slot, key, name, found) {
+        let_go(table, seat, slot, weight, name, counts(found));
+        return true;
+    }
+    table.give(seat, slot, weight, name);
+    false
 }

@@ -4,24 +4,27 @@
 
 mod acquire;
 mod build;
+mod efforts;
 mod freeing;
 mod hiding;
 mod inserting;
+mod pins;
 mod readings;
 mod releasing;
 mod search;
 #[cfg(test)]
 mod tests;
 mod visiting;
-mod visits;
 mod walk;
 mod words;
 
+pub use acquire::again;
+pub use efforts::Effort;
 pub use freeing::free_taken;
 pub use hiding::{Erased, hide};
 pub use inserting::{Insertion, insert};
+pub use pins::{IfLast, Pin, Use};
 pub use readings::{displacement, read_bytes, read_key, read_len, word};
-pub use releasing::{again, release};
-pub use search::{Found, find};
-pub use visiting::visit;
-pub use visits::Visit;
+pub use releasing::release;
+pub use search::find;
+pub use visiting::{ClockVisit, visit};

@@ -12,8 +12,10 @@ ghost use Rattle.hcc_rule.specs.Told.{after_look, Backs};
 ghost use Rattle.hcc_rule.specs.ToldOwners.{after_read};
 ghost use Rattle.hcc_rule.specs.Views.{Each, record_in};
 ghost use Rattle.hcc_rule.specs.Words.{key_of, payload_word};
+ghost use Rattle.hcc_table.specs.Pins.{IsPinned};
 ghost use Rattle.hcc_table.specs.Readings.{IsReadable};
 
+use crate::pins::Pin;
 use hcc_rule::layout::{KEY0, KEY1, LENGTH, PAYLOAD};
 use hcc_rule::{Key, RuleSeat, RuleTable, Tag};
 use std::alloc::Allocator;
@@ -49,74 +51,138 @@ pub fn displacement<T: Tag, A: Allocator>(
     ensures seat { IsSameSeat seat.old seat.new }
     ensures view { view seat.new ≡ view seat.old }
     ensures own { times slot (view seat.old).work.trail ≤ result }
-    ensures held { Each (λ (r : Record). times slot (trail_to (slots_of table.now) (key_of r.entry) r.slot) ≤ result) (view seat.old).records }
-    ensures within { Each (λ (r : Record). r.slot < (slots_of table.now)) (view seat.old).records }
+    ensures held { Each (λ (r : Record).
+        times slot (trail_to (slots_of table.now) (key_of r.entry) r.slot) ≤ result)
+        (view seat.old).records }
+    ensures within { Each (λ (r : Record). r.slot < slots_of table.now) (view seat.old).records }
 {
     table.count(seat, slot)
 }
 
-/// How many bytes the value has of the entry that the record of this name is on.
+/// How many bytes the value has of the entry of a pin.
 ///
-/// The client has a record of that name, on this slot. What the client has stays. It refuses nothing
-/// and takes no memory. It costs one load.
+/// The client holds the pin's reference. What the client has stays. It refuses nothing and takes no
+/// memory. It costs one load.
 pub fn read_len<T: Tag, A: Allocator>(
     table: &RuleTable<T, A>,
     seat: &mut RuleSeat<T>,
-    slot: u32,
-    name: u64,
+    pin: Pin,
 ) -> usize
     requires seat { IsSeatAt table.now seat.old }
-    requires slot { IsSlotOf table.now slot }
-    requires holds { HasOn slot name (view seat.old) }
+    requires slot { IsSlotOf table.now pin.slot }
+    requires holds { IsPinned pin (view seat.old) }
     ensures seat { IsSameSeat seat.old seat.new }
     ensures view { view seat.new ≡ view seat.old }
-    ensures exact { IfSome (record_in name (view seat.old).records) (λ r. result ≡ length r.entry.value) }
+    ensures exact { IfSome (record_in pin.name (view seat.old).records) (λ r. result ≡ length r.entry.value) }
 {
-    table.read(seat, slot, LENGTH, name) as usize
+    table.read(seat, pin.slot, LENGTH, pin.name) as usize
 }
 
-/// The key of the entry that the record of this name is on.
+/// The key of the entry of a pin.
 ///
-/// The client has a record of that name, on this slot. Where it got the entry as Shown, the key joins
-/// the keys that it met; the rest of what it has stays. It refuses nothing and takes no memory. It
-/// costs two loads.
+/// The client holds the pin's reference. Where it got the entry as Shown, the key joins the keys that
+/// it met; the rest of what it has stays. It refuses nothing and takes no memory. It costs two loads.
 pub fn read_key<T: Tag, A: Allocator>(
     table: &RuleTable<T, A>,
     seat: &mut RuleSeat<T>,
-    slot: u32,
-    name: u64,
+    pin: Pin,
 ) -> Key
     requires seat { IsSeatAt table.now seat.old }
-    requires slot { IsSlotOf table.now slot }
-    requires holds { HasOn slot name (view seat.old) }
+    requires slot { IsSlotOf table.now pin.slot }
+    requires holds { IsPinned pin (view seat.old) }
     ensures seat { IsSameSeat seat.old seat.new }
-    ensures view { view seat.new ≡ after_read name KEY1 (view seat.old) }
-    ensures exact { IfSome (record_in name (view seat.old).records) (λ r. result ≡ key_of r.entry) }
+    ensures view { view seat.new ≡ after_read pin.name KEY1 (view seat.old) }
+    ensures exact { IfSome (record_in pin.name (view seat.old).records) (λ r. result ≡ key_of r.entry) }
 {
     Key {
-        w0: table.read(seat, slot, KEY0, name),
-        w1: table.read(seat, slot, KEY1, name),
+        w0: table.read(seat, pin.slot, KEY0, pin.name),
+        w1: table.read(seat, pin.slot, KEY1, pin.name),
     }
 }
 
-/// A word of the value, by its index, of the entry that the record of this name is on.
+/// Copies the value of the entry of a pin to the front of a buffer. The answer is how many bytes it has.
+/// The rest of the buffer stays as it is.
+///
+/// The client holds the pin's reference, on an entry whose value fits its slot and is of bytes, and the
+/// buffer has room for the value. What the client has stays. It refuses nothing and takes no memory. It
+/// costs one load for the length, and one for each eight bytes, the last ones too.
+pub fn read_bytes<T: Tag, A: Allocator>(
+    table: &RuleTable<T, A>,
+    seat: &mut RuleSeat<T>,
+    pin: Pin,
+    buffer: &mut [u8],
+) -> usize
+    requires seat { IsSeatAt table.now seat.old }
+    requires slot { IsSlotOf table.now pin.slot }
+    requires holds { IsPinned pin (view seat.old) }
+    requires readable { IfSome (record_in pin.name (view seat.old).records)
+        (λ r. IsReadable (room_of table.now) r) }
+    requires space { IfSome (record_in pin.name (view seat.old).records)
+        (λ r. length r.entry.value ≤ length buffer.old) }
+    ensures seat { IsSameSeat seat.old seat.new }
+    ensures view { view seat.new ≡ view seat.old }
+    ensures length { IfSome (record_in pin.name (view seat.old).records)
+        (λ r. result ≡ length r.entry.value) }
+    ensures bytes { IfSome (record_in pin.name (view seat.old).records)
+        (λ r. buffer.new ≡ r.entry.value ++ drop (length r.entry.value) buffer.old) }
+{
+    let length = read_len(table, seat, pin);
+    let whole = length / 8;
+    for index in 0..whole {
+        copy_word(table, seat, pin, index, 8, buffer);
+    }
+    let rest = length % 8;
+    if rest > 0 {
+        copy_word(table, seat, pin, whole, rest, buffer);
+    }
+    length
+}
+
+/// Copies the first bytes of a word of the value, by its index, to their place in a buffer.
+fn copy_word<T: Tag, A: Allocator>(
+    table: &RuleTable<T, A>,
+    seat: &mut RuleSeat<T>,
+    pin: Pin,
+    index: usize,
+    count: usize,
+    buffer: &mut [u8],
+)
+    requires seat { IsSeatAt table.now seat.old }
+    requires slot { IsSlotOf table.now pin.slot }
+    requires within { index < room_of table.now }
+    requires some { 0 < count }
+    requires few { count ≤ 8 }
+    requires space { 8 * index + count ≤ length buffer.old }
+    requires holds { IsSomeAnd (record_in pin.name (view seat.old).records)
+        (λ r. (r.slot ≡ pin.slot) × IsReadable (room_of table.now) r
+        × (8 * index + count ≤ length r.entry.value)) }
+    ensures seat { IsSameSeat seat.old seat.new }
+    ensures view { view seat.new ≡ view seat.old }
+    ensures bytes { IfSome (record_in pin.name (view seat.old).records)
+        (λ r. buffer.new ≡ take (8 * index) buffer.old
+        ++ (take count (drop (8 * index) r.entry.value) ++ drop (8 * index + count) buffer.old)) }
+{
+    let word = read_word(table, seat, pin, index);
+    put(buffer, 8 * index, count, word);
+}
+
+/// A word of the value, by its index, of the entry of a pin.
 fn read_word<T: Tag, A: Allocator>(
     table: &RuleTable<T, A>,
     seat: &mut RuleSeat<T>,
-    slot: u32,
-    name: u64,
+    pin: Pin,
     index: usize,
 ) -> u64
     requires seat { IsSeatAt table.now seat.old }
-    requires slot { IsSlotOf table.now slot }
+    requires slot { IsSlotOf table.now pin.slot }
     requires within { index < room_of table.now }
-    requires holds { HasOn slot name (view seat.old) }
+    requires holds { HasOn pin.slot pin.name (view seat.old) }
     ensures seat { IsSameSeat seat.old seat.new }
     ensures view { view seat.new ≡ view seat.old }
-    ensures word { IfSome (record_in name (view seat.old).records)
+    ensures word { IfSome (record_in pin.name (view seat.old).records)
         (λ r. 8 * index < length r.entry.value → result ≡ payload_word r.entry.value index) }
 {
-    table.read(seat, slot, PAYLOAD + index, name)
+    table.read(seat, pin.slot, PAYLOAD + index, pin.name)
 }
 
 /// Puts the first bytes of a word into a buffer, the lowest first.
@@ -132,67 +198,4 @@ fn put(buffer: &mut [u8], at: usize, count: usize, word: u64)
     } else {
         buffer[at..at + count].copy_from_slice(&bytes[..count]);
     }
-}
-
-/// Copies the first bytes of a word of the value, by its index, to their place in a buffer.
-fn copy_word<T: Tag, A: Allocator>(
-    table: &RuleTable<T, A>,
-    seat: &mut RuleSeat<T>,
-    slot: u32,
-    name: u64,
-    index: usize,
-    count: usize,
-    buffer: &mut [u8],
-)
-    requires seat { IsSeatAt table.now seat.old }
-    requires slot { IsSlotOf table.now slot }
-    requires within { index < room_of table.now }
-    requires some { 0 < count }
-    requires few { count ≤ 8 }
-    requires space { 8 * index + count ≤ length buffer.old }
-    requires holds { IsSomeAnd (record_in name (view seat.old).records)
-        (λ r. (r.slot ≡ slot) × IsReadable (room_of table.now) r × (8 * index + count ≤ length r.entry.value)) }
-    ensures seat { IsSameSeat seat.old seat.new }
-    ensures view { view seat.new ≡ view seat.old }
-    ensures bytes { IfSome (record_in name (view seat.old).records) (λ r. buffer.new ≡ take (8 * index) buffer.old
-        ++ (take count (drop (8 * index) r.entry.value) ++ drop (8 * index + count) buffer.old)) }
-{
-    let word = read_word(table, seat, slot, name, index);
-    put(buffer, 8 * index, count, word);
-}
-
-/// Copies the value of the entry that the record of this name is on to the front of a buffer. The
-/// answer is how many bytes it has. The rest of the buffer stays as it is.
-///
-/// The client has a record of that name, on this slot, of an entry whose value fits its slot and is of
-/// bytes, and the buffer has room for the value. What the client has stays. It refuses nothing and
-/// takes no memory. It costs one load for the length, and one for each eight bytes, the last ones too.
-pub fn read_bytes<T: Tag, A: Allocator>(
-    table: &RuleTable<T, A>,
-    seat: &mut RuleSeat<T>,
-    slot: u32,
-    name: u64,
-    buffer: &mut [u8],
-) -> usize
-    requires seat { IsSeatAt table.now seat.old }
-    requires slot { IsSlotOf table.now slot }
-    requires holds { IsSomeAnd (record_in name (view seat.old).records)
-        (λ r. (r.slot ≡ slot) × IsReadable (room_of table.now) r) }
-    requires space { IfSome (record_in name (view seat.old).records) (λ r. length r.entry.value ≤ length buffer.old) }
-    ensures seat { IsSameSeat seat.old seat.new }
-    ensures view { view seat.new ≡ view seat.old }
-    ensures length { IfSome (record_in name (view seat.old).records) (λ r. result ≡ length r.entry.value) }
-    ensures bytes { IfSome (record_in name (view seat.old).records)
-        (λ r. buffer.new ≡ r.entry.value ++ drop (length r.entry.value) buffer.old) }
-{
-    let length = read_len(table, seat, slot, name);
-    let whole = length / 8;
-    for index in 0..whole {
-        copy_word(table, seat, slot, name, index, 8, buffer);
-    }
-    let rest = length % 8;
-    if rest > 0 {
-        copy_word(table, seat, slot, name, whole, rest, buffer);
-    }
-    length
 }

@@ -8,38 +8,108 @@ ghost use Rattle.hcc_rule.specs.Seats.{IsSameSeat, view};
 ghost use Rattle.hcc_rule.specs.ToldOwners.{with_met};
 ghost use Rattle.hcc_rule.specs.Views.{load_of, record_in};
 ghost use Rattle.hcc_rule.specs.Words.{key_of};
+ghost use Rattle.hcc_table.specs.Efforts.{Took};
 ghost use Rattle.hcc_table.specs.Searched.{Sought, IsFound, IsMissed, Buried};
 
 use crate::acquire::reach;
+use crate::efforts::Effort;
+use crate::pins::Pin;
 use crate::walk::Walk;
 use crate::words::{counts, has_entry, is_shown};
 use hcc_rule::layout::{KEY0, KEY1};
 use hcc_rule::{Key, RuleSeat, RuleTable, Tag};
 use std::alloc::Allocator;
 
-/// Whether the entry that the record of this name is on has this key. Where the first halves differ
-/// the second isn't read.
-pub(crate) fn has_key<T: Tag, A: Allocator>(
+/// Finds a visible entry of the key, and acquires a reference on it under this name, which the client
+/// doesn't hold; it has room for one more. With `marks` the entry's hit bit is set. Each probe of the
+/// key in turn is looked at; the search ends where no trail goes on, or after all probes.
+///
+/// Where it finds one, the client has one record more, behind its others: of an entry of this key,
+/// with a value that fits it, which the client hadn't seen dead. Where it finds none, it holds what it
+/// held, and has seen dead each entry of the key that it holds. In both the rest of what it has stays,
+/// but for the slot that it looked at last, entries that it saw dead, and keys that it met.
+///
+/// It takes no memory. Each probe costs a load and one of the displacement word, and where the slot is
+/// visible an add, a load of each half of the key that is compared, and a take. A hit at the first
+/// probe is one load, one add and two loads, with the mark's or where that is asked for. A reference
+/// that doesn't count costs one exchange more.
+pub fn find<T: Tag, A: Allocator>(
+    table: &RuleTable<T, A>,
+    seat: &mut RuleSeat<T>,
+    key: Key,
+    name: u64,
+    marks: bool,
+    effort: &mut Effort,
+) -> Option<Pin>
+    requires seat { IsSeatAt table.now seat.old }
+    requires fresh { record_in name (view seat.old).records ≡ None }
+    requires load { load_of (view seat.old).records + 1 ≤ REFERENCES_PER_CLIENT }
+    ensures seat { IsSameSeat seat.old seat.new }
+    ensures effort { Took 1 (slots_of table.now) (slots_of table.now) effort.old effort.new }
+    ensures pin { IfSome result (λ pin. (pin.slot < slots_of table.now) × (pin.name ≡ name)) }
+    ensures found { IfSome result (λ pin. (r : Record)
+        × IsFound T.fits (room_of table.now) pin.slot name key (view seat.old) (view seat.new) r
+        × (r.counting ≡ pin.counting)) }
+    ensures missed { IfNone result (IsMissed key (view seat.old) (view seat.new)) }
+{
+    let slots = table.geometry().slots;
+    let mut walk = Walk::begin(key, slots);
+    for _ in 0..slots {
+        let slot = walk.slot();
+        effort.probe();
+        if let Some(counting) = hold(table, seat, slot, key, name, effort) {
+            mark_if(table, seat, slot, name, marks);
+            return Some(Pin {
+                slot,
+                name,
+                counting,
+            });
+        }
+        if table.count(seat, slot) == 0 {
+            return None;
+        }
+        walk = walk.next();
+    }
+    None
+}
+
+/// A reference on the slot's entry, where the slot shows one of this key, and whether it counts.
+pub(crate) fn hold<T: Tag, A: Allocator>(
     table: &RuleTable<T, A>,
     seat: &mut RuleSeat<T>,
     slot: u32,
     key: Key,
     name: u64,
-) -> bool
+    effort: &mut Effort,
+) -> Option<bool>
     requires seat { IsSeatAt table.now seat.old }
     requires slot { IsSlotOf table.now slot }
-    requires holds { HasOn slot name (view seat.old) }
+    requires fresh { record_in name (view seat.old).records ≡ None }
+    requires load { load_of (view seat.old).records + 1 ≤ REFERENCES_PER_CLIENT }
     ensures seat { IsSameSeat seat.old seat.new }
-    ensures view { Sought (view seat.old) (view seat.new) }
-    ensures equal { result ≡ true → IfSome (record_in name (view seat.old).records) (λ r. key_of r.entry ≡ key) }
-    ensures other { result ≡ false → IfSome (record_in name (view seat.old).records) (λ r. ¬ (key_of r.entry ≡ key)) }
-    ensures met { result ≡ true → (view seat.new).met ≡ with_met (record_in name (view seat.old).records) (view seat.old).met }
+    ensures effort { Took 0 0 1 effort.old effort.new }
+    ensures found { IfSome result (λ counting. (r : Record)
+        × IsFound T.fits (room_of table.now) slot name key (view seat.old) (view seat.new) r
+        × (r.counting ≡ counting)) }
+    ensures missed { IfNone result (Sought (view seat.old) (view seat.new)
+        × Buried key (λ s. s ≡ slot) (view seat.old) (view seat.new)) }
 {
-    table.read(seat, slot, KEY0, name) == key.w0 && table.read(seat, slot, KEY1, name) == key.w1
+    if !is_shown(table.look(seat, slot)) {
+        return None;
+    }
+    let found = reach(table, seat, slot, 1, name, effort);
+    if !has_entry(found) {
+        return None;
+    }
+    if matches(table, seat, slot, key, name, found) {
+        return Some(counts(found));
+    }
+    table.give(seat, slot, 1, name);
+    None
 }
 
 /// Whether the word that was found is that of a visible entry, and the record's entry has this key.
-fn matches<T: Tag, A: Allocator>(
+pub(crate) fn matches<T: Tag, A: Allocator>(
     table: &RuleTable<T, A>,
     seat: &mut RuleSeat<T>,
     slot: u32,
@@ -53,12 +123,38 @@ fn matches<T: Tag, A: Allocator>(
     ensures seat { IsSameSeat seat.old seat.new }
     ensures view { Sought (view seat.old) (view seat.new) }
     ensures shown { result ≡ true → is_visible found ≡ true }
-    ensures equal { result ≡ true → IfSome (record_in name (view seat.old).records) (λ r. key_of r.entry ≡ key) }
+    ensures equal { result ≡ true
+        → IfSome (record_in name (view seat.old).records) (λ r. key_of r.entry ≡ key) }
     ensures other { result ≡ false → is_visible found ≡ true
         → IfSome (record_in name (view seat.old).records) (λ r. ¬ (key_of r.entry ≡ key)) }
-    ensures met { result ≡ true → (view seat.new).met ≡ with_met (record_in name (view seat.old).records) (view seat.old).met }
+    ensures met { result ≡ true → (view seat.new).met
+        ≡ with_met (record_in name (view seat.old).records) (view seat.old).met }
 {
     is_shown(found) && has_key(table, seat, slot, key, name)
+}
+
+/// Whether the entry that the record of this name is on has this key. Where the first halves differ
+/// the second isn't read.
+fn has_key<T: Tag, A: Allocator>(
+    table: &RuleTable<T, A>,
+    seat: &mut RuleSeat<T>,
+    slot: u32,
+    key: Key,
+    name: u64,
+) -> bool
+    requires seat { IsSeatAt table.now seat.old }
+    requires slot { IsSlotOf table.now slot }
+    requires holds { HasOn slot name (view seat.old) }
+    ensures seat { IsSameSeat seat.old seat.new }
+    ensures view { Sought (view seat.old) (view seat.new) }
+    ensures equal { result ≡ true
+        → IfSome (record_in name (view seat.old).records) (λ r. key_of r.entry ≡ key) }
+    ensures other { result ≡ false
+        → IfSome (record_in name (view seat.old).records) (λ r. ¬ (key_of r.entry ≡ key)) }
+    ensures met { result ≡ true → (view seat.new).met
+        ≡ with_met (record_in name (view seat.old).records) (view seat.old).met }
+{
+    table.read(seat, slot, KEY0, name) == key.w0 && table.read(seat, slot, KEY1, name) == key.w1
 }
 
 /// Marks the entry that the record of this name is on, where that is asked for.
@@ -78,92 +174,4 @@ fn mark_if<T: Tag, A: Allocator>(
     if marks {
         table.mark(seat, slot, name);
     }
-}
-
-/// A reference on the slot's entry, where the slot shows one of this key, and whether it counts.
-pub(crate) fn hold<T: Tag, A: Allocator>(
-    table: &RuleTable<T, A>,
-    seat: &mut RuleSeat<T>,
-    slot: u32,
-    key: Key,
-    name: u64,
-) -> Option<bool>
-    requires seat { IsSeatAt table.now seat.old }
-    requires slot { IsSlotOf table.now slot }
-    requires fresh { record_in name (view seat.old).records ≡ None }
-    requires load { load_of (view seat.old).records + 1 ≤ REFERENCES_PER_CLIENT }
-    ensures seat { IsSameSeat seat.old seat.new }
-    ensures found { IfSome result (λ counting. (r : Record)
-        × IsFound T.fits (room_of table.now) slot name key (view seat.old) (view seat.new) r
-        × (r.counting ≡ counting)) }
-    ensures missed { IfNone result (
-        Sought (view seat.old) (view seat.new) × Buried key (λ s. s ≡ slot) (view seat.old) (view seat.new)) }
-{
-    if !is_shown(table.look(seat, slot)) {
-        return None;
-    }
-    let found = reach(table, seat, slot, 1, name);
-    if !has_entry(found) {
-        return None;
-    }
-    if matches(table, seat, slot, key, name, found) {
-        return Some(counts(found));
-    }
-    table.give(seat, slot, 1, name);
-    None
-}
-
-/// An entry that a search found, with a reference on it.
-#[derive(Clone, Copy, Debug, PartialEq, Eq)]
-pub struct Found {
-    /// Where the entry is.
-    pub slot: u32,
-    /// Whether the reference counts: its release may be a use.
-    pub counting: bool,
-}
-
-/// Finds a visible entry of the key, and acquires a reference on it under this name, which the client
-/// doesn't hold; it has room for one more. With `marks` the entry's hit bit is set. At each place of the key in turn the slot is
-/// looked at; the search ends where no trail goes on, or after all places.
-///
-/// Where it finds one, the client has one record more, behind its others: of an entry of this key,
-/// with a value that fits it, which the client hadn't seen dead. Where it finds none, it holds what it
-/// held, and has seen dead each entry of the key that it holds. In both the rest of what it has stays,
-/// but for the slot that it looked at last, entries that it saw dead, and keys that it met.
-///
-/// It takes no memory. Each place costs a load and one of the displacement word, and where the slot is
-/// visible an add, a load of each half of the key that is compared, and a take. A hit at the first
-/// place is one load, one add and two loads, with the mark's or where that is asked for. A reference
-/// that doesn't count costs one exchange more.
-pub fn find<T: Tag, A: Allocator>(
-    table: &RuleTable<T, A>,
-    seat: &mut RuleSeat<T>,
-    key: Key,
-    name: u64,
-    marks: bool,
-) -> Option<Found>
-    requires seat { IsSeatAt table.now seat.old }
-    requires fresh { record_in name (view seat.old).records ≡ None }
-    requires load { load_of (view seat.old).records + 1 ≤ REFERENCES_PER_CLIENT }
-    ensures seat { IsSameSeat seat.old seat.new }
-    ensures inside { IfSome result (λ found. found.slot < (slots_of table.now)) }
-    ensures found { IfSome result (λ found. (r : Record)
-        × IsFound T.fits (room_of table.now) found.slot name key (view seat.old) (view seat.new) r
-        × (r.counting ≡ found.counting)) }
-    ensures missed { IfNone result (IsMissed key (view seat.old) (view seat.new)) }
-{
-    let slots = table.geometry().slots;
-    let mut walk = Walk::begin(key, slots);
-    for _ in 0..slots {
-        let slot = walk.slot();
-        if let Some(counting) = hold(table, seat, slot, key, name) {
-            mark_if(table, seat, slot, name, marks);
-            return Some(Found { slot, counting });
-        }
-        if table.count(seat, slot) == 0 {
-            return None;
-        }
-        walk = walk.next();
-    }
-    None
 }

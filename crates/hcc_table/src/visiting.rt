@@ -2,47 +2,63 @@
 ghost use Rattle.std.specs.Prelude.{◌≡◌, ◌+◌, ◌^◌, ◌<◌, ◌≤◌, [], true};
 ghost use Rattle.hcc_word.specs.Changes.{IsClockable, clocked_word};
 ghost use Rattle.hcc_word.specs.Word.{is_shareable, refs_of};
-ghost use Rattle.hcc_core.specs.World.{owns_nothing};
-ghost use Rattle.hcc_rule.specs.Callers.{room_of, IsSeatAt, IsSlotOf};
+ghost use Rattle.hcc_rule.specs.Callers.{slots_of, room_of, IsSeatAt, IsSlotOf, MayFree};
 ghost use Rattle.hcc_rule.specs.Seats.{IsSameSeat, view};
-ghost use Rattle.hcc_table.specs.Visited.{Visited, CountedDown, Swept};
+ghost use Rattle.hcc_table.specs.Visited.{LostBy, Visited, CountedDown, Swept};
 
+use crate::efforts::Effort;
 use crate::freeing::try_free;
-use crate::visits::Visit;
 use crate::words::has_entry;
 use hcc_rule::{RuleSeat, RuleTable, Tag};
-use hcc_word::{clocked, refs};
+use hcc_word::{clocked, hit, refs};
 use std::alloc::Allocator;
+
+/// What a visit of the clock did to a slot.
+#[derive(Clone, Copy, Debug, PartialEq, Eq)]
+pub enum ClockVisit {
+    /// It has no entry.
+    Passed,
+    /// It has an entry with references, and stays as it is.
+    Pinned,
+    /// Its countdown is one less, and at most 2.
+    Counted,
+    /// Another step came between the load and the exchange.
+    Lost,
+    /// Its entry was freed: its charge and its place are the client's to settle. `hit` says whether a
+    /// look-up had marked it.
+    Freed { charge: u64, hit: bool },
+}
 
 /// Visits a slot as the clock does: a visible entry with no references and a countdown above 0 is
 /// counted down by one exchange; one with countdown 0, or a hidden one, is taken by one exchange and
 /// freed.
 ///
-/// The client owns no slot, has an empty trail, and has freed at most `2^49 - 2^32` that isn't settled.
-/// It takes no memory. It costs a load, an exchange where the entry has no references, and where it frees what
-/// `free_taken` costs.
+/// The client may free an entry. It takes no memory. It costs a load, an exchange where the entry has
+/// no references, and where it frees what `free_taken` costs.
 pub fn visit<T: Tag, A: Allocator>(
     table: &RuleTable<T, A>,
     seat: &mut RuleSeat<T>,
     slot: u32,
-) -> Visit
+    effort: &mut Effort,
+) -> ClockVisit
     requires seat { IsSeatAt table.now seat.old }
     requires slot { IsSlotOf table.now slot }
-    requires idle { (owns_nothing (view seat.old).work.owned ≡ true) × ((view seat.old).work.trail ≡ []) }
-    requires space { (view seat.old).work.freed + 2 ^ 32 ≤ 2 ^ 49 }
+    requires may { MayFree (view seat.old) }
     ensures seat { IsSameSeat seat.old seat.new }
-    ensures view { Visited T.fits (room_of table.now) slot result (view seat.old) (view seat.new) }
+    ensures effort { LostBy result effort.old effort.new }
+    ensures view { Visited T.fits (slots_of table.now) (room_of table.now) slot result
+        (view seat.old) (view seat.new) }
 {
     let word = table.look(seat, slot);
     if !has_entry(word) {
-        return Visit::Passed;
+        return ClockVisit::Passed;
     }
     if refs(word) != 0 {
-        return Visit::Pinned;
+        return ClockVisit::Pinned;
     }
     match clocked(word) {
-        Some(next) => count_down(table, seat, slot, word, next),
-        None => sweep(table, seat, slot, word),
+        Some(next) => count_down(table, seat, slot, word, next, effort),
+        None => sweep(table, seat, slot, word, effort),
     }
 }
 
@@ -53,19 +69,21 @@ fn count_down<T: Tag, A: Allocator>(
     slot: u32,
     word: u64,
     next: u64,
-) -> Visit
+    effort: &mut Effort,
+) -> ClockVisit
     requires seat { IsSeatAt table.now seat.old }
     requires slot { IsSlotOf table.now slot }
     requires clockable { IsClockable word }
     requires clocked { next ≡ clocked_word word }
     ensures seat { IsSameSeat seat.old seat.new }
+    ensures effort { LostBy result effort.old effort.new }
     ensures view { CountedDown result (view seat.old) (view seat.new) }
 {
     if table.clock(seat, slot, word, next) == word {
-        Visit::Counted
-    } else {
-        Visit::Lost
+        return ClockVisit::Counted;
     }
+    effort.lose();
+    ClockVisit::Lost
 }
 
 /// Frees an entry that nobody holds, if its word is still the one that was found.
@@ -74,18 +92,23 @@ fn sweep<T: Tag, A: Allocator>(
     seat: &mut RuleSeat<T>,
     slot: u32,
     word: u64,
-) -> Visit
+    effort: &mut Effort,
+) -> ClockVisit
     requires seat { IsSeatAt table.now seat.old }
     requires slot { IsSlotOf table.now slot }
     requires entry { is_shareable word ≡ true }
     requires unheld { refs_of word ≡ 0 }
-    requires idle { (owns_nothing (view seat.old).work.owned ≡ true) × ((view seat.old).work.trail ≡ []) }
-    requires space { (view seat.old).work.freed + 2 ^ 32 ≤ 2 ^ 49 }
+    requires may { MayFree (view seat.old) }
     ensures seat { IsSameSeat seat.old seat.new }
-    ensures view { Swept T.fits (room_of table.now) word result (view seat.old) (view seat.new) }
+    ensures effort { LostBy result effort.old effort.new }
+    ensures view { Swept T.fits (slots_of table.now) (room_of table.now) slot word result
+        (view seat.old) (view seat.new) }
 {
-    match try_free(table, seat, slot, word, None) {
-        Some(charge) => Visit::Freed { charge },
-        None => Visit::Lost,
+    match try_free(table, seat, slot, word, None, effort) {
+        Some(charge) => ClockVisit::Freed {
+            charge,
+            hit: hit(word),
+        },
+        None => ClockVisit::Lost,
     }
 }

@@ -10,7 +10,8 @@ ghost use Rattle.hcc_table.specs.Handles.{HoldsOne};
 
 use super::AnyBytes;
 use crate::{
-    Erased, Found, Insertion, Visit, displacement, find, hide, insert, release, visit, word,
+    ClockVisit, Effort, Erased, IfLast, Insertion, Pin, Use, displacement, find, hide, insert,
+    release, visit, word,
 };
 use hcc_rule::{Draft, Key, RuleSeat, RuleTable};
 use std::alloc::Global;
@@ -32,6 +33,8 @@ pub(super) struct Caller<'a> {
     pub(super) seat: RuleSeat<AnyBytes>,
     /// How many entries the client showed.
     pub(super) shown: u64,
+    /// What its calls took.
+    pub(super) effort: Effort,
     ghost bench: { IsBench (plan_of table.now) },
     ghost seated: { IsSeatAt table.now seat },
     ghost numbered: { (view seat).client ≡ 0 },
@@ -116,7 +119,15 @@ impl Caller<'_> {
         assert!(rt; self.shown < 100, "too many entries");
         let draft = self.draft(key, charge, countdown, None);
         self.reserve(rt, charge);
-        let insertion = insert(self.table, &mut self.seat, draft, value, 0, NAME);
+        let insertion = insert(
+            self.table,
+            &mut self.seat,
+            draft,
+            value,
+            0,
+            NAME,
+            &mut self.effort,
+        );
         if let Insertion::Placed { .. } = insertion {
             self.shown += 1;
             return insertion;
@@ -141,31 +152,37 @@ impl Caller<'_> {
     }
 
     /// Finds an entry, and holds it.
-    pub(super) fn find(&mut self, key: Key, marks: bool) -> Option<Found>
+    pub(super) fn find(&mut self, key: Key, marks: bool) -> Option<Pin>
         requires ready { IsReady (view self.old.seat) }
         ensures same { (self.new.table ≡ self.old.table) × (self.new.shown ≡ self.old.shown) }
-        ensures inside { IfSome result (λ found. found.slot < 8) }
-        ensures holds { IfSome result (λ found. HoldsOne found.slot NAME found.counting (view self.new.seat)) }
+        ensures pin { IfSome result (λ found. (found.slot < 8) × (found.name ≡ NAME)) }
+        ensures holds { IfSome result (λ found. HoldsOne found (view self.new.seat)) }
         ensures ready { IfNone result (IsReady (view self.new.seat)) }
     {
-        find(self.table, &mut self.seat, key, NAME, marks)
+        find(
+            self.table,
+            &mut self.seat,
+            key,
+            NAME,
+            marks,
+            &mut self.effort,
+        )
     }
 
     /// Gives a handle back.
-    pub(super) fn give(&mut self, found: Found, useful: bool, erase: bool) -> Option<u64>
-        requires slot { found.slot < 8 }
-        requires holds { HoldsOne found.slot NAME found.counting (view self.old.seat) }
+    pub(super) fn release(&mut self, found: Pin, usage: Use, last: IfLast) -> Option<u64>
+        requires pin { (found.slot < 8) × (found.name ≡ NAME) }
+        requires holds { HoldsOne found (view self.old.seat) }
         ensures same { (self.new.table ≡ self.old.table) × (self.new.shown ≡ self.old.shown) }
         ensures ready { IsReady (view self.new.seat) }
     {
         let freed = release(
             self.table,
             &mut self.seat,
-            found.slot,
-            NAME,
-            found.counting,
-            useful,
-            erase,
+            found,
+            usage,
+            last,
+            &mut self.effort,
         );
         if let Some(charge) = freed {
             self.settle(1, charge);
@@ -179,31 +196,31 @@ impl Caller<'_> {
         ensures same { (self.new.table ≡ self.old.table) × (self.new.shown ≡ self.old.shown) }
         ensures ready { IsReady (view self.new.seat) }
     {
-        let erased = hide(self.table, &mut self.seat, key, NAME);
+        let erased = hide(self.table, &mut self.seat, key, NAME, &mut self.effort);
         self.settle(erased.slots as u64, erased.charge);
         erased
     }
 
     /// A visit of the clock.
-    pub(super) fn visit(&mut self, slot: u32) -> Visit
+    pub(super) fn visit(&mut self, slot: u32) -> ClockVisit
         requires ready { IsReady (view self.old.seat) }
         requires slot { slot < 8 }
         ensures same { (self.new.table ≡ self.old.table) × (self.new.shown ≡ self.old.shown) }
         ensures ready { IsReady (view self.new.seat) }
     {
-        let done = visit(self.table, &mut self.seat, slot);
-        if let Visit::Freed { charge } = done {
+        let done = visit(self.table, &mut self.seat, slot, &mut self.effort);
+        if let ClockVisit::Freed { charge, .. } = done {
             self.settle(1, charge);
         }
         done
     }
 
     /// The word of the slot of a handle.
-    pub(super) fn word_held(&mut self, found: Found) -> u64
-        requires slot { found.slot < 8 }
-        requires holds { HoldsOne found.slot NAME found.counting (view self.old.seat) }
+    pub(super) fn word_held(&mut self, found: Pin) -> u64
+        requires pin { (found.slot < 8) × (found.name ≡ NAME) }
+        requires holds { HoldsOne found (view self.old.seat) }
         ensures same { (self.new.table ≡ self.old.table) × (self.new.shown ≡ self.old.shown) }
-        ensures holds { HoldsOne found.slot NAME found.counting (view self.new.seat) }
+        ensures holds { HoldsOne found (view self.new.seat) }
     {
         word(self.table, &mut self.seat, found.slot)
     }

@@ -6,8 +6,8 @@ ghost use Rattle.hcc_table.specs.Handles.{HoldsOne};
 
 use super::caller::{Caller, NAME};
 use crate::{
-    Found, Insertion, again, find, free_taken, insert, read_bytes, read_key, read_len, release,
-    word,
+    IfLast, Insertion, Pin, Use, again, find, free_taken, insert, read_bytes, read_key, read_len,
+    release, word,
 };
 use hcc_rule::Key;
 use hcc_word::layout::INVISIBLE;
@@ -29,24 +29,33 @@ impl Caller<'_> {
         charge: u32,
         countdown: u32,
         value: &[u8],
-    ) -> Found
+    ) -> Pin
         requires ready { IsReady (view self.old.seat) }
         requires countdown { (1 ≤ countdown) × (countdown ≤ 3) }
         requires short { length value.now ≤ 16 }
         ensures same { self.new.table ≡ self.old.table }
-        ensures slot { result.slot < 8 }
-        ensures holds { HoldsOne result.slot NAME result.counting (view self.new.seat) }
+        ensures pin { (result.slot < 8) × (result.name ≡ NAME) }
+        ensures holds { HoldsOne result (view self.new.seat) }
     {
         assert!(rt; self.shown < 100, "too many entries");
         let draft = self.draft(key, charge, countdown, Some(NAME));
         self.reserve(rt, charge);
-        let insertion = insert(self.table, &mut self.seat, draft, value, 0, NAME);
+        let insertion = insert(
+            self.table,
+            &mut self.seat,
+            draft,
+            value,
+            0,
+            NAME,
+            &mut self.effort,
+        );
         let Insertion::Placed { slot } = insertion else {
             panic!(rt; "the entry isn't placed")
         };
         self.shown += 1;
-        Found {
+        Pin {
             slot,
+            name: NAME,
             counting: true,
         }
     }
@@ -60,57 +69,65 @@ impl Caller<'_> {
         match self.find(key, false) {
             None => true,
             Some(found) => {
-                self.give(found, false, false);
+                self.release(found, Use::NotUseful, IfLast::Keep);
                 false
             }
         }
     }
 
     /// Whether no entry of the key is found while the handle is held.
-    pub(super) fn misses_held(&mut self, held: Found, key: Key) -> bool
-        requires holds { HoldsOne held.slot NAME held.counting (view self.old.seat) }
+    pub(super) fn misses_held(&mut self, held: Pin, key: Key) -> bool
+        requires pin { held.name ≡ NAME }
+        requires holds { HoldsOne held (view self.old.seat) }
         ensures same { (self.new.table ≡ self.old.table) × (self.new.shown ≡ self.old.shown) }
-        ensures holds { result ≡ true → HoldsOne held.slot NAME held.counting (view self.new.seat) }
+        ensures holds { result ≡ true → HoldsOne held (view self.new.seat) }
     {
-        find(self.table, &mut self.seat, key, OTHER, false).is_none()
+        find(
+            self.table,
+            &mut self.seat,
+            key,
+            OTHER,
+            false,
+            &mut self.effort,
+        )
+        .is_none()
     }
 
     /// The key, the value's length and the buffer that it was read into.
-    pub(super) fn read(&mut self, found: Found) -> (Key, usize, usize, [u8; 20])
-        requires slot { found.slot < 8 }
-        requires holds { HoldsOne found.slot NAME found.counting (view self.old.seat) }
+    pub(super) fn read(&mut self, found: Pin) -> (Key, usize, usize, [u8; 20])
+        requires pin { (found.slot < 8) × (found.name ≡ NAME) }
+        requires holds { HoldsOne found (view self.old.seat) }
         ensures same { (self.new.table ≡ self.old.table) × (self.new.shown ≡ self.old.shown) }
-        ensures holds { HoldsOne found.slot NAME found.counting (view self.new.seat) }
+        ensures holds { HoldsOne found (view self.new.seat) }
     {
-        let key = read_key(self.table, &mut self.seat, found.slot, NAME);
-        let length = read_len(self.table, &mut self.seat, found.slot, NAME);
+        let key = read_key(self.table, &mut self.seat, found);
+        let length = read_len(self.table, &mut self.seat, found);
         let mut buffer = [UNREAD; 20];
-        let count = read_bytes(self.table, &mut self.seat, found.slot, NAME, &mut buffer);
+        let count = read_bytes(self.table, &mut self.seat, found, &mut buffer);
         (key, length, count, buffer)
     }
 
     /// Holds the entry of the handle once more, and gives both references back. The words are those
     /// with both and after each was given back.
-    pub(super) fn hold_twice(&mut self, rt: &impl Abort, found: Found) -> [u64; 3]
-        requires slot { found.slot < 8 }
-        requires holds { HoldsOne found.slot NAME found.counting (view self.old.seat) }
+    pub(super) fn hold_twice(&mut self, rt: &impl Abort, found: Pin) -> [u64; 3]
+        requires pin { (found.slot < 8) × (found.name ≡ NAME) }
+        requires holds { HoldsOne found (view self.old.seat) }
         ensures same { (self.new.table ≡ self.old.table) × (self.new.shown ≡ self.old.shown) }
         ensures ready { IsReady (view self.new.seat) }
     {
-        let counting = again(self.table, &mut self.seat, found.slot, NAME, OTHER);
+        let other = again(self.table, &mut self.seat, found, OTHER, &mut self.effort);
         let both = word(self.table, &mut self.seat, found.slot);
         let freed = release(
             self.table,
             &mut self.seat,
-            found.slot,
-            OTHER,
-            counting,
-            true,
-            false,
+            other,
+            Use::Useful,
+            IfLast::Keep,
+            &mut self.effort,
         );
         assert!(rt; freed == None, "the entry is held");
         let one = self.word_held(found);
-        let freed = self.give(found, true, false);
+        let freed = self.release(found, Use::Useful, IfLast::Keep);
         assert!(rt; freed == None, "the entry is visible");
         [both, one, self.word(found.slot)]
     }

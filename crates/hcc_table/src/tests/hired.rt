@@ -6,6 +6,7 @@ ghost use Rattle.hcc_rule.specs.Seats.{view};
 
 use super::AnyBytes;
 use super::caller::{Bench, Caller};
+use crate::Effort;
 use hcc_rule::{Geometry, RuleSeat, RuleTable};
 use std::alloc::{AllocError, Global};
 use std::process::Abort;
@@ -41,5 +42,6 @@ pub(super) fn hired<'a>(
         table,
         seat,
         shown: 0,
+        effort: Effort::NONE,
     }
 }

@@ -1,13 +1,14 @@
 //! Hits to be measured: look-ups of one key, again and again, by one thread and by four at once. Four hit
 //! the same key, which is the worst case for threads, or each its own. `tests/measure-hits` takes the time.
-ghost use Rattle.std.specs.Prelude.{◌≡◌, ◌+◌, ◌<◌};
+ghost use Rattle.std.specs.Prelude.{◌≡◌, ◌+◌, ◌*◌, ◌<◌, ◌≤◌, length};
 ghost use Rattle.std.specs.Thread.{IsSync};
 ghost use Rattle.hcc_rule.specs.Callers.{plan_of};
 ghost use Rattle.hcc_rule.specs.Hands.{IsReadySeatAt};
-ghost use Rattle.hcc_table.specs.Mates.{IsPlain};
+ghost use Rattle.hcc_table.specs.Mates.{IsLax, IsPlain};
 
 use super::AnyBytes;
 use super::mate::{Mate, Shard, seated, shard};
+use crate::Effort;
 use hcc_rule::{Key, RuleSeat};
 use std::alloc::{AllocError, Global};
 use std::process::Abort;
@@ -40,6 +41,7 @@ fn places(rt: &impl Abort, table: &Shard, seat: RuleSeat<AnyBytes>) -> RuleSeat<
         seat,
         client: 0,
         shown: 0,
+        effort: Effort::NONE,
     };
     let slots = [
         me.insert(rt, key(0, true), &VALUE),
@@ -69,6 +71,7 @@ fn hits(
         seat,
         client,
         shown,
+        effort: Effort::NONE,
     };
     for _ in 0..HITS {
         let hit = me.hit(rt, key(client, apart));
@@ -87,6 +90,7 @@ fn looks(rt: &impl Abort, table: &Shard, seat: RuleSeat<AnyBytes>)
         seat,
         client: 0,
         shown: 4,
+        effort: Effort::NONE,
     };
     let word = 0xe000_0000_8000_0002;
     let words = [me.word(0), me.word(4), me.word(8), me.word(12)];
@@ -200,4 +204,64 @@ fn four_threads_hit_a_key(rt: HostRuntime) -> Result<(), AllocError> {
 #[test]
 fn four_threads_hit_four_keys(rt: HostRuntime) -> Result<(), AllocError> {
     four_threads(&rt, rt.alloc(), true)
+}
+
+/// A client alone in a shard with so many payload words for each slot inserts an entry that fills its
+/// slot, and hits it.
+fn fills_and_hits(rt: &impl Abort, alloc: Global, room: u32) -> Result<(), AllocError>
+    requires room { (1 ≤ room) × (room ≤ 512) }
+{
+    let (table, mut seats) = shard(alloc, 1, room)?;
+    let value = Vec::from_elem(alloc, 7u8, 8 * room as usize)?;
+    let mut buffer = Vec::from_elem(alloc, 0u8, 8 * room as usize)?;
+    let mut me = Mate {
+        table: &table,
+        seat: seated(rt, &table, &mut seats),
+        client: 0,
+        shown: 0,
+        effort: Effort::NONE,
+    };
+    assert_eq!(rt; me.insert(rt, key(0, true), &value), 0);
+    for _ in 0..HITS {
+        let (_, length) = me.read(rt, key(0, true), &mut buffer);
+        assert!(rt; length == 8 * room as usize);
+    }
+    assert!(rt; buffer == value);
+    Ok(())
+}
+
+#[test]
+fn one_thread_hits_256_bytes(rt: HostRuntime) -> Result<(), AllocError> {
+    fills_and_hits(&rt, rt.alloc(), 32)
+}
+
+#[test]
+fn one_thread_hits_4096_bytes(rt: HostRuntime) -> Result<(), AllocError> {
+    fills_and_hits(&rt, rt.alloc(), 512)
+}
+
+/// A client misses a key whose first place has an entry of another one.
+fn misses(rt: &impl Abort, table: &Shard, seat: RuleSeat<AnyBytes>)
+    requires plain { IsPlain (plan_of table.now) }
+    requires ready { IsReadySeatAt table.now 0 4 seat }
+{
+    let mut me = Mate {
+        table,
+        seat,
+        client: 0,
+        shown: 4,
+        effort: Effort::NONE,
+    };
+    for _ in 0..HITS {
+        me.miss(rt, Key { w0: 2, w1: 0 });
+    }
+}
+
+#[test]
+fn one_thread_misses_a_key(rt: HostRuntime) -> Result<(), AllocError> {
+    let (table, mut seats) = shard(rt.alloc(), 1, 2)?;
+    let seat = seated(&rt, &table, &mut seats);
+    let seat = places(&rt, &table, seat);
+    misses(&rt, &table, seat);
+    Ok(())
 }

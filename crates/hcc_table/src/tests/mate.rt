@@ -7,10 +7,10 @@ ghost use Rattle.hcc_core.specs.Opening.{new_client};
 ghost use Rattle.hcc_rule.specs.Callers.{plan_of, IsSeatAt, AreSeatsAt};
 ghost use Rattle.hcc_rule.specs.Hands.{Carries, IsReady, IsReadySeatAt};
 ghost use Rattle.hcc_rule.specs.Seats.{view};
-ghost use Rattle.hcc_table.specs.Mates.{IsPlain};
+ghost use Rattle.hcc_table.specs.Mates.{IsLax, IsPlain};
 
 use super::AnyBytes;
-use crate::{Insertion, find, insert, read_bytes, release, word};
+use crate::{Effort, IfLast, Insertion, Use, find, insert, read_bytes, release, word};
 use hcc_rule::{Draft, Geometry, Key, RuleSeat, RuleTable};
 use std::alloc::{AllocError, Global};
 use std::process::Abort;
@@ -39,8 +39,9 @@ pub(super) fn shard(
     room: u32,
 ) -> Result<(Shard, Vec<RuleSeat<AnyBytes>, Global>), AllocError>
     requires clients { (1 ≤ clients) × (clients ≤ 1024) }
-    requires room { (1 ≤ room) × (room ≤ 2) }
-    ensures plain { IfOk result (λ made. IsPlain (plan_of made.0)) }
+    requires room { (1 ≤ room) × (room ≤ 512) }
+    ensures lax { IfOk result (λ made. IsLax (plan_of made.0)) }
+    ensures plain { room ≤ 2 → IfOk result (λ made. IsPlain (plan_of made.0)) }
     ensures room { IfOk result (λ made. (plan_of made.0).geometry.room ≡ room) }
     ensures count { IfOk result (λ made. length made.1.items ≡ clients) }
     ensures seats { IfOk result (λ made. AreSeatsAt made.0 0 made.1.items) }
@@ -75,7 +76,9 @@ pub(super) struct Mate<'a> {
     pub(super) client: u32,
     /// How many entries the client showed.
     pub(super) shown: u64,
-    ghost plain: { IsPlain (plan_of table.now) },
+    /// What its calls took.
+    pub(super) effort: Effort,
+    ghost lax: { IsLax (plan_of table.now) },
     ghost seated: { IsSeatAt table.now seat },
     ghost numbered: { (view seat).client ≡ client },
     ghost counted: { length (view seat).made ≡ shown },
@@ -120,7 +123,15 @@ impl Mate<'_> {
             countdown: 2,
             name: None,
         };
-        let insertion = insert(self.table, &mut self.seat, draft, value, self.client, NAME);
+        let insertion = insert(
+            self.table,
+            &mut self.seat,
+            draft,
+            value,
+            self.client,
+            NAME,
+            &mut self.effort,
+        );
         match insertion {
             Insertion::Placed { slot } => {
                 self.shown += 1;
@@ -130,30 +141,69 @@ impl Mate<'_> {
         }
     }
 
-    /// Finds the key's entry, reads its value, and gives the reference back without use.
-    pub(super) fn hit(&mut self, rt: &impl Abort, key: Key) -> Hit
+    /// Finds the key's entry, reads its value into a buffer, and gives the reference back without use.
+    /// It answers the slot and how long the value is.
+    pub(super) fn read(&mut self, rt: &impl Abort, key: Key, buffer: &mut [u8]) -> (u32, usize)
         requires ready { IsReady (view self.old.seat) }
-        ensures same { (self.new.table ≡ self.old.table) × (self.new.client ≡ self.old.client) × (self.new.shown ≡ self.old.shown) }
+        requires space { 8 * (plan_of self.old.table.now).geometry.room ≤ length buffer.old }
+        ensures same { (self.new.table ≡ self.old.table) × (self.new.client ≡ self.old.client)
+            × (self.new.shown ≡ self.old.shown) }
         ensures ready { IsReady (view self.new.seat) }
     {
-        let found = find(self.table, &mut self.seat, key, NAME, false);
+        let found = find(
+            self.table,
+            &mut self.seat,
+            key,
+            NAME,
+            false,
+            &mut self.effort,
+        );
         let found = found.expect(rt, "the key has no entry");
-        let mut bytes = [0; 16];
-        let length = read_bytes(self.table, &mut self.seat, found.slot, NAME, &mut bytes);
+        let length = read_bytes(self.table, &mut self.seat, found, buffer);
         let freed = release(
             self.table,
             &mut self.seat,
-            found.slot,
-            NAME,
-            found.counting,
-            false,
-            false,
+            found,
+            Use::NotUseful,
+            IfLast::Keep,
+            &mut self.effort,
         );
         assert!(rt; freed.is_none(), "the entry went");
+        (found.slot, length)
+    }
+
+    /// The same of a value of at most 16 bytes.
+    pub(super) fn hit(&mut self, rt: &impl Abort, key: Key) -> Hit
+        requires ready { IsReady (view self.old.seat) }
+        requires plain { IsPlain (plan_of self.old.table.now) }
+        ensures same { (self.new.table ≡ self.old.table) × (self.new.client ≡ self.old.client)
+            × (self.new.shown ≡ self.old.shown) }
+        ensures ready { IsReady (view self.new.seat) }
+    {
+        let mut bytes = [0; 16];
+        let (slot, length) = self.read(rt, key, &mut bytes);
         Hit {
-            slot: found.slot,
+            slot,
             length,
             bytes,
         }
+    }
+
+    /// Looks for a key that has no entry.
+    pub(super) fn miss(&mut self, rt: &impl Abort, key: Key)
+        requires ready { IsReady (view self.old.seat) }
+        ensures same { (self.new.table ≡ self.old.table) × (self.new.client ≡ self.old.client)
+            × (self.new.shown ≡ self.old.shown) }
+        ensures ready { IsReady (view self.new.seat) }
+    {
+        let found = find(
+            self.table,
+            &mut self.seat,
+            key,
+            NAME,
+            false,
+            &mut self.effort,
+        );
+        assert!(rt; found.is_none(), "the key has an entry");
     }
 }

@@ -1,7 +1,8 @@
 //! The words that stand after calls. A meta word is `acquires + releases·2^30 + hit·2^60 + state·2^61`.
+use super::caller::NAME;
 use super::held::UNREAD;
 use super::hired::{bench, hired};
-use crate::{Erased, Found, Insertion, Visit};
+use crate::{ClockVisit, Erased, IfLast, Insertion, Pin, Use};
 use hcc_rule::Key;
 use hcc_word::refs;
 use std::alloc::AllocError;
@@ -29,6 +30,12 @@ const HIDDEN: Erased = Erased {
     charge: 0,
 };
 
+/// What a visit tells that frees an entry of charge 200 which no look-up marked.
+const FREED: ClockVisit = ClockVisit::Freed {
+    charge: 200,
+    hit: false,
+};
+
 /// The words of an entry that nobody holds, by its countdown, and by that with the maker's handle.
 const COUNTDOWNS: [(u32, u64, u64); 3] = [
     (1, 0xe000_0000_4000_0001, 0xe000_0000_0000_0001),
@@ -54,7 +61,7 @@ fn a_new_word_tells_the_countdown(rt: HostRuntime) -> Result<(), AllocError> {
         let word = me.word_held(kept);
         assert_eq!(rt; word, held);
         assert_eq!(rt; refs(word), 1);
-        assert_eq!(rt; me.give(kept, true, false), None);
+        assert_eq!(rt; me.release(kept, Use::Useful, IfLast::Keep), None);
         assert_eq!(rt; me.word(1), alone);
         assert_eq!(rt; me.evict(&rt, 1), 200);
         assert_eq!(rt; me.totals(), [0, 0]);
@@ -66,23 +73,39 @@ fn a_new_word_tells_the_countdown(rt: HostRuntime) -> Result<(), AllocError> {
 #[test]
 fn a_find_is_a_use_where_its_give_is_useful(rt: HostRuntime) -> Result<(), AllocError> {
     let rows = [
-        (false, true, 0xe000_0000_8000_0003, 0xe000_0000_c000_0003),
-        (false, false, 0xe000_0000_8000_0003, 0xe000_0000_8000_0002),
-        (true, true, 0xf000_0000_8000_0003, 0xf000_0000_c000_0003),
+        (
+            false,
+            Use::Useful,
+            0xe000_0000_8000_0003,
+            0xe000_0000_c000_0003,
+        ),
+        (
+            false,
+            Use::NotUseful,
+            0xe000_0000_8000_0003,
+            0xe000_0000_8000_0002,
+        ),
+        (
+            true,
+            Use::Useful,
+            0xf000_0000_8000_0003,
+            0xf000_0000_c000_0003,
+        ),
     ];
     let (table, mut seats) = bench(rt.alloc())?;
     let mut me = hired(&rt, &table, &mut seats);
-    for (marks, useful, held, left) in rows {
+    for (marks, usage, held, left) in rows {
         let placed = me.insert(&rt, FIRST, 200, 2, &[]);
         assert_eq!(rt; placed, Insertion::Placed { slot: 1 });
         let found = me.find(FIRST, marks).expect(&rt, "the entry is not found");
-        let there = Found {
+        let there = Pin {
             slot: 1,
+            name: NAME,
             counting: true,
         };
         assert_eq!(rt; found, there);
         assert_eq!(rt; me.word_held(found), held);
-        assert_eq!(rt; me.give(found, useful, false), None);
+        assert_eq!(rt; me.release(found, usage, IfLast::Keep), None);
         assert_eq!(rt; me.word(1), left);
         assert_eq!(rt; me.evict(&rt, 1), 200);
     }
@@ -135,11 +158,11 @@ fn a_slot_counts_each_trail(rt: HostRuntime) -> Result<(), AllocError> {
 #[test]
 fn the_clock_counts_down_and_frees(rt: HostRuntime) -> Result<(), AllocError> {
     let visits = [
-        (Visit::Counted, 0xe000_0000_8000_0002),
-        (Visit::Counted, 0xe000_0000_4000_0001),
-        (Visit::Counted, 0xe000_0000_0000_0000),
-        (Visit::Freed { charge: 200 }, 0),
-        (Visit::Passed, 0),
+        (ClockVisit::Counted, 0xe000_0000_8000_0002),
+        (ClockVisit::Counted, 0xe000_0000_4000_0001),
+        (ClockVisit::Counted, 0xe000_0000_0000_0000),
+        (FREED, 0),
+        (ClockVisit::Passed, 0),
     ];
     let (table, mut seats) = bench(rt.alloc())?;
     let mut me = hired(&rt, &table, &mut seats);
@@ -169,7 +192,7 @@ fn a_hidden_entry_and_its_successor_are_both_read(rt: HostRuntime) -> Result<(),
     let found = (2, 0xe000_0000_4000_0003, 0xbb);
     assert_eq!(rt; me.read_three(&rt, old, new, FIRST), (0xaa, 0xbb, found));
     me.give_other(&rt, old, new);
-    assert_eq!(rt; me.give(old, true, false), Some(10));
+    assert_eq!(rt; me.release(old, Use::Useful, IfLast::Keep), Some(10));
     assert_eq!(rt; [me.word(1), me.word(2)], [0, 0xe000_0000_8000_0002]);
     assert_eq!(rt; [me.displacement(1), me.displacement(2)], [1, 0]);
     assert_eq!(rt; me.totals(), [10, 1]);
@@ -184,7 +207,7 @@ fn a_hidden_entry_goes_with_its_last_handle(rt: HostRuntime) -> Result<(), Alloc
     let kept = me.keep(&rt, FIRST, 200, 2, &[]);
     assert_eq!(rt; me.hide_held(&rt, kept, FIRST), HIDDEN);
     assert!(rt; me.misses_held(kept, FIRST));
-    assert_eq!(rt; me.give(kept, true, false), Some(200));
+    assert_eq!(rt; me.release(kept, Use::Useful, IfLast::Keep), Some(200));
     assert_eq!(rt; me.word(1), 0);
     assert_eq!(rt; me.totals(), [0, 0]);
     Ok(())
@@ -197,7 +220,7 @@ fn a_value_is_read_as_it_was_written(rt: HostRuntime) -> Result<(), AllocError> 
     let mut me = hired(&rt, &table, &mut seats);
     let empty = me.keep(&rt, FIRST, 10, 2, &[]);
     assert_eq!(rt; me.read(empty), (FIRST, 0, 0, [UNREAD; 20]));
-    assert_eq!(rt; me.give(empty, true, false), None);
+    assert_eq!(rt; me.release(empty, Use::Useful, IfLast::Keep), None);
     let whole = me.keep(
         &rt,
         SECOND,
@@ -209,7 +232,7 @@ fn a_value_is_read_as_it_was_written(rt: HostRuntime) -> Result<(), AllocError> 
         0, 1, 2, 3, 4, 5, 6, 7, 8, 9, 10, 11, 12, 13, 14, 15, UNREAD, UNREAD, UNREAD, UNREAD,
     ];
     assert_eq!(rt; me.read(whole), (SECOND, 16, 16, bytes));
-    assert_eq!(rt; me.give(whole, true, false), None);
+    assert_eq!(rt; me.release(whole, Use::Useful, IfLast::Keep), None);
     Ok(())
 }
 
@@ -238,7 +261,7 @@ fn a_held_entry_goes_where_its_last_handle_says(rt: HostRuntime) -> Result<(), A
     let kept = me.keep(&rt, FIRST, 200, 2, &[]);
     me.visit_held(&rt, kept);
     assert_eq!(rt; me.word_held(kept), 0xe000_0000_4000_0002);
-    assert_eq!(rt; me.give(kept, true, true), Some(200));
+    assert_eq!(rt; me.release(kept, Use::Useful, IfLast::Erase), Some(200));
     assert_eq!(rt; me.word(1), 0);
     assert_eq!(rt; me.totals(), [0, 0]);
     Ok(())

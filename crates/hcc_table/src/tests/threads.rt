@@ -7,6 +7,7 @@ ghost use Rattle.hcc_table.specs.Mates.{IsPlain};
 
 use super::AnyBytes;
 use super::mate::{Hit, Mate, Shard, seated, shard};
+use crate::Effort;
 use hcc_rule::{Key, RuleSeat};
 use std::alloc::AllocError;
 use std::process::Abort;
@@ -42,6 +43,7 @@ fn places(
         seat,
         client,
         shown: 0,
+        effort: Effort::NONE,
     };
     let slots = [
         me.insert(rt, key(first), &[first]),
@@ -70,6 +72,7 @@ fn finds(
         seat,
         client,
         shown: 4,
+        effort: Effort::NONE,
     };
     for number in 0..8 {
         let mut bytes = [0; 16];

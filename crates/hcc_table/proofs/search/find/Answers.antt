@@ -1,4 +1,6 @@
-use Rattle.std.proofs.Common.{ap, ◌∙◌}
+use Rattle.std.proofs.Common.{◌≡◌, ◌+◌, ◌<◌, ◌≤◌, ap, ◌∙◌, arith}
+use Rattle.hcc_table.specs.Efforts.{Took}
+use Rattle.hcc_table.proofs.Rises.{took_none, took_next, took_within}
 use Rattle.hcc_rule.specs.Views.{record_in}
 use Rattle.hcc_rule.proofs.ProbeLaws.{some_slots}
 use Rattle.hcc_table.proofs.Finds.{begins, goes_on, ends, ends_all}
@@ -8,16 +10,18 @@ use Rattle.hcc_table.proofs.search.find.Goals as goal
 pub loop-init : goal.loop-init
 loop-init g c =
     let size = c.geometry-slots.ensures in
-    let told = c.begin-walk.ensures in
-    begins c.args.table.now.geometry.slots c.args.key c.args.table.now.limits.power c.begin-walk.result c.args.seat.now
-    told.probe told.stride (rw (← size) told.mask)
+    let told = c.begin-walk.ensures in (
+      begins c.args.table.now.geometry.slots c.args.key c.args.table.now.limits.power c.begin-walk.result
+          c.args.seat.now told.probe told.stride (rw (← size) told.mask),
+      took_none c.args.effort.now,
+    )
 
 pub returns-then-count-eq0-clause-missed : goal.returns-then-count-eq0-clause-missed
 returns-then-count-eq0-clause-missed g c =
     let table = c.args.table.now in
     let told = c.count.ensures in
     ends table.geometry.slots c.args.key table.limits.power c.loop.counter c.count.result c.slot-slot.result c.loop.walk
-    c.args.seat.now c.loop.seat c.loop.invariant c.slot-slot.ensures c.hold.new.seat c.count.new.seat
+    c.args.seat.now c.loop.seat c.loop.invariant.0 c.slot-slot.ensures c.hold.new.seat c.count.new.seat
     c.hold.ensures.seat told.seat (c.in_default.ensures.missed) told.view told.held told.within
     c.if-count-eq0.true
 
@@ -25,11 +29,20 @@ pub loop-preserved : goal.loop-preserved
 loop-preserved g c =
     let table = c.args.table.now in
     let told = c.count.ensures in
-    let next = c.next-walk.ensures in
-    goes_on table.geometry.slots c.args.key table.limits.power c.loop.counter c.count.result c.slot-slot.result c.loop.walk
-    c.args.seat.now c.loop.seat c.loop.invariant c.slot-slot.ensures c.hold.new.seat c.count.new.seat
-    c.hold.ensures.seat told.seat (c.in_default.ensures.missed) told.view told.held told.within
-    c.next-walk.result next.probe next.stride next.mask
+    let next = c.next-walk.ensures in (
+      goes_on table.geometry.slots c.args.key table.limits.power c.loop.counter c.count.result
+          c.slot-slot.result c.loop.walk c.args.seat.now c.loop.seat c.loop.invariant.0 c.slot-slot.ensures
+          c.hold.new.seat c.count.new.seat c.hold.ensures.seat told.seat c.in_default.ensures.missed
+          told.view told.held told.within c.next-walk.result next.probe next.stride next.mask,
+      visited,
+    )
+  where
+    visited : Took (c.loop.counter + 1) (c.loop.counter + 1) (c.loop.counter + 1) c.args.effort.now c.hold.new.effort
+    visited =
+        let probe = c.probe.ensures in
+        took_next c.loop.counter c.loop.counter 1 (c.loop.counter + 1) c.args.effort.now c.loop.effort
+        c.probe.new.self c.hold.new.effort c.loop.invariant.1 probe.probes probe.corrections probe.lost
+        c.hold.ensures.effort (omega arith)
 
 pub returns-clause-missed : goal.returns-clause-missed
 returns-clause-missed g c =
@@ -37,21 +50,55 @@ returns-clause-missed g c =
     let size = c.geometry-slots.ensures in
     ends_all table.geometry.slots c.args.key table.limits.power c.loop.counter c.loop.walk c.args.seat.now c.loop.seat
     (some_slots table.geometry.slots table.limits.power) (rw (← size) c.loop-test.false)
-    (rw (← size) c.loop.auto.counter-end) c.loop.invariant
+    (rw (← size) c.loop.auto.counter-end) c.loop.invariant.0
 
 pub mark_if-requires-clause-holds : goal.mark_if-requires-clause-holds
 mark_if-requires-clause-holds g c =
     let found = c.in-Some.ensures.found in
     found_stands g.T.Tag.fits c.args.table.now.geometry.room c.slot-slot.result c.args.name c.args.key
-    c.loop.seat.me.0 c.hold.new.seat.me.0 found.0
-    (ap (record_in c.args.name) c.loop.invariant.sought.records ∙ c.requires.fresh) found.1
+    c.loop.seat.me.0.known c.hold.new.seat.me.0.known found.0
+    (ap (record_in c.args.name) c.loop.invariant.0.sought.records ∙ c.requires.fresh) found.1
 
 pub returns-in-Some-clause-found : goal.returns-in-Some-clause-found
 returns-in-Some-clause-found g c =
     let found = c.in-Some.ensures.found in (
       found.0,
       found_then g.T.Tag.fits c.args.table.now.geometry.room c.slot-slot.result c.args.name c.args.key
-          c.args.seat.now.me.0 c.loop.seat.me.0 c.hold.new.seat.me.0 c.mark_if.new.seat.me.0 found.0
-          c.loop.invariant.sought found.1 c.mark_if.ensures.view,
+          c.args.seat.now.me.0.known c.loop.seat.me.0.known c.hold.new.seat.me.0.known c.mark_if.new.seat.me.0.known found.0
+          c.loop.invariant.0.sought found.1 c.mark_if.ensures.view,
       found.2,
     )
+
+pub returns-in-Some-clause-effort : goal.returns-in-Some-clause-effort
+returns-in-Some-clause-effort g c =
+    let probe = c.probe.ensures in
+    let size = c.geometry-slots.ensures in
+    let low : c.loop.counter < c.args.table.now.geometry.slots = rw (← size) c.loop-test.true in
+    took_within (c.loop.counter + 1) (c.loop.counter + 1) 1 c.args.table.now.geometry.slots
+    c.args.table.now.geometry.slots c.args.effort.now c.hold.new.effort (omega arith) (omega arith)
+    (omega arith)
+    (took_next c.loop.counter c.loop.counter 1 (c.loop.counter + 1) c.args.effort.now
+    c.loop.effort c.probe.new.self c.hold.new.effort c.loop.invariant.1 probe.probes probe.corrections
+    probe.lost c.hold.ensures.effort (omega arith))
+
+pub returns-then-count-eq0-clause-effort : goal.returns-then-count-eq0-clause-effort
+returns-then-count-eq0-clause-effort g c =
+    let probe = c.probe.ensures in
+    let size = c.geometry-slots.ensures in
+    let low : c.loop.counter < c.args.table.now.geometry.slots = rw (← size) c.loop-test.true in
+    took_within (c.loop.counter + 1) (c.loop.counter + 1) 1 c.args.table.now.geometry.slots
+    c.args.table.now.geometry.slots c.args.effort.now c.hold.new.effort (omega arith) (omega arith)
+    (omega arith)
+    (took_next c.loop.counter c.loop.counter 1 (c.loop.counter + 1) c.args.effort.now
+    c.loop.effort c.probe.new.self c.hold.new.effort c.loop.invariant.1 probe.probes probe.corrections
+    probe.lost c.hold.ensures.effort (omega arith))
+
+pub returns-clause-effort : goal.returns-clause-effort
+returns-clause-effort g c =
+    let size = c.geometry-slots.ensures in
+    let slots = c.args.table.now.geometry.slots in
+    let past : slots ≤ c.loop.counter = rw (← size) c.loop-test.false in
+    let most : c.loop.counter ≤ slots = rw (← size) c.loop.auto.counter-end in
+    let some : 0 < slots = some_slots slots c.args.table.now.limits.power in
+    took_within c.loop.counter c.loop.counter 1 slots slots c.args.effort.now c.loop.effort
+    (omega arith) (omega arith) (omega arith) c.loop.invariant.1

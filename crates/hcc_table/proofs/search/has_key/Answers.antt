@@ -4,9 +4,9 @@ use Rattle.hcc_table.proofs.search.has_key.Goals as goal
 
 pub returns-then-read-key-clause-view : goal.returns-then-read-key-clause-view
 returns-then-read-key-clause-view g c =
-    let before = c.args.seat.now.me.0 in
-    let between = c.read.new.seat.me.0 in
-    let after = c.read-then-read-key.new.seat.me.0 in
+    let before = c.args.seat.now.me.0.known in
+    let between = c.read.new.seat.me.0.known in
+    let after = c.read-then-read-key.new.seat.me.0.known in
     sought_then before between after
     (read_there c.args.name KEY0 before between c.read.ensures.view)
     (read_there c.args.name KEY1 between after c.read-then-read-key.ensures.view)

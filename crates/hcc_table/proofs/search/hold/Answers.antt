@@ -1,4 +1,4 @@
-use Rattle.std.proofs.Common.{◌≡◌, sym}
+use Rattle.std.proofs.Common.{◌≡◌, refl, sym}
 use Rattle.hcc_rule.specs.Words.{key_of}
 use Rattle.hcc_table.proofs.Probes.{looked_at, buried_by_look, strayed, holds, holds_slot, told_key, missed_there, found_there, got_record}
 use Rattle.hcc_table.proofs.Searches.{searched_refl}
@@ -13,33 +13,33 @@ returns-then-not-is_shown-clause-missed g c =
 
 pub returns-then-not-has_entry-clause-missed : goal.returns-then-not-has_entry-clause-missed
 returns-then-not-has_entry-clause-missed g c =
-    strayed g.T.Tag.fits c.args.table.now.geometry.room c.args.slot c.args.name c.reach-found.result c.args.key
-    c.args.seat.now.me.0 c.look.new.seat.me.0 c.reach-found.new.seat.me.0
+    strayed g.T.Tag.fits c.args.table.now.geometry.room c.args.slot 1 c.args.name c.reach-found.result c.args.key
+    c.args.seat.now.me.0.known c.look.new.seat.me.0.known c.reach-found.new.seat.me.0.known
     (looked_at c.args.slot c.look.result _ _ c.look.ensures.view)
     c.reach-found.ensures.view
     (sym c.if-not-has_entry.ensures)
 
 pub matches-requires-clause-holds : goal.matches-requires-clause-holds
 matches-requires-clause-holds g c =
-    holds_slot g.T.Tag.fits c.args.table.now.geometry.room c.args.slot c.args.name c.reach-found.result c.args.key
-    c.args.seat.now.me.0 c.look.new.seat.me.0 c.reach-found.new.seat.me.0
+    holds_slot g.T.Tag.fits c.args.table.now.geometry.room c.args.slot 1 c.args.name c.reach-found.result c.args.key
+    c.args.seat.now.me.0.known c.look.new.seat.me.0.known c.reach-found.new.seat.me.0.known
     (looked_at c.args.slot c.look.result _ _ c.look.ensures.view)
     c.reach-found.ensures.view (sym c.if-not-has_entry.ensures) c.requires.fresh
-    c.reach-found.new.seat.me.0 (searched_refl c.reach-found.new.seat.me.0)
+    c.reach-found.new.seat.me.0.known (searched_refl c.reach-found.new.seat.me.0.known)
 
 pub returns-then-matches-clause-found : goal.returns-then-matches-clause-found
 returns-then-matches-clause-found g c = (
-  got_record g.T.Tag.fits c.args.table.now.geometry.room c.args.slot c.args.name c.reach-found.result c.args.key
-      c.args.seat.now.me.0 c.look.new.seat.me.0 c.reach-found.new.seat.me.0
+  got_record g.T.Tag.fits c.args.table.now.geometry.room c.args.slot 1 c.args.name c.reach-found.result c.args.key
+      c.args.seat.now.me.0.known c.look.new.seat.me.0.known c.reach-found.new.seat.me.0.known
       (looked_at c.args.slot c.look.result _ _ c.look.ensures.view)
       c.reach-found.ensures.view (sym c.if-not-has_entry.ensures) c.requires.fresh,
-  found_there g.T.Tag.fits c.args.table.now.geometry.room c.args.slot c.args.name c.reach-found.result c.args.key
-      c.args.seat.now.me.0 c.look.new.seat.me.0 c.reach-found.new.seat.me.0
+  found_there g.T.Tag.fits c.args.table.now.geometry.room c.args.slot 1 c.args.name c.reach-found.result c.args.key
+      c.args.seat.now.me.0.known c.look.new.seat.me.0.known c.reach-found.new.seat.me.0.known
       (looked_at c.args.slot c.look.result _ _ c.look.ensures.view)
       c.reach-found.ensures.view (sym c.if-not-has_entry.ensures) c.requires.fresh
-      c.matches.new.seat.me.0 (c.matches.ensures.shown c.if-matches.true)
-      (told_key g.T.Tag.fits c.args.table.now.geometry.room c.args.slot c.args.name c.reach-found.result c.args.key
-      c.args.seat.now.me.0 c.look.new.seat.me.0 c.reach-found.new.seat.me.0
+      c.matches.new.seat.me.0.known refl (c.matches.ensures.shown c.if-matches.true)
+      (told_key g.T.Tag.fits c.args.table.now.geometry.room c.args.slot 1 c.args.name c.reach-found.result c.args.key
+      c.args.seat.now.me.0.known c.look.new.seat.me.0.known c.reach-found.new.seat.me.0.known
       (looked_at c.args.slot c.look.result _ _ c.look.ensures.view)
       c.reach-found.ensures.view (sym c.if-not-has_entry.ensures) c.requires.fresh
       (λ e. key_of e ≡ c.args.key) (c.matches.ensures.equal c.if-matches.true))
@@ -49,21 +49,21 @@ returns-then-matches-clause-found g c = (
 
 pub give-requires-clause-holds : goal.give-requires-clause-holds
 give-requires-clause-holds g c =
-    holds g.T.Tag.fits c.args.table.now.geometry.room c.args.slot c.args.name c.reach-found.result c.args.key
-    c.args.seat.now.me.0 c.look.new.seat.me.0 c.reach-found.new.seat.me.0
+    holds g.T.Tag.fits c.args.table.now.geometry.room c.args.slot 1 c.args.name c.reach-found.result c.args.key
+    c.args.seat.now.me.0.known c.look.new.seat.me.0.known c.reach-found.new.seat.me.0.known
     (looked_at c.args.slot c.look.result _ _ c.look.ensures.view)
     c.reach-found.ensures.view (sym c.if-not-has_entry.ensures) c.requires.fresh
-    c.matches.new.seat.me.0 c.matches.ensures.view
+    c.matches.new.seat.me.0.known c.matches.ensures.view
 
 pub returns-clause-missed : goal.returns-clause-missed
 returns-clause-missed g c =
-    missed_there g.T.Tag.fits c.args.table.now.geometry.room c.args.slot c.args.name c.reach-found.result c.args.key
-    c.args.seat.now.me.0 c.look.new.seat.me.0 c.reach-found.new.seat.me.0
+    missed_there g.T.Tag.fits c.args.table.now.geometry.room c.args.slot 1 c.args.name c.reach-found.result c.args.key
+    c.args.seat.now.me.0.known c.look.new.seat.me.0.known c.reach-found.new.seat.me.0.known
     (looked_at c.args.slot c.look.result _ _ c.look.ensures.view)
     c.reach-found.ensures.view (sym c.if-not-has_entry.ensures) c.requires.fresh
-    c.give.result c.matches.new.seat.me.0 c.give.new.seat.me.0 c.matches.ensures.view c.give.ensures.view
-    (λ shown. told_key g.T.Tag.fits c.args.table.now.geometry.room c.args.slot c.args.name c.reach-found.result c.args.key
-    c.args.seat.now.me.0 c.look.new.seat.me.0 c.reach-found.new.seat.me.0
+    c.give.result c.matches.new.seat.me.0.known c.give.new.seat.me.0.known c.matches.ensures.view c.give.ensures.view
+    (λ shown. told_key g.T.Tag.fits c.args.table.now.geometry.room c.args.slot 1 c.args.name c.reach-found.result c.args.key
+    c.args.seat.now.me.0.known c.look.new.seat.me.0.known c.reach-found.new.seat.me.0.known
     (looked_at c.args.slot c.look.result _ _ c.look.ensures.view)
     c.reach-found.ensures.view (sym c.if-not-has_entry.ensures) c.requires.fresh
     (λ e. ¬ (key_of e ≡ c.args.key)) (c.matches.ensures.other c.if-matches.false shown))

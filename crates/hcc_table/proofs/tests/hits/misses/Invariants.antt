@@ -1,0 +1,12 @@
+use Rattle.std.proofs.Common.{◌≡◌}
+use Rattle.hcc_rule.specs.Hands.{IsReady}
+use Rattle.hcc_rule.specs.Seats.{view}
+use Rattle.hcc_table.proofs.tests.hits.misses.Given as goal
+
+abbrev pub invariant-loop : goal.invariant-loop
+invariant-loop g l = record {
+  table : l.me.table ≡ l.initial.me.table;
+  client : l.me.client ≡ l.initial.me.client;
+  shown : l.me.shown ≡ l.initial.me.shown;
+  ready : IsReady (view l.me.seat);
+}

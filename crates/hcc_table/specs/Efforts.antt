@@ -1,0 +1,21 @@
+-- How counts of calls rise: none of them falls.
+use Rattle.std.specs.Prelude.{◌≡◌, ℕ, ◌+◌, ◌^◌, ◌<◌, ◌≤◌}
+use Rattle.hcc_table.specs.declared.efforts.Effort.{Effort}
+
+-- The count rose by so much, at least and at most. Less is told of one that came to its end.
+abbrev pub Rose : (least most old new : ℕ) → Type 0
+Rose least most old new =
+    (old ≤ new) × (new + 1 < 2 ^ 64 → old + least ≤ new) × (new ≤ old + most)
+
+-- So many slots were visited, at least and at most; at most so many corrections were made, and as many
+-- exchanges lost.
+abbrev pub Took : (least most tries : ℕ) → Effort → Effort → Type 0
+Took least most tries old new =
+    Rose least most old.probes new.probes
+    × Rose 0 tries old.corrections new.corrections
+    × Rose 0 tries old.lost new.lost
+
+-- Nothing rose but exchanges that lost.
+abbrev pub Lost : (least most : ℕ) → Effort → Effort → Type 0
+Lost least most old new =
+    (new.probes ≡ old.probes) × (new.corrections ≡ old.corrections) × Rose least most old.lost new.lost

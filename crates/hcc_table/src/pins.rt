@@ -1,0 +1,55 @@
+//! References that a client holds.
+ghost use Rattle.std.specs.Prelude.{◌≡◌, ◌&&◌};
+ghost use Rattle.hcc_table.specs.Pins.{erases, is_useful};
+
+/// One reference that a client holds on an entry.
+#[derive(Clone, Copy, Debug, PartialEq, Eq)]
+pub struct Pin {
+    /// Where the entry is.
+    pub slot: u32,
+    /// The name that the client gave to the reference.
+    pub name: u64,
+    /// Whether the reference counts: its release may be a use.
+    pub counting: bool,
+}
+
+/// Whether the release of a reference is a use of its entry.
+#[derive(Clone, Copy, Debug, PartialEq, Eq)]
+pub enum Use {
+    /// It is one, where the reference counts.
+    Useful,
+    /// It is none.
+    NotUseful,
+}
+
+impl Use {
+    /// Whether the release of a reference, which counts or not, is a use.
+    pub(crate) fn is_use(self, counting: bool) -> bool
+        ensures { result ≡ (is_useful self && counting) }
+    {
+        match self {
+            Use::Useful => counting,
+            Use::NotUseful => false,
+        }
+    }
+}
+
+/// What becomes of a visible entry whose last reference is released.
+#[derive(Clone, Copy, Debug, PartialEq, Eq)]
+pub enum IfLast {
+    /// It stays.
+    Keep,
+    /// It is freed.
+    Erase,
+}
+
+impl IfLast {
+    pub(crate) fn erases(self) -> bool
+        ensures { result ≡ erases self }
+    {
+        match self {
+            IfLast::Keep => false,
+            IfLast::Erase => true,
+        }
+    }
+}
