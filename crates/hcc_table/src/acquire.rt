@@ -9,6 +9,7 @@ ghost use Rattle.hcc_rule.specs.Views.{load_of, record_in};
 ghost use Rattle.hcc_table.specs.Efforts.{Took};
 ghost use Rattle.hcc_table.specs.Pins.{IsOf, IsPinned};
 ghost use Rattle.hcc_table.specs.Searched.{Searched, Sought, Reached};
+ghost use Rattle.hcc_table.specs.Steps.{MakesAtMost};
 
 use crate::efforts::Effort;
 use crate::pins::Pin;
@@ -41,6 +42,7 @@ pub fn again<T: Tag, A: Allocator>(
     ensures record { (r : Record) × ((view seat.new).records ≡ (view seat.old).records ++ r ∷ [])
         × IsOf result r × (r.name ≡ name)
         × IfSome (record_in pin.name (view seat.old).records) (λ q. r.entry ≡ q.entry) }
+    ensures steps { MakesAtMost 2 seat.old seat.new }
 {
     let found = reach(table, seat, pin.slot, 1, name, effort);
     Pin {
@@ -70,6 +72,7 @@ pub(crate) fn reach<T: Tag, A: Allocator>(
     ensures effort { Took 0 0 1 effort.old effort.new }
     ensures view { Reached T.fits (room_of table.now) slot weight name result
         (view seat.old) (view seat.new) }
+    ensures steps { MakesAtMost 2 seat.old seat.new }
 {
     let found = table.acquire(seat, slot, weight, name);
     if has_entry(found) && !counts(found) {
@@ -101,6 +104,7 @@ fn relieve<T: Tag, A: Allocator>(
     ensures seat { IsSameSeat seat.old seat.new }
     ensures effort { Took 0 0 1 effort.old effort.new }
     ensures view { Sought (view seat.old) (view seat.new) }
+    ensures steps { MakesAtMost 1 seat.old seat.new }
 {
     let Some(next) = corrected(word) else {
         return;

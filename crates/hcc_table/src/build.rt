@@ -10,6 +10,7 @@ ghost use Rattle.hcc_rule.specs.Seats.{IsSameSeat, view};
 ghost use Rattle.hcc_rule.specs.ToldOwners.{MayShow, after_show, made_of};
 ghost use Rattle.hcc_rule.specs.Words.{made_words, payload, stamp_word};
 ghost use Rattle.hcc_table.specs.Inserted.{with_words};
+ghost use Rattle.hcc_table.specs.Steps.{MakesAtMost};
 
 use hcc_core::limits::STAMPS_PER_CLIENT;
 use hcc_rule::layout::{CHARGE, KEY0, KEY1, LENGTH, PAYLOAD, STAMP};
@@ -55,6 +56,7 @@ fn write_head<T: Tag, A: Allocator>(
     requires serial { draft.serial < STAMPS_PER_CLIENT }
     ensures seat { IsSameSeat seat.old seat.new }
     ensures view { view seat.new ≡ with_words (draft.key.w0 ∷ draft.key.w1 ∷ draft.charge ∷ stamp_word client draft.serial ∷ bytes ∷ []) (view seat.old) }
+    ensures steps { MakesAtMost 5 seat.old seat.new }
 {
     table.write(seat, slot, KEY0, draft.key.w0);
     table.write(seat, slot, KEY1, draft.key.w1);
@@ -78,6 +80,7 @@ fn write_payload<T: Tag, A: Allocator>(
     requires short { length value.now ≤ 8 * (room_of table.now) }
     ensures seat { IsSameSeat seat.old seat.new }
     ensures view { view seat.new ≡ with_words ((view seat.old).written ++ payload value.now) (view seat.old) }
+    ensures steps { MakesAtMost (room_of table.now) seat.old seat.new }
 {
     for k in 0..(value.len() + 7) / 8 {
         table.write(seat, slot, PAYLOAD + k, word_at(value, 8 * k));
@@ -101,6 +104,7 @@ pub(crate) fn build<T: Tag, A: Allocator>(
         (with_words (made_words client (made_of draft value.now)) (view seat.old)) }
     ensures seat { IsSameSeat seat.old seat.new }
     ensures view { view seat.new ≡ after_show slot draft.name (made_of draft value.now) (view seat.old) }
+    ensures steps { MakesAtMost (room_of table.now + 6) seat.old seat.new }
 {
     write_head(table, seat, slot, draft, value.len() as u64, client);
     write_payload(table, seat, slot, value);

@@ -9,6 +9,7 @@ ghost use Rattle.hcc_rule.specs.ToldOwners.{IsLast, records_left};
 ghost use Rattle.hcc_table.specs.Efforts.{Lost};
 ghost use Rattle.hcc_table.specs.Freed.{HasTaken, IsFreed, TakenAt, emptied};
 ghost use Rattle.hcc_table.specs.Searched.{Sought};
+ghost use Rattle.hcc_table.specs.Steps.{MakesAtMost, freeing};
 
 use crate::efforts::Effort;
 use crate::walk::Walk;
@@ -32,6 +33,7 @@ pub fn free_taken<T: Tag, A: Allocator>(
     ensures seat { IsSameSeat seat.old seat.new }
     ensures charge { result ≡ slice_index (view seat.old).written CHARGE }
     ensures view { view seat.new ≡ emptied (view seat.old) }
+    ensures steps { MakesAtMost (slots_of table.now + 4) seat.old seat.new }
 {
     let key = Key {
         w0: table.read_own(seat, slot, KEY0),
@@ -54,6 +56,7 @@ pub(crate) fn take_back<T: Tag, A: Allocator>(
     requires trail { (view seat.old).work.trail ≡ trail_to (slots_of table.now) key slot }
     ensures seat { IsSameSeat seat.old seat.new }
     ensures view { view seat.new ≡ record (view seat.old) { work = record (view seat.old).work { trail = [] } } }
+    ensures steps { MakesAtMost (slots_of table.now) seat.old seat.new }
 {
     let slots = table.geometry().slots;
     let mut walk = Walk::begin(key, slots);
@@ -92,6 +95,7 @@ pub(crate) fn try_free<T: Tag, A: Allocator>(
         IsFreed T.fits (room_of table.now) word name charge (view seat.old) (view seat.new)
         × ((view seat.new).records ≡ records_left name (view seat.old).records)
         × ((view seat.new).work.looked ≡ (view seat.old).work.looked)) }
+    ensures steps { MakesAtMost (freeing (slots_of table.now)) seat.old seat.new }
 {
     if table.free(seat, slot, word, name) != word {
         effort.lose();

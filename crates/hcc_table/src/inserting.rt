@@ -3,7 +3,7 @@
 ghost use Rattle.std.specs.Prelude.{◌≡◌, ◌+◌, ◌<◌, ◌≤◌, true, false, None, []};
 ghost use Rattle.hcc_word.specs.Word.{is_empty};
 ghost use Rattle.hcc_core.specs.declared.limits.TheConstants.{MOST_WEIGHT, REFERENCES_PER_CLIENT};
-ghost use Rattle.hcc_rule.specs.Callers.{plan_of, slots_of, IsSeatAt, IsSlotOf};
+ghost use Rattle.hcc_rule.specs.Callers.{plan_of, slots_of, IsSeatAt, IsSlotOf, room_of};
 ghost use Rattle.hcc_rule.specs.Probes.{trail_to};
 ghost use Rattle.hcc_rule.specs.Seats.{IsSameSeat, view};
 ghost use Rattle.hcc_rule.specs.ToldReferences.{may_reach};
@@ -11,6 +11,7 @@ ghost use Rattle.hcc_rule.specs.Views.{load_of, record_in};
 ghost use Rattle.hcc_table.specs.Efforts.{Took};
 ghost use Rattle.hcc_table.specs.Inserted.{InsertedBy, MayInsert, Meets, TriedAt};
 ghost use Rattle.hcc_table.specs.Searched.{Sought, Buried};
+ghost use Rattle.hcc_table.specs.Steps.{MakesFor, MakesAtMost, trying};
 
 use crate::acquire::reach;
 use crate::build::build;
@@ -73,6 +74,7 @@ pub fn insert<T: Tag, A: Allocator>(
     ensures effort { Took 1 (slots_of table.now) (slots_of table.now) effort.old effort.new }
     ensures view { InsertedBy (slots_of table.now) draft value.now result
         (view seat.old) (view seat.new) }
+    ensures steps { MakesFor 7 (slots_of table.now + room_of table.now) (slots_of table.now) effort.old effort.new seat.old seat.new }
 {
     let slots = table.geometry().slots;
     let mut walk = Walk::begin(draft.key, slots);
@@ -117,6 +119,7 @@ fn insert_at<T: Tag, A: Allocator>(
     ensures seat { IsSameSeat seat.old seat.new }
     ensures effort { Took 0 0 1 effort.old effort.new }
     ensures view { TriedAt slot draft value.now result (view seat.old) (view seat.new) }
+    ensures steps { MakesAtMost (trying (room_of table.now) result) seat.old seat.new }
 {
     let found = table.occupy(seat, slot);
     if is_free(found) {
@@ -158,6 +161,7 @@ fn meet<T: Tag, A: Allocator>(
     ensures view { Sought (view seat.old) (view seat.new) }
     ensures met { result ≡ true → Meets key (view seat.old) (view seat.new) }
     ensures dead { result ≡ false → Buried key (λ s. s ≡ slot) (view seat.old) (view seat.new) }
+    ensures steps { MakesAtMost 5 seat.old seat.new }
 {
     let found = reach(table, seat, slot, weight, name, effort);
     if !has_entry(found) {

@@ -14,6 +14,7 @@ ghost use Rattle.hcc_rule.specs.Views.{Each, record_in};
 ghost use Rattle.hcc_rule.specs.Words.{key_of, payload_word};
 ghost use Rattle.hcc_table.specs.Pins.{IsPinned};
 ghost use Rattle.hcc_table.specs.Readings.{IsReadable};
+ghost use Rattle.hcc_table.specs.Steps.{MakesAtMost};
 
 use crate::pins::Pin;
 use hcc_rule::layout::{KEY0, KEY1, LENGTH, PAYLOAD};
@@ -32,6 +33,7 @@ pub fn word<T: Tag, A: Allocator>(table: &RuleTable<T, A>, seat: &mut RuleSeat<T
     ensures seat { IsSameSeat seat.old seat.new }
     ensures view { view seat.new ≡ after_look slot result (view seat.old) }
     ensures backs { Backs slot result (view seat.old) }
+    ensures steps { MakesAtMost 1 seat.old seat.new }
 {
     table.look(seat, slot)
 }
@@ -55,6 +57,7 @@ pub fn displacement<T: Tag, A: Allocator>(
         times slot (trail_to (slots_of table.now) (key_of r.entry) r.slot) ≤ result)
         (view seat.old).records }
     ensures within { Each (λ (r : Record). r.slot < slots_of table.now) (view seat.old).records }
+    ensures steps { MakesAtMost 1 seat.old seat.new }
 {
     table.count(seat, slot)
 }
@@ -74,6 +77,7 @@ pub fn read_len<T: Tag, A: Allocator>(
     ensures seat { IsSameSeat seat.old seat.new }
     ensures view { view seat.new ≡ view seat.old }
     ensures exact { IfSome (record_in pin.name (view seat.old).records) (λ r. result ≡ length r.entry.value) }
+    ensures steps { MakesAtMost 1 seat.old seat.new }
 {
     table.read(seat, pin.slot, LENGTH, pin.name) as usize
 }
@@ -93,6 +97,7 @@ pub fn read_key<T: Tag, A: Allocator>(
     ensures seat { IsSameSeat seat.old seat.new }
     ensures view { view seat.new ≡ after_read pin.name KEY1 (view seat.old) }
     ensures exact { IfSome (record_in pin.name (view seat.old).records) (λ r. result ≡ key_of r.entry) }
+    ensures steps { MakesAtMost 2 seat.old seat.new }
 {
     Key {
         w0: table.read(seat, pin.slot, KEY0, pin.name),
@@ -161,6 +166,7 @@ fn copy_word<T: Tag, A: Allocator>(
     ensures bytes { IfSome (record_in pin.name (view seat.old).records)
         (λ r. buffer.new ≡ take (8 * index) buffer.old
         ++ (take count (drop (8 * index) r.entry.value) ++ drop (8 * index + count) buffer.old)) }
+    ensures steps { MakesAtMost 1 seat.old seat.new }
 {
     let word = read_word(table, seat, pin, index);
     put(buffer, 8 * index, count, word);
@@ -181,6 +187,7 @@ fn read_word<T: Tag, A: Allocator>(
     ensures view { view seat.new ≡ view seat.old }
     ensures word { IfSome (record_in pin.name (view seat.old).records)
         (λ r. 8 * index < length r.entry.value → result ≡ payload_word r.entry.value index) }
+    ensures steps { MakesAtMost 1 seat.old seat.new }
 {
     table.read(seat, pin.slot, PAYLOAD + index, pin.name)
 }

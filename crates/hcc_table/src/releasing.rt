@@ -3,13 +3,14 @@ ghost use Rattle.std.specs.Prelude.{◌≡◌, ◌+◌, ◌^◌, ◌<◌, ◌≤
 ghost use Rattle.hcc_word.specs.Word.{is_visible};
 ghost use Rattle.hcc_core.specs.Outcomes.{dropped};
 ghost use Rattle.hcc_rule.specs.declared.view.View.{View};
-ghost use Rattle.hcc_rule.specs.Callers.{room_of, IsSeatAt, IsSlotOf, MayFree};
+ghost use Rattle.hcc_rule.specs.Callers.{room_of, IsSeatAt, IsSlotOf, MayFree, slots_of};
 ghost use Rattle.hcc_rule.specs.Seats.{IsSameSeat, view};
 ghost use Rattle.hcc_rule.specs.Views.{is_called, record_in};
 ghost use Rattle.hcc_table.specs.Efforts.{Lost};
 ghost use Rattle.hcc_table.specs.Freed.{IsFreed, IsLeft, TriedWhereDue, is_due};
 ghost use Rattle.hcc_table.specs.Pins.{IsPinned, erases, is_useful};
 ghost use Rattle.hcc_table.specs.Searched.{Searched};
+ghost use Rattle.hcc_table.specs.Steps.{MakesAtMost, freeing};
 
 use crate::efforts::Effort;
 use crate::freeing::try_free;
@@ -53,6 +54,7 @@ pub fn release<T: Tag, A: Allocator>(
     ensures tried { (left : ℕ) × (between : View T)
         × IsLeft pin.slot 1 pin.name (is_useful usage && pin.counting) left (view seat.old) between
         × TriedWhereDue (is_due (erases last) left) result effort.old effort.new }
+    ensures steps { MakesAtMost (freeing (slots_of table.now) + 1) seat.old seat.new }
 {
     let used = usage.is_use(pin.counting);
     let left = let_go(table, seat, pin.slot, 1, pin.name, used);
@@ -78,6 +80,7 @@ pub(crate) fn let_go<T: Tag, A: Allocator>(
         (λ r. (r.slot ≡ slot) × (r.weight ≡ weight) × (used ≡ true → r.counting ≡ true)) }
     ensures seat { IsSameSeat seat.old seat.new }
     ensures view { IsLeft slot weight name used result (view seat.old) (view seat.new) }
+    ensures steps { MakesAtMost 1 seat.old seat.new }
 {
     if used {
         released(table.spend(seat, slot, weight, name), weight)

@@ -10,6 +10,7 @@ ghost use Rattle.hcc_rule.specs.Views.{load_of, record_in};
 ghost use Rattle.hcc_rule.specs.Words.{key_of};
 ghost use Rattle.hcc_table.specs.Efforts.{Took};
 ghost use Rattle.hcc_table.specs.Searched.{Sought, IsFound, IsMissed, Buried};
+ghost use Rattle.hcc_table.specs.Steps.{MakesAtMost, MakesFor};
 
 use crate::acquire::reach;
 use crate::efforts::Effort;
@@ -51,6 +52,7 @@ pub fn find<T: Tag, A: Allocator>(
         × IsFound T.fits (room_of table.now) pin.slot name key (view seat.old) (view seat.new) r
         × (r.counting ≡ pin.counting)) }
     ensures missed { IfNone result (IsMissed key (view seat.old) (view seat.new)) }
+    ensures steps { MakesFor 7 0 (slots_of table.now) effort.old effort.new seat.old seat.new }
 {
     let slots = table.geometry().slots;
     let mut walk = Walk::begin(key, slots);
@@ -93,6 +95,7 @@ pub(crate) fn hold<T: Tag, A: Allocator>(
         × (r.counting ≡ counting)) }
     ensures missed { IfNone result (Sought (view seat.old) (view seat.new)
         × Buried key (λ s. s ≡ slot) (view seat.old) (view seat.new)) }
+    ensures steps { MakesAtMost 6 seat.old seat.new }
 {
     if !is_shown(table.look(seat, slot)) {
         return None;
@@ -129,6 +132,7 @@ pub(crate) fn matches<T: Tag, A: Allocator>(
         → IfSome (record_in name (view seat.old).records) (λ r. ¬ (key_of r.entry ≡ key)) }
     ensures met { result ≡ true → (view seat.new).met
         ≡ with_met (record_in name (view seat.old).records) (view seat.old).met }
+    ensures steps { MakesAtMost 2 seat.old seat.new }
 {
     is_shown(found) && has_key(table, seat, slot, key, name)
 }
@@ -153,6 +157,7 @@ fn has_key<T: Tag, A: Allocator>(
         → IfSome (record_in name (view seat.old).records) (λ r. ¬ (key_of r.entry ≡ key)) }
     ensures met { result ≡ true → (view seat.new).met
         ≡ with_met (record_in name (view seat.old).records) (view seat.old).met }
+    ensures steps { MakesAtMost 2 seat.old seat.new }
 {
     table.read(seat, slot, KEY0, name) == key.w0 && table.read(seat, slot, KEY1, name) == key.w1
 }
@@ -170,6 +175,7 @@ fn mark_if<T: Tag, A: Allocator>(
     requires holds { HasOn slot name (view seat.old) }
     ensures seat { IsSameSeat seat.old seat.new }
     ensures view { Sought (view seat.old) (view seat.new) }
+    ensures steps { MakesAtMost 1 seat.old seat.new }
 {
     if marks {
         table.mark(seat, slot, name);

@@ -5,6 +5,7 @@ ghost use Rattle.hcc_word.specs.Word.{is_shareable, refs_of};
 ghost use Rattle.hcc_rule.specs.Callers.{slots_of, room_of, IsSeatAt, IsSlotOf, MayFree};
 ghost use Rattle.hcc_rule.specs.Seats.{IsSameSeat, view};
 ghost use Rattle.hcc_table.specs.Visited.{LostBy, Visited, CountedDown, Swept};
+ghost use Rattle.hcc_table.specs.Steps.{MakesAtMost, freeing};
 
 use crate::efforts::Effort;
 use crate::freeing::try_free;
@@ -48,6 +49,7 @@ pub fn visit<T: Tag, A: Allocator>(
     ensures effort { LostBy result effort.old effort.new }
     ensures view { Visited T.fits (slots_of table.now) (room_of table.now) slot result
         (view seat.old) (view seat.new) }
+    ensures steps { MakesAtMost (freeing (slots_of table.now) + 1) seat.old seat.new }
 {
     let word = table.look(seat, slot);
     if !has_entry(word) {
@@ -78,6 +80,7 @@ fn count_down<T: Tag, A: Allocator>(
     ensures seat { IsSameSeat seat.old seat.new }
     ensures effort { LostBy result effort.old effort.new }
     ensures view { CountedDown result (view seat.old) (view seat.new) }
+    ensures steps { MakesAtMost 1 seat.old seat.new }
 {
     if table.clock(seat, slot, word, next) == word {
         return ClockVisit::Counted;
@@ -103,6 +106,7 @@ fn sweep<T: Tag, A: Allocator>(
     ensures effort { LostBy result effort.old effort.new }
     ensures view { Swept T.fits (slots_of table.now) (room_of table.now) slot word result
         (view seat.old) (view seat.new) }
+    ensures steps { MakesAtMost (freeing (slots_of table.now)) seat.old seat.new }
 {
     match try_free(table, seat, slot, word, None, effort) {
         Some(charge) => ClockVisit::Freed {

@@ -1,4 +1,4 @@
-use Rattle.std.proofs.Common.{◌≡◌, ◌+◌, ◌<◌, ◌≤◌, ap, ◌∙◌, arith}
+use Rattle.std.proofs.Common.{◌≡◌, ◌+◌, ◌*◌, ◌<◌, ◌≤◌, ap, ◌∙◌, arith}
 use Rattle.hcc_table.specs.Efforts.{Took}
 use Rattle.hcc_table.proofs.Rises.{took_none, took_next, took_within}
 use Rattle.hcc_rule.specs.Views.{record_in}
@@ -14,6 +14,7 @@ loop-init g c =
       begins c.args.table.now.geometry.slots c.args.key c.args.table.now.limits.power c.begin-walk.result
           c.args.seat.now told.probe told.stride (rw (← size) told.mask),
       took_none c.args.effort.now,
+      omega arith,
     )
 
 pub returns-then-count-eq0-clause-missed : goal.returns-then-count-eq0-clause-missed
@@ -35,6 +36,7 @@ loop-preserved g c =
           c.hold.new.seat c.count.new.seat c.hold.ensures.seat told.seat c.in_default.ensures.missed
           told.view told.held told.within c.next-walk.result next.probe next.stride next.mask,
       visited,
+      (let so_far = c.loop.invariant.2 in let held = c.hold.ensures.steps in let one = told.step.one in omega arith),
     )
   where
     visited : Took (c.loop.counter + 1) (c.loop.counter + 1) (c.loop.counter + 1) c.args.effort.now c.hold.new.effort
@@ -102,3 +104,37 @@ returns-clause-effort g c =
     let some : 0 < slots = some_slots slots c.args.table.now.limits.power in
     took_within c.loop.counter c.loop.counter 1 slots slots c.args.effort.now c.loop.effort
     (omega arith) (omega arith) (omega arith) c.loop.invariant.1
+
+pub returns-in-Some-clause-steps : goal.returns-in-Some-clause-steps
+returns-in-Some-clause-steps g c =
+    let probe = c.probe.ensures in
+    let size = c.geometry-slots.ensures in
+    let low : c.loop.counter < c.args.table.now.geometry.slots = rw (← size) c.loop-test.true in
+    let so_far = c.loop.invariant.2 in
+    let held = c.hold.ensures.steps in
+    let last = c.mark_if.ensures.steps in
+    record {
+      visited = c.loop.counter + 1;
+      within = omega arith;
+      counted = (took_next c.loop.counter c.loop.counter 1 (c.loop.counter + 1) c.args.effort.now
+          c.loop.effort c.probe.new.self c.hold.new.effort c.loop.invariant.1 probe.probes
+          probe.corrections probe.lost c.hold.ensures.effort (omega arith)).0;
+      steps = omega arith;
+    }
+
+pub returns-then-count-eq0-clause-steps : goal.returns-then-count-eq0-clause-steps
+returns-then-count-eq0-clause-steps g c =
+    let probe = c.probe.ensures in
+    let size = c.geometry-slots.ensures in
+    let low : c.loop.counter < c.args.table.now.geometry.slots = rw (← size) c.loop-test.true in
+    let so_far = c.loop.invariant.2 in
+    let held = c.hold.ensures.steps in
+    let last = c.count.ensures.step.one in
+    record {
+      visited = c.loop.counter + 1;
+      within = omega arith;
+      counted = (took_next c.loop.counter c.loop.counter 1 (c.loop.counter + 1) c.args.effort.now
+          c.loop.effort c.probe.new.self c.hold.new.effort c.loop.invariant.1 probe.probes
+          probe.corrections probe.lost c.hold.ensures.effort (omega arith)).0;
+      steps = omega arith;
+    }
