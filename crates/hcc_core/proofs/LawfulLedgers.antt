@@ -226,8 +226,7 @@ lawful_stand w client charge name found l at_client may =
     let new : Client =
     record found {
       granted = found.granted - charge;
-      standalones =
-          found.standalones ++ one ∷ [];
+      standalones = found.standalones ++ one ∷ [];
     } in
     let enough = may_stand_charge found charge name may in
     let sum = total-append (λ (s : Standalone). s.charge) found.standalones (one ∷ []) in
@@ -246,8 +245,7 @@ lawful_fall w client name found gone l at_client there =
     let new : Client =
     record found {
       freed = found.freed + gone.charge;
-      standalones =
-          dropped (is_standing name) found.standalones;
+      standalones = dropped (is_standing name) found.standalones;
     } in
     let sum = dropped-total (is_standing name) (λ (s : Standalone). s.charge)
     found.standalones gone there in

@@ -1,11 +1,14 @@
 -- Changes that move no entry and nothing in hand, and changes within the ledgers alone.
-use Rattle.std.proofs.Common.{◌≡◌, ◌⊎◌, inl, inr, ℕ, ◌+◌, ◌*◌, ◌≤◌, true, List, None, Some, length}
-use Rattle.std.proofs.Common.{slice_get, slice_set, refl, ap, sym, ◌∙◌, arith}
+use Rattle.std.proofs.Common.{◌≡◌, ◌⊎◌, inl, inr, ℕ, ◌+◌, ◌*◌, ◌≤◌, Bool, true, List, None, Option}
+use Rattle.std.proofs.Common.{Some, length, slice_get, slice_set, refl, ap, sym, ◌∙◌, arith}
 use Rattle.std.proofs.lemmas.Bool.{cases_eq}
 use Rattle.std.proofs.lemmas.List.{length-set}
 use Rattle.hcc_core.specs.declared.client.Client.{Client}
 use Rattle.hcc_core.specs.declared.slot.Stamp.{Stamp}
 use Rattle.hcc_core.specs.declared.slot.Slot.{Slot}
+use Rattle.hcc_core.specs.declared.slot.Slot.TheVariants as slots
+use Rattle.hcc_core.specs.declared.slot.Reference.{Reference}
+use Rattle.hcc_core.specs.declared.slot.Resident.{Resident}
 use Rattle.hcc_core.specs.World.{State, stamp_of, strays_of, charge_of, trail_of, taken_by_slot}
 use Rattle.hcc_core.specs.World.{charged_to}
 use Rattle.hcc_core.specs.Outcomes.{with_client, with_both}
@@ -34,6 +37,36 @@ pub record QuietClient (old new : Client) : Type 0 where
   pub charged : charged_to new ≡ charged_to old
   pub real : real_to new ≡ real_to old
   pub taken : taken_by new ≡ taken_by old
+
+-- nothing moves in a slot that stays as it is
+pub calm : (slot : Slot) → QuietSlot slot slot
+calm slot = record {
+  owner = refl;
+  stamp = refl;
+  trail = refl;
+  charge = refl;
+  taken = refl;
+  shown = λ m h. h;
+}
+
+-- nor where only references, uses and the mark of an entry change
+pub changed : (r : Resident) (references : List Reference) (uses : ℕ) (hit : Bool)
+    → QuietSlot (slots.Shareable r)
+    (slots.Shareable (record r { references = references; uses = uses; hit = hit }))
+changed r references uses hit = record {
+  owner = refl;
+  stamp = refl;
+  trail = refl;
+  charge = refl;
+  taken = refl;
+  shown = λ m h. h;
+}
+
+-- nor in the hand of a client that only looked, or noticed what is dead
+pub noticed_more : (found : Client) (looked : Option ℕ) (dead : List Stamp)
+    → QuietClient found (record found { looked = looked; dead = dead })
+noticed_more found looked dead =
+    record { owned = refl; stamps = refl; trail = refl; charged = refl; real = refl; taken = refl }
 
 -- a slot that comes to show nothing new
 pub shown_fewer : (all : List Slot) (slot s : ℕ) (seen left : Slot) (m : Stamp)

@@ -26,7 +26,7 @@ use Rattle.hcc_core.proofs.ReferenceLemmas.{counted-le}
 use Rattle.hcc_core.proofs.DroppedLemmas.{dropped-total, dropped-le}
 use Rattle.hcc_core.proofs.LawfulParts.{looking, ledgers_client}
 use Rattle.hcc_core.proofs.DeadParts.{in_joined, dead_is_stamp}
-use Rattle.hcc_core.proofs.LawfulQuiet.{QuietSlot, quiet, in_ledgers}
+use Rattle.hcc_core.proofs.LawfulQuiet.{calm, changed, noticed_more, QuietSlot, quiet, in_ledgers}
 
 pub lawful_start : (w : State) (client : ℕ) (found : Client) → Lawful w
     → slice_get w.clients client ≡ Some found
@@ -58,17 +58,6 @@ still_hidden seen left none fewer = by (shown_stamp left) refl
 
 -- Looks.
 
-calm : (slot : Slot) → QuietSlot slot slot
-calm slot = record {
-  owner = refl;
-  stamp = refl;
-  trail = refl;
-  charge =
-      refl;
-  taken = refl;
-  shown = λ m h. h;
-}
-
 -- who looks now sees a slot without strays, or has looked nowhere
 look_first : (client slot : ℕ) (seen : Slot) (found : Client)
     → (strays_of seen + 3 * looking (client_looked client slot seen found) slot
@@ -95,15 +84,7 @@ lawful_look w client slot found seen l at_slot at_client =
     both =
         quiet w slot client seen seen found (client_looked client slot seen found)
         l at_slot at_client (calm seen)
-        (record {
-          owned = refl;
-          stamps = refl;
-          trail = refl;
-          charged =
-              refl;
-          real = refl;
-          taken = refl;
-        })
+        (noticed_more found _ _)
         (l.bounded slot seen at_slot) (look_first client slot seen found)
         (λ s n. look_else client slot s seen found n) (λ m h. dies_here client found.dead seen m h)
 
@@ -115,8 +96,7 @@ calm_acquired (slots.Empty strays) k =
       owner = refl;
       stamp = refl;
       trail = refl;
-      charge =
-          refl;
+      charge = refl;
       taken = refl;
       shown = λ m h. h;
     }
@@ -125,21 +105,11 @@ calm_acquired (slots.Building other strays) k =
       owner = refl;
       stamp = refl;
       trail = refl;
-      charge =
-          refl;
+      charge = refl;
       taken = refl;
       shown = λ m h. h;
     }
-calm_acquired (slots.Shareable r) k =
-    record {
-      owner = refl;
-      stamp = refl;
-      trail = refl;
-      charge =
-          refl;
-      taken = refl;
-      shown = λ m h. h;
-    }
+calm_acquired (slots.Shareable r) k = changed r _ r.uses r.hit
 
 -- what the test of an acquire says
 pub record MayAcquire (setup : Setup) (client slot : ℕ) (found : Client)
@@ -206,8 +176,7 @@ acquired_bounded setup client name weight (slots.Shareable r) few b room =
           references =
               r.references ++ record {
                 client = client;
-                name =
-                    name;
+                name = name;
                 weight = weight;
                 counting = nat_lt r.uses NEAR;
               } ∷ [];
@@ -218,8 +187,7 @@ acquired_bounded setup client name weight (slots.Shareable r) few b room =
           client = client;
           name = name;
           weight = weight;
-          counting =
-              nat_lt r.uses NEAR;
+          counting = nat_lt r.uses NEAR;
         } in
         let sum = total-append (λ (k : Reference). k.weight) r.references (k ∷ []) in
         let all = counted-le (r.references ++ k ∷ []) in
@@ -232,8 +200,7 @@ acquired_bounded setup client name weight (slots.Shareable r) few b room =
           client = client;
           name = name;
           weight = weight;
-          counting =
-              nat_lt r.uses NEAR;
+          counting = nat_lt r.uses NEAR;
         } in
         let sum = total-append (λ (k : Reference). k.weight) r.references (k ∷ []) in
         let counts = total-append (λ (k : Reference). when k.counting k.weight)
@@ -254,15 +221,7 @@ lawful_acquire w client slot weight name found seen l at_slot at_client may =
     quiet w slot client seen (slot_acquired seen k) found
     (client_acquired client (slot_acquired seen k) found) l at_slot at_client
     (calm_acquired seen k)
-    (record {
-      owned = refl;
-      stamps = refl;
-      trail = refl;
-      charged =
-          refl;
-      real = refl;
-      taken = refl;
-    })
+    (noticed_more found _ _)
     (acquired_bounded w.setup client name weight seen l.sized.few_clients
     (l.bounded slot seen at_slot) parts.room)
     (acquired_strays client slot found seen k parts.few parts.near) (λ s n. omega arith)
@@ -274,36 +233,9 @@ lawful_acquire w client slot weight name found seen l at_slot at_client may =
 -- Gives and uses.
 
 calm_given : (client name : ℕ) (seen : Slot) → QuietSlot seen (slot_given client name seen)
-calm_given client name (slots.Empty strays) =
-    record {
-      owner = refl;
-      stamp = refl;
-      trail = refl;
-      charge =
-          refl;
-      taken = refl;
-      shown = λ m h. h;
-    }
-calm_given client name (slots.Building other strays) =
-    record {
-      owner = refl;
-      stamp = refl;
-      trail = refl;
-      charge =
-          refl;
-      taken = refl;
-      shown = λ m h. h;
-    }
-calm_given client name (slots.Shareable r) =
-    record {
-      owner = refl;
-      stamp = refl;
-      trail = refl;
-      charge =
-          refl;
-      taken = refl;
-      shown = λ m h. h;
-    }
+calm_given client name (slots.Empty strays) = calm _
+calm_given client name (slots.Building other strays) = calm _
+calm_given client name (slots.Shareable r) = changed r _ r.uses r.hit
 
 given_strays : (client name : ℕ) (seen : Slot)
     → strays_of (slot_given client name seen) ≡ strays_of seen
@@ -331,15 +263,7 @@ lawful_give w client name slot found seen l at_slot at_client =
     quiet w slot client seen (slot_given client name seen) found
     (client_noticed client seen found) l at_slot at_client
     (calm_given client name seen)
-    (record {
-      owned = refl;
-      stamps = refl;
-      trail = refl;
-      charged =
-          refl;
-      real = refl;
-      taken = refl;
-    })
+    (noticed_more found _ _)
     (given_bounded w.setup client name seen (l.bounded slot seen at_slot))
     (inl (let same = given_strays client name seen in omega arith)) (λ s n. omega arith)
     (λ m h. elim (dies_here client found.dead seen m h) [
@@ -354,36 +278,9 @@ lawful_give w client name slot found seen l at_slot at_client =
 
 calm_used : (client name : ℕ) (k : Reference) (seen : Slot)
     → QuietSlot seen (slot_used client name k seen)
-calm_used client name k (slots.Empty strays) =
-    record {
-      owner = refl;
-      stamp = refl;
-      trail = refl;
-      charge =
-          refl;
-      taken = refl;
-      shown = λ m h. h;
-    }
-calm_used client name k (slots.Building other strays) =
-    record {
-      owner = refl;
-      stamp = refl;
-      trail = refl;
-      charge =
-          refl;
-      taken = refl;
-      shown = λ m h. h;
-    }
-calm_used client name k (slots.Shareable r) =
-    record {
-      owner = refl;
-      stamp = refl;
-      trail = refl;
-      charge =
-          refl;
-      taken = refl;
-      shown = λ m h. h;
-    }
+calm_used client name k (slots.Empty strays) = calm _
+calm_used client name k (slots.Building other strays) = calm _
+calm_used client name k (slots.Shareable r) = changed r _ _ r.hit
 
 used_strays : (client name : ℕ) (k : Reference) (seen : Slot)
     → strays_of (slot_used client name k seen) ≡ strays_of seen
@@ -417,15 +314,7 @@ lawful_use w client name slot found seen k l at_slot at_client there counts =
     quiet w slot client seen (slot_used client name k seen) found
     (client_noticed client seen found) l at_slot at_client
     (calm_used client name k seen)
-    (record {
-      owned = refl;
-      stamps = refl;
-      trail = refl;
-      charged =
-          refl;
-      real = refl;
-      taken = refl;
-    })
+    (noticed_more found _ _)
     (used_bounded w.setup client name k seen there counts (l.bounded slot seen at_slot))
     (inl (let same = used_strays client name k seen in omega arith)) (λ s n. omega arith)
     (λ m h. elim (dies_here client found.dead seen m h) [
@@ -441,33 +330,14 @@ lawful_use w client name slot found seen k l at_slot at_client there counts =
 -- Hides.
 
 calm_hidden : (seen : Slot) → QuietSlot seen (slot_hidden seen)
-calm_hidden (slots.Empty strays) =
-    record {
-      owner = refl;
-      stamp = refl;
-      trail = refl;
-      charge =
-          refl;
-      taken = refl;
-      shown = λ m h. h;
-    }
-calm_hidden (slots.Building other strays) =
-    record {
-      owner = refl;
-      stamp = refl;
-      trail = refl;
-      charge =
-          refl;
-      taken = refl;
-      shown = λ m h. h;
-    }
+calm_hidden (slots.Empty strays) = calm _
+calm_hidden (slots.Building other strays) = calm _
 calm_hidden (slots.Shareable r) =
     record {
       owner = refl;
       stamp = refl;
       trail = refl;
-      charge =
-          refl;
+      charge = refl;
       taken = refl;
       shown = λ m h. cc;
     }
@@ -491,15 +361,7 @@ lawful_hide w client slot found seen l at_slot at_client =
     quiet w slot client seen (slot_hidden seen) found
     (client_noticed client (slot_hidden seen) found) l at_slot at_client
     (calm_hidden seen)
-    (record {
-      owned = refl;
-      stamps = refl;
-      trail = refl;
-      charged =
-          refl;
-      real = refl;
-      taken = refl;
-    })
+    (noticed_more found _ _)
     (hidden_bounded w.setup seen (l.bounded slot seen at_slot))
     (inl (let same = hidden_strays seen in omega arith)) (λ s n. omega arith)
     (λ m h. elim (dies_here client found.dead (slot_hidden seen) m h) [

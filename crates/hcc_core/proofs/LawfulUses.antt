@@ -13,7 +13,7 @@ use Rattle.hcc_core.specs.References.{client_noticed}
 use Rattle.hcc_core.specs.Lawful.{Lawful, IsBounded}
 use Rattle.hcc_core.proofs.ListLemmas.{set_same}
 use Rattle.hcc_core.proofs.LawfulParts.{ledgers_client}
-use Rattle.hcc_core.proofs.LawfulQuiet.{QuietSlot, quiet, QuietClient}
+use Rattle.hcc_core.proofs.LawfulQuiet.{calm, changed, noticed_more, QuietSlot, quiet}
 use Rattle.hcc_core.specs.World.{uses_of}
 use Rattle.hcc_core.specs.Uses.{slot_with_uses, slot_marked}
 use Rattle.hcc_core.specs.Trails.{is_slot}
@@ -24,36 +24,9 @@ use Rattle.hcc_core.proofs.LawfulReferences.{dies_here, still_hidden}
 use Rattle.hcc_core.proofs.DroppedLemmas.{dropped-length}
 
 calm_uses : (uses : ℕ) (seen : Slot) → QuietSlot seen (slot_with_uses uses seen)
-calm_uses uses (slots.Empty strays) =
-    record {
-      owner = refl;
-      stamp = refl;
-      trail = refl;
-      charge =
-          refl;
-      taken = refl;
-      shown = λ m h. h;
-    }
-calm_uses uses (slots.Building other strays) =
-    record {
-      owner = refl;
-      stamp = refl;
-      trail = refl;
-      charge =
-          refl;
-      taken = refl;
-      shown = λ m h. h;
-    }
-calm_uses uses (slots.Shareable r) =
-    record {
-      owner = refl;
-      stamp = refl;
-      trail = refl;
-      charge =
-          refl;
-      taken = refl;
-      shown = λ m h. h;
-    }
+calm_uses uses (slots.Empty strays) = calm _
+calm_uses uses (slots.Building other strays) = calm _
+calm_uses uses (slots.Shareable r) = changed r r.references uses r.hit
 
 uses_strays : (uses : ℕ) (seen : Slot) → strays_of (slot_with_uses uses seen) ≡ strays_of seen
 uses_strays uses (slots.Empty strays) = refl
@@ -68,10 +41,6 @@ fewer_bounded setup uses (slots.Building other strays) few b = b
 fewer_bounded setup uses (slots.Shareable r) few b = let before = b.uses in
     record { references = b.references; uses = omega arith }
 
-same_hand : (found : Client) → QuietClient found found
-same_hand found =
-    record { owned = refl; stamps = refl; trail = refl; charged = refl; real = refl; taken = refl }
-
 pub lawful_clock : (w : State) (client slot uses : ℕ) (found : Client) (seen : Slot) → Lawful w
     → slice_get w.slots slot ≡ Some seen → slice_get w.clients client ≡ Some found
     → uses ≤ uses_of seen
@@ -82,7 +51,7 @@ lawful_clock w client slot uses found seen l at_slot at_client few =
     both : Lawful (with_both w slot (slot_with_uses uses seen) client found)
     both =
         quiet w slot client seen (slot_with_uses uses seen) found
-        found l at_slot at_client (calm_uses uses seen) (same_hand found)
+        found l at_slot at_client (calm_uses uses seen) (noticed_more found found.looked found.dead)
         (fewer_bounded w.setup uses seen few (l.bounded slot seen at_slot))
         (inl (let same = uses_strays uses seen in omega arith)) (λ s n. omega arith) (λ m h. inl h)
 
@@ -94,15 +63,7 @@ lawful_correct w client slot uses found seen l at_slot at_client few =
     quiet w slot client seen (slot_with_uses uses seen) found
     (client_noticed client seen found) l at_slot at_client
     (calm_uses uses seen)
-    (record {
-      owned = refl;
-      stamps = refl;
-      trail = refl;
-      charged =
-          refl;
-      real = refl;
-      taken = refl;
-    })
+    (noticed_more found _ _)
     (fewer_bounded w.setup uses seen few (l.bounded slot seen at_slot))
     (inl (let same = uses_strays uses seen in omega arith)) (λ s n. omega arith)
     (λ m h. elim (dies_here client found.dead seen m h) [
@@ -112,36 +73,9 @@ lawful_correct w client slot uses found seen l at_slot at_client few =
     ])
 
 calm_marked : (seen : Slot) → QuietSlot seen (slot_marked seen)
-calm_marked (slots.Empty strays) =
-    record {
-      owner = refl;
-      stamp = refl;
-      trail = refl;
-      charge =
-          refl;
-      taken = refl;
-      shown = λ m h. h;
-    }
-calm_marked (slots.Building other strays) =
-    record {
-      owner = refl;
-      stamp = refl;
-      trail = refl;
-      charge =
-          refl;
-      taken = refl;
-      shown = λ m h. h;
-    }
-calm_marked (slots.Shareable r) =
-    record {
-      owner = refl;
-      stamp = refl;
-      trail = refl;
-      charge =
-          refl;
-      taken = refl;
-      shown = λ m h. h;
-    }
+calm_marked (slots.Empty strays) = calm _
+calm_marked (slots.Building other strays) = calm _
+calm_marked (slots.Shareable r) = changed r r.references r.uses true
 
 marked_strays : (seen : Slot) → strays_of (slot_marked seen) ≡ strays_of seen
 marked_strays (slots.Empty strays) = refl
@@ -161,15 +95,7 @@ lawful_mark w client slot found seen l at_slot at_client =
     quiet w slot client seen (slot_marked seen) found (client_noticed client seen found)
     l at_slot at_client
     (calm_marked seen)
-    (record {
-      owned = refl;
-      stamps = refl;
-      trail = refl;
-      charged =
-          refl;
-      real = refl;
-      taken = refl;
-    })
+    (noticed_more found _ _)
     (marked_bounded w.setup seen (l.bounded slot seen at_slot))
     (inl (let same = marked_strays seen in omega arith)) (λ s n. omega arith)
     (λ m h. elim (dies_here client found.dead seen m h) [

@@ -229,8 +229,7 @@ pub fall_gives : (w : State) (client name : ℕ) (found new : Client) (gone : St
     → find (is_standing name) found.standalones ≡ Some gone
     → new ≡ record found {
       freed = found.freed + gone.charge;
-      standalones =
-          dropped (is_standing name) found.standalones;
+      standalones = dropped (is_standing name) found.standalones;
     }
     → fall_of w client name ≡ Ok (replies.Ok, with_client w client new)
 unfolding fall_of
