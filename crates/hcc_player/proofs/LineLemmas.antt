@@ -1,5 +1,7 @@
 -- What the first line of a text gives.
-use Rattle.std.proofs.Common.{◌≡◌, ℕ, ◌+◌, ◌==◌, ◌-◌, inl, inr, Bool, true, false, cond, List, [], ◌∷◌, ◌++◌, Some, None, Result, Ok, Err, IsOk, length, take, drop, position, refl, sym, ap, ◌∙◌, arith, ltb, append_assoc}
+use Rattle.std.proofs.Common.{◌≡◌, ℕ, ◌+◌, ◌==◌, ◌-◌, inl, inr, Bool, true, false, cond, List, []}
+use Rattle.std.proofs.Common.{◌∷◌, ◌++◌, Some, None, Result, Ok, Err, IsOk, length, take, drop}
+use Rattle.std.proofs.Common.{position, refl, sym, ap, ◌∙◌, arith, ltb, append_assoc}
 use Rattle.std.specs.List.{onto_first, position_or_len}
 use Rattle.std.proofs.lemmas.List.Splits.{slice_split_first, slice_split_none}
 use Rattle.std.proofs.lemmas.List.Sums.{fails_before_first}
@@ -12,14 +14,16 @@ use Rattle.hcc_player.specs.declared.fault.LineError.{LineError}
 use Rattle.hcc_player.specs.declared.fault.LineError.TheVariants as errors
 use Rattle.hcc_player.specs.Line.{line_event}
 use Rattle.hcc_player.specs.Value.{Gives}
-use Rattle.hcc_player.specs.Script.{lines_of, script_from, with_front, then_events, ends_with, last_fault, ScriptFails, told_in}
+use Rattle.hcc_player.specs.Script.{lines_of, script_from, with_front, then_events, ends_with}
+use Rattle.hcc_player.specs.Script.{last_fault, ScriptFails, told_in}
 
 onto_some : (b : ℕ) (lines : List (List ℕ)) (line : List ℕ) (more : List (List ℕ))
     → lines ≡ line ∷ more → onto_first b lines ≡ (b ∷ line) ∷ more
 onto_some b lines line more e = rw e refl
 
 -- there is a first line
-pub some_line : (text : List ℕ) → (line : List ℕ) × (more : List (List ℕ)) × (lines_of text ≡ line ∷ more)
+pub some_line : (text : List ℕ) → (line : List ℕ) × (more : List (List ℕ))
+    × (lines_of text ≡ line ∷ more)
 some_line [] = ([], [], refl)
 some_line (b ∷ bs) =
     let rest = some_line bs in
@@ -32,7 +36,8 @@ some_line (b ∷ bs) =
 
 -- a text whose first line a line feed ends
 pub script_line : (n : ℕ) (text line after : List ℕ) → lines_of text ≡ line ∷ lines_of after
-    → script_from n (lines_of text) ≡ then_events n (line_event line) (script_from (n + 1) (lines_of after))
+    → script_from n (lines_of text) ≡ then_events n (line_event line)
+    (script_from (n + 1) (lines_of after))
 script_line n text line after cut =
     let next = some_line after in
     rw (cut, next.2) refl
@@ -56,7 +61,8 @@ is_feed b = b == 10
 
 -- the cut at the first line feed
 pub cut_at : (text : List ℕ) (end : ℕ) → position (λ b. b == 10) text ≡ Some end
-    → lines_of text ≡ take end text ∷ lines_of (take (length text - (end + 1)) (drop (end + 1) text))
+    → lines_of text ≡ take end text ∷ lines_of
+    (take (length text - (end + 1)) (drop (end + 1) text))
 cut_at text end h =
     elim (cases_Bool (ltb (position_or_len is_feed text) (length text))) [
       | inl e ↦
@@ -73,7 +79,8 @@ uncut text h =
       | inl e ↦ let bad : Some (position_or_len is_feed text) ≡ None = rw e at h in cc
       | inr e ↦
           let past = ltb-false (position_or_len is_feed text) (length text) e in
-          slice_split_none is_feed text (λ k d below. fails_before_first is_feed text k d (omega arith))
+          slice_split_none is_feed text
+          (λ k d below. fails_before_first is_feed text k d (omega arith))
     ]
 
 -- the events so far stand in front of those of the rest, and together they are all
@@ -82,7 +89,8 @@ pub record Ahead (n : ℕ) (rest : List ℕ) (all : Result (List Event) ScriptFa
   pub so_far : with_front front (script_from n (lines_of rest)) ≡ all
 
 -- a line with an event
-pub ahead_goes : (n : ℕ) (text line after : List ℕ) (all : Result (List Event) ScriptFault) (event : Event)
+pub ahead_goes : (n : ℕ) (text line after : List ℕ) (all : Result (List Event) ScriptFault)
+    (event : Event)
     → Ahead n text all → lines_of text ≡ line ∷ lines_of after → line_event line ≡ Ok event
     → Ahead (n + 1) after all
 ahead_goes n text line after all event ahead cut told =
@@ -97,8 +105,10 @@ ahead_goes n text line after all event ahead cut told =
     }
 
 -- a line at fault
-pub ahead_fails : (n : ℕ) (text line after : List ℕ) (all : Result (List Event) ScriptFault) (error : LineError)
-    → Ahead n text all → lines_of text ≡ line ∷ lines_of after → Gives {X = Event} (Err error) (line_event line)
+pub ahead_fails : (n : ℕ) (text line after : List ℕ) (all : Result (List Event) ScriptFault)
+    (error : LineError)
+    → Ahead n text all → lines_of text ≡ line ∷ lines_of after
+    → Gives {X = Event} (Err error) (line_event line)
     → ScriptFails (told_in n error) all
 ahead_fails n text line after all (errors.Fault f) ahead cut told =
     let failed : then_events n (line_event line) (script_from (n + 1) (lines_of after))
@@ -110,12 +120,15 @@ ahead_fails n text line after all errors.OutOfMemory ahead cut told = tt
 pub ahead_ends : (n : ℕ) (text : List ℕ) (all : Result (List Event) ScriptFault)
     → Ahead n text all → lines_of text ≡ text ∷ [] → last_fault text ≡ None → IsOk all
 ahead_ends n text all ahead whole fine =
-    let ends : script_from n (lines_of text) ≡ Ok [] = script_end n text whole ∙ ap (ends_with n) fine in
-    let done : Ok (ahead.front ++ []) ≡ all = sym (ap (with_front ahead.front) ends) ∙ ahead.so_far in
+    let ends : script_from n (lines_of text) ≡ Ok [] = script_end n text whole
+    ∙ ap (ends_with n) fine in
+    let done : Ok (ahead.front ++ []) ≡ all = sym (ap (with_front ahead.front) ends)
+    ∙ ahead.so_far in
     rw (← done) refl
 
 -- the end with a fault
-pub ahead_stops : (n : ℕ) (text : List ℕ) (all : Result (List Event) ScriptFault) (fault : TextFault)
+pub ahead_stops : (n : ℕ) (text : List ℕ) (all : Result (List Event) ScriptFault)
+    (fault : TextFault)
     → Ahead n text all → lines_of text ≡ text ∷ [] → last_fault text ≡ Some fault
     → all ≡ Err (record { line = n; fault = fault })
 ahead_stops n text all fault ahead whole wrong =

@@ -1,10 +1,13 @@
 -- A number is read exactly where the word is that number's decimal form.
-use Rattle.std.proofs.Common.{◌≡◌, ℕ, ◌+◌, zero, suc, ◌-◌, ◌*◌, ◌^◌, ◌<◌, ◌≤◌, ◌==◌, ◌⊎◌, inl, inr, true, nat_lt, List, [], ◌∷◌, Result, Ok, Err, IfOk, length, get_or, refl, sym, ap, ◌∙◌, arith, rules, decimal, tests}
+use Rattle.std.proofs.Common.{◌≡◌, ℕ, ◌+◌, zero, suc, ◌-◌, ◌*◌, ◌^◌, ◌<◌, ◌≤◌, ◌==◌, ◌⊎◌, inl, inr}
+use Rattle.std.proofs.Common.{true, nat_lt, List, [], ◌∷◌, Result, Ok, Err, IfOk, length, get_or}
+use Rattle.std.proofs.Common.{refl, sym, ap, ◌∙◌, arith, rules, decimal, tests}
 use Rattle.std.specs.Char.{is_ascii_digit}
 use Rattle.std.specs.Str.{all_ascii_digits}
 use Rattle.std.proofs.lemmas.Bool.{cases_Bool}
 use Rattle.std.proofs.lemmas.Str.Parse.{IsNumeralModel, numerals_by_fold}
-use Rattle.std.proofs.lemmas.Fmt.{decimal-digits_value, digits_decimal, digits_value-decimal, first_decimal, decimal_digit, decimal_nonempty}
+use Rattle.std.proofs.lemmas.Fmt.{decimal-digits_value, digits_decimal, digits_value-decimal}
+use Rattle.std.proofs.lemmas.Fmt.{first_decimal, decimal_digit, decimal_nonempty}
 use Rattle.hcc_player.specs.declared.fault.TextFault.{TextFault}
 use Rattle.hcc_player.specs.declared.fault.TextFault.TheVariants.{BadNumber}
 use Rattle.hcc_player.specs.Number.{digit_onto, digits_from, number_of}
@@ -41,7 +44,8 @@ record AreRead (n : ℕ) (ds : List ℕ) (m : ℕ) : Type 0 where
   fits : m < 2 ^ 64
 
 digits_read : (n : ℕ) (ds : List ℕ) (m : ℕ) → n < 2 ^ 64 → digits_from n ds ≡ Ok m → AreRead n ds m
-digits_read n [] m small e = let same : n ≡ m = cc in record { digits = refl; value = same; fits = rw (← same) small }
+digits_read n [] m small e = let same : n ≡ m = cc in
+    record { digits = refl; value = same; fits = rw (← same) small }
 digits_read n (b ∷ bs) m small e =
     elim (digit_cases n b) [
       | inl d ↦

@@ -1,11 +1,15 @@
--- What a text is refused by is the fault of its first line at fault; each line of a script gives an event.
-use Rattle.std.proofs.Common.{◌≡◌, ℕ, ◌+◌, zero, suc, List, [], ◌∷◌, Option, Some, None, Result, Ok, Err, IsOk, inl, inr, false, ◌==◌, nat_lt, length, refl, sym, ap, ◌∙◌, arith, rules, tests}
+-- What a text is refused by is the fault of its first line at fault; each line of a script gives an
+-- event.
+use Rattle.std.proofs.Common.{◌≡◌, ℕ, ◌+◌, zero, suc, List, [], ◌∷◌, Option, Some, None, Result, Ok}
+use Rattle.std.proofs.Common.{Err, IsOk, inl, inr, false, ◌==◌, nat_lt, length, refl, sym, ap, ◌∙◌}
+use Rattle.std.proofs.Common.{arith, rules, tests}
 use Rattle.std.specs.List.{All}
 use Rattle.hcc_core.specs.declared.event.Event.{Event}
 use Rattle.hcc_player.specs.declared.fault.ScriptFault.{ScriptFault}
 use Rattle.hcc_player.specs.declared.fault.TextFault.{TextFault}
 use Rattle.hcc_player.specs.Line.{line_event}
-use Rattle.hcc_player.specs.Script.{lines_of, script_of, script_from, ends_with, then_events, last_fault, FirstFault, GiveEvents}
+use Rattle.hcc_player.specs.Script.{lines_of, script_of, script_from, ends_with, then_events}
+use Rattle.hcc_player.specs.Script.{last_fault, FirstFault, GiveEvents}
 use Rattle.hcc_player.specs.declared.limits.TheConstants.{MOST_LINE}
 use Rattle.std.proofs.lemmas.Bool.{cases_Bool}
 use Rattle.hcc_player.proofs.LineLemmas.{some_line}
@@ -22,7 +26,8 @@ all_more P line lines here others (suc k) d within = others k d (omega arith)
 
 -- a line that gives an event stands before the fault
 goes_before : (n : ℕ) (line : List ℕ) (lines : List (List ℕ)) (at : ℕ) (fault : TextFault)
-    → IsOk (line_event line) → FirstFault (n + 1) lines at fault → FirstFault n (line ∷ lines) at fault
+    → IsOk (line_event line) → FirstFault (n + 1) lines at fault
+    → FirstFault n (line ∷ lines) at fault
 goes_before n line lines at fault fine rest =
     let number = rest.number in
     record {
@@ -81,12 +86,14 @@ first_from : (n : ℕ) (lines : List (List ℕ)) (at : ℕ) (fault : TextFault)
 first_from n [] at fault e = cc
 first_from n (line ∷ []) at fault e = last_at_fault n line (last_fault line) at fault refl e
 first_from n (line ∷ next ∷ more) at fault e =
-    line_at_fault n line next more (line_event line) (script_from (n + 1) (next ∷ more)) at fault refl refl
+    line_at_fault n line next more (line_event line) (script_from (n + 1) (next ∷ more))
+    at fault refl refl
     (first_from (n + 1) (next ∷ more) at fault) e
 
 -- a text at fault
 pub first_fault : (text : List ℕ) (at : ℕ) (fault : TextFault)
-    → script_of text ≡ Err (record { line = at; fault = fault }) → FirstFault 1 (lines_of text) at fault
+    → script_of text ≡ Err (record { line = at; fault = fault })
+    → FirstFault 1 (lines_of text) at fault
 unfolding script_of
 first_fault text at fault e = first_from 1 (lines_of text) at fault e
 
@@ -99,9 +106,11 @@ gives_before line lines fine rest = record {
   events = all_more (λ l. IsOk (line_event l)) line rest.ended fine rest.events;
 }
 
-last_is_empty : (n : ℕ) (line : List ℕ) (events : List Event) → ends_with n (last_fault line) ≡ Ok events
+last_is_empty : (n : ℕ) (line : List ℕ) (events : List Event)
+    → ends_with n (last_fault line) ≡ Ok events
     → GiveEvents (line ∷ [])
-last_is_empty n [] events e = record { ended = []; cut = refl; events = λ k d within. absurd (omega arith) }
+last_is_empty n [] events e =
+    record { ended = []; cut = refl; events = λ k d within. absurd (omega arith) }
 last_is_empty n (b ∷ bs) events e =
     let some : (length (b ∷ bs) == 0) ≡ false = search (rules, tests) in
     elim (cases_Bool (nat_lt MOST_LINE (length (b ∷ bs)))) [
@@ -112,7 +121,8 @@ last_is_empty n (b ∷ bs) events e =
 line_gives : (n : ℕ) (line next : List ℕ) (more : List (List ℕ)) (told : Result Event TextFault)
     (rest : Result (List Event) ScriptFault) (events : List Event)
     → line_event line ≡ told → script_from (n + 1) (next ∷ more) ≡ rest
-    → ((others : List Event) → script_from (n + 1) (next ∷ more) ≡ Ok others → GiveEvents (next ∷ more))
+    → ((others : List Event) → script_from (n + 1) (next ∷ more) ≡ Ok others
+    → GiveEvents (next ∷ more))
     → then_events n told rest ≡ Ok events → GiveEvents (line ∷ next ∷ more)
 line_gives n line next more (Ok event) (Ok others) events here behind later e =
     gives_before line (next ∷ more) (rw here refl) (later others behind)
@@ -124,13 +134,14 @@ give_from : (n : ℕ) (line : List ℕ) (more : List (List ℕ)) (events : List 
     → script_from n (line ∷ more) ≡ Ok events → GiveEvents (line ∷ more)
 give_from n line [] events e = last_is_empty n line events e
 give_from n line (next ∷ more) events e =
-    line_gives n line next more (line_event line) (script_from (n + 1) (next ∷ more)) events refl refl
+    line_gives n line next more (line_event line) (script_from (n + 1) (next ∷ more))
+    events refl refl
     (give_from (n + 1) next more) e
 
 -- a script
-pub lines_give : (text : List ℕ) → IsOk (script_of text) → GiveEvents (lines_of text)
+pub all_give : (text : List ℕ) → IsOk (script_of text) → GiveEvents (lines_of text)
 unfolding script_of
-lines_give text fine =
+all_give text fine =
     let first = some_line text in
     let read = events_of (script_from 1 (lines_of text)) fine in
     rw first.2 (give_from 1 first.0 first.1 read.0 (ap (script_from 1) (sym first.2) ∙ read.1))

@@ -1,5 +1,6 @@
 -- The texts of a world's slots, one after another.
-use Rattle.std.proofs.Common.{◌≡◌, ℕ, ◌+◌, inl, inr, List, [], ◌∷◌, ◌++◌, Some, None, drop, slice_get, refl, sym, ap, ◌∙◌, add-one}
+use Rattle.std.proofs.Common.{◌≡◌, ℕ, ◌+◌, inl, inr, List, [], ◌∷◌, ◌++◌, Some, None, drop}
+use Rattle.std.proofs.Common.{slice_get, refl, sym, ap, ◌∙◌, add-one}
 use Rattle.std.proofs.Math.Seq.{drop-cons}
 use Rattle.std.proofs.lemmas.Option.{slice_get_within, get_or_from_slice_get, slice_get_cases}
 use Rattle.std.proofs.lemmas.List.{drop_all}
@@ -11,10 +12,15 @@ use Rattle.hcc_player.specs.Text.{gap, slot_text, slots_from}
 from_here : (all : List Slot) (n : ℕ) (slot : Slot) → slice_get all n ≡ Some slot
     → drop n all ≡ slot ∷ drop (n + 1) all
 from_here all n slot here =
-    rw (add-one, drop-cons all n slot (slice_get_within all n slot here), get_or_from_slice_get all n slot slot here) refl
+    rw (
+      add-one,
+      drop-cons all n slot (slice_get_within all n slot here),
+      get_or_from_slice_get all n slot slot here,
+    ) refl
 
 -- the text of a slot, and then of those behind it
-pub slots_here : (world : State) (all : List Slot) (n : ℕ) (slot : Slot) → slice_get all n ≡ Some slot
+pub slots_here : (world : State) (all : List Slot) (n : ℕ) (slot : Slot)
+    → slice_get all n ≡ Some slot
     → slots_from world n (drop n all)
     ≡ gap n ++ slot_text slot (passed_at world n) ++ slots_from world (n + 1) (drop (n + 1) all)
 slots_here world all n slot here = ap (slots_from world n) (from_here all n slot here)

@@ -1,5 +1,8 @@
 -- A value is read exactly where the word is the text of its bytes.
-use Rattle.std.proofs.Common.{◌≡◌, ℕ, ◌+◌, ◌-◌, ◌*◌, ◌/◌, ◌%◌, ◌<◌, ◌≤◌, ◌==◌, ◌&&◌, inl, inr, true, false, nat_lt, nat_le, suc, List, [], ◌∷◌, ◌++◌, Result, Ok, Err, IfOk, MatchResult, length, codes, if◌then◌else◌, refl, sym, ap, ◌∙◌, arith, rules, tests}
+use Rattle.std.proofs.Common.{◌≡◌, ℕ, ◌+◌, ◌-◌, ◌*◌, ◌/◌, ◌%◌, ◌<◌, ◌≤◌, ◌==◌, ◌&&◌, inl, inr, true}
+use Rattle.std.proofs.Common.{false, nat_lt, nat_le, suc, List, [], ◌∷◌, ◌++◌, Result, Ok, Err}
+use Rattle.std.proofs.Common.{IfOk, MatchResult, length, codes, if◌then◌else◌, refl, sym, ap, ◌∙◌}
+use Rattle.std.proofs.Common.{arith, rules, tests}
 use Rattle.std.specs.Char.{is_ascii_digit}
 use Rattle.std.specs.Fmt.{digit_glyph}
 use Rattle.std.specs.List.{All, flat_map}
@@ -55,7 +58,8 @@ digit_goes digit small =
       | inr high ↦
           let beyond : 10 ≤ digit = search (rules, tests) in
           let letter : is_ascii_digit (87 + digit) ≡ false = search (rules, tests) in
-          let within : (nat_le 97 (87 + digit) && nat_le (87 + digit) 102) ≡ true = search (rules, tests) in
+          let within : (nat_le 97 (87 + digit) && nat_le (87 + digit) 102) ≡ true =
+          search (rules, tests) in
           rw (high, letter, within) (ap Ok (omega arith))
     ]
 
@@ -82,39 +86,51 @@ byte_goes : (byte : ℕ) → byte < 256
     → byte_of (digit_glyph false (byte / 16)) (digit_glyph false (byte % 16)) ≡ Ok byte
 unfolding byte_of
 byte_goes byte small =
-    rw (digit_goes (byte / 16) (omega arith), digit_goes (byte % 16) (omega arith)) (ap Ok (omega arith))
+    rw (digit_goes (byte / 16) (omega arith), digit_goes (byte % 16) (omega arith))
+    (ap Ok (omega arith))
 
-bytes_join : (high low : ℕ) (digits bytes : List ℕ) (byte : Result ℕ TextFault) (more : Result (List ℕ) TextFault)
+bytes_join : (high low : ℕ) (digits bytes : List ℕ) (byte : Result ℕ TextFault)
+    (more : Result (List ℕ) TextFault)
     → byte_of high low ≡ byte → bytes_of digits ≡ more
     → ((rest : List ℕ) → bytes_of digits ≡ Ok rest → digits ≡ flat_map byte_text rest)
-    → (byte >>= λ b. more >>= λ bs. Ok (b ∷ bs)) ≡ Ok bytes → high ∷ low ∷ digits ≡ flat_map byte_text bytes
+    → (byte >>= λ b. more >>= λ bs. Ok (b ∷ bs)) ≡ Ok bytes
+    → high ∷ low ∷ digits ≡ flat_map byte_text bytes
 bytes_join high low digits bytes (Ok b) (Ok bs) here behind rest e =
     let same : b ∷ bs ≡ bytes = cc in
     let first = byte_read high low b here in
     let others = rest bs behind in
-    ap (λ (l : List ℕ). l ++ digits) first ∙ ap (λ l. byte_text b ++ l) others ∙ ap (flat_map byte_text) same
+    ap (λ (l : List ℕ). l ++ digits) first ∙ ap (λ l. byte_text b ++ l) others
+    ∙ ap (flat_map byte_text) same
 bytes_join high low digits bytes (Ok b) (Err fault) here behind rest e = cc
 bytes_join high low digits bytes (Err fault) more here behind rest e = cc
 
 -- digits that were read are the texts of their bytes
-bytes_read : (digits bytes : List ℕ) → bytes_of digits ≡ Ok bytes → digits ≡ flat_map byte_text bytes
+bytes_read : (digits bytes : List ℕ) → bytes_of digits ≡ Ok bytes
+    → digits ≡ flat_map byte_text bytes
 bytes_read [] bytes e = let none : [] ≡ bytes = cc in rw (← none) refl
 bytes_read (high ∷ []) bytes e = cc
 bytes_read (high ∷ low ∷ digits) bytes e =
-    bytes_join high low digits bytes (byte_of high low) (bytes_of digits) refl refl (bytes_read digits) e
+    bytes_join high low digits bytes (byte_of high low) (bytes_of digits)
+    refl refl (bytes_read digits) e
 
 -- the texts of bytes are read as these bytes
-bytes_go : (bytes : List ℕ) → All (λ b. b < 256) bytes → bytes_of (flat_map byte_text bytes) ≡ Ok bytes
+bytes_go : (bytes : List ℕ) → All (λ b. b < 256) bytes
+    → bytes_of (flat_map byte_text bytes) ≡ Ok bytes
 bytes_go [] small = refl
 bytes_go (b ∷ bs) small =
-    rw (byte_goes b (small 0 0 (omega arith)), bytes_go bs (λ k d within. small (suc k) d (omega arith))) refl
+    rw (
+      byte_goes b (small 0 0 (omega arith)),
+      bytes_go bs
+          (λ k d within. small (suc k) d (omega arith)),
+    ) refl
 
 -- the text of one byte or more
 some_text : (b : ℕ) (bs : List ℕ) → value_text (b ∷ bs) ≡ flat_map byte_text (b ∷ bs)
 unfolding value_text
 some_text b bs = let some : (length (b ∷ bs) == 0) ≡ false = search (rules, tests) in rw some refl
 
-value_join : (word bytes : List ℕ) (read : Result (List ℕ) TextFault) → 0 < length word → bytes_of word ≡ read
+value_join : (word bytes : List ℕ) (read : Result (List ℕ) TextFault)
+    → 0 < length word → bytes_of word ≡ read
     → (read >>= λ bs. if nat_lt MOST_VALUE (length bs) then Err ValueTooLong else Ok bs) ≡ Ok bytes
     → word ≡ value_text bytes
 value_join word bytes (Ok bs) some here e =
@@ -144,7 +160,8 @@ reads_text word bytes e =
           elim (cases_Bool (length word == 0)) [
             | inl bare ↦ let no = rw (other, bare) at e in cc
             | inr some ↦
-                value_join word bytes (bytes_of word) (search (rules, tests)) refl (rw (other, some) at e)
+                value_join word bytes (bytes_of word) (search (rules, tests))
+                refl (rw (other, some) at e)
           ]
     ]
 
@@ -180,8 +197,10 @@ read_law items word (Err error) answered = tt
 
 -- where the word is the text of a value, it answers that value, unless memory was refused
 pub takes_law : {X : Type 0} (items : X → List ℕ) (word : List ℕ) (result : Result X LineError)
-    → Answers items word result → (bytes : List ℕ) → All (λ b. b < 256) bytes → length bytes ≤ MOST_VALUE
-    → word ≡ value_text bytes → MatchResult result (λ x. items x ≡ bytes) (λ error. error ≡ errors.OutOfMemory)
+    → Answers items word result → (bytes : List ℕ) → All (λ b. b < 256) bytes
+    → length bytes ≤ MOST_VALUE
+    → word ≡ value_text bytes
+    → MatchResult result (λ x. items x ≡ bytes) (λ error. error ≡ errors.OutOfMemory)
 takes_law items word (Ok x) answered bytes small few text =
     let same : Ok (items x) ≡ Ok bytes = sym answered ∙ takes_text word bytes small few text in cc
 takes_law items word (Err errors.OutOfMemory) answered bytes small few text = refl

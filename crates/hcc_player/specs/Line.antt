@@ -1,5 +1,7 @@
 -- Lines: the words of one event.
-use Rattle.std.specs.Prelude.{ℕ, Bool, false, ◌&&◌, ◌||◌, ◌==◌, nat_lt, nat_le, List, [], ◌∷◌, Result, Ok, Err, length, codes, if◌then◌else◌, slice_index_or}
+use Rattle.std.specs.Prelude.{ℕ, Bool, false, ◌&&◌, ◌||◌, ◌==◌, nat_lt, nat_le, List, [], ◌∷◌}
+use Rattle.std.specs.Prelude.{Option, Some, None, Result, Ok, Err, length, codes, slice_index_or}
+use Rattle.std.specs.Prelude.{if◌then◌else◌}
 use Rattle.std.specs.Str.{bytes_eq}
 use Rattle.std.specs.List.{list_all, slice_split}
 use Rattle.hcc_core.specs.declared.event.Event.{Event}
@@ -77,62 +79,101 @@ show_line words = of_words 8 words (do
   value ← value_of (word_at words 7)
   Ok (events.Show client key0 key1 charge countdown name value))
 
--- The verbs, by subject: each group passes on what it doesn't know.
+-- What stands behind the verbs of these three forms.
 
-unfoldable pub charge_event : List ℕ → List (List ℕ) → Result Event TextFault
-charge_event verb words =
-    if bytes_eq verb (codes "charge") then charge_line words
-    else if bytes_eq verb (codes "settle") then (client_in words >>= λ client. Ok (events.Settle client))
-    else if bytes_eq verb (codes "waive") then (client_in words >>= λ client. Ok (events.Waive client))
-    else if bytes_eq verb (codes "usage") then (client_in words >>= λ client. Ok (events.Usage client))
-    else if bytes_eq verb (codes "stand") then stand_line words
-    else if bytes_eq verb (codes "fall") then (client_and_name words >>= λ it. Ok (events.Fall it.0 it.1))
-    else if bytes_eq verb (codes "standing") then (client_in words >>= λ client. Ok (events.Standing client))
-    else Err BadWord
+abbrev pub of_client : (ℕ → Event) → List (List ℕ) → Result (Option Event) TextFault
+of_client make words = client_in words >>= λ client. Ok (Some (make client))
 
-unfoldable pub place_event : List ℕ → List (List ℕ) → Result Event TextFault
-place_event verb words =
-    if bytes_eq verb (codes "start") then (client_in words >>= λ client. Ok (events.Start client))
-    else if bytes_eq verb (codes "end") then (client_in words >>= λ client. Ok (events.End client))
-    else if bytes_eq verb (codes "enter") then (client_in words >>= λ client. Ok (events.Enter client))
-    else if bytes_eq verb (codes "quit") then (client_in words >>= λ client. Ok (events.Quit client))
-    else if bytes_eq verb (codes "slots") then (client_in words >>= λ client. Ok (events.Slots client))
-    else if bytes_eq verb (codes "occupancy") then (client_in words >>= λ client. Ok (events.Occupancy client))
-    else charge_event verb words
+abbrev pub of_slot : (ℕ → ℕ → Event) → List (List ℕ) → Result (Option Event) TextFault
+of_slot make words = client_and_slot words >>= λ it. Ok (Some (make it.0 it.1))
 
-unfoldable pub clock_event : List ℕ → List (List ℕ) → Result Event TextFault
-clock_event verb words =
-    if bytes_eq verb (codes "clock") then (client_and_slot words >>= λ it. Ok (events.Clock it.0 it.1))
-    else if bytes_eq verb (codes "count") then (client_and_slot words >>= λ it. Ok (events.Count it.0 it.1))
-    else if bytes_eq verb (codes "pass") then (client_and_slot words >>= λ it. Ok (events.Pass it.0 it.1))
-    else if bytes_eq verb (codes "unpass") then (client_and_slot words >>= λ it. Ok (events.Unpass it.0 it.1))
-    else if bytes_eq verb (codes "turn") then (client_in words >>= λ client. Ok (events.Turn client))
-    else place_event verb words
+abbrev pub of_name : (ℕ → ℕ → Event) → List (List ℕ) → Result (Option Event) TextFault
+of_name make words = client_and_name words >>= λ it. Ok (Some (make it.0 it.1))
 
-unfoldable pub entry_event : List ℕ → List (List ℕ) → Result Event TextFault
-entry_event verb words =
-    if bytes_eq verb (codes "occupy") then (client_and_slot words >>= λ it. Ok (events.Occupy it.0 it.1))
-    else if bytes_eq verb (codes "write") then (client_in words >>= λ client. Ok (events.Write client))
-    else if bytes_eq verb (codes "free") then free_line words
-    else if bytes_eq verb (codes "empty") then (client_in words >>= λ client. Ok (events.Empty client))
-    else clock_event verb words
+-- and of a form of its own
+abbrev pub of_line : Result Event TextFault → Result (Option Event) TextFault
+of_line read = read >>= λ event. Ok (Some event)
 
-unfoldable pub reference_event : List ℕ → List (List ℕ) → Result Event TextFault
+-- The verbs, by subject: each group knows its own.
+
+unfoldable pub reference_event : List ℕ → List (List ℕ) → Result (Option Event) TextFault
 reference_event verb words =
-    if bytes_eq verb (codes "look") then (client_and_slot words >>= λ it. Ok (events.Look it.0 it.1))
-    else if bytes_eq verb (codes "acquire") then acquire_line words
-    else if bytes_eq verb (codes "give") then (client_and_name words >>= λ it. Ok (events.Give it.0 it.1))
-    else if bytes_eq verb (codes "use") then (client_and_name words >>= λ it. Ok (events.Use it.0 it.1))
-    else if bytes_eq verb (codes "hide") then (client_and_name words >>= λ it. Ok (events.Hide it.0 it.1))
-    else if bytes_eq verb (codes "mark") then (client_and_name words >>= λ it. Ok (events.Mark it.0 it.1))
-    else if bytes_eq verb (codes "correct") then (client_and_name words >>= λ it. Ok (events.Correct it.0 it.1))
-    else if bytes_eq verb (codes "read") then (client_and_name words >>= λ it. Ok (events.Read it.0 it.1))
-    else entry_event verb words
+    if bytes_eq verb (codes "start") then of_client events.Start words
+    else if bytes_eq verb (codes "end") then of_client events.End words
+    else if bytes_eq verb (codes "look") then of_slot events.Look words
+    else if bytes_eq verb (codes "acquire") then of_line (acquire_line words)
+    else if bytes_eq verb (codes "give") then of_name events.Give words
+    else if bytes_eq verb (codes "use") then of_name events.Use words
+    else Ok None
+
+unfoldable pub use_event : List ℕ → List (List ℕ) → Result (Option Event) TextFault
+use_event verb words =
+    if bytes_eq verb (codes "clock") then of_slot events.Clock words
+    else if bytes_eq verb (codes "mark") then of_name events.Mark words
+    else if bytes_eq verb (codes "correct") then of_name events.Correct words
+    else Ok None
+
+unfoldable pub entry_event : List ℕ → List (List ℕ) → Result (Option Event) TextFault
+entry_event verb words =
+    if bytes_eq verb (codes "occupy") then of_slot events.Occupy words
+    else if bytes_eq verb (codes "write") then of_client events.Write words
+    else if bytes_eq verb (codes "read") then of_name events.Read words
+    else if bytes_eq verb (codes "hide") then of_name events.Hide words
+    else if bytes_eq verb (codes "free") then of_line (free_line words)
+    else if bytes_eq verb (codes "empty") then of_client events.Empty words
+    else Ok None
+
+unfoldable pub place_event : List ℕ → List (List ℕ) → Result (Option Event) TextFault
+place_event verb words =
+    if bytes_eq verb (codes "enter") then of_client events.Enter words
+    else if bytes_eq verb (codes "slots") then of_client events.Slots words
+    else if bytes_eq verb (codes "quit") then of_client events.Quit words
+    else if bytes_eq verb (codes "occupancy") then of_client events.Occupancy words
+    else Ok None
+
+unfoldable pub charge_event : List ℕ → List (List ℕ) → Result (Option Event) TextFault
+charge_event verb words =
+    if bytes_eq verb (codes "charge") then of_line (charge_line words)
+    else if bytes_eq verb (codes "settle") then of_client events.Settle words
+    else if bytes_eq verb (codes "waive") then of_client events.Waive words
+    else if bytes_eq verb (codes "usage") then of_client events.Usage words
+    else if bytes_eq verb (codes "stand") then of_line (stand_line words)
+    else if bytes_eq verb (codes "fall") then of_name events.Fall words
+    else if bytes_eq verb (codes "standing") then of_client events.Standing words
+    else Ok None
+
+unfoldable pub trail_event : List ℕ → List (List ℕ) → Result (Option Event) TextFault
+trail_event verb words =
+    if bytes_eq verb (codes "count") then of_slot events.Count words
+    else if bytes_eq verb (codes "pass") then of_slot events.Pass words
+    else if bytes_eq verb (codes "unpass") then of_slot events.Unpass words
+    else if bytes_eq verb (codes "turn") then of_client events.Turn words
+    else Ok None
+
+-- the event that the first list knows, or else the other
+infixr 9 ◌<|>◌
+abbrev pub ◌<|>◌ : Result (Option Event) TextFault → Result (Option Event) TextFault
+    → Result (Option Event) TextFault
+(Ok None) <|> other = other
+(Ok (Some event)) <|> other = Ok (Some event)
+(Err fault) <|> other = Err fault
+
+-- the event of a verb but `show`, if any group knows it
+unfoldable pub known_event : List ℕ → List (List ℕ) → Result (Option Event) TextFault
+known_event verb words =
+    reference_event verb words <|> use_event verb words <|> entry_event verb words
+    <|> place_event verb words <|> charge_event verb words <|> trail_event verb words
+
+-- a verb that no group knows is at fault
+abbrev pub if_known : Option Event → Result Event TextFault
+if_known None = Err BadWord
+if_known (Some event) = Ok event
 
 -- the event of a line that begins with this word
 unfoldable pub event_of : List ℕ → List (List ℕ) → Result Event TextFault
 event_of verb words =
-    if bytes_eq verb (codes "show") then show_line words else reference_event verb words
+    if bytes_eq verb (codes "show") then show_line words
+    else (known_event verb words >>= λ known. if_known known)
 
 abbrev pub has_empty_word : List (List ℕ) → Bool
 has_empty_word [] = false

@@ -1,5 +1,6 @@
 -- Scripts: the events of a text, or its first fault.
-use Rattle.std.specs.Prelude.{◌≡◌, ℕ, ◌+◌, ◌==◌, nat_lt, List, [], ◌∷◌, ◌++◌, Option, Some, None, Result, Ok, Err, IsOk, length, if◌then◌else◌}
+use Rattle.std.specs.Prelude.{◌≡◌, ℕ, ◌+◌, ◌==◌, nat_lt, List, [], ◌∷◌, ◌++◌, Option, Some, None}
+use Rattle.std.specs.Prelude.{Result, Ok, Err, IsOk, length, if◌then◌else◌}
 use Rattle.std.specs.List.{All, slice_split}
 use Rattle.hcc_core.specs.declared.event.Event.{Event}
 use Rattle.hcc_player.specs.declared.limits.TheConstants.{MOST_LINE}
@@ -28,12 +29,14 @@ ends_with n None = Ok []
 ends_with n (Some fault) = Err (record { line = n; fault = fault })
 
 -- events, and then those of the rest
-abbrev pub with_front : List Event → Result (List Event) ScriptFault → Result (List Event) ScriptFault
+abbrev pub with_front : List Event → Result (List Event) ScriptFault
+    → Result (List Event) ScriptFault
 with_front front (Ok events) = Ok (front ++ events)
 with_front front (Err fault) = Err fault
 
 -- the event of the line of this number, and then those of the rest
-abbrev pub then_events : ℕ → Result Event TextFault → Result (List Event) ScriptFault → Result (List Event) ScriptFault
+abbrev pub then_events : ℕ → Result Event TextFault → Result (List Event) ScriptFault
+    → Result (List Event) ScriptFault
 then_events n (Ok event) rest = with_front (event ∷ []) rest
 then_events n (Err fault) rest = Err (record { line = n; fault = fault })
 
@@ -41,7 +44,8 @@ then_events n (Err fault) rest = Err (record { line = n; fault = fault })
 abbrev pub script_from : ℕ → List (List ℕ) → Result (List Event) ScriptFault
 script_from n [] = Ok []
 script_from n (line ∷ []) = ends_with n (last_fault line)
-script_from n (line ∷ next ∷ more) = then_events n (line_event line) (script_from (n + 1) (next ∷ more))
+script_from n (line ∷ next ∷ more) =
+    then_events n (line_event line) (script_from (n + 1) (next ∷ more))
 
 -- The events of a text, or its first fault with the number of its line, from 1.
 unfoldable pub script_of : List ℕ → Result (List Event) ScriptFault

@@ -1,5 +1,6 @@
 -- The texts of replies, of slots and of worlds, and the text that a list of events gives.
-use Rattle.std.specs.Prelude.{ℕ, zero, suc, ◌+◌, ◌/◌, ◌%◌, Bool, false, ◌==◌, List, [], ◌∷◌, ◌++◌, Result, Ok, Err, length, codes, decimal, if◌then◌else◌}
+use Rattle.std.specs.Prelude.{ℕ, zero, suc, ◌+◌, ◌/◌, ◌%◌, Bool, false, ◌==◌, List, [], ◌∷◌, ◌++◌}
+use Rattle.std.specs.Prelude.{Result, Ok, Err, length, codes, decimal, if◌then◌else◌}
 use Rattle.std.specs.Fmt.{digit_glyph}
 use Rattle.std.specs.List.{flat_map}
 use Rattle.hcc_core.specs.declared.slot.Slot.{Slot}
@@ -13,7 +14,8 @@ use Rattle.hcc_core.specs.declared.event.Reply.{Reply}
 use Rattle.hcc_core.specs.declared.event.Reply.TheVariants as replies
 use Rattle.hcc_core.specs.declared.event.Event.{Event}
 use Rattle.hcc_core.specs.declared.event.CoreError.{CoreError}
-use Rattle.hcc_core.specs.declared.event.CoreError.TheVariants.{NoSuchSlot, NoSuchClient, NotAllowed, OutOfMemory}
+use Rattle.hcc_core.specs.declared.event.CoreError.TheVariants.{NoSuchSlot, NoSuchClient}
+use Rattle.hcc_core.specs.declared.event.CoreError.TheVariants.{NotAllowed, OutOfMemory}
 use Rattle.hcc_core.specs.World.{State, usage_of, occupancy_of, standing_in, passed_at}
 use Rattle.hcc_core.specs.Outcomes.{Outcome}
 use Rattle.hcc_core.specs.Steps.{outcome_of}
@@ -144,4 +146,5 @@ event_text world event = line_text (answer_of (outcome_of world event)) (after w
 -- the lines of events, one after another
 abbrev pub events_text : State → List Event → List ℕ
 events_text world [] = []
-events_text world (event ∷ events) = event_text world event ++ events_text (after world event) events
+events_text world (event ∷ events) =
+    event_text world event ++ events_text (after world event) events

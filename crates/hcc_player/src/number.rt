@@ -1,6 +1,7 @@
 //! Reads words that are numbers.
 ghost use Rattle.std.specs.Prelude.{◌≡◌, ◌<◌, ◌^◌, ℕ, Ok, IfOk, decimal};
-ghost use Rattle.hcc_player.specs.Number.{digit_onto, digits_from, number_of, small_number_of, charge_of, name_of};
+ghost use Rattle.hcc_player.specs.Number.{digit_onto, digits_from, number_of, small_number_of};
+ghost use Rattle.hcc_player.specs.Number.{charge_of, name_of};
 
 use crate::fault::TextFault;
 

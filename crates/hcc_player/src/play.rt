@@ -1,5 +1,6 @@
 //! Plays a script from a reader to a writer.
-ghost use Rattle.std.specs.Prelude.{◌≡◌, ◌++◌, ◌+◌, ◌<◌, ◌≤◌, ◌⊎◌, [], Ok, IfOk, OnOk, OnErr, IfErr, IfSome, IsOk, length, false, string_bytes};
+ghost use Rattle.std.specs.Prelude.{◌≡◌, ◌++◌, ◌+◌, ◌<◌, ◌≤◌, ◌⊎◌, [], Ok, IfOk, OnOk, OnErr};
+ghost use Rattle.std.specs.Prelude.{IfErr, IfSome, IsOk, length, false, string_bytes};
 ghost use Rattle.std.specs.Io.KnownBytes.{Appends, Keeps, Consumes, IsAtEnd};
 ghost use Rattle.hcc_core.specs.Steps.{outcome_of};
 ghost use Rattle.hcc_core.specs.Opening.{CanOpen};
@@ -8,7 +9,9 @@ ghost use Rattle.hcc_player.specs.Bytes.{Leaves, AppendsPart, TakesAtMost, Gives
 ghost use Rattle.hcc_player.specs.Text.{answer_of, event_text};
 ghost use Rattle.hcc_player.specs.Line.{line_event};
 ghost use Rattle.hcc_player.specs.Script.{lines_of, script_of, GiveEvents};
-ghost use Rattle.hcc_player.specs.Play.{IsWhole, FailsInPart, FailsToRead, FailsToJudge, FailsToPlay, played, script_text, IsScript, EndsAt, WritesLate};
+ghost use Rattle.hcc_player.specs.Play.{IsWhole, FailsInPart, FailsToRead, FailsToJudge};
+ghost use Rattle.hcc_player.specs.Play.{FailsToPlay, played, script_text, IsScript, EndsAt};
+ghost use Rattle.hcc_player.specs.Play.{WritesLate};
 
 use crate::fault::{LineError, PlayError, ScriptError};
 use crate::limits::MOST_INPUT;
@@ -59,7 +62,8 @@ fn read_part<R: Read>(
 fn read_by<R: Read>(alloc: Global, reader: &mut R, chunk: &mut [u8]) -> Result<Vec<u8>, PlayError>
     requires { 0 < length chunk.old }
     ensures whole { IfOk result (λ bytes. IsWhole (R.remaining reader.old) bytes.items) }
-    ensures bounded { TakesAtMost (MOST_INPUT + 1) (R.remaining reader.old) (R.remaining reader.new) }
+    ensures bounded { TakesAtMost (MOST_INPUT + 1)
+        (R.remaining reader.old) (R.remaining reader.new) }
     ensures err { IfErr result (λ error. FailsToRead error (R.remaining reader.old)) }
 {
     let mut bytes = Vec::new(alloc);
@@ -86,7 +90,8 @@ fn buffer(alloc: Global, size: usize) -> Result<Vec<u8>, AllocError>
 /// Reads all there is, and ends with the first byte that is too many.
 fn read_all<R: Read>(alloc: Global, reader: &mut R) -> Result<Vec<u8>, PlayError>
     ensures whole { IfOk result (λ bytes. IsWhole (R.remaining reader.old) bytes.items) }
-    ensures bounded { TakesAtMost (MOST_INPUT + 1) (R.remaining reader.old) (R.remaining reader.new) }
+    ensures bounded { TakesAtMost (MOST_INPUT + 1)
+        (R.remaining reader.old) (R.remaining reader.new) }
     ensures err { IfErr result (λ error. FailsToRead error (R.remaining reader.old)) }
 {
     let mut chunk = buffer(alloc, CHUNK)?;
@@ -94,7 +99,7 @@ fn read_all<R: Read>(alloc: Global, reader: &mut R) -> Result<Vec<u8>, PlayError
 }
 
 /// Judges the whole text.
-#[tactic(auto, using(crate::proofs::ScriptLaws::first_fault, crate::proofs::ScriptLaws::lines_give))]
+#[tactic(auto, using(crate::proofs::ScriptLaws::first_fault, crate::proofs::ScriptLaws::all_give))]
 fn judge_all(alloc: Global, text: &[u8]) -> Result<(), PlayError>
     ensures ok { OnOk result (IsOk (script_of text.now)) }
     ensures lines { OnOk result (GiveEvents (lines_of text.now)) }
@@ -225,7 +230,8 @@ pub fn play_core<R: Read, W: Write>(
         × Appends (W.contents writer.old) (W.contents writer.new) (script_text setup text))) }
 
     // Each line of it gives an event, and nothing stands behind the last line feed.
-    ensures lines { OnOk result (IfSome (R.remaining reader.old) (λ text. GiveEvents (lines_of text))) }
+    ensures lines { OnOk result (IfSome (R.remaining reader.old)
+        (λ text. GiveEvents (lines_of text))) }
 
     // Each error says what was wrong; a text at fault is refused by the first fault of its first
     // line at fault.
@@ -244,7 +250,8 @@ pub fn play_core<R: Read, W: Write>(
         AppendsPart (W.contents writer.old) (W.contents writer.new) (script_text setup text))) }
 
     // The reading ends with the first byte that is too many.
-    ensures bounded { TakesAtMost (MOST_INPUT + 1) (R.remaining reader.old) (R.remaining reader.new) }
+    ensures bounded { TakesAtMost (MOST_INPUT + 1)
+        (R.remaining reader.old) (R.remaining reader.new) }
 {
     let text = read_all(alloc, reader)?;
     judge_all(alloc, &text)?;

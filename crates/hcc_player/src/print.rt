@@ -1,7 +1,11 @@
 //! Writes replies and slots as text.
 ghost use Rattle.std.specs.Prelude.{◌≡◌, ◌++◌, ◌∷◌, OnOk, string_bytes, decimal};
 ghost use Rattle.std.specs.List.{flat_map};
-ghost use Rattle.hcc_player.specs.Text.{phase_text, shown_text, mark_text, value_text, byte_text, reply_text, refusal_text, reference_text, references_text, entry_text, initial_text, hit_text, resident_text, slot_text, gap, slots_from, totals_text, world_text, answer_text, line_text};
+ghost use Rattle.hcc_player.specs.Text.{phase_text, shown_text, mark_text, value_text, byte_text};
+ghost use Rattle.hcc_player.specs.Text.{reply_text, refusal_text, reference_text, references_text};
+ghost use Rattle.hcc_player.specs.Text.{entry_text, initial_text, hit_text, resident_text};
+ghost use Rattle.hcc_player.specs.Text.{slot_text, gap, slots_from, totals_text, world_text};
+ghost use Rattle.hcc_player.specs.Text.{answer_text, line_text};
 
 use hcc_core::event::{CoreError, Phase, Reply};
 use hcc_core::slot::{Entry, Reference, Resident, Slot};

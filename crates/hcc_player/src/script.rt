@@ -1,5 +1,6 @@
 //! Reads scripts: line after line, up to the first fault.
-ghost use Rattle.std.specs.Prelude.{◌≡◌, ◌==◌, ◌+◌, ◌<◌, ◌∷◌, [], length, position, IfSome, IfNone, IsOk, OnOk, IfErr};
+ghost use Rattle.std.specs.Prelude.{◌≡◌, ◌==◌, ◌+◌, ◌<◌, ◌∷◌, [], length, position, IfSome, IfNone};
+ghost use Rattle.std.specs.Prelude.{IsOk, OnOk, IfErr};
 ghost use Rattle.hcc_player.specs.Script.{last_fault, lines_of, script_of, ScriptFails, told_in};
 
 use crate::fault::{LineError, ScriptError, ScriptFault, TextFault};

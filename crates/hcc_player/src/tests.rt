@@ -174,8 +174,10 @@ saw shown : E+0/0 S7.9@0.0#5,u2,r-,h0/0 | 5 1 0 0\nfreed 5 : E+0/0 B0+0/0 | 5 1 
 stray : E+0/0 B0+2/0 | 5 1 0 0\nok : E+0/0 E+0/0 | 5 1 0 0\n",
         ),
         (
-            b"start 0\nstart 1\nenter 0\ncharge 0 5\noccupy 0 1\nshow 0 7 9 5 2 3 -\nread 0 3\ngive 0 3\n",
-            b"ok : E+0/0 E+0/0 | 0 0 0 0\nok : E+0/0 E+0/0 | 0 0 0 0\ngranted : E+0/0 E+0/0 | 0 1 0 0\n\
+            b"start 0\nstart 1\nenter 0\ncharge 0 5\noccupy 0 1\nshow 0 7 9 5 2 3 -\nread 0 3\n\
+give 0 3\n",
+            b"ok : E+0/0 E+0/0 | 0 0 0 0\nok : E+0/0 E+0/0 | 0 0 0 0\n\
+granted : E+0/0 E+0/0 | 0 1 0 0\n\
 split 5 0 : E+0/0 E+0/0 | 5 1 0 0\ntaken : E+0/0 B0+0/0 | 5 1 0 0\n\
 ok : E+0/0 S7.9@0.0#5,u1,r0.3x1,h0/0 | 5 1 0 0\n\
 entry 7.9 - : E+0/0 S7.9@0.0#5,u1,r0.3x1,h0/0 | 5 1 0 0\n\
@@ -183,7 +185,8 @@ left 0 shown : E+0/0 S7.9@0.0#5,u1,r-,h0/0 | 5 1 0 0\n",
         ),
         (
             b"start 0\nstart 1\nenter 0\ncharge 0 5\noccupy 0 1\nshow 0 7 9 5 3 - -\nclock 0 1\n",
-            b"ok : E+0/0 E+0/0 | 0 0 0 0\nok : E+0/0 E+0/0 | 0 0 0 0\ngranted : E+0/0 E+0/0 | 0 1 0 0\n\
+            b"ok : E+0/0 E+0/0 | 0 0 0 0\nok : E+0/0 E+0/0 | 0 0 0 0\n\
+granted : E+0/0 E+0/0 | 0 1 0 0\n\
 split 5 0 : E+0/0 E+0/0 | 5 1 0 0\ntaken : E+0/0 B0+0/0 | 5 1 0 0\n\
 ok : E+0/0 S7.9@0.0#5,u3,r-,h0/0 | 5 1 0 0\nuses 2 : E+0/0 S7.9@0.0#5,u2,r-,h0/0 | 5 1 0 0\n",
         ),

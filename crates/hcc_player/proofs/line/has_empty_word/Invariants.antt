@@ -4,4 +4,5 @@ use Rattle.hcc_player.proofs.line.has_empty_word.Given as goal
 
 abbrev pub invariant-loop-word : goal.invariant-loop-word
 invariant-loop-word l =
-    has_empty_word (map (λ w. w.now) (drop l.word-index l.words)) ≡ has_empty_word (map (λ w. w.now) l.words)
+    has_empty_word (map (λ w. w.now) (drop l.word-index l.words))
+    ≡ has_empty_word (map (λ w. w.now) l.words)

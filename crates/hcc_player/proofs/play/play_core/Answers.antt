@@ -9,7 +9,8 @@ returns-in_err-text-clause-part g c =
 
 pub returns-in_err-judge_all-clause-part : goal.returns-in_err-judge_all-clause-part
 returns-in_err-judge_all-clause-part g c =
-    on_error c.from_residual-in_err-judge_all.result _ (writes_nothing_known _ _ (script_text c.args.setup))
+    on_error c.from_residual-in_err-judge_all.result _
+    (writes_nothing_known _ _ (script_text c.args.setup))
 
 pub returns-in_default-clause-part : goal.returns-in_default-clause-part
 returns-in_default-clause-part g c = writes_nothing_known _ _ (script_text c.args.setup)

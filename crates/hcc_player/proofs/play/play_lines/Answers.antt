@@ -3,7 +3,8 @@ use Rattle.std.proofs.KnownBytes.{Keeps-refl}
 use Rattle.hcc_player.specs.Script.{script_of}
 use Rattle.hcc_player.specs.Play.{played}
 use Rattle.hcc_player.proofs.ByteLemmas.{leaves_all, on_error}
-use Rattle.hcc_player.proofs.PlayLemmas.{events_of, splits, playing_goes, playing_stops, playing_fails}
+use Rattle.hcc_player.proofs.PlayLemmas.{events_of, splits, playing_goes, playing_stops}
+use Rattle.hcc_player.proofs.PlayLemmas.{playing_fails}
 use Rattle.hcc_player.proofs.play.play_lines.Goals as goal
 
 pub loop-line-init : goal.loop-line-init
@@ -33,7 +34,8 @@ returns-in_err-event-clause-part g c =
 
 pub returns-in_err-play_event-clause-part : goal.returns-in_err-play_event-clause-part
 returns-in_err-play_event-clause-part g c =
-    on_error c.from_residual-in_err-play_event.result _ (playing_fails _ _ _ _ _ _ c.in-Some.after.now _ _
+    on_error c.from_residual-in_err-play_event.result _
+    (playing_fails _ _ _ _ _ _ c.in-Some.after.now _ _
     c.in_ok-event.event
     c.loop-line.invariant c.in-Some.ensures.line c.in_ok-event.ensures.ok
     c.in_err-play_event.ensures.part)

@@ -13,5 +13,8 @@ pub returns-clause-part : goal.returns-clause-part
 returns-clause-part g c =
     let left = rw (c.new-pending.ensures.bytes) at c.in_ok-play_lines.ensures.ok in
     let out = rw (c.as_bytes.ensures.value) at c.in_ok-write_out.ensures.ok in
-    on_error c.flush.result _
-    ([], leaves_kept _ _ _ _ _ (leaves_less _ _ _ _ _ _ left (leaves_none _ _ _ out)) c.flush.ensures.kept)
+    on_error c.flush.result _ (
+      [],
+      leaves_kept _ _ _ _ _ (leaves_less _ _ _ _ _ _ left (leaves_none _ _ _ out))
+          c.flush.ensures.kept,
+    )

@@ -5,6 +5,7 @@ use Rattle.hcc_player.proofs.play.read_by.Given as goal
 
 abbrev pub invariant-loop : goal.invariant-loop
 invariant-loop g l = record {
-  given : Consumes (g.R.Read.remaining l.initial.reader) (g.R.Read.remaining l.reader) l.bytes.items;
+  given : Consumes (g.R.Read.remaining l.initial.reader) (g.R.Read.remaining l.reader)
+      l.bytes.items;
   few : length l.bytes.items ≤ MOST_INPUT + 1;
 }

@@ -6,4 +6,5 @@ use Rattle.hcc_player.proofs.print.push_more_references.Given as goal
 abbrev pub invariant-loop-reference : goal.invariant-loop-reference
 invariant-loop-reference l =
     string_bytes l.out
-    ≡ string_bytes l.fn.out ++ flat_map (λ r. 38 ∷ reference_text r) (take l.reference-index l.references)
+    ≡ string_bytes l.fn.out ++ flat_map (λ r. 38 ∷ reference_text r)
+    (take l.reference-index l.references)

@@ -1,4 +1,5 @@
-use Rattle.std.proofs.Common.{◌≡◌, ◌++◌, Some, None, string_bytes, slice_get, arith, rules, sym, ap, ◌∙◌, append_assoc, append-nil}
+use Rattle.std.proofs.Common.{◌≡◌, ◌++◌, Some, None, string_bytes, slice_get, arith, rules, sym, ap}
+use Rattle.std.proofs.Common.{◌∙◌, append_assoc, append-nil}
 use Rattle.std.proofs.lemmas.Option.{slice_get_within}
 use Rattle.hcc_core.specs.World.{passed_at}
 use Rattle.hcc_player.specs.Text.{slot_text, gap}
@@ -23,7 +24,8 @@ loop-number-preserved c =
     let more = slots_here world world.slots n c.in-Some.slot.now here in
     let so_far = c.loop-number.invariant.written in
     let pushed : string_bytes c.push_slot.new.out
-    ≡ string_bytes c.loop-number.out ++ gap n ++ slot_text c.in-Some.slot.now (passed_at world n) = search rules in
+    ≡ string_bytes c.loop-number.out ++ gap n ++ slot_text c.in-Some.slot.now (passed_at world n) =
+    search rules in
     record {
       few = λ h. search rules;
       within = omega arith;
