@@ -1,12 +1,18 @@
 -- Bit operations on words, as sums and tests of fields. Only this crate's own proofs open them.
-use Rattle.std.proofs.Common.{refl, ◌≡◌, ℕ, ◌+◌, ◌-◌, ◌*◌, ◌/◌, ◌%◌, ◌^◌, ◌<◌, ◌≤◌, Bool, true, false, arith, ap, ◌∙◌, bit_or, bit_and, nat_eq}
+use Rattle.std.proofs.Common.{refl, ◌≡◌, ℕ, ◌+◌, ◌-◌, ◌*◌, ◌/◌, ◌%◌, ◌^◌, ◌<◌, ◌≤◌, Bool, true}
+use Rattle.std.proofs.Common.{false, arith, ap, ◌∙◌, bit_or, bit_and, nat_eq}
 use Rattle.std.specs.Prelude.{not}
 use Rattle.std.specs.Int.{from_bool}
 use Rattle.std.proofs.lemmas.Nat.{and_block, and_mask, or_block, or_shifted}
 use Rattle.std.proofs.lemmas.Nat.Bits.{and_pow}
 use Rattle.hcc_word.specs.Word.{hit_of, word_of}
-use Rattle.hcc_word.specs.declared.layout.TheConstants.{COUNTER_BITS, HIT_PLACE, STATE_PLACE, COUNTER_MASK, HIT_BIT, OCCUPIED_BIT, HIDING_MASK}
+use Rattle.hcc_word.specs.declared.layout.TheConstants.{COUNTER_BITS, HIT_PLACE, STATE_PLACE}
+use Rattle.hcc_word.specs.declared.layout.TheConstants.{COUNTER_MASK, HIT_BIT, OCCUPIED_BIT}
+use Rattle.hcc_word.specs.declared.layout.TheConstants.{HIDING_MASK}
 use lib.Bits.{or_shifted_r, or_zero_r}
+
+-- what the fields of a word are by a mask
+pub ruleset masks = (and_mask)
 
 pub from_bool-le : (b : Bool) → from_bool b ≤ 1
 from_bool-le true = omega arith

@@ -2,11 +2,14 @@
 -- the slot is so.
 use Rattle.std.proofs.Common.{◌≡◌, ℕ, ◌+◌, ◌^◌, ◌<◌, Bool, true, false, arith, refl, nat_eq}
 use Rattle.std.specs.Prelude.{nat_lt, nat_le, not, ◌==◌}
-use Rattle.hcc_word.specs.declared.layout.TheConstants.{COUNTER_BITS, EMPTY, CONSTRUCTION, INVISIBLE, VISIBLE, NEAR}
-use Rattle.hcc_word.specs.Word.{acquires_of, releases_of, refs_of, hit_of, state_of, word_of, is_empty, is_visible, is_shareable, is_referenced, is_counting}
+use Rattle.hcc_word.specs.declared.layout.TheConstants.{COUNTER_BITS, EMPTY, CONSTRUCTION}
+use Rattle.hcc_word.specs.declared.layout.TheConstants.{INVISIBLE, VISIBLE, NEAR}
+use Rattle.hcc_word.specs.Word.{acquires_of, releases_of, refs_of, hit_of, state_of, word_of}
+use Rattle.hcc_word.specs.Word.{is_empty, is_visible, is_shareable, is_referenced, is_counting}
 use Rattle.hcc_word.specs.Code.{code_of_empty, code_of_building, code_of_shareable, entry_state}
 use Rattle.hcc_word.specs.Near.{IsNear}
-use Rattle.hcc_word.proofs.FieldLaws.{acquires_of-word_of, releases_of-word_of, hit_of-word_of, state_of-word_of}
+use Rattle.hcc_word.proofs.FieldLaws.{acquires_of-word_of, releases_of-word_of, hit_of-word_of}
+use Rattle.hcc_word.proofs.FieldLaws.{state_of-word_of}
 use Rattle.hcc_word.proofs.NearLaws.{uses_and_refs_fit}
 
 -- ---- an empty slot

@@ -1,11 +1,16 @@
 -- What the clock's exchange and a correction's make of the code of a slot.
-use Rattle.std.proofs.Common.{◌≡◌, ℕ, ◌+◌, ◌-◌, ◌^◌, ◌<◌, ◌≤◌, ◌↔◌, Bool, true, false, arith, sym, refl, ap, ◌∙◌, add-zero}
-use Rattle.hcc_word.specs.declared.layout.TheConstants.{COUNTER_BITS, CONSTRUCTION, CORRECTION, EMPTY, NEAR, VISIBLE}
+use Rattle.std.proofs.Common.{◌≡◌, ℕ, ◌+◌, ◌-◌, ◌^◌, ◌<◌, ◌≤◌, ◌↔◌, Bool, true, false, arith, sym}
+use Rattle.std.proofs.Common.{refl, ap, ◌∙◌, add-zero}
+use Rattle.hcc_word.specs.declared.layout.TheConstants.{COUNTER_BITS, CONSTRUCTION, CORRECTION}
+use Rattle.hcc_word.specs.declared.layout.TheConstants.{EMPTY, NEAR, VISIBLE}
 use Rattle.hcc_word.specs.Word.{state_of, word_of}
 use Rattle.hcc_word.specs.Code.{code_of_empty, code_of_building, code_of_shareable, entry_state}
 use Rattle.hcc_word.specs.Near.{IsNear}
-use Rattle.hcc_word.specs.Changes.{IsClockable, IsCorrectable, clocked_countdown, clocked_word, corrected_word}
-use Rattle.hcc_word.proofs.CodeLaws.{code_of_shareable-word_of, state_of-empty, state_of-building, acquires_of-shareable, releases_of-shareable, refs_of-shareable, hit_of-shareable, state_of-shareable}
+use Rattle.hcc_word.specs.Changes.{IsClockable, IsCorrectable, clocked_countdown, clocked_word}
+use Rattle.hcc_word.specs.Changes.{corrected_word}
+use Rattle.hcc_word.proofs.CodeLaws.{code_of_shareable-word_of, state_of-empty, state_of-building}
+use Rattle.hcc_word.proofs.CodeLaws.{acquires_of-shareable, releases_of-shareable}
+use Rattle.hcc_word.proofs.CodeLaws.{refs_of-shareable, hit_of-shareable, state_of-shareable}
 
 -- ---- the clock's exchange
 

@@ -1,5 +1,6 @@
 -- The fields of a word.
-use Rattle.std.proofs.Common.{◌≡◌, ℕ, zero, suc, ◌+◌, ◌*◌, ◌/◌, ◌%◌, ◌^◌, ◌<◌, ◌↔◌, Bool, true, false, arith, refl, ap, nat_eq}
+use Rattle.std.proofs.Common.{◌≡◌, ℕ, zero, suc, ◌+◌, ◌*◌, ◌/◌, ◌%◌, ◌^◌, ◌<◌, ◌↔◌, Bool, true}
+use Rattle.std.proofs.Common.{false, arith, refl, ap, nat_eq}
 use Rattle.std.specs.Int.{from_bool}
 use Rattle.hcc_word.specs.declared.layout.TheConstants.{COUNTER_BITS, HIT_PLACE, STATE_PLACE}
 use Rattle.hcc_word.specs.Word.{acquires_of, releases_of, refs_of, hit_of, state_of, word_of}

@@ -1,5 +1,6 @@
 -- The rounds of the seeding take each other back.
-use Rattle.std.proofs.Common.{◌≡◌, ℕ, ◌+◌, ◌-◌, ◌*◌, ◌/◌, ◌%◌, ◌^◌, ◌<◌, Bool, true, false, arith, sym, refl, ap, ◌∙◌, nat_eq}
+use Rattle.std.proofs.Common.{◌≡◌, ℕ, ◌+◌, ◌-◌, ◌*◌, ◌/◌, ◌%◌, ◌^◌, ◌<◌, Bool, true, false, arith}
+use Rattle.std.proofs.Common.{sym, refl, ap, ◌∙◌, nat_eq}
 use Rattle.std.proofs.lemmas.Nat.{xor_lt}
 use Rattle.std.specs.Prelude.{bit_xor, if◌then◌else◌}
 use Rattle.hcc_word.specs.declared.seeding.TheConstants.{SEED_MULTIPLIER}

@@ -1,12 +1,17 @@
 -- What each kind of step makes of the code of a slot.
-use Rattle.std.proofs.Common.{◌≡◌, ℕ, ◌+◌, ◌-◌, ◌*◌, ◌%◌, ◌^◌, ◌<◌, ◌≤◌, Bool, true, false, arith, refl, sym, ap, ◌∙◌, bit_or, bit_and}
+use Rattle.std.proofs.Common.{◌≡◌, ℕ, ◌+◌, ◌-◌, ◌*◌, ◌%◌, ◌^◌, ◌<◌, ◌≤◌, Bool, true, false, arith}
+use Rattle.std.proofs.Common.{refl, sym, ap, ◌∙◌, bit_or, bit_and}
 use Rattle.std.specs.Int.{from_bool}
-use Rattle.hcc_word.specs.declared.layout.TheConstants.{COUNTER_BITS, ONE_RELEASE, HIT_BIT, OCCUPIED_BIT, HIDING_MASK, CONSTRUCTION, CONSTRUCTION_WORD, EMPTY_WORD, VISIBLE}
+use Rattle.hcc_word.specs.declared.layout.TheConstants.{COUNTER_BITS, ONE_RELEASE, HIT_BIT}
+use Rattle.hcc_word.specs.declared.layout.TheConstants.{OCCUPIED_BIT, HIDING_MASK, CONSTRUCTION}
+use Rattle.hcc_word.specs.declared.layout.TheConstants.{CONSTRUCTION_WORD, EMPTY_WORD, VISIBLE}
 use Rattle.hcc_word.specs.Word.{word_of}
 use Rattle.hcc_word.specs.Code.{code_of_empty, code_of_building, code_of_shareable, entry_state}
 use Rattle.hcc_word.specs.Near.{IsNear}
 use Rattle.hcc_word.proofs.Bits.{from_bool-le, or-occupied_bit_low, or-occupied_bit_high}
-use Rattle.hcc_word.proofs.WordLaws.{word_of-lt, add_acquires-word_of, take_acquires-word_of, add_releases-word_of, or_occupied-word_of, and_hide-word_of, or_hit-word_of}
+use Rattle.hcc_word.proofs.WordLaws.{word_of-lt, add_acquires-word_of, take_acquires-word_of}
+use Rattle.hcc_word.proofs.WordLaws.{add_releases-word_of, or_occupied-word_of, and_hide-word_of}
+use Rattle.hcc_word.proofs.WordLaws.{or_hit-word_of}
 use Rattle.hcc_word.proofs.CodeLaws.{code_of_shareable-word_of}
 use Rattle.hcc_word.proofs.NearLaws.{uses_and_refs_fit}
 

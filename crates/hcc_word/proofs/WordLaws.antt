@@ -1,11 +1,17 @@
 -- What an add, a take or a bit operation makes of a word: one field is changed, and no other.
-use Rattle.std.proofs.Common.{◌≡◌, ℕ, ◌+◌, ◌-◌, ◌*◌, ◌%◌, ◌^◌, ◌<◌, ◌≤◌, Bool, true, arith, ap, ◌∙◌, sym, bit_or, bit_and}
+use Rattle.std.proofs.Common.{◌≡◌, ℕ, ◌+◌, ◌-◌, ◌*◌, ◌%◌, ◌^◌, ◌<◌, ◌≤◌, Bool, true, arith, ap, ◌∙◌}
+use Rattle.std.proofs.Common.{sym, bit_or, bit_and}
 use Rattle.std.specs.Int.{from_bool}
-use Rattle.hcc_word.specs.declared.layout.TheConstants.{COUNTER_BITS, HIT_PLACE, STATE_PLACE, ONE_RELEASE, HIT_BIT, OCCUPIED_BIT, HIDING_MASK, CONSTRUCTION}
+use Rattle.hcc_word.specs.declared.layout.TheConstants.{COUNTER_BITS, HIT_PLACE, STATE_PLACE}
+use Rattle.hcc_word.specs.declared.layout.TheConstants.{ONE_RELEASE, HIT_BIT, OCCUPIED_BIT}
+use Rattle.hcc_word.specs.declared.layout.TheConstants.{HIDING_MASK, CONSTRUCTION}
 use Rattle.hcc_word.specs.Word.{acquires_of, releases_of, hit_of, state_of, word_of}
 use Rattle.hcc_word.specs.Changes.{SetsAcquires, SetsReleases}
-use Rattle.hcc_word.proofs.Bits.{from_bool-le, or-occupied_bit_high, and-not_visible_bit, or-hit_bit}
-use Rattle.hcc_word.proofs.FieldLaws.{acquires_of-lt, releases_of-lt, state_of-lt, acquires_of-word_of, releases_of-word_of, hit_of-word_of, state_of-word_of, word_of-fields}
+use Rattle.hcc_word.proofs.Bits.{from_bool-le, or-occupied_bit_high, and-not_visible_bit}
+use Rattle.hcc_word.proofs.Bits.{or-hit_bit}
+use Rattle.hcc_word.proofs.FieldLaws.{acquires_of-lt, releases_of-lt, state_of-lt}
+use Rattle.hcc_word.proofs.FieldLaws.{acquires_of-word_of, releases_of-word_of, hit_of-word_of}
+use Rattle.hcc_word.proofs.FieldLaws.{state_of-word_of, word_of-fields}
 
 -- ---- the word of four fields
 

@@ -1,7 +1,8 @@
 -- The code of a slot: the word of a slot in each of its phases, as a sum of fields.
 use Rattle.std.specs.Prelude.{ℕ, ◌+◌, ◌*◌, ◌^◌, Bool, if◌then◌else◌}
 use Rattle.std.specs.Int.{from_bool}
-use Rattle.hcc_word.specs.declared.layout.TheConstants.{COUNTER_BITS, HIT_PLACE, STATE_PLACE, OCCUPIED_BIT, INVISIBLE, VISIBLE}
+use Rattle.hcc_word.specs.declared.layout.TheConstants.{COUNTER_BITS, HIT_PLACE, STATE_PLACE}
+use Rattle.hcc_word.specs.declared.layout.TheConstants.{OCCUPIED_BIT, INVISIBLE, VISIBLE}
 
 -- an empty slot: the acquires that strayed there
 unfoldable pub code_of_empty : (strays : ℕ) → ℕ

@@ -1,7 +1,8 @@
 -- The fields of a meta word, by division and remainder.
 use Rattle.std.specs.Prelude.{ℕ, ◌+◌, ◌-◌, ◌*◌, ◌/◌, ◌%◌, ◌^◌, ◌==◌, Bool, not, nat_lt, nat_le}
 use Rattle.std.specs.Int.{from_bool}
-use Rattle.hcc_word.specs.declared.layout.TheConstants.{COUNTER_BITS, HIT_PLACE, STATE_PLACE, EMPTY, INVISIBLE, VISIBLE, NEAR}
+use Rattle.hcc_word.specs.declared.layout.TheConstants.{COUNTER_BITS, HIT_PLACE, STATE_PLACE, EMPTY}
+use Rattle.hcc_word.specs.declared.layout.TheConstants.{INVISIBLE, VISIBLE, NEAR}
 
 -- how many acquires the word counts
 unfoldable pub acquires_of : ℕ → ℕ

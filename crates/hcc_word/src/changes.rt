@@ -5,7 +5,8 @@ ghost use Rattle.std.specs.Option.{SomeIff};
 ghost use Rattle.std.specs.Int.{from_bool};
 ghost use Rattle.hcc_word.specs.Word.{acquires_of, releases_of, word_of};
 ghost use Rattle.hcc_word.specs.Code.{code_of_shareable};
-ghost use Rattle.hcc_word.specs.Changes.{SetsAcquires, SetsReleases, IsClockable, clocked_word, IsCorrectable, corrected_word};
+ghost use Rattle.hcc_word.specs.Changes.{SetsAcquires, SetsReleases, IsClockable, clocked_word};
+ghost use Rattle.hcc_word.specs.Changes.{IsCorrectable, corrected_word};
 
 use crate::fields::{acquires, hit, refs, releases, state};
 use crate::layout::{
@@ -52,7 +53,8 @@ pub fn started(countdown: u32, keep: bool) -> u64
     requires some { 0 < countdown }
     requires in_range { countdown ≤ GREATEST_START }
     ensures fields { result ≡ word_of countdown (countdown - from_bool keep) false VISIBLE }
-    ensures entry { result ≡ code_of_shareable (countdown - from_bool keep) (from_bool keep) false true }
+    ensures entry { result
+        ≡ code_of_shareable (countdown - from_bool keep) (from_bool keep) false true }
 {
     packed(countdown, countdown - u32::from(keep), false, VISIBLE)
 }
@@ -73,8 +75,8 @@ pub fn clocked(word: u64) -> Option<u64>
     Some(packed(left, left, hit(word), VISIBLE))
 }
 
-/// What a correction puts in place of this word: 2^29 less in both counters, which are near overflow.
-/// The references stay the same.
+/// What a correction puts in place of this word: 2^29 less in both counters, which are near
+/// overflow. The references stay the same.
 ///
 /// `None` exactly where releases are below [`NEAR`] or acquires below 2^29.
 pub fn corrected(word: u64) -> Option<u64>

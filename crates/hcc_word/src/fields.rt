@@ -6,7 +6,7 @@ ghost use Rattle.hcc_word.specs.Word.{acquires_of, releases_of, refs_of, hit_of,
 use crate::layout::{COUNTER_BITS, COUNTER_MASK, HIT_BIT, STATE_PLACE};
 
 /// The acquire counter, bits 0 to 29: below 2^30.
-#[tactic(auto, using(std::proofs::lemmas::Nat::and_mask), unfolding(crate::specs::Word::acquires_of))]
+#[tactic(auto, using(crate::proofs::Bits::masks), unfolding(crate::specs::Word::acquires_of))]
 pub fn acquires(word: u64) -> u32
     ensures field { result ≡ acquires_of word }
     ensures in_range { result < 2 ^ COUNTER_BITS }
@@ -15,7 +15,7 @@ pub fn acquires(word: u64) -> u32
 }
 
 /// The release counter, bits 30 to 59: below 2^30.
-#[tactic(auto, using(std::proofs::lemmas::Nat::and_mask), unfolding(crate::specs::Word::releases_of))]
+#[tactic(auto, using(crate::proofs::Bits::masks), unfolding(crate::specs::Word::releases_of))]
 pub fn releases(word: u64) -> u32
     ensures field { result ≡ releases_of word }
     ensures in_range { result < 2 ^ COUNTER_BITS }

@@ -1,7 +1,7 @@
 //! Where the fields of a meta word stand, and the numbers that its rules name.
 //!
-//! From the low bits: the acquire counter, the release counter, the hit bit, the state. The state has
-//! three bits: visible (the lowest), shareable and occupied.
+//! From the low bits: the acquire counter, the release counter, the hit bit, the state. The state
+//! has three bits: visible (the lowest), shareable and occupied.
 
 /// Bits of each of the two counters. The release counter begins at the bit of this number.
 pub const COUNTER_BITS: u32 = 30;
