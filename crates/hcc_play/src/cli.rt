@@ -1,10 +1,18 @@
 //! The command line.
 ghost use Rattle.std.specs.Prelude.{◌≡◌, ◌≤◌, IfSome, false};
 ghost use Rattle.hcc_core.specs.Opening.{CanOpen};
+ghost use Rattle.hcc_play.specs.declared.cli.TheConstants.{PLAYED_SLOTS, PLAYED_CAPACITY};
 
 use clap::{Arg, ArgAction, ArgMatches, Command, value_parser};
+use hcc_core::limits::MOST_CLIENTS;
 use hcc_core::setup::Setup;
 use std::alloc::{AllocError, Global};
+
+/// The most slots of a world that is played: each line shows them all.
+const PLAYED_SLOTS: u32 = 16;
+
+/// The most capacity of a world that is played.
+const PLAYED_CAPACITY: u64 = 1 << 40;
 
 const ABOUT: &str = "Plays scripts of a block cache's protocol";
 
@@ -52,7 +60,7 @@ fn slots_arg<'a>(alloc: Global) -> Arg<'a> {
         .long("slots")
         .value_name("N")
         .help("How many slots the world has, 1 to 16")
-        .value_parser(value_parser!(u32).range(1..=16))
+        .value_parser(value_parser!(u32).range(1..=PLAYED_SLOTS as i64))
         .default_value("2")
 }
 
@@ -61,7 +69,7 @@ fn clients_arg<'a>(alloc: Global) -> Arg<'a> {
         .long("clients")
         .value_name("N")
         .help("How many clients the world has, 1 to 1024")
-        .value_parser(value_parser!(u32).range(1..=1_024))
+        .value_parser(value_parser!(u32).range(1..=MOST_CLIENTS as i64))
         .default_value("2")
 }
 
@@ -70,7 +78,7 @@ fn capacity_arg<'a>(alloc: Global) -> Arg<'a> {
         .long("capacity")
         .value_name("N")
         .help("The charge that the world is meant to hold, 0 to 1099511627776")
-        .value_parser(value_parser!(u64).range(0..=1_099_511_627_776))
+        .value_parser(value_parser!(u64).range(0..=PLAYED_CAPACITY as i64))
         .default_value("600")
 }
 
@@ -119,16 +127,16 @@ pub fn default_setup() -> Setup
 /// The setup that the options of `core` tell, if each is in its range.
 pub fn setup_of(options: &ArgMatches<'_>) -> Option<Setup>
     ensures opens { IfSome result CanOpen }
-    ensures slots { IfSome result (λ setup. setup.slots ≤ 16) }
-    ensures capacity { IfSome result (λ setup. setup.capacity ≤ 1099511627776) }
+    ensures slots { IfSome result (λ setup. setup.slots ≤ PLAYED_SLOTS) }
+    ensures capacity { IfSome result (λ setup. setup.capacity ≤ PLAYED_CAPACITY) }
 {
     let slots = options.get_one::<u32>("slots")?;
     let clients = options.get_one::<u32>("clients")?;
     let capacity = options.get_one::<u64>("capacity")?;
-    if !(1..=16).contains(&slots) || !(1..=1_024).contains(&clients) {
+    if !(1..=PLAYED_SLOTS).contains(&slots) || !(1..=MOST_CLIENTS).contains(&clients) {
         return None;
     }
-    if capacity > 1_099_511_627_776 {
+    if capacity > PLAYED_CAPACITY {
         return None;
     }
     Some(Setup {
