@@ -46,7 +46,8 @@ module _ {T A : Type 0} where
   abbrev pub IsSlotOf : RuleTable T A → ℕ → Type 0
   IsSlotOf table slot = slot < table.geometry.slots
 
--- a live client with nothing in hand but its standalone entries, as it is between two calls of a cache
+-- a live client with nothing in hand but its standalone entries, as it is between two calls of a
+-- cache
 abbrev pub IsBetweenCalls : Client → Type 0
 IsBetweenCalls work = work ≡ record new_client {
   live = true;

@@ -27,7 +27,8 @@ abbrev pub words_of : {A : Type 0} → ClosedTable A → List ℕ
 words_of closed = slots_items closed.closed.words
 
 -- Words and a view are of one state that meets the rule.
-pub record Shown {T : Type 0} (fits : T → Key → List ℕ → Type 0) (p : Plan T) (words : List ℕ) (v : View T) : Type 0 where
+pub record Shown {T : Type 0} (fits : T → Key → List ℕ → Type 0) (p : Plan T) (words : List ℕ)
+    (v : View T) : Type 0 where
   pub state : table.State (Unit {0}) (View T)
   pub holds : Holds fits p state
   pub same : state.words ≡ words
@@ -83,10 +84,12 @@ made_by (Some o) = o.made
 -- the made list of any client that a view names
 abbrev pub list_by : {T : Type 0} → View T → ℕ → List Made
 list_by v client =
-    if v.client == client then v.made else made_by (find (λ (o : Other). o.client == client) v.others)
+    if v.client == client then v.made else made_by
+    (find (λ (o : Other). o.client == client) v.others)
 
 -- the slot's entry is what a client made under this stamp: its data words say so
-pub record IsKept {T : Type 0} (fits : T → Key → List ℕ → Type 0) (tag : T) (room : ℕ) (words : List ℕ) (v : View T) (slot : ℕ) (stamp : Stamp) : Type 0 where
+pub record IsKept {T : Type 0} (fits : T → Key → List ℕ → Type 0) (tag : T) (room : ℕ)
+    (words : List ℕ) (v : View T) (slot : ℕ) (stamp : Stamp) : Type 0 where
   pub made : Made
   pub listed : slice_get (list_by v stamp.client) stamp.number ≡ Some made
   pub says : (index : ℕ) → index < length (made_words stamp.client made)
@@ -94,7 +97,8 @@ pub record IsKept {T : Type 0} (fits : T → Key → List ℕ → Type 0) (tag :
   pub right : IsRight fits tag room made
 
 -- What the words of a shard and the view of the last seat tell, once all clients are back.
-pub record Closes {T : Type 0} (fits : T → Key → List ℕ → Type 0) (tag : T) (geometry : Geometry) (words : List ℕ) (v : View T) : Type 0 where
+pub record Closes {T : Type 0} (fits : T → Key → List ℕ → Type 0) (tag : T) (geometry : Geometry)
+    (words : List ℕ) (v : View T) : Type 0 where
   pub settled : IsSettled geometry.slots geometry.room words
   -- the stamp of each slot's entry
   pub stamp_at : ℕ → Stamp

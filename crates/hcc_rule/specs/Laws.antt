@@ -46,4 +46,5 @@ module _ {T : Type 0} (p : Plan T) (s : StateOf T) where
 
   -- so they are of each record of the view that is on the slot
   abbrev pub HasWordsOfRecords : (slot : ℕ) → View T → Type 0
-  HasWordsOfRecords slot v = Each (λ (r : Record). r.slot ≡ slot → HasWordsOf slot r.entry) v.records
+  HasWordsOfRecords slot v = Each (λ (r : Record). r.slot ≡ slot → HasWordsOf slot r.entry)
+      v.records

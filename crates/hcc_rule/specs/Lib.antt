@@ -11,6 +11,7 @@ pub mod ToldTrails
 pub mod ToldOwners
 pub mod Closing
 pub mod Laws
-pub mod Hands
+pub mod Said
+pub mod Work
+pub mod Benches
 pub mod Callers
-pub mod Logs

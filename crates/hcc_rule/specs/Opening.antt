@@ -42,7 +42,8 @@ fresh_view tag o others = record {
 -- the first seat of a shard stands for client 0, and may start all others
 abbrev pub opening_view : {T : Type 0} → Plan T → View T
 opening_view p =
-    fresh_view (Some p.tag) (unstarted 0) (map unstarted (range_with_len 1 (p.geometry.clients - 1)))
+    fresh_view (Some p.tag) (unstarted 0)
+    (map unstarted (range_with_len 1 (p.geometry.clients - 1)))
 
 -- A seat is split: the new one stands for the first of the other clients.
 abbrev pub rest_of : List Other → List Other

@@ -48,7 +48,8 @@ pub record Coded (room : ℕ) (all : List Slot) (words : List ℕ) : Type 0 wher
       → slice_index words (field_at room s META) ≡ code_of slot
 
 -- an entry is what its maker's list has under its stamp, and its data words say so
-pub record IsStored (room : ℕ) (words : List ℕ) (books : Books) (s : ℕ) (entry : Entry) : Type 0 where
+pub record IsStored (room : ℕ) (words : List ℕ) (books : Books) (s : ℕ)
+    (entry : Entry) : Type 0 where
   pub made : Made
   pub listed : made_at books entry.stamp ≡ Some made
   pub same : entry ≡ entry_of entry.stamp made
@@ -64,13 +65,15 @@ entry_in o = option_and_then entry_by o
 
 abbrev pub Stored : ℕ → List Slot → List ℕ → Books → Type 0
 Stored room all words books =
-    (s : ℕ) (entry : Entry) → entry_in (slice_get all s) ≡ Some entry → IsStored room words books s entry
+    (s : ℕ) (entry : Entry) → entry_in (slice_get all s) ≡ Some entry
+    → IsStored room words books s entry
 
 -- In the slot that a client owns stand the words that its view has: those that it wrote so far, or
 -- all of the entry's that it took to free.
 pub record IsDraft {T : Type 0} (room : ℕ) (words : List ℕ) (v : View T) : Type 0 where
   pub short : length v.written ≤ PAYLOAD + room
-  pub lies : (s : ℕ) → owned_slot v.work.owned ≡ Some s → Lies words (field_at room s DATA) v.written
+  pub lies : (s : ℕ) → owned_slot v.work.owned ≡ Some s
+      → Lies words (field_at room s DATA) v.written
 
 abbrev pub Drafted : {T : Type 0} → ℕ → List ℕ → List (View T) → Type 0
 Drafted {T} room words views =
@@ -113,16 +116,19 @@ pub record IsNamed (clients : List Client) (books : Books) (o : Other) : Type 0 
 
 -- A view that stands for a client has the table's tag, and that client's work in hand and list are
 -- its own. One that stands for none names none and holds nothing.
-pub record IsSeated {T : Type 0} (tag : T) (clients : List Client) (books : Books) (v : View T) : Type 0 where
+pub record IsSeated {T : Type 0} (tag : T) (clients : List Client) (books : Books)
+    (v : View T) : Type 0 where
   pub tagged : IfSome v.tag (λ t. t ≡ tag)
   pub work : is_seated v ≡ true → slice_get clients v.client ≡ Some v.work
   pub live : is_seated v ≡ true → v.work.live ≡ true
   pub book : is_seated v ≡ true → slice_get books v.client ≡ Some v.made
   pub others : Each (IsNamed clients books) v.others
-  pub spent : v.tag ≡ None → (v.records ≡ []) × (v.others ≡ []) × (owned_slot v.work.owned ≡ None) × (v.takings ≡ 0)
+  pub spent : v.tag ≡ None → (v.records ≡ []) × (v.others ≡ []) × (owned_slot v.work.owned ≡ None)
+      × (v.takings ≡ 0)
 
 -- each client is named by just one view
-pub record Seats {T : Type 0} (tag : T) (clients : List Client) (books : Books) (views : List (View T)) : Type 0 where
+pub record Seats {T : Type 0} (tag : T) (clients : List Client) (books : Books)
+    (views : List (View T)) : Type 0 where
   pub each : (j : ℕ) (v : View T) → slice_get views j ≡ Some v → IsSeated tag clients books v
   pub once : (client : ℕ) → total (names client) views ≡ when (nat_lt client (length clients)) 1
   pub all : total named_by views ≡ length clients
@@ -131,7 +137,8 @@ pub record Seats {T : Type 0} (tag : T) (clients : List Client) (books : Books) 
 
 -- what a client may show: a value of bytes that fits the key and the slot, a charge below 2^32, and
 -- a serial of its own range
-pub record IsRight {T : Type 0} (fits : T → Key → List ℕ → Type 0) (tag : T) (room : ℕ) (made : Made) : Type 0 where
+pub record IsRight {T : Type 0} (fits : T → Key → List ℕ → Type 0) (tag : T) (room : ℕ)
+    (made : Made) : Type 0 where
   pub fitting : fits tag made.key made.value
   pub short : length made.value ≤ 8 * room
   pub bytes : Each (λ b. b < 256) made.value
@@ -140,11 +147,13 @@ pub record IsRight {T : Type 0} (fits : T → Key → List ℕ → Type 0) (tag 
 
 -- each client's count of stamps is the length of its list, and the entries are as many as were
 -- shown less those that were taken
-pub record Stamps {T : Type 0} (fits : T → Key → List ℕ → Type 0) (tag : T) (room : ℕ) (all : List Slot) (clients : List Client) (books : Books) (views : List (View T)) : Type 0 where
+pub record Stamps {T : Type 0} (fits : T → Key → List ℕ → Type 0) (tag : T) (room : ℕ)
+    (all : List Slot) (clients : List Client) (books : Books) (views : List (View T)) : Type 0 where
   pub sized : length books ≡ length clients
   pub counted : (c : ℕ) (client : Client) → slice_get clients c ≡ Some client
       → client.stamps ≡ length (book_of books c)
-  pub right : (stamp : Stamp) (made : Made) → made_at books stamp ≡ Some made → IsRight fits tag room made
+  pub right : (stamp : Stamp) (made : Made) → made_at books stamp ≡ Some made
+      → IsRight fits tag room made
   pub left : total taken_by_slot all + total (λ (v : View T). v.takings) views ≡ total length books
 
 -- Ledgers and limits.
@@ -178,7 +187,8 @@ IsTrailed size s (slots.Building client strays) = Unit {0}
 IsTrailed size s (slots.Shareable r) = r.trail ≡ trail_to size (key_of r.entry) s
 
 -- each displacement word is how often its slot stands in the trails of entries and clients
-pub record Trails (slots room : ℕ) (all : List Slot) (clients : List Client) (words : List ℕ) : Type 0 where
+pub record Trails (slots room : ℕ) (all : List Slot) (clients : List Client)
+    (words : List ℕ) : Type 0 where
   pub passed : (s : ℕ) → s < slots
       → slice_index words (field_at room s DISPLACEMENT) ≡ passed_by all clients s
   pub entries : (s : ℕ) (slot : Slot) → slice_get all s ≡ Some slot → IsTrailed slots s slot
@@ -194,7 +204,8 @@ setup_of p = record {
 }
 
 -- Words and views show a lawful world.
-pub record Holds {T : Type 0} (fits : T → Key → List ℕ → Type 0) (p : Plan T) (s : table.State (Unit {0}) (View T)) : Type 0 where
+pub record Holds {T : Type 0} (fits : T → Key → List ℕ → Type 0) (p : Plan T)
+    (s : table.State (Unit {0}) (View T)) : Type 0 where
   pub world : State
   -- what each client showed, in order
   pub books : Books

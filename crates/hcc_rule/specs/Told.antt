@@ -26,6 +26,10 @@ module _ {T : Type 0} where
   noticing slot word v =
       record v { work = record v.work { dead = joined v.work.dead (found_dead slot word v) } }
 
+  -- a step that tells nothing
+  abbrev pub nothing : Step (Unit {0}) → Held T → ℕ → Held T → Type 0
+  nothing step me word after = Unit {0}
+
   -- Load of the meta word: the client looks at a slot that has an entry.
   abbrev pub after_look : (slot word : ℕ) → View T → View T
   after_look slot word v = record v {
@@ -40,7 +44,8 @@ module _ {T : Type 0} where
   pub record Backs (slot word : ℕ) (v : View T) : Type 0 where
     pub entry : Each (λ (r : Record). r.slot ≡ slot → is_shareable word ≡ true) v.records
     pub enough : 0 < weight_on slot v.records → weight_on slot v.records ≤ refs_of word
-    pub one : Each (λ (r : Record). r.slot ≡ slot → stamp_on slot v.records ≡ Some r.entry.stamp) v.records
+    pub one : Each (λ (r : Record). r.slot ≡ slot → stamp_on slot v.records ≡ Some r.entry.stamp)
+        v.records
 
   -- Where the shard has one client, it holds all references there are.
   abbrev pub Alone : Setup → (slot word : ℕ) → View T → Type 0
@@ -49,4 +54,5 @@ module _ {T : Type 0} where
 
   abbrev pub looks : Setup → ℕ → Step (Unit {0}) → Held T → ℕ → Held T → Type 0
   looks setup slot step me word after =
-      (after.1 ≡ me.1) × (after.0 ≡ after_look slot word me.0) × Backs slot word me.0 × Alone setup slot word me.0
+      (after.1 ≡ me.1) × (after.0 ≡ after_look slot word me.0) × Backs slot word me.0
+      × Alone setup slot word me.0

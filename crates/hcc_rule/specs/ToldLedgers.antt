@@ -29,8 +29,8 @@ abbrev pub waived : Client → ℕ
 waived client = client.granted + client.needed + client.freed
 
 module _ {T : Type 0} where
-  -- Loads: the client's own part is in the answer. In the usage and in the occupancy the entries that
-  -- it holds are, too, each once.
+  -- Loads: the client's own part is in the answer. In the usage and in the occupancy the entries
+  -- that it holds are, too, each once.
   abbrev pub after_usage : (word : ℕ) → View T → View T
   after_usage word v = record v { seen = v.seen ++ word ∷ [] }
 
@@ -84,7 +84,8 @@ module _ {T : Type 0} where
 
   abbrev pub charges : Setup → Step (Unit {0}) → Held T → ℕ → Held T → Type 0
   charges setup step me word after =
-      (after.1 ≡ me.1) × (after.0 ≡ after_charge setup step.first word me.0) × Charged setup me.0 word
+      (after.1 ≡ me.1) × (after.0 ≡ after_charge setup step.first word me.0)
+      × Charged setup me.0 word
 
   -- Take from the usage.
   abbrev pub after_settle : View T → View T

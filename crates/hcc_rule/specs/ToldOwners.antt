@@ -1,10 +1,8 @@
 -- What the steps of owners tell their seat: those that take a slot, write it, show it, free it and
 -- empty it.
-use Rattle.std.specs.Prelude.{◌≡◌, ◌≢◌, ℕ, true, false, ◌+◌, ◌-◌, ◌^◌, ◌<◌, ◌≤◌, ◌==◌, List, [], ◌∷◌, ◌++◌, Option, Some, None, is_some, IfSome, IsSomeAnd, Bool, ◌&&◌, nat_lt, length, slice_index, if◌then◌else◌}
-use Rattle.std.specs.Int.{from_bool}
+use Rattle.std.specs.Prelude.{◌≡◌, ◌≢◌, ℕ, true, false, ◌+◌, ◌^◌, ◌<◌, ◌≤◌, ◌==◌, List, [], ◌∷◌, ◌++◌, Option, Some, None, IfSome, IsSomeAnd, Bool, ◌&&◌, nat_lt, length, slice_index, if◌then◌else◌}
 use Rattle.atomic_table.specs.Table.{Step}
-use Rattle.hcc_word.specs.declared.layout.TheConstants.{VISIBLE}
-use Rattle.hcc_word.specs.Word.{is_empty, is_visible, refs_of, releases_of, word_of}
+use Rattle.hcc_word.specs.Word.{is_empty, is_visible, refs_of, releases_of}
 use Rattle.hcc_core.specs.declared.limits.TheConstants.{REFERENCES_PER_CLIENT, STAMPS_PER_CLIENT, MOST_COUNTDOWN}
 use Rattle.hcc_core.specs.declared.client.Place.TheVariants as places
 use Rattle.hcc_core.specs.Outcomes.{dropped}
@@ -27,12 +25,6 @@ use Rattle.hcc_rule.specs.Rule.{IsRight}
 use Rattle.hcc_rule.specs.Words.{key_of, entry_of, made_words}
 use Rattle.hcc_rule.specs.Told.{Held, Backs, after_look, found_dead}
 
--- the word that an entry is shown with: its countdown in both counters, but one release less where
--- its maker keeps a reference
-abbrev pub first_word : Draft → ℕ
-first_word draft =
-    word_of draft.countdown (draft.countdown - from_bool (is_some draft.name)) false VISIBLE
-
 -- the data words of an entry, but for the serial in its stamp word
 abbrev pub entry_words : Entry → List ℕ
 entry_words entry = made_words entry.stamp.client record {
@@ -45,7 +37,8 @@ entry_words entry = made_words entry.stamp.client record {
 -- this is the entry's data word of this index
 abbrev pub IsDataWord : Entry → (index word : ℕ) → Type 0
 IsDataWord entry index word =
-    index ≢ STAMP → index < length (entry_words entry) → word ≡ slice_index (entry_words entry) index
+    index ≢ STAMP → index < length (entry_words entry)
+    → word ≡ slice_index (entry_words entry) index
 
 -- An entry that was got as Shown is met once its second key word was read.
 abbrev pub with_met : Option Record → List Key → List Key
@@ -56,7 +49,8 @@ with_met (Some r) keys = if r.shown then keys ++ key_of r.entry ∷ [] else keys
 abbrev pub first_records : (slot : ℕ) → Option ℕ → Entry → List Record
 first_records slot None entry = []
 first_records slot (Some name) entry =
-    record { slot = slot; name = name; weight = 1; counting = true; shown = false; entry = entry } ∷ []
+    record { slot = slot; name = name; weight = 1; counting = true; shown = false; entry = entry }
+    ∷ []
 
 -- that entry, by the client's count of stamps
 abbrev pub shown_entry : {T : Type 0} → View T → Made → Entry
@@ -64,7 +58,13 @@ shown_entry v made = entry_of (record { client = v.client; number = v.work.stamp
 
 -- what a draft makes of these bytes
 abbrev pub made_of : Draft → List ℕ → Made
-made_of draft value = record { serial = draft.serial; key = draft.key; value = value; charge = draft.charge }
+made_of draft value = record {
+  serial = draft.serial;
+  key = draft.key;
+  value = value;
+  charge =
+      draft.charge;
+}
 
 -- the records without that of a name, if there is one
 abbrev pub records_left : Option ℕ → List Record → List Record
@@ -83,7 +83,8 @@ room_for (Some name) = 1
 -- What a client has that shows an entry: a slot that it builds, with the entry's words written, its
 -- place and its charge granted, the trail to that slot, and a free name for the reference that it
 -- keeps, if any.
-pub record MayShow {T : Type 0} (fits : T → Key → List ℕ → Type 0) (p : Plan T) (slot countdown : ℕ) (name : Option ℕ) (made : Made) (v : View T) : Type 0 where
+pub record MayShow {T : Type 0} (fits : T → Key → List ℕ → Type 0) (p : Plan T) (slot countdown : ℕ)
+    (name : Option ℕ) (made : Made) (v : View T) : Type 0 where
   pub builds : v.work.owned ≡ owned.ForBuilding slot
   pub written : v.written ≡ made_words v.client made
   pub right : IsRight fits p.tag p.geometry.room made
@@ -141,8 +142,8 @@ module _ {T : Type 0} where
       (after.1 ≡ me.1) × (after.0 ≡ me.0)
       × (index < length me.0.written → word ≡ slice_index me.0.written index)
 
-  -- Show: the entry whose words were written is the newest that the client made; it keeps a reference
-  -- on it where it has a name for one.
+  -- Show: the entry whose words were written is the newest that the client made; it keeps a
+  -- reference on it where it has a name for one.
   abbrev pub after_show : (slot : ℕ) → Option ℕ → Made → View T → View T
   after_show slot name made v = record v {
     work = client_shown made.charge v.work;
@@ -164,8 +165,8 @@ module _ {T : Type 0} where
       (name < 2 ^ 64) × (refs_of word ≡ 1)
       × IsSomeAnd (record_in name v.records) (λ r. (r.slot ≡ slot) × (r.weight ≡ 1))
 
-  -- The view once it took the entry that is made so: all that was in the slot is the client's to take
-  -- back, the entry's charge and its place are freed, and its words stand there still.
+  -- The view once it took the entry that is made so: all that was in the slot is the client's to
+  -- take back, the entry's charge and its place are freed, and its words stand there still.
   abbrev pub after_free : (slots slot word : ℕ) → Option ℕ → Stamp → Made → View T → View T
   after_free slots slot word name stamp made v = record v {
     work = record v.work {
@@ -181,17 +182,23 @@ module _ {T : Type 0} where
     warm = v.warm + when (is_warm word) 1;
   }
 
-  -- what is told of a taken entry: it is one that its maker was right to show, and the one on record
-  pub record IsTaken (fits : T → Key → List ℕ → Type 0) (room : ℕ) (name : Option ℕ) (v : View T) (stamp : Stamp) (made : Made) : Type 0 where
+  -- what is told of a taken entry: it is one that its maker was right to show, and the one on
+  -- record
+  pub record IsTaken (fits : T → Key → List ℕ → Type 0) (room : ℕ) (name : Option ℕ) (v : View T)
+      (stamp : Stamp) (made : Made) : Type 0 where
     pub right : IfSome v.tag (λ tag. IsRight fits tag room made)
-    pub same : IfSome name (λ x. IfSome (record_in x v.records) (λ r. r.entry ≡ entry_of stamp made))
+    pub same : IfSome name (λ x. IfSome (record_in x v.records)
+        (λ r. r.entry ≡ entry_of stamp made))
 
   -- the exchange took the slot, or found another word and was a look
-  pub record Freed (fits : T → Key → List ℕ → Type 0) (slots room slot old word : ℕ) (name : Option ℕ) (v new : View T) : Type 0 where
+  pub record Freed (fits : T → Key → List ℕ → Type 0) (slots room slot old word : ℕ)
+      (name : Option ℕ) (v new : View T) : Type 0 where
     pub won : (word == old) ≡ true
-        → (stamp : Stamp) × (made : Made) × IsTaken fits room name v stamp made × (new ≡ after_free slots slot word name stamp made v)
+        → (stamp : Stamp) × (made : Made) × IsTaken fits room name v stamp made
+        × (new ≡ after_free slots slot word name stamp made v)
     pub lost : (word == old) ≡ false → new ≡ after_look slot word v
 
-  abbrev pub frees : (T → Key → List ℕ → Type 0) → (slots room slot : ℕ) → Option ℕ → Step (Unit {0}) → Held T → ℕ → Held T → Type 0
+  abbrev pub frees : (T → Key → List ℕ → Type 0) → (slots room slot : ℕ) → Option ℕ
+      → Step (Unit {0}) → Held T → ℕ → Held T → Type 0
   frees fits slots room slot name step me word after =
       (after.1 ≡ me.1) × Freed fits slots room slot step.first word name me.0 after.0

@@ -64,7 +64,8 @@ module _ {T : Type 0} where
 
   -- What is told of the entry: its value is right for its key, it fits, it is none that the client
   -- saw dead, and it is the one that the client held there before.
-  pub record IsMet (fits : T → Key → List ℕ → Type 0) (room slot word : ℕ) (v : View T) (entry : Entry) : Type 0 where
+  pub record IsMet (fits : T → Key → List ℕ → Type 0) (room slot word : ℕ) (v : View T)
+      (entry : Entry) : Type 0 where
     pub right : IfSome v.tag (λ tag. fits tag (key_of entry) entry.value)
     pub short : length entry.value ≤ 8 * room
     pub small : entry.charge < 2 ^ 32
@@ -73,13 +74,16 @@ module _ {T : Type 0} where
     pub same : Each (λ r. r.slot ≡ slot → r.entry ≡ entry) v.records
 
   -- the view after an acquire, by the word that it found
-  pub record Acquired (fits : T → Key → List ℕ → Type 0) (room slot weight name word : ℕ) (v new : View T) : Type 0 where
+  pub record Acquired (fits : T → Key → List ℕ → Type 0) (room slot weight name word : ℕ)
+      (v new : View T) : Type 0 where
     pub backs : Backs slot word v
     pub stray : is_shareable word ≡ false → new ≡ after_stray v
     pub got : is_shareable word ≡ true
-        → (entry : Entry) × IsMet fits room slot word v entry × (new ≡ after_acquire slot weight name word entry v)
+        → (entry : Entry) × IsMet fits room slot word v entry
+        × (new ≡ after_acquire slot weight name word entry v)
 
-  abbrev pub acquires : (T → Key → List ℕ → Type 0) → (room slot name : ℕ) → Step (Unit {0}) → Held T → ℕ → Held T → Type 0
+  abbrev pub acquires : (T → Key → List ℕ → Type 0) → (room slot name : ℕ) → Step (Unit {0})
+      → Held T → ℕ → Held T → Type 0
   acquires fits room slot name step me word after =
       (after.1 ≡ me.1) × Acquired fits room slot step.first name word me.0 after.0
 
@@ -107,7 +111,8 @@ module _ {T : Type 0} where
     work = record v.work {
       dead = joined v.work.dead (option_map (λ (e : Entry). e.stamp) (entry_called name v.records));
     };
-    hidden = (if is_visible word then with_key v.hidden (entry_called name v.records) else v.hidden);
+    hidden = (if is_visible word then with_key v.hidden (entry_called name v.records) else
+        v.hidden);
   }
 
   abbrev pub hides : (name : ℕ) → Step (Unit {0}) → Held T → ℕ → Held T → Type 0

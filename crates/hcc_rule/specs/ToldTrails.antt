@@ -20,11 +20,12 @@ passed_held slots slot records =
 
 module _ {T : Type 0} where
   -- A load: the count has the client's own trail, and that of each entry on record, once. Any other
-  -- entry has the slot in its trail once at most, and any other client as often as there are slots. In
-  -- a shard of one client the other entries are those that it made and did not take.
+  -- entry has the slot in its trail once at most, and any other client as often as there are slots.
+  -- In a shard of one client the other entries are those that it made and did not take.
   pub record Passed (setup : Setup) (slot : ℕ) (v : View T) (word : ℕ) : Type 0 where
     pub entries : times slot v.work.trail + passed_held setup.slots slot v.records ≤ word
-    pub held : Each (λ (r : Record). times slot (trail_to setup.slots (key_of r.entry) r.slot) ≤ word) v.records
+    pub held : Each (λ (r : Record). times slot (trail_to setup.slots (key_of r.entry) r.slot)
+        ≤ word) v.records
     -- each record is of a slot of the table
     pub within : Each (λ (r : Record). r.slot < setup.slots) v.records
     pub most : word + length (different v.records)

@@ -11,7 +11,13 @@ use Rattle.hcc_rule.specs.declared.view.View.{View}
 
 -- the reference that a record of this client is of
 abbrev pub reference_of : ℕ → Record → Reference
-reference_of client r = record { client = client; name = r.name; weight = r.weight; counting = r.counting }
+reference_of client r = record {
+  client = client;
+  name = r.name;
+  weight = r.weight;
+  counting =
+      r.counting;
+}
 
 abbrev pub is_on : ℕ → Record → Bool
 is_on slot r = r.slot == slot

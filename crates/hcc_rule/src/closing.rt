@@ -15,10 +15,11 @@ use std::alloc::Allocator;
 
 impl<T: Tag, A: Allocator> RuleTable<T, A> {
     /// Ends the shard, by any of its seats. The words that are left are those of a state that meets
-    /// the rule and has the seat's view, which names at most as many clients as the shard has. Where that view names every client and its own has nothing
-    /// in hand, they tell more: the ledger words and the displacement words are those of the entries
-    /// alone, each entry is one of the made lists and no two are the same, a slot without an entry
-    /// has at most strays, and the entries are as many as were made less those that were taken.
+    /// the rule and has the seat's view, which names at most as many clients as the shard has.
+    /// Where that view names every client and its own has nothing in hand, they tell more: the
+    /// ledger words and the displacement words are those of the entries alone, each entry is one of
+    /// the made lists and no two are the same, a slot without an entry has at most strays, and the
+    /// entries are as many as were made less those that were taken.
     ///
     /// It refuses nothing and takes no memory. It costs no pass over the words.
     pub fn close(self, seat: RuleSeat<T>) -> ClosedTable<A>
@@ -51,7 +52,8 @@ impl<A: Allocator> ClosedTable<A> {
     fn field(&self, slot: u32, field: usize) -> u64
         requires slot { slot < self.now.geometry.slots }
         requires field { field < self.now.geometry.room + SLOT_HEAD }
-        ensures { result ≡ slice_index (words_of self.now) (field_at self.now.geometry.room slot field) }
+        ensures { result ≡ slice_index (words_of self.now)
+            (field_at self.now.geometry.room slot field) }
     {
         self.word(slot as usize * (self.geometry.room as usize + SLOT_HEAD) + field)
     }

@@ -28,15 +28,16 @@ pub fn law_ledgers<T: Tag>()
         → real_in h.world.slots h.world.clients ≤ p.capacity }
 
     // The usage word is below 2^60.
-    ensures usage_low { (p : Plan T) (s : StateOf T) → Holds T.fits p s → ledger_word p s USAGE < 2 ^ 60 }
+    ensures usage_low { (p : Plan T) (s : StateOf T) → Holds T.fits p s
+        → ledger_word p s USAGE < 2 ^ 60 }
 
     // The entries, with the places that were granted and the slots that were freed, are within the
     // limit.
     ensures places { (p : Plan T) (s : StateOf T) (h : Holds T.fits p s)
         → taken_in h.world.slots h.world.clients ≤ limit_of (setup_of p) }
 
-    // The occupancy word is the entries with all places and the freed slots: at most the limit, with
-    // an open place for each client.
+    // The occupancy word is the entries with all places and the freed slots: at most the limit,
+    // with an open place for each client.
     ensures occupancy { (p : Plan T) (s : StateOf T) (h : Holds T.fits p s)
         → (ledger_word p s OCCUPANCY ≡ occupancy_of h.world)
         × (ledger_word p s OCCUPANCY ≤ limit_of (setup_of p) + p.geometry.clients) }
@@ -60,6 +61,7 @@ pub fn law_slots<T: Tag>()
         → references_counted p s slot ≡ references_held p s slot }
 
     // The data words of a slot are those of the entry of each record on it.
-    ensures entries { (p : Plan T) (s : StateOf T) → Holds T.fits p s → (slot number : ℕ) (v : View T)
+    ensures entries { (p : Plan T) (s : StateOf T) → Holds T.fits p s
+        → (slot number : ℕ) (v : View T)
         → slice_get s.views number ≡ Some v → HasWordsOfRecords p s slot v }
 {}

@@ -35,7 +35,8 @@ pub const PAYLOAD: usize = 5;
 /// How many ledger words stand behind all slots.
 pub const LEDGER_WORDS: usize = 4;
 
-/// Among the ledger words: the usage, the occupancy, the charges of standalone entries, and the hand.
+/// Among the ledger words: the usage, the occupancy, the charges of standalone entries, and the
+/// hand.
 pub const USAGE: usize = 0;
 
 pub const OCCUPANCY: usize = 1;
@@ -52,4 +53,3 @@ pub const MOST_ROOM: u32 = 512;
 
 /// The greatest capacity, `2^40`.
 pub const MOST_CAPACITY: u64 = 1_099_511_627_776;
-

@@ -16,8 +16,8 @@ impl<T: Tag, A: Allocator> RuleTable<T, A> {
     /// A shard with no entries, and the seats of all its clients, in order of their numbers. Each
     /// client has nothing in hand, and its lists and counts are empty.
     ///
-    /// The sizes and the capacity keep their limits. It takes memory for the words and for the seats,
-    /// and costs as many stores as the shard has words, and a load for each client.
+    /// The sizes and the capacity keep their limits. It takes memory for the words and for the
+    /// seats, and costs as many stores as the shard has words, and a load for each client.
     pub fn new(
         alloc: A,
         geometry: Geometry,
@@ -30,7 +30,8 @@ impl<T: Tag, A: Allocator> RuleTable<T, A> {
         T: Drop,
         requires { IsPlanned geometry capacity }
         ensures size { IfOk result (λ made. geometry_of made.0 ≡ geometry) }
-        ensures capacity { IfOk result (λ made. (capacity_of made.0 ≡ capacity) × (is_strict made.0 ≡ strict)) }
+        ensures capacity { IfOk result (λ made. (capacity_of made.0 ≡ capacity)
+            × (is_strict made.0 ≡ strict)) }
         ensures tag { IfOk result (λ made. (plan_of made.0).tag ≡ tag) }
         ensures count { IfOk result (λ made. length made.1.items ≡ geometry.clients) }
         ensures seats { IfOk result (λ made.
@@ -54,7 +55,8 @@ impl<T: Tag, A: Allocator> RuleTable<T, A> {
         T: Drop,
         requires { IsPlanned geometry capacity }
         ensures size { IfOk result (λ made. geometry_of made.0 ≡ geometry) }
-        ensures capacity { IfOk result (λ made. (capacity_of made.0 ≡ capacity) × (is_strict made.0 ≡ strict)) }
+        ensures capacity { IfOk result (λ made. (capacity_of made.0 ≡ capacity)
+            × (is_strict made.0 ≡ strict)) }
         ensures tag { IfOk result (λ made. (plan_of made.0).tag ≡ tag) }
         ensures seat { IfOk result (λ made.
             IsSeatAt made.0 made.1) }

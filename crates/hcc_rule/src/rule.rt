@@ -1,7 +1,7 @@
 //! The rule of a shard's table, and what the table is told once.
 use crate::geometry::Geometry;
 use crate::key::Tag;
-use crate::view::Logged;
+use crate::view::View;
 use atomic_table::TableRule;
 use std::marker::PhantomData;
 
@@ -19,10 +19,11 @@ pub struct ShardRule<T> {
     tag: PhantomData<T>,
 }
 
-impl<T: Tag> TableRule<(), Logged<T>, Plan<T>> for ShardRule<T> {
-    ghost use Rattle.hcc_rule.specs.Logs.{HoldsLogged, first_logged};
+impl<T: Tag> TableRule<(), View<T>, Plan<T>> for ShardRule<T> {
+    ghost use Rattle.hcc_rule.specs.Rule.{Holds};
+    ghost use Rattle.hcc_rule.specs.Opening.{opening_view};
 
-    ghost holds = { HoldsLogged T.fits };
+    ghost holds = { Holds T.fits };
 
-    ghost first = { first_logged };
+    ghost first = { opening_view };
 }

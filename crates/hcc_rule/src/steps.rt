@@ -6,7 +6,6 @@ mod looks;
 mod marks;
 mod occupancy;
 mod owners;
-mod planned;
 mod reads;
 mod references;
 mod said;

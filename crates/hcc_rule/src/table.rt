@@ -8,14 +8,14 @@ use crate::geometry::Geometry;
 use crate::key::Tag;
 use crate::layout::DATA;
 use crate::rule::{Plan, ShardRule};
-use crate::view::Logged;
+use crate::view::View;
 use atomic_table::{Seat, Table};
 use std::alloc::Allocator;
 
 /// The words of a shard, which change by the steps of its seats alone.
 #[derive(Drop)]
 pub struct RuleTable<T: Tag, A: Allocator> {
-    pub(crate) table: Table<(), Logged<T>, Plan<T>, ShardRule<T>, A>,
+    pub(crate) table: Table<(), View<T>, Plan<T>, ShardRule<T>, A>,
     pub(crate) geometry: Geometry,
     /// How many words a slot has.
     pub(crate) stride: usize,
@@ -24,12 +24,13 @@ pub struct RuleTable<T: Tag, A: Allocator> {
     ghost sized: { table.shared.table_id.words ≡ word_count geometry.slots geometry.room },
     ghost strided: { stride ≡ geometry.room + SLOT_HEAD },
     ghost slotless: { table.shared.table_id.slots ≡ 0 },
-    ghost planned: { (table.shared.key.geometry ≡ geometry) × (table.shared.key.capacity ≡ capacity) × (table.shared.key.strict ≡ strict) },
+    ghost planned: { (table.shared.key.geometry ≡ geometry) × (table.shared.key.capacity ≡ capacity)
+        × (table.shared.key.strict ≡ strict) },
     ghost limits: { IsPlanned geometry capacity },
 }
 
 /// What one client knows of a shard. It has no bytes.
-pub type RuleSeat<T> = Seat<(), Logged<T>>;
+pub type RuleSeat<T> = Seat<(), View<T>>;
 
 impl<T: Tag, A: Allocator> RuleTable<T, A> {
     /// The size of the shard. It costs a copy.

@@ -12,8 +12,8 @@ pub struct Record {
     pub weight: u64,
     /// Whether its release may count as a use.
     pub counting: bool,
-    /// Whether an acquire got it, and found the entry Visible; false for the reference that a client
-    /// keeps of the entry that it shows.
+    /// Whether an acquire got it, and found the entry Visible; false for the reference that a
+    /// client keeps of the entry that it shows.
     pub shown: bool,
     pub entry: Entry,
 }
@@ -68,20 +68,4 @@ pub struct View<T> {
     pub seen: LinkedList<u64>,
     /// The charges of which not all was granted at once.
     pub tight: LinkedList<u64>,
-}
-
-/// An atomic step that a seat made: the address of its word, its operands (0 where it has fewer), and
-/// the word that it found, or stored. A load has none, a store, an add, a take, an and or an or has
-/// one, and an exchange has the word that it asks for and the one that it would leave.
-pub struct Atomic {
-    pub address: u64,
-    pub first: u64,
-    pub second: u64,
-    pub found: u64,
-}
-
-/// What a seat knows, and each atomic step that it made, in order.
-pub struct Logged<T> {
-    pub known: View<T>,
-    pub steps: LinkedList<Atomic>,
 }

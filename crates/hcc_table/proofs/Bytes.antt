@@ -83,8 +83,8 @@ word_bytes value k count small few within =
     cut : take count bs ≡ take count rest
     cut = take_of_take count 8 rest few
 
--- A buffer that begins with the first bytes of a value begins with more of them, once these were put
--- behind the first.
+-- A buffer that begins with the first bytes of a value begins with more of them, once these were
+-- put behind the first.
 pub fills : (value old buffer new : List ℕ) (at count : ℕ) → at + count ≤ length value
     → buffer ≡ take at value ++ drop at old
     → new ≡ take at buffer ++ (take count (drop at value) ++ drop (at + count) buffer)

@@ -21,7 +21,7 @@ use Rattle.hcc_table.specs.Searched.{Searched, IsFound, Buried, Sought, is_key, 
 use Rattle.hcc_table.proofs.Searches.{grows_joined, no_more}
 use Rattle.hcc_table.proofs.Reaches.{joined_in}
 use Rattle.std.proofs.lemmas.Bool.{eq-eqb}
-use Rattle.hcc_rule.proofs.Lists.{each_map}
+use Rattle.hcc_rule.proofs.Basics.Lists.{each_map}
 use Rattle.hcc_table.proofs.Probes.{found_held, dropped_last}
 use Rattle.hcc_core.proofs.SumLemmas.{total-append}
 

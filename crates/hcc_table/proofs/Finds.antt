@@ -10,7 +10,7 @@ use Rattle.hcc_rule.specs.Probes.{probe_slot, trail_to}
 use Rattle.hcc_rule.specs.Seats.{SeatOf, IsSameSeat, view}
 use Rattle.hcc_rule.specs.Views.{Each}
 use Rattle.hcc_rule.specs.Words.{key_of}
-use Rattle.hcc_rule.proofs.ProbeLaws.{probe_of_slot, stands_within, first_masked, next_masked}
+use Rattle.hcc_rule.proofs.Probes.ProbeLaws.{probe_of_slot, stands_within, first_masked, next_masked}
 use Rattle.hcc_table.specs.declared.walk.Walk.{Walk}
 use Rattle.hcc_table.specs.Searched.{Grows, Sought, Buried, AllDead, IsBefore, IsMissed}
 use Rattle.hcc_table.proofs.Searches.{sought_then, searched_refl}

@@ -1,28 +1,22 @@
 -- One more reference on an entry that is held, and references that are given back.
-use Rattle.std.proofs.Common.{◌≡◌, ℕ, ◌++◌, ◌||◌, ◌+◌, ◌&&◌, ◌==◌, not, subst, cond, Bool, true, false, List, [], ◌∷◌, Option, Some, None, IfSome, IfNone, IsSomeAnd, sym, refl, ap, ◌∙◌}
+use Rattle.std.proofs.Common.{◌≡◌, ℕ, ◌++◌, ◌||◌, cond, Bool, true, false, List, [], ◌∷◌, Option, Some, None, IfSome, IfNone, IsSomeAnd, sym, refl, ap, ◌∙◌}
 use Rattle.std.specs.List.{find, list_any}
 use Rattle.std.proofs.lemmas.Bool.{eq-eqb}
-use Rattle.hcc_word.specs.Word.{is_shareable, is_visible, is_counting, refs_of}
-use Rattle.hcc_core.specs.declared.client.Owned.TheVariants as owned
-use Rattle.hcc_core.specs.Sums.{when}
+use Rattle.hcc_word.specs.Word.{is_shareable, is_counting}
 use Rattle.hcc_core.specs.References.{looks_at}
 use Rattle.hcc_rule.specs.declared.key.Key.{Key}
 use Rattle.hcc_rule.specs.declared.view.Record.{Record}
 use Rattle.hcc_rule.specs.declared.view.View.{View}
 use Rattle.hcc_rule.specs.Callers.{HasOn}
-use Rattle.hcc_rule.specs.Rule.{IsRight}
-use Rattle.hcc_rule.specs.Told.{found_dead}
-use Rattle.hcc_rule.specs.ToldOwners.{is_warm}
-use Rattle.hcc_rule.specs.ToldReferences.{after_give, may_reach, record_of}
+use Rattle.hcc_rule.specs.ToldReferences.{may_reach, record_of}
 use Rattle.hcc_rule.specs.Views.{is_on, is_called, record_in}
-use Rattle.hcc_rule.proofs.Findings.{find_each}
+use Rattle.hcc_rule.proofs.Basics.Findings.{find_each}
 use Rattle.hcc_table.specs.declared.pins.Pin.{Pin}
 use Rattle.hcc_table.specs.declared.efforts.Effort.{Effort}
 use Rattle.hcc_table.specs.Efforts.{Lost}
-use Rattle.hcc_table.specs.Freed.{IsFreed, TriedWhereDue, is_due}
+use Rattle.hcc_table.specs.Freed.{TriedWhereDue}
 use Rattle.hcc_table.specs.Pins.{IsOf, IsPinned}
 use Rattle.hcc_table.specs.Searched.{Reached}
-use Rattle.hcc_table.proofs.Searches.{grows_joined}
 
 -- one of a list that passes is found by a search for any
 any_found : {A : Type 0} (p q : A → Bool) (xs : List A) (x : A) → find q xs ≡ Some x → p x ≡ true → list_any p xs ≡ true
@@ -90,56 +84,3 @@ module _ {T : Type 0} where
           let got = h.got has in
           let same = find_each (is_called held) (λ r. r.slot ≡ slot → r.entry ≡ got.0) v.records q got.1.same is on in
           (record_of slot 1 name word got.0, got.2, refl, refl, refl, refl, sym same)
-
--- What is due though nobody asks for it is not visible.
-unseen_due : (s r e v : Bool) → (s && r && (e || not v)) ≡ true → e ≡ false → v ≡ false
-unseen_due s r e false h kept = refl
-unseen_due false r e true h kept = cc
-unseen_due true false e true h kept = cc
-unseen_due true true e true h kept = cc
-
-module _ {T : Type 0} (fits : T → Key → List ℕ → Type 0) (room slot name found : ℕ) (v b w : View T)
-    (is : b ≡ after_give slot name found v) where
-  -- An entry that is freed after a reference was given back is freed of the view before.
-  freed_after : (word charge : ℕ) → IsFreed fits room word None charge b w
-      → IsFreed fits room word None charge v w
-  freed_after word charge h = record {
-    stamp = h.stamp;
-    made = h.made;
-    taken = record {
-      right = subst (λ (z : View T). IfSome z.tag (λ tag. IsRight fits tag room h.made)) is h.taken.right;
-      same = tt;
-    };
-    charged = h.charged;
-    dead = λ stamp there. h.dead stamp
-        (rw is (grows_joined v.work.dead (found_dead slot found v) stamp there));
-    same = h.same ∙ ap (λ (z : View T). record z {
-      work = record z.work {
-        looked = w.work.looked;
-        owned = owned.Nothing;
-        trail = [];
-        freed = z.work.freed + charge;
-        freed_slots = z.work.freed_slots + 1;
-        dead = w.work.dead;
-      };
-      written = [];
-      records = w.records;
-      takings = z.takings + 1;
-      warm = z.warm + when (is_warm word) 1;
-    }) is;
-  }
-
-  -- So it is where freeing was due.
-  pub freed_where_due : (erase : Bool) (word : ℕ) (P : ℕ → Type 0) (o : Option ℕ)
-      → is_due erase word ≡ true
-      → IfSome o (λ charge. IsFreed fits room word None charge b w × P charge
-      × (w.work.looked ≡ b.work.looked))
-      → IfSome o (λ charge. (n : ℕ) × IsFreed fits room n None charge v w
-      × (erase ≡ false → is_visible n ≡ false) × (w.work.looked ≡ v.work.looked))
-  freed_where_due erase word P None due freed = tt
-  freed_where_due erase word P (Some charge) due freed = (
-    word,
-    freed_after word charge freed.0,
-    unseen_due (is_shareable word) (refs_of word == 0) erase (is_visible word) due,
-    freed.2 ∙ ap (λ (z : View T). z.work.looked) is,
-  )

@@ -10,7 +10,7 @@ use Rattle.hcc_rule.specs.Probes.{probe_slot, trail_to}
 use Rattle.hcc_rule.specs.Seats.{SeatOf, IsSameSeat, view}
 use Rattle.hcc_rule.specs.Views.{Each}
 use Rattle.hcc_rule.specs.Words.{key_of}
-use Rattle.hcc_rule.proofs.ProbeLaws.{first_masked, next_masked}
+use Rattle.hcc_rule.proofs.Probes.ProbeLaws.{first_masked, next_masked}
 use Rattle.hcc_table.specs.declared.hiding.Erased.{Erased}
 use Rattle.hcc_table.specs.declared.walk.Walk.{Walk}
 use Rattle.hcc_table.specs.Erased.{Erases, IsAtRest, IsErased}

@@ -8,7 +8,7 @@ use Rattle.hcc_rule.specs.Probes.{probe_slot, trail_to}
 use Rattle.hcc_rule.specs.Seats.{SeatOf, IsSameSeat, view}
 use Rattle.hcc_rule.specs.ToldOwners.{after_show, made_of}
 use Rattle.hcc_rule.specs.ToldTrails.{after_pass}
-use Rattle.hcc_rule.proofs.ProbeLaws.{first_masked, next_masked, probe_inside, some_slots, trail_start, trail_next, trail_length}
+use Rattle.hcc_rule.proofs.Probes.ProbeLaws.{first_masked, next_masked, probe_inside, some_slots, trail_start, trail_next, trail_length}
 use Rattle.hcc_table.specs.declared.inserting.Insertion.TheVariants.{Placed, Matched, NoSlot}
 use Rattle.hcc_table.specs.declared.walk.Walk.{Walk}
 use Rattle.hcc_table.specs.Inserted.{InsertedBy, IsPlaced, TriedAt, Tried, with_trail}

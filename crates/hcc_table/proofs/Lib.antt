@@ -5,6 +5,7 @@ pub mod Probes
 pub mod Finds
 pub mod TakesBack
 pub mod Gives
+pub mod Pinnings
 pub mod Erasures
 pub mod Hidings
 pub mod Bytes

@@ -14,7 +14,7 @@ use Rattle.hcc_rule.specs.Told.{Backs, after_look, found_dead, noticing}
 use Rattle.hcc_rule.specs.ToldReferences.{IsMet, record_of, after_give}
 use Rattle.hcc_rule.specs.Views.{Each, is_called, record_in, stamp_on}
 use Rattle.hcc_rule.specs.Words.{key_of}
-use Rattle.hcc_rule.proofs.Lists.{each_map}
+use Rattle.hcc_rule.proofs.Basics.Lists.{each_map}
 use Rattle.hcc_table.specs.Searched.{Searched, Sought, Reached, Buried, IsFound, is_key, times_met}
 use Rattle.hcc_table.proofs.Searches.{searched_by, searched_then, sought_then}
 use Rattle.hcc_table.proofs.Reaches.{find_last, joined_in}
@@ -130,7 +130,7 @@ module _ {T : Type 0} where
       }
 
       -- all that the client holds there is of that entry
-      one_entry : Each (λ (r : Record). r.slot ≡ slot → r.entry ≡ entry) v.records
+      pub one_entry : Each (λ (r : Record). r.slot ≡ slot → r.entry ≡ entry) v.records
       one_entry = rw (← looked.records) ((h.got has).1).same
 
       -- The entry that was found hidden is dead, and so is each of these.

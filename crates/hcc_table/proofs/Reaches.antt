@@ -85,6 +85,7 @@ module _ {T : Type 0} (fits : T → Key → List ℕ → Type 0) (room slot weig
           λ hidden. then.searched.dead got.0.stamp (died got.0 hidden got.2),
         );
     held = h.backs.entry;
+    enough = h.backs.enough;
   }
     where
       died : (entry : Entry) → is_visible word ≡ false → u ≡ after_acquire slot weight name word entry v

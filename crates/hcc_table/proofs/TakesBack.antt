@@ -11,7 +11,7 @@ use Rattle.hcc_rule.specs.declared.view.View.{View}
 use Rattle.hcc_rule.specs.Probes.{probe_slot, trail_to, before}
 use Rattle.hcc_rule.specs.Seats.{SeatOf, IsSameSeat, view}
 use Rattle.hcc_rule.specs.ToldTrails.{after_unpass}
-use Rattle.hcc_rule.proofs.ProbeLaws.{first_masked, next_masked}
+use Rattle.hcc_rule.proofs.Probes.ProbeLaws.{first_masked, next_masked}
 use Rattle.hcc_table.specs.declared.walk.Walk.{Walk}
 use Rattle.hcc_table.proofs.Finds.{IsAt, seat_then}
 use Rattle.hcc_core.specs.declared.slot.Stamp.{Stamp}

@@ -7,8 +7,8 @@ abbrev pub Rose : (least most old new : ℕ) → Type 0
 Rose least most old new =
     (old ≤ new) × (new + 1 < 2 ^ 64 → old + least ≤ new) × (new ≤ old + most)
 
--- So many slots were visited, at least and at most; at most so many corrections were made, and as many
--- exchanges lost.
+-- So many slots were visited, at least and at most; at most so many corrections were made, and as
+-- many exchanges lost.
 abbrev pub Took : (least most tries : ℕ) → Effort → Effort → Type 0
 Took least most tries old new =
     Rose least most old.probes new.probes
@@ -18,4 +18,5 @@ Took least most tries old new =
 -- Nothing rose but exchanges that lost.
 abbrev pub Lost : (least most : ℕ) → Effort → Effort → Type 0
 Lost least most old new =
-    (new.probes ≡ old.probes) × (new.corrections ≡ old.corrections) × Rose least most old.lost new.lost
+    (new.probes ≡ old.probes) × (new.corrections ≡ old.corrections)
+    × Rose least most old.lost new.lost

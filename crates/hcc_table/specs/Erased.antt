@@ -10,9 +10,9 @@ module _ {T : Type 0} where
   abbrev pub IsAtRest : View T → Type 0
   IsAtRest v = (v.work.owned ≡ owned.Nothing) × (v.work.trail ≡ [])
 
-  -- The client hid visible entries of these keys, and freed so many entries, whose places and charges
-  -- are its to settle. It may have looked at slots, seen entries dead, met keys, and hold other records
-  -- than before, and other words in a slot of its own. All else stays.
+  -- The client hid visible entries of these keys, and freed so many entries, whose places and
+  -- charges are its to settle. It may have looked at slots, seen entries dead, met keys, and hold
+  -- other records than before, and other words in a slot of its own. All else stays.
   pub record Erases (keys : List Key) (slots charge : ℕ) (v w : View T) : Type 0 where
     pub same : w ≡ record v {
       work = record v.work {

@@ -51,10 +51,10 @@ module _ {T : Type 0} where
     written = [];
   }
 
-  -- The client freed an entry whose slot had this word: its charge and its place are the client's to
-  -- settle. Where the client had the last reference, it was on that entry.
-  pub record IsFreed (fits : T → Key → List ℕ → Type 0) (room word : ℕ) (last : Option ℕ) (charge : ℕ)
-      (v w : View T) : Type 0 where
+  -- The client freed an entry whose slot had this word: its charge and its place are the client's
+  -- to settle. Where the client had the last reference, it was on that entry.
+  pub record IsFreed (fits : T → Key → List ℕ → Type 0) (room word : ℕ) (last : Option ℕ)
+      (charge : ℕ) (v w : View T) : Type 0 where
     pub stamp : Stamp
     pub made : Made
     pub taken : IsTaken fits room last v stamp made
@@ -75,8 +75,8 @@ module _ {T : Type 0} where
       warm = v.warm + when (is_warm word) 1;
     }
 
-  -- The same, of the entry that was in this slot: the exchange that found its word took it, and then
-  -- its trail was taken back and its slot emptied.
+  -- The same, of the entry that was in this slot: the exchange that found its word took it, and
+  -- then its trail was taken back and its slot emptied.
   pub record TakenAt (fits : T → Key → List ℕ → Type 0) (slots room slot word : ℕ) (last : Option ℕ)
       (charge : ℕ) (v w : View T) : Type 0 where
     pub stamp : Stamp
@@ -85,8 +85,8 @@ module _ {T : Type 0} where
     pub charged : charge ≡ made.charge
     pub is : w ≡ emptied (after_free slots slot word last stamp made v)
 
-  -- References of this name and weight were given back, as uses or not, and this word is left of the
-  -- one that was found.
+  -- References of this name and weight were given back, as uses or not, and this word is left of
+  -- the one that was found.
   pub record IsLeft (slot weight name : ℕ) (used : Bool) (left : ℕ) (v w : View T) : Type 0 where
     pub found : ℕ
     pub entry : is_shareable found ≡ true

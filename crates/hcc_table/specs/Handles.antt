@@ -3,7 +3,7 @@ use Rattle.std.specs.Prelude.{◌≡◌, [], ◌∷◌}
 use Rattle.hcc_core.specs.Opening.{new_client}
 use Rattle.hcc_rule.specs.declared.view.Record.{Record}
 use Rattle.hcc_rule.specs.declared.view.View.{View}
-use Rattle.hcc_rule.specs.Hands.{Carries}
+use Rattle.hcc_rule.specs.Work.{Carries}
 use Rattle.hcc_table.specs.declared.pins.Pin.{Pin}
 use Rattle.hcc_table.specs.Readings.{IsReadable}
 

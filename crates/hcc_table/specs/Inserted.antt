@@ -15,9 +15,10 @@ use Rattle.hcc_table.specs.declared.inserting.Insertion.{Insertion}
 use Rattle.hcc_table.specs.declared.inserting.Insertion.TheVariants.{Placed, Matched, NoSlot}
 use Rattle.hcc_table.specs.Searched.{Grows, Buried, IsBefore}
 
--- What a client has that may insert an entry: its own number, its place and its charge granted, nothing
--- needed and no slot in hand, a value that is right for the key, a countdown of 1 to 3, a free name,
--- room for the references that it acquires where it meets a visible entry, and for one more entry.
+-- What a client has that may insert an entry: its own number, its place and its charge granted,
+-- nothing needed and no slot in hand, a value that is right for the key, a countdown of 1 to 3, a
+-- free name, room for the references that it acquires where it meets a visible entry, and for one
+-- more entry.
 pub record MayInsert {T : Type 0} (fits : T → Key → List ℕ → Type 0) (p : Plan T) (draft : Draft)
     (value : List ℕ) (client name : ℕ) (v : View T) : Type 0 where
   pub own : client ≡ v.client
@@ -59,8 +60,8 @@ module _ {T : Type 0} where
   abbrev pub Meets : Key → View T → View T → Type 0
   Meets key v w = (more : List Key) × (w.met ≡ v.met ++ more ++ key ∷ [])
 
-  -- The view after the try of one slot, by the answer. Placed: the entry is the newest that the client
-  -- made, and all that it had in hand for it is spent. Matched, or no slot: it wasn't empty.
+  -- The view after the try of one slot, by the answer. Placed: the entry is the newest that the
+  -- client made, and all that it had in hand for it is spent. Matched, or no slot: it wasn't empty.
   abbrev pub TriedAt : (slot : ℕ) → Draft → List ℕ → Insertion → View T → View T → Type 0
   TriedAt slot draft value (Placed there) v w =
       (there ≡ slot) × (w ≡ after_show slot draft.name (made_of draft value) v)
@@ -69,9 +70,10 @@ module _ {T : Type 0} where
   TriedAt slot draft value NoSlot v w =
       Tried v w × (w.saw ≡ v.saw + 1) × Buried draft.key (λ s. s ≡ slot) v w
 
-  -- The entry was put into the slot that is probe i of its key: the i probes before it were taken, and
-  -- each entry of the key that the client holds there is dead to it.
-  pub record IsPlaced (slots slot i : ℕ) (draft : Draft) (value : List ℕ) (v w : View T) : Type 0 where
+  -- The entry was put into the slot that is probe i of its key: the i probes before it were taken,
+  -- and each entry of the key that the client holds there is dead to it.
+  pub record IsPlaced (slots slot i : ℕ) (draft : Draft) (value : List ℕ)
+      (v w : View T) : Type 0 where
     pub low : slot < slots
     pub inside : i < slots
     pub probe : slot ≡ probe_slot slots draft.key i
@@ -79,8 +81,8 @@ module _ {T : Type 0} where
     pub saw : w.saw ≡ v.saw + i
     pub dead : Buried draft.key (IsBefore slots draft.key i) v w
 
-  -- The view after an insertion, by the answer. Matched: at least one slot was taken. No slot: all were,
-  -- and each entry of the key that the client holds there is dead to it.
+  -- The view after an insertion, by the answer. Matched: at least one slot was taken. No slot: all
+  -- were, and each entry of the key that the client holds there is dead to it.
   abbrev pub InsertedBy : (slots : ℕ) → Draft → List ℕ → Insertion → View T → View T → Type 0
   InsertedBy slots draft value (Placed slot) v w = (i : ℕ) × IsPlaced slots slot i draft value v w
   InsertedBy slots draft value Matched v w =

@@ -8,4 +8,3 @@ pub mod Readings
 pub mod Inserted
 pub mod Mates
 pub mod Handles
-pub mod Steps

@@ -1,6 +1,6 @@
 -- What a search leaves of a view, and what it tells.
 use Rattle.std.specs.Prelude.{◌≡◌, ℕ, ◌*◌, ◌≤◌, ◌^◌, ◌<◌, true, false, List, [], ◌∷◌, ◌++◌, IfSome, length, ◌==◌, ◌&&◌, Bool}
-use Rattle.hcc_word.specs.Word.{is_visible, is_shareable}
+use Rattle.hcc_word.specs.Word.{is_visible, is_shareable, refs_of}
 use Rattle.hcc_core.specs.declared.slot.Entry.{Entry}
 use Rattle.hcc_core.specs.declared.slot.Stamp.{Stamp}
 use Rattle.hcc_core.specs.Lawful.{is_in}
@@ -9,7 +9,7 @@ use Rattle.hcc_rule.specs.declared.view.Record.{Record}
 use Rattle.hcc_rule.specs.declared.view.View.{View}
 use Rattle.hcc_rule.specs.Probes.{probe_slot}
 use Rattle.hcc_rule.specs.ToldReferences.{IsMet, record_of}
-use Rattle.hcc_rule.specs.Views.{Each}
+use Rattle.hcc_rule.specs.Views.{Each, weight_on}
 use Rattle.hcc_rule.specs.Words.{key_of}
 use Rattle.hcc_core.specs.Sums.{when, total}
 
@@ -30,8 +30,8 @@ abbrev pub IsBefore : (slots : ℕ) → Key → (i : ℕ) → ℕ → Type 0
 IsBefore slots key i slot = (j : ℕ) × (j < i) × (probe_slot slots key j ≡ slot)
 
 module _ {T : Type 0} where
-  -- Looks, acquires, loads of data words and gives leave this: the client may have looked at slots, seen
-  -- entries dead, met keys, and holds other records than before. All else stays.
+  -- Looks, acquires, loads of data words and gives leave this: the client may have looked at slots,
+  -- seen entries dead, met keys, and holds other records than before. All else stays.
   pub record Searched (v w : View T) : Type 0 where
     pub same : w ≡ record v {
       work = record v.work { looked = w.work.looked; dead = w.work.dead };
@@ -46,23 +46,27 @@ module _ {T : Type 0} where
     pub searched : Searched v w
     pub records : w.records ≡ v.records
 
-  -- each entry of the key that the client held before, on a slot of which P holds, is dead to it after
+  -- each entry of the key that the client held before, on a slot of which P holds, is dead to it
+  -- after
   abbrev pub Buried : Key → (ℕ → Type 0) → View T → View T → Type 0
   Buried key P v w =
-      Each (λ (r : Record). key_of r.entry ≡ key → P r.slot → is_in r.entry.stamp w.work.dead ≡ true) v.records
+      Each (λ (r : Record). key_of r.entry ≡ key → P r.slot
+      → is_in r.entry.stamp w.work.dead ≡ true) v.records
 
   -- each entry of the key that the client held before is dead to it after
   abbrev pub AllDead : Key → View T → View T → Type 0
   AllDead key v w =
       Each (λ (r : Record). key_of r.entry ≡ key → is_in r.entry.stamp w.work.dead ≡ true) v.records
 
-  -- Nothing was found: it holds what it held, and each entry of the key that it holds is dead to it.
+  -- Nothing was found: it holds what it held, and each entry of the key that it holds is dead to
+  -- it.
   pub record IsMissed (key : Key) (v w : View T) : Type 0 where
     pub sought : Sought v w
     pub dead : AllDead key v w
 
   -- The view after references were acquired, by the word that was found.
-  pub record Reached (fits : T → Key → List ℕ → Type 0) (room slot weight name word : ℕ) (v w : View T) : Type 0 where
+  pub record Reached (fits : T → Key → List ℕ → Type 0) (room slot weight name word : ℕ)
+      (v w : View T) : Type 0 where
     pub searched : Searched v w
     pub stray : is_shareable word ≡ false → w.records ≡ v.records
     pub got : is_shareable word ≡ true
@@ -70,10 +74,12 @@ module _ {T : Type 0} where
         × (w.records ≡ v.records ++ record_of slot weight name word entry ∷ [])
         × (is_visible word ≡ false → is_in entry.stamp w.work.dead ≡ true)
     pub held : Each (λ (r : Record). r.slot ≡ slot → is_shareable word ≡ true) v.records
+    pub enough : 0 < weight_on slot v.records → weight_on slot v.records ≤ refs_of word
 
   -- One record more: of a visible entry of the key, which the client had not seen dead. All that it
   -- held on that slot is on this entry.
-  pub record IsFound (fits : T → Key → List ℕ → Type 0) (room slot name : ℕ) (key : Key) (v w : View T) (r : Record) : Type 0 where
+  pub record IsFound (fits : T → Key → List ℕ → Type 0) (room slot name : ℕ) (key : Key)
+      (v w : View T) (r : Record) : Type 0 where
     pub searched : Searched v w
     pub records : w.records ≡ v.records ++ r ∷ []
     pub on : r.slot ≡ slot

@@ -19,10 +19,10 @@ LostBy visits.Lost old new = Lost 1 1 old new
 LostBy visit old new = new ≡ old
 
 module _ {T : Type 0} (fits : T → Key → List ℕ → Type 0) (slots room slot : ℕ) where
-  -- What a visit found and did, by its answer: a word of no entry; one of an entry with references; one
-  -- that counts down; an exchange that came too late; or an entry that was freed, and that was not Shown
-  -- with uses left. The client looked at that slot, and what it holds there shows in the word: so an
-  -- entry that it holds is pinned, or the exchange came too late.
+  -- What a visit found and did, by its answer: a word of no entry; one of an entry with references;
+  -- one that counts down; an exchange that came too late; or an entry that was freed, and that was
+  -- not Shown with uses left. The client looked at that slot, and what it holds there shows in the
+  -- word: so an entry that it holds is pinned, or the exchange came too late.
   abbrev pub Visited : ClockVisit → View T → View T → Type 0
   Visited visits.Passed v w =
       (word : ℕ) × (is_shareable word ≡ false) × Backs slot word v × (w ≡ after_look slot word v)

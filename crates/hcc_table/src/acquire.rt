@@ -9,7 +9,6 @@ ghost use Rattle.hcc_rule.specs.Views.{load_of, record_in};
 ghost use Rattle.hcc_table.specs.Efforts.{Took};
 ghost use Rattle.hcc_table.specs.Pins.{IsOf, IsPinned};
 ghost use Rattle.hcc_table.specs.Searched.{Searched, Sought, Reached};
-ghost use Rattle.hcc_table.specs.Steps.{MakesAtMost};
 
 use crate::efforts::Effort;
 use crate::pins::Pin;
@@ -18,8 +17,8 @@ use hcc_rule::{RuleSeat, RuleTable, Tag};
 use hcc_word::corrected;
 use std::alloc::Allocator;
 
-/// Acquires one more reference on the entry of a pin that the client holds, under this name, which it
-/// doesn't hold; it has room for one more. The answer is the pin of it.
+/// Acquires one more reference on the entry of a pin that the client holds, under this name, which
+/// it doesn't hold; it has room for one more. The answer is the pin of it.
 ///
 /// The record of it is behind the client's others, on the very same entry. It takes no memory. It
 /// costs one atomic add, and an exchange where the reference doesn't count.
@@ -42,7 +41,6 @@ pub fn again<T: Tag, A: Allocator>(
     ensures record { (r : Record) × ((view seat.new).records ≡ (view seat.old).records ++ r ∷ [])
         × IsOf result r × (r.name ≡ name)
         × IfSome (record_in pin.name (view seat.old).records) (λ q. r.entry ≡ q.entry) }
-    ensures steps { MakesAtMost 2 seat.old seat.new }
 {
     let found = reach(table, seat, pin.slot, 1, name, effort);
     Pin {
@@ -54,6 +52,7 @@ pub fn again<T: Tag, A: Allocator>(
 
 /// Acquires references of this weight on a slot, and where they don't count, tries once to take
 /// both counters of the slot back.
+#[inline(always)]
 pub(crate) fn reach<T: Tag, A: Allocator>(
     table: &RuleTable<T, A>,
     seat: &mut RuleSeat<T>,
@@ -72,7 +71,6 @@ pub(crate) fn reach<T: Tag, A: Allocator>(
     ensures effort { Took 0 0 1 effort.old effort.new }
     ensures view { Reached T.fits (room_of table.now) slot weight name result
         (view seat.old) (view seat.new) }
-    ensures steps { MakesAtMost 2 seat.old seat.new }
 {
     let found = table.acquire(seat, slot, weight, name);
     if has_entry(found) && !counts(found) {
@@ -88,7 +86,9 @@ pub(crate) fn reach<T: Tag, A: Allocator>(
     found
 }
 
-/// Tries to take both counters of a slot near its end back, if `word` still stands there.
+/// Tries to take both counters of a slot near its end back, if `word` still stands there. It comes
+/// once in 2^29 uses of a slot, so it stays out of the way of hits.
+#[cold]
 fn relieve<T: Tag, A: Allocator>(
     table: &RuleTable<T, A>,
     seat: &mut RuleSeat<T>,
@@ -104,7 +104,6 @@ fn relieve<T: Tag, A: Allocator>(
     ensures seat { IsSameSeat seat.old seat.new }
     ensures effort { Took 0 0 1 effort.old effort.new }
     ensures view { Sought (view seat.old) (view seat.new) }
-    ensures steps { MakesAtMost 1 seat.old seat.new }
 {
     let Some(next) = corrected(word) else {
         return;

@@ -10,33 +10,35 @@ ghost use Rattle.hcc_rule.specs.Seats.{IsSameSeat, view};
 ghost use Rattle.hcc_rule.specs.ToldOwners.{MayShow, after_show, made_of};
 ghost use Rattle.hcc_rule.specs.Words.{made_words, payload, stamp_word};
 ghost use Rattle.hcc_table.specs.Inserted.{with_words};
-ghost use Rattle.hcc_table.specs.Steps.{MakesAtMost};
 
 use hcc_core::limits::STAMPS_PER_CLIENT;
 use hcc_rule::layout::{CHARGE, KEY0, KEY1, LENGTH, PAYLOAD, STAMP};
 use hcc_rule::{Draft, RuleSeat, RuleTable, Tag};
 use std::alloc::Allocator;
 
-/// The word of at most eight bytes, the first lowest, with 0 for those that lack.
-fn short_word(bytes: &[u8]) -> u64
-    requires { length bytes.now ≤ 8 }
-    ensures { result ≡ from_le_bytes w64 bytes.now }
+/// Writes the words of the draft's entry into an empty slot that the client builds, and shows it.
+pub(crate) fn build<T: Tag, A: Allocator>(
+    table: &RuleTable<T, A>,
+    seat: &mut RuleSeat<T>,
+    slot: u32,
+    draft: Draft,
+    value: &[u8],
+    client: u32,
+)
+    requires seat { IsSeatAt table.now seat.old }
+    requires slot { IsSlotOf table.now slot }
+    requires none { (view seat.old).written ≡ [] }
+    requires client { client < MOST_CLIENTS }
+    requires may { MayShow T.fits (plan_of table.now) slot draft.countdown draft.name
+        (made_of draft value.now)
+        (with_words (made_words client (made_of draft value.now)) (view seat.old)) }
+    ensures seat { IsSameSeat seat.old seat.new }
+    ensures view { view seat.new
+        ≡ after_show slot draft.name (made_of draft value.now) (view seat.old) }
 {
-    let mut whole = [0u8; 8];
-    whole[..bytes.len()].copy_from_slice(bytes);
-    u64::from_le_bytes(whole)
-}
-
-/// The word of the eight bytes from a offset on.
-fn word_at(value: &[u8], offset: usize) -> u64
-    requires { offset ≤ length value.now }
-    ensures { result ≡ from_le_bytes w64 (take 8 (drop offset value.now)) }
-{
-    let rest = &value[offset..];
-    match rest.first_chunk::<8>() {
-        Some(bytes) => u64::from_le_bytes(*bytes),
-        None => short_word(rest),
-    }
+    write_head(table, seat, slot, draft, value.len() as u64, client);
+    write_payload(table, seat, slot, value);
+    table.show(seat, slot, draft, value);
 }
 
 /// Writes the five words before the payload.
@@ -55,15 +57,16 @@ fn write_head<T: Tag, A: Allocator>(
     requires client { client < MOST_CLIENTS }
     requires serial { draft.serial < STAMPS_PER_CLIENT }
     ensures seat { IsSameSeat seat.old seat.new }
-    ensures view { view seat.new ≡ with_words (draft.key.w0 ∷ draft.key.w1 ∷ draft.charge ∷ stamp_word client draft.serial ∷ bytes ∷ []) (view seat.old) }
-    ensures steps { MakesAtMost 5 seat.old seat.new }
+    ensures view { view seat.new ≡ with_words (draft.key.w0 ∷ draft.key.w1 ∷ draft.charge
+        ∷ stamp_word client draft.serial ∷ bytes ∷ []) (view seat.old) }
 {
-    table.write(seat, slot, KEY0, draft.key.w0);
-    table.write(seat, slot, KEY1, draft.key.w1);
-    table.write(seat, slot, CHARGE, draft.charge as u64);
+    let first = table.data_of(slot);
+    table.write_at(seat, slot, first, KEY0, draft.key.w0);
+    table.write_at(seat, slot, first, KEY1, draft.key.w1);
+    table.write_at(seat, slot, first, CHARGE, draft.charge as u64);
     let stamp = client as u64 * STAMPS_PER_CLIENT + draft.serial;
-    table.write(seat, slot, STAMP, stamp);
-    table.write(seat, slot, LENGTH, bytes);
+    table.write_at(seat, slot, first, STAMP, stamp);
+    table.write_at(seat, slot, first, LENGTH, bytes);
 }
 
 /// Writes the words of the payload, behind the five words that were written.
@@ -79,34 +82,33 @@ fn write_payload<T: Tag, A: Allocator>(
     requires head { length (view seat.old).written ≡ PAYLOAD }
     requires short { length value.now ≤ 8 * (room_of table.now) }
     ensures seat { IsSameSeat seat.old seat.new }
-    ensures view { view seat.new ≡ with_words ((view seat.old).written ++ payload value.now) (view seat.old) }
-    ensures steps { MakesAtMost (room_of table.now) seat.old seat.new }
+    ensures view { view seat.new
+        ≡ with_words ((view seat.old).written ++ payload value.now) (view seat.old) }
 {
+    let first = table.data_of(slot);
     for k in 0..(value.len() + 7) / 8 {
-        table.write(seat, slot, PAYLOAD + k, word_at(value, 8 * k));
+        table.write_at(seat, slot, first, PAYLOAD + k, word_at(value, 8 * k));
     }
 }
 
-/// Writes the words of the draft's entry into an empty slot that the client builds, and shows it.
-pub(crate) fn build<T: Tag, A: Allocator>(
-    table: &RuleTable<T, A>,
-    seat: &mut RuleSeat<T>,
-    slot: u32,
-    draft: Draft,
-    value: &[u8],
-    client: u32,
-)
-    requires seat { IsSeatAt table.now seat.old }
-    requires slot { IsSlotOf table.now slot }
-    requires none { (view seat.old).written ≡ [] }
-    requires client { client < MOST_CLIENTS }
-    requires may { MayShow T.fits (plan_of table.now) slot draft.countdown draft.name (made_of draft value.now)
-        (with_words (made_words client (made_of draft value.now)) (view seat.old)) }
-    ensures seat { IsSameSeat seat.old seat.new }
-    ensures view { view seat.new ≡ after_show slot draft.name (made_of draft value.now) (view seat.old) }
-    ensures steps { MakesAtMost (room_of table.now + 6) seat.old seat.new }
+/// The word of the eight bytes from an offset on.
+fn word_at(value: &[u8], offset: usize) -> u64
+    requires { offset ≤ length value.now }
+    ensures { result ≡ from_le_bytes w64 (take 8 (drop offset value.now)) }
 {
-    write_head(table, seat, slot, draft, value.len() as u64, client);
-    write_payload(table, seat, slot, value);
-    table.show(seat, slot, draft, value);
+    let rest = &value[offset..];
+    match rest.first_chunk::<8>() {
+        Some(bytes) => u64::from_le_bytes(*bytes),
+        None => short_word(rest),
+    }
+}
+
+/// The word of at most eight bytes, the first lowest, with 0 for those that lack.
+fn short_word(bytes: &[u8]) -> u64
+    requires { length bytes.now ≤ 8 }
+    ensures { result ≡ from_le_bytes w64 bytes.now }
+{
+    let mut whole = [0u8; 8];
+    whole[..bytes.len()].copy_from_slice(bytes);
+    u64::from_le_bytes(whole)
 }

@@ -22,6 +22,7 @@ impl Effort {
     };
 
     /// A slot was visited.
+    #[inline(always)]
     pub(crate) fn probe(&mut self)
         ensures probes { Rose 1 1 self.old.probes self.new.probes }
         ensures corrections { self.new.corrections ≡ self.old.corrections }

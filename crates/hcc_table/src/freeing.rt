@@ -9,7 +9,6 @@ ghost use Rattle.hcc_rule.specs.ToldOwners.{IsLast, records_left};
 ghost use Rattle.hcc_table.specs.Efforts.{Lost};
 ghost use Rattle.hcc_table.specs.Freed.{HasTaken, IsFreed, TakenAt, emptied};
 ghost use Rattle.hcc_table.specs.Searched.{Sought};
-ghost use Rattle.hcc_table.specs.Steps.{MakesAtMost, freeing};
 
 use crate::efforts::Effort;
 use crate::walk::Walk;
@@ -18,8 +17,8 @@ use hcc_rule::{Key, RuleSeat, RuleTable, Tag};
 use std::alloc::Allocator;
 
 /// Frees the slot whose entry the client took: takes back the displacements of the key's probes
-/// before the slot, and empties it. The answer is the entry's charge, which the client has to settle
-/// with its place.
+/// before the slot, and empties it. The answer is the entry's charge, which the client has to
+/// settle with its place.
 ///
 /// It takes no memory. It costs three loads, a take for each probe before the slot, and a store.
 pub fn free_taken<T: Tag, A: Allocator>(
@@ -33,7 +32,6 @@ pub fn free_taken<T: Tag, A: Allocator>(
     ensures seat { IsSameSeat seat.old seat.new }
     ensures charge { result ≡ slice_index (view seat.old).written CHARGE }
     ensures view { view seat.new ≡ emptied (view seat.old) }
-    ensures steps { MakesAtMost (slots_of table.now + 4) seat.old seat.new }
 {
     let key = Key {
         w0: table.read_own(seat, slot, KEY0),
@@ -55,8 +53,8 @@ pub(crate) fn take_back<T: Tag, A: Allocator>(
     requires seat { IsSeatAt table.now seat.old }
     requires trail { (view seat.old).work.trail ≡ trail_to (slots_of table.now) key slot }
     ensures seat { IsSameSeat seat.old seat.new }
-    ensures view { view seat.new ≡ record (view seat.old) { work = record (view seat.old).work { trail = [] } } }
-    ensures steps { MakesAtMost (slots_of table.now) seat.old seat.new }
+    ensures view { view seat.new
+        ≡ record (view seat.old) { work = record (view seat.old).work { trail = [] } } }
 {
     let slots = table.geometry().slots;
     let mut walk = Walk::begin(key, slots);
@@ -95,7 +93,6 @@ pub(crate) fn try_free<T: Tag, A: Allocator>(
         IsFreed T.fits (room_of table.now) word name charge (view seat.old) (view seat.new)
         × ((view seat.new).records ≡ records_left name (view seat.old).records)
         × ((view seat.new).work.looked ≡ (view seat.old).work.looked)) }
-    ensures steps { MakesAtMost (freeing (slots_of table.now)) seat.old seat.new }
 {
     if table.free(seat, slot, word, name) != word {
         effort.lose();

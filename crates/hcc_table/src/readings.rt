@@ -1,20 +1,21 @@
 //! What a client reads of slots and of the entries that it holds.
-ghost use Rattle.std.specs.Prelude.{◌≡◌, ◌+◌, ◌*◌, ◌<◌, ◌≤◌, ◌++◌, IfSome, IsSomeAnd, length, take, drop};
+ghost use Rattle.std.specs.Prelude.{◌≡◌, ◌+◌, ◌-◌, ◌*◌, ◌<◌, ◌≤◌, ◌++◌, IfSome, IsSomeAnd, length, take, drop};
 ghost use Rattle.std.specs.Int.{to_le_bytes};
 ghost use mir.Syntax.{w64};
-ghost use Rattle.hcc_core.specs.World.{times};
-ghost use Rattle.hcc_rule.specs.declared.layout.TheConstants.{KEY1};
+ghost use Rattle.hcc_core.specs.World.{limit_of, times};
+ghost use Rattle.hcc_rule.specs.declared.layout.TheConstants.{DATA, KEY1};
 ghost use Rattle.hcc_rule.specs.declared.view.Record.{Record};
-ghost use Rattle.hcc_rule.specs.Callers.{slots_of, room_of, IsSeatAt, IsSlotOf, HasOn};
+ghost use Rattle.hcc_rule.specs.Callers.{clients_of, plan_of, slots_of, room_of, IsSeatAt, IsSlotOf, HasOn};
 ghost use Rattle.hcc_rule.specs.Probes.{trail_to};
+ghost use Rattle.hcc_rule.specs.Rule.{setup_of};
 ghost use Rattle.hcc_rule.specs.Seats.{IsSameSeat, view};
-ghost use Rattle.hcc_rule.specs.Told.{after_look, Backs};
+ghost use Rattle.hcc_rule.specs.Told.{after_look, Alone, Backs};
 ghost use Rattle.hcc_rule.specs.ToldOwners.{after_read};
-ghost use Rattle.hcc_rule.specs.Views.{Each, record_in};
-ghost use Rattle.hcc_rule.specs.Words.{key_of, payload_word};
+ghost use Rattle.hcc_rule.specs.ToldTrails.{passed_held};
+ghost use Rattle.hcc_rule.specs.Views.{different, Each, record_in};
+ghost use Rattle.hcc_rule.specs.Words.{field_at, key_of, payload_word};
 ghost use Rattle.hcc_table.specs.Pins.{IsPinned};
 ghost use Rattle.hcc_table.specs.Readings.{IsReadable};
-ghost use Rattle.hcc_table.specs.Steps.{MakesAtMost};
 
 use crate::pins::Pin;
 use hcc_rule::layout::{KEY0, KEY1, LENGTH, PAYLOAD};
@@ -24,16 +25,17 @@ use std::alloc::Allocator;
 /// The meta word of a slot. `hcc_word` reads its fields.
 ///
 /// Where the client holds references on the slot, the word is that of an entry with at least these,
-/// and they all are on that entry. The client has looked at the slot where the word is an entry's,
-/// and has seen an entry dead that it holds and that is hidden; the rest of what it has stays. It
-/// refuses nothing and takes no memory. It costs one load.
+/// and they all are on that entry; in a shard of one client, with just these. The client has looked
+/// at the slot where the word is an entry's, and has seen an entry dead that it holds and that is
+/// hidden; the rest of what it has stays. It refuses nothing and takes no memory. It costs one
+/// load.
 pub fn word<T: Tag, A: Allocator>(table: &RuleTable<T, A>, seat: &mut RuleSeat<T>, slot: u32) -> u64
     requires seat { IsSeatAt table.now seat.old }
     requires slot { IsSlotOf table.now slot }
     ensures seat { IsSameSeat seat.old seat.new }
     ensures view { view seat.new ≡ after_look slot result (view seat.old) }
     ensures backs { Backs slot result (view seat.old) }
-    ensures steps { MakesAtMost 1 seat.old seat.new }
+    ensures alone { Alone (setup_of (plan_of table.now)) slot result (view seat.old) }
 {
     table.look(seat, slot)
 }
@@ -41,8 +43,10 @@ pub fn word<T: Tag, A: Allocator>(table: &RuleTable<T, A>, seat: &mut RuleSeat<T
 /// How often a slot stands in the trails of entries and of clients.
 ///
 /// The client's own trail is among them, and so is that of each entry that it holds a reference on;
-/// each of these is on a slot of the table. What the client has stays. It refuses nothing and takes
-/// no memory. It costs one load.
+/// each of these is on a slot of the table. Any other entry has the slot in its trail once at most,
+/// and any other client as often as there are slots. In a shard of one client the other entries are
+/// those that it showed and did not take: so the answer is exact where it holds all of these. What
+/// the client has stays. It refuses nothing and takes no memory. It costs one load.
 pub fn displacement<T: Tag, A: Allocator>(
     table: &RuleTable<T, A>,
     seat: &mut RuleSeat<T>,
@@ -57,7 +61,18 @@ pub fn displacement<T: Tag, A: Allocator>(
         times slot (trail_to (slots_of table.now) (key_of r.entry) r.slot) ≤ result)
         (view seat.old).records }
     ensures within { Each (λ (r : Record). r.slot < slots_of table.now) (view seat.old).records }
-    ensures steps { MakesAtMost 1 seat.old seat.new }
+    ensures entries { times slot (view seat.old).work.trail
+        + passed_held (slots_of table.now) slot (view seat.old).records ≤ result }
+    ensures most { result + length (different (view seat.old).records)
+        ≤ times slot (view seat.old).work.trail
+        + passed_held (slots_of table.now) slot (view seat.old).records
+        + limit_of (setup_of (plan_of table.now))
+        + slots_of table.now * (clients_of table.now - 1) }
+    ensures alone { clients_of table.now ≡ 1
+        → result + (view seat.old).takings + length (different (view seat.old).records)
+        ≤ times slot (view seat.old).work.trail
+        + passed_held (slots_of table.now) slot (view seat.old).records
+        + length (view seat.old).made }
 {
     table.count(seat, slot)
 }
@@ -76,16 +91,17 @@ pub fn read_len<T: Tag, A: Allocator>(
     requires holds { IsPinned pin (view seat.old) }
     ensures seat { IsSameSeat seat.old seat.new }
     ensures view { view seat.new ≡ view seat.old }
-    ensures exact { IfSome (record_in pin.name (view seat.old).records) (λ r. result ≡ length r.entry.value) }
-    ensures steps { MakesAtMost 1 seat.old seat.new }
+    ensures exact { IfSome (record_in pin.name (view seat.old).records)
+        (λ r. result ≡ length r.entry.value) }
 {
     table.read(seat, pin.slot, LENGTH, pin.name) as usize
 }
 
 /// The key of the entry of a pin.
 ///
-/// The client holds the pin's reference. Where it got the entry as Shown, the key joins the keys that
-/// it met; the rest of what it has stays. It refuses nothing and takes no memory. It costs two loads.
+/// The client holds the pin's reference. Where it got the entry as Shown, the key joins the keys
+/// that it met; the rest of what it has stays. It refuses nothing and takes no memory. It costs two
+/// loads.
 pub fn read_key<T: Tag, A: Allocator>(
     table: &RuleTable<T, A>,
     seat: &mut RuleSeat<T>,
@@ -96,8 +112,8 @@ pub fn read_key<T: Tag, A: Allocator>(
     requires holds { IsPinned pin (view seat.old) }
     ensures seat { IsSameSeat seat.old seat.new }
     ensures view { view seat.new ≡ after_read pin.name KEY1 (view seat.old) }
-    ensures exact { IfSome (record_in pin.name (view seat.old).records) (λ r. result ≡ key_of r.entry) }
-    ensures steps { MakesAtMost 2 seat.old seat.new }
+    ensures exact { IfSome (record_in pin.name (view seat.old).records)
+        (λ r. result ≡ key_of r.entry) }
 {
     Key {
         w0: table.read(seat, pin.slot, KEY0, pin.name),
@@ -105,12 +121,12 @@ pub fn read_key<T: Tag, A: Allocator>(
     }
 }
 
-/// Copies the value of the entry of a pin to the front of a buffer. The answer is how many bytes it has.
-/// The rest of the buffer stays as it is.
+/// Copies the value of the entry of a pin to the front of a buffer. The answer is how many bytes it
+/// has. The rest of the buffer stays as it is.
 ///
-/// The client holds the pin's reference, on an entry whose value fits its slot and is of bytes, and the
-/// buffer has room for the value. What the client has stays. It refuses nothing and takes no memory. It
-/// costs one load for the length, and one for each eight bytes, the last ones too.
+/// The client holds the pin's reference, on an entry whose value fits its slot and is of bytes, and
+/// the buffer has room for the value. What the client has stays. It refuses nothing and takes no
+/// memory. It costs one load for the length, and one for each eight bytes, the last ones too.
 pub fn read_bytes<T: Tag, A: Allocator>(
     table: &RuleTable<T, A>,
     seat: &mut RuleSeat<T>,
@@ -132,13 +148,21 @@ pub fn read_bytes<T: Tag, A: Allocator>(
         (λ r. buffer.new ≡ r.entry.value ++ drop (length r.entry.value) buffer.old) }
 {
     let length = read_len(table, seat, pin);
+    let first = table.data_of(pin.slot);
     let whole = length / 8;
-    for index in 0..whole {
-        copy_word(table, seat, pin, index, 8, buffer);
+    let fours = whole / 4;
+    for four in 0..fours {
+        copy_word(table, seat, pin, first, 4 * four, 8, buffer);
+        copy_word(table, seat, pin, first, 4 * four + 1, 8, buffer);
+        copy_word(table, seat, pin, first, 4 * four + 2, 8, buffer);
+        copy_word(table, seat, pin, first, 4 * four + 3, 8, buffer);
+    }
+    for index in 4 * fours..whole {
+        copy_word(table, seat, pin, first, index, 8, buffer);
     }
     let rest = length % 8;
     if rest > 0 {
-        copy_word(table, seat, pin, whole, rest, buffer);
+        copy_word(table, seat, pin, first, whole, rest, buffer);
     }
     length
 }
@@ -148,12 +172,14 @@ fn copy_word<T: Tag, A: Allocator>(
     table: &RuleTable<T, A>,
     seat: &mut RuleSeat<T>,
     pin: Pin,
+    first: usize,
     index: usize,
     count: usize,
     buffer: &mut [u8],
 )
     requires seat { IsSeatAt table.now seat.old }
     requires slot { IsSlotOf table.now pin.slot }
+    requires first { first ≡ field_at (room_of table.now) pin.slot DATA }
     requires within { index < room_of table.now }
     requires some { 0 < count }
     requires few { count ≤ 8 }
@@ -166,9 +192,8 @@ fn copy_word<T: Tag, A: Allocator>(
     ensures bytes { IfSome (record_in pin.name (view seat.old).records)
         (λ r. buffer.new ≡ take (8 * index) buffer.old
         ++ (take count (drop (8 * index) r.entry.value) ++ drop (8 * index + count) buffer.old)) }
-    ensures steps { MakesAtMost 1 seat.old seat.new }
 {
-    let word = read_word(table, seat, pin, index);
+    let word = read_word(table, seat, pin, first, index);
     put(buffer, 8 * index, count, word);
 }
 
@@ -177,19 +202,20 @@ fn read_word<T: Tag, A: Allocator>(
     table: &RuleTable<T, A>,
     seat: &mut RuleSeat<T>,
     pin: Pin,
+    first: usize,
     index: usize,
 ) -> u64
     requires seat { IsSeatAt table.now seat.old }
     requires slot { IsSlotOf table.now pin.slot }
+    requires first { first ≡ field_at (room_of table.now) pin.slot DATA }
     requires within { index < room_of table.now }
     requires holds { HasOn pin.slot pin.name (view seat.old) }
     ensures seat { IsSameSeat seat.old seat.new }
     ensures view { view seat.new ≡ view seat.old }
     ensures word { IfSome (record_in pin.name (view seat.old).records)
         (λ r. 8 * index < length r.entry.value → result ≡ payload_word r.entry.value index) }
-    ensures steps { MakesAtMost 1 seat.old seat.new }
 {
-    table.read(seat, pin.slot, PAYLOAD + index, pin.name)
+    table.read_at(seat, pin.slot, first, PAYLOAD + index, pin.name)
 }
 
 /// Puts the first bytes of a word into a buffer, the lowest first.

@@ -3,14 +3,13 @@ ghost use Rattle.std.specs.Prelude.{◌≡◌, ◌+◌, ◌^◌, ◌<◌, ◌≤
 ghost use Rattle.hcc_word.specs.Word.{is_visible};
 ghost use Rattle.hcc_core.specs.Outcomes.{dropped};
 ghost use Rattle.hcc_rule.specs.declared.view.View.{View};
-ghost use Rattle.hcc_rule.specs.Callers.{room_of, IsSeatAt, IsSlotOf, MayFree, slots_of};
+ghost use Rattle.hcc_rule.specs.Callers.{room_of, IsSeatAt, IsSlotOf, MayFree};
 ghost use Rattle.hcc_rule.specs.Seats.{IsSameSeat, view};
 ghost use Rattle.hcc_rule.specs.Views.{is_called, record_in};
 ghost use Rattle.hcc_table.specs.Efforts.{Lost};
 ghost use Rattle.hcc_table.specs.Freed.{IsFreed, IsLeft, TriedWhereDue, is_due};
 ghost use Rattle.hcc_table.specs.Pins.{IsPinned, erases, is_useful};
 ghost use Rattle.hcc_table.specs.Searched.{Searched};
-ghost use Rattle.hcc_table.specs.Steps.{MakesAtMost, freeing};
 
 use crate::efforts::Effort;
 use crate::freeing::try_free;
@@ -20,16 +19,16 @@ use hcc_rule::{RuleSeat, RuleTable, Tag};
 use hcc_word::{given_back, refs, released};
 use std::alloc::Allocator;
 
-/// Gives the reference of a pin back: as a use, where it is useful and counts, else by taking it from
-/// the acquires. Where no reference is left then, and the entry is hidden or `last` asks for it,
-/// taking the entry is tried once, and its slot is freed. The answer is the charge of the entry that
-/// was freed; it and a place are the client's to settle. Another entry that came into the slot
+/// Gives the reference of a pin back: as a use, where it is useful and counts, else by taking it
+/// from the acquires. Where no reference is left then, and the entry is hidden or `last` asks for
+/// it, taking the entry is tried once, and its slot is freed. The answer is the charge of the entry
+/// that was freed; it and a place are the client's to settle. Another entry that came into the slot
 /// meanwhile may be the one that goes.
 ///
-/// The client holds the pin's reference, and may free an entry. Its record is gone afterwards, and no
-/// other. A visible entry is taken only where `last` asks for it. It takes no memory. It costs one
-/// atomic add or take; where nobody holds the entry and it may go an exchange, and where that wins
-/// what `free_taken` costs.
+/// The client holds the pin's reference, and may free an entry. Its record is gone afterwards, and
+/// no other. A visible entry is taken only where `last` asks for it. It takes no memory. It costs
+/// one atomic add or take; where nobody holds the entry and it may go an exchange, and where that
+/// wins what `free_taken` costs.
 pub fn release<T: Tag, A: Allocator>(
     table: &RuleTable<T, A>,
     seat: &mut RuleSeat<T>,
@@ -44,7 +43,8 @@ pub fn release<T: Tag, A: Allocator>(
     requires may { MayFree (view seat.old) }
     ensures seat { IsSameSeat seat.old seat.new }
     ensures effort { Lost 0 1 effort.old effort.new }
-    ensures records { (view seat.new).records ≡ dropped (is_called pin.name) (view seat.old).records }
+    ensures records { (view seat.new).records
+        ≡ dropped (is_called pin.name) (view seat.old).records }
     ensures kept { IfNone result (Searched (view seat.old) (view seat.new)
         × ((view seat.new).met ≡ (view seat.old).met)) }
     ensures freed { IfSome result (λ charge. (word : ℕ)
@@ -54,7 +54,6 @@ pub fn release<T: Tag, A: Allocator>(
     ensures tried { (left : ℕ) × (between : View T)
         × IsLeft pin.slot 1 pin.name (is_useful usage && pin.counting) left (view seat.old) between
         × TriedWhereDue (is_due (erases last) left) result effort.old effort.new }
-    ensures steps { MakesAtMost (freeing (slots_of table.now) + 1) seat.old seat.new }
 {
     let used = usage.is_use(pin.counting);
     let left = let_go(table, seat, pin.slot, 1, pin.name, used);
@@ -66,6 +65,7 @@ pub fn release<T: Tag, A: Allocator>(
 }
 
 /// Gives the references of this name back, as uses or not, and tells the word that is left.
+#[inline(always)]
 pub(crate) fn let_go<T: Tag, A: Allocator>(
     table: &RuleTable<T, A>,
     seat: &mut RuleSeat<T>,
@@ -80,7 +80,6 @@ pub(crate) fn let_go<T: Tag, A: Allocator>(
         (λ r. (r.slot ≡ slot) × (r.weight ≡ weight) × (used ≡ true → r.counting ≡ true)) }
     ensures seat { IsSameSeat seat.old seat.new }
     ensures view { IsLeft slot weight name used result (view seat.old) (view seat.new) }
-    ensures steps { MakesAtMost 1 seat.old seat.new }
 {
     if used {
         released(table.spend(seat, slot, weight, name), weight)

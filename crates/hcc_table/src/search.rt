@@ -1,6 +1,6 @@
 //! The search for a key's entry.
 ghost use Rattle.std.specs.Prelude.{◌≡◌, ◌+◌, ◌<◌, ◌≤◌, true, false, None, IfSome, IfNone};
-ghost use Rattle.hcc_word.specs.Word.{is_visible};
+ghost use Rattle.hcc_word.specs.Word.{is_counting, is_visible};
 ghost use Rattle.hcc_core.specs.declared.limits.TheConstants.{REFERENCES_PER_CLIENT};
 ghost use Rattle.hcc_rule.specs.declared.view.Record.{Record};
 ghost use Rattle.hcc_rule.specs.Callers.{slots_of, room_of, IsSeatAt, IsSlotOf, HasOn};
@@ -10,7 +10,6 @@ ghost use Rattle.hcc_rule.specs.Views.{load_of, record_in};
 ghost use Rattle.hcc_rule.specs.Words.{key_of};
 ghost use Rattle.hcc_table.specs.Efforts.{Took};
 ghost use Rattle.hcc_table.specs.Searched.{Sought, IsFound, IsMissed, Buried};
-ghost use Rattle.hcc_table.specs.Steps.{MakesAtMost, MakesFor};
 
 use crate::acquire::reach;
 use crate::efforts::Effort;
@@ -19,21 +18,23 @@ use crate::walk::Walk;
 use crate::words::{counts, has_entry, is_shown};
 use hcc_rule::layout::{KEY0, KEY1};
 use hcc_rule::{Key, RuleSeat, RuleTable, Tag};
+use hcc_word::hit;
 use std::alloc::Allocator;
 
-/// Finds a visible entry of the key, and acquires a reference on it under this name, which the client
-/// doesn't hold; it has room for one more. With `marks` the entry's hit bit is set. Each probe of the
-/// key in turn is looked at; the search ends where no trail goes on, or after all probes.
+/// Finds a visible entry of the key, and acquires a reference on it under this name, which the
+/// client doesn't hold; it has room for one more. With `marks` the entry's hit bit is set. Each
+/// probe of the key in turn is looked at; the search ends where no trail goes on, or after all
+/// probes.
 ///
 /// Where it finds one, the client has one record more, behind its others: of an entry of this key,
-/// with a value that fits it, which the client hadn't seen dead. Where it finds none, it holds what it
-/// held, and has seen dead each entry of the key that it holds. In both the rest of what it has stays,
-/// but for the slot that it looked at last, entries that it saw dead, and keys that it met.
+/// with a value that fits it, which the client hadn't seen dead. Where it finds none, it holds what
+/// it held, and has seen dead each entry of the key that it holds. In both the rest of what it has
+/// stays, but for the slot that it looked at last, entries that it saw dead, and keys that it met.
 ///
-/// It takes no memory. Each probe costs a load and one of the displacement word, and where the slot is
-/// visible an add, a load of each half of the key that is compared, and a take. A hit at the first
-/// probe is one load, one add and two loads, with the mark's or where that is asked for. A reference
-/// that doesn't count costs one exchange more.
+/// It takes no memory. Each probe costs a load and one of the displacement word, and where the slot
+/// is visible an add, a load of each half of the key that is compared, and a take. A hit at the
+/// first probe is one load, one add and two loads, with the mark's or where that is asked for and
+/// lacks. A reference that doesn't count costs one exchange more.
 pub fn find<T: Tag, A: Allocator>(
     table: &RuleTable<T, A>,
     seat: &mut RuleSeat<T>,
@@ -52,19 +53,18 @@ pub fn find<T: Tag, A: Allocator>(
         × IsFound T.fits (room_of table.now) pin.slot name key (view seat.old) (view seat.new) r
         × (r.counting ≡ pin.counting)) }
     ensures missed { IfNone result (IsMissed key (view seat.old) (view seat.new)) }
-    ensures steps { MakesFor 7 0 (slots_of table.now) effort.old effort.new seat.old seat.new }
 {
     let slots = table.geometry().slots;
     let mut walk = Walk::begin(key, slots);
     for _ in 0..slots {
         let slot = walk.slot();
         effort.probe();
-        if let Some(counting) = hold(table, seat, slot, key, name, effort) {
-            mark_if(table, seat, slot, name, marks);
+        if let Some(found) = hold(table, seat, slot, key, name, effort) {
+            mark_if(table, seat, slot, name, marks, found);
             return Some(Pin {
                 slot,
                 name,
-                counting,
+                counting: counts(found),
             });
         }
         if table.count(seat, slot) == 0 {
@@ -75,7 +75,8 @@ pub fn find<T: Tag, A: Allocator>(
     None
 }
 
-/// A reference on the slot's entry, where the slot shows one of this key, and whether it counts.
+/// A reference on the slot's entry, where the slot shows one of this key: the word that was found.
+#[inline(always)]
 pub(crate) fn hold<T: Tag, A: Allocator>(
     table: &RuleTable<T, A>,
     seat: &mut RuleSeat<T>,
@@ -83,19 +84,18 @@ pub(crate) fn hold<T: Tag, A: Allocator>(
     key: Key,
     name: u64,
     effort: &mut Effort,
-) -> Option<bool>
+) -> Option<u64>
     requires seat { IsSeatAt table.now seat.old }
     requires slot { IsSlotOf table.now slot }
     requires fresh { record_in name (view seat.old).records ≡ None }
     requires load { load_of (view seat.old).records + 1 ≤ REFERENCES_PER_CLIENT }
     ensures seat { IsSameSeat seat.old seat.new }
     ensures effort { Took 0 0 1 effort.old effort.new }
-    ensures found { IfSome result (λ counting. (r : Record)
+    ensures found { IfSome result (λ word. (r : Record)
         × IsFound T.fits (room_of table.now) slot name key (view seat.old) (view seat.new) r
-        × (r.counting ≡ counting)) }
+        × (r.counting ≡ is_counting word)) }
     ensures missed { IfNone result (Sought (view seat.old) (view seat.new)
         × Buried key (λ s. s ≡ slot) (view seat.old) (view seat.new)) }
-    ensures steps { MakesAtMost 6 seat.old seat.new }
 {
     if !is_shown(table.look(seat, slot)) {
         return None;
@@ -105,13 +105,14 @@ pub(crate) fn hold<T: Tag, A: Allocator>(
         return None;
     }
     if matches(table, seat, slot, key, name, found) {
-        return Some(counts(found));
+        return Some(found);
     }
     table.give(seat, slot, 1, name);
     None
 }
 
 /// Whether the word that was found is that of a visible entry, and the record's entry has this key.
+#[inline(always)]
 pub(crate) fn matches<T: Tag, A: Allocator>(
     table: &RuleTable<T, A>,
     seat: &mut RuleSeat<T>,
@@ -132,13 +133,13 @@ pub(crate) fn matches<T: Tag, A: Allocator>(
         → IfSome (record_in name (view seat.old).records) (λ r. ¬ (key_of r.entry ≡ key)) }
     ensures met { result ≡ true → (view seat.new).met
         ≡ with_met (record_in name (view seat.old).records) (view seat.old).met }
-    ensures steps { MakesAtMost 2 seat.old seat.new }
 {
     is_shown(found) && has_key(table, seat, slot, key, name)
 }
 
 /// Whether the entry that the record of this name is on has this key. Where the first halves differ
 /// the second isn't read.
+#[inline(always)]
 fn has_key<T: Tag, A: Allocator>(
     table: &RuleTable<T, A>,
     seat: &mut RuleSeat<T>,
@@ -157,27 +158,29 @@ fn has_key<T: Tag, A: Allocator>(
         → IfSome (record_in name (view seat.old).records) (λ r. ¬ (key_of r.entry ≡ key)) }
     ensures met { result ≡ true → (view seat.new).met
         ≡ with_met (record_in name (view seat.old).records) (view seat.old).met }
-    ensures steps { MakesAtMost 2 seat.old seat.new }
 {
-    table.read(seat, slot, KEY0, name) == key.w0 && table.read(seat, slot, KEY1, name) == key.w1
+    let first = table.data_of(slot);
+    table.read_at(seat, slot, first, KEY0, name) == key.w0
+        && table.read_at(seat, slot, first, KEY1, name) == key.w1
 }
 
-/// Marks the entry that the record of this name is on, where that is asked for.
+/// Marks the entry that the record of this name is on, where that is asked for and the word that
+/// was found lacks the mark.
 fn mark_if<T: Tag, A: Allocator>(
     table: &RuleTable<T, A>,
     seat: &mut RuleSeat<T>,
     slot: u32,
     name: u64,
     marks: bool,
+    found: u64,
 )
     requires seat { IsSeatAt table.now seat.old }
     requires slot { IsSlotOf table.now slot }
     requires holds { HasOn slot name (view seat.old) }
     ensures seat { IsSameSeat seat.old seat.new }
     ensures view { Sought (view seat.old) (view seat.new) }
-    ensures steps { MakesAtMost 1 seat.old seat.new }
 {
-    if marks {
+    if marks && !hit(found) {
         table.mark(seat, slot, name);
     }
 }

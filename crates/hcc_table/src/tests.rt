@@ -1,5 +1,5 @@
-//! What no clause says: that entries are placed where there is room, that those that were placed are
-//! found, and the very words that stand after each call.
+//! What no clause says: that entries are placed where there is room, that those that were placed
+//! are found, and the very words that stand after each call.
 use hcc_rule::Tag;
 
 mod caller;
@@ -10,6 +10,7 @@ mod mate;
 mod rows;
 mod threads;
 mod twins;
+mod worn;
 
 /// The tag that every value fits.
 #[derive(Drop)]

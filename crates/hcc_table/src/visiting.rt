@@ -5,7 +5,6 @@ ghost use Rattle.hcc_word.specs.Word.{is_shareable, refs_of};
 ghost use Rattle.hcc_rule.specs.Callers.{slots_of, room_of, IsSeatAt, IsSlotOf, MayFree};
 ghost use Rattle.hcc_rule.specs.Seats.{IsSameSeat, view};
 ghost use Rattle.hcc_table.specs.Visited.{LostBy, Visited, CountedDown, Swept};
-ghost use Rattle.hcc_table.specs.Steps.{MakesAtMost, freeing};
 
 use crate::efforts::Effort;
 use crate::freeing::try_free;
@@ -25,17 +24,17 @@ pub enum ClockVisit {
     Counted,
     /// Another step came between the load and the exchange.
     Lost,
-    /// Its entry was freed: its charge and its place are the client's to settle. `hit` says whether a
-    /// look-up had marked it.
+    /// Its entry was freed: its charge and its place are the client's to settle. `hit` says whether
+    /// a look-up had marked it.
     Freed { charge: u64, hit: bool },
 }
 
 /// Visits a slot as the clock does: a visible entry with no references and a countdown above 0 is
-/// counted down by one exchange; one with countdown 0, or a hidden one, is taken by one exchange and
-/// freed.
+/// counted down by one exchange; one with countdown 0, or a hidden one, is taken by one exchange
+/// and freed.
 ///
-/// The client may free an entry. It takes no memory. It costs a load, an exchange where the entry has
-/// no references, and where it frees what `free_taken` costs.
+/// The client may free an entry. It takes no memory. It costs a load, an exchange where the entry
+/// has no references, and where it frees what `free_taken` costs.
 pub fn visit<T: Tag, A: Allocator>(
     table: &RuleTable<T, A>,
     seat: &mut RuleSeat<T>,
@@ -49,7 +48,6 @@ pub fn visit<T: Tag, A: Allocator>(
     ensures effort { LostBy result effort.old effort.new }
     ensures view { Visited T.fits (slots_of table.now) (room_of table.now) slot result
         (view seat.old) (view seat.new) }
-    ensures steps { MakesAtMost (freeing (slots_of table.now) + 1) seat.old seat.new }
 {
     let word = table.look(seat, slot);
     if !has_entry(word) {
@@ -80,7 +78,6 @@ fn count_down<T: Tag, A: Allocator>(
     ensures seat { IsSameSeat seat.old seat.new }
     ensures effort { LostBy result effort.old effort.new }
     ensures view { CountedDown result (view seat.old) (view seat.new) }
-    ensures steps { MakesAtMost 1 seat.old seat.new }
 {
     if table.clock(seat, slot, word, next) == word {
         return ClockVisit::Counted;
@@ -106,7 +103,6 @@ fn sweep<T: Tag, A: Allocator>(
     ensures effort { LostBy result effort.old effort.new }
     ensures view { Swept T.fits (slots_of table.now) (room_of table.now) slot word result
         (view seat.old) (view seat.new) }
-    ensures steps { MakesAtMost (freeing (slots_of table.now)) seat.old seat.new }
 {
     match try_free(table, seat, slot, word, None, effort) {
         Some(charge) => ClockVisit::Freed {

@@ -1,16 +1,13 @@
 //! Turns of the hand.
 ghost use Rattle.std.specs.Prelude.{◌≡◌};
-ghost use Rattle.hcc_core.specs.declared.limits.TheConstants.{SLOTS_PER_TURN};
-ghost use Rattle.hcc_rule.specs.Words.{ledger_at};
-ghost use Rattle.hcc_rule.specs.declared.layout.TheConstants.{HAND};
 ghost use Rattle.hcc_rule.specs.Callers.{IsSeatAt};
-ghost use Rattle.hcc_rule.specs.Seats.{IsSameSeat, view, Makes};
+ghost use Rattle.hcc_rule.specs.Seats.{IsSameSeat, view};
 ghost use Rattle.hcc_rule.specs.ToldLedgers.{after_turn};
 
 use crate::key::Tag;
 use crate::layout::HAND;
 use crate::table::{RuleSeat, RuleTable};
-use crate::view::Logged;
+use crate::view::View;
 use atomic_table::Play;
 use hcc_core::limits::SLOTS_PER_TURN;
 use std::alloc::Allocator;
@@ -18,24 +15,22 @@ use std::alloc::Allocator;
 /// What a turn of the hand tells.
 pub struct Turn;
 
-impl<T: Tag> Play<(), Logged<T>> for Turn {
-    ghost use Rattle.hcc_rule.specs.Logs.{Logs};
+impl<T: Tag> Play<(), View<T>> for Turn {
     ghost use Rattle.hcc_rule.specs.ToldLedgers.{turns};
 
-    ghost then = { Logs turns };
+    ghost then = { turns };
 }
 
 impl<T: Tag, A: Allocator> RuleTable<T, A> {
-    /// Moves the hand on by four slots, modulo 2^64. The view counts one more turn. The rule says that
-    /// the hand has moved by four slots for each turn that the views count: no other move keeps it.
+    /// Moves the hand on by four slots, modulo 2^64. The view counts one more turn. The rule says
+    /// that the hand has moved by four slots for each turn that the views count: no other move
+    /// keeps it.
     ///
     /// It answers where the hand was. It takes no memory. It costs one atomic add.
     pub fn turn(&self, seat: &mut RuleSeat<T>) -> u64
         requires seat { IsSeatAt self.now seat.old }
         ensures seat { IsSameSeat seat.old seat.new }
         ensures view { view seat.new ≡ after_turn (view seat.old) }
-        ensures step {
-            Makes (ledger_at self.now.geometry.slots self.now.geometry.room HAND) SLOTS_PER_TURN 0 result seat.old seat.new }
     {
         self.table
             .shared

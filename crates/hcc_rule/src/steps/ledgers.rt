@@ -2,66 +2,39 @@
 ghost use Rattle.std.specs.Prelude.{◌≡◌, ◌+◌, ◌-◌, ◌*◌, ◌^◌, ◌<◌, ◌≤◌, true};
 ghost use Rattle.hcc_core.specs.Lawful.{real_to};
 ghost use Rattle.hcc_core.specs.World.{charged_to};
-ghost use Rattle.hcc_rule.specs.declared.layout.TheConstants.{LEDGER_WORDS, USAGE};
+ghost use Rattle.hcc_rule.specs.declared.layout.TheConstants.{LEDGER_WORDS};
 ghost use Rattle.hcc_rule.specs.declared.view.Record.{Record};
 ghost use Rattle.hcc_rule.specs.Callers.{capacity_of, clients_of, is_strict, plan_of, IsSeatAt};
 ghost use Rattle.hcc_rule.specs.Rule.{setup_of};
-ghost use Rattle.hcc_rule.specs.Seats.{IsSameSeat, view, Makes, MakesSome};
+ghost use Rattle.hcc_rule.specs.Seats.{IsSameSeat, view};
 ghost use Rattle.hcc_rule.specs.ToldLedgers.{Charged, after_usage, after_charge, after_settle, after_waive, waived};
 ghost use Rattle.hcc_rule.specs.Views.{charge_held, Each};
 ghost use Rattle.hcc_rule.specs.Words.{ledger_at};
 
-use super::planned::Planned;
 use crate::key::Tag;
 use crate::layout::USAGE;
 use crate::table::{RuleSeat, RuleTable};
-use crate::view::Logged;
+use crate::view::View;
 use atomic_table::Play;
 use std::alloc::Allocator;
-use std::marker::{Brand, PhantomData};
-
-/// What a load of the usage tells.
-pub struct Usage<J> {
-    said: PhantomData<J>,
-}
-
-impl<T: Tag, J: Planned> Play<(), Logged<T>> for Usage<J> {
-    ghost use Rattle.hcc_rule.specs.Logs.{Logs};
-    ghost use Rattle.hcc_rule.specs.ToldLedgers.{usages};
-
-    ghost then = { Logs (usages J.setup) };
-}
-
-/// What an add of a charge tells.
-pub struct Charge<J> {
-    said: PhantomData<J>,
-}
-
-impl<T: Tag, J: Planned> Play<(), Logged<T>> for Charge<J> {
-    ghost use Rattle.hcc_rule.specs.Logs.{Logs};
-    ghost use Rattle.hcc_rule.specs.ToldLedgers.{charges};
-
-    ghost then = { Logs (charges J.setup) };
-}
+use std::marker::Brand;
 
 /// What a take of the freed charge tells.
 pub struct Settle;
 
-impl<T: Tag> Play<(), Logged<T>> for Settle {
-    ghost use Rattle.hcc_rule.specs.Logs.{Logs};
+impl<T: Tag> Play<(), View<T>> for Settle {
     ghost use Rattle.hcc_rule.specs.ToldLedgers.{settles};
 
-    ghost then = { Logs settles };
+    ghost then = { settles };
 }
 
 /// What a take of all of a client's amounts tells.
 pub struct Waive;
 
-impl<T: Tag> Play<(), Logged<T>> for Waive {
-    ghost use Rattle.hcc_rule.specs.Logs.{Logs};
+impl<T: Tag> Play<(), View<T>> for Waive {
     ghost use Rattle.hcc_rule.specs.ToldLedgers.{waives};
 
-    ghost then = { Logs waives };
+    ghost then = { waives };
 }
 
 impl<T: Tag, A: Allocator> RuleTable<T, A> {
@@ -75,25 +48,14 @@ impl<T: Tag, A: Allocator> RuleTable<T, A> {
         self.geometry.slots as usize * self.stride + ledger
     }
 
-    fn usage_as<J: Planned>(&self, seat: &mut RuleSeat<T>) -> u64
-        requires seat { IsSeatAt self.now seat.old }
-        requires said { J.setup ≡ setup_of (plan_of self.now) }
-        ensures seat { IsSameSeat seat.old seat.new }
-        ensures view { view seat.new ≡ after_usage result (view seat.old) }
-        ensures found { Charged J.setup (view seat.old) result }
-        ensures step {
-            Makes (ledger_at self.now.geometry.slots self.now.geometry.room USAGE) 0 0 result seat.old seat.new }
-    {
-        self.table.shared.load::<Usage<J>>(seat, self.ledger(USAGE))
-    }
-
     /// Loads the usage: all charges of entries, and what stands for clients. The view's seen list
     /// grows by the answer. That is below 2^60, and at least what stands for the client itself with
-    /// the charges of all entries that it holds references on. Each of these counts once: its records
-    /// on one slot are on one entry, and the first of them stands for it in the sum (`different`).
-    /// Under strict capacity, these charges with the client's real charge (what it was granted, what
-    /// it freed, and its standalone entries) are at most the capacity, and the usage is above that by
-    /// what clients still need at most: less than 2^32 for each other client.
+    /// the charges of all entries that it holds references on. Each of these counts once: its
+    /// records on one slot are on one entry, and the first of them stands for it in the sum
+    /// (`different`). Under strict capacity, these charges with the client's real charge (what it
+    /// was granted, what it freed, and its standalone entries) are at most the capacity, and the
+    /// usage is above that by what clients still need at most: less than 2^32 for each other
+    /// client.
     ///
     /// It takes no memory. It costs one load.
     pub fn usage(&self, seat: &mut RuleSeat<T>) -> u64
@@ -101,57 +63,48 @@ impl<T: Tag, A: Allocator> RuleTable<T, A> {
         ensures seat { IsSameSeat seat.old seat.new }
         ensures view { view seat.new ≡ after_usage result (view seat.old) }
         ensures own { charged_to (view seat.old).work ≤ result }
-        ensures entries { charged_to (view seat.old).work + charge_held (view seat.old).records ≤ result }
-        ensures held { Each (λ (r : Record). charged_to (view seat.old).work + r.entry.charge ≤ result) (view seat.old).records }
+        ensures entries { charged_to (view seat.old).work + charge_held (view seat.old).records
+            ≤ result }
+        ensures held { Each (λ (r : Record). charged_to (view seat.old).work + r.entry.charge
+            ≤ result) (view seat.old).records }
         ensures low { result < 2 ^ 60 }
         ensures real { is_strict self.now ≡ true
-            → real_to (view seat.old).work + charge_held (view seat.old).records ≤ capacity_of self.now }
+            → real_to (view seat.old).work + charge_held (view seat.old).records
+            ≤ capacity_of self.now }
         ensures most { is_strict self.now ≡ true
-            → result ≤ capacity_of self.now + (view seat.old).work.needed + 2 ^ 32 * (clients_of self.now - 1) }
-        ensures step {
-            Makes (ledger_at self.now.geometry.slots self.now.geometry.room USAGE) 0 0 result seat.old seat.new }
+            → result ≤ capacity_of self.now + (view seat.old).work.needed + 2 ^ 32
+            * (clients_of self.now - 1) }
     {
-        self.usage_as::<Brand>(seat)
+        self.table.shared.load::<Brand>(seat, self.ledger(USAGE))
     }
 
-    fn charge_as<J: Planned>(&self, seat: &mut RuleSeat<T>, amount: u32) -> u64
-        requires seat { IsSeatAt self.now seat.old }
-        requires spent { ((view seat.old).work.granted ≡ 0) × ((view seat.old).work.needed ≡ 0) }
-        requires said { J.setup ≡ setup_of (plan_of self.now) }
-        ensures seat { IsSameSeat seat.old seat.new }
-        ensures view { view seat.new ≡ after_charge J.setup amount result (view seat.old) }
-        ensures found { Charged J.setup (view seat.old) result }
-        ensures step {
-            Makes (ledger_at self.now.geometry.slots self.now.geometry.room USAGE) amount 0 result seat.old seat.new }
-    {
-        self.table
-            .shared
-            .fetch_add::<Charge<J>>(seat, self.ledger(USAGE), amount as u64)
-    }
-
-    /// Adds a charge to the usage, for a client that has nothing granted and nothing needed. Without
-    /// strict capacity all of it is granted at once; with it, as much as the found usage leaves of
-    /// the capacity. The rest is needed: the client has to free as much before it may use any, and
-    /// the charge joins the view's tight list.
+    /// Adds a charge to the usage, for a client that has nothing granted and nothing needed.
+    /// Without strict capacity all of it is granted at once; with it, as much as the found usage
+    /// leaves of the capacity. The rest is needed: the client has to free as much before it may use
+    /// any, and the charge joins the view's tight list.
     ///
     /// It answers the usage before: below 2^60, and at least what stood for the client with the
     /// charges of all entries that it holds references on. Under strict capacity it is above the
-    /// capacity by what other clients still need at most. It takes no memory. It costs one atomic add.
+    /// capacity by what other clients still need at most. It takes no memory. It costs one atomic
+    /// add.
     pub fn charge(&self, seat: &mut RuleSeat<T>, amount: u32) -> u64
         requires seat { IsSeatAt self.now seat.old }
         requires spent { ((view seat.old).work.granted ≡ 0) × ((view seat.old).work.needed ≡ 0) }
         ensures seat { IsSameSeat seat.old seat.new }
-        ensures view { view seat.new ≡ after_charge (setup_of (plan_of self.now)) amount result (view seat.old) }
-        ensures entries { charged_to (view seat.old).work + charge_held (view seat.old).records ≤ result }
+        ensures view { view seat.new ≡ after_charge (setup_of (plan_of self.now)) amount result
+            (view seat.old) }
+        ensures entries { charged_to (view seat.old).work + charge_held (view seat.old).records
+            ≤ result }
         ensures low { result < 2 ^ 60 }
         ensures real { is_strict self.now ≡ true
-            → real_to (view seat.old).work + charge_held (view seat.old).records ≤ capacity_of self.now }
+            → real_to (view seat.old).work + charge_held (view seat.old).records
+            ≤ capacity_of self.now }
         ensures most { is_strict self.now ≡ true
             → result ≤ capacity_of self.now + 2 ^ 32 * (clients_of self.now - 1) }
-        ensures step {
-            Makes (ledger_at self.now.geometry.slots self.now.geometry.room USAGE) amount 0 result seat.old seat.new }
     {
-        self.charge_as::<Brand>(seat, amount)
+        self.table
+            .shared
+            .fetch_add::<Brand>(seat, self.ledger(USAGE), amount as u64)
     }
 
     /// Takes the charge that the client freed from the usage. It must be some, and cover what the
@@ -164,8 +117,6 @@ impl<T: Tag, A: Allocator> RuleTable<T, A> {
         requires covered { (view seat.old).work.needed ≤ amount }
         ensures seat { IsSameSeat seat.old seat.new }
         ensures view { view seat.new ≡ after_settle (view seat.old) }
-        ensures step {
-            MakesSome (ledger_at self.now.geometry.slots self.now.geometry.room USAGE) amount 0 seat.old seat.new }
     {
         self.table
             .shared
@@ -181,8 +132,6 @@ impl<T: Tag, A: Allocator> RuleTable<T, A> {
         requires amount { (waived (view seat.old).work ≡ amount) × (0 < amount) }
         ensures seat { IsSameSeat seat.old seat.new }
         ensures view { view seat.new ≡ after_waive (view seat.old) }
-        ensures step {
-            MakesSome (ledger_at self.now.geometry.slots self.now.geometry.room USAGE) amount 0 seat.old seat.new }
     {
         self.table
             .shared

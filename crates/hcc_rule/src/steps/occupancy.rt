@@ -2,89 +2,44 @@
 ghost use Rattle.std.specs.Prelude.{◌≡◌, ◌+◌, ◌<◌, ◌≤◌, true, length};
 ghost use Rattle.hcc_core.specs.declared.client.Place.TheVariants.{Absent};
 ghost use Rattle.hcc_core.specs.World.{occupied_by, is_placed, limit_of};
-ghost use Rattle.hcc_rule.specs.Words.{ledger_at};
-ghost use Rattle.hcc_rule.specs.declared.layout.TheConstants.{OCCUPANCY};
 ghost use Rattle.hcc_rule.specs.Callers.{plan_of, IsSeatAt};
 ghost use Rattle.hcc_rule.specs.Rule.{setup_of};
-ghost use Rattle.hcc_rule.specs.Seats.{IsSameSeat, view, Makes, MakesSome};
+ghost use Rattle.hcc_rule.specs.Seats.{IsSameSeat, view};
 ghost use Rattle.hcc_rule.specs.ToldLedgers.{after_enter, after_slots, after_quit};
 ghost use Rattle.hcc_rule.specs.Views.{different};
 
-use super::planned::Planned;
 use crate::key::Tag;
 use crate::layout::OCCUPANCY;
 use crate::table::{RuleSeat, RuleTable};
-use crate::view::Logged;
+use crate::view::View;
 use atomic_table::Play;
 use std::alloc::Allocator;
-use std::marker::{Brand, PhantomData};
-
-/// What a load of the occupancy tells.
-pub struct Occupancy<J> {
-    said: PhantomData<J>,
-}
-
-impl<T: Tag, J: Planned> Play<(), Logged<T>> for Occupancy<J> {
-    ghost use Rattle.hcc_rule.specs.Logs.{Logs};
-    ghost use Rattle.hcc_rule.specs.ToldLedgers.{occupancies};
-
-    ghost then = { Logs (occupancies J.setup) };
-}
-
-/// What an add of a place tells.
-pub struct Enter<J> {
-    said: PhantomData<J>,
-}
-
-impl<T: Tag, J: Planned> Play<(), Logged<T>> for Enter<J> {
-    ghost use Rattle.hcc_rule.specs.Logs.{Logs};
-    ghost use Rattle.hcc_rule.specs.ToldLedgers.{enters};
-
-    ghost then = { Logs (enters J.setup) };
-}
+use std::marker::Brand;
 
 /// What a take of the freed slots tells.
 pub struct GiveSlots;
 
-impl<T: Tag> Play<(), Logged<T>> for GiveSlots {
-    ghost use Rattle.hcc_rule.specs.Logs.{Logs};
+impl<T: Tag> Play<(), View<T>> for GiveSlots {
     ghost use Rattle.hcc_rule.specs.ToldLedgers.{gives_slots};
 
-    ghost then = { Logs gives_slots };
+    ghost then = { gives_slots };
 }
 
 /// What a take of a place and of the freed slots tells.
 pub struct Quit;
 
-impl<T: Tag> Play<(), Logged<T>> for Quit {
-    ghost use Rattle.hcc_rule.specs.Logs.{Logs};
+impl<T: Tag> Play<(), View<T>> for Quit {
     ghost use Rattle.hcc_rule.specs.ToldLedgers.{quits};
 
-    ghost then = { Logs quits };
+    ghost then = { quits };
 }
 
 impl<T: Tag, A: Allocator> RuleTable<T, A> {
-    fn occupancy_as<J: Planned>(&self, seat: &mut RuleSeat<T>) -> u64
-        requires seat { IsSeatAt self.now seat.old }
-        requires said { J.setup ≡ setup_of (plan_of self.now) }
-        ensures seat { IsSameSeat seat.old seat.new }
-        ensures view { view seat.new ≡ view seat.old }
-        ensures entries { occupied_by (view seat.old).work + length (different (view seat.old).records) ≤ result }
-        ensures low { result ≤ limit_of J.setup + J.setup.clients }
-        ensures alone { J.setup.clients ≡ 1 → result + (view seat.old).takings ≡ length (view seat.old).made + occupied_by (view seat.old).work }
-        ensures step {
-            Makes (ledger_at self.now.geometry.slots self.now.geometry.room OCCUPANCY) 0 0 result seat.old seat.new }
-    {
-        self.table
-            .shared
-            .load::<Occupancy<J>>(seat, self.ledger(OCCUPANCY))
-    }
-
     /// Loads the occupancy: the entries, the places that clients asked for, and the slots that they
-    /// freed and haven't given back. The client's own place and freed slots are among them, with the
-    /// entries that it holds references on, each once. It is at most the limit, with an open place
-    /// for each client. Where the shard has one client it is exact: what the client showed and
-    /// didn't take, with what it has in hand.
+    /// freed and haven't given back. The client's own place and freed slots are among them, with
+    /// the entries that it holds references on, each once. It is at most the limit, with an open
+    /// place for each client. Where the shard has one client it is exact: what the client showed
+    /// and didn't take, with what it has in hand.
     ///
     /// It takes no memory. It costs one load.
     pub fn occupancy(&self, seat: &mut RuleSeat<T>) -> u64
@@ -92,30 +47,16 @@ impl<T: Tag, A: Allocator> RuleTable<T, A> {
         ensures seat { IsSameSeat seat.old seat.new }
         ensures view { view seat.new ≡ view seat.old }
         ensures own { occupied_by (view seat.old).work ≤ result }
-        ensures entries { occupied_by (view seat.old).work + length (different (view seat.old).records) ≤ result }
+        ensures entries { occupied_by (view seat.old).work
+            + length (different (view seat.old).records) ≤ result }
         ensures low { result ≤ limit_of (setup_of (plan_of self.now)) + self.now.geometry.clients }
-        ensures alone { self.now.geometry.clients ≡ 1 → result + (view seat.old).takings ≡ length (view seat.old).made + occupied_by (view seat.old).work }
-        ensures step {
-            Makes (ledger_at self.now.geometry.slots self.now.geometry.room OCCUPANCY) 0 0 result seat.old seat.new }
-    {
-        self.occupancy_as::<Brand>(seat)
-    }
-
-    fn enter_as<J: Planned>(&self, seat: &mut RuleSeat<T>) -> u64
-        requires seat { IsSeatAt self.now seat.old }
-        requires absent { (view seat.old).work.place ≡ Absent }
-        requires said { J.setup ≡ setup_of (plan_of self.now) }
-        ensures seat { IsSameSeat seat.old seat.new }
-        ensures view { view seat.new ≡ after_enter J.setup result (view seat.old) }
-        ensures entries { occupied_by (view seat.old).work + length (different (view seat.old).records) ≤ result }
-        ensures low { result < limit_of J.setup + J.setup.clients }
-        ensures alone { J.setup.clients ≡ 1 → result + (view seat.old).takings ≡ length (view seat.old).made + occupied_by (view seat.old).work }
-        ensures step {
-            Makes (ledger_at self.now.geometry.slots self.now.geometry.room OCCUPANCY) 1 0 result seat.old seat.new }
+        ensures alone { self.now.geometry.clients ≡ 1
+            → result + (view seat.old).takings
+            ≡ length (view seat.old).made + occupied_by (view seat.old).work }
     {
         self.table
             .shared
-            .fetch_add::<Enter<J>>(seat, self.ledger(OCCUPANCY), 1)
+            .load::<Brand>(seat, self.ledger(OCCUPANCY))
     }
 
     /// Asks for a place in the table, for a client that has none. It is granted where the found
@@ -123,21 +64,25 @@ impl<T: Tag, A: Allocator> RuleTable<T, A> {
     /// one more open place.
     ///
     /// It answers the occupancy before: below the limit with an open place for each client, and at
-    /// least the client's freed slots with the entries that it holds references on, each once. Where
-    /// the shard has one client it is exact, as a load is. It takes no memory. It costs one atomic
-    /// add.
+    /// least the client's freed slots with the entries that it holds references on, each once.
+    /// Where the shard has one client it is exact, as a load is. It takes no memory. It costs one
+    /// atomic add.
     pub fn enter(&self, seat: &mut RuleSeat<T>) -> u64
         requires seat { IsSeatAt self.now seat.old }
         requires absent { (view seat.old).work.place ≡ Absent }
         ensures seat { IsSameSeat seat.old seat.new }
-        ensures view { view seat.new ≡ after_enter (setup_of (plan_of self.now)) result (view seat.old) }
-        ensures entries { occupied_by (view seat.old).work + length (different (view seat.old).records) ≤ result }
+        ensures view { view seat.new ≡ after_enter (setup_of (plan_of self.now)) result
+            (view seat.old) }
+        ensures entries { occupied_by (view seat.old).work
+            + length (different (view seat.old).records) ≤ result }
         ensures low { result < limit_of (setup_of (plan_of self.now)) + self.now.geometry.clients }
-        ensures alone { self.now.geometry.clients ≡ 1 → result + (view seat.old).takings ≡ length (view seat.old).made + occupied_by (view seat.old).work }
-        ensures step {
-            Makes (ledger_at self.now.geometry.slots self.now.geometry.room OCCUPANCY) 1 0 result seat.old seat.new }
+        ensures alone { self.now.geometry.clients ≡ 1
+            → result + (view seat.old).takings
+            ≡ length (view seat.old).made + occupied_by (view seat.old).work }
     {
-        self.enter_as::<Brand>(seat)
+        self.table
+            .shared
+            .fetch_add::<Brand>(seat, self.ledger(OCCUPANCY), 1)
     }
 
     /// Gives back the slots that the client freed, `count` of them, at least one. An open place of
@@ -149,16 +94,14 @@ impl<T: Tag, A: Allocator> RuleTable<T, A> {
         requires count { ((view seat.old).work.freed_slots ≡ count) × (0 < count) }
         ensures seat { IsSameSeat seat.old seat.new }
         ensures view { view seat.new ≡ after_slots (view seat.old) }
-        ensures step {
-            MakesSome (ledger_at self.now.geometry.slots self.now.geometry.room OCCUPANCY) count 0 seat.old seat.new }
     {
         self.table
             .shared
             .fetch_sub::<GiveSlots>(seat, self.ledger(OCCUPANCY), count);
     }
 
-    /// Gives back the place of the client, granted or open, with the slots that it freed: `count` is
-    /// one more than these.
+    /// Gives back the place of the client, granted or open, with the slots that it freed: `count`
+    /// is one more than these.
     ///
     /// It takes no memory. It costs one atomic subtraction.
     pub fn quit(&self, seat: &mut RuleSeat<T>, count: u64)
@@ -167,8 +110,6 @@ impl<T: Tag, A: Allocator> RuleTable<T, A> {
         requires count { 1 + (view seat.old).work.freed_slots ≡ count }
         ensures seat { IsSameSeat seat.old seat.new }
         ensures view { view seat.new ≡ after_quit (view seat.old) }
-        ensures step {
-            MakesSome (ledger_at self.now.geometry.slots self.now.geometry.room OCCUPANCY) count 0 seat.old seat.new }
     {
         self.table
             .shared

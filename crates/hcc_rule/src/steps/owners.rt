@@ -2,73 +2,41 @@
 ghost use Rattle.std.specs.Prelude.{◌≡◌, ◌+◌, ◌<◌, [], true, length};
 ghost use Rattle.hcc_core.specs.declared.client.Owned.TheVariants.{ForBuilding, ForFreeing};
 ghost use Rattle.hcc_core.specs.World.{owns_nothing};
-ghost use Rattle.hcc_word.specs.declared.layout.TheConstants.{OCCUPIED_BIT};
-ghost use Rattle.hcc_rule.specs.declared.layout.TheConstants.{DATA, PAYLOAD, META};
+ghost use Rattle.hcc_rule.specs.declared.layout.TheConstants.{DATA, PAYLOAD};
 ghost use Rattle.hcc_rule.specs.Callers.{IsSeatAt};
-ghost use Rattle.hcc_rule.specs.Seats.{IsSameSeat, view, Makes};
+ghost use Rattle.hcc_rule.specs.Seats.{IsSameSeat, view};
 ghost use Rattle.hcc_rule.specs.Told.{Backs};
 ghost use Rattle.hcc_rule.specs.ToldOwners.{after_occupy, after_empty, after_write};
 ghost use Rattle.hcc_rule.specs.Words.{field_at};
 
-use super::said::Said;
 use crate::key::Tag;
 use crate::layout::META;
 use crate::table::{RuleSeat, RuleTable};
-use crate::view::Logged;
+use crate::view::View;
 use atomic_table::Play;
 use hcc_word::layout::{EMPTY_WORD, OCCUPIED_BIT};
 use std::alloc::Allocator;
-use std::marker::{Brand, PhantomData};
-
-/// What the or of the occupied bit tells.
-pub struct Occupy<J> {
-    said: PhantomData<J>,
-}
-
-impl<T: Tag, J: Said> Play<(), Logged<T>> for Occupy<J> {
-    ghost use Rattle.hcc_rule.specs.Logs.{Logs};
-    ghost use Rattle.hcc_rule.specs.ToldOwners.{occupies};
-
-    ghost then = { Logs (occupies J.slot) };
-}
+use std::marker::Brand;
 
 /// What a store of a data word tells.
 pub struct Write;
 
-impl<T: Tag> Play<(), Logged<T>> for Write {
-    ghost use Rattle.hcc_rule.specs.Logs.{Logs};
+impl<T: Tag> Play<(), View<T>> for Write {
     ghost use Rattle.hcc_rule.specs.ToldOwners.{writes};
 
-    ghost then = { Logs writes };
+    ghost then = { writes };
 }
 
 /// What the store that empties a slot tells.
 pub struct Empty;
 
-impl<T: Tag> Play<(), Logged<T>> for Empty {
-    ghost use Rattle.hcc_rule.specs.Logs.{Logs};
+impl<T: Tag> Play<(), View<T>> for Empty {
     ghost use Rattle.hcc_rule.specs.ToldOwners.{empties};
 
-    ghost then = { Logs empties };
+    ghost then = { empties };
 }
 
 impl<T: Tag, A: Allocator> RuleTable<T, A> {
-    fn occupy_as<J: Said>(&self, seat: &mut RuleSeat<T>, slot: u32) -> u64
-        requires seat { IsSeatAt self.now seat.old }
-        requires slot { slot < self.now.geometry.slots }
-        requires idle { owns_nothing (view seat.old).work.owned ≡ true }
-        requires said { J.slot ≡ slot }
-        ensures seat { IsSameSeat seat.old seat.new }
-        ensures view { view seat.new ≡ after_occupy slot result (view seat.old) }
-        ensures backs { Backs slot result (view seat.old) }
-        ensures step {
-            Makes (field_at self.now.geometry.room slot META) OCCUPIED_BIT 0 result seat.old seat.new }
-    {
-        self.table
-            .shared
-            .fetch_or::<Occupy<J>>(seat, self.address(slot, META), OCCUPIED_BIT)
-    }
-
     /// Sets the occupied bit of a slot's meta word. A slot whose word was an empty one's is the
     /// client's to build from now on; any other was looked at, and its word stays.
     ///
@@ -81,26 +49,23 @@ impl<T: Tag, A: Allocator> RuleTable<T, A> {
         ensures seat { IsSameSeat seat.old seat.new }
         ensures view { view seat.new ≡ after_occupy slot result (view seat.old) }
         ensures backs { Backs slot result (view seat.old) }
-        ensures step {
-            Makes (field_at self.now.geometry.room slot META) OCCUPIED_BIT 0 result seat.old seat.new }
     {
-        self.occupy_as::<Brand>(seat, slot)
+        self.fetch_or::<Brand, _>(seat, self.address(slot, META), OCCUPIED_BIT, slot)
     }
 
     /// Stores the next data word of the slot that the client builds: the one behind those that it
     /// wrote.
     ///
-    /// `index` is how many it wrote, below the five words before the payload and the payload words of
-    /// a slot. It takes no memory. It costs one atomic store.
+    /// `index` is how many it wrote, below the five words before the payload and the payload words
+    /// of a slot. It takes no memory. It costs one atomic store.
     pub fn write(&self, seat: &mut RuleSeat<T>, slot: u32, index: usize, word: u64)
         requires seat { IsSeatAt self.now seat.old }
         requires slot { slot < self.now.geometry.slots }
         requires owned { (view seat.old).work.owned ≡ ForBuilding slot }
-        requires next { (index ≡ length (view seat.old).written) × (index < PAYLOAD + self.now.geometry.room) }
+        requires next { (index ≡ length (view seat.old).written)
+            × (index < PAYLOAD + self.now.geometry.room) }
         ensures seat { IsSameSeat seat.old seat.new }
         ensures view { view seat.new ≡ after_write word (view seat.old) }
-        ensures step {
-            Makes (field_at self.now.geometry.room slot (DATA + index)) word 0 word seat.old seat.new }
     {
         self.write_at(seat, slot, self.data_of(slot), index, word);
     }
@@ -111,11 +76,10 @@ impl<T: Tag, A: Allocator> RuleTable<T, A> {
         requires slot { slot < self.now.geometry.slots }
         requires first { first ≡ field_at self.now.geometry.room slot DATA }
         requires owned { (view seat.old).work.owned ≡ ForBuilding slot }
-        requires next { (index ≡ length (view seat.old).written) × (index < PAYLOAD + self.now.geometry.room) }
+        requires next { (index ≡ length (view seat.old).written)
+            × (index < PAYLOAD + self.now.geometry.room) }
         ensures seat { IsSameSeat seat.old seat.new }
         ensures view { view seat.new ≡ after_write word (view seat.old) }
-        ensures step {
-            Makes (field_at self.now.geometry.room slot (DATA + index)) word 0 word seat.old seat.new }
     {
         self.table
             .shared
@@ -132,8 +96,6 @@ impl<T: Tag, A: Allocator> RuleTable<T, A> {
         requires back { (view seat.old).work.trail ≡ [] }
         ensures seat { IsSameSeat seat.old seat.new }
         ensures view { view seat.new ≡ after_empty (view seat.old) }
-        ensures step {
-            Makes (field_at self.now.geometry.room slot META) 0 0 0 seat.old seat.new }
     {
         self.table
             .shared

@@ -3,75 +3,23 @@ ghost use Rattle.std.specs.Prelude.{◌≡◌, ◌+◌, ◌<◌, Some, IfSome, I
 ghost use Rattle.hcc_core.specs.Lawful.{owned_slot};
 ghost use Rattle.hcc_rule.specs.declared.layout.TheConstants.{DATA, PAYLOAD};
 ghost use Rattle.hcc_rule.specs.Callers.{IsSeatAt};
-ghost use Rattle.hcc_rule.specs.Seats.{IsSameSeat, view, Makes};
+ghost use Rattle.hcc_rule.specs.Seats.{IsSameSeat, view};
 ghost use Rattle.hcc_rule.specs.ToldOwners.{IsDataWord, after_read};
 ghost use Rattle.hcc_rule.specs.Views.{record_in};
 ghost use Rattle.hcc_rule.specs.Words.{field_at};
 
-use super::said::Said;
 use crate::key::Tag;
 use crate::layout::DATA;
 use crate::table::{RuleSeat, RuleTable};
-use crate::view::Logged;
-use atomic_table::Play;
 use std::alloc::Allocator;
-use std::marker::{Brand, PhantomData};
-
-/// What a load of a data word by a record tells.
-pub struct Read<J> {
-    said: PhantomData<J>,
-}
-
-impl<T: Tag, J: Said> Play<(), Logged<T>> for Read<J> {
-    ghost use Rattle.hcc_rule.specs.Logs.{Logs};
-    ghost use Rattle.hcc_rule.specs.ToldOwners.{reads};
-
-    ghost then = { Logs (reads J.name J.index) };
-}
-
-/// What a load of a data word by the slot's owner tells.
-pub struct ReadOwn<J> {
-    said: PhantomData<J>,
-}
-
-impl<T: Tag, J: Said> Play<(), Logged<T>> for ReadOwn<J> {
-    ghost use Rattle.hcc_rule.specs.Logs.{Logs};
-    ghost use Rattle.hcc_rule.specs.ToldOwners.{reads_own};
-
-    ghost then = { Logs (reads_own J.index) };
-}
+use std::marker::Brand;
 
 impl<T: Tag, A: Allocator> RuleTable<T, A> {
-    fn read_as<J: Said>(
-        &self,
-        seat: &mut RuleSeat<T>,
-        slot: u32,
-        first: usize,
-        index: usize,
-        name: u64,
-    ) -> u64
-        requires seat { IsSeatAt self.now seat.old }
-        requires slot { slot < self.now.geometry.slots }
-        requires first { first ≡ field_at self.now.geometry.room slot DATA }
-        requires within { index < PAYLOAD + self.now.geometry.room }
-        requires holds { IsSomeAnd (record_in name (view seat.old).records) (λ r. r.slot ≡ slot) }
-        requires said { (J.name ≡ name) × (J.index ≡ index) }
-        ensures seat { IsSameSeat seat.old seat.new }
-        ensures view { view seat.new ≡ after_read name index (view seat.old) }
-        ensures word { IfSome (record_in name (view seat.old).records) (λ r. IsDataWord r.entry index result) }
-        ensures step {
-            Makes (field_at self.now.geometry.room slot (DATA + index)) 0 0 result seat.old seat.new }
-    {
-        self.table
-            .shared
-            .load::<Read<J>>(seat, self.data_address(slot, first, index))
-    }
-
     /// Loads a data word of the entry that the record of a name is on: of the key, the charge, the
     /// length and the value. Of the word that has the maker's serial nothing is told.
     ///
-    /// The record is of that slot. Once the second key word of an entry was read that was got as Shown,
-    /// its key joins the met keys. It takes no memory. It costs one load.
+    /// The record is of that slot. Once the second key word of an entry was read that was got as
+    /// Shown, its key joins the met keys. It takes no memory. It costs one load.
     pub fn read(&self, seat: &mut RuleSeat<T>, slot: u32, index: usize, name: u64) -> u64
         requires seat { IsSeatAt self.now seat.old }
         requires slot { slot < self.now.geometry.slots }
@@ -79,9 +27,8 @@ impl<T: Tag, A: Allocator> RuleTable<T, A> {
         requires holds { IsSomeAnd (record_in name (view seat.old).records) (λ r. r.slot ≡ slot) }
         ensures seat { IsSameSeat seat.old seat.new }
         ensures view { view seat.new ≡ after_read name index (view seat.old) }
-        ensures word { IfSome (record_in name (view seat.old).records) (λ r. IsDataWord r.entry index result) }
-        ensures step {
-            Makes (field_at self.now.geometry.room slot (DATA + index)) 0 0 result seat.old seat.new }
+        ensures word { IfSome (record_in name (view seat.old).records)
+            (λ r. IsDataWord r.entry index result) }
     {
         self.read_at(seat, slot, self.data_of(slot), index, name)
     }
@@ -102,32 +49,14 @@ impl<T: Tag, A: Allocator> RuleTable<T, A> {
         requires holds { IsSomeAnd (record_in name (view seat.old).records) (λ r. r.slot ≡ slot) }
         ensures seat { IsSameSeat seat.old seat.new }
         ensures view { view seat.new ≡ after_read name index (view seat.old) }
-        ensures word { IfSome (record_in name (view seat.old).records) (λ r. IsDataWord r.entry index result) }
-        ensures step {
-            Makes (field_at self.now.geometry.room slot (DATA + index)) 0 0 result seat.old seat.new }
+        ensures word { IfSome (record_in name (view seat.old).records)
+            (λ r. IsDataWord r.entry index result) }
     {
-        self.read_as::<Brand>(seat, slot, first, index, name)
+        self.load::<Brand, _>(seat, self.data_address(slot, first, index), (name, index))
     }
 
-    fn read_own_as<J: Said>(&self, seat: &mut RuleSeat<T>, slot: u32, index: usize) -> u64
-        requires seat { IsSeatAt self.now seat.old }
-        requires slot { slot < self.now.geometry.slots }
-        requires within { index < PAYLOAD + self.now.geometry.room }
-        requires owned { owned_slot (view seat.old).work.owned ≡ Some slot }
-        requires said { J.index ≡ index }
-        ensures seat { IsSameSeat seat.old seat.new }
-        ensures view { view seat.new ≡ view seat.old }
-        ensures word { index < length (view seat.old).written → result ≡ slice_index (view seat.old).written index }
-        ensures step {
-            Makes (field_at self.now.geometry.room slot (DATA + index)) 0 0 result seat.old seat.new }
-    {
-        self.table
-            .shared
-            .load::<ReadOwn<J>>(seat, self.address(slot, DATA + index))
-    }
-
-    /// Loads a data word of the slot that the client owns: one that it wrote, or one of the entry that
-    /// it took to free.
+    /// Loads a data word of the slot that the client owns: one that it wrote, or one of the entry
+    /// that it took to free.
     ///
     /// It takes no memory. It costs one load.
     pub fn read_own(&self, seat: &mut RuleSeat<T>, slot: u32, index: usize) -> u64
@@ -137,10 +66,9 @@ impl<T: Tag, A: Allocator> RuleTable<T, A> {
         requires owned { owned_slot (view seat.old).work.owned ≡ Some slot }
         ensures seat { IsSameSeat seat.old seat.new }
         ensures view { view seat.new ≡ view seat.old }
-        ensures word { index < length (view seat.old).written → result ≡ slice_index (view seat.old).written index }
-        ensures step {
-            Makes (field_at self.now.geometry.room slot (DATA + index)) 0 0 result seat.old seat.new }
+        ensures word { index < length (view seat.old).written
+            → result ≡ slice_index (view seat.old).written index }
     {
-        self.read_own_as::<Brand>(seat, slot, index)
+        self.load::<Brand, _>(seat, self.address(slot, DATA + index), index)
     }
 }

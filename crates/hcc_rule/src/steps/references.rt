@@ -1,107 +1,31 @@
 //! References: a client acquires them, gives them back, or releases them as uses.
-ghost use Rattle.std.specs.Prelude.{◌≡◌, ◌+◌, ◌<◌, ◌≤◌, true, None, IsSomeAnd, ◌*◌};
+ghost use Rattle.std.specs.Prelude.{◌≡◌, ◌+◌, ◌<◌, ◌≤◌, true, None, IsSomeAnd};
 ghost use Rattle.hcc_word.specs.Word.{refs_of, is_shareable};
 ghost use Rattle.hcc_core.specs.declared.limits.TheConstants.{MOST_WEIGHT, REFERENCES_PER_CLIENT};
-ghost use Rattle.hcc_word.specs.declared.layout.TheConstants.{ONE_RELEASE};
-ghost use Rattle.hcc_rule.specs.Words.{field_at};
-ghost use Rattle.hcc_rule.specs.declared.layout.TheConstants.{META};
 ghost use Rattle.hcc_rule.specs.Callers.{IsSeatAt};
-ghost use Rattle.hcc_rule.specs.Seats.{IsSameSeat, view, Makes};
+ghost use Rattle.hcc_rule.specs.Seats.{IsSameSeat, view};
 ghost use Rattle.hcc_rule.specs.Views.{load_of, record_in};
 ghost use Rattle.hcc_rule.specs.ToldReferences.{may_reach, Acquired, after_give};
 
-use super::said::Said;
 use crate::key::Tag;
 use crate::layout::META;
 use crate::table::{RuleSeat, RuleTable};
-use crate::view::Logged;
-use atomic_table::Play;
 use hcc_word::layout::ONE_RELEASE;
 use std::alloc::Allocator;
-use std::marker::{Brand, PhantomData};
-
-/// How long the values of the shard may be, which a step can't see.
-pub trait Room {
-    ghost use Rattle.std.specs.Prelude.{ℕ};
-
-    ghost room: { ℕ };
-}
-
-impl Room for Brand {
-    ghost room = { 0 };
-}
-
-/// What adding references to a meta word tells.
-pub struct Acquire<T, J> {
-    said: PhantomData<(T, J)>,
-}
-
-impl<T: Tag, J: Said + Room> Play<(), Logged<T>> for Acquire<T, J> {
-    ghost use Rattle.hcc_rule.specs.Logs.{Logs};
-    ghost use Rattle.hcc_rule.specs.ToldReferences.{acquires};
-
-    ghost then = { Logs (acquires T.fits J.room J.slot J.name) };
-}
-
-/// What taking references from a meta word tells.
-pub struct Give<J> {
-    said: PhantomData<J>,
-}
-
-impl<T: Tag, J: Said> Play<(), Logged<T>> for Give<J> {
-    ghost use Rattle.hcc_rule.specs.Logs.{Logs};
-    ghost use Rattle.hcc_rule.specs.ToldReferences.{gives};
-
-    ghost then = { Logs (gives J.slot J.name) };
-}
-
-/// What adding releases to a meta word tells.
-pub struct Spend<J> {
-    said: PhantomData<J>,
-}
-
-impl<T: Tag, J: Said> Play<(), Logged<T>> for Spend<J> {
-    ghost use Rattle.hcc_rule.specs.Logs.{Logs};
-    ghost use Rattle.hcc_rule.specs.ToldReferences.{spends};
-
-    ghost then = { Logs (spends J.slot J.name) };
-}
+use std::marker::Brand;
 
 impl<T: Tag, A: Allocator> RuleTable<T, A> {
-    fn acquire_as<J: Said + Room>(
-        &self,
-        seat: &mut RuleSeat<T>,
-        slot: u32,
-        weight: u32,
-        name: u64,
-    ) -> u64
-        requires seat { IsSeatAt self.now seat.old }
-        requires slot { slot < self.now.geometry.slots }
-        requires weight { (0 < weight) × (weight ≤ MOST_WEIGHT) }
-        requires fresh { record_in name (view seat.old).records ≡ None }
-        requires reach { may_reach slot (view seat.old) ≡ true }
-        requires load { load_of (view seat.old).records + weight ≤ REFERENCES_PER_CLIENT }
-        requires said { (J.slot ≡ slot) × (J.name ≡ name) × (J.room ≡ self.now.geometry.room) }
-        ensures seat { IsSameSeat seat.old seat.new }
-        ensures view { Acquired T.fits self.now.geometry.room slot weight name result (view seat.old) (view seat.new) }
-        ensures step {
-            Makes (field_at self.now.geometry.room slot META) weight 0 result seat.old seat.new }
-    {
-        self.table
-            .shared
-            .fetch_add::<Acquire<T, J>>(seat, self.address(slot, META), weight as u64)
-    }
-
-    /// Acquires references on a slot, under a name that the client doesn't hold: their weight, 1 to 3,
-    /// is added to the slot's meta word, which is the answer as it was before. The client looked at
-    /// the slot, or holds a reference there, and all its references weigh at most
+    /// Acquires references on a slot, under a name that the client doesn't hold: their weight, 1 to
+    /// 3, is added to the slot's meta word, which is the answer as it was before. The client looked
+    /// at the slot, or holds a reference there, and all its references weigh at most
     /// `REFERENCES_PER_CLIENT` then. The look is spent.
     ///
     /// Where the word that is found is that of an entry, the client has a record of the references,
     /// behind its others. They count where the word is counting. The entry's value is right for its
-    /// key and fits the slot's room. A visible one is none that the client saw dead, a hidden one it
-    /// has seen dead now. It is the entry of each record that the client had there. Where the word is
-    /// no entry's, the acquires stray and no record is made; the client holds nothing there then.
+    /// key and fits the slot's room. A visible one is none that the client saw dead, a hidden one
+    /// it has seen dead now. It is the entry of each record that the client had there. Where the
+    /// word is no entry's, the acquires stray and no record is made; the client holds nothing there
+    /// then.
     ///
     /// It takes no memory. It costs one atomic add.
     pub fn acquire(&self, seat: &mut RuleSeat<T>, slot: u32, weight: u32, name: u64) -> u64
@@ -112,68 +36,30 @@ impl<T: Tag, A: Allocator> RuleTable<T, A> {
         requires reach { may_reach slot (view seat.old) ≡ true }
         requires load { load_of (view seat.old).records + weight ≤ REFERENCES_PER_CLIENT }
         ensures seat { IsSameSeat seat.old seat.new }
-        ensures view { Acquired T.fits self.now.geometry.room slot weight name result (view seat.old) (view seat.new) }
-        ensures step {
-            Makes (field_at self.now.geometry.room slot META) weight 0 result seat.old seat.new }
+        ensures view { Acquired T.fits self.now.geometry.room slot weight name result
+            (view seat.old) (view seat.new) }
     {
-        self.acquire_as::<Brand>(seat, slot, weight, name)
+        self.fetch_add::<Brand, _>(seat, self.address(slot, META), weight as u64, (slot, name))
     }
 
-    fn give_as<J: Said>(&self, seat: &mut RuleSeat<T>, slot: u32, weight: u32, name: u64) -> u64
-        requires seat { IsSeatAt self.now seat.old }
-        requires slot { slot < self.now.geometry.slots }
-        requires holds { IsSomeAnd (record_in name (view seat.old).records) (λ r. (r.slot ≡ slot) × (r.weight ≡ weight)) }
-        requires said { (J.slot ≡ slot) × (J.name ≡ name) }
-        ensures seat { IsSameSeat seat.old seat.new }
-        ensures view { view seat.new ≡ after_give slot name result (view seat.old) }
-        ensures entry { is_shareable result ≡ true }
-        ensures references { weight ≤ refs_of result }
-        ensures step {
-            Makes (field_at self.now.geometry.room slot META) weight 0 result seat.old seat.new }
-    {
-        self.table
-            .shared
-            .fetch_sub::<Give<J>>(seat, self.address(slot, META), weight as u64)
-    }
-
-    /// Gives the references of this name back: their weight is taken from the acquires of the slot's
-    /// meta word, which is the answer as it was before. The client needs a record of that name, on
-    /// this slot and of this weight, and it goes. Where the entry is hidden, the client has seen it
-    /// dead.
+    /// Gives the references of this name back: their weight is taken from the acquires of the
+    /// slot's meta word, which is the answer as it was before. The client needs a record of that
+    /// name, on this slot and of this weight, and it goes. Where the entry is hidden, the client
+    /// has seen it dead.
     ///
     /// The word that is found is that of an entry, with at least these references. It takes no
     /// memory. It costs one atomic take.
     pub fn give(&self, seat: &mut RuleSeat<T>, slot: u32, weight: u32, name: u64) -> u64
         requires seat { IsSeatAt self.now seat.old }
         requires slot { slot < self.now.geometry.slots }
-        requires holds { IsSomeAnd (record_in name (view seat.old).records) (λ r. (r.slot ≡ slot) × (r.weight ≡ weight)) }
+        requires holds { IsSomeAnd (record_in name (view seat.old).records)
+            (λ r. (r.slot ≡ slot) × (r.weight ≡ weight)) }
         ensures seat { IsSameSeat seat.old seat.new }
         ensures view { view seat.new ≡ after_give slot name result (view seat.old) }
         ensures entry { is_shareable result ≡ true }
         ensures references { weight ≤ refs_of result }
-        ensures step {
-            Makes (field_at self.now.geometry.room slot META) weight 0 result seat.old seat.new }
     {
-        self.give_as::<Brand>(seat, slot, weight, name)
-    }
-
-    fn spend_as<J: Said>(&self, seat: &mut RuleSeat<T>, slot: u32, weight: u32, name: u64) -> u64
-        requires seat { IsSeatAt self.now seat.old }
-        requires slot { slot < self.now.geometry.slots }
-        requires holds { IsSomeAnd (record_in name (view seat.old).records) (λ r. (r.slot ≡ slot) × (r.weight ≡ weight) × (r.counting ≡ true)) }
-        requires said { (J.slot ≡ slot) × (J.name ≡ name) }
-        ensures seat { IsSameSeat seat.old seat.new }
-        ensures view { view seat.new ≡ after_give slot name result (view seat.old) }
-        ensures entry { is_shareable result ≡ true }
-        ensures references { weight ≤ refs_of result }
-        ensures step {
-            Makes (field_at self.now.geometry.room slot META) (weight * ONE_RELEASE) 0 result seat.old seat.new }
-    {
-        self.table.shared.fetch_add::<Spend<J>>(
-            seat,
-            self.address(slot, META),
-            weight as u64 * ONE_RELEASE,
-        )
+        self.fetch_sub::<Brand, _>(seat, self.address(slot, META), weight as u64, (slot, name))
     }
 
     /// Releases the references of this name as uses: their weight is added to the releases of the
@@ -186,14 +72,18 @@ impl<T: Tag, A: Allocator> RuleTable<T, A> {
     pub fn spend(&self, seat: &mut RuleSeat<T>, slot: u32, weight: u32, name: u64) -> u64
         requires seat { IsSeatAt self.now seat.old }
         requires slot { slot < self.now.geometry.slots }
-        requires holds { IsSomeAnd (record_in name (view seat.old).records) (λ r. (r.slot ≡ slot) × (r.weight ≡ weight) × (r.counting ≡ true)) }
+        requires holds { IsSomeAnd (record_in name (view seat.old).records)
+            (λ r. (r.slot ≡ slot) × (r.weight ≡ weight) × (r.counting ≡ true)) }
         ensures seat { IsSameSeat seat.old seat.new }
         ensures view { view seat.new ≡ after_give slot name result (view seat.old) }
         ensures entry { is_shareable result ≡ true }
         ensures references { weight ≤ refs_of result }
-        ensures step {
-            Makes (field_at self.now.geometry.room slot META) (weight * ONE_RELEASE) 0 result seat.old seat.new }
     {
-        self.spend_as::<Brand>(seat, slot, weight, name)
+        self.fetch_add::<Brand, _>(
+            seat,
+            self.address(slot, META),
+            weight as u64 * ONE_RELEASE,
+            (slot, name),
+        )
     }
 }

@@ -7,30 +7,30 @@ ghost use Rattle.hcc_rule.specs.Seats.{IsSameSeat, view};
 
 use crate::key::Tag;
 use crate::table::{RuleSeat, RuleTable};
-use crate::view::Logged;
+use crate::view::View;
 use atomic_table::{Join, Split};
 use std::alloc::Allocator;
 
 /// How a view is split: the new seat stands for the first of the other clients.
 pub struct Start;
 
-impl<T: Tag> Split<Logged<T>> for Start {
-    ghost use Rattle.hcc_rule.specs.Logs.{left_logged, right_logged};
+impl<T: Tag> Split<View<T>> for Start {
+    ghost use Rattle.hcc_rule.specs.Opening.{left_view, right_view};
 
-    ghost left = { left_logged };
+    ghost left = { left_view };
 
-    ghost right = { right_logged };
+    ghost right = { right_view };
 }
 
 /// How two views are joined: the client of the second ends.
 pub struct End;
 
-impl<T: Tag> Join<Logged<T>> for End {
-    ghost use Rattle.hcc_rule.specs.Logs.{joined_logged, spent_logged};
+impl<T: Tag> Join<View<T>> for End {
+    ghost use Rattle.hcc_rule.specs.Opening.{joined_view, spent_view};
 
-    ghost both = { joined_logged };
+    ghost both = { joined_view };
 
-    ghost spent = { spent_logged };
+    ghost spent = { spent_view };
 }
 
 impl<T: Tag, A: Allocator> RuleTable<T, A> {
@@ -50,8 +50,8 @@ impl<T: Tag, A: Allocator> RuleTable<T, A> {
     }
 
     /// Ends the client of another seat, which has nothing in hand and holds no reference. The seat
-    /// that is left names that client from then on, with all that the other one named, and takes over
-    /// its hidden keys, its met keys, its answers and its counts.
+    /// that is left names that client from then on, with all that the other one named, and takes
+    /// over its hidden keys, its met keys, its answers and its counts.
     ///
     /// It takes no memory. It costs one load.
     pub fn join(&self, seat: &mut RuleSeat<T>, other: RuleSeat<T>)

@@ -4,84 +4,24 @@ ghost use Rattle.std.specs.List.{list_any};
 ghost use Rattle.hcc_core.specs.declared.client.Place.TheVariants.{Absent};
 ghost use Rattle.hcc_core.specs.World.{standing_of};
 ghost use Rattle.hcc_core.specs.Ledgers.{is_standing};
-ghost use Rattle.hcc_rule.specs.Words.{ledger_at};
-ghost use Rattle.hcc_rule.specs.declared.layout.TheConstants.{STANDING};
 ghost use Rattle.hcc_core.specs.declared.limits.TheConstants.{MOST_HANDLES};
 ghost use Rattle.hcc_rule.specs.Callers.{capacity_of, clients_of, is_strict, plan_of, IsSeatAt};
 ghost use Rattle.hcc_rule.specs.Rule.{setup_of};
-ghost use Rattle.hcc_rule.specs.Seats.{IsSameSeat, view, Makes, MakesSome};
+ghost use Rattle.hcc_rule.specs.Seats.{IsSameSeat, view};
 ghost use Rattle.hcc_rule.specs.ToldLedgers.{after_stand, after_fall};
 ghost use Rattle.hcc_rule.specs.Views.{charge_held};
 
-use super::planned::Planned;
-use super::said::Said;
 use crate::key::Tag;
 use crate::layout::STANDING;
 use crate::table::{RuleSeat, RuleTable};
-use crate::view::Logged;
-use atomic_table::Play;
 use std::alloc::Allocator;
-use std::marker::{Brand, PhantomData};
-
-/// What a load of the standalone charges tells.
-pub struct Standing<J> {
-    said: PhantomData<J>,
-}
-
-impl<T: Tag, J: Planned> Play<(), Logged<T>> for Standing<J> {
-    ghost use Rattle.hcc_rule.specs.Logs.{Logs};
-    ghost use Rattle.hcc_rule.specs.ToldLedgers.{standings};
-
-    ghost then = { Logs (standings J.setup) };
-}
-
-/// What an add of a standalone charge tells.
-pub struct Stand<J> {
-    said: PhantomData<J>,
-}
-
-impl<T: Tag, J: Said> Play<(), Logged<T>> for Stand<J> {
-    ghost use Rattle.hcc_rule.specs.Logs.{Logs};
-    ghost use Rattle.hcc_rule.specs.ToldLedgers.{stands};
-
-    ghost then = { Logs (stands J.name) };
-}
-
-/// What a take of a standalone charge tells.
-pub struct Fall<J> {
-    said: PhantomData<J>,
-}
-
-impl<T: Tag, J: Said> Play<(), Logged<T>> for Fall<J> {
-    ghost use Rattle.hcc_rule.specs.Logs.{Logs};
-    ghost use Rattle.hcc_rule.specs.ToldLedgers.{falls};
-
-    ghost then = { Logs (falls J.name) };
-}
+use std::marker::Brand;
 
 impl<T: Tag, A: Allocator> RuleTable<T, A> {
-    fn standing_as<J: Planned>(&self, seat: &mut RuleSeat<T>) -> u64
-        requires seat { IsSeatAt self.now seat.old }
-        requires said { J.setup ≡ setup_of (plan_of self.now) }
-        ensures seat { IsSameSeat seat.old seat.new }
-        ensures view { view seat.new ≡ view seat.old }
-        ensures own { standing_of (view seat.old).work ≤ result }
-        ensures low { result < 2 ^ 60 }
-        ensures alone { J.setup.clients ≡ 1 → result ≡ standing_of (view seat.old).work }
-        ensures real { J.setup.strict ≡ true
-            → result + (view seat.old).work.granted + (view seat.old).work.freed
-            + charge_held (view seat.old).records ≤ J.setup.capacity }
-        ensures step {
-            Makes (ledger_at self.now.geometry.slots self.now.geometry.room STANDING) 0 0 result seat.old seat.new }
-    {
-        self.table
-            .shared
-            .load::<Standing<J>>(seat, self.ledger(STANDING))
-    }
-
-    /// Loads the charges of all standalone entries, the client's own among them: below 2^60. In a shard
-    /// of one client the answer is just these. Under strict capacity it is at most the capacity, with
-    /// what the client was granted and freed and the entries that it holds, each once.
+    /// Loads the charges of all standalone entries, the client's own among them: below 2^60. In a
+    /// shard of one client the answer is just these. Under strict capacity it is at most the
+    /// capacity, with what the client was granted and freed and the entries that it holds, each
+    /// once.
     ///
     /// It takes no memory. It costs one load.
     pub fn standing(&self, seat: &mut RuleSeat<T>) -> u64
@@ -94,27 +34,8 @@ impl<T: Tag, A: Allocator> RuleTable<T, A> {
         ensures real { is_strict self.now ≡ true
             → result + (view seat.old).work.granted + (view seat.old).work.freed
             + charge_held (view seat.old).records ≤ capacity_of self.now }
-        ensures step {
-            Makes (ledger_at self.now.geometry.slots self.now.geometry.room STANDING) 0 0 result seat.old seat.new }
     {
-        self.standing_as::<Brand>(seat)
-    }
-
-    fn stand_as<J: Said>(&self, seat: &mut RuleSeat<T>, name: u64, charge: u32)
-        requires seat { IsSeatAt self.now seat.old }
-        requires absent { (view seat.old).work.place ≡ Absent }
-        requires granted { charge ≤ (view seat.old).work.granted }
-        requires fresh { list_any (is_standing name) (view seat.old).work.standalones ≡ false }
-        requires few { length (view seat.old).work.standalones < MOST_HANDLES }
-        requires said { J.name ≡ name }
-        ensures seat { IsSameSeat seat.old seat.new }
-        ensures view { view seat.new ≡ after_stand name charge (view seat.old) }
-        ensures step {
-            MakesSome (ledger_at self.now.geometry.slots self.now.geometry.room STANDING) charge 0 seat.old seat.new }
-    {
-        self.table
-            .shared
-            .fetch_add::<Stand<J>>(seat, self.ledger(STANDING), charge as u64);
+        self.table.shared.load::<Brand>(seat, self.ledger(STANDING))
     }
 
     /// Makes a standalone entry of this name, with a charge that the client was granted. The client
@@ -129,40 +50,22 @@ impl<T: Tag, A: Allocator> RuleTable<T, A> {
         requires few { length (view seat.old).work.standalones < MOST_HANDLES }
         ensures seat { IsSameSeat seat.old seat.new }
         ensures view { view seat.new ≡ after_stand name charge (view seat.old) }
-        ensures step {
-            MakesSome (ledger_at self.now.geometry.slots self.now.geometry.room STANDING) charge 0 seat.old seat.new }
     {
-        self.stand_as::<Brand>(seat, name, charge);
+        self.fetch_add::<Brand, _>(seat, self.ledger(STANDING), charge as u64, name);
     }
 
-    fn fall_as<J: Said>(&self, seat: &mut RuleSeat<T>, name: u64, charge: u64)
-        requires seat { IsSeatAt self.now seat.old }
-        requires stood { find (is_standing name) (view seat.old).work.standalones ≡ Some (record { name = name; charge = charge }) }
-        requires room { (view seat.old).work.freed + charge < 2 ^ 49 }
-        requires said { J.name ≡ name }
-        ensures seat { IsSameSeat seat.old seat.new }
-        ensures view { view seat.new ≡ after_fall name charge (view seat.old) }
-        ensures step {
-            MakesSome (ledger_at self.now.geometry.slots self.now.geometry.room STANDING) charge 0 seat.old seat.new }
-    {
-        self.table
-            .shared
-            .fetch_sub::<Fall<J>>(seat, self.ledger(STANDING), charge);
-    }
-
-    /// Lets go of the standalone entry of this name, whose charge this is. The charge is freed then;
-    /// what the client has freed stays below 2^49.
+    /// Lets go of the standalone entry of this name, whose charge this is. The charge is freed
+    /// then; what the client has freed stays below 2^49.
     ///
     /// It takes no memory. It costs one atomic subtraction.
     pub fn fall(&self, seat: &mut RuleSeat<T>, name: u64, charge: u64)
         requires seat { IsSeatAt self.now seat.old }
-        requires stood { find (is_standing name) (view seat.old).work.standalones ≡ Some (record { name = name; charge = charge }) }
+        requires stood { find (is_standing name) (view seat.old).work.standalones
+            ≡ Some (record { name = name; charge = charge }) }
         requires room { (view seat.old).work.freed + charge < 2 ^ 49 }
         ensures seat { IsSameSeat seat.old seat.new }
         ensures view { view seat.new ≡ after_fall name charge (view seat.old) }
-        ensures step {
-            MakesSome (ledger_at self.now.geometry.slots self.now.geometry.room STANDING) charge 0 seat.old seat.new }
     {
-        self.fall_as::<Brand>(seat, name, charge);
+        self.fetch_sub::<Brand, _>(seat, self.ledger(STANDING), charge, name);
     }
 }

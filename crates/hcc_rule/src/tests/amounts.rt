@@ -1,19 +1,21 @@
 //! Amounts that a worker asks for and gives back.
 ghost use Rattle.std.specs.Prelude.{◌≡◌, ◌<◌};
-ghost use Rattle.hcc_rule.specs.Hands.{IsReady};
+ghost use Rattle.hcc_rule.specs.Benches.{IsReady};
 ghost use Rattle.hcc_rule.specs.Seats.{view};
 
 use super::worker::{LIMIT, NAME, Worker};
 use std::process::Abort;
 
 impl Worker<'_> {
-    /// An insertion that is given up: the occupancy and the usage before, the slot's count while it is passed
-    /// and after, and the usage and the occupancy at most.
+    /// An insertion that is given up: the occupancy and the usage before, the slot's count while it
+    /// is passed and after, and the usage and the occupancy at most.
     pub(super) fn give_up(&mut self, rt: &impl Abort, slot: u32, charge: u32) -> [u64; 6]
         requires ready { IsReady (view self.old.seat) }
         requires slot { slot < 8 }
         requires some { 0 < charge }
-        ensures same { (self.new.table ≡ self.old.table) × (self.new.client ≡ self.old.client) × (self.new.shown ≡ self.old.shown) × ((view self.new.seat).others ≡ (view self.old.seat).others) }
+        ensures same { (self.new.table ≡ self.old.table) × (self.new.client ≡ self.old.client)
+            × (self.new.shown ≡ self.old.shown)
+            × ((view self.new.seat).others ≡ (view self.old.seat).others) }
         ensures ready { IsReady (view self.new.seat) }
     {
         let occupancy = self.table.enter(&mut self.seat);
@@ -34,7 +36,9 @@ impl Worker<'_> {
     pub(super) fn stand(&mut self, charge: u32) -> [u64; 4]
         requires ready { IsReady (view self.old.seat) }
         requires some { 0 < charge }
-        ensures same { (self.new.table ≡ self.old.table) × (self.new.client ≡ self.old.client) × (self.new.shown ≡ self.old.shown) × ((view self.new.seat).others ≡ (view self.old.seat).others) }
+        ensures same { (self.new.table ≡ self.old.table) × (self.new.client ≡ self.old.client)
+            × (self.new.shown ≡ self.old.shown)
+            × ((view self.new.seat).others ≡ (view self.old.seat).others) }
         ensures ready { IsReady (view self.new.seat) }
     {
         let usage = self.table.charge(&mut self.seat, charge);
@@ -47,11 +51,13 @@ impl Worker<'_> {
         [usage, charged, standing, fallen]
     }
 
-    /// Gives an insertion up, has an entry that stands alone, turns the hand twice and loads what all
-    /// clients have, so often.
+    /// Gives an insertion up, has an entry that stands alone, turns the hand twice and loads what
+    /// all clients have, so often.
     pub(super) fn come_and_go(&mut self, rt: &impl Abort, times: u32)
         requires ready { IsReady (view self.old.seat) }
-        ensures same { (self.new.table ≡ self.old.table) × (self.new.client ≡ self.old.client) × (self.new.shown ≡ self.old.shown) × ((view self.new.seat).others ≡ (view self.old.seat).others) }
+        ensures same { (self.new.table ≡ self.old.table) × (self.new.client ≡ self.old.client)
+            × (self.new.shown ≡ self.old.shown)
+            × ((view self.new.seat).others ≡ (view self.old.seat).others) }
         ensures ready { IsReady (view self.new.seat) }
     {
         for _ in 0..times {

@@ -4,7 +4,8 @@ ghost use Rattle.hcc_core.specs.declared.client.Owned.TheVariants.{ForFreeing};
 ghost use Rattle.hcc_core.specs.declared.slot.Stamp.{Stamp};
 ghost use Rattle.hcc_core.specs.Opening.{new_client};
 ghost use Rattle.hcc_rule.specs.declared.view.Made.{Made};
-ghost use Rattle.hcc_rule.specs.Hands.{Carries, IsReady};
+ghost use Rattle.hcc_rule.specs.Work.{Carries};
+ghost use Rattle.hcc_rule.specs.Benches.{IsReady};
 ghost use Rattle.hcc_rule.specs.Probes.{trail_to};
 ghost use Rattle.hcc_rule.specs.Seats.{view};
 ghost use Rattle.hcc_rule.specs.Words.{made_words};
@@ -21,8 +22,13 @@ impl Worker<'_> {
     fn take_trail(&mut self, passed: Option<u32>)
         requires trail { (view self.old.seat).work.trail ≡ option_to_list passed }
         requires within { IfSome passed (λ s. s < 8) }
-        ensures same { (self.new.table ≡ self.old.table) × (self.new.client ≡ self.old.client) × (self.new.shown ≡ self.old.shown) × ((view self.new.seat).others ≡ (view self.old.seat).others) }
-        ensures view { view self.new.seat ≡ record (view self.old.seat) { work = record (view self.old.seat).work { trail = [] } } }
+        ensures same { (self.new.table ≡ self.old.table) × (self.new.client ≡ self.old.client)
+            × (self.new.shown ≡ self.old.shown)
+            × ((view self.new.seat).others ≡ (view self.old.seat).others) }
+        ensures view { view self.new.seat
+            ≡ record (view self.old.seat) {
+              work = record (view self.old.seat).work { trail = [] };
+            } }
     {
         if let Some(place) = passed {
             self.table.unpass(&mut self.seat, place);
@@ -32,9 +38,25 @@ impl Worker<'_> {
     /// The charge of the entry that was taken, which has this key.
     fn taken_charge(&mut self, rt: &impl Abort, slot: u32, key: Key) -> u64
         requires slot { slot < 8 }
-        requires took { (stamp : Stamp) × (made : Made) × Carries (record new_client { owned = ForFreeing slot; trail = trail_to 8 made.key slot; freed = made.charge; freed_slots = 1 }) [] (view self.old.seat) × ((view self.old.seat).written ≡ made_words stamp.client made) }
-        ensures same { (self.new.table ≡ self.old.table) × (self.new.client ≡ self.old.client) × (self.new.shown ≡ self.old.shown) × ((view self.new.seat).others ≡ (view self.old.seat).others) }
-        ensures takes { Carries (record new_client { owned = ForFreeing slot; trail = trail_to 8 key slot; freed = result; freed_slots = 1 }) [] (view self.new.seat) }
+        requires took { (stamp : Stamp) × (made : Made)
+            × Carries (record new_client {
+              owned = ForFreeing slot;
+              trail = trail_to 8 made.key slot;
+              freed =
+                  made.charge;
+              freed_slots = 1;
+            }) [] (view self.old.seat)
+            × ((view self.old.seat).written ≡ made_words stamp.client made) }
+        ensures same { (self.new.table ≡ self.old.table) × (self.new.client ≡ self.old.client)
+            × (self.new.shown ≡ self.old.shown)
+            × ((view self.new.seat).others ≡ (view self.old.seat).others) }
+        ensures takes { Carries (record new_client {
+          owned = ForFreeing slot;
+          trail = trail_to 8 key slot;
+          freed = result;
+          freed_slots =
+              1;
+        }) [] (view self.new.seat) }
         ensures some { 0 < result }
     {
         let key0 = self.table.read_own(&mut self.seat, slot, KEY0);
@@ -51,10 +73,18 @@ impl Worker<'_> {
     /// Takes the trail, the slot, its place and its charge back.
     fn take_back(&mut self, slot: u32, passed: Option<u32>, charge: u64)
         requires slot { slot < 8 }
-        requires took { Carries (record new_client { owned = ForFreeing slot; trail = option_to_list passed; freed = charge; freed_slots = 1 }) [] (view self.old.seat) }
+        requires took { Carries (record new_client {
+          owned = ForFreeing slot;
+          trail = option_to_list passed;
+          freed = charge;
+          freed_slots =
+              1;
+        }) [] (view self.old.seat) }
         requires some { 0 < charge }
         requires within { IfSome passed (λ s. s < 8) }
-        ensures same { (self.new.table ≡ self.old.table) × (self.new.client ≡ self.old.client) × (self.new.shown ≡ self.old.shown) × ((view self.new.seat).others ≡ (view self.old.seat).others) }
+        ensures same { (self.new.table ≡ self.old.table) × (self.new.client ≡ self.old.client)
+            × (self.new.shown ≡ self.old.shown)
+            × ((view self.new.seat).others ≡ (view self.old.seat).others) }
         ensures ready { IsReady (view self.new.seat) }
     {
         self.take_trail(passed);
@@ -63,8 +93,8 @@ impl Worker<'_> {
         self.table.settle(&mut self.seat, charge);
     }
 
-    /// Frees the entry of a slot without references. The words are the slot's before, while it is taken and
-    /// after, and the charge.
+    /// Frees the entry of a slot without references. The words are the slot's before, while it is
+    /// taken and after, and the charge.
     pub(super) fn evict(
         &mut self,
         rt: &impl Abort,
@@ -76,7 +106,9 @@ impl Worker<'_> {
         requires slot { slot < 8 }
         requires trail { trail_to 8 key slot ≡ option_to_list passed }
         requires within { IfSome passed (λ s. s < 8) }
-        ensures same { (self.new.table ≡ self.old.table) × (self.new.client ≡ self.old.client) × (self.new.shown ≡ self.old.shown) × ((view self.new.seat).others ≡ (view self.old.seat).others) }
+        ensures same { (self.new.table ≡ self.old.table) × (self.new.client ≡ self.old.client)
+            × (self.new.shown ≡ self.old.shown)
+            × ((view self.new.seat).others ≡ (view self.old.seat).others) }
         ensures ready { IsReady (view self.new.seat) }
     {
         let seen = self.table.look(&mut self.seat, slot);
@@ -90,13 +122,15 @@ impl Worker<'_> {
         [seen, taken, self.table.look(&mut self.seat, slot), charge]
     }
 
-    /// Frees the entry of a slot without references, while an acquire goes astray there. The words are
-    /// that which the acquire found, the one after it, and the one at the end.
+    /// Frees the entry of a slot without references, while an acquire goes astray there. The words
+    /// are that which the acquire found, the one after it, and the one at the end.
     pub(super) fn evict_astray(&mut self, rt: &impl Abort, slot: u32, key: Key) -> [u64; 3]
         requires ready { IsReady (view self.old.seat) }
         requires slot { slot < 8 }
         requires trail { trail_to 8 key slot ≡ [] }
-        ensures same { (self.new.table ≡ self.old.table) × (self.new.client ≡ self.old.client) × (self.new.shown ≡ self.old.shown) × ((view self.new.seat).others ≡ (view self.old.seat).others) }
+        ensures same { (self.new.table ≡ self.old.table) × (self.new.client ≡ self.old.client)
+            × (self.new.shown ≡ self.old.shown)
+            × ((view self.new.seat).others ≡ (view self.old.seat).others) }
         ensures ready { IsReady (view self.new.seat) }
     {
         let seen = self.table.look(&mut self.seat, slot);
@@ -112,8 +146,8 @@ impl Worker<'_> {
         [stray, strayed, self.table.look(&mut self.seat, slot)]
     }
 
-    /// Hides the entry of a slot, and frees it with the last reference. The words are those that the
-    /// look and the hiding found, the hidden one and the one at the end, and the charge.
+    /// Hides the entry of a slot, and frees it with the last reference. The words are those that
+    /// the look and the hiding found, the hidden one and the one at the end, and the charge.
     pub(super) fn erase(
         &mut self,
         rt: &impl Abort,
@@ -125,7 +159,9 @@ impl Worker<'_> {
         requires slot { slot < 8 }
         requires trail { trail_to 8 key slot ≡ option_to_list passed }
         requires within { IfSome passed (λ s. s < 8) }
-        ensures same { (self.new.table ≡ self.old.table) × (self.new.client ≡ self.old.client) × (self.new.shown ≡ self.old.shown) × ((view self.new.seat).others ≡ (view self.old.seat).others) }
+        ensures same { (self.new.table ≡ self.old.table) × (self.new.client ≡ self.old.client)
+            × (self.new.shown ≡ self.old.shown)
+            × ((view self.new.seat).others ≡ (view self.old.seat).others) }
         ensures ready { IsReady (view self.new.seat) }
     {
         let (seen, _) = self.reach(rt, slot, 1);

@@ -1,7 +1,7 @@
 //! Tables for tests, and the workers of their seats.
 ghost use Rattle.std.specs.Prelude.{◌≡◌, ◌+◌, ◌≤◌, [], IfOk, length};
 ghost use Rattle.hcc_rule.specs.Callers.{plan_of, AreSeatsAt};
-ghost use Rattle.hcc_rule.specs.Hands.{IsBench, IsReady};
+ghost use Rattle.hcc_rule.specs.Benches.{IsBench, IsReady};
 ghost use Rattle.hcc_rule.specs.Seats.{view};
 
 use super::AnyBytes;
@@ -39,7 +39,8 @@ pub(super) fn hired<'a>(
     requires few { length seats.old.items ≤ 1024 }
     ensures rest { AreSeatsAt table.now 0 seats.new.items }
     ensures count { length seats.new.items + 1 ≡ length seats.old.items }
-    ensures worker { (result.table ≡ table.entry) × (result.client ≡ length seats.new.items) × (result.shown ≡ 0) }
+    ensures worker { (result.table ≡ table.entry) × (result.client ≡ length seats.new.items)
+        × (result.shown ≡ 0) }
     ensures ready { IsReady (view result.seat) }
     ensures alone { (view result.seat).others ≡ [] }
 {
@@ -57,8 +58,10 @@ pub(super) fn restarted<'a>(first: &mut Worker<'a>, second: Worker<'a>) -> Worke
     requires ready { IsReady (view first.old.seat) × IsReady (view second.seat) }
     requires table { second.table.now ≡ first.old.table.now }
     requires alone { ((view first.old.seat).others ≡ []) × ((view second.seat).others ≡ []) }
-    ensures same { (first.new.table ≡ first.old.table) × (first.new.client ≡ first.old.client) × (first.new.shown ≡ first.old.shown) }
-    ensures worker { (result.table ≡ first.new.table) × (result.client ≡ second.entry.client) × (result.shown ≡ second.entry.shown) }
+    ensures same { (first.new.table ≡ first.old.table) × (first.new.client ≡ first.old.client)
+        × (first.new.shown ≡ first.old.shown) }
+    ensures worker { (result.table ≡ first.new.table) × (result.client ≡ second.entry.client)
+        × (result.shown ≡ second.entry.shown) }
     ensures ready { IsReady (view first.new.seat) × IsReady (view result.seat) }
     ensures alone { ((view first.new.seat).others ≡ []) × ((view result.seat).others ≡ []) }
 {

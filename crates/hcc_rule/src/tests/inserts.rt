@@ -5,7 +5,8 @@ ghost use Rattle.hcc_core.specs.declared.slot.Entry.{Entry};
 ghost use Rattle.hcc_core.specs.declared.client.Owned.TheVariants.{ForBuilding};
 ghost use Rattle.hcc_core.specs.declared.client.Place.TheVariants.{Granted};
 ghost use Rattle.hcc_core.specs.Opening.{new_client};
-ghost use Rattle.hcc_rule.specs.Hands.{Carries, IsReady};
+ghost use Rattle.hcc_rule.specs.Work.{Carries};
+ghost use Rattle.hcc_rule.specs.Benches.{IsReady};
 ghost use Rattle.hcc_rule.specs.Probes.{trail_to};
 ghost use Rattle.hcc_rule.specs.Seats.{view};
 ghost use Rattle.hcc_rule.specs.ToldOwners.{first_records, made_of};
@@ -61,13 +62,17 @@ impl Worker<'_> {
         ]
     }
 
-    /// Asks for a place and a charge, and takes an empty slot. The words are the occupancy, the usage
-    /// and the slot's word as they were before.
+    /// Asks for a place and a charge, and takes an empty slot. The words are the occupancy, the
+    /// usage and the slot's word as they were before.
     fn reserve(&mut self, rt: &impl Abort, slot: u32, charge: u32) -> [u64; 3]
         requires ready { IsReady (view self.old.seat) }
         requires slot { slot < 8 }
-        ensures same { (self.new.table ≡ self.old.table) × (self.new.client ≡ self.old.client) × (self.new.shown ≡ self.old.shown) × ((view self.new.seat).others ≡ (view self.old.seat).others) }
-        ensures builds { Carries (record new_client { place = Granted; granted = charge; owned = ForBuilding slot }) [] (view self.new.seat) }
+        ensures same { (self.new.table ≡ self.old.table) × (self.new.client ≡ self.old.client)
+            × (self.new.shown ≡ self.old.shown)
+            × ((view self.new.seat).others ≡ (view self.old.seat).others) }
+        ensures builds { Carries (record new_client
+            { place = Granted; granted = charge; owned = ForBuilding slot }) []
+            (view self.new.seat) }
         ensures written { (view self.new.seat).written ≡ [] }
     {
         let occupancy = self.table.enter(&mut self.seat);
@@ -82,8 +87,12 @@ impl Worker<'_> {
     fn pass_over(&mut self, passed: Option<u32>)
         requires trail { (view self.old.seat).work.trail ≡ [] }
         requires within { IfSome passed (λ s. s < 8) }
-        ensures same { (self.new.table ≡ self.old.table) × (self.new.client ≡ self.old.client) × (self.new.shown ≡ self.old.shown) × ((view self.new.seat).others ≡ (view self.old.seat).others) }
-        ensures view { view self.new.seat ≡ record (view self.old.seat) { work = record (view self.old.seat).work { trail = option_to_list passed } } }
+        ensures same { (self.new.table ≡ self.old.table) × (self.new.client ≡ self.old.client)
+            × (self.new.shown ≡ self.old.shown)
+            × ((view self.new.seat).others ≡ (view self.old.seat).others) }
+        ensures view { view self.new.seat
+            ≡ record (view self.old.seat)
+            { work = record (view self.old.seat).work { trail = option_to_list passed } } }
     {
         if let Some(place) = passed {
             self.table.pass(&mut self.seat, place);
@@ -95,7 +104,9 @@ impl Worker<'_> {
         requires slot { slot < 8 }
         requires owned { (view self.old.seat).work.owned ≡ ForBuilding slot }
         requires none { (view self.old.seat).written ≡ [] }
-        ensures same { (self.new.table ≡ self.old.table) × (self.new.client ≡ self.old.client) × (self.new.shown ≡ self.old.shown) × ((view self.new.seat).others ≡ (view self.old.seat).others) }
+        ensures same { (self.new.table ≡ self.old.table) × (self.new.client ≡ self.old.client)
+            × (self.new.shown ≡ self.old.shown)
+            × ((view self.new.seat).others ≡ (view self.old.seat).others) }
         ensures view { view self.new.seat ≡ record (view self.old.seat) { written = words } }
     {
         let [key0, key1, charge, stamp, length, first, second] = words;
@@ -124,8 +135,11 @@ impl Worker<'_> {
         requires trail { trail_to 8 draft.key slot ≡ option_to_list passed }
         requires within { IfSome passed (λ s. s < 8) }
         requires named { IfSome draft.name (λ x. x < 2 ^ 64) }
-        ensures same { (self.new.table ≡ self.old.table) × (self.new.client ≡ self.old.client) × (self.new.shown ≡ self.old.shown + 1) × ((view self.new.seat).others ≡ (view self.old.seat).others) }
-        ensures holds { (entry : Entry) × Carries new_client (first_records slot draft.name entry) (view self.new.seat) }
+        ensures same { (self.new.table ≡ self.old.table) × (self.new.client ≡ self.old.client)
+            × (self.new.shown ≡ self.old.shown + 1)
+            × ((view self.new.seat).others ≡ (view self.old.seat).others) }
+        ensures holds { (entry : Entry) × Carries new_client (first_records slot draft.name entry)
+            (view self.new.seat) }
     {
         let found = self.reserve(rt, slot, draft.charge);
         self.pass_over(passed);
@@ -136,8 +150,8 @@ impl Worker<'_> {
         found
     }
 
-    /// Shows an entry and keeps no reference. The words are the occupancy, the usage and the slot's word
-    /// as they were before.
+    /// Shows an entry and keeps no reference. The words are the occupancy, the usage and the slot's
+    /// word as they were before.
     pub(super) fn insert(
         &mut self,
         rt: &impl Abort,
@@ -153,14 +167,16 @@ impl Worker<'_> {
         requires trail { trail_to 8 draft.key slot ≡ option_to_list passed }
         requires within { IfSome passed (λ s. s < 8) }
         requires nameless { draft.name ≡ None }
-        ensures same { (self.new.table ≡ self.old.table) × (self.new.client ≡ self.old.client) × (self.new.shown ≡ self.old.shown + 1) × ((view self.new.seat).others ≡ (view self.old.seat).others) }
+        ensures same { (self.new.table ≡ self.old.table) × (self.new.client ≡ self.old.client)
+            × (self.new.shown ≡ self.old.shown + 1)
+            × ((view self.new.seat).others ≡ (view self.old.seat).others) }
         ensures ready { IsReady (view self.new.seat) }
     {
         self.show_all(rt, slot, draft, passed)
     }
 
-    /// Shows an entry and keeps a reference, which is released as a use. The words are the slot's, as it
-    /// is shown and after the release.
+    /// Shows an entry and keeps a reference, which is released as a use. The words are the slot's,
+    /// as it is shown and after the release.
     pub(super) fn pin(
         &mut self,
         rt: &impl Abort,
@@ -176,7 +192,9 @@ impl Worker<'_> {
         requires trail { trail_to 8 draft.key slot ≡ option_to_list passed }
         requires within { IfSome passed (λ s. s < 8) }
         requires named { draft.name ≡ Some NAME }
-        ensures same { (self.new.table ≡ self.old.table) × (self.new.client ≡ self.old.client) × (self.new.shown ≡ self.old.shown + 1) × ((view self.new.seat).others ≡ (view self.old.seat).others) }
+        ensures same { (self.new.table ≡ self.old.table) × (self.new.client ≡ self.old.client)
+            × (self.new.shown ≡ self.old.shown + 1)
+            × ((view self.new.seat).others ≡ (view self.old.seat).others) }
         ensures ready { IsReady (view self.new.seat) }
     {
         self.show_all(rt, slot, draft, passed);
@@ -184,8 +202,8 @@ impl Worker<'_> {
         [shown, self.table.look(&mut self.seat, slot)]
     }
 
-    /// Shows an entry, hides it by the reference that is kept, and releases this as a use. The words are
-    /// those that the hiding and the release found, and the one after them.
+    /// Shows an entry, hides it by the reference that is kept, and releases this as a use. The
+    /// words are those that the hiding and the release found, and the one after them.
     pub(super) fn pin_hidden(
         &mut self,
         rt: &impl Abort,
@@ -201,7 +219,9 @@ impl Worker<'_> {
         requires trail { trail_to 8 draft.key slot ≡ option_to_list passed }
         requires within { IfSome passed (λ s. s < 8) }
         requires named { draft.name ≡ Some NAME }
-        ensures same { (self.new.table ≡ self.old.table) × (self.new.client ≡ self.old.client) × (self.new.shown ≡ self.old.shown + 1) × ((view self.new.seat).others ≡ (view self.old.seat).others) }
+        ensures same { (self.new.table ≡ self.old.table) × (self.new.client ≡ self.old.client)
+            × (self.new.shown ≡ self.old.shown + 1)
+            × ((view self.new.seat).others ≡ (view self.old.seat).others) }
         ensures ready { IsReady (view self.new.seat) }
     {
         self.show_all(rt, slot, draft, passed);
@@ -210,12 +230,20 @@ impl Worker<'_> {
         [shown, hidden, self.table.look(&mut self.seat, slot)]
     }
 
-    /// Asks for a place and a charge, and takes slot 1 or, where that is another's, passes it and takes
-    /// slot 2. It answers which.
+    /// Asks for a place and a charge, and takes slot 1 or, where that is another's, passes it and
+    /// takes slot 2. It answers which.
     fn reserve_either(&mut self, rt: &impl Abort, charge: u32) -> u32
         requires ready { IsReady (view self.old.seat) }
-        ensures same { (self.new.table ≡ self.old.table) × (self.new.client ≡ self.old.client) × (self.new.shown ≡ self.old.shown) × ((view self.new.seat).others ≡ (view self.old.seat).others) }
-        ensures builds { Carries (record new_client { place = Granted; granted = charge; owned = ForBuilding result; trail = trail_to 8 FIRST result }) [] (view self.new.seat) }
+        ensures same { (self.new.table ≡ self.old.table) × (self.new.client ≡ self.old.client)
+            × (self.new.shown ≡ self.old.shown)
+            × ((view self.new.seat).others ≡ (view self.old.seat).others) }
+        ensures builds { Carries (record new_client {
+          place = Granted;
+          granted = charge;
+          owned = ForBuilding result;
+          trail =
+              trail_to 8 FIRST result;
+        }) [] (view self.new.seat) }
         ensures written { (view self.new.seat).written ≡ [] }
         ensures slot { result < 8 }
     {
@@ -231,8 +259,8 @@ impl Worker<'_> {
         2
     }
 
-    /// Shows an entry of the first key in slot 1 or, where another client was faster, in slot 2. It answers
-    /// which.
+    /// Shows an entry of the first key in slot 1 or, where another client was faster, in slot 2. It
+    /// answers which.
     pub(super) fn race(&mut self, rt: &impl Abort, draft: Draft) -> u32
         requires ready { IsReady (view self.old.seat) }
         requires client { self.old.client < 1024 }
@@ -240,7 +268,9 @@ impl Worker<'_> {
         requires countdown { (1 ≤ draft.countdown) × (draft.countdown ≤ 3) }
         requires nameless { draft.name ≡ None }
         requires key { draft.key ≡ FIRST }
-        ensures same { (self.new.table ≡ self.old.table) × (self.new.client ≡ self.old.client) × (self.new.shown ≡ self.old.shown + 1) × ((view self.new.seat).others ≡ (view self.old.seat).others) }
+        ensures same { (self.new.table ≡ self.old.table) × (self.new.client ≡ self.old.client)
+            × (self.new.shown ≡ self.old.shown + 1)
+            × ((view self.new.seat).others ≡ (view self.old.seat).others) }
         ensures ready { IsReady (view self.new.seat) }
         ensures slot { result < 8 }
     {

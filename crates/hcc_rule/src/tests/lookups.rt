@@ -4,7 +4,8 @@ ghost use Rattle.hcc_core.specs.declared.limits.TheConstants.{MOST_WEIGHT};
 ghost use Rattle.hcc_core.specs.declared.slot.Entry.{Entry};
 ghost use Rattle.hcc_core.specs.Opening.{new_client};
 ghost use Rattle.hcc_word.specs.Word.{is_counting};
-ghost use Rattle.hcc_rule.specs.Hands.{Carries, IsReady};
+ghost use Rattle.hcc_rule.specs.Work.{Carries};
+ghost use Rattle.hcc_rule.specs.Benches.{IsReady};
 ghost use Rattle.hcc_rule.specs.Seats.{view};
 ghost use Rattle.hcc_rule.specs.ToldReferences.{record_of};
 ghost use Rattle.hcc_rule.specs.Views.{record_in};
@@ -16,13 +17,17 @@ use hcc_word::{clocked, refs, releases, state};
 use std::process::Abort;
 
 impl Worker<'_> {
-    /// Looks at a slot and takes references of this weight on its entry. The words are those that both found.
+    /// Looks at a slot and takes references of this weight on its entry. The words are those that
+    /// both found.
     pub(super) fn reach(&mut self, rt: &impl Abort, slot: u32, weight: u32) -> (u64, u64)
         requires ready { IsReady (view self.old.seat) }
         requires slot { slot < 8 }
         requires weight { (0 < weight) × (weight ≤ MOST_WEIGHT) }
-        ensures same { (self.new.table ≡ self.old.table) × (self.new.client ≡ self.old.client) × (self.new.shown ≡ self.old.shown) × ((view self.new.seat).others ≡ (view self.old.seat).others) }
-        ensures holds { (entry : Entry) × Carries new_client (record_of slot weight NAME result.1 entry ∷ []) (view self.new.seat) }
+        ensures same { (self.new.table ≡ self.old.table) × (self.new.client ≡ self.old.client)
+            × (self.new.shown ≡ self.old.shown)
+            × ((view self.new.seat).others ≡ (view self.old.seat).others) }
+        ensures holds { (entry : Entry) × Carries new_client
+            (record_of slot weight NAME result.1 entry ∷ []) (view self.new.seat) }
         ensures counting { is_counting result.1 ≡ true }
     {
         let seen = self.table.look(&mut self.seat, slot);
@@ -36,9 +41,13 @@ impl Worker<'_> {
     /// The data words of the entry that the client holds a reference on.
     fn read_all(&mut self, slot: u32) -> [u64; 7]
         requires slot { slot < 8 }
-        requires holds { IsSomeAnd (record_in NAME (view self.old.seat).records) (λ r. r.slot ≡ slot) }
-        ensures same { (self.new.table ≡ self.old.table) × (self.new.client ≡ self.old.client) × (self.new.shown ≡ self.old.shown) × ((view self.new.seat).others ≡ (view self.old.seat).others) }
-        ensures view { view self.new.seat ≡ record (view self.old.seat) { met = (view self.new.seat).met } }
+        requires holds { IsSomeAnd (record_in NAME (view self.old.seat).records)
+            (λ r. r.slot ≡ slot) }
+        ensures same { (self.new.table ≡ self.old.table) × (self.new.client ≡ self.old.client)
+            × (self.new.shown ≡ self.old.shown)
+            × ((view self.new.seat).others ≡ (view self.old.seat).others) }
+        ensures view { view self.new.seat
+            ≡ record (view self.old.seat) { met = (view self.new.seat).met } }
     {
         let key0 = self.table.read(&mut self.seat, slot, KEY0, NAME);
         let key1 = self.table.read(&mut self.seat, slot, KEY1, NAME);
@@ -55,7 +64,9 @@ impl Worker<'_> {
     pub(super) fn hit(&mut self, rt: &impl Abort, slot: u32) -> ([u64; 5], [u64; 7])
         requires ready { IsReady (view self.old.seat) }
         requires slot { slot < 8 }
-        ensures same { (self.new.table ≡ self.old.table) × (self.new.client ≡ self.old.client) × (self.new.shown ≡ self.old.shown) × ((view self.new.seat).others ≡ (view self.old.seat).others) }
+        ensures same { (self.new.table ≡ self.old.table) × (self.new.client ≡ self.old.client)
+            × (self.new.shown ≡ self.old.shown)
+            × ((view self.new.seat).others ≡ (view self.old.seat).others) }
         ensures ready { IsReady (view self.new.seat) }
     {
         let (seen, found) = self.reach(rt, slot, 1);
@@ -66,12 +77,15 @@ impl Worker<'_> {
         ([seen, found, marked, released, left], data)
     }
 
-    /// A look-up that is no use: the words of the look, the acquire and the give, and the word after them.
+    /// A look-up that is no use: the words of the look, the acquire and the give, and the word
+    /// after them.
     pub(super) fn miss(&mut self, rt: &impl Abort, slot: u32, weight: u32) -> [u64; 4]
         requires ready { IsReady (view self.old.seat) }
         requires slot { slot < 8 }
         requires weight { (0 < weight) × (weight ≤ MOST_WEIGHT) }
-        ensures same { (self.new.table ≡ self.old.table) × (self.new.client ≡ self.old.client) × (self.new.shown ≡ self.old.shown) × ((view self.new.seat).others ≡ (view self.old.seat).others) }
+        ensures same { (self.new.table ≡ self.old.table) × (self.new.client ≡ self.old.client)
+            × (self.new.shown ≡ self.old.shown)
+            × ((view self.new.seat).others ≡ (view self.old.seat).others) }
         ensures ready { IsReady (view self.new.seat) }
     {
         let (seen, found) = self.reach(rt, slot, weight);
@@ -80,12 +94,15 @@ impl Worker<'_> {
         [seen, found, given, left]
     }
 
-    /// A try to take a slot that has an entry, with references of this weight that are released as uses.
+    /// A try to take a slot that has an entry, with references of this weight that are released as
+    /// uses.
     pub(super) fn matched(&mut self, rt: &impl Abort, slot: u32, weight: u32) -> [u64; 4]
         requires ready { IsReady (view self.old.seat) }
         requires slot { slot < 8 }
         requires weight { (0 < weight) × (weight ≤ MOST_WEIGHT) }
-        ensures same { (self.new.table ≡ self.old.table) × (self.new.client ≡ self.old.client) × (self.new.shown ≡ self.old.shown) × ((view self.new.seat).others ≡ (view self.old.seat).others) }
+        ensures same { (self.new.table ≡ self.old.table) × (self.new.client ≡ self.old.client)
+            × (self.new.shown ≡ self.old.shown)
+            × ((view self.new.seat).others ≡ (view self.old.seat).others) }
         ensures ready { IsReady (view self.new.seat) }
     {
         let tried = self.table.occupy(&mut self.seat, slot);
@@ -102,7 +119,9 @@ impl Worker<'_> {
     pub(super) fn glance(&mut self, slot: u32)
         requires ready { IsReady (view self.old.seat) }
         requires slot { slot < 8 }
-        ensures same { (self.new.table ≡ self.old.table) × (self.new.client ≡ self.old.client) × (self.new.shown ≡ self.old.shown) × ((view self.new.seat).others ≡ (view self.old.seat).others) }
+        ensures same { (self.new.table ≡ self.old.table) × (self.new.client ≡ self.old.client)
+            × (self.new.shown ≡ self.old.shown)
+            × ((view self.new.seat).others ≡ (view self.old.seat).others) }
         ensures ready { IsReady (view self.new.seat) }
     {
         if state(self.table.look(&mut self.seat, slot)) < INVISIBLE {
@@ -118,7 +137,9 @@ impl Worker<'_> {
     pub(super) fn visit(&mut self, slot: u32) -> [u64; 2]
         requires ready { IsReady (view self.old.seat) }
         requires slot { slot < 8 }
-        ensures same { (self.new.table ≡ self.old.table) × (self.new.client ≡ self.old.client) × (self.new.shown ≡ self.old.shown) × ((view self.new.seat).others ≡ (view self.old.seat).others) }
+        ensures same { (self.new.table ≡ self.old.table) × (self.new.client ≡ self.old.client)
+            × (self.new.shown ≡ self.old.shown)
+            × ((view self.new.seat).others ≡ (view self.old.seat).others) }
         ensures ready { IsReady (view self.new.seat) }
     {
         let seen = self.table.look(&mut self.seat, slot);
@@ -128,12 +149,14 @@ impl Worker<'_> {
         [seen, self.table.look(&mut self.seat, slot)]
     }
 
-    /// Exchanges of the clock and of a free that come too late. The words are the slot's before, those
-    /// that both found, and the one after them.
+    /// Exchanges of the clock and of a free that come too late. The words are the slot's before,
+    /// those that both found, and the one after them.
     pub(super) fn late(&mut self, rt: &impl Abort, slot: u32) -> [u64; 4]
         requires ready { IsReady (view self.old.seat) }
         requires slot { slot < 8 }
-        ensures same { (self.new.table ≡ self.old.table) × (self.new.client ≡ self.old.client) × (self.new.shown ≡ self.old.shown) × ((view self.new.seat).others ≡ (view self.old.seat).others) }
+        ensures same { (self.new.table ≡ self.old.table) × (self.new.client ≡ self.old.client)
+            × (self.new.shown ≡ self.old.shown)
+            × ((view self.new.seat).others ≡ (view self.old.seat).others) }
         ensures ready { IsReady (view self.new.seat) }
     {
         let seen = self.look(slot);

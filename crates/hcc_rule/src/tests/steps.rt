@@ -1,15 +1,15 @@
-//! Each kind of step of one client, in an order that makes sense, and the words that the steps find. A
-//! meta word is `acquires + releases·2^30 + hit·2^60 + state·2^61`.
+//! Each kind of step of one client, in an order that makes sense, and the words that the steps
+//! find. A meta word is `acquires + releases·2^30 + hit·2^60 + state·2^61`.
 //!
-//! A correction takes `2^29` uses, and has a test of its own. Splits and joins are among the tests of
-//! two clients.
+//! A correction takes `2^29` uses, and has a test of its own. Splits and joins are among the tests
+//! of two clients.
 use super::hired::{bench, hired};
 use super::inserts::{FIRST, SECOND, THIRD};
 use super::worker::PAYLOAD_WORDS;
 use std::alloc::AllocError;
 
-/// Entries are shown by priority, and the reference that is kept becomes a use. Then the first one is
-/// used more, and the clock counts it down. Exchanges come too late, and an acquire goes astray.
+/// Entries are shown by priority, and the reference that is kept becomes a use. Then the first one
+/// is used more, and the clock counts it down. Exchanges come too late, and an acquire goes astray.
 #[test]
 fn a_word_tells_of_the_uses_of_its_entry(rt: HostRuntime) -> Result<(), AllocError> {
     let (table, mut seats) = bench(rt.alloc(), 1)?;
@@ -56,8 +56,8 @@ fn a_word_tells_of_the_uses_of_its_entry(rt: HostRuntime) -> Result<(), AllocErr
     Ok(())
 }
 
-/// An entry is found and marked. A second one of its key lies in the next slot, and is erased. The first
-/// one is evicted, and so is a third one, which was hidden while it was held.
+/// An entry is found and marked. A second one of its key lies in the next slot, and is erased. The
+/// first one is evicted, and so is a third one, which was hidden while it was held.
 #[test]
 fn an_entry_is_found_hidden_and_freed(rt: HostRuntime) -> Result<(), AllocError> {
     let (table, mut seats) = bench(rt.alloc(), 1)?;

@@ -2,7 +2,7 @@
 ghost use Rattle.std.specs.Prelude.{◌≡◌, ◌+◌, ◌<◌, []};
 ghost use Rattle.std.specs.Thread.{IsSync};
 ghost use Rattle.hcc_rule.specs.Callers.{plan_of, IsSeatAt};
-ghost use Rattle.hcc_rule.specs.Hands.{IsBench, IsReadySeatAt};
+ghost use Rattle.hcc_rule.specs.Benches.{IsBench, IsReadySeatAt};
 ghost use Rattle.hcc_rule.specs.Seats.{view};
 
 use super::AnyBytes;
@@ -22,7 +22,8 @@ const ROUNDS: u32 = 10_000;
 /// twice.
 const TURNS: u32 = 1_000;
 
-/// Shows an entry, and looks it up and the other client's. Then amounts come and go, and the hand turns.
+/// Shows an entry, and looks it up and the other client's. Then amounts come and go, and the hand
+/// turns.
 fn works(
     rt: &impl Abort,
     table: &Bench,
@@ -62,24 +63,30 @@ fn both<R: Abort + Threads + Sync>(
     requires bench { IsBench (plan_of table.now) }
     requires first { IsReadySeatAt table.now 0 0 first }
     requires second { IsReadySeatAt table.now 1 0 second }
-    ensures first { IsReadySeatAt table.now 0 1 result.0 × ((view result.0).others ≡ (view first).others) }
-    ensures second { IsReadySeatAt table.now 1 1 result.1 × ((view result.1).others ≡ (view second).others) }
+    ensures first { IsReadySeatAt table.now 0 1 result.0
+        × ((view result.0).others ≡ (view first).others) }
+    ensures second { IsReadySeatAt table.now 1 1 result.1
+        × ((view result.1).others ≡ (view second).others) }
 {
     join(
         rt,
         move ||
-            requires { IsSync R.row × IsBench (plan_of table.now) × IsReadySeatAt table.now 0 0 first }
-            ensures { IsReadySeatAt table.entry.now 0 1 result × ((view result).others ≡ (view first).others) }
+            requires { IsSync R.row × IsBench (plan_of table.now)
+                × IsReadySeatAt table.now 0 0 first }
+            ensures { IsReadySeatAt table.entry.now 0 1 result
+                × ((view result).others ≡ (view first).others) }
         { works(rt, table, first, 0) },
         move ||
-            requires { IsSync R.row × IsBench (plan_of table.now) × IsReadySeatAt table.now 1 0 second }
-            ensures { IsReadySeatAt table.entry.now 1 1 result × ((view result).others ≡ (view second).others) }
+            requires { IsSync R.row × IsBench (plan_of table.now)
+                × IsReadySeatAt table.now 1 0 second }
+            ensures { IsReadySeatAt table.entry.now 1 1 result
+                × ((view result).others ≡ (view second).others) }
         { works(rt, table, second, 1) },
     )
 }
 
-/// Looks at both entries, ends client 1 and starts it again, and shows an entry of its own in slot 3. The
-/// seat that is left names both clients.
+/// Looks at both entries, ends client 1 and starts it again, and shows an entry of its own in slot
+/// 3. The seat that is left names both clients.
 fn end_both(
     rt: &impl Abort,
     table: &Bench,
@@ -119,9 +126,9 @@ fn end_both(
     first.seat
 }
 
-/// Both clients want slot 1. Whoever is late passes it and takes slot 2. Each entry has a countdown of 2
-/// and 10,000 uses at the end, and is marked. Once both clients are back the table is closed, and its
-/// sums are those of its three entries.
+/// Both clients want slot 1. Whoever is late passes it and takes slot 2. Each entry has a countdown
+/// of 2 and 10,000 uses at the end, and is marked. Once both clients are back the table is closed,
+/// and its sums are those of its three entries.
 #[test]
 fn two_threads_show_and_find_entries(rt: HostRuntime) -> Result<(), AllocError> {
     let (table, mut seats) = bench(rt.alloc(), 2)?;

@@ -2,7 +2,7 @@
 //! reference. Each call makes a few single steps and answers the words that they found.
 ghost use Rattle.std.specs.Prelude.{◌≡◌, ◌<◌, ◌∷◌, ◌++◌, length};
 ghost use Rattle.hcc_rule.specs.Callers.{plan_of, IsSeatAt};
-ghost use Rattle.hcc_rule.specs.Hands.{IsBench, IsReady};
+ghost use Rattle.hcc_rule.specs.Benches.{IsBench, IsReady};
 ghost use Rattle.hcc_rule.specs.Opening.{as_other};
 ghost use Rattle.hcc_rule.specs.Seats.{view};
 
@@ -43,7 +43,9 @@ impl Worker<'_> {
     pub(super) fn look(&mut self, slot: u32) -> u64
         requires ready { IsReady (view self.old.seat) }
         requires slot { slot < 8 }
-        ensures same { (self.new.table ≡ self.old.table) × (self.new.client ≡ self.old.client) × (self.new.shown ≡ self.old.shown) × ((view self.new.seat).others ≡ (view self.old.seat).others) }
+        ensures same { (self.new.table ≡ self.old.table) × (self.new.client ≡ self.old.client)
+            × (self.new.shown ≡ self.old.shown)
+            × ((view self.new.seat).others ≡ (view self.old.seat).others) }
         ensures ready { IsReady (view self.new.seat) }
     {
         self.table.look(&mut self.seat, slot)
@@ -53,7 +55,9 @@ impl Worker<'_> {
     pub(super) fn count(&mut self, slot: u32) -> u64
         requires ready { IsReady (view self.old.seat) }
         requires slot { slot < 8 }
-        ensures same { (self.new.table ≡ self.old.table) × (self.new.client ≡ self.old.client) × (self.new.shown ≡ self.old.shown) × ((view self.new.seat).others ≡ (view self.old.seat).others) }
+        ensures same { (self.new.table ≡ self.old.table) × (self.new.client ≡ self.old.client)
+            × (self.new.shown ≡ self.old.shown)
+            × ((view self.new.seat).others ≡ (view self.old.seat).others) }
         ensures ready { IsReady (view self.new.seat) }
     {
         self.table.count(&mut self.seat, slot)
@@ -62,7 +66,9 @@ impl Worker<'_> {
     /// The usage, the occupancy and what stands.
     pub(super) fn totals(&mut self) -> [u64; 3]
         requires ready { IsReady (view self.old.seat) }
-        ensures same { (self.new.table ≡ self.old.table) × (self.new.client ≡ self.old.client) × (self.new.shown ≡ self.old.shown) × ((view self.new.seat).others ≡ (view self.old.seat).others) }
+        ensures same { (self.new.table ≡ self.old.table) × (self.new.client ≡ self.old.client)
+            × (self.new.shown ≡ self.old.shown)
+            × ((view self.new.seat).others ≡ (view self.old.seat).others) }
         ensures ready { IsReady (view self.new.seat) }
     {
         let usage = self.table.usage(&mut self.seat);
@@ -73,7 +79,9 @@ impl Worker<'_> {
     /// Where the hand was at each of two turns.
     pub(super) fn turn_twice(&mut self) -> [u64; 2]
         requires ready { IsReady (view self.old.seat) }
-        ensures same { (self.new.table ≡ self.old.table) × (self.new.client ≡ self.old.client) × (self.new.shown ≡ self.old.shown) × ((view self.new.seat).others ≡ (view self.old.seat).others) }
+        ensures same { (self.new.table ≡ self.old.table) × (self.new.client ≡ self.old.client)
+            × (self.new.shown ≡ self.old.shown)
+            × ((view self.new.seat).others ≡ (view self.old.seat).others) }
         ensures ready { IsReady (view self.new.seat) }
     {
         let first = self.table.turn(&mut self.seat);
@@ -85,9 +93,12 @@ impl Worker<'_> {
         requires ready { IsReady (view self.old.seat) }
         requires other { IsReady (view other.seat) }
         requires table { other.table.now ≡ self.old.table.now }
-        ensures same { (self.new.table ≡ self.old.table) × (self.new.client ≡ self.old.client) × (self.new.shown ≡ self.old.shown) }
+        ensures same { (self.new.table ≡ self.old.table) × (self.new.client ≡ self.old.client)
+            × (self.new.shown ≡ self.old.shown) }
         ensures ready { IsReady (view self.new.seat) }
-        ensures others { (view self.new.seat).others ≡ (view self.old.seat).others ++ as_other (view other.entry.seat) ∷ (view other.entry.seat).others }
+        ensures others { (view self.new.seat).others
+            ≡ (view self.old.seat).others
+            ++ as_other (view other.entry.seat) ∷ (view other.entry.seat).others }
     {
         self.table.join(&mut self.seat, other.seat);
     }

@@ -1,10 +1,11 @@
-//! A client that makes calls at a table, and settles what a call freed. Between the calls here it has
-//! one handle, or none, and nothing else in hand.
+//! A client that makes calls at a table, and settles what a call freed. Between the calls here it
+//! has one handle, or none, and nothing else in hand.
 ghost use Rattle.std.specs.Prelude.{◌≡◌, ◌<◌, ◌≤◌, [], IfSome, IfNone, length};
 ghost use Rattle.hcc_core.specs.declared.client.Place.TheVariants.{Granted};
 ghost use Rattle.hcc_core.specs.Opening.{new_client};
 ghost use Rattle.hcc_rule.specs.Callers.{plan_of, IsSeatAt};
-ghost use Rattle.hcc_rule.specs.Hands.{Carries, IsBench, IsReady};
+ghost use Rattle.hcc_rule.specs.Work.{Carries};
+ghost use Rattle.hcc_rule.specs.Benches.{IsBench, IsReady};
 ghost use Rattle.hcc_rule.specs.Seats.{view};
 ghost use Rattle.hcc_table.specs.Handles.{HoldsOne};
 
@@ -93,7 +94,8 @@ impl Caller<'_> {
     pub(super) fn reserve(&mut self, rt: &impl Abort, charge: u32)
         requires ready { IsReady (view self.old.seat) }
         ensures same { (self.new.table ≡ self.old.table) × (self.new.shown ≡ self.old.shown) }
-        ensures reserved { Carries (record new_client { place = Granted; granted = charge }) [] (view self.new.seat) }
+        ensures reserved { Carries (record new_client { place = Granted; granted = charge }) []
+            (view self.new.seat) }
     {
         let occupancy = self.table.enter(&mut self.seat);
         assert!(rt; occupancy < LIMIT, "the table is full");
@@ -139,7 +141,8 @@ impl Caller<'_> {
 
     /// Takes what was freed from the occupancy and the usage.
     pub(super) fn settle(&mut self, slots: u64, charge: u64)
-        requires freed { Carries (record new_client { freed = charge; freed_slots = slots }) [] (view self.old.seat) }
+        requires freed { Carries (record new_client { freed = charge; freed_slots = slots }) []
+            (view self.old.seat) }
         ensures same { (self.new.table ≡ self.old.table) × (self.new.shown ≡ self.old.shown) }
         ensures ready { IsReady (view self.new.seat) }
     {

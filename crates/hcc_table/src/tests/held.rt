@@ -1,6 +1,6 @@
 //! What a caller does that holds a handle, and how it gets one.
 ghost use Rattle.std.specs.Prelude.{◌≡◌, ◌<◌, ◌≤◌, true, length};
-ghost use Rattle.hcc_rule.specs.Hands.{IsReady};
+ghost use Rattle.hcc_rule.specs.Benches.{IsReady};
 ghost use Rattle.hcc_rule.specs.Seats.{view};
 ghost use Rattle.hcc_table.specs.Handles.{HoldsOne};
 

@@ -1,7 +1,7 @@
 //! A shard for tests, and the caller of its seat.
 ghost use Rattle.std.specs.Prelude.{◌≡◌, [], IfOk, length};
 ghost use Rattle.hcc_rule.specs.Callers.{plan_of, AreSeatsAt};
-ghost use Rattle.hcc_rule.specs.Hands.{IsBench, IsReady};
+ghost use Rattle.hcc_rule.specs.Benches.{IsBench, IsReady};
 ghost use Rattle.hcc_rule.specs.Seats.{view};
 
 use super::AnyBytes;

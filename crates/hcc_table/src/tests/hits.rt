@@ -1,9 +1,10 @@
-//! Hits to be measured: look-ups of one key, again and again, by one thread and by four at once. Four hit
-//! the same key, which is the worst case for threads, or each its own. `tests/measure-hits` takes the time.
+//! Hits to be measured: look-ups of one key, again and again, by one thread and by four at once.
+//! Four hit the same key, which is the worst case for threads, or each its own.
+//! `tests/measure-hits` takes the time.
 ghost use Rattle.std.specs.Prelude.{◌≡◌, ◌+◌, ◌*◌, ◌<◌, ◌≤◌, length};
 ghost use Rattle.std.specs.Thread.{IsSync};
 ghost use Rattle.hcc_rule.specs.Callers.{plan_of};
-ghost use Rattle.hcc_rule.specs.Hands.{IsReadySeatAt};
+ghost use Rattle.hcc_rule.specs.Benches.{IsReadySeatAt};
 ghost use Rattle.hcc_table.specs.Mates.{IsLax, IsPlain};
 
 use super::AnyBytes;
@@ -20,8 +21,8 @@ const HITS: u32 = 1_000_000;
 /// The value of each entry.
 const VALUE: [u8; 16] = [0, 1, 2, 3, 4, 5, 6, 7, 8, 9, 10, 11, 12, 13, 14, 15];
 
-/// The key that a client hits: its own, or that of client 0. Each key's first place is its second word,
-/// and no two of the slots share a cache line.
+/// The key that a client hits: its own, or that of client 0. Each key's first place is its second
+/// word, and no two of the slots share a cache line.
 fn key(client: u32, apart: bool) -> Key {
     Key {
         w0: 0,
@@ -118,11 +119,13 @@ fn two<R: Abort + Threads + Sync>(
     join(
         rt,
         move ||
-            requires { IsSync R.row × IsPlain (plan_of table.now) × IsReadySeatAt table.now client shown first }
+            requires { IsSync R.row × IsPlain (plan_of table.now)
+                × IsReadySeatAt table.now client shown first }
             ensures { IsReadySeatAt table.entry.now client shown result }
         { hits(rt, table, first, client, shown, apart) },
         move ||
-            requires { IsSync R.row × (client < 1023) × IsPlain (plan_of table.now) × IsReadySeatAt table.now (client + 1) 0 second }
+            requires { IsSync R.row × (client < 1023) × IsPlain (plan_of table.now)
+                × IsReadySeatAt table.now (client + 1) 0 second }
             ensures { IsReadySeatAt table.entry.now (client + 1) 0 result }
         { hits(rt, table, second, client + 1, 0, apart) },
     )
@@ -148,11 +151,15 @@ fn four<R: Abort + Threads + Sync>(
     let (one, _) = join(
         rt,
         move ||
-            requires { IsSync R.row × IsPlain (plan_of table.now) × IsReadySeatAt table.now 0 4 first × IsReadySeatAt table.now 1 0 second }
+            requires { IsSync R.row × IsPlain (plan_of table.now)
+                × IsReadySeatAt table.now 0 4 first
+                × IsReadySeatAt table.now 1 0 second }
             ensures { IsReadySeatAt table.entry.now 0 4 result }
         { two(rt, table, first, second, 0, 4, apart).0 },
         move ||
-            requires { IsSync R.row × IsPlain (plan_of table.now) × IsReadySeatAt table.now 2 0 third × IsReadySeatAt table.now 3 0 fourth }
+            requires { IsSync R.row × IsPlain (plan_of table.now)
+                × IsReadySeatAt table.now 2 0 third
+                × IsReadySeatAt table.now 3 0 fourth }
             ensures { IsReadySeatAt table.entry.now 2 0 result }
         { two(rt, table, third, fourth, 2, 0, apart).0 },
     );
@@ -206,8 +213,8 @@ fn four_threads_hit_four_keys(rt: HostRuntime) -> Result<(), AllocError> {
     four_threads(&rt, rt.alloc(), true)
 }
 
-/// A client alone in a shard with so many payload words for each slot inserts an entry that fills its
-/// slot, and hits it.
+/// A client alone in a shard with so many payload words for each slot inserts an entry that fills
+/// its slot, and hits it.
 fn fills_and_hits(rt: &impl Abort, alloc: Global, room: u32) -> Result<(), AllocError>
     requires room { (1 ≤ room) × (room ≤ 512) }
 {

@@ -1,11 +1,12 @@
-//! One of several clients at a shard. Between the calls of a mate its client has nothing in hand and
-//! holds no reference.
+//! One of several clients at a shard. Between the calls of a mate its client has nothing in hand
+//! and holds no reference.
 ghost use Rattle.std.specs.Prelude.{◌≡◌, ◌+◌, ◌*◌, ◌<◌, ◌≤◌, [], IfOk, length};
 ghost use Rattle.hcc_core.specs.declared.limits.TheConstants.{MOST_CLIENTS, STAMPS_PER_CLIENT};
 ghost use Rattle.hcc_core.specs.declared.client.Place.TheVariants.{Granted};
 ghost use Rattle.hcc_core.specs.Opening.{new_client};
 ghost use Rattle.hcc_rule.specs.Callers.{plan_of, IsSeatAt, AreSeatsAt};
-ghost use Rattle.hcc_rule.specs.Hands.{Carries, IsReady, IsReadySeatAt};
+ghost use Rattle.hcc_rule.specs.Work.{Carries};
+ghost use Rattle.hcc_rule.specs.Benches.{IsReady, IsReadySeatAt};
 ghost use Rattle.hcc_rule.specs.Seats.{view};
 ghost use Rattle.hcc_table.specs.Mates.{IsLax, IsPlain};
 
@@ -89,7 +90,8 @@ impl Mate<'_> {
     pub(super) fn word(&mut self, slot: u32) -> u64
         requires ready { IsReady (view self.old.seat) }
         requires slot { slot < 16 }
-        ensures same { (self.new.table ≡ self.old.table) × (self.new.client ≡ self.old.client) × (self.new.shown ≡ self.old.shown) }
+        ensures same { (self.new.table ≡ self.old.table) × (self.new.client ≡ self.old.client)
+            × (self.new.shown ≡ self.old.shown) }
         ensures ready { IsReady (view self.new.seat) }
     {
         word(self.table, &mut self.seat, slot)
@@ -98,8 +100,10 @@ impl Mate<'_> {
     /// Asks for a place and a charge of 1.
     fn reserve(&mut self, rt: &impl Abort)
         requires ready { IsReady (view self.old.seat) }
-        ensures same { (self.new.table ≡ self.old.table) × (self.new.client ≡ self.old.client) × (self.new.shown ≡ self.old.shown) }
-        ensures holds { Carries (record new_client { place = Granted; granted = 1 }) [] (view self.new.seat) }
+        ensures same { (self.new.table ≡ self.old.table) × (self.new.client ≡ self.old.client)
+            × (self.new.shown ≡ self.old.shown) }
+        ensures holds { Carries (record new_client { place = Granted; granted = 1 }) []
+            (view self.new.seat) }
     {
         let occupancy = self.table.enter(&mut self.seat);
         assert!(rt; occupancy < LIMIT, "the shard is full");
@@ -112,7 +116,8 @@ impl Mate<'_> {
         requires client { self.old.client < MOST_CLIENTS }
         requires shown { self.old.shown < STAMPS_PER_CLIENT }
         requires short { length value.now ≤ 8 * (plan_of self.old.table.now).geometry.room }
-        ensures same { (self.new.table ≡ self.old.table) × (self.new.client ≡ self.old.client) × (self.new.shown ≡ self.old.shown + 1) }
+        ensures same { (self.new.table ≡ self.old.table) × (self.new.client ≡ self.old.client)
+            × (self.new.shown ≡ self.old.shown + 1) }
         ensures ready { IsReady (view self.new.seat) }
     {
         self.reserve(rt);
@@ -141,8 +146,42 @@ impl Mate<'_> {
         }
     }
 
-    /// Finds the key's entry, reads its value into a buffer, and gives the reference back without use.
-    /// It answers the slot and how long the value is.
+    /// Tries to insert an entry of charge 1 and countdown 2 whose key has one.
+    pub(super) fn insert_twin(&mut self, rt: &impl Abort, key: Key, value: &[u8])
+        requires ready { IsReady (view self.old.seat) }
+        requires client { self.old.client < MOST_CLIENTS }
+        requires shown { self.old.shown < STAMPS_PER_CLIENT }
+        requires short { length value.now ≤ 8 * (plan_of self.old.table.now).geometry.room }
+        ensures same { (self.new.table ≡ self.old.table) × (self.new.client ≡ self.old.client)
+            × (self.new.shown ≡ self.old.shown) }
+        ensures ready { IsReady (view self.new.seat) }
+    {
+        self.reserve(rt);
+        let draft = Draft {
+            key,
+            charge: 1,
+            serial: self.shown,
+            countdown: 2,
+            name: None,
+        };
+        let insertion = insert(
+            self.table,
+            &mut self.seat,
+            draft,
+            value,
+            self.client,
+            NAME,
+            &mut self.effort,
+        );
+        let Insertion::Matched = insertion else {
+            panic!(rt; "the key has two entries")
+        };
+        self.table.waive(&mut self.seat, 1);
+        self.table.quit(&mut self.seat, 1);
+    }
+
+    /// Finds the key's entry, reads its value into a buffer, and gives the reference back without
+    /// use. It answers the slot and how long the value is.
     pub(super) fn read(&mut self, rt: &impl Abort, key: Key, buffer: &mut [u8]) -> (u32, usize)
         requires ready { IsReady (view self.old.seat) }
         requires space { 8 * (plan_of self.old.table.now).geometry.room ≤ length buffer.old }

@@ -1,8 +1,9 @@
-//! The words that stand after calls. A meta word is `acquires + releases·2^30 + hit·2^60 + state·2^61`.
+//! The words that stand after calls. A meta word is `acquires + releases·2^30 + hit·2^60 +
+//! state·2^61`.
 use super::caller::NAME;
 use super::held::UNREAD;
 use super::hired::{bench, hired};
-use crate::{ClockVisit, Erased, IfLast, Insertion, Pin, Use};
+use crate::{ClockVisit, Effort, Erased, IfLast, Insertion, Pin, Use};
 use hcc_rule::Key;
 use hcc_word::refs;
 use std::alloc::AllocError;
@@ -43,8 +44,8 @@ const COUNTDOWNS: [(u32, u64, u64); 3] = [
     (3, 0xe000_0000_c000_0003, 0xe000_0000_8000_0003),
 ];
 
-/// A new entry's uses are its countdown, less one where its maker keeps a handle, until that is given
-/// back as a use. Whoever takes the entry frees its slot.
+/// A new entry's uses are its countdown, less one where its maker keeps a handle, until that is
+/// given back as a use. Whoever takes the entry frees its slot.
 #[test]
 fn a_new_word_tells_the_countdown(rt: HostRuntime) -> Result<(), AllocError> {
     let (table, mut seats) = bench(rt.alloc())?;
@@ -112,8 +113,8 @@ fn a_find_is_a_use_where_its_give_is_useful(rt: HostRuntime) -> Result<(), Alloc
     Ok(())
 }
 
-/// A key's trail is counted while its entry stands. Another key of the same places is not found, and
-/// nothing is changed by that.
+/// A key's trail is counted while its entry stands. Another key of the same places is not found,
+/// and nothing is changed by that.
 #[test]
 fn a_displacement_lasts_as_long_as_its_entry(rt: HostRuntime) -> Result<(), AllocError> {
     let (table, mut seats) = bench(rt.alloc())?;
@@ -133,7 +134,8 @@ fn a_displacement_lasts_as_long_as_its_entry(rt: HostRuntime) -> Result<(), Allo
     Ok(())
 }
 
-/// Trails of several keys meet in one slot, and one is taken back.
+/// Trails of several keys meet in one slot, and one is taken back. The three insertions probe one
+/// slot, two and two, and hiding the second key two.
 #[test]
 fn a_slot_counts_each_trail(rt: HostRuntime) -> Result<(), AllocError> {
     let (table, mut seats) = bench(rt.alloc())?;
@@ -150,6 +152,12 @@ fn a_slot_counts_each_trail(rt: HostRuntime) -> Result<(), AllocError> {
     }
     assert_eq!(rt; me.hide(SECOND), GONE);
     assert_eq!(rt; me.displacement(1), 1);
+    let took = Effort {
+        probes: 7,
+        corrections: 0,
+        lost: 0,
+    };
+    assert_eq!(rt; me.effort, took);
     Ok(())
 }
 
@@ -199,16 +207,78 @@ fn a_hidden_entry_and_its_successor_are_both_read(rt: HostRuntime) -> Result<(),
     Ok(())
 }
 
-/// A hidden entry is freed with its last handle.
+/// A hidden entry is freed with its last handle, whether that was of use or not.
 #[test]
 fn a_hidden_entry_goes_with_its_last_handle(rt: HostRuntime) -> Result<(), AllocError> {
     let (table, mut seats) = bench(rt.alloc())?;
     let mut me = hired(&rt, &table, &mut seats);
-    let kept = me.keep(&rt, FIRST, 200, 2, &[]);
-    assert_eq!(rt; me.hide_held(&rt, kept, FIRST), HIDDEN);
-    assert!(rt; me.misses_held(kept, FIRST));
-    assert_eq!(rt; me.release(kept, Use::Useful, IfLast::Keep), Some(200));
+    for usage in [Use::Useful, Use::NotUseful] {
+        let kept = me.keep(&rt, FIRST, 200, 2, &[]);
+        assert_eq!(rt; me.hide_held(&rt, kept, FIRST), HIDDEN);
+        assert!(rt; me.misses_held(kept, FIRST));
+        assert_eq!(rt; me.release(kept, usage, IfLast::Keep), Some(200));
+        assert_eq!(rt; me.word(1), 0);
+        assert_eq!(rt; me.totals(), [0, 0]);
+    }
+    Ok(())
+}
+
+/// An entry at countdown 0 that nobody holds is found, and is hidden and freed.
+#[test]
+fn an_entry_at_countdown_0_is_found_and_hidden(rt: HostRuntime) -> Result<(), AllocError> {
+    let (table, mut seats) = bench(rt.alloc())?;
+    let mut me = hired(&rt, &table, &mut seats);
+    let placed = me.insert(&rt, FIRST, 10, 1, &[]);
+    assert_eq!(rt; placed, Insertion::Placed { slot: 1 });
+    assert_eq!(rt; me.visit(1), ClockVisit::Counted);
+    assert_eq!(rt; me.word(1), 0xe000_0000_0000_0000);
+    let found = me.find(FIRST, true).expect(&rt, "the entry is not found");
+    assert_eq!(rt; me.word_held(found), 0xf000_0000_0000_0001);
+    assert_eq!(rt; me.release(found, Use::NotUseful, IfLast::Keep), None);
+    assert_eq!(rt; me.word(1), 0xf000_0000_0000_0000);
+    assert_eq!(rt; me.hide(FIRST), GONE);
     assert_eq!(rt; me.word(1), 0);
+    assert_eq!(rt; me.totals(), [0, 0]);
+    Ok(())
+}
+
+/// No second entry of a key is placed while the first is held, and the clock's load finds it
+/// pinned.
+#[test]
+fn a_held_entry_is_matched(rt: HostRuntime) -> Result<(), AllocError> {
+    let (table, mut seats) = bench(rt.alloc())?;
+    let mut me = hired(&rt, &table, &mut seats);
+    let kept = me.keep(&rt, FIRST, 200, 1, &[]);
+    assert_eq!(rt; me.insert_held(&rt, kept, FIRST, 200), Insertion::Matched);
+    assert_eq!(rt; me.word_held(kept), 0xe000_0000_8000_0003);
+    assert_eq!(rt; me.release(kept, Use::NotUseful, IfLast::Keep), None);
+    assert_eq!(rt; me.totals(), [200, 1]);
+    Ok(())
+}
+
+/// A reference near the end of the counters doesn't count, and they are taken back once. It is
+/// given back and not released, and frees the entry where that is asked for. The countdown of 2 and
+/// 3·178,956,972 uses are 2^29 + 6.
+#[test]
+fn a_worn_entry_is_corrected_and_erased(rt: HostRuntime) -> Result<(), AllocError> {
+    let (table, mut seats) = bench(rt.alloc())?;
+    let mut me = hired(&rt, &table, &mut seats);
+    let placed = me.insert(&rt, FIRST, 200, 2, &[]);
+    assert_eq!(rt; placed, Insertion::Placed { slot: 1 });
+    me.wear(&rt, 1, 178_956_972);
+    assert_eq!(rt; me.word(1), 0xe800_0001_a000_0006);
+    let found = me.find(FIRST, false).expect(&rt, "the entry is not found");
+    assert!(rt; !found.counting);
+    assert_eq!(rt; me.word_held(found), 0xe000_0001_8000_0007);
+    let took = Effort {
+        probes: 2,
+        corrections: 1,
+        lost: 0,
+    };
+    assert_eq!(rt; me.effort, took);
+    assert_eq!(rt; me.release(found, Use::Useful, IfLast::Erase), Some(200));
+    assert_eq!(rt; me.word(1), 0);
+    assert_eq!(rt; me.effort, took);
     assert_eq!(rt; me.totals(), [0, 0]);
     Ok(())
 }

@@ -2,7 +2,7 @@
 ghost use Rattle.std.specs.Prelude.{◌≡◌, ◌<◌, ◌≤◌};
 ghost use Rattle.std.specs.Thread.{IsSync};
 ghost use Rattle.hcc_rule.specs.Callers.{plan_of, IsSeatAt};
-ghost use Rattle.hcc_rule.specs.Hands.{IsReadySeatAt};
+ghost use Rattle.hcc_rule.specs.Benches.{IsReadySeatAt};
 ghost use Rattle.hcc_table.specs.Mates.{IsPlain};
 
 use super::AnyBytes;
@@ -13,8 +13,8 @@ use std::alloc::AllocError;
 use std::process::Abort;
 use std::thread::{Threads, join};
 
-/// The word of a slot whose entry has a countdown of 2 and no reference.
-const SHOWN: u64 = 0xe000_0000_8000_0002;
+/// The word of a slot whose entry has a countdown of 2 and no reference, and was used twice.
+const USED: u64 = 0xe000_0001_0000_0004;
 
 /// Keys whose first place is the slot of that number, in a shard of 16 slots.
 fn key(number: u8) -> Key {
@@ -103,11 +103,13 @@ fn both_place<R: Abort + Threads + Sync>(
     join(
         rt,
         move ||
-            requires { IsSync R.row × IsPlain (plan_of table.now) × IsReadySeatAt table.now 0 0 first }
+            requires { IsSync R.row × IsPlain (plan_of table.now)
+                × IsReadySeatAt table.now 0 0 first }
             ensures { IsReadySeatAt table.entry.now 0 4 result }
         { places(rt, table, first, 0, 0) },
         move ||
-            requires { IsSync R.row × IsPlain (plan_of table.now) × IsReadySeatAt table.now 1 0 second }
+            requires { IsSync R.row × IsPlain (plan_of table.now)
+                × IsReadySeatAt table.now 1 0 second }
             ensures { IsReadySeatAt table.entry.now 1 4 result }
         { places(rt, table, second, 1, 4) },
     )
@@ -129,13 +131,68 @@ fn both_find<R: Abort + Threads + Sync>(
     join(
         rt,
         move ||
-            requires { IsSync R.row × IsPlain (plan_of table.now) × IsReadySeatAt table.now 0 4 first }
+            requires { IsSync R.row × IsPlain (plan_of table.now)
+                × IsReadySeatAt table.now 0 4 first }
             ensures { IsReadySeatAt table.entry.now 0 4 result }
         { finds(rt, table, first, 0) },
         move ||
-            requires { IsSync R.row × IsPlain (plan_of table.now) × IsReadySeatAt table.now 1 4 second }
+            requires { IsSync R.row × IsPlain (plan_of table.now)
+                × IsReadySeatAt table.now 1 4 second }
             ensures { IsReadySeatAt table.entry.now 1 4 result }
         { finds(rt, table, second, 1) },
+    )
+}
+
+/// Tries to insert second entries of all eight keys.
+fn meets(
+    rt: &impl Abort,
+    table: &Shard,
+    seat: RuleSeat<AnyBytes>,
+    client: u32,
+) -> RuleSeat<AnyBytes>
+    requires plain { IsPlain (plan_of table.now) }
+    requires client { client < 1024 }
+    requires ready { IsReadySeatAt table.now client 4 seat }
+    ensures ready { IsReadySeatAt table.now client 4 result }
+{
+    let mut me = Mate {
+        table,
+        seat,
+        client,
+        shown: 4,
+        effort: Effort::NONE,
+    };
+    for number in 0..8 {
+        me.insert_twin(rt, key(number), &[number]);
+    }
+    me.seat
+}
+
+/// Client 0 finds and holds the entries while client 1 tries to insert others of their keys.
+fn one_finds_and_one_meets<R: Abort + Threads + Sync>(
+    rt: &R,
+    table: &Shard,
+    first: RuleSeat<AnyBytes>,
+    second: RuleSeat<AnyBytes>,
+) -> (RuleSeat<AnyBytes>, RuleSeat<AnyBytes>)
+    requires plain { IsPlain (plan_of table.now) }
+    requires first { IsReadySeatAt table.now 0 4 first }
+    requires second { IsReadySeatAt table.now 1 4 second }
+    ensures first { IsReadySeatAt table.now 0 4 result.0 }
+    ensures second { IsReadySeatAt table.now 1 4 result.1 }
+{
+    join(
+        rt,
+        move ||
+            requires { IsSync R.row × IsPlain (plan_of table.now)
+                × IsReadySeatAt table.now 0 4 first }
+            ensures { IsReadySeatAt table.entry.now 0 4 result }
+        { finds(rt, table, first, 0) },
+        move ||
+            requires { IsSync R.row × IsPlain (plan_of table.now)
+                × IsReadySeatAt table.now 1 4 second }
+            ensures { IsReadySeatAt table.entry.now 1 4 result }
+        { meets(rt, table, second, 1) },
     )
 }
 
@@ -153,8 +210,10 @@ fn end_both(
     first
 }
 
-/// The two clients place eight entries at once, each in its key's first place, and both find all of them
-/// at once. No reference is a use, so each word is as it was when its entry was shown.
+/// The two clients place eight entries at once, each at its key's first probe, and both find all of
+/// them at once. Then one finds them and the other one, whose every insertion of a second entry is
+/// answered by the first one, uses each twice. No other reference is a use, so that is what the
+/// words tell.
 #[test]
 fn two_threads_place_and_find_entries(rt: HostRuntime) -> Result<(), AllocError> {
     let (table, mut seats) = shard(rt.alloc(), 2, 1)?;
@@ -162,10 +221,11 @@ fn two_threads_place_and_find_entries(rt: HostRuntime) -> Result<(), AllocError>
     let first = seated(&rt, &table, &mut seats);
     let (first, second) = both_place(&rt, &table, first, second);
     let (first, second) = both_find(&rt, &table, first, second);
+    let (first, second) = one_finds_and_one_meets(&rt, &table, first, second);
     let last = end_both(&table, first, second);
     let closed = table.close(last);
     for slot in 0..16 {
-        let want = if slot < 8 { SHOWN } else { 0 };
+        let want = if slot < 8 { USED } else { 0 };
         assert_eq!(rt; closed.meta(slot), want, "the word of slot {slot}");
         assert_eq!(rt;
             closed.displacement(slot),

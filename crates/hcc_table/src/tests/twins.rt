@@ -1,9 +1,10 @@
-//! What a caller does that holds two handles: on an entry that is hidden, and on another of its key.
+//! What a caller does that holds two handles: on an entry that is hidden, and on another of its
+//! key.
 ghost use Rattle.std.specs.Prelude.{◌≡◌, ◌<◌, ◌≤◌, [], ◌∷◌, length};
 ghost use Rattle.hcc_core.specs.declared.client.Place.TheVariants.{Granted};
 ghost use Rattle.hcc_core.specs.Opening.{new_client};
 ghost use Rattle.hcc_rule.specs.declared.view.Record.{Record};
-ghost use Rattle.hcc_rule.specs.Hands.{Carries};
+ghost use Rattle.hcc_rule.specs.Work.{Carries};
 ghost use Rattle.hcc_rule.specs.Seats.{view};
 ghost use Rattle.hcc_table.specs.Handles.{HoldsOne, HoldsTwo, IsHandle};
 
@@ -54,11 +55,47 @@ impl Caller<'_> {
         requires holds { HoldsOne found (view self.old.seat) }
         ensures same { (self.new.table ≡ self.old.table) × (self.new.shown ≡ self.old.shown) }
         ensures reserved { (r : Record) × IsHandle found r
-            × Carries (record new_client { place = Granted; granted = charge }) (r ∷ []) (view self.new.seat) }
+            × Carries (record new_client { place = Granted; granted = charge }) (r ∷ [])
+            (view self.new.seat) }
     {
         let occupancy = self.table.enter(&mut self.seat);
         assert!(rt; occupancy < LIMIT, "the table is full");
         self.table.charge(&mut self.seat, charge);
+    }
+
+    /// Tries to insert another entry, of countdown 2, while the handle is held.
+    pub(super) fn insert_held(
+        &mut self,
+        rt: &impl Abort,
+        found: Pin,
+        key: Key,
+        charge: u32,
+    ) -> Insertion
+        requires pin { found.name ≡ NAME }
+        requires holds { HoldsOne found (view self.old.seat) }
+        requires charge { 0 < charge }
+        ensures same { self.new.table ≡ self.old.table }
+        ensures holds { HoldsOne found (view self.new.seat) }
+    {
+        assert!(rt; self.shown < 100, "too many entries");
+        let draft = self.draft(key, charge, 2, None);
+        self.reserve_held(rt, found, charge);
+        let insertion = insert(
+            self.table,
+            &mut self.seat,
+            draft,
+            &[],
+            0,
+            OTHER,
+            &mut self.effort,
+        );
+        if let Insertion::Placed { .. } = insertion {
+            self.shown += 1;
+            return insertion;
+        }
+        self.table.waive(&mut self.seat, charge as u64);
+        self.table.quit(&mut self.seat, 1);
+        insertion
     }
 
     /// Inserts another entry, and keeps a second handle.

@@ -1,4 +1,4 @@
-use Rattle.hcc_rule.proofs.Limits.{real_limit, usage_real, usage_limit, places_limit, occupancy_limit, standing_limit}
+use Rattle.hcc_rule.proofs.Limits.LedgerLimits.{real_limit, usage_real, usage_limit, places_limit, occupancy_limit, standing_limit}
 use Rattle.hcc_rule.proofs.laws.law_ledgers.Goals as goal
 
 pub returns-clause-usage : goal.returns-clause-usage

@@ -1,4 +1,4 @@
-use Rattle.hcc_rule.proofs.SlotLimits.{references_are, words_of_records}
+use Rattle.hcc_rule.proofs.Limits.SlotLimits.{references_are, words_of_records}
 use Rattle.hcc_rule.proofs.laws.law_slots.Goals as goal
 
 pub returns-clause-displacement : goal.returns-clause-displacement

@@ -1,4 +1,4 @@
-use Rattle.std.proofs.Common.{◌≡◌, ◌+◌, ◌*◌, ◌<◌, ◌≤◌, sym, arith}
+use Rattle.std.proofs.Common.{◌≡◌, ◌+◌, ◌<◌, sym, arith}
 use Rattle.hcc_table.specs.Efforts.{Took}
 use Rattle.hcc_table.proofs.Rises.{took_none, took_next, took_within}
 use Rattle.hcc_table.proofs.InsertsTries.{tries_first, probed_room, tries_placed, tries_matched, tries_last, tries_next}
@@ -12,7 +12,6 @@ loop-slot-init g c =
       tries_first table.geometry.slots c.args.draft c.args.value.now table.limits.power c.begin-walk.result
           c.args.seat.now told.probe told.stride (rw (← size) told.mask) c.requires.trail,
       took_none c.args.effort.now,
-      omega arith,
     )
 
 pub returns-in-Placed-clause-view : goal.returns-in-Placed-clause-view
@@ -65,8 +64,6 @@ loop-slot-preserved g c =
           told.0 told.2 c.pass.new.seat c.next-walk.result (omega arith) told.1 c.pass.ensures.seat
           c.pass.ensures.view next.probe next.stride next.mask,
       visited,
-      (let so_far = c.loop-slot.invariant.2 in let tried = c.in-NoSlot.ensures.steps in let one = c.pass.ensures.step.1.one in
-          omega arith),
     )
   where
     visited : Took (c.loop-slot.passed + 1) (c.loop-slot.passed + 1) (c.loop-slot.passed + 1)
@@ -109,53 +106,3 @@ returns-then-passed-slots-clause-effort g c =
     (took_next c.loop-slot.passed c.loop-slot.passed 1 (c.loop-slot.passed + 1) c.args.effort.now
     c.loop-slot.effort c.probe.new.self c.insert_at.new.effort c.loop-slot.invariant.1 probe.probes
     probe.corrections probe.lost c.insert_at.ensures.effort (omega arith))
-
-pub returns-in-Placed-clause-steps : goal.returns-in-Placed-clause-steps
-returns-in-Placed-clause-steps g c =
-    let probe = c.probe.ensures in
-    let inside = c.loop-slot.invariant.0.inside in
-    let so_far = c.loop-slot.invariant.2 in
-    let tried = c.in-Placed.ensures.steps in
-    record {
-      visited = c.loop-slot.passed + 1;
-      within = omega arith;
-      counted = (took_next c.loop-slot.passed c.loop-slot.passed 1 (c.loop-slot.passed + 1)
-          c.args.effort.now c.loop-slot.effort c.probe.new.self c.insert_at.new.effort
-          c.loop-slot.invariant.1 probe.probes probe.corrections probe.lost
-          c.insert_at.ensures.effort (omega arith)).0;
-      steps = omega arith;
-    }
-
-pub returns-in-Matched-clause-steps : goal.returns-in-Matched-clause-steps
-returns-in-Matched-clause-steps g c =
-    let probe = c.probe.ensures in
-    let inside = c.loop-slot.invariant.0.inside in
-    let so_far = c.loop-slot.invariant.2 in
-    let tried = c.in-Matched.ensures.steps in
-    let back = c.take_back.ensures.steps in
-    record {
-      visited = c.loop-slot.passed + 1;
-      within = omega arith;
-      counted = (took_next c.loop-slot.passed c.loop-slot.passed 1 (c.loop-slot.passed + 1)
-          c.args.effort.now c.loop-slot.effort c.probe.new.self c.insert_at.new.effort
-          c.loop-slot.invariant.1 probe.probes probe.corrections probe.lost
-          c.insert_at.ensures.effort (omega arith)).0;
-      steps = omega arith;
-    }
-
-pub returns-then-passed-slots-clause-steps : goal.returns-then-passed-slots-clause-steps
-returns-then-passed-slots-clause-steps g c =
-    let probe = c.probe.ensures in
-    let inside = c.loop-slot.invariant.0.inside in
-    let so_far = c.loop-slot.invariant.2 in
-    let tried = c.in-NoSlot.ensures.steps in
-    let back = c.take_back-then-passed-slots.ensures.steps in
-    record {
-      visited = c.loop-slot.passed + 1;
-      within = omega arith;
-      counted = (took_next c.loop-slot.passed c.loop-slot.passed 1 (c.loop-slot.passed + 1)
-          c.args.effort.now c.loop-slot.effort c.probe.new.self c.insert_at.new.effort
-          c.loop-slot.invariant.1 probe.probes probe.corrections probe.lost
-          c.insert_at.ensures.effort (omega arith)).0;
-      steps = omega arith;
-    }

@@ -1,5 +1,4 @@
-use Rattle.std.proofs.Common.{◌+◌, ◌-◌, ◌*◌, ◌≤◌}
-use Rattle.hcc_rule.specs.Seats.{made}
+use Rattle.std.proofs.Common.{◌-◌}
 use Rattle.hcc_table.specs.Efforts.{Took}
 use Rattle.hcc_table.proofs.InsertsTries.{IsTrying}
 use Rattle.hcc_table.proofs.inserting.insert.Given as goal
@@ -8,7 +7,6 @@ abbrev pub invariant-loop-slot : goal.invariant-loop-slot
 invariant-loop-slot g l =
     IsTrying l.table.geometry.slots l.draft.key l.passed l.walk l.fn.seat l.seat
     × Took l.passed l.passed l.passed l.fn.effort l.effort
-    × (made l.seat ≤ made l.fn.seat + 7 * l.passed)
 
 abbrev pub decreases-loop-slot : goal.decreases-loop-slot
 decreases-loop-slot g l = l.table.geometry.slots - l.passed

@@ -1,5 +1,10 @@
+use Rattle.std.proofs.Common.{◌*◌}
 use Rattle.hcc_table.proofs.Values.{IsReading}
 use Rattle.hcc_table.proofs.readings.read_bytes.Given as goal
+
+abbrev pub invariant-loop-four : goal.invariant-loop-four
+invariant-loop-four g l =
+    IsReading l.pin.name (4 * l.four) l.fn.seat l.seat l.fn.buffer l.buffer
 
 abbrev pub invariant-loop-index : goal.invariant-loop-index
 invariant-loop-index g l = IsReading l.pin.name l.index l.fn.seat l.seat l.fn.buffer l.buffer

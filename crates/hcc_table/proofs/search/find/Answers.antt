@@ -1,8 +1,8 @@
-use Rattle.std.proofs.Common.{◌≡◌, ◌+◌, ◌*◌, ◌<◌, ◌≤◌, ap, ◌∙◌, arith}
+use Rattle.std.proofs.Common.{◌≡◌, ◌+◌, ◌<◌, ◌≤◌, ap, sym, ◌∙◌, arith}
 use Rattle.hcc_table.specs.Efforts.{Took}
 use Rattle.hcc_table.proofs.Rises.{took_none, took_next, took_within}
 use Rattle.hcc_rule.specs.Views.{record_in}
-use Rattle.hcc_rule.proofs.ProbeLaws.{some_slots}
+use Rattle.hcc_rule.proofs.Probes.ProbeLaws.{some_slots}
 use Rattle.hcc_table.proofs.Finds.{begins, goes_on, ends, ends_all}
 use Rattle.hcc_table.proofs.Probes.{found_stands, found_then}
 use Rattle.hcc_table.proofs.search.find.Goals as goal
@@ -14,7 +14,6 @@ loop-init g c =
       begins c.args.table.now.geometry.slots c.args.key c.args.table.now.limits.power c.begin-walk.result
           c.args.seat.now told.probe told.stride (rw (← size) told.mask),
       took_none c.args.effort.now,
-      omega arith,
     )
 
 pub returns-then-count-eq0-clause-missed : goal.returns-then-count-eq0-clause-missed
@@ -36,7 +35,6 @@ loop-preserved g c =
           c.hold.new.seat c.count.new.seat c.hold.ensures.seat told.seat c.in_default.ensures.missed
           told.view told.held told.within c.next-walk.result next.probe next.stride next.mask,
       visited,
-      (let so_far = c.loop.invariant.2 in let held = c.hold.ensures.steps in let one = told.step.one in omega arith),
     )
   where
     visited : Took (c.loop.counter + 1) (c.loop.counter + 1) (c.loop.counter + 1) c.args.effort.now c.hold.new.effort
@@ -58,7 +56,7 @@ pub mark_if-requires-clause-holds : goal.mark_if-requires-clause-holds
 mark_if-requires-clause-holds g c =
     let found = c.in-Some.ensures.found in
     found_stands g.T.Tag.fits c.args.table.now.geometry.room c.slot-slot.result c.args.name c.args.key
-    c.loop.seat.me.0.known c.hold.new.seat.me.0.known found.0
+    c.loop.seat.me.0 c.hold.new.seat.me.0 found.0
     (ap (record_in c.args.name) c.loop.invariant.0.sought.records ∙ c.requires.fresh) found.1
 
 pub returns-in-Some-clause-found : goal.returns-in-Some-clause-found
@@ -66,9 +64,9 @@ returns-in-Some-clause-found g c =
     let found = c.in-Some.ensures.found in (
       found.0,
       found_then g.T.Tag.fits c.args.table.now.geometry.room c.slot-slot.result c.args.name c.args.key
-          c.args.seat.now.me.0.known c.loop.seat.me.0.known c.hold.new.seat.me.0.known c.mark_if.new.seat.me.0.known found.0
+          c.args.seat.now.me.0 c.loop.seat.me.0 c.hold.new.seat.me.0 c.mark_if.new.seat.me.0 found.0
           c.loop.invariant.0.sought found.1 c.mark_if.ensures.view,
-      found.2,
+      found.2 ∙ sym c.counts.ensures,
     )
 
 pub returns-in-Some-clause-effort : goal.returns-in-Some-clause-effort
@@ -104,37 +102,3 @@ returns-clause-effort g c =
     let some : 0 < slots = some_slots slots c.args.table.now.limits.power in
     took_within c.loop.counter c.loop.counter 1 slots slots c.args.effort.now c.loop.effort
     (omega arith) (omega arith) (omega arith) c.loop.invariant.1
-
-pub returns-in-Some-clause-steps : goal.returns-in-Some-clause-steps
-returns-in-Some-clause-steps g c =
-    let probe = c.probe.ensures in
-    let size = c.geometry-slots.ensures in
-    let low : c.loop.counter < c.args.table.now.geometry.slots = rw (← size) c.loop-test.true in
-    let so_far = c.loop.invariant.2 in
-    let held = c.hold.ensures.steps in
-    let last = c.mark_if.ensures.steps in
-    record {
-      visited = c.loop.counter + 1;
-      within = omega arith;
-      counted = (took_next c.loop.counter c.loop.counter 1 (c.loop.counter + 1) c.args.effort.now
-          c.loop.effort c.probe.new.self c.hold.new.effort c.loop.invariant.1 probe.probes
-          probe.corrections probe.lost c.hold.ensures.effort (omega arith)).0;
-      steps = omega arith;
-    }
-
-pub returns-then-count-eq0-clause-steps : goal.returns-then-count-eq0-clause-steps
-returns-then-count-eq0-clause-steps g c =
-    let probe = c.probe.ensures in
-    let size = c.geometry-slots.ensures in
-    let low : c.loop.counter < c.args.table.now.geometry.slots = rw (← size) c.loop-test.true in
-    let so_far = c.loop.invariant.2 in
-    let held = c.hold.ensures.steps in
-    let last = c.count.ensures.step.one in
-    record {
-      visited = c.loop.counter + 1;
-      within = omega arith;
-      counted = (took_next c.loop.counter c.loop.counter 1 (c.loop.counter + 1) c.args.effort.now
-          c.loop.effort c.probe.new.self c.hold.new.effort c.loop.invariant.1 probe.probes
-          probe.corrections probe.lost c.hold.ensures.effort (omega arith)).0;
-      steps = omega arith;
-    }

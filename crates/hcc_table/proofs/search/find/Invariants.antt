@@ -1,5 +1,3 @@
-use Rattle.std.proofs.Common.{◌+◌, ◌*◌, ◌≤◌}
-use Rattle.hcc_rule.specs.Seats.{made}
 use Rattle.hcc_table.specs.Efforts.{Took}
 use Rattle.hcc_table.proofs.Finds.{IsSearching}
 use Rattle.hcc_table.proofs.search.find.Given as goal
@@ -8,4 +6,3 @@ abbrev pub invariant-loop : goal.invariant-loop
 invariant-loop g l =
     IsSearching l.table.geometry.slots l.key l.counter l.walk l.fn.seat l.seat
     × Took l.counter l.counter l.counter l.fn.effort l.effort
-    × (made l.seat ≤ made l.fn.seat + 7 * l.counter)

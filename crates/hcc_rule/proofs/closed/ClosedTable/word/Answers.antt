@@ -1,5 +1,5 @@
 use Rattle.std.proofs.Common.{sym}
-use Rattle.hcc_rule.proofs.Closings.{word_read}
+use Rattle.hcc_rule.proofs.LastSeat.Closings.{word_read}
 use Rattle.hcc_rule.proofs.closed.ClosedTable.word.Goals as goal
 
 pub returns : goal.returns

@@ -1,7 +1,8 @@
+use Rattle.hcc_rule.specs.ToldReferences.{acquires}
 use Rattle.hcc_rule.proofs.table.RuleTable.acquire.Given as goal
 
-abbrev pub ghosts-acquire_as-J-Said : goal.ghosts-acquire_as-J-Said
-ghosts-acquire_as-J-Said g a = record { slot = a.slot; name = a.name; index = 0 }
-
-abbrev pub ghosts-acquire_as-J-Room : goal.ghosts-acquire_as-J-Room
-ghosts-acquire_as-J-Room g a = record { room = a.self.now.geometry.room }
+abbrev pub ghosts-fetch_add : goal.ghosts-fetch_add
+ghosts-fetch_add g a = record {
+  then = acquires g.T.Tag.fits a.self.now.geometry.room a._said.0
+      a._said.1;
+}

@@ -1,4 +1,5 @@
+use Rattle.hcc_rule.specs.ToldReferences.{clocks}
 use Rattle.hcc_rule.proofs.table.RuleTable.clock.Given as goal
 
-abbrev pub ghosts-clock_as : goal.ghosts-clock_as
-ghosts-clock_as g a = record { slot = a.slot; name = 0; index = 0 }
+abbrev pub ghosts-compare_exchange : goal.ghosts-compare_exchange
+ghosts-compare_exchange g a = record { then = clocks a._said }

@@ -1,4 +1,5 @@
+use Rattle.hcc_rule.specs.ToldReferences.{corrects}
 use Rattle.hcc_rule.proofs.table.RuleTable.correct.Given as goal
 
-abbrev pub ghosts-correct_as : goal.ghosts-correct_as
-ghosts-correct_as g a = record { slot = a.slot; name = a.name; index = 0 }
+abbrev pub ghosts-compare_exchange : goal.ghosts-compare_exchange
+ghosts-compare_exchange g a = record { then = corrects a._said.0 }

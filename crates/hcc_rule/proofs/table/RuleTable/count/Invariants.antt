@@ -1,8 +1,6 @@
 use Rattle.hcc_rule.specs.Rule.{setup_of}
+use Rattle.hcc_rule.specs.ToldTrails.{counts}
 use Rattle.hcc_rule.proofs.table.RuleTable.count.Given as goal
 
-abbrev pub ghosts-count_as-J-Said : goal.ghosts-count_as-J-Said
-ghosts-count_as-J-Said g a = record { slot = a.slot; name = 0; index = 0 }
-
-abbrev pub ghosts-count_as-J-Planned : goal.ghosts-count_as-J-Planned
-ghosts-count_as-J-Planned g a = record { setup = setup_of a.self.now.table.shared.key }
+abbrev pub ghosts-load : goal.ghosts-load
+ghosts-load g a = record { then = counts (setup_of a.self.now.table.shared.key) a._said }

@@ -1,7 +1,7 @@
 use Rattle.std.proofs.Common.{◌+◌, ap, ◌∙◌}
 use Rattle.hcc_rule.specs.declared.view.View.{View}
 use Rattle.hcc_rule.specs.Opening.{unstarted}
-use Rattle.hcc_rule.proofs.Dealing.{unstarted_from, next_unstarted, deal}
+use Rattle.hcc_rule.proofs.Seats.Dealing.{unstarted_from, next_unstarted, deal}
 use Rattle.hcc_rule.proofs.table.RuleTable.dealt.Goals as goal
 
 pub split-requires-clause-another : goal.split-requires-clause-another

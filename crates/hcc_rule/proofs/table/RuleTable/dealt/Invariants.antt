@@ -1,4 +1,4 @@
-use Rattle.hcc_rule.proofs.Dealing.{Deals}
+use Rattle.hcc_rule.proofs.Seats.Dealing.{Deals}
 use Rattle.hcc_rule.proofs.table.RuleTable.dealt.Given as goal
 
 abbrev pub invariant-loop : goal.invariant-loop

@@ -1,6 +1,5 @@
 use Rattle.std.proofs.Common.{ap, is_some}
-use Rattle.hcc_rule.proofs.Lifts.{lifted_store}
-use Rattle.hcc_rule.proofs.Empties.{empty_step}
+use Rattle.hcc_rule.proofs.Entries.Empties.{empty_step}
 use Rattle.hcc_rule.proofs.table.RuleTable.empty.Goals as goal
 
 pub store-requires : goal.store-requires
@@ -9,8 +8,7 @@ store-requires g c =
     let seat = c.requires.seat in (
       seat.table,
       c.address.ensures.inside,
-      lifted_store g.T.Tag.fits c.args.self.now.table.shared.key 0
-          (empty_step g.T.Tag.fits c.args.self.now.table.shared.key _ _ c.args.slot _ _
+      empty_step g.T.Tag.fits c.args.self.now.table.shared.key _ _ c.args.slot _ _
           (rw planned.0 c.requires.slot) (ap is_some seat.tagged) c.requires.owned c.requires.back
-          (rw planned.0 c.address.ensures.value)),
+          (rw planned.0 c.address.ensures.value),
     )

@@ -1,5 +1,6 @@
 use Rattle.hcc_rule.specs.Rule.{setup_of}
+use Rattle.hcc_rule.specs.ToldLedgers.{enters}
 use Rattle.hcc_rule.proofs.table.RuleTable.enter.Given as goal
 
-abbrev pub ghosts-enter_as : goal.ghosts-enter_as
-ghosts-enter_as g a = record { setup = setup_of a.self.now.table.shared.key }
+abbrev pub ghosts-fetch_add : goal.ghosts-fetch_add
+ghosts-fetch_add g a = record { then = enters (setup_of a.self.now.key) }

@@ -1,4 +1,5 @@
+use Rattle.hcc_rule.specs.ToldLedgers.{falls}
 use Rattle.hcc_rule.proofs.table.RuleTable.fall.Given as goal
 
-abbrev pub ghosts-fall_as : goal.ghosts-fall_as
-ghosts-fall_as g a = record { slot = 0; name = a.name; index = 0 }
+abbrev pub ghosts-fetch_sub : goal.ghosts-fetch_sub
+ghosts-fetch_sub g a = record { then = falls a._said }

@@ -1,4 +1,5 @@
+use Rattle.hcc_rule.specs.ToldReferences.{gives}
 use Rattle.hcc_rule.proofs.table.RuleTable.give.Given as goal
 
-abbrev pub ghosts-give_as : goal.ghosts-give_as
-ghosts-give_as g a = record { slot = a.slot; name = a.name; index = 0 }
+abbrev pub ghosts-fetch_sub : goal.ghosts-fetch_sub
+ghosts-fetch_sub g a = record { then = gives a._said.0 a._said.1 }

@@ -1,4 +1,5 @@
+use Rattle.hcc_rule.specs.ToldReferences.{hides}
 use Rattle.hcc_rule.proofs.table.RuleTable.hide.Given as goal
 
-abbrev pub ghosts-hide_as : goal.ghosts-hide_as
-ghosts-hide_as g a = record { slot = a.slot; name = a.name; index = 0 }
+abbrev pub ghosts-fetch_and : goal.ghosts-fetch_and
+ghosts-fetch_and g a = record { then = hides a._said }

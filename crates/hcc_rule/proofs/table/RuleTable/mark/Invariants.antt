@@ -1,4 +1,5 @@
+use Rattle.hcc_rule.specs.ToldReferences.{marks}
 use Rattle.hcc_rule.proofs.table.RuleTable.mark.Given as goal
 
-abbrev pub ghosts-mark_as : goal.ghosts-mark_as
-ghosts-mark_as g a = record { slot = a.slot; name = a.name; index = 0 }
+abbrev pub ghosts-fetch_or : goal.ghosts-fetch_or
+ghosts-fetch_or g a = record { then = marks a._said }

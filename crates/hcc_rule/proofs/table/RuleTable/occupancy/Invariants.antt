@@ -1,5 +1,6 @@
 use Rattle.hcc_rule.specs.Rule.{setup_of}
+use Rattle.hcc_rule.specs.ToldLedgers.{occupancies}
 use Rattle.hcc_rule.proofs.table.RuleTable.occupancy.Given as goal
 
-abbrev pub ghosts-occupancy_as : goal.ghosts-occupancy_as
-ghosts-occupancy_as g a = record { setup = setup_of a.self.now.table.shared.key }
+abbrev pub ghosts-load : goal.ghosts-load
+ghosts-load g a = record { then = occupancies (setup_of a.self.now.key) }

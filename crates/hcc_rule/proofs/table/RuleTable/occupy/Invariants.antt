@@ -1,4 +1,5 @@
+use Rattle.hcc_rule.specs.ToldOwners.{occupies}
 use Rattle.hcc_rule.proofs.table.RuleTable.occupy.Given as goal
 
-abbrev pub ghosts-occupy_as : goal.ghosts-occupy_as
-ghosts-occupy_as g a = record { slot = a.slot; name = 0; index = 0 }
+abbrev pub ghosts-fetch_or : goal.ghosts-fetch_or
+ghosts-fetch_or g a = record { then = occupies a._said }

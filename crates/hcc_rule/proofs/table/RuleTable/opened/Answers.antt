@@ -1,5 +1,5 @@
 use Rattle.std.proofs.Common.{◌∙◌, arith}
-use Rattle.hcc_rule.proofs.Openings.{opens_rule}
+use Rattle.hcc_rule.proofs.Seats.Openings.{opens_rule}
 use Rattle.hcc_rule.proofs.table.RuleTable.opened.Goals as goal
 
 pub of_words-requires : goal.of_words-requires
@@ -11,4 +11,5 @@ of_words-requires g c =
       some_client = planned.some_client;
       clients = planned.clients;
       capacity = let low = planned.capacity_low in omega arith;
-    } g.T.Tag.fits _ (c.as_slice.ensures.value ∙ c.in_ok-words.ensures.items_if_clones_equal (λ y h. h))
+    } g.T.Tag.fits _ (c.as_slice.ensures.value
+    ∙ c.in_ok-words.ensures.items_if_clones_equal (λ y h. h))

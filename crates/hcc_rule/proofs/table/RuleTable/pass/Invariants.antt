@@ -1,4 +1,5 @@
+use Rattle.hcc_rule.specs.ToldTrails.{passes}
 use Rattle.hcc_rule.proofs.table.RuleTable.pass.Given as goal
 
-abbrev pub ghosts-pass_as : goal.ghosts-pass_as
-ghosts-pass_as g a = record { slot = a.slot; name = 0; index = 0 }
+abbrev pub ghosts-fetch_add : goal.ghosts-fetch_add
+ghosts-fetch_add g a = record { then = passes a._said }

@@ -1,6 +1,5 @@
 use Rattle.std.proofs.Common.{ap, sym, is_some}
-use Rattle.hcc_rule.proofs.Lifts.{taken, lifted}
-use Rattle.hcc_rule.proofs.OccupancySteps.{quit_step}
+use Rattle.hcc_rule.proofs.Ledgers.OccupancySteps.{quit_step}
 use Rattle.hcc_rule.proofs.table.RuleTable.quit.Goals as goal
 
 pub fetch_sub-requires : goal.fetch_sub-requires
@@ -9,8 +8,7 @@ fetch_sub-requires g c =
     let seat = c.requires.seat in (
       seat.table,
       c.ledger.ensures.inside,
-      lifted g.T.Tag.fits c.args.self.now.table.shared.key (taken c.args.count)
-          (quit_step g.T.Tag.fits c.args.self.now.table.shared.key _ _ _ _
+      quit_step g.T.Tag.fits c.args.self.now.table.shared.key _ _ _ _
           (ap is_some seat.tagged) (rw planned.0 c.ledger.ensures.value)
-          c.args.count (sym c.requires.count) c.requires.placed),
+          c.args.count (sym c.requires.count) c.requires.placed,
     )

@@ -1,4 +1,5 @@
+use Rattle.hcc_rule.specs.ToldOwners.{reads}
 use Rattle.hcc_rule.proofs.table.RuleTable.read_at.Given as goal
 
-abbrev pub ghosts-read_as : goal.ghosts-read_as
-ghosts-read_as g a = record { slot = a.slot; name = a.name; index = a.index }
+abbrev pub ghosts-load : goal.ghosts-load
+ghosts-load g a = record { then = reads a._said.0 a._said.1 }

@@ -1,4 +1,5 @@
+use Rattle.hcc_rule.specs.ToldOwners.{reads_own}
 use Rattle.hcc_rule.proofs.table.RuleTable.read_own.Given as goal
 
-abbrev pub ghosts-read_own_as : goal.ghosts-read_own_as
-ghosts-read_own_as g a = record { slot = a.slot; name = 0; index = a.index }
+abbrev pub ghosts-load : goal.ghosts-load
+ghosts-load g a = record { then = reads_own a._said }

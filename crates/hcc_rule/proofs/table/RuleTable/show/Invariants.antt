@@ -1,5 +1,7 @@
-use Rattle.hcc_rule.specs.ToldOwners.{made_of}
+use Rattle.hcc_rule.specs.ToldOwners.{made_of, shows}
 use Rattle.hcc_rule.proofs.table.RuleTable.show.Given as goal
 
-abbrev pub ghosts-show_as : goal.ghosts-show_as
-ghosts-show_as g a = record { slot = a.slot; name = a.draft.name; made = made_of a.draft a.value.now }
+abbrev pub ghosts-store : goal.ghosts-store
+ghosts-store g a = record {
+  then = shows a._said.0 a._said.1.name (made_of a._said.1 a._said.2.now);
+}

@@ -1,6 +1,5 @@
 use Rattle.std.proofs.Common.{ap, sym, is_some}
-use Rattle.hcc_rule.proofs.Lifts.{taken, lifted}
-use Rattle.hcc_rule.proofs.OccupancySteps.{slots_step}
+use Rattle.hcc_rule.proofs.Ledgers.OccupancySteps.{slots_step}
 use Rattle.hcc_rule.proofs.table.RuleTable.slots.Goals as goal
 
 pub fetch_sub-requires : goal.fetch_sub-requires
@@ -10,8 +9,7 @@ fetch_sub-requires g c =
     let count = c.requires.count in (
       seat.table,
       c.ledger.ensures.inside,
-      lifted g.T.Tag.fits c.args.self.now.table.shared.key (taken c.args.count)
-          (slots_step g.T.Tag.fits c.args.self.now.table.shared.key _ _ _ _
+      slots_step g.T.Tag.fits c.args.self.now.table.shared.key _ _ _ _
           (ap is_some seat.tagged) (rw planned.0 c.ledger.ensures.value)
-          c.args.count (sym count.0) count.1),
+          c.args.count (sym count.0) count.1,
     )

@@ -1,4 +1,5 @@
+use Rattle.hcc_rule.specs.ToldLedgers.{stands}
 use Rattle.hcc_rule.proofs.table.RuleTable.stand.Given as goal
 
-abbrev pub ghosts-stand_as : goal.ghosts-stand_as
-ghosts-stand_as g a = record { slot = 0; name = a.name; index = 0 }
+abbrev pub ghosts-fetch_add : goal.ghosts-fetch_add
+ghosts-fetch_add g a = record { then = stands a._said }

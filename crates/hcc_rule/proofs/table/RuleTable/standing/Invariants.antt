@@ -1,5 +1,6 @@
 use Rattle.hcc_rule.specs.Rule.{setup_of}
+use Rattle.hcc_rule.specs.ToldLedgers.{standings}
 use Rattle.hcc_rule.proofs.table.RuleTable.standing.Given as goal
 
-abbrev pub ghosts-standing_as : goal.ghosts-standing_as
-ghosts-standing_as g a = record { setup = setup_of a.self.now.table.shared.key }
+abbrev pub ghosts-load : goal.ghosts-load
+ghosts-load g a = record { then = standings (setup_of a.self.now.key) }

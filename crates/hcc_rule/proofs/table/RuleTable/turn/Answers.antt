@@ -1,7 +1,5 @@
 use Rattle.std.proofs.Common.{ap, is_some}
-use Rattle.hcc_core.specs.declared.limits.TheConstants.{SLOTS_PER_TURN}
-use Rattle.hcc_rule.proofs.Lifts.{added, lifted}
-use Rattle.hcc_rule.proofs.HandSteps.{turn_step}
+use Rattle.hcc_rule.proofs.Ledgers.HandSteps.{turn_step}
 use Rattle.hcc_rule.proofs.table.RuleTable.turn.Goals as goal
 
 pub fetch_add-requires : goal.fetch_add-requires
@@ -10,7 +8,6 @@ fetch_add-requires g c =
     let seat = c.requires.seat in (
       seat.table,
       c.ledger.ensures.inside,
-      lifted g.T.Tag.fits c.args.self.now.table.shared.key (added SLOTS_PER_TURN)
-          (turn_step g.T.Tag.fits c.args.self.now.table.shared.key _ _ _ _
-          (ap is_some seat.tagged) (rw planned.0 c.ledger.ensures.value)),
+      turn_step g.T.Tag.fits c.args.self.now.table.shared.key _ _ _ _
+          (ap is_some seat.tagged) (rw planned.0 c.ledger.ensures.value),
     )

@@ -1,4 +1,5 @@
+use Rattle.hcc_rule.specs.ToldTrails.{unpasses}
 use Rattle.hcc_rule.proofs.table.RuleTable.unpass.Given as goal
 
-abbrev pub ghosts-unpass_as : goal.ghosts-unpass_as
-ghosts-unpass_as g a = record { slot = a.slot; name = 0; index = 0 }
+abbrev pub ghosts-fetch_sub : goal.ghosts-fetch_sub
+ghosts-fetch_sub g a = record { then = unpasses a._said }

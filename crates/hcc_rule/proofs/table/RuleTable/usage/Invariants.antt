@@ -1,5 +1,6 @@
 use Rattle.hcc_rule.specs.Rule.{setup_of}
+use Rattle.hcc_rule.specs.ToldLedgers.{usages}
 use Rattle.hcc_rule.proofs.table.RuleTable.usage.Given as goal
 
-abbrev pub ghosts-usage_as : goal.ghosts-usage_as
-ghosts-usage_as g a = record { setup = setup_of a.self.now.table.shared.key }
+abbrev pub ghosts-load : goal.ghosts-load
+ghosts-load g a = record { then = usages (setup_of a.self.now.key) }

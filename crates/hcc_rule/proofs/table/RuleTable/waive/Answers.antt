@@ -1,6 +1,5 @@
 use Rattle.std.proofs.Common.{ap, sym, is_some}
-use Rattle.hcc_rule.proofs.Lifts.{taken, lifted}
-use Rattle.hcc_rule.proofs.UsageSteps.{waive_step}
+use Rattle.hcc_rule.proofs.Ledgers.UsageSteps.{waive_step}
 use Rattle.hcc_rule.proofs.table.RuleTable.waive.Goals as goal
 
 pub fetch_sub-requires : goal.fetch_sub-requires
@@ -10,8 +9,7 @@ fetch_sub-requires g c =
     let amount = c.requires.amount in (
       seat.table,
       c.ledger.ensures.inside,
-      lifted g.T.Tag.fits c.args.self.now.table.shared.key (taken c.args.amount)
-          (waive_step g.T.Tag.fits c.args.self.now.table.shared.key _ _ _ _
+      waive_step g.T.Tag.fits c.args.self.now.table.shared.key _ _ _ _
           (ap is_some seat.tagged) (rw planned.0 c.ledger.ensures.value)
-          c.args.amount (sym amount.0) amount.1),
+          c.args.amount (sym amount.0) amount.1,
     )

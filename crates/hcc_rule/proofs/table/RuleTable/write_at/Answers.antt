@@ -1,7 +1,6 @@
 use Rattle.std.proofs.Common.{ap, is_some, sym, ◌∙◌}
-use Rattle.hcc_rule.proofs.Lifts.{lifted_store}
-use Rattle.hcc_rule.proofs.Addresses.{data_field}
-use Rattle.hcc_rule.proofs.Writes.{write_step}
+use Rattle.hcc_rule.proofs.Parts.Addresses.{data_field}
+use Rattle.hcc_rule.proofs.Entries.Writes.{write_step}
 use Rattle.hcc_rule.proofs.table.RuleTable.write_at.Goals as goal
 
 pub store-requires : goal.store-requires
@@ -11,9 +10,9 @@ store-requires g c =
     let next = c.requires.next in (
       seat.table,
       c.data_address.ensures.inside,
-      lifted_store g.T.Tag.fits c.args.self.now.table.shared.key c.args.word
-          (write_step g.T.Tag.fits c.args.self.now.table.shared.key _ _ c.args.slot _ _ _
+      write_step g.T.Tag.fits c.args.self.now.table.shared.key _ _ c.args.slot _ _ _
           (rw planned.0 c.requires.slot) (ap is_some seat.tagged) c.requires.owned
           (rw (planned.0, ← next.0) next.1)
-          (rw (planned.0, ← next.0) (c.data_address.ensures.value ∙ sym (data_field _ c.args.slot c.args.index)))),
+          (rw (planned.0, ← next.0) (c.data_address.ensures.value
+          ∙ sym (data_field _ c.args.slot c.args.index))),
     )

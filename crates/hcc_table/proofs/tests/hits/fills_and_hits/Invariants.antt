@@ -1,5 +1,5 @@
 use Rattle.std.proofs.Common.{◌≡◌}
-use Rattle.hcc_rule.specs.Hands.{IsReady}
+use Rattle.hcc_rule.specs.Benches.{IsReady}
 use Rattle.hcc_rule.specs.Seats.{view}
 use Rattle.hcc_table.proofs.tests.hits.fills_and_hits.Given as goal
 

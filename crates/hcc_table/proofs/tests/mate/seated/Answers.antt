@@ -1,5 +1,5 @@
 use Rattle.std.proofs.Common.{◌≡◌, ◌+◌, length, zero-add}
-use Rattle.hcc_rule.proofs.NewSeats.{popped, new_is_ready}
+use Rattle.hcc_rule.proofs.Seats.NewSeats.{popped, new_is_ready}
 use Rattle.hcc_table.proofs.tests.mate.seated.Goals as goal
 
 pub returns-clause-rest : goal.returns-clause-rest

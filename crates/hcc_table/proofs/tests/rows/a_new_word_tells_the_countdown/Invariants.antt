@@ -1,4 +1,4 @@
-use Rattle.hcc_rule.specs.Hands.{IsReady}
+use Rattle.hcc_rule.specs.Benches.{IsReady}
 use Rattle.hcc_rule.specs.Seats.{view}
 use Rattle.hcc_table.proofs.tests.rows.a_new_word_tells_the_countdown.Given as goal
 

@@ -1,4 +1,4 @@
-use Rattle.hcc_rule.specs.Hands.{IsReady}
+use Rattle.hcc_rule.specs.Benches.{IsReady}
 use Rattle.hcc_rule.specs.Seats.{view}
 use Rattle.hcc_table.proofs.tests.rows.the_clock_counts_down_and_frees.Given as goal
 

@@ -1,6 +1,6 @@
 use Rattle.std.proofs.Common.{rules, ◌≡◌, [], ◌∷◌, Some, refl}
 use Rattle.hcc_rule.specs.ToldReferences.{record_of}
-use Rattle.hcc_rule.proofs.Hands.{taken}
+use Rattle.hcc_rule.proofs.Seats.Hands.{taken}
 use Rattle.hcc_rule.proofs.tests.worker.Worker.erase.Goals as goal
 
 pub taken_charge-charge-requires-clause-took : goal.taken_charge-charge-requires-clause-took

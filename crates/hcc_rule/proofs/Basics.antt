@@ -1,0 +1,5 @@
+pub mod Lists
+pub mod Findings
+pub mod Records
+pub mod Bounds
+pub mod Different

@@ -1,0 +1,160 @@
+-- A load of a data word: nothing changes, and the word is the entry's that is on record, or the one
+-- that the owner of a slot knows there.
+use Rattle.std.proofs.Common.{◌≡◌, ℕ, zero, suc, ◌+◌, ◌<◌, ◌≢◌, ◌==◌, Bool, true, false, cond, List, [], ◌∷◌, Option, Some, None, IfSome, IsSomeAnd, length, slice_get, slice_index, slice_set, sym, refl, ap, ◌∙◌, arith}
+use mathlib.Core.Option.{none}
+use Rattle.atomic_table.specs.Table.{step, Allows, keeps}
+use Rattle.hcc_core.specs.declared.slot.Entry.{Entry}
+use Rattle.hcc_core.specs.declared.slot.Stamp.{Stamp}
+use Rattle.hcc_core.specs.Lawful.{owned_slot}
+use Rattle.hcc_rule.specs.declared.key.Key.{Key}
+use Rattle.hcc_rule.specs.declared.layout.TheConstants.{DATA, KEY1, STAMP}
+use Rattle.hcc_rule.specs.declared.rule.Plan.{Plan}
+use Rattle.hcc_rule.specs.declared.view.Made.{Made}
+use Rattle.hcc_rule.specs.declared.view.Record.{Record}
+use Rattle.hcc_rule.specs.declared.view.View.{View}
+use Rattle.hcc_rule.specs.Told.{Held}
+use Rattle.hcc_rule.specs.ToldOwners.{entry_words, IsDataWord, with_met, after_read, reads, reads_own}
+use Rattle.hcc_rule.specs.Views.{is_seated, is_called, record_in}
+use Rattle.hcc_rule.specs.Words.{field_at, made_words, entry_of}
+use Rattle.hcc_rule.specs.Rule.{entry_in, IsRecorded, IsStored, IsDraft, Holds}
+use Rattle.hcc_rule.proofs.Basics.Lists.{read_at, each_set}
+use Rattle.hcc_rule.proofs.Basics.Findings.{find_each}
+use Rattle.hcc_rule.proofs.Parts.ClientParts.{SameView, references_view, holding_view, seats_still, stamps_still}
+use Rattle.hcc_rule.proofs.Parts.WorldParts.{hand_kept}
+use Rattle.hcc_rule.proofs.Parts.SlotSteps.{Shard}
+use Rattle.hcc_rule.proofs.Parts.Touches.{client_is}
+
+-- a word written over itself
+pub word_same : (words : List ℕ) (a : ℕ) → slice_set words a (slice_index words a) ≡ words
+word_same [] a = refl
+word_same (w ∷ ws) zero = refl
+word_same (w ∷ ws) (suc a) = ap (λ l. w ∷ l) (word_same ws a)
+
+-- the data words of an entry are its maker's, but for the serial
+words_same : (stamp : Stamp) (made : Made) (index : ℕ) → index ≢ STAMP
+    → slice_index (made_words stamp.client made) index
+    ≡ slice_index (entry_words (entry_of stamp made)) index
+words_same stamp made zero other = refl
+words_same stamp made (suc zero) other = refl
+words_same stamp made (suc (suc zero)) other = refl
+words_same stamp made (suc (suc (suc zero))) other = absurd (other refl)
+words_same stamp made (suc (suc (suc (suc k)))) other = refl
+
+module _ {T : Type 0} (fits : T → Key → List ℕ → Type 0) (p : Plan T) where
+  -- A view whose met keys alone change keeps the rule.
+  met_holds : (s : Shard fits p) (r : Holds fits p s) (id : ℕ) (v : View T) (met : List Key)
+      → slice_get s.views id ≡ Some v → is_seated v ≡ true
+      → Holds fits p record {
+        words = s.words;
+        homes = s.homes;
+        views =
+            slice_set s.views id (record v { met = met });
+      }
+  met_holds s r id v met at seated = record {
+    world = r.world;
+    books = r.books;
+    setup = r.setup;
+    lawful = r.lawful;
+    coded = r.coded;
+    stored = r.stored;
+    drafted = each_set (λ j u. IsDraft p.geometry.room s.words u) s.views id new
+        (let old = r.drafted id v at in record { short = old.short; lies = old.lies })
+        (λ j u other there. r.drafted j u there);
+    references = references_view r.world.slots s.views id v new r.references at same;
+    holding = holding_view r.world.slots s.views id v new r.holding at same;
+    seats = seats_still p.tag r.world.clients r.books s.views id v new r.seats at seated same refl;
+    stamps =
+        stamps_still fits p.tag p.geometry.room r.world.slots r.world.clients r.books s.views id v
+        new
+        r.stamps at (client_is fits p s r id v at seated) same refl;
+    ledgers = r.ledgers;
+    trails = r.trails;
+    turned = r.turned;
+    turns = r.turns ∙ hand_kept s.views id v new at refl;
+  }
+    where
+      new : View T
+      new = record v { met = met }
+
+      same : SameView v new
+      same = record {
+        tag = refl;
+        client = refl;
+        others = refl;
+        records = refl;
+        made =
+            refl;
+        takings = refl;
+      }
+
+  -- The word that stands for an entry on record.
+  pub data_word : (s : Shard fits p) (r : Holds fits p s) (id i index : ℕ) (v : View T) (q : Record)
+      → slice_get s.views id ≡ Some v → IsRecorded r.world.slots q → q.slot ≡ i
+      → IsDataWord q.entry index (slice_index s.words (field_at p.geometry.room i DATA + index))
+  data_word s r id i index v q at recorded on other low =
+      let there : entry_in (slice_get r.world.slots i) ≡ Some q.entry =
+      ap (λ j. entry_in (slice_get r.world.slots j)) (sym on) ∙ recorded.there in
+      by q.entry (r.stored i q.entry there) low
+    where
+      by : (e : Entry) → IsStored p.geometry.room s.words r.books i e
+          → index < length (entry_words e)
+          → slice_index s.words (field_at p.geometry.room i DATA + index)
+          ≡ slice_index (entry_words e) index
+      by e stored low =
+          let long : length (entry_words e) ≡ length (made_words e.stamp.client stored.made) =
+          ap (λ (z : Entry). length (entry_words z)) stored.same in
+          stored.lies index (omega arith)
+          ∙ (words_same e.stamp stored.made index other
+          ∙ ap (λ (z : Entry). slice_index (entry_words z) index) (sym stored.same))
+
+  -- A load of a data word by a record keeps the rule, and tells the entry's word.
+  pub read_step : (count id i x index a : ℕ) (me : Held T) → is_seated me.0 ≡ true
+      → a ≡ field_at p.geometry.room i DATA + index
+      → IsSomeAnd (record_in x me.0.records) (λ q. q.slot ≡ i)
+      → Allows (Holds fits p) count id me a (λ n. n) (reads x index (step count a 0 0 none) me)
+  read_step count id i x index a me seated address so s r homes at low = (
+    after_read x index me.0,
+    keeps,
+    tt,
+    rw (word_same s.words a) (kept (index == KEY1)),
+    (refl, refl, told (record_in x me.0.records) refl so),
+  )
+    where
+      at_view : slice_get s.views id ≡ Some me.0
+      at_view = read_at s.views id me.0 at
+
+      kept : (b : Bool) → Holds fits p record {
+        words = s.words;
+        homes = s.homes;
+        views = slice_set s.views id (cond b
+            (record me.0 { met = with_met (record_in x me.0.records) me.0.met }) me.0);
+      }
+      kept true = met_holds s r id me.0 (with_met (record_in x me.0.records) me.0.met) at_view
+          seated
+      kept false = met_holds s r id me.0 me.0.met at_view seated
+
+      told : (o : Option Record) → record_in x me.0.records ≡ o → IsSomeAnd o (λ q. q.slot ≡ i)
+          → IfSome o (λ q. IsDataWord q.entry index (slice_index s.words a))
+      told None called so = absurd so
+      told (Some q) called so =
+          rw address (data_word s r id i index me.0 q at_view
+          (find_each (is_called x) (IsRecorded r.world.slots) me.0.records q
+          (r.holding id me.0 at_view).recorded called) so)
+
+  -- A load by the owner of a slot tells the word that stands in its view.
+  pub read_own_step : (count id i index a : ℕ) (me : Held T) → owned_slot me.0.work.owned ≡ Some i
+      → is_seated me.0 ≡ true → a ≡ field_at p.geometry.room i DATA + index
+      → Allows (Holds fits p) count id me a (λ n. n) (reads_own index (step count a 0 0 none) me)
+  read_own_step count id i index a me owns seated address s r homes at low =
+      let at_view = read_at s.views id me.0 at in (
+        me.0,
+        keeps,
+        tt,
+        rw (word_same s.words a) (met_holds s r id me.0 me.0.met at_view seated),
+        (
+          refl,
+          refl,
+          (λ near. ap (slice_index s.words) address
+              ∙ (r.drafted id me.0 at_view).lies i owns index near),
+        ),
+      )

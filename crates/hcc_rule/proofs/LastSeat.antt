@@ -1,0 +1,4 @@
+pub mod ClosingSums
+pub mod ClosingClients
+pub mod ClosingSlots
+pub mod Closings

@@ -1,0 +1,373 @@
+-- Once all clients are back, the words tell the slots of the last world, and the entries there are
+-- what the clients made.
+use Rattle.std.proofs.Common.{◌≡◌, ℕ, ◌+◌, ◌*◌, ◌<◌, ◌≤◌, ◌==◌, true, false, List, [], Option, Some, None, length, slice_get, slice_index, sym, refl, ap, ◌∙◌, arith}
+use Rattle.std.specs.Option.{unwrap_or}
+use Rattle.std.specs.List.{range_with_len}
+use Rattle.hcc_word.specs.Code.{code_of_empty}
+use Rattle.hcc_word.specs.Word.{is_empty, is_shareable, refs_of}
+use Rattle.hcc_word.proofs.CodeLaws.{is_empty-empty, refs_of-shareable}
+use Rattle.hcc_core.specs.declared.limits.TheConstants.{MOST_WEIGHT}
+use Rattle.hcc_core.specs.declared.client.Client.{Client}
+use Rattle.hcc_core.specs.declared.slot.Entry.{Entry}
+use Rattle.hcc_core.specs.declared.slot.Reference.{Reference}
+use Rattle.hcc_core.specs.declared.slot.Resident.{Resident}
+use Rattle.hcc_core.specs.declared.setup.Setup.{Setup}
+use Rattle.hcc_core.specs.declared.slot.Slot.{Slot}
+use Rattle.hcc_core.specs.declared.slot.Slot.TheVariants as slots
+use Rattle.hcc_core.specs.declared.slot.Stamp.{Stamp}
+use Rattle.hcc_core.specs.Sums.{when, total}
+use Rattle.hcc_core.specs.World.{taken_by_slot, charge_of, charged_to, occupied_by, standing_of, trail_of, times, is_shareable as slot_has_entry}
+use Rattle.hcc_core.specs.Lawful.{Lawful, owned_by, owned_slot, owner_in, stamp_in}
+use Rattle.hcc_rule.specs.declared.key.Key.{Key}
+use Rattle.hcc_rule.specs.declared.layout.TheConstants.{KEY0, KEY1, CHARGE}
+use Rattle.hcc_rule.specs.declared.rule.Plan.{Plan}
+use Rattle.hcc_rule.specs.declared.view.Made.{Made}
+use Rattle.hcc_rule.specs.declared.view.Other.{Other}
+use Rattle.hcc_rule.specs.declared.view.View.{View}
+use Rattle.hcc_rule.specs.Closing.{meta_at, data_at, key_at, has_entry, over_entries, list_by, IsBack, IsSettled, IsKept}
+use Rattle.hcc_rule.specs.Probes.{trail_to}
+use Rattle.hcc_rule.specs.Rule.{resting, entry_in, IsNamed, IsStored, Holds}
+use Rattle.hcc_rule.specs.Views.{is_seated, held, weight_on, Each}
+use Rattle.hcc_rule.specs.Words.{key_of, made_words}
+use Rattle.hcc_rule.proofs.Parts.Addresses.{data_field}
+use Rattle.hcc_rule.proofs.Parts.Clients.{total-nothing, total-only}
+use Rattle.hcc_rule.proofs.LastSeat.ClosingClients.{IsQuiet, made_of, lawful, client_count, slot_count, spent, known, book_known}
+use Rattle.hcc_rule.proofs.LastSeat.ClosingSums.{total_range, total_both, one_at, made_by_client}
+use Rattle.hcc_rule.proofs.Parts.Codes.{few_strays, is_near, tells_entry}
+use Rattle.hcc_rule.proofs.Basics.Lists.{there, within, each_map}
+use Rattle.hcc_rule.proofs.Parts.SlotSteps.{Shard}
+
+-- an empty slot's word is its strays
+strays_are : (strays : ℕ) → code_of_empty strays ≡ strays
+unfolding code_of_empty
+strays_are strays = refl
+
+module _ {T : Type 0} (fits : T → Key → List ℕ → Type 0) (p : Plan T) (s : Shard fits p)
+    (r : Holds fits p s)
+    (id : ℕ) (v : View T) (at : slice_get s.views id ≡ Some v) (seated : is_seated v ≡ true)
+    (back : IsBack p.geometry.clients v) where
+  -- the plan's sizes
+  abbrev room : ℕ
+  room = p.geometry.room
+
+  abbrev size : ℕ
+  size = p.geometry.slots
+
+  -- The clients give nothing.
+
+  -- nothing stands for a client
+  quiet : (c : ℕ) (client : Client) → slice_get r.world.clients c ≡ Some client → IsQuiet client
+  quiet c client is = (known fits p s r id v at seated back c client is).quiet
+
+  -- so no sum over the clients gives anything
+  no_clients : (f : Client → ℕ) → ((client : Client) → IsQuiet client → f client ≡ 0)
+      → total f r.world.clients ≡ 0
+  no_clients f none = total-nothing f r.world.clients
+      (λ c client is. none client (quiet c client is))
+
+  -- and no slot is owned
+  unowned : (c k : ℕ) → owned_by (slice_get r.world.clients c) ≡ Some k → ⊥
+  unowned c k owns = by (slice_get r.world.clients c) refl owns
+    where
+      by : (o : Option Client) → slice_get r.world.clients c ≡ o → owned_by o ≡ Some k → ⊥
+      by None is h = cc
+      by (Some client) is h = let bad : None ≡ Some k = sym (quiet c client is).owned ∙ h in cc
+
+  world : Lawful r.world
+  world = lawful fits p s r id v at seated back
+
+  clients_are : length r.world.clients ≡ p.geometry.clients
+  clients_are = client_count fits p s r id v at seated back
+
+  slots_are : length r.world.slots ≡ size
+  slots_are = slot_count fits p s r id v at seated back
+
+  -- The other views give nothing.
+
+  -- a sum over the views is what this view gives, where spent ones give nothing
+  of_view : (f : View T → ℕ)
+      → ((u : View T) → (u.records ≡ []) × (u.others ≡ []) × (owned_slot u.work.owned ≡ None)
+      × (u.takings ≡ 0) → f u ≡ 0)
+      → total f s.views ≡ f v
+  of_view f none =
+      total-only f s.views id v at
+      (λ j u other is. none u (spent fits p s r id v at seated back j u other is))
+
+  -- A slot's word tells whether it has an entry.
+
+  -- each number below the slots' is a slot's
+  slot_at : (k : ℕ) → k < size → (slot : Slot) × (slice_get r.world.slots k ≡ Some slot)
+  slot_at k near = there r.world.slots k (let all = slots_are in omega arith)
+
+  -- the word tells it
+  entry_told : (k : ℕ) (slot : Slot) → slice_get r.world.slots k ≡ Some slot
+      → has_entry room s.words k ≡ slot_has_entry slot
+  entry_told k slot is =
+      ap is_shareable (r.coded.meta k slot is)
+      ∙ tells_entry r.world world k slot is
+
+  -- the entry of a slot whose word tells that it has one
+  resident_at : (k : ℕ) → k < size → has_entry room s.words k ≡ true
+      → (e : Resident) × (slice_get r.world.slots k ≡ Some (slots.Shareable e))
+  resident_at k near has = by (slot_at k near).0 (slot_at k near).1
+    where
+      by : (slot : Slot) → slice_get r.world.slots k ≡ Some slot
+          → (e : Resident) × (slice_get r.world.slots k ≡ Some (slots.Shareable e))
+      by (slots.Empty strays) is = let bad : true ≡ false =
+          sym has ∙ entry_told k (slots.Empty strays) is in cc
+      by (slots.Building client strays) is = let bad : true ≡ false =
+          sym has ∙ entry_told k (slots.Building client strays) is in cc
+      by (slots.Shareable e) is = (e, is)
+
+  -- a sum over the slots is one over the entries
+  over_slots : (f : Slot → ℕ) (g : ℕ → ℕ)
+      → ((k : ℕ) (slot : Slot) → slice_get r.world.slots k ≡ Some slot
+      → f slot ≡ when (slot_has_entry slot) (g k))
+      → total f r.world.slots ≡ over_entries room s.words size g
+  over_slots f g each =
+      total_range f (λ k. when (has_entry room s.words k) (g k)) r.world.slots
+      (λ k slot is. each k slot is ∙ ap (λ b. when b (g k)) (sym (entry_told k slot is)))
+      ∙ ap (λ n. over_entries room s.words n g) slots_are
+
+  -- The data words of an entry.
+
+  module _ (k : ℕ) (e : Resident) (is : slice_get r.world.slots k ≡ Some (slots.Shareable e)) where
+    -- it stands there as its maker showed it
+    stored : IsStored room s.words r.books k e.entry
+    stored = r.stored k e.entry (ap entry_in is)
+
+    -- the five words before the payload
+    data_is : (i : ℕ) → i < 5
+        → data_at room s.words k i ≡ slice_index (made_words e.entry.stamp.client stored.made) i
+    data_is i near = ap (slice_index s.words) (sym (data_field room k i))
+        ∙ stored.lies i (omega arith)
+
+    -- the charge, and the key
+    charge_is : data_at room s.words k CHARGE ≡ e.entry.charge
+    charge_is = data_is CHARGE (omega arith) ∙ ap (λ (x : Entry). x.charge) (sym stored.same)
+
+    key_is : key_of e.entry ≡ key_at room s.words k
+    key_is =
+        let first : e.entry.key0 ≡ data_at room s.words k KEY0 =
+        ap (λ (x : Entry). x.key0) stored.same ∙ sym (data_is KEY0 (omega arith)) in
+        let second : e.entry.key1 ≡ data_at room s.words k KEY1 =
+        ap (λ (x : Entry). x.key1) stored.same ∙ sym (data_is KEY1 (omega arith)) in
+        rw (first, second) refl
+
+    -- its client's list has it
+    listed : slice_get (list_by v e.entry.stamp.client) e.entry.stamp.number ≡ Some stored.made
+    listed = by (slice_get r.books e.entry.stamp.client) refl
+      where
+        by : (o : Option (List Made)) → slice_get r.books e.entry.stamp.client ≡ o
+            → slice_get (list_by v e.entry.stamp.client) e.entry.stamp.number ≡ Some stored.made
+        by None none =
+            let bad : None ≡ Some stored.made =
+            ap (λ o. slice_get (unwrap_or o []) e.entry.stamp.number) (sym none)
+            ∙ stored.listed in
+            cc
+        by (Some b) some =
+            let near = within r.books e.entry.stamp.client b some in
+            let sized = r.stamps.sized in
+            let clients = clients_are in
+            let book = book_known fits p s r id v at seated back e.entry.stamp.client
+            (omega arith) in
+            ap (λ o. slice_get (unwrap_or o []) e.entry.stamp.number) (sym book) ∙ stored.listed
+
+  -- The sums.
+
+  -- what a slot gives to the usage, to the occupancy, and to a displacement word
+  charges_are : (k : ℕ) (slot : Slot) → slice_get r.world.slots k ≡ Some slot
+      → charge_of slot ≡ when (slot_has_entry slot) (data_at room s.words k CHARGE)
+  charges_are k (slots.Empty strays) is = refl
+  charges_are k (slots.Building client strays) is = refl
+  charges_are k (slots.Shareable e) is = sym (charge_is k e is)
+
+  one_each : (k : ℕ) (slot : Slot) → slice_get r.world.slots k ≡ Some slot
+      → taken_by_slot slot ≡ when (slot_has_entry slot) 1
+  one_each k (slots.Empty strays) is = refl
+  one_each k (slots.Building client strays) is = refl
+  one_each k (slots.Shareable e) is = refl
+
+  trails_are : (j k : ℕ) (slot : Slot) → slice_get r.world.slots k ≡ Some slot
+      → times j (trail_of slot) ≡ when (slot_has_entry slot)
+      (times j (trail_to size (key_at room s.words k) k))
+  trails_are j k (slots.Empty strays) is = refl
+  trails_are j k (slots.Building client strays) is = refl
+  trails_are j k (slots.Shareable e) is =
+      ap (times j) (r.trails.entries k (slots.Shareable e) is)
+      ∙ ap (λ key. times j (trail_to size key k)) (key_is k e is)
+
+  -- the sums over the words
+  pub settled : IsSettled size room s.words
+  settled = record {
+    usage =
+        let none = no_clients charged_to (λ client q. q.charged) in
+        let sum = over_slots charge_of (λ k. data_at room s.words k CHARGE) charges_are in
+        let word = r.ledgers.usage in
+        omega arith;
+    occupancy =
+        let none = no_clients occupied_by (λ client q. q.occupied) in
+        let sum = over_slots taken_by_slot (λ k. 1) one_each in
+        let word = r.ledgers.occupancy in
+        omega arith;
+    standing = r.ledgers.standing ∙ no_clients standing_of (λ client q. q.standing);
+    passed = λ j near.
+        let none = no_clients (λ (c : Client). times j c.trail) (λ client q. rw q.trail refl) in
+        let sum = over_slots (λ slot. times j (trail_of slot))
+        (λ k. times j (trail_to size (key_at room s.words k) k)) (trails_are j) in
+        let word = r.trails.passed j near in
+        omega arith;
+  }
+
+  -- The entries.
+
+  -- the stamp of a slot's entry
+  abbrev pub stamp_at : ℕ → Stamp
+  stamp_at k = unwrap_or (stamp_in (slice_get r.world.slots k)) record { client = 0; number = 0 }
+
+  stamp_told : (k : ℕ) (e : Resident) → slice_get r.world.slots k ≡ Some (slots.Shareable e)
+      → stamp_at k ≡ e.entry.stamp
+  stamp_told k e is = ap (λ o. unwrap_or (stamp_in o) record { client = 0; number = 0 }) is
+
+  -- the entry is a member of the list that its stamp names
+  pub kept : (k : ℕ) → k < size → has_entry room s.words k ≡ true
+      → IsKept fits p.tag room s.words v k (stamp_at k)
+  kept k near has = by (resident_at k near has).0 (resident_at k near has).1
+    where
+      by : (e : Resident) → slice_get r.world.slots k ≡ Some (slots.Shareable e)
+          → IsKept fits p.tag room s.words v k (stamp_at k)
+      by e is =
+          let own = stored k e is in
+          rw (stamp_told k e is) record {
+            made = own.made;
+            listed = listed k e is;
+            says = λ i near. ap (slice_index s.words) (sym (data_field room k i)) ∙ own.lies i near;
+            right = r.stamps.right e.entry.stamp own.made own.listed;
+          }
+
+  -- its stamp is the world's
+  stamped : (k : ℕ) → k < size → has_entry room s.words k ≡ true
+      → stamp_in (slice_get r.world.slots k) ≡ Some (stamp_at k)
+  stamped k near has =
+      let e = resident_at k near has in
+      ap stamp_in e.1 ∙ ap Some (sym (stamp_told k e.0 e.1))
+
+  -- which has each stamp once
+  pub apart : (k t : ℕ) → k < size → t < size
+      → has_entry room s.words k ≡ true → has_entry room s.words t ≡ true
+      → stamp_at k ≡ stamp_at t → k ≡ t
+  apart k t near_k near_t has_k has_t same =
+      world.stamped.apart k t (stamp_at k) (stamped k near_k has_k)
+      (stamped t near_t has_t ∙ ap Some (sym same))
+
+  -- its references are the view's records
+  pub references : (k : ℕ) → k < size → has_entry room s.words k ≡ true
+      → refs_of (meta_at room s.words k) ≡ weight_on k v.records
+  references k near has = by (resident_at k near has).0 (resident_at k near has).1
+    where
+      weighs : Reference → ℕ
+      weighs x = x.weight
+
+      by : (e : Resident) → slice_get r.world.slots k ≡ Some (slots.Shareable e)
+          → refs_of (meta_at room s.words k) ≡ weight_on k v.records
+      by e is =
+          ap refs_of (r.coded.meta k (slots.Shareable e) is)
+          ∙ (refs_of-shareable e.hit e.shown (is_near r.world world k e is)
+          ∙ (r.references k (slots.Shareable e) is weighs
+          ∙ of_view (held k weighs) (λ u none. rw none.0 refl)))
+
+  -- The other slots.
+
+  -- what a slot without an entry has
+  record IsClear (k : ℕ) : Type 0 where
+    empty : is_empty (meta_at room s.words k) ≡ true
+    few : meta_at room s.words k ≤ MOST_WEIGHT * p.geometry.clients
+
+  -- it is empty: none is owned
+  clear_slot : (k : ℕ) (slot : Slot) → slice_get r.world.slots k ≡ Some slot
+      → has_entry room s.words k ≡ false → IsClear k
+  clear_slot k (slots.Empty strays) is none =
+      let few = few_strays r.world world k (slots.Empty strays) is in
+      let word = r.coded.meta k (slots.Empty strays) is in
+      let strayed = world.strayed k (slots.Empty strays) is in
+      let setup : r.world.setup.clients ≡ p.geometry.clients =
+      ap (λ (x : Setup). x.clients) r.setup in
+      let are = strays_are strays in
+      record {
+        empty = ap is_empty word ∙ is_empty-empty strays (omega arith);
+        few = omega arith;
+      }
+  clear_slot k (slots.Building client strays) is none =
+      absurd (unowned client k (world.owners.owns k client (ap owner_in is)))
+  clear_slot k (slots.Shareable e) is none =
+      let bad : false ≡ true = sym none ∙ entry_told k (slots.Shareable e) is in
+      cc
+
+  pub clear : (k : ℕ) → k < size → has_entry room s.words k ≡ false
+      → is_empty (meta_at room s.words k) ≡ true
+  clear k near none = (clear_slot k (slot_at k near).0 (slot_at k near).1 none).empty
+
+  pub strays : (k : ℕ) → k < size → has_entry room s.words k ≡ false
+      → meta_at room s.words k ≤ MOST_WEIGHT * p.geometry.clients
+  strays k near none = (clear_slot k (slot_at k near).0 (slot_at k near).1 none).few
+
+  -- What was made.
+
+  -- a list for each client
+  books_are : length r.books ≡ p.geometry.clients
+  books_are = r.stamps.sized ∙ clients_are
+
+  -- it has as many members as the view says
+  made_in : (c : ℕ) (b : List Made) → slice_get r.books c ≡ Some b → length b ≡ made_of v c
+  made_in c b is =
+      let near = within r.books c b is in
+      let sized = r.stamps.sized in
+      let client = there r.world.clients c (omega arith) in
+      let about = known fits p s r id v at seated back c client.0 client.1 in
+      let both : Some b ≡ Some (list_by v c) = sym is ∙ about.book in
+      let same : b ≡ list_by v c = cc in
+      ap length same ∙ about.made
+
+  -- the clients that the view names are those of the shard
+  own_low : v.client < p.geometry.clients
+  own_low =
+      let near = within r.world.clients v.client v.work ((r.seats.each id v at).work seated) in
+      let clients = clients_are in
+      omega arith
+
+  others_low : Each (λ (o : Other). o.client < p.geometry.clients) v.others
+  others_low =
+      each_map (IsNamed r.world.clients r.books) (λ (o : Other). o.client < p.geometry.clients) low
+      v.others (r.seats.each id v at).others
+    where
+      low : (o : Other) → IsNamed r.world.clients r.books o → o.client < p.geometry.clients
+      low o named =
+          let near = within r.world.clients o.client (resting o.made o.dead) named.there in
+          let clients = clients_are in
+          omega arith
+
+  -- all that was made, summed over the view's lists
+  all_made : total length r.books ≡ length v.made + total (λ (o : Other). length o.made) v.others
+  all_made =
+      total_range length (made_of v) r.books made_in
+      ∙ (ap (λ n. total (made_of v) (range_with_len 0 n)) books_are
+      ∙ (total_both own others (range_with_len 0 p.geometry.clients)
+      ∙ (let mine = one_at v.client (length v.made) p.geometry.clients own_low in
+      let theirs = made_by_client p.geometry.clients v.others others_low in
+      omega arith)))
+    where
+      own : ℕ → ℕ
+      own c = when (v.client == c) (length v.made)
+
+      others : ℕ → ℕ
+      others c = total (λ (o : Other). when (o.client == c) (length o.made)) v.others
+
+  -- what is left of it
+  pub left : over_entries room s.words size (λ k. 1) + v.takings
+      ≡ length v.made + total (λ (o : Other). length o.made) v.others
+  left =
+      let sum = over_slots taken_by_slot (λ k. 1) one_each in
+      let taken = of_view (λ (u : View T). u.takings) (λ u none. none.3) in
+      let paid = r.stamps.left in
+      let made = all_made in
+      omega arith

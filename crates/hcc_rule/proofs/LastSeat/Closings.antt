@@ -1,0 +1,74 @@
+-- What is left of a shard that was closed.
+use Rattle.std.proofs.Common.{◌≡◌, ℕ, zero, suc, true, List, [], ◌∷◌, Some, slice_get, slice_index, length, sym, ap, ◌∙◌, ◌≤◌, ◌+◌, arith}
+use mathlib.Core.Option.{some, some-injective, some-ne-none}
+use lib.ListN.{get_elem?}
+use Rattle.atomic_table.specs.Table as table
+use Rattle.hcc_rule.specs.declared.geometry.Geometry.{Geometry}
+use Rattle.hcc_rule.specs.declared.key.Key.{Key}
+use Rattle.hcc_rule.specs.declared.rule.Plan.{Plan}
+use Rattle.hcc_rule.specs.declared.view.View.{View}
+use Rattle.hcc_rule.specs.Closing.{Shown, IsBack, Closes}
+use Rattle.hcc_rule.specs.Rule.{Holds}
+use Rattle.hcc_rule.specs.Views.{is_seated, named_by}
+use Rattle.hcc_core.proofs.SumLemmas.{total-member}
+use Rattle.hcc_rule.proofs.Parts.Asides.{law_is}
+use Rattle.hcc_rule.proofs.Basics.Lists.{read_at}
+use Rattle.hcc_rule.proofs.LastSeat.ClosingSlots.{settled, stamp_at, kept, apart, references, clear, strays, left}
+use Rattle.hcc_rule.proofs.Parts.SlotSteps.{Shard}
+
+-- a word that was loaded
+pub word_read : (words : List ℕ) (i word : ℕ) → get_elem? words i ≡ some word
+    → slice_index words i ≡ word
+word_read [] i word h = absurd (some-ne-none word (sym h))
+word_read (w ∷ ws) zero word h = some-injective w word h
+word_read (w ∷ ws) (suc i) word h = word_read ws i word h
+
+module _ {T : Type 0} (fits : T → Key → List ℕ → Type 0) (p : Plan T) where
+  -- the words that are left are those of the last state
+  pub shown_last : (words : List ℕ) (homes : List (Unit {0})) (id : ℕ) (v : View T)
+      → table.Final (table.Seen (Holds fits p) id v) words homes → Shown fits p words v
+  shown_last words homes id v final = record {
+    state = final.0;
+    holds = final.1.0;
+    same = final.2;
+    number = id;
+    seen = read_at final.0.views id v final.1.1;
+  }
+
+  -- a view of a state names at most as many clients as there are
+  pub named_within : (s : Shard fits p) (r : Holds fits p s) (id : ℕ) (v : View T)
+      → slice_get s.views id ≡ Some v → named_by v ≤ p.geometry.clients
+  named_within s r id v at =
+      let mine = total-member named_by s.views id v at in
+      let all = r.seats.all in
+      let count : length r.world.clients ≡ p.geometry.clients =
+      (law_is fits p s r).sized.client_count ∙ ap (λ x. x.clients) r.setup in
+      omega arith
+
+  -- so does that of the last seat
+  pub named_last : (geometry : Geometry) (words : List ℕ) (v : View T) → p.geometry ≡ geometry
+      → Shown fits p words v → named_by v ≤ geometry.clients
+  named_last geometry words v same shown =
+      rw (sym same) (named_within shown.state shown.holds shown.number v shown.seen)
+
+  closes_state : (s : Shard fits p) (r : Holds fits p s) (id : ℕ) (v : View T)
+      → slice_get s.views id ≡ Some v → is_seated v ≡ true
+      → IsBack p.geometry.clients v → Closes fits p.tag p.geometry s.words v
+  closes_state s r id v at seated back = record {
+    settled = settled fits p s r id v at seated back;
+    stamp_at = stamp_at fits p s r id v at seated back;
+    kept = kept fits p s r id v at seated back;
+    apart = apart fits p s r id v at seated back;
+    held = references fits p s r id v at seated back;
+    clear = clear fits p s r id v at seated back;
+    strays = strays fits p s r id v at seated back;
+    left = left fits p s r id v at seated back;
+  }
+
+  -- and once all clients are back they tell more
+  pub closes_last : (geometry : Geometry) (words : List ℕ) (v : View T) → p.geometry ≡ geometry
+      → Shown fits p words v → is_seated v ≡ true → IsBack geometry.clients v
+      → Closes fits p.tag geometry words v
+  closes_last geometry words v same shown seated back =
+      rw (sym same, sym shown.same)
+      (closes_state shown.state shown.holds shown.number v shown.seen seated (rw same back))

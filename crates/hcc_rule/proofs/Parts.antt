@@ -1,0 +1,13 @@
+pub mod Addresses
+pub mod WordParts
+pub mod ViewParts
+pub mod WorldParts
+pub mod ClientParts
+pub mod Codes
+pub mod Clients
+pub mod SlotSteps
+pub mod Touches
+pub mod HeldReferences
+pub mod OnEntries
+pub mod Owners
+pub mod Asides

@@ -1,0 +1,2 @@
+pub mod ProbeNumbers
+pub mod ProbeLaws

@@ -1,0 +1,7 @@
+pub mod Openings
+pub mod Splits
+pub mod Dealing
+pub mod Joins
+pub mod NewSeats
+pub mod Newest
+pub mod Hands

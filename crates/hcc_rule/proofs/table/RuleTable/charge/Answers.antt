@@ -1,0 +1,17 @@
+use Rattle.std.proofs.Common.{ap, refl, is_some, arith}
+use Rattle.hcc_rule.proofs.Ledgers.UsageSteps.{charge_step}
+use Rattle.hcc_rule.specs.Rule.{setup_of}
+use Rattle.hcc_rule.proofs.table.RuleTable.charge.Goals as goal
+
+pub fetch_add-requires : goal.fetch_add-requires
+fetch_add-requires g c =
+    let planned = c.args.self.now.planned in
+    let seat = c.requires.seat in
+    let spent = c.requires.spent in (
+      seat.table,
+      c.ledger.ensures.inside,
+      charge_step g.T.Tag.fits c.args.self.now.table.shared.key _ _ _ _
+          (ap is_some seat.tagged) (rw planned.0 c.ledger.ensures.value)
+          (setup_of c.args.self.now.table.shared.key) c.args.amount refl (omega arith) spent.0
+          spent.1,
+    )

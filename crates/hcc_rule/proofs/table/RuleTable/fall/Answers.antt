@@ -1,0 +1,14 @@
+use Rattle.std.proofs.Common.{ap, is_some, arith}
+use Rattle.hcc_rule.proofs.Ledgers.StandingSteps.{fall_step}
+use Rattle.hcc_rule.proofs.table.RuleTable.fall.Goals as goal
+
+pub fetch_sub-requires : goal.fetch_sub-requires
+fetch_sub-requires g c =
+    let planned = c.args.self.now.planned in
+    let seat = c.requires.seat in (
+      seat.table,
+      c.ledger.ensures.inside,
+      fall_step g.T.Tag.fits c.args.self.now.table.shared.key _ _ _ _
+          (ap is_some seat.tagged) (rw planned.0 c.ledger.ensures.value)
+          c.args.name c.args.charge (omega arith) c.requires.stood c.requires.room,
+    )

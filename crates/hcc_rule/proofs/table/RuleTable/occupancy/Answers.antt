@@ -1,0 +1,15 @@
+use Rattle.std.proofs.Common.{ap, refl, is_some}
+use Rattle.hcc_rule.proofs.Ledgers.OccupancySteps.{occupancy_step}
+use Rattle.hcc_rule.specs.Rule.{setup_of}
+use Rattle.hcc_rule.proofs.table.RuleTable.occupancy.Goals as goal
+
+pub load-requires : goal.load-requires
+load-requires g c =
+    let planned = c.args.self.now.planned in
+    let seat = c.requires.seat in (
+      seat.table,
+      c.ledger.ensures.inside,
+      occupancy_step g.T.Tag.fits c.args.self.now.table.shared.key _ _ _ _
+          (ap is_some seat.tagged) (rw planned.0 c.ledger.ensures.value)
+          (setup_of c.args.self.now.table.shared.key) refl,
+    )

@@ -1,0 +1,18 @@
+use Rattle.std.proofs.Common.{ap, is_some, sym, ◌∙◌}
+use Rattle.hcc_rule.proofs.Parts.Addresses.{data_field}
+use Rattle.hcc_rule.proofs.Entries.DataWords.{read_step}
+use Rattle.hcc_rule.proofs.table.RuleTable.read_at.Goals as goal
+
+pub load-requires : goal.load-requires
+load-requires g c =
+    let planned = c.args.self.now.planned in
+    let seat = c.requires.seat in (
+      seat.table,
+      c.data_address.ensures.inside,
+      read_step g.T.Tag.fits c.args.self.now.table.shared.key _ _ c.args.slot c.args.name
+          c.args.index _ _
+          (ap is_some seat.tagged)
+          (rw planned.0 (c.data_address.ensures.value
+          ∙ sym (data_field _ c.args.slot c.args.index)))
+          c.requires.holds,
+    )

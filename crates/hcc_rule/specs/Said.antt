@@ -1,0 +1,29 @@
+-- What an atomic operation of a seat may do, and what it tells, by a relation that its call picks.
+use Rattle.std.specs.Prelude.{◌≡◌, ℕ, ◌<◌, List}
+use mathlib.Core.Option.{none}
+use Rattle.atomic_table.specs.Table.{Step, step, Allows}
+use Rattle.hcc_rule.specs.declared.key.Key.{Key}
+use Rattle.hcc_rule.specs.declared.rule.Plan.{Plan}
+use Rattle.hcc_rule.specs.declared.table.RuleTable.{RuleTable}
+use Rattle.hcc_rule.specs.Rule.{Holds}
+use Rattle.hcc_rule.specs.Seats.{SeatOf}
+use Rattle.hcc_rule.specs.Told.{Held}
+
+module _ {T A : Type 0} where
+  -- the step of an operation at this address, with these operands
+  abbrev pub step_of : RuleTable T A → (address first second : ℕ) → Step (Unit {0})
+  step_of table address first second = step table.table.shared.table_id.slots address first second
+      none
+
+  -- the seat may do it: a word that was n is f n after it, and this is told of it
+  abbrev pub May : (T → Key → List ℕ → Type 0) → RuleTable T A → SeatOf T → (address : ℕ) → (ℕ → ℕ)
+      → (ℕ → Held T → Type 0) → Type 0
+  May fits table seat address f told =
+      (seat.table_id ≡ table.table.shared.table_id) × (address < table.table.shared.table_id.words)
+      × Allows (Holds fits table.table.shared.key) table.table.shared.table_id.slots seat.id seat.me
+      address f told
+
+module _ {T : Type 0} where
+  -- it was done, and this is told
+  abbrev pub Did : SeatOf T → SeatOf T → (Held T → Type 0) → Type 0
+  Did old new told = (new.table_id ≡ old.table_id) × (new.id ≡ old.id) × told new.me

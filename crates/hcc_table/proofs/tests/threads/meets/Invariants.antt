@@ -1,0 +1,12 @@
+use Rattle.std.proofs.Common.{◌≡◌}
+use Rattle.hcc_rule.specs.Benches.{IsReady}
+use Rattle.hcc_rule.specs.Seats.{view}
+use Rattle.hcc_table.proofs.tests.threads.meets.Given as goal
+
+abbrev pub invariant-loop-number : goal.invariant-loop-number
+invariant-loop-number g l = record {
+  table : l.me.table ≡ l.initial.me.table;
+  client : l.me.client ≡ l.initial.me.client;
+  shown : l.me.shown ≡ l.initial.me.shown;
+  ready : IsReady (view l.me.seat);
+}
