@@ -29,6 +29,7 @@ use std::alloc::Allocator;
 /// no other. A visible entry is taken only where `last` asks for it. It takes no memory. It costs
 /// one atomic add or take; where nobody holds the entry and it may go an exchange, and where that
 /// wins what `free_taken` costs.
+#[inline(always)]
 pub fn release<T: Tag, A: Allocator>(
     table: &RuleTable<T, A>,
     seat: &mut RuleSeat<T>,

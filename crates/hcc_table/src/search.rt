@@ -35,6 +35,7 @@ use std::alloc::Allocator;
 /// is visible an add, a load of each half of the key that is compared, and a take. A hit at the
 /// first probe is one load, one add and two loads, with the mark's or where that is asked for and
 /// lacks. A reference that doesn't count costs one exchange more.
+#[inline(always)]
 pub fn find<T: Tag, A: Allocator>(
     table: &RuleTable<T, A>,
     seat: &mut RuleSeat<T>,
