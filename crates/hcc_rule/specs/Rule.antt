@@ -180,7 +180,7 @@ hand_after {T} views = (SLOTS_PER_TURN * total (λ (v : View T). v.turns) views)
 
 -- Trails.
 
--- the trail of a slot's entry is the places of its key before that slot
+-- the trail of a slot's entry is the probes of its key before that slot
 abbrev pub IsTrailed : (size s : ℕ) → Slot → Type 0
 IsTrailed size s (slots.Empty strays) = Unit {0}
 IsTrailed size s (slots.Building client strays) = Unit {0}

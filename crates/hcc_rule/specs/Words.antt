@@ -14,11 +14,11 @@ use Rattle.hcc_rule.specs.declared.layout.TheConstants.{SLOT_HEAD, LEDGER_WORDS}
 use Rattle.hcc_rule.specs.declared.key.Key.{Key}
 use Rattle.hcc_rule.specs.declared.view.Made.{Made}
 
--- the place of a slot's word, by its field
+-- the address of a slot's word, by its field
 abbrev pub field_at : (room slot field : ℕ) → ℕ
 field_at room slot field = slot * (room + SLOT_HEAD) + field
 
--- the place of a ledger word
+-- the address of a ledger word
 abbrev pub ledger_at : (slots room ledger : ℕ) → ℕ
 ledger_at slots room ledger = slots * (room + SLOT_HEAD) + ledger
 
@@ -26,7 +26,7 @@ ledger_at slots room ledger = slots * (room + SLOT_HEAD) + ledger
 abbrev pub word_count : (slots room : ℕ) → ℕ
 word_count slots room = slots * (room + SLOT_HEAD) + LEDGER_WORDS
 
--- these words stand from a place on
+-- these words stand from an address on
 abbrev pub Lies : List ℕ → ℕ → List ℕ → Type 0
 Lies words base xs = (k : ℕ) → k < length xs → slice_index words (base + k) ≡ slice_index xs k
 

@@ -1,9 +1,9 @@
-//! The places of a key, one after the other.
+//! The probes of a key, one after the other.
 ghost use Rattle.std.specs.Prelude.{◌≡◌, ◌+◌, ◌-◌, ◌%◌, ◌^◌, ◌≤◌, bit_and, bit_or};
 
 use hcc_rule::Key;
 
-/// A walk over the places of a key: where it stands, by a mask of the table's slots, and how far it
+/// A walk over the probes of a key: where it stands, by a mask of the table's slots, and how far it
 /// steps.
 #[derive(Clone, Copy, Debug, PartialEq, Eq)]
 pub(crate) struct Walk {
@@ -13,7 +13,7 @@ pub(crate) struct Walk {
 }
 
 impl Walk {
-    /// A walk at a key's first place in a table of so many slots.
+    /// A walk at a key's first probe in a table of so many slots.
     pub(crate) fn begin(key: Key, slots: u32) -> Walk
         requires { 1 ≤ slots }
         ensures probe { result.probe ≡ key.w1 }
@@ -34,7 +34,7 @@ impl Walk {
         (self.probe & self.mask as u64) as u32
     }
 
-    /// The walk at the next place.
+    /// The walk at the next probe.
     pub(crate) fn next(&self) -> Walk
         ensures probe { result.probe ≡ (self.now.probe + self.now.stride) % 2 ^ 64 }
         ensures stride { result.stride ≡ self.now.stride }
