@@ -51,3 +51,26 @@ took_within i tries least slots most old new some few short h = (
   rose_within 0 tries 0 most old.corrections new.corrections (omega arith) short h.1,
   rose_within 0 tries 0 most old.lost new.lost (omega arith) short h.2,
 )
+
+-- one search of slots after another, neither of which counted its slots
+pub took_then : (tries more all : ℕ) (old was now : Effort) → Took 0 0 tries old was
+    → Took 0 0 more was now → all ≡ tries + more → Took 0 0 all old now
+took_then tries more all old was now h g sum = (
+  rose_then 0 0 0 0 0 0 old.probes was.probes now.probes h.0 g.0 (omega arith) (omega arith),
+  rose_then 0 tries 0 more 0 all old.corrections was.corrections now.corrections h.1 g.1
+      (omega arith) sum,
+  rose_then 0 tries 0 more 0 all old.lost was.lost now.lost h.2 g.2 (omega arith) sum,
+)
+
+-- The slots that were visited are counted at the end.
+pub took_probes : (visited tries slots : ℕ) (old was now : Effort) → Took 0 0 tries old was
+    → Rose visited visited was.probes now.probes → now.corrections ≡ was.corrections
+    → now.lost ≡ was.lost → 1 ≤ visited → visited ≤ slots → tries ≤ slots
+    → Took 1 slots slots old now
+took_probes visited tries slots old was now h probes corrections lost some few short = (
+  rose_within visited visited 1 slots old.probes now.probes some few
+      (rose_then 0 0 visited visited visited visited old.probes was.probes now.probes h.0 probes
+      (omega arith) (omega arith)),
+  rw corrections (rose_within 0 tries 0 slots old.corrections was.corrections (omega arith) short h.1),
+  rw lost (rose_within 0 tries 0 slots old.lost was.lost (omega arith) short h.2),
+)

@@ -21,14 +21,14 @@ impl Effort {
         lost: 0,
     };
 
-    /// A slot was visited.
+    /// So many slots were visited.
     #[inline(always)]
-    pub(crate) fn probe(&mut self)
-        ensures probes { Rose 1 1 self.old.probes self.new.probes }
+    pub(crate) fn probes(&mut self, slots: u64)
+        ensures probes { Rose slots slots self.old.probes self.new.probes }
         ensures corrections { self.new.corrections ≡ self.old.corrections }
         ensures lost { self.new.lost ≡ self.old.lost }
     {
-        self.probes = self.probes.saturating_add(1);
+        self.probes = self.probes.saturating_add(slots);
     }
 
     /// A correction was made.

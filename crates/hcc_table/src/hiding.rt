@@ -92,7 +92,7 @@ pub fn hide<T: Tag, A: Allocator>(
     let mut all = Erased::NOTHING;
     for _ in 0..slots {
         let slot = walk.slot();
-        effort.probe();
+        effort.probes(1);
         let here = hide_at(table, seat, slot, key, name, effort);
         all = all.with(here);
         if table.count(seat, slot) == 0 {

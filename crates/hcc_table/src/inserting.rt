@@ -80,7 +80,7 @@ pub fn insert<T: Tag, A: Allocator>(
     let mut passed = 0;
     loop {
         let slot = walk.slot();
-        effort.probe();
+        effort.probes(1);
         match insert_at(table, seat, slot, draft, value, client, name, effort) {
             Insertion::Placed { slot } => return Insertion::Placed { slot },
             Insertion::Matched => {

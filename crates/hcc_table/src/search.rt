@@ -57,11 +57,11 @@ pub fn find<T: Tag, A: Allocator>(
 {
     let slots = table.geometry().slots;
     let mut walk = Walk::begin(key, slots);
-    for _ in 0..slots {
+    for probe in 0..slots {
         let slot = walk.slot();
-        effort.probe();
         if let Some(found) = hold(table, seat, slot, key, name, effort) {
             mark_if(table, seat, slot, name, marks, found);
+            effort.probes(probe as u64 + 1);
             return Some(Pin {
                 slot,
                 name,
@@ -69,10 +69,12 @@ pub fn find<T: Tag, A: Allocator>(
             });
         }
         if table.count(seat, slot) == 0 {
+            effort.probes(probe as u64 + 1);
             return None;
         }
         walk = walk.next();
     }
+    effort.probes(slots as u64);
     None
 }
 

@@ -54,9 +54,9 @@ loop-preserved g c =
     visited : Took (c.loop.counter + 1) (c.loop.counter + 1) (2 * (c.loop.counter + 1)) c.args.effort.now
         c.hide_at-here.new.effort
     visited =
-        let probe = c.probe.ensures in
+        let probe = c.probes.ensures in
         took_next c.loop.counter (2 * c.loop.counter) 2 (2 * (c.loop.counter + 1)) c.args.effort.now
-        c.loop.effort c.probe.new.self c.hide_at-here.new.effort c.loop.invariant.1 probe.probes
+        c.loop.effort c.probes.new.self c.hide_at-here.new.effort c.loop.invariant.1 probe.probes
         probe.corrections probe.lost c.hide_at-here.ensures.effort (omega arith)
 
 pub returns-clause-dead : goal.returns-clause-dead
@@ -69,14 +69,14 @@ returns-clause-dead g c =
 
 pub returns-then-count-eq0-clause-effort : goal.returns-then-count-eq0-clause-effort
 returns-then-count-eq0-clause-effort g c =
-    let probe = c.probe.ensures in
+    let probe = c.probes.ensures in
     let size = c.geometry-slots.ensures in
     let low : c.loop.counter < c.args.table.now.geometry.slots = rw (← size) c.loop-test.true in
     took_within (c.loop.counter + 1) (2 * (c.loop.counter + 1)) 1 c.args.table.now.geometry.slots
     (2 * c.args.table.now.geometry.slots) c.args.effort.now c.hide_at-here.new.effort (omega arith) (omega arith)
     (omega arith)
     (took_next c.loop.counter (2 * c.loop.counter) 2 (2 * (c.loop.counter + 1)) c.args.effort.now
-    c.loop.effort c.probe.new.self c.hide_at-here.new.effort c.loop.invariant.1 probe.probes probe.corrections
+    c.loop.effort c.probes.new.self c.hide_at-here.new.effort c.loop.invariant.1 probe.probes probe.corrections
     probe.lost c.hide_at-here.ensures.effort (omega arith))
 
 pub returns-clause-effort : goal.returns-clause-effort

@@ -69,40 +69,40 @@ loop-slot-preserved g c =
     visited : Took (c.loop-slot.passed + 1) (c.loop-slot.passed + 1) (c.loop-slot.passed + 1)
         c.args.effort.now c.insert_at.new.effort
     visited =
-        let probe = c.probe.ensures in
+        let probe = c.probes.ensures in
         took_next c.loop-slot.passed c.loop-slot.passed 1 (c.loop-slot.passed + 1) c.args.effort.now
-        c.loop-slot.effort c.probe.new.self c.insert_at.new.effort c.loop-slot.invariant.1 probe.probes
+        c.loop-slot.effort c.probes.new.self c.insert_at.new.effort c.loop-slot.invariant.1 probe.probes
         probe.corrections probe.lost c.insert_at.ensures.effort (omega arith)
 
 pub returns-in-Placed-clause-effort : goal.returns-in-Placed-clause-effort
 returns-in-Placed-clause-effort g c =
-    let probe = c.probe.ensures in
+    let probe = c.probes.ensures in
     let inside = c.loop-slot.invariant.0.inside in
     took_within (c.loop-slot.passed + 1) (c.loop-slot.passed + 1) 1 c.args.table.now.geometry.slots
     c.args.table.now.geometry.slots c.args.effort.now c.insert_at.new.effort (omega arith) (omega arith)
     (omega arith)
     (took_next c.loop-slot.passed c.loop-slot.passed 1 (c.loop-slot.passed + 1) c.args.effort.now
-    c.loop-slot.effort c.probe.new.self c.insert_at.new.effort c.loop-slot.invariant.1 probe.probes
+    c.loop-slot.effort c.probes.new.self c.insert_at.new.effort c.loop-slot.invariant.1 probe.probes
     probe.corrections probe.lost c.insert_at.ensures.effort (omega arith))
 
 pub returns-in-Matched-clause-effort : goal.returns-in-Matched-clause-effort
 returns-in-Matched-clause-effort g c =
-    let probe = c.probe.ensures in
+    let probe = c.probes.ensures in
     let inside = c.loop-slot.invariant.0.inside in
     took_within (c.loop-slot.passed + 1) (c.loop-slot.passed + 1) 1 c.args.table.now.geometry.slots
     c.args.table.now.geometry.slots c.args.effort.now c.insert_at.new.effort (omega arith) (omega arith)
     (omega arith)
     (took_next c.loop-slot.passed c.loop-slot.passed 1 (c.loop-slot.passed + 1) c.args.effort.now
-    c.loop-slot.effort c.probe.new.self c.insert_at.new.effort c.loop-slot.invariant.1 probe.probes
+    c.loop-slot.effort c.probes.new.self c.insert_at.new.effort c.loop-slot.invariant.1 probe.probes
     probe.corrections probe.lost c.insert_at.ensures.effort (omega arith))
 
 pub returns-then-passed-slots-clause-effort : goal.returns-then-passed-slots-clause-effort
 returns-then-passed-slots-clause-effort g c =
-    let probe = c.probe.ensures in
+    let probe = c.probes.ensures in
     let inside = c.loop-slot.invariant.0.inside in
     took_within (c.loop-slot.passed + 1) (c.loop-slot.passed + 1) 1 c.args.table.now.geometry.slots
     c.args.table.now.geometry.slots c.args.effort.now c.insert_at.new.effort (omega arith) (omega arith)
     (omega arith)
     (took_next c.loop-slot.passed c.loop-slot.passed 1 (c.loop-slot.passed + 1) c.args.effort.now
-    c.loop-slot.effort c.probe.new.self c.insert_at.new.effort c.loop-slot.invariant.1 probe.probes
+    c.loop-slot.effort c.probes.new.self c.insert_at.new.effort c.loop-slot.invariant.1 probe.probes
     probe.corrections probe.lost c.insert_at.ensures.effort (omega arith))

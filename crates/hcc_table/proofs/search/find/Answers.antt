@@ -1,14 +1,14 @@
 use Rattle.std.proofs.Common.{◌≡◌, ◌+◌, ◌<◌, ◌≤◌, ap, sym, ◌∙◌, arith}
 use Rattle.hcc_table.specs.Efforts.{Took}
-use Rattle.hcc_table.proofs.Rises.{took_none, took_next, took_within}
+use Rattle.hcc_table.proofs.Rises.{took_none, took_then, took_probes}
 use Rattle.hcc_rule.specs.Views.{record_in}
 use Rattle.hcc_rule.proofs.Probes.ProbeLaws.{some_slots}
 use Rattle.hcc_table.proofs.Finds.{begins, goes_on, ends, ends_all}
 use Rattle.hcc_table.proofs.Probes.{found_stands, found_then}
 use Rattle.hcc_table.proofs.search.find.Goals as goal
 
-pub loop-init : goal.loop-init
-loop-init g c =
+pub loop-probe-init : goal.loop-probe-init
+loop-probe-init g c =
     let size = c.geometry-slots.ensures in
     let told = c.begin-walk.ensures in (
       begins c.args.table.now.geometry.slots c.args.key c.args.table.now.limits.power c.begin-walk.result
@@ -20,85 +20,87 @@ pub returns-then-count-eq0-clause-missed : goal.returns-then-count-eq0-clause-mi
 returns-then-count-eq0-clause-missed g c =
     let table = c.args.table.now in
     let told = c.count.ensures in
-    ends table.geometry.slots c.args.key table.limits.power c.loop.counter c.count.result c.slot-slot.result c.loop.walk
-    c.args.seat.now c.loop.seat c.loop.invariant.0 c.slot-slot.ensures c.hold.new.seat c.count.new.seat
+    ends table.geometry.slots c.args.key table.limits.power c.loop-probe.probe c.count.result c.slot-slot.result c.loop-probe.walk
+    c.args.seat.now c.loop-probe.seat c.loop-probe.invariant.0 c.slot-slot.ensures c.hold.new.seat c.count.new.seat
     c.hold.ensures.seat told.seat (c.in_default.ensures.missed) told.view told.held told.within
     c.if-count-eq0.true
 
-pub loop-preserved : goal.loop-preserved
-loop-preserved g c =
+pub loop-probe-preserved : goal.loop-probe-preserved
+loop-probe-preserved g c =
     let table = c.args.table.now in
     let told = c.count.ensures in
     let next = c.next-walk.ensures in (
-      goes_on table.geometry.slots c.args.key table.limits.power c.loop.counter c.count.result
-          c.slot-slot.result c.loop.walk c.args.seat.now c.loop.seat c.loop.invariant.0 c.slot-slot.ensures
+      goes_on table.geometry.slots c.args.key table.limits.power c.loop-probe.probe c.count.result
+          c.slot-slot.result c.loop-probe.walk c.args.seat.now c.loop-probe.seat c.loop-probe.invariant.0 c.slot-slot.ensures
           c.hold.new.seat c.count.new.seat c.hold.ensures.seat told.seat c.in_default.ensures.missed
           told.view told.held told.within c.next-walk.result next.probe next.stride next.mask,
       visited,
     )
   where
-    visited : Took (c.loop.counter + 1) (c.loop.counter + 1) (c.loop.counter + 1) c.args.effort.now c.hold.new.effort
+    visited : Took 0 0 (c.loop-probe.probe + 1) c.args.effort.now c.hold.new.effort
     visited =
-        let probe = c.probe.ensures in
-        took_next c.loop.counter c.loop.counter 1 (c.loop.counter + 1) c.args.effort.now c.loop.effort
-        c.probe.new.self c.hold.new.effort c.loop.invariant.1 probe.probes probe.corrections probe.lost
-        c.hold.ensures.effort (omega arith)
+        took_then c.loop-probe.probe 1 (c.loop-probe.probe + 1) c.args.effort.now c.loop-probe.effort
+        c.hold.new.effort c.loop-probe.invariant.1 c.hold.ensures.effort (omega arith)
 
 pub returns-clause-missed : goal.returns-clause-missed
 returns-clause-missed g c =
     let table = c.args.table.now in
     let size = c.geometry-slots.ensures in
-    ends_all table.geometry.slots c.args.key table.limits.power c.loop.counter c.loop.walk c.args.seat.now c.loop.seat
-    (some_slots table.geometry.slots table.limits.power) (rw (← size) c.loop-test.false)
-    (rw (← size) c.loop.auto.counter-end) c.loop.invariant.0
+    ends_all table.geometry.slots c.args.key table.limits.power c.loop-probe.probe c.loop-probe.walk c.args.seat.now c.loop-probe.seat
+    (some_slots table.geometry.slots table.limits.power) (rw (← size) c.loop-probe-test.false)
+    (rw (← size) c.loop-probe.auto.probe-end) c.loop-probe.invariant.0
 
 pub mark_if-requires-clause-holds : goal.mark_if-requires-clause-holds
 mark_if-requires-clause-holds g c =
     let found = c.in-Some.ensures.found in
     found_stands g.T.Tag.fits c.args.table.now.geometry.room c.slot-slot.result c.args.name c.args.key
-    c.loop.seat.me.0 c.hold.new.seat.me.0 found.0
-    (ap (record_in c.args.name) c.loop.invariant.0.sought.records ∙ c.requires.fresh) found.1
+    c.loop-probe.seat.me.0 c.hold.new.seat.me.0 found.0
+    (ap (record_in c.args.name) c.loop-probe.invariant.0.sought.records ∙ c.requires.fresh) found.1
 
 pub returns-in-Some-clause-found : goal.returns-in-Some-clause-found
 returns-in-Some-clause-found g c =
     let found = c.in-Some.ensures.found in (
       found.0,
       found_then g.T.Tag.fits c.args.table.now.geometry.room c.slot-slot.result c.args.name c.args.key
-          c.args.seat.now.me.0 c.loop.seat.me.0 c.hold.new.seat.me.0 c.mark_if.new.seat.me.0 found.0
-          c.loop.invariant.0.sought found.1 c.mark_if.ensures.view,
+          c.args.seat.now.me.0 c.loop-probe.seat.me.0 c.hold.new.seat.me.0 c.mark_if.new.seat.me.0 found.0
+          c.loop-probe.invariant.0.sought found.1 c.mark_if.ensures.view,
       found.2 ∙ sym c.counts.ensures,
     )
 
 pub returns-in-Some-clause-effort : goal.returns-in-Some-clause-effort
 returns-in-Some-clause-effort g c =
-    let probe = c.probe.ensures in
+    let counted = c.probes.ensures in
     let size = c.geometry-slots.ensures in
-    let low : c.loop.counter < c.args.table.now.geometry.slots = rw (← size) c.loop-test.true in
-    took_within (c.loop.counter + 1) (c.loop.counter + 1) 1 c.args.table.now.geometry.slots
-    c.args.table.now.geometry.slots c.args.effort.now c.hold.new.effort (omega arith) (omega arith)
-    (omega arith)
-    (took_next c.loop.counter c.loop.counter 1 (c.loop.counter + 1) c.args.effort.now
-    c.loop.effort c.probe.new.self c.hold.new.effort c.loop.invariant.1 probe.probes probe.corrections
-    probe.lost c.hold.ensures.effort (omega arith))
+    let i = c.loop-probe.probe in
+    let slots = c.args.table.now.geometry.slots in
+    let low : i < slots = rw (← size) c.loop-probe-test.true in
+    took_probes (i + 1) (i + 1) slots c.args.effort.now c.hold.new.effort c.probes.new.self
+    (took_then i 1 (i + 1) c.args.effort.now c.loop-probe.effort c.hold.new.effort c.loop-probe.invariant.1
+    c.hold.ensures.effort (omega arith))
+    counted.probes counted.corrections counted.lost (omega arith) (omega arith) (omega arith)
 
 pub returns-then-count-eq0-clause-effort : goal.returns-then-count-eq0-clause-effort
 returns-then-count-eq0-clause-effort g c =
-    let probe = c.probe.ensures in
+    let counted = c.probes-then-count-eq0.ensures in
     let size = c.geometry-slots.ensures in
-    let low : c.loop.counter < c.args.table.now.geometry.slots = rw (← size) c.loop-test.true in
-    took_within (c.loop.counter + 1) (c.loop.counter + 1) 1 c.args.table.now.geometry.slots
-    c.args.table.now.geometry.slots c.args.effort.now c.hold.new.effort (omega arith) (omega arith)
-    (omega arith)
-    (took_next c.loop.counter c.loop.counter 1 (c.loop.counter + 1) c.args.effort.now
-    c.loop.effort c.probe.new.self c.hold.new.effort c.loop.invariant.1 probe.probes probe.corrections
-    probe.lost c.hold.ensures.effort (omega arith))
+    let i = c.loop-probe.probe in
+    let slots = c.args.table.now.geometry.slots in
+    let low : i < slots = rw (← size) c.loop-probe-test.true in
+    took_probes (i + 1) (i + 1) slots c.args.effort.now c.hold.new.effort
+    c.probes-then-count-eq0.new.self
+    (took_then i 1 (i + 1) c.args.effort.now c.loop-probe.effort c.hold.new.effort c.loop-probe.invariant.1
+    c.hold.ensures.effort (omega arith))
+    counted.probes counted.corrections counted.lost (omega arith) (omega arith) (omega arith)
 
 pub returns-clause-effort : goal.returns-clause-effort
 returns-clause-effort g c =
+    let counted = c.probes-2.ensures in
     let size = c.geometry-slots.ensures in
+    let i = c.loop-probe.probe in
     let slots = c.args.table.now.geometry.slots in
-    let past : slots ≤ c.loop.counter = rw (← size) c.loop-test.false in
-    let most : c.loop.counter ≤ slots = rw (← size) c.loop.auto.counter-end in
+    let past : slots ≤ i = rw (← size) c.loop-probe-test.false in
+    let most : i ≤ slots = rw (← size) c.loop-probe.auto.probe-end in
     let some : 0 < slots = some_slots slots c.args.table.now.limits.power in
-    took_within c.loop.counter c.loop.counter 1 slots slots c.args.effort.now c.loop.effort
-    (omega arith) (omega arith) (omega arith) c.loop.invariant.1
+    took_probes slots i slots c.args.effort.now c.loop-probe.effort c.probes-2.new.self
+    c.loop-probe.invariant.1 (rw (← size) counted.probes) counted.corrections counted.lost
+    (omega arith) (omega arith) (omega arith)
