@@ -29,7 +29,8 @@ take_of_take (suc n) (suc m) [] h = refl
 take_of_take (suc n) (suc m) (x ∷ xs) h = ap (λ z. x ∷ z) (take_of_take n m xs (omega arith))
 
 -- A list of bytes reads bytes everywhere, with zeros behind it too.
-padded_bytes : (xs : List ℕ) (n : ℕ) → Each (λ b. b < 256) xs → (i : ℕ) → get_or (xs ++ replicate n 0) i 0 < 256
+padded_bytes : (xs : List ℕ) (n : ℕ) → Each (λ b. b < 256) xs → (i : ℕ)
+    → get_or (xs ++ replicate n 0) i 0 < 256
 padded_bytes [] zero h i = omega arith
 padded_bytes [] (suc n) h zero = omega arith
 padded_bytes [] (suc n) h (suc i) = padded_bytes [] n h i
@@ -45,7 +46,8 @@ padded_same (x ∷ xs) n zero = refl
 padded_same (x ∷ xs) n (suc i) = padded_same xs n i
 
 -- Nor the word that they make.
-pub word_padded : (bs : List ℕ) (n : ℕ) → from_le_bytes w64 (bs ++ replicate n 0) ≡ from_le_bytes w64 bs
+pub word_padded : (bs : List ℕ) (n : ℕ)
+    → from_le_bytes w64 (bs ++ replicate n 0) ≡ from_le_bytes w64 bs
 word_padded bs n = omega (arith, at 0, at 1, at 2, at 3, at 4, at 5, at 6, at 7)
   where
     at : (i : ℕ) → get_or (bs ++ replicate n 0) i 0 ≡ get_or bs i 0
@@ -56,11 +58,12 @@ pub padded_word : (bs : List ℕ) → length bs ≤ 8 → Each (λ b. b < 256) b
     → to_le_bytes w64 (from_le_bytes w64 bs) ≡ bs ++ replicate (8 - length bs) 0
 padded_word bs few small =
     let zeros : List ℕ = replicate (8 - length bs) 0 in
-    let whole : length (bs ++ zeros) ≡ 8 = length-append bs zeros ∙ omega (arith, length-replicate {A = ℕ} (8 - length bs) 0) in
+    let whole : length (bs ++ zeros) ≡ 8 = length-append bs zeros
+    ∙ omega (arith, length-replicate {A = ℕ} (8 - length bs) 0) in
     le_bytes_8 (bs ++ zeros) (from_le_bytes w64 bs) whole (padded_bytes bs (8 - length bs) small)
     (sym (word_padded bs (8 - length bs)))
 
--- The first bytes of a word of a value are the value's at that place.
+-- The first bytes of a word of a value are the value's at that offset.
 pub word_bytes : (value : List ℕ) (k count : ℕ) → Each (λ b. b < 256) value → count ≤ 8
     → 8 * k + count ≤ length value
     → take count (to_le_bytes w64 (payload_word value k)) ≡ take count (drop (8 * k) value)
@@ -91,14 +94,16 @@ pub fills : (value old buffer new : List ℕ) (at count : ℕ) → at + count �
     → new ≡ take (at + count) value ++ drop (at + count) old
 fills value old buffer new at count within was is =
     is ∙ (ap (λ b. take at b ++ (take count (drop at value) ++ drop (at + count) b)) was
-    ∙ (rw (front, back) (sym (append_assoc (take at value) (take count (drop at value)) (drop (at + count) old)))
+    ∙ (rw (front, back) (sym (append_assoc (take at value) (take count (drop at value))
+    (drop (at + count) old)))
     ∙ ap (λ z. z ++ drop (at + count) old) (sym (take-add at count value))))
   where
     long : length (take at value) ≡ at
     long = length-take-le at value (omega arith)
 
     front : take at (take at value ++ drop at old) ≡ take at value
-    front = take-append-le at (take at value) (drop at old) (omega (arith, long)) ∙ take_of_take at at value (omega arith)
+    front = take-append-le at (take at value) (drop at old) (omega (arith, long))
+        ∙ take_of_take at at value (omega arith)
 
     back : drop (at + count) (take at value ++ drop at old) ≡ drop (at + count) old
     back = drop-append-drop at old (take at value) (at + count) (omega arith) long
@@ -110,7 +115,8 @@ bytes_of = flat_map (to_le_bytes w64)
 -- The words of a value from some word on have the bytes from there on.
 unpacked_from : (value : List ℕ) → Each (λ b. b < 256) value → (n a : ℕ) → 8 * a ≤ length value
     → length value ≤ 8 * (a + n)
-    → take (length value - 8 * a) (bytes_of (map (payload_word value) (range_with_len a n))) ≡ drop (8 * a) value
+    → take (length value - 8 * a) (bytes_of (map (payload_word value) (range_with_len a n)))
+    ≡ drop (8 * a) value
 unpacked_from value small zero a begun ended =
     let none : length value - 8 * a ≡ 0 = omega arith in
     rw none (sym (drop_all (8 * a) value (omega arith)))
@@ -126,7 +132,8 @@ unpacked_from value small (suc n) a begun ended = elim (cases_lt (length value) 
       ∙ (take-append-add here later (length value - 8 * (a + 1))
       ∙ (ap (λ z. here ++ z) (unpacked_from value small n (a + 1) (omega arith) (omega arith))
       ∙ (ap (λ m. here ++ drop m value) (sym next)
-      ∙ (ap (λ z. z ++ drop (8 * a + 8) value) (word_bytes value a 8 small (omega arith) (omega arith))
+      ∙ (ap (λ z. z ++ drop (8 * a + 8) value)
+      (word_bytes value a 8 small (omega arith) (omega arith))
       ∙ joined))))
 ]
   where
@@ -140,17 +147,20 @@ unpacked_from value small (suc n) a begun ended = elim (cases_lt (length value) 
     later = bytes_of (map (payload_word value) (range_with_len (a + 1) n))
 
     joined : take 8 (drop (8 * a) value) ++ drop (8 * a + 8) value ≡ drop (8 * a) value
-    joined = ap (λ z. take 8 (drop (8 * a) value) ++ z) (sym (drop-drop 8 (8 * a) value)) ∙ take-append-drop 8 (drop (8 * a) value)
+    joined = ap (λ z. take 8 (drop (8 * a) value) ++ z) (sym (drop-drop 8 (8 * a) value))
+        ∙ take-append-drop 8 (drop (8 * a) value)
 
 -- A value is the first bytes of the words that it takes.
-pub unpacked : (value : List ℕ) → Each (λ b. b < 256) value → take (length value) (bytes_of (payload value)) ≡ value
+pub unpacked : (value : List ℕ) → Each (λ b. b < 256) value
+    → take (length value) (bytes_of (payload value)) ≡ value
 unpacked value small =
     let whole : length value ≡ length value - 8 * 0 = omega arith in
     ap (λ n. take n (bytes_of (payload value))) whole
     ∙ unpacked_from value small (words_for (length value)) 0 (omega arith) (omega arith)
 
 -- Two values of one length and the same words are one.
-pub same_value : (x y : List ℕ) → Each (λ b. b < 256) x → Each (λ b. b < 256) y → length x ≡ length y
+pub same_value : (x y : List ℕ) → Each (λ b. b < 256) x → Each (λ b. b < 256) y
+    → length x ≡ length y
     → payload x ≡ payload y → x ≡ y
 same_value x y small_x small_y long same =
     sym (unpacked x small_x) ∙ (ap (λ n. take n (bytes_of (payload x))) long

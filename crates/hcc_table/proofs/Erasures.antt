@@ -52,11 +52,14 @@ module _ {T : Type 0} where
   }
 
   -- The client is at rest afterwards.
-  pub rests : (keys : List Key) (slots charge : ℕ) (v w : View T) → Erases keys slots charge v w → IsAtRest w
-  rests keys slots charge v w e = (ap (λ (z : View T). z.work.owned) e.same, ap (λ (z : View T). z.work.trail) e.same)
+  pub rests : (keys : List Key) (slots charge : ℕ) (v w : View T) → Erases keys slots charge v w
+      → IsAtRest w
+  rests keys slots charge v w e =
+      (ap (λ (z : View T). z.work.owned) e.same, ap (λ (z : View T). z.work.trail) e.same)
 
   -- One append_assoc another erases both.
-  pub erases_then : (keys more : List Key) (slots other charge plus : ℕ) (u v w : View T) → Erases keys slots charge u v
+  pub erases_then : (keys more : List Key) (slots other charge plus : ℕ) (u v w : View T)
+      → Erases keys slots charge u v
       → Erases more other plus v w → Erases (keys ++ more) (slots + other) (charge + plus) u w
   erases_then keys more slots other charge plus u v w a b = record {
     same =
@@ -90,14 +93,19 @@ module _ {T : Type 0} where
           met = w.met;
         }));
     dead = λ stamp h. b.dead stamp (a.dead stamp h);
-    met = (a.met.0 ++ b.met.0, b.met.1 ∙ (ap (λ z. z ++ b.met.0) a.met.1 ∙ append_assoc u.met a.met.0 b.met.0));
+    met = (
+      a.met.0 ++ b.met.0,
+      b.met.1
+          ∙ (ap (λ z. z ++ b.met.0) a.met.1 ∙ append_assoc u.met a.met.0 b.met.0),
+    );
   }
     where
       sums : (a b c : ℕ) → a + b + c ≡ a + (b + c)
       sums a b c = omega arith
 
   -- A search before it, or append_assoc it, erases no more.
-  pub erases_first : (keys : List Key) (slots charge : ℕ) (u v w : View T) → Searched u v → Erases keys slots charge v w
+  pub erases_first : (keys : List Key) (slots charge : ℕ) (u v w : View T) → Searched u v
+      → Erases keys slots charge v w
       → Erases keys slots charge u w
   erases_first keys slots charge u v w a b = record {
     same = b.same ∙ ap (λ (z : View T). record z {
@@ -116,10 +124,15 @@ module _ {T : Type 0} where
       met = w.met;
     }) a.same;
     dead = λ stamp h. b.dead stamp (a.dead stamp h);
-    met = (a.met.0 ++ b.met.0, b.met.1 ∙ (ap (λ z. z ++ b.met.0) a.met.1 ∙ append_assoc u.met a.met.0 b.met.0));
+    met = (
+      a.met.0 ++ b.met.0,
+      b.met.1
+          ∙ (ap (λ z. z ++ b.met.0) a.met.1 ∙ append_assoc u.met a.met.0 b.met.0),
+    );
   }
 
-  pub erases_last : (keys : List Key) (slots charge : ℕ) (u v w : View T) → Erases keys slots charge u v → Searched v w
+  pub erases_last : (keys : List Key) (slots charge : ℕ) (u v w : View T)
+      → Erases keys slots charge u v → Searched v w
       → Erases keys slots charge u w
   erases_last keys slots charge u v w a b = record {
     same =
@@ -143,11 +156,16 @@ module _ {T : Type 0} where
           met = w.met;
         }));
     dead = λ stamp h. b.dead stamp (a.dead stamp h);
-    met = (a.met.0 ++ b.met.0, b.met.1 ∙ (ap (λ z. z ++ b.met.0) a.met.1 ∙ append_assoc u.met a.met.0 b.met.0));
+    met = (
+      a.met.0 ++ b.met.0,
+      b.met.1
+          ∙ (ap (λ z. z ++ b.met.0) a.met.1 ∙ append_assoc u.met a.met.0 b.met.0),
+    );
   }
 
   -- An entry that isn't warm was freed.
-  pub erases_freed : (fits : T → Key → List ℕ → Type 0) (room word charge : ℕ) (last : Option ℕ) (v w : View T)
+  pub erases_freed : (fits : T → Key → List ℕ → Type 0) (room word charge : ℕ) (last : Option ℕ)
+      (v w : View T)
       → is_warm word ≡ false → IsFreed fits room word last charge v w → Erases [] 1 charge v w
   erases_freed fits room word charge last v w cold f = record {
     same = f.same ∙ (λ k. record v {
@@ -174,14 +192,16 @@ module _ {T : Type 0} where
       unwarmed = let none : when (is_warm word) 1 ≡ 0 = ap (λ b. when b 1) cold in omega arith
 
   -- its charge is small
-  pub charge_small : (fits : T → Key → List ℕ → Type 0) (room word charge : ℕ) (last : Option ℕ) (v w : View T) (tag : T)
+  pub charge_small : (fits : T → Key → List ℕ → Type 0) (room word charge : ℕ) (last : Option ℕ)
+      (v w : View T) (tag : T)
       → v.tag ≡ Some tag → IsFreed fits room word last charge v w → charge < 2 ^ 32
   charge_small fits room word charge last v w tag tagged f =
       let right = subst (λ o. IfSome o (λ t. IsRight fits t room f.made)) tagged f.taken.right in
       rw (f.charged) right.small
 
   -- The entry of a record was hidden, or had been.
-  pub erases_hidden : (name word : ℕ) (r : Record) (v w : View T) → IsAtRest v → record_in name v.records ≡ Some r
+  pub erases_hidden : (name word : ℕ) (r : Record) (v w : View T) → IsAtRest v
+      → record_in name v.records ≡ Some r
       → w ≡ after_hide name word v
       → Erases (replicate (when (is_visible word) 1) (key_of r.entry)) 0 0 v w
       × (is_in r.entry.stamp w.work.dead ≡ true) × (w.records ≡ v.records)
@@ -202,7 +222,9 @@ module _ {T : Type 0} where
         takings = no_added v.takings k;
         met = sym (ap (λ (z : View T). z.met) same) k;
       });
-      dead = λ stamp h. rw same (grows_joined v.work.dead (option_map (λ (e : Entry). e.stamp) (entry_called name v.records)) stamp h);
+      dead = λ stamp h. rw same
+          (grows_joined v.work.dead
+          (option_map (λ (e : Entry). e.stamp) (entry_called name v.records)) stamp h);
       met = ([], ap (λ (z : View T). z.met) same ∙ no_more v.met);
     },
     rw (same, at) (joined_in r.entry.stamp v.work.dead),
@@ -215,37 +237,52 @@ module _ {T : Type 0} where
       keys false = no_more v.hidden
 
   -- The same of the record of a name, and what was searched then.
-  pub hidden_then : (slot name word n : ℕ) (v a w : View T) → IsAtRest v → n ≡ from_bool (is_visible word)
-      → IsSomeAnd (record_in name v.records) (λ r. (r.slot ≡ slot) × (r.weight ≡ 1)) → a ≡ after_hide name word v → Searched a w
-      → IsSomeAnd (record_in name v.records) (λ r. Erases (replicate n (key_of r.entry)) 0 0 v w × (is_in r.entry.stamp w.work.dead ≡ true))
-  hidden_then slot name word n v a w rest count holds same then = by (record_in name v.records) refl holds
+  pub hidden_then : (slot name word n : ℕ) (v a w : View T) → IsAtRest v
+      → n ≡ from_bool (is_visible word)
+      → IsSomeAnd (record_in name v.records) (λ r. (r.slot ≡ slot) × (r.weight ≡ 1))
+      → a ≡ after_hide name word v → Searched a w
+      → IsSomeAnd (record_in name v.records) (λ r. Erases (replicate n (key_of r.entry)) 0 0 v w
+      × (is_in r.entry.stamp w.work.dead ≡ true))
+  hidden_then slot name word n v a w rest count holds same then =
+      by (record_in name v.records) refl holds
     where
       count_is : (b : Bool) → from_bool b ≡ when b 1
       count_is true = refl
       count_is false = refl
 
-      by : (o : Option Record) → record_in name v.records ≡ o → IsSomeAnd o (λ r. (r.slot ≡ slot) × (r.weight ≡ 1))
-          → IsSomeAnd o (λ r. Erases (replicate n (key_of r.entry)) 0 0 v w × (is_in r.entry.stamp w.work.dead ≡ true))
+      by : (o : Option Record) → record_in name v.records ≡ o
+          → IsSomeAnd o (λ r. (r.slot ≡ slot) × (r.weight ≡ 1))
+          → IsSomeAnd o (λ r. Erases (replicate n (key_of r.entry)) 0 0 v w
+          × (is_in r.entry.stamp w.work.dead ≡ true))
       by None is none = absurd none
       by (Some r) is some =
           let hid = erases_hidden name word r v a rest is same in (
-            subst (λ m. Erases (replicate m (key_of r.entry)) 0 0 v w) (sym (count ∙ count_is (is_visible word)))
-                (erases_last (replicate (when (is_visible word) 1) (key_of r.entry)) 0 0 v a w hid.0 then),
+            subst (λ m. Erases (replicate m (key_of r.entry)) 0 0 v w)
+                (sym (count ∙ count_is (is_visible word)))
+                (erases_last (replicate (when (is_visible word) 1) (key_of r.entry)) 0 0 v a w hid.0
+                then),
             then.dead r.entry.stamp hid.1,
           )
 
   -- The entry that was found is erased.
-  module _ (fits : T → Key → List ℕ → Type 0) (room slot name n slots charge : ℕ) (key : Key) (v a w : View T) (r : Record) (fresh : record_in name v.records ≡ None) (found : IsFound fits room slot name key v a r) where
+  module _ (fits : T → Key → List ℕ → Type 0) (room slot name n slots charge : ℕ) (key : Key)
+      (v a w : View T) (r : Record) (fresh : record_in name v.records ≡ None)
+      (found : IsFound fits room slot name key v a r) where
     -- what hiding what is held there told
     abbrev pub Told : Type 0
-    Told = IsSomeAnd (record_in name a.records) (λ q. Erases (replicate n (key_of q.entry)) slots charge a w × (is_in q.entry.stamp w.work.dead ≡ true))
+    Told = IsSomeAnd (record_in name a.records)
+        (λ q. Erases (replicate n (key_of q.entry)) slots charge a w
+        × (is_in q.entry.stamp w.work.dead ≡ true))
 
-    told_of : Told → Erases (replicate n (key_of r.entry)) slots charge a w × (is_in r.entry.stamp w.work.dead ≡ true)
+    told_of : Told → Erases (replicate n (key_of r.entry)) slots charge a w
+        × (is_in r.entry.stamp w.work.dead ≡ true)
     told_of told =
-        subst (λ o. IsSomeAnd o (λ q. Erases (replicate n (key_of q.entry)) slots charge a w × (is_in q.entry.stamp w.work.dead ≡ true)))
+        subst (λ o. IsSomeAnd o (λ q. Erases (replicate n (key_of q.entry)) slots charge a w
+        × (is_in q.entry.stamp w.work.dead ≡ true)))
         (found_held fits room slot name key v a r fresh found) told
 
-    pub erased_there : slots ≤ 1 → Told → w.records ≡ dropped (is_called name) a.records → IsErased key n slots charge v w
+    pub erased_there : slots ≤ 1 → Told → w.records ≡ dropped (is_called name) a.records
+        → IsErased key n slots charge v w
     erased_there few told left = record {
       erases =
           erases_first (replicate n key) slots charge v a w found.searched
@@ -258,7 +295,8 @@ module _ {T : Type 0} where
           let all = total-append (λ k. when (is_key key k) 1) found.met.0 then.0 in
           let once = found.met.2 in (
             found.met.0 ++ then.0,
-            then.1 ∙ (ap (λ keys. keys ++ then.0) found.met.1 ∙ append_assoc v.met found.met.0 then.0),
+            then.1 ∙ (ap (λ keys. keys ++ then.0) found.met.1
+                ∙ append_assoc v.met found.met.0 then.0),
             omega arith,
           );
     }
@@ -267,13 +305,17 @@ module _ {T : Type 0} where
     buried_there told =
         each_map (λ q. q.slot ≡ slot → q.entry ≡ r.entry)
         (λ q. key_of q.entry ≡ key → q.slot ≡ slot → is_in q.entry.stamp w.work.dead ≡ true)
-        (λ q same asked on. subst (λ (e : Entry). is_in e.stamp w.work.dead ≡ true) (sym (same on)) (told_of told).1)
-        v.records found.one
+        (λ q same asked on. subst (λ (e : Entry). is_in e.stamp w.work.dead ≡ true) (sym (same on))
+        (told_of told).1) v.records found.one
 
   -- Nothing of a key was erased where none was found.
   pub erased_none : (key : Key) (v w : View T) → IsAtRest v → Sought v w → IsErased key 0 0 0 v w
   erased_none key v w rest s = record {
     erases = erases_none v w rest s.searched;
     records = s.records;
-    met = (s.searched.met.0, s.searched.met.1, (let none : 0 ≤ times_met key s.searched.met.0 = omega arith in none));
+    met = (
+      s.searched.met.0,
+      s.searched.met.1,
+      (let none : 0 ≤ times_met key s.searched.met.0 = omega arith in none),
+    );
   }

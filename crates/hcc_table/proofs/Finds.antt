@@ -1,4 +1,4 @@
--- A search over the places of a key, one after the other.
+-- A search over the probes of a key, one after the other.
 use Rattle.std.proofs.Common.{◌≡◌, ℕ, ◌+◌, ◌-◌, ◌%◌, ◌^◌, ◌<◌, ◌≤◌, true, inl, inr, List, [], ◌∷◌, sym, subst, refl, ap, ◌∙◌, bit_and, bit_or, eq-or-lt_of_le, arith}
 use Rattle.hcc_core.specs.World.{times}
 use Rattle.hcc_core.specs.Lawful.{is_in}
@@ -15,7 +15,7 @@ use Rattle.hcc_table.specs.declared.walk.Walk.{Walk}
 use Rattle.hcc_table.specs.Searched.{Grows, Sought, Buried, AllDead, IsBefore, IsMissed}
 use Rattle.hcc_table.proofs.Searches.{sought_then, searched_refl}
 
--- a walk stands at this place of a key
+-- a walk stands at this probe of a key
 pub record IsAt (slots : ℕ) (key : Key) (i : ℕ) (walk : Walk) : Type 0 where
   pub probe : bit_and walk.probe walk.mask ≡ probe_slot slots key i
   pub stride : walk.stride ≡ bit_or key.w0 1
@@ -35,8 +35,9 @@ module _ {T : Type 0} where
     slots = g.slots ∙ h.slots;
   }
 
-  -- What a search has done once it saw the first so many places.
-  pub record IsSearching (slots : ℕ) (key : Key) (i : ℕ) (walk : Walk) (seat new : SeatOf T) : Type 0 where
+  -- What a search has done once it saw the first so many probes.
+  pub record IsSearching (slots : ℕ) (key : Key) (i : ℕ) (walk : Walk)
+      (seat new : SeatOf T) : Type 0 where
     pub same : IsSameSeat seat new
     pub sought : Sought (view seat) (view new)
     pub walking : IsAt slots key i walk
@@ -54,77 +55,107 @@ module _ {T : Type 0} where
       from (r ∷ rs) = ((λ asked before. (let low = before.1 in absurd (omega arith))), from rs)
 
   -- a probe more
-  pub buried_more : (slots : ℕ) (key : Key) (i : ℕ) (u v w : View T) → v.records ≡ u.records → Grows v.work.dead w.work.dead
+  pub buried_more : (slots : ℕ) (key : Key) (i : ℕ) (u v w : View T) → v.records ≡ u.records
+      → Grows v.work.dead w.work.dead
       → Buried key (IsBefore slots key i) u v → Buried key (λ s. s ≡ probe_slot slots key i) v w
       → Buried key (IsBefore slots key (i + 1)) u w
   buried_more slots key i u v w first then old here =
       each_both
-      (λ (r : Record). key_of r.entry ≡ key → IsBefore slots key i r.slot → is_in r.entry.stamp v.work.dead ≡ true)
-      (λ (r : Record). key_of r.entry ≡ key → r.slot ≡ probe_slot slots key i → is_in r.entry.stamp w.work.dead ≡ true)
-      (λ (r : Record). key_of r.entry ≡ key → IsBefore slots key (i + 1) r.slot → is_in r.entry.stamp w.work.dead ≡ true)
-      (λ r before now asked passed. by r asked before now passed.0 passed.1 passed.2) u.records old (rw (← first) here)
+      (λ (r : Record). key_of r.entry ≡ key → IsBefore slots key i r.slot
+      → is_in r.entry.stamp v.work.dead ≡ true)
+      (λ (r : Record). key_of r.entry ≡ key → r.slot ≡ probe_slot slots key i
+      → is_in r.entry.stamp w.work.dead ≡ true)
+      (λ (r : Record). key_of r.entry ≡ key → IsBefore slots key (i + 1) r.slot
+      → is_in r.entry.stamp w.work.dead ≡ true)
+      (λ r before now asked passed. by r asked before now passed.0 passed.1 passed.2) u.records old
+      (rw (← first) here)
     where
       by : (r : Record) → key_of r.entry ≡ key
-          → (key_of r.entry ≡ key → IsBefore slots key i r.slot → is_in r.entry.stamp v.work.dead ≡ true)
-          → (key_of r.entry ≡ key → r.slot ≡ probe_slot slots key i → is_in r.entry.stamp w.work.dead ≡ true)
-          → (j : ℕ) → j < i + 1 → probe_slot slots key j ≡ r.slot → is_in r.entry.stamp w.work.dead ≡ true
-      by r asked before now j low at = elim (eq-or-lt_of_le (let most : j ≤ i = omega arith in most)) [
-        | inl same ↦ now asked (sym at ∙ ap (probe_slot slots key) same)
-        | inr less ↦ then r.entry.stamp (before asked (j, less, at))
-      ]
+          → (key_of r.entry ≡ key → IsBefore slots key i r.slot
+          → is_in r.entry.stamp v.work.dead ≡ true)
+          → (key_of r.entry ≡ key → r.slot ≡ probe_slot slots key i
+          → is_in r.entry.stamp w.work.dead ≡ true)
+          → (j : ℕ) → j < i + 1 → probe_slot slots key j ≡ r.slot
+          → is_in r.entry.stamp w.work.dead ≡ true
+      by r asked before now j low at =
+          elim (eq-or-lt_of_le (let most : j ≤ i = omega arith in most)) [
+            | inl same ↦ now asked (sym at ∙ ap (probe_slot slots key) same)
+            | inr less ↦ then r.entry.stamp (before asked (j, less, at))
+          ]
 
-  -- Where no trail goes on, each entry of the key that is held stands at a place that was seen.
+  -- Where no trail goes on, each entry of the key that is held stands at a probe that was seen.
   pub ended : (slots : ℕ) (key : Key) → MOST_SLOTS % slots ≡ 0 → (i n : ℕ) (v w : View T) → n ≡ 0
       → Buried key (IsBefore slots key (i + 1)) v w
-      → Each (λ (r : Record). times (probe_slot slots key i) (trail_to slots (key_of r.entry) r.slot) ≤ n) v.records
+      → Each (λ (r : Record). times (probe_slot slots key i)
+      (trail_to slots (key_of r.entry) r.slot) ≤ n) v.records
       → Each (λ (r : Record). r.slot < slots) v.records
       → AllDead key v w
   ended slots key power i n v w zero buried held within =
       each_both
-      (λ (r : Record). key_of r.entry ≡ key → IsBefore slots key (i + 1) r.slot → is_in r.entry.stamp w.work.dead ≡ true)
-      (λ (r : Record). (times (probe_slot slots key i) (trail_to slots (key_of r.entry) r.slot) ≤ n) × (r.slot < slots))
+      (λ (r : Record). key_of r.entry ≡ key → IsBefore slots key (i + 1) r.slot
+      → is_in r.entry.stamp w.work.dead ≡ true)
+      (λ (r : Record). (times (probe_slot slots key i) (trail_to slots (key_of r.entry) r.slot) ≤ n)
+      × (r.slot < slots))
       (λ (r : Record). key_of r.entry ≡ key → is_in r.entry.stamp w.work.dead ≡ true)
       (λ r dead passed asked. dead asked (seen r asked passed.0 passed.1)) v.records buried
       (each_both _ _ _ (λ r a b. (a, b)) v.records held within)
     where
       seen : (r : Record) → key_of r.entry ≡ key
-          → times (probe_slot slots key i) (trail_to slots (key_of r.entry) r.slot) ≤ n → r.slot < slots
+          → times (probe_slot slots key i) (trail_to slots (key_of r.entry) r.slot) ≤ n
+          → r.slot < slots
           → IsBefore slots key (i + 1) r.slot
       seen r asked few low =
           let none : times (probe_slot slots key i) (trail_to slots key r.slot) ≡ 0 =
-          (let same = ap (λ k. times (probe_slot slots key i) (trail_to slots k r.slot)) asked in omega arith) in
+          (let same = ap (λ k. times (probe_slot slots key i) (trail_to slots k r.slot)) asked in
+          omega arith) in
           let at = stands_within slots key power r.slot i low none in
           (at.0, (let least = at.1 in omega arith), at.2)
 
-  -- After all places none is left.
+  -- After all probes none is left.
   pub all_seen : (slots : ℕ) (key : Key) → MOST_SLOTS % slots ≡ 0 → (v w : View T)
       → Buried key (IsBefore slots key slots) v w → Each (λ (r : Record). r.slot < slots) v.records
       → AllDead key v w
   all_seen slots key power v w buried within =
       each_both
-      (λ (r : Record). key_of r.entry ≡ key → IsBefore slots key slots r.slot → is_in r.entry.stamp w.work.dead ≡ true)
+      (λ (r : Record). key_of r.entry ≡ key → IsBefore slots key slots r.slot
+      → is_in r.entry.stamp w.work.dead ≡ true)
       (λ (r : Record). r.slot < slots)
       (λ (r : Record). key_of r.entry ≡ key → is_in r.entry.stamp w.work.dead ≡ true)
-      (λ r dead low asked. dead asked (probe_of_slot slots key power r.slot low)) v.records buried within
+      (λ r dead low asked. dead asked (probe_of_slot slots key power r.slot low)) v.records buried
+      within
 
   module _ (slots : ℕ) (key : Key) (power : MOST_SLOTS % slots ≡ 0) where
     -- A search begins.
-    pub begins : (walk : Walk) (seat : SeatOf T) → walk.probe ≡ key.w1 → walk.stride ≡ bit_or key.w0 1
+    pub begins : (walk : Walk) (seat : SeatOf T) → walk.probe ≡ key.w1
+        → walk.stride ≡ bit_or key.w0 1
         → walk.mask ≡ slots - 1 → IsSearching slots key 0 walk seat seat
     begins walk seat probe stride mask = record {
       same = record { table = refl; number = refl; slots = refl };
       sought = searched_refl (view seat);
-      walking = record { probe = rw (probe, mask) (first_masked slots key power); stride = stride; mask = mask };
+      walking = record {
+        probe = rw (probe, mask) (first_masked slots key power);
+        stride = stride;
+        mask = mask;
+      };
       buried = buried_none slots key (view seat) (view seat);
       within = λ some. absurd (omega arith);
     }
 
-    module _ (i n slot : ℕ) (walk : Walk) (seat now : SeatOf T) (s : IsSearching slots key i walk seat now) (there : slot ≡ bit_and walk.probe walk.mask) where
+    module _ (i n slot : ℕ) (walk : Walk) (seat now : SeatOf T)
+        (s : IsSearching slots key i walk seat now)
+        (there : slot ≡ bit_and walk.probe walk.mask) where
       -- the slot that is probed
       pub slot_is : slot ≡ probe_slot slots key i
       slot_is = there ∙ s.walking.probe
 
-      module _ (probed counted : SeatOf T) (same : IsSameSeat now probed) (same_then : IsSameSeat probed counted) (missed : Sought (view now) (view probed) × Buried key (λ z. z ≡ slot) (view now) (view probed)) (kept : view counted ≡ view probed) (held : Each (λ (r : Record). times slot (trail_to slots (key_of r.entry) r.slot) ≤ n) (view probed).records) (within : Each (λ (r : Record). r.slot < slots) (view probed).records) where
+      module _ (probed counted : SeatOf T) (same : IsSameSeat now probed)
+          (same_then : IsSameSeat probed counted)
+          (missed : Sought (view now) (view probed)
+          × Buried key (λ z. z ≡ slot) (view now) (view probed))
+          (kept : view counted ≡ view probed)
+          (held : Each (λ (r : Record). times slot (trail_to slots (key_of r.entry) r.slot) ≤ n)
+          (view probed).records)
+          (within : Each (λ (r : Record). r.slot < slots) (view probed).records) where
         sought : Sought (view seat) (view counted)
         sought = rw kept (sought_then (view seat) (view now) (view probed) s.sought missed.0)
 
@@ -132,13 +163,15 @@ module _ {T : Type 0} where
         records_are = missed.0.records ∙ s.sought.records
 
         more : Buried key (IsBefore slots key (i + 1)) (view seat) (view counted)
-        more = rw kept (buried_more slots key i (view seat) (view now) (view probed) s.sought.records missed.0.searched.dead s.buried (rw (← slot_is) missed.1))
+        more = rw kept (buried_more slots key i (view seat) (view now) (view probed)
+            s.sought.records missed.0.searched.dead s.buried (rw (← slot_is) missed.1))
 
         low : Each (λ (r : Record). r.slot < slots) (view seat).records
         low = rw (← records_are) within
 
-        -- It goes on to the next place.
-        pub goes_on : (next : Walk) → next.probe ≡ (walk.probe + walk.stride) % 2 ^ 64 → next.stride ≡ walk.stride
+        -- It goes on to the next probe.
+        pub goes_on : (next : Walk) → next.probe ≡ (walk.probe + walk.stride) % 2 ^ 64
+            → next.stride ≡ walk.stride
             → next.mask ≡ walk.mask → IsSearching slots key (i + 1) next seat counted
         goes_on next probe stride mask = record {
           same = seat_then seat now counted s.same (seat_then now probed counted same same_then);
@@ -158,10 +191,11 @@ module _ {T : Type 0} where
         pub ends : n ≡ 0 → IsMissed key (view seat) (view counted)
         ends zero = record {
           sought = sought;
-          dead = ended slots key power i n (view seat) (view counted) zero more (rw (← records_are, ← slot_is) held) low;
+          dead = ended slots key power i n (view seat) (view counted) zero more
+              (rw (← records_are, ← slot_is) held) low;
         }
 
-    -- It ends after all places.
+    -- It ends after all probes.
     pub ends_all : (i : ℕ) (walk : Walk) (seat now : SeatOf T) → 0 < slots → slots ≤ i → i ≤ slots
         → IsSearching slots key i walk seat now → IsMissed key (view seat) (view now)
     ends_all i walk seat now some least most s =
@@ -169,5 +203,6 @@ module _ {T : Type 0} where
         record {
           sought = s.sought;
           dead = all_seen slots key power (view seat) (view now)
-              (subst (λ z. Buried key (IsBefore slots key z) (view seat) (view now)) same s.buried) (s.within (omega arith));
+              (subst (λ z. Buried key (IsBefore slots key z) (view seat) (view now)) same s.buried)
+              (s.within (omega arith));
         }

@@ -19,7 +19,8 @@ use Rattle.hcc_table.specs.Pins.{IsOf, IsPinned}
 use Rattle.hcc_table.specs.Searched.{Reached}
 
 -- one of a list that passes is found by a search for any
-any_found : {A : Type 0} (p q : A → Bool) (xs : List A) (x : A) → find q xs ≡ Some x → p x ≡ true → list_any p xs ≡ true
+any_found : {A : Type 0} (p q : A → Bool) (xs : List A) (x : A) → find q xs ≡ Some x → p x ≡ true
+    → list_any p xs ≡ true
 any_found p q [] x found passes = cc
 any_found p q (y ∷ ys) x found passes = by (q y) (any_found p q ys x) found
   where
@@ -27,7 +28,8 @@ any_found p q (y ∷ ys) x found passes = by (q y) (any_found p q ys x) found
     later true h = refl
     later false h = h
 
-    by : (b : Bool) → (find q ys ≡ Some x → p x ≡ true → list_any p ys ≡ true) → cond b (Some y) (find q ys) ≡ Some x
+    by : (b : Bool) → (find q ys ≡ Some x → p x ≡ true → list_any p ys ≡ true)
+        → cond b (Some y) (find q ys) ≡ Some x
         → (p y || list_any p ys) ≡ true
     by true rest found = let same : y ≡ x = cc in ap (λ b. b || list_any p ys) (ap p same ∙ passes)
     by false rest found = later (p y) (rest found passes)
@@ -39,7 +41,8 @@ tried_due A B due None old new is won lost =
     (tt, (λ _. lost.2, λ not. let bad : true ≡ false = sym is ∙ not in cc))
 tried_due A B due (Some charge) old new is won lost = ((is, won), tt)
 
-pub not_due : (due : Bool) (old new : Effort) → due ≡ false → new ≡ old → TriedWhereDue due None old new
+pub not_due : (due : Bool) (old new : Effort) → due ≡ false → new ≡ old
+    → TriedWhereDue due None old new
 not_due due old new not same =
     (tt, (λ is. let bad : true ≡ false = sym is ∙ not in cc, λ _. same))
 
@@ -48,12 +51,14 @@ module _ {T : Type 0} where
   pub pinned_on : (pin : Pin) (v : View T) → IsPinned pin v → HasOn pin.slot pin.name v
   pinned_on pin v h = by (record_in pin.name v.records) h
     where
-      by : (o : Option Record) → IsSomeAnd o (λ r. IsOf pin r) → IsSomeAnd o (λ r. r.slot ≡ pin.slot)
+      by : (o : Option Record) → IsSomeAnd o (λ r. IsOf pin r)
+          → IsSomeAnd o (λ r. r.slot ≡ pin.slot)
       by None none = absurd none
       by (Some r) is = is.0
 
   -- a client reaches a slot that it has a record of
-  pub reaches_held : (slot held : ℕ) (v : View T) → IsSomeAnd (record_in held v.records) (λ r. r.slot ≡ slot)
+  pub reaches_held : (slot held : ℕ) (v : View T)
+      → IsSomeAnd (record_in held v.records) (λ r. r.slot ≡ slot)
       → may_reach slot v ≡ true
   reaches_held slot held v holds = by (record_in held v.records) refl holds
     where
@@ -61,7 +66,8 @@ module _ {T : Type 0} where
       later true b h = refl
       later false b h = h
 
-      by : (o : Option Record) → record_in held v.records ≡ o → IsSomeAnd o (λ r. r.slot ≡ slot) → may_reach slot v ≡ true
+      by : (o : Option Record) → record_in held v.records ≡ o → IsSomeAnd o (λ r. r.slot ≡ slot)
+          → may_reach slot v ≡ true
       by None is none = absurd none
       by (Some r) is on =
           later (looks_at v.work slot) (list_any (is_on slot) v.records)
@@ -71,16 +77,20 @@ module _ {T : Type 0} where
   pub one_more : (fits : T → Key → List ℕ → Type 0) (room slot held name word : ℕ) (v w : View T)
       → IsSomeAnd (record_in held v.records) (λ r. r.slot ≡ slot)
       → Reached fits room slot 1 name word v w
-      → (r : Record) × (w.records ≡ v.records ++ r ∷ []) × (r.slot ≡ slot) × (r.name ≡ name) × (r.weight ≡ 1)
+      → (r : Record) × (w.records ≡ v.records ++ r ∷ []) × (r.slot ≡ slot) × (r.name ≡ name)
+      × (r.weight ≡ 1)
       × (r.counting ≡ is_counting word) × IfSome (record_in held v.records) (λ q. r.entry ≡ q.entry)
   one_more fits room slot held name word v w holds h = by (record_in held v.records) refl holds
     where
       by : (o : Option Record) → record_in held v.records ≡ o → IsSomeAnd o (λ r. r.slot ≡ slot)
-          → (r : Record) × (w.records ≡ v.records ++ r ∷ []) × (r.slot ≡ slot) × (r.name ≡ name) × (r.weight ≡ 1)
+          → (r : Record) × (w.records ≡ v.records ++ r ∷ []) × (r.slot ≡ slot) × (r.name ≡ name)
+          × (r.weight ≡ 1)
           × (r.counting ≡ is_counting word) × IfSome o (λ q. r.entry ≡ q.entry)
       by None is none = absurd none
       by (Some q) is on =
-          let has = find_each (is_called held) (λ r. r.slot ≡ slot → is_shareable word ≡ true) v.records q h.held is on in
+          let has = find_each (is_called held) (λ r. r.slot ≡ slot → is_shareable word ≡ true)
+          v.records q h.held is on in
           let got = h.got has in
-          let same = find_each (is_called held) (λ r. r.slot ≡ slot → r.entry ≡ got.0) v.records q got.1.same is on in
+          let same = find_each (is_called held) (λ r. r.slot ≡ slot → r.entry ≡ got.0) v.records q
+          got.1.same is on in
           (record_of slot 1 name word got.0, got.2, refl, refl, refl, refl, sym same)

@@ -14,14 +14,28 @@ use Rattle.hcc_table.proofs.Probes.{buried_by_dead}
 
 module _ {T : Type 0} where
   pub tried_refl : (v : View T) → Tried v v
-  tried_refl v = record { same = refl; dead = λ stamp h. h; met = ([], no_more v.met); saw = omega arith }
+  tried_refl v = record {
+    same = refl;
+    dead = λ stamp h. h;
+    met = ([], no_more v.met);
+    saw = omega arith;
+  }
 
   -- one after the other
   pub tried_then : (u v w : View T) → Tried u v → Tried v w → Tried u w
   tried_then u v w a b = record {
-    same = b.same ∙ ap (λ (z : View T). record z { work = record z.work { looked = w.work.looked; dead = w.work.dead }; met = w.met; saw = w.saw }) a.same;
+    same = b.same ∙ ap (λ (z : View T).
+        record z {
+          work = record z.work { looked = w.work.looked; dead = w.work.dead };
+          met = w.met;
+          saw = w.saw;
+        }) a.same;
     dead = λ stamp h. b.dead stamp (a.dead stamp h);
-    met = (a.met.0 ++ b.met.0, b.met.1 ∙ (ap (λ z. z ++ b.met.0) a.met.1 ∙ append_assoc u.met a.met.0 b.met.0));
+    met = (
+      a.met.0 ++ b.met.0,
+      b.met.1
+          ∙ (ap (λ z. z ++ b.met.0) a.met.1 ∙ append_assoc u.met a.met.0 b.met.0),
+    );
     saw = omega (arith, a.saw, b.saw);
   }
 
@@ -38,7 +52,8 @@ module _ {T : Type 0} where
       saw = ap (λ (z : View T). z.saw) h.searched.same
 
   -- the try of a slot that isn't empty
-  pub tried_slot : (slot word : ℕ) (v w : View T) → is_empty word ≡ false → w ≡ after_occupy slot word v
+  pub tried_slot : (slot word : ℕ) (v w : View T) → is_empty word ≡ false
+      → w ≡ after_occupy slot word v
       → Tried v w × (w.saw ≡ v.saw + 1)
   tried_slot slot word v w taken tells = (
     record {
@@ -57,7 +72,8 @@ module _ {T : Type 0} where
       saw = ap (λ (z : View T). z.saw) same
 
   -- the try of a slot that isn't empty, and a search there
-  pub tried_there : (slot word : ℕ) (v a w : View T) → is_empty word ≡ false → a ≡ after_occupy slot word v
+  pub tried_there : (slot word : ℕ) (v a w : View T) → is_empty word ≡ false
+      → a ≡ after_occupy slot word v
       → Sought a w → Tried v w × (w.saw ≡ v.saw + 1)
   tried_there slot word v a w taken tells sought =
       let first = tried_slot slot word v a taken tells in (
@@ -75,7 +91,8 @@ module _ {T : Type 0} where
 
   -- a search there tells of what was held before the try
   pub shown_there : (key : Key) (slot word : ℕ) (v a w : View T) → is_empty word ≡ false
-      → a ≡ after_occupy slot word v → Buried key (λ s. s ≡ slot) a w → Buried key (λ s. s ≡ slot) v w
+      → a ≡ after_occupy slot word v → Buried key (λ s. s ≡ slot) a w
+      → Buried key (λ s. s ≡ slot) v w
   shown_there key slot word v a w taken tells =
       let all : a ≡ record (after_look slot word v) { saw = v.saw + 1 } = tells ∙ rw taken refl in
       let same : a.records ≡ v.records = ap (λ (z : View T). z.records) all in
@@ -86,8 +103,9 @@ module _ {T : Type 0} where
     pub trail_is : w.work.trail ≡ trail
     trail_is = ap (λ (z : View T). z.work.trail) h.same
 
-    -- a place more is passed
-    pub tried_pass : (slot : ℕ) (more : List ℕ) (new : View T) → new ≡ after_pass slot w → more ≡ trail ++ slot ∷ []
+    -- a slot more is passed
+    pub tried_pass : (slot : ℕ) (more : List ℕ) (new : View T) → new ≡ after_pass slot w
+        → more ≡ trail ++ slot ∷ []
         → Tried (with_trail more v) new
     tried_pass slot more new passed is = rw (is, passed) record {
       same = ap (after_pass slot) h.same;

@@ -18,11 +18,13 @@ use Rattle.hcc_table.proofs.Inserts.{tried_refl, tried_then, trail_is, tried_pas
 
 module _ {T : Type 0} where
   -- So many probes were tried and passed, and the next one is to be tried.
-  pub record IsTrying (slots : ℕ) (key : Key) (i : ℕ) (walk : Walk) (seat now : SeatOf T) : Type 0 where
+  pub record IsTrying (slots : ℕ) (key : Key) (i : ℕ) (walk : Walk)
+      (seat now : SeatOf T) : Type 0 where
     pub same : IsSameSeat seat now
     pub walking : IsAt slots key i walk
     pub inside : i < slots
-    pub tried : Tried (with_trail (trail_to slots key (probe_slot slots key i)) (view seat)) (view now)
+    pub tried : Tried (with_trail (trail_to slots key (probe_slot slots key i)) (view seat))
+        (view now)
     pub saw : (view now).saw ≡ (view seat).saw + i
     pub dead : Buried key (IsBefore slots key i) (view seat) (view now)
 
@@ -44,7 +46,8 @@ module _ {T : Type 0} where
       dead = buried_none slots draft.key (view seat) (view seat);
     }
 
-    module _ (i slot : ℕ) (walk : Walk) (seat now : SeatOf T) (s : IsTrying slots draft.key i walk seat now)
+    module _ (i slot : ℕ) (walk : Walk) (seat now : SeatOf T)
+        (s : IsTrying slots draft.key i walk seat now)
         (there : slot ≡ bit_and walk.probe walk.mask) where
       abbrev trail : List ℕ
       trail = trail_to slots draft.key (probe_slot slots draft.key i)
@@ -59,14 +62,16 @@ module _ {T : Type 0} where
 
         -- The slot was empty, and the entry is shown there.
         pub tries_placed : (at : ℕ) → TriedAt slot draft value (Placed at) (view now) (view probed)
-            → (view seat).work.trail ≡ [] → InsertedBy slots draft value (Placed at) (view seat) (view probed)
+            → (view seat).work.trail ≡ []
+            → InsertedBy slots draft value (Placed at) (view seat) (view probed)
         tries_placed at told none = (
           i,
           rw told.0 record {
             low = rw slot_is (probe_inside slots draft.key i (some_slots slots power));
             inside = s.inside;
             probe = slot_is;
-            tried = tried_show trail (view seat) (view now) s.tried slot draft value (view probed) told.1;
+            tried = tried_show trail (view seat) (view now) s.tried slot draft value (view probed)
+                told.1;
             saw = ap (λ (z : View T). z.saw) told.1 ∙ s.saw;
             dead = rw told.1 s.dead;
           },
@@ -74,7 +79,8 @@ module _ {T : Type 0} where
 
         module _ (tried : Tried (view now) (view probed)) where
           tried_all : Tried (with_trail trail (view seat)) (view probed)
-          tried_all = tried_then (with_trail trail (view seat)) (view now) (view probed) s.tried tried
+          tried_all = tried_then (with_trail trail (view seat)) (view now) (view probed) s.tried
+              tried
 
           -- The trail is that to the slot, which was tried.
           probed_trail : (view probed).work.trail ≡ trail
@@ -88,16 +94,20 @@ module _ {T : Type 0} where
               omega arith
 
           -- It is taken back.
-          probed_back : (new : SeatOf T) → (view seat).work.trail ≡ [] → view new ≡ with_trail [] (view probed)
+          probed_back : (new : SeatOf T) → (view seat).work.trail ≡ []
+              → view new ≡ with_trail [] (view probed)
               → Tried (view seat) (view new)
-          probed_back new none back = tried_back trail (view seat) (view probed) tried_all (view new) none back
+          probed_back new none back =
+              tried_back trail (view seat) (view probed) tried_all (view new) none back
 
           -- One probe more was tried, and what is held there is dead.
           module _ (dead : Buried draft.key (λ s. s ≡ slot) (view now) (view probed)) where
-            dead_then : Buried draft.key (IsBefore slots draft.key (i + 1)) (view seat) (view probed)
+            dead_then : Buried draft.key (IsBefore slots draft.key (i + 1)) (view seat)
+                (view probed)
             dead_then =
                 buried_more slots draft.key i (view seat) (view now) (view probed)
-                (ap (λ (z : View T). z.records) s.tried.same) tried.dead s.dead (rw (← slot_is) dead)
+                (ap (λ (z : View T). z.records) s.tried.same) tried.dead s.dead
+                (rw (← slot_is) dead)
 
             -- The slot is passed, and the next probe is to be tried.
             pub tries_next : (new : SeatOf T) (next : Walk)
@@ -110,7 +120,8 @@ module _ {T : Type 0} where
               walking = record {
                 probe =
                     rw (probe, mask, s.walking.stride, s.walking.mask)
-                    (next_masked slots draft.key power i walk.probe (rw (← s.walking.mask) s.walking.probe));
+                    (next_masked slots draft.key power i walk.probe
+                    (rw (← s.walking.mask) s.walking.probe));
                 stride = stride ∙ s.walking.stride;
                 mask = mask ∙ s.walking.mask;
               };
@@ -118,7 +129,8 @@ module _ {T : Type 0} where
               tried =
                   tried_pass trail (view seat) (view probed) tried_all slot
                   (trail_to slots draft.key (probe_slot slots draft.key (i + 1))) (view new) passed
-                  (trail_next slots draft.key power i more ∙ ap (λ z. trail ++ z ∷ []) (sym slot_is));
+                  (trail_next slots draft.key power i more
+                  ∙ ap (λ z. trail ++ z ∷ []) (sym slot_is));
               saw =
                   let first = s.saw in
                   let last = ap (λ (z : View T). z.saw) passed in
@@ -127,7 +139,8 @@ module _ {T : Type 0} where
             }
 
             -- It was the last one.
-            pub tries_last : (new : SeatOf T) → (view probed).saw ≡ (view now).saw + 1 → i + 1 ≡ slots
+            pub tries_last : (new : SeatOf T) → (view probed).saw ≡ (view now).saw + 1
+                → i + 1 ≡ slots
                 → (view seat).work.trail ≡ [] → view new ≡ with_trail [] (view probed)
                 → InsertedBy slots draft value NoSlot (view seat) (view new)
             tries_last new saw last none back = (
@@ -135,12 +148,14 @@ module _ {T : Type 0} where
               (let first = s.saw in
                   let same = ap (λ (z : View T). z.saw) back in
                   omega arith),
-              rw back (subst (λ n. Buried draft.key (IsBefore slots draft.key n) (view seat) (view probed))
+              rw back (subst (λ n. Buried draft.key (IsBefore slots draft.key n) (view seat)
+                  (view probed))
                   last dead_then),
             )
 
         -- It shows an entry of the key, and the trail was taken back.
-        pub tries_matched : (new : SeatOf T) → TriedAt slot draft value Matched (view now) (view probed)
+        pub tries_matched : (new : SeatOf T)
+            → TriedAt slot draft value Matched (view now) (view probed)
             → (view seat).work.trail ≡ [] → view new ≡ with_trail [] (view probed)
             → InsertedBy slots draft value Matched (view seat) (view new)
         tries_matched new told none back = (
@@ -153,6 +168,7 @@ module _ {T : Type 0} where
             s.tried.met.0 ++ told.2.0,
             ap (λ (z : View T). z.met) back ∙ told.2.1
                 ∙ ap (λ z. z ++ told.2.0 ++ draft.key ∷ []) s.tried.met.1
-                ∙ ap (λ z. z ++ draft.key ∷ []) (append_assoc (view seat).met s.tried.met.0 told.2.0),
+                ∙ ap (λ z. z ++ draft.key ∷ [])
+                (append_assoc (view seat).met s.tried.met.0 told.2.0),
           ),
         )

@@ -26,7 +26,8 @@ word_copied bytes copied n same =
 -- The last word of a value has fewer than eight bytes.
 pub word_last : (value : List ℕ) (place : ℕ) → place ≤ length value
     → length (take (length value - place) (drop place value)) < 8
-    → from_le_bytes w64 (take (length value - place) (drop place value)) ≡ from_le_bytes w64 (take 8 (drop place value))
+    → from_le_bytes w64 (take (length value - place) (drop place value))
+    ≡ from_le_bytes w64 (take 8 (drop place value))
 word_last value place inside short =
     let left : length (drop place value) ≡ length value - place = length-drop place value in
     let whole = take_all (length value - place) (drop place value) (omega arith) in
@@ -35,7 +36,8 @@ word_last value place inside short =
 
 module _ {T : Type 0} where
   -- a seat whose tag stays is a seat of the table still
-  pub seat_tagged : (id : _) (tag : T) (seat new : SeatOf T) → IsSeatOf id tag seat → IsSameSeat seat new
+  pub seat_tagged : (id : _) (tag : T) (seat new : SeatOf T) → IsSeatOf id tag seat
+      → IsSameSeat seat new
       → (view new).tag ≡ (view seat).tag → IsSeatOf id tag new
   seat_tagged id tag seat new old same tagged = record {
     table = same.table ∙ old.table;
@@ -46,7 +48,9 @@ module _ {T : Type 0} where
   -- Of the payload the first so many words are written, behind what was written before.
   pub record IsWriting (value : List ℕ) (k : ℕ) (seat new : SeatOf T) : Type 0 where
     pub same : IsSameSeat seat new
-    pub written : view new ≡ with_words ((view seat).written ++ map (payload_word value) (range_with_len 0 k)) (view seat)
+    pub written : view new
+        ≡ with_words ((view seat).written ++ map (payload_word value) (range_with_len 0 k))
+        (view seat)
 
   -- None is written yet.
   pub writes_none : (value : List ℕ) (seat : SeatOf T) → IsWriting value 0 seat seat
@@ -58,9 +62,11 @@ module _ {T : Type 0} where
   module _ (value : List ℕ) (k : ℕ) (seat now : SeatOf T) (s : IsWriting value k seat now) where
     -- The seat is one of the table, and its client builds the slot.
     pub still_seat : (id : _) (tag : T) → IsSeatOf id tag seat → IsSeatOf id tag now
-    still_seat id tag old = seat_tagged id tag seat now old s.same (ap (λ (z : View T). z.tag) s.written)
+    still_seat id tag old =
+        seat_tagged id tag seat now old s.same (ap (λ (z : View T). z.tag) s.written)
 
-    pub still_builds : (slot : ℕ) → (view seat).work.owned ≡ owned.ForBuilding slot → (view now).work.owned ≡ owned.ForBuilding slot
+    pub still_builds : (slot : ℕ) → (view seat).work.owned ≡ owned.ForBuilding slot
+        → (view now).work.owned ≡ owned.ForBuilding slot
     still_builds slot builds = ap (λ (z : View T). z.work.owned) s.written ∙ builds
 
     -- The next word is the one behind these.
@@ -73,22 +79,29 @@ module _ {T : Type 0} where
         omega arith
 
     -- One word more.
-    pub writes_more : (new : SeatOf T) (word : ℕ) → IsSameSeat now new → view new ≡ after_write word (view now)
+    pub writes_more : (new : SeatOf T) (word : ℕ) → IsSameSeat now new
+        → view new ≡ after_write word (view now)
         → word ≡ payload_word value k → IsWriting value (k + 1) seat new
     writes_more new word same wrote is = record {
       same = seat_then seat now new s.same same;
-      written = wrote ∙ ap (λ (z : View T). after_write word z) s.written ∙ ap (λ ws. with_words ws (view seat)) more;
+      written = wrote ∙ ap (λ (z : View T). after_write word z) s.written
+          ∙ ap (λ ws. with_words ws (view seat)) more;
     }
       where
         f : ℕ → ℕ
         f = payload_word value
 
-        more : ((view seat).written ++ map f (range_with_len 0 k)) ++ word ∷ [] ≡ (view seat).written ++ map f (range_with_len 0 (k + 1))
+        more : ((view seat).written ++ map f (range_with_len 0 k)) ++ word ∷ []
+            ≡ (view seat).written ++ map f (range_with_len 0 (k + 1))
         more =
             append_assoc (view seat).written (map f (range_with_len 0 k)) (word ∷ [])
             ∙ ap (λ z. (view seat).written ++ (map f (range_with_len 0 k) ++ z ∷ [])) is
-            ∙ ap (λ z. (view seat).written ++ z) (sym (map-range_with_len_more f 0 k k (omega arith)))
+            ∙ ap (λ z. (view seat).written ++ z)
+            (sym (map-range_with_len_more f 0 k k (omega arith)))
 
     -- All are written.
-    pub writes_all : k ≡ words_for (length value) → view now ≡ with_words ((view seat).written ++ payload value) (view seat)
-    writes_all all = s.written ∙ ap (λ n. with_words ((view seat).written ++ map (payload_word value) (range_with_len 0 n)) (view seat)) all
+    pub writes_all : k ≡ words_for (length value)
+        → view now ≡ with_words ((view seat).written ++ payload value) (view seat)
+    writes_all all = s.written
+        ∙ ap (λ n. with_words ((view seat).written ++ map (payload_word value) (range_with_len 0 n))
+        (view seat)) all

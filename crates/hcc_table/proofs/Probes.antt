@@ -1,4 +1,4 @@
--- What a probe of one place told: a look, an acquire, the key's words, and a give.
+-- What the probe of one slot told: a look, an acquire, the key's words, and a give.
 use Rattle.std.proofs.Common.{◌≡◌, ℕ, ◌++◌, cond, Bool, true, false, List, [], ◌∷◌, Some, None, IfSome, IsSomeAnd, sym, subst, refl, ap, ◌∙◌, append_assoc, ◌≤◌, arith}
 use Rattle.std.specs.List.{find}
 use Rattle.std.proofs.lemmas.Bool.{eq-eqb}
@@ -29,7 +29,8 @@ dropped_last p [] x missed passes = ap (λ b. cond b [] (x ∷ [])) passes
 dropped_last p (y ∷ ys) x missed passes = by (p y) (dropped_last p ys x) missed
   where
     by : (b : Bool) → (find p ys ≡ None → p x ≡ true → dropped p (ys ++ x ∷ []) ≡ ys)
-        → cond b (Some y) (find p ys) ≡ None → cond b (ys ++ x ∷ []) (y ∷ dropped p (ys ++ x ∷ [])) ≡ y ∷ ys
+        → cond b (Some y) (find p ys) ≡ None
+        → cond b (ys ++ x ∷ []) (y ∷ dropped p (ys ++ x ∷ [])) ≡ y ∷ ys
     by true later missed = cc
     by false later missed = ap (λ z. y ∷ z) (later missed passes)
 
@@ -37,7 +38,8 @@ dropped_last p (y ∷ ys) x missed passes = by (p y) (dropped_last p ys x) misse
 met_once : (key : Key) (before : List Key) → 1 ≤ times_met key (before ++ key ∷ [])
 met_once key before =
     let all = total-append (λ k. when (is_key key k) 1) before (key ∷ []) in
-    let one : when (is_key key key) 1 ≡ 1 = rw (eq-eqb key.w0 key.w0 refl, eq-eqb key.w1 key.w1 refl) refl in
+    let one : when (is_key key key) 1 ≡ 1 =
+    rw (eq-eqb key.w0 key.w0 refl, eq-eqb key.w1 key.w1 refl) refl in
     omega arith
 
 module _ {T : Type 0} where
@@ -54,7 +56,8 @@ module _ {T : Type 0} where
     records = ap (λ (z : View T). z.records) same;
   }
 
-  pub given_at : (slot name word : ℕ) (v w : View T) → w ≡ after_give slot name word v → Searched v w
+  pub given_at : (slot name word : ℕ) (v w : View T) → w ≡ after_give slot name word v
+      → Searched v w
   given_at slot name word v w same = searched_by v w (found_dead slot word v) (rw same refl)
 
   -- A look at a slot that isn't shown: each entry that is held there was hidden.
@@ -65,10 +68,12 @@ module _ {T : Type 0} where
     where
       from : (rs : List Record) → Each (λ (r : Record). r.slot ≡ slot → is_shareable word ≡ true) rs
           → Each (λ (r : Record). r.slot ≡ slot → stamp_on slot v.records ≡ Some r.entry.stamp) rs
-          → Each (λ (r : Record). key_of r.entry ≡ key → r.slot ≡ slot → is_in r.entry.stamp w.work.dead ≡ true) rs
+          → Each (λ (r : Record). key_of r.entry ≡ key → r.slot ≡ slot
+          → is_in r.entry.stamp w.work.dead ≡ true) rs
       from [] entries one = tt
       from (r ∷ rs) entries one = (
-        (λ asked on. rw (same, entries.0 on, hidden, one.0 on) (joined_in r.entry.stamp v.work.dead)),
+        (λ asked on. rw (same, entries.0 on, hidden, one.0 on)
+            (joined_in r.entry.stamp v.work.dead)),
         from rs entries.1 one.1,
       )
 
@@ -77,8 +82,8 @@ module _ {T : Type 0} where
   buried_by_look key slot word v w hidden backs same =
       buried_by_dead key slot word v w hidden backs (ap (λ (z : View T). z.work.dead) same)
 
-  module _ (fits : T → Key → List ℕ → Type 0) (room slot weight name word : ℕ) (key : Key) (v a b : View T)
-      (looked : Sought v a) (h : Reached fits room slot weight name word a b) where
+  module _ (fits : T → Key → List ℕ → Type 0) (room slot weight name word : ℕ) (key : Key)
+      (v a b : View T) (looked : Sought v a) (h : Reached fits room slot weight name word a b) where
     -- An acquire that strayed: nothing is held there.
     pub strayed : is_shareable word ≡ false → Sought v b × Buried key (λ s. s ≡ slot) v b
     strayed away = (
@@ -101,7 +106,8 @@ module _ {T : Type 0} where
 
       -- it is on record
       pub on_record : record_in name b.records ≡ Some got_record
-      on_record = ap (record_in name) records_are ∙ find_last (is_called name) v.records got_record fresh (eq-eqb name name refl)
+      on_record = ap (record_in name) records_are
+          ∙ find_last (is_called name) v.records got_record fresh (eq-eqb name name refl)
 
       pub holds : (d : View T) → Sought b d
           → IsSomeAnd (record_in name d.records) (λ r. (r.slot ≡ slot) × (r.weight ≡ weight))
@@ -112,20 +118,24 @@ module _ {T : Type 0} where
           (λ r. (r.slot ≡ slot) × (r.weight ≡ weight) × (used ≡ true → r.counting ≡ true))
       holds_used d used kept is = rw (kept.records, on_record) (refl, refl, λ yes. sym is ∙ yes)
 
-      pub holds_slot : (d : View T) → Sought b d → IsSomeAnd (record_in name d.records) (λ r. r.slot ≡ slot)
+      pub holds_slot : (d : View T) → Sought b d
+          → IsSomeAnd (record_in name d.records) (λ r. r.slot ≡ slot)
       holds_slot d kept = rw (kept.records, on_record) refl
 
       -- what its key words told
-      pub told_key : (P : Entry → Type 0) → IfSome (record_in name b.records) (λ r. P r.entry) → P entry
+      pub told_key : (P : Entry → Type 0) → IfSome (record_in name b.records) (λ r. P r.entry)
+          → P entry
       told_key P told = subst (λ o. IfSome o (λ r. P r.entry)) on_record told
 
       -- and no more once it was given back
-      pub given_back : (left : ℕ) (c d : View T) → Sought b c → d ≡ after_give slot name left c → Sought v d
+      pub given_back : (left : ℕ) (c d : View T) → Sought b c → d ≡ after_give slot name left c
+          → Sought v d
       given_back left c d kept same = record {
         searched = searched_then v b d (searched_then v a b looked.searched h.searched)
             (searched_then b c d kept.searched (given_at slot name left c d same));
         records =
-            ap (λ (z : View T). z.records) same ∙ (ap (dropped (is_called name)) (kept.records ∙ records_are)
+            ap (λ (z : View T). z.records) same
+            ∙ (ap (dropped (is_called name)) (kept.records ∙ records_are)
             ∙ dropped_last (is_called name) v.records got_record fresh (eq-eqb name name refl));
       }
 
@@ -134,11 +144,13 @@ module _ {T : Type 0} where
       one_entry = rw (← looked.records) ((h.got has).1).same
 
       -- The entry that was found hidden is dead, and so is each of these.
-      pub buried_hidden : (d : View T) → is_visible word ≡ false → Searched b d → Buried key (λ s. s ≡ slot) v d
+      pub buried_hidden : (d : View T) → is_visible word ≡ false → Searched b d
+          → Buried key (λ s. s ≡ slot) v d
       buried_hidden d hidden kept =
           each_map (λ r. r.slot ≡ slot → r.entry ≡ entry)
           (λ r. key_of r.entry ≡ key → r.slot ≡ slot → is_in r.entry.stamp d.work.dead ≡ true)
-          (λ r same asked on. subst (λ (e : Entry). is_in e.stamp d.work.dead ≡ true) (sym (same on)) (kept.dead entry.stamp ((h.got has).3 hidden)))
+          (λ r same asked on. subst (λ (e : Entry). is_in e.stamp d.work.dead ≡ true)
+          (sym (same on)) (kept.dead entry.stamp ((h.got has).3 hidden)))
           v.records one_entry
 
       -- An entry of another key is none that was asked for.
@@ -153,18 +165,21 @@ module _ {T : Type 0} where
       pub missed_there : (left : ℕ) (c d : View T) → Sought b c → d ≡ after_give slot name left c
           → (is_visible word ≡ true → ¬ (key_of entry ≡ key))
           → Sought v d × Buried key (λ s. s ≡ slot) v d
-      missed_there left c d kept same other = (given_back left c d kept same, by (is_visible word) refl)
+      missed_there left c d kept same other =
+          (given_back left c d kept same, by (is_visible word) refl)
         where
           by : (b : Bool) → is_visible word ≡ b → Buried key (λ s. s ≡ slot) v d
           by true is = buried_other d (other is)
-          by false is = buried_hidden d is (searched_then b c d kept.searched (given_at slot name left c d same))
+          by false is = buried_hidden d is
+              (searched_then b c d kept.searched (given_at slot name left c d same))
 
       -- An entry that was found visible is met once both its key words were read.
       key_last : is_visible word ≡ true → key_of entry ≡ key
           → with_met (record_in name b.records) b.met ≡ b.met ++ key ∷ []
       key_last shown asked =
           ap (λ o. with_met o b.met) on_record
-          ∙ (ap (λ s. cond s (b.met ++ key_of entry ∷ []) b.met) shown ∙ ap (λ k. b.met ++ k ∷ []) asked)
+          ∙ (ap (λ s. cond s (b.met ++ key_of entry ∷ []) b.met) shown
+          ∙ ap (λ k. b.met ++ k ∷ []) asked)
 
       pub met_there : (left : ℕ) (c d : View T) → is_visible word ≡ true → key_of entry ≡ key
           → c.met ≡ with_met (record_in name b.records) b.met → d ≡ after_give slot name left c
@@ -177,11 +192,13 @@ module _ {T : Type 0} where
           )
 
       -- The entry that was found, with the key that was asked for.
-      pub found_there : (d : View T) → weight ≡ 1 → is_visible word ≡ true → key_of entry ≡ key → Sought b d
+      pub found_there : (d : View T) → weight ≡ 1 → is_visible word ≡ true → key_of entry ≡ key
+          → Sought b d
           → d.met ≡ with_met (record_in name b.records) b.met
           → IsFound fits room slot name key v d got_record
       found_there d one shown asked kept meets = record {
-        searched = searched_then v b d (searched_then v a b looked.searched h.searched) kept.searched;
+        searched = searched_then v b d (searched_then v a b looked.searched h.searched)
+            kept.searched;
         records = kept.records ∙ records_are;
         on = refl;
         called = refl;
@@ -207,44 +224,56 @@ module _ {T : Type 0} where
           met_last =
               let before = searched_then v a b looked.searched h.searched in (
                 before.met.0 ++ key ∷ [],
-                meets ∙ (key_last shown asked ∙ (ap (λ keys. keys ++ key ∷ []) before.met.1 ∙ append_assoc v.met before.met.0 (key ∷ []))),
+                meets ∙ (key_last shown asked
+                    ∙ (ap (λ keys. keys ++ key ∷ []) before.met.1
+                    ∙ append_assoc v.met before.met.0 (key ∷ []))),
                 met_once key before.met.0,
               )
 
           unseen : (seen : Bool) → is_in entry.stamp v.work.dead ≡ seen → seen ≡ false
-          unseen true is = let bad : true ≡ false = sym (looked.searched.dead entry.stamp is) ∙ met.alive shown in cc
+          unseen true is = let bad : true ≡ false = sym (looked.searched.dead entry.stamp is)
+              ∙ met.alive shown in cc
           unseen false is = refl
 
   -- What was found is on record.
-  pub found_held : (fits : T → Key → List ℕ → Type 0) (room slot name : ℕ) (key : Key) (v w : View T) (r : Record)
-      → record_in name v.records ≡ None → IsFound fits room slot name key v w r → record_in name w.records ≡ Some r
+  pub found_held : (fits : T → Key → List ℕ → Type 0) (room slot name : ℕ) (key : Key)
+      (v w : View T) (r : Record)
+      → record_in name v.records ≡ None → IsFound fits room slot name key v w r
+      → record_in name w.records ≡ Some r
   found_held fits room slot name key v w r fresh found =
-      ap (record_in name) found.records ∙ find_last (is_called name) v.records r fresh (eq-eqb r.name name found.called)
+      ap (record_in name) found.records
+      ∙ find_last (is_called name) v.records r fresh (eq-eqb r.name name found.called)
 
-  pub found_holds : (fits : T → Key → List ℕ → Type 0) (room slot name : ℕ) (key : Key) (v w : View T) (r : Record)
+  pub found_holds : (fits : T → Key → List ℕ → Type 0) (room slot name : ℕ) (key : Key)
+      (v w : View T) (r : Record)
       → record_in name v.records ≡ None → IsFound fits room slot name key v w r
       → IsSomeAnd (record_in name w.records) (λ q. (q.slot ≡ slot) × (q.weight ≡ 1))
   found_holds fits room slot name key v w r fresh found =
       rw (found_held fits room slot name key v w r fresh found) (found.on, found.single)
 
-  pub found_stands : (fits : T → Key → List ℕ → Type 0) (room slot name : ℕ) (key : Key) (v w : View T) (r : Record)
+  pub found_stands : (fits : T → Key → List ℕ → Type 0) (room slot name : ℕ) (key : Key)
+      (v w : View T) (r : Record)
       → record_in name v.records ≡ None → IsFound fits room slot name key v w r
       → IsSomeAnd (record_in name w.records) (λ q. q.slot ≡ slot)
   found_stands fits room slot name key v w r fresh found =
       rw (found_held fits room slot name key v w r fresh found) found.on
 
   -- What is found between other searches is found by them all.
-  pub found_then : (fits : T → Key → List ℕ → Type 0) (room slot name : ℕ) (key : Key) (u v d w : View T) (r : Record)
-      → Sought u v → IsFound fits room slot name key v d r → Sought d w → IsFound fits room slot name key u w r
+  pub found_then : (fits : T → Key → List ℕ → Type 0) (room slot name : ℕ) (key : Key)
+      (u v d w : View T) (r : Record)
+      → Sought u v → IsFound fits room slot name key v d r → Sought d w
+      → IsFound fits room slot name key u w r
   found_then fits room slot name key u v d w r first found last = record {
-    searched = searched_then u v w first.searched (searched_then v d w found.searched last.searched);
+    searched = searched_then u v w first.searched
+        (searched_then v d w found.searched last.searched);
     records = last.records ∙ (found.records ∙ ap (λ rs. rs ++ r ∷ []) first.records);
     on = found.on;
     called = found.called;
     single = found.single;
     shown = found.shown;
     asked = found.asked;
-    right = subst (λ o. IfSome o (λ tag. fits tag key r.entry.value)) (ap (λ (z : View T). z.tag) first.searched.same) found.right;
+    right = subst (λ o. IfSome o (λ tag. fits tag key r.entry.value))
+        (ap (λ (z : View T). z.tag) first.searched.same) found.right;
     short = found.short;
     bytes = found.bytes;
     small = found.small;
@@ -252,7 +281,8 @@ module _ {T : Type 0} where
     one = rw (← first.records) found.one;
     met = (
       first.searched.met.0 ++ (found.met.0 ++ last.searched.met.0),
-      last.searched.met.1 ∙ (ap (λ z. z ++ last.searched.met.0) (found.met.1 ∙ ap (λ z. z ++ found.met.0) first.searched.met.1)
+      last.searched.met.1 ∙ (ap (λ z. z ++ last.searched.met.0)
+          (found.met.1 ∙ ap (λ z. z ++ found.met.0) first.searched.met.1)
           ∙ (append_assoc (u.met ++ first.searched.met.0) found.met.0 last.searched.met.0
           ∙ append_assoc u.met first.searched.met.0 (found.met.0 ++ last.searched.met.0))),
       often,
@@ -268,5 +298,6 @@ module _ {T : Type 0} where
           omega arith
 
       unseen : (b : Bool) → is_in r.entry.stamp u.work.dead ≡ b → b ≡ false
-      unseen true is = let bad : true ≡ false = sym (first.searched.dead r.entry.stamp is) ∙ found.alive in cc
+      unseen true is = let bad : true ≡ false = sym (first.searched.dead r.entry.stamp is)
+          ∙ found.alive in cc
       unseen false is = refl

@@ -27,7 +27,8 @@ find_last p (y ∷ ys) x missed passes = by (p y) (find_last p ys x) missed
 
 -- a stamp is itself
 is_self : (stamp : Stamp) → is_stamp stamp stamp ≡ true
-is_self stamp = rw (eq-eqb stamp.client stamp.client refl, eq-eqb stamp.number stamp.number refl) refl
+is_self stamp = rw (eq-eqb stamp.client stamp.client refl, eq-eqb stamp.number stamp.number refl)
+    refl
 
 -- what was joined to a list stands there
 pub joined_in : (stamp : Stamp) (dead : List Stamp) → is_in stamp (joined dead (Some stamp)) ≡ true
@@ -35,17 +36,20 @@ joined_in stamp dead = by (list_any (is_stamp stamp) dead) refl
   where
     last : (xs : List Stamp) → is_in stamp (xs ++ stamp ∷ []) ≡ true
     last [] = ap (λ b. b || false) (is_self stamp)
-    last (x ∷ xs) = or_later (is_stamp stamp x) (list_any (is_stamp stamp) (xs ++ stamp ∷ [])) (last xs)
+    last (x ∷ xs) = or_later (is_stamp stamp x) (list_any (is_stamp stamp) (xs ++ stamp ∷ []))
+        (last xs)
       where
         or_later : (a b : Bool) → b ≡ true → (a || b) ≡ true
         or_later true b is = refl
         or_later false b is = is
 
-    by : (b : Bool) → list_any (is_stamp stamp) dead ≡ b → is_in stamp (cond b dead (dead ++ stamp ∷ [])) ≡ true
+    by : (b : Bool) → list_any (is_stamp stamp) dead ≡ b
+        → is_in stamp (cond b dead (dead ++ stamp ∷ [])) ≡ true
     by true is = is
     by false is = last dead
 
-module _ {T : Type 0} (fits : T → Key → List ℕ → Type 0) (room slot weight name word : ℕ) (v u : View T) (h : Acquired fits room slot weight name word v u) where
+module _ {T : Type 0} (fits : T → Key → List ℕ → Type 0) (room slot weight name word : ℕ)
+    (v u : View T) (h : Acquired fits room slot weight name word v u) where
   -- an acquire of an entry is on record
   pub recorded : is_shareable word ≡ true → record_in name v.records ≡ None
       → (entry : Entry) × (record_in name u.records ≡ Some (record_of slot weight name word entry))
@@ -53,7 +57,8 @@ module _ {T : Type 0} (fits : T → Key → List ℕ → Type 0) (room slot weig
       let got = h.got has in (
         got.0,
         ap (λ (z : View T). record_in name z.records) got.2
-            ∙ find_last (is_called name) v.records (record_of slot weight name word got.0) fresh (eq-eqb name name refl),
+            ∙ find_last (is_called name) v.records (record_of slot weight name word got.0) fresh
+            (eq-eqb name name refl),
       )
 
   -- all that it changes
@@ -68,7 +73,8 @@ module _ {T : Type 0} (fits : T → Key → List ℕ → Type 0) (room slot weig
           let got = h.got is in
           rw got.2 record {
             same = refl;
-            dead = λ stamp h. grows_joined v.work.dead (cond (is_visible word) None (Some got.0.stamp)) stamp h;
+            dead = λ stamp h. grows_joined v.work.dead
+                (cond (is_visible word) None (Some got.0.stamp)) stamp h;
             met = ([], no_more v.met);
           }
 
@@ -88,11 +94,13 @@ module _ {T : Type 0} (fits : T → Key → List ℕ → Type 0) (room slot weig
     enough = h.backs.enough;
   }
     where
-      died : (entry : Entry) → is_visible word ≡ false → u ≡ after_acquire slot weight name word entry v
+      died : (entry : Entry) → is_visible word ≡ false
+          → u ≡ after_acquire slot weight name word entry v
           → is_in entry.stamp u.work.dead ≡ true
       died entry hidden same = rw (same, hidden) (joined_in entry.stamp v.work.dead)
 
   -- where it doesn't count, the counters may be relieved
-  pub relieves : is_shareable word ≡ true → record_in name v.records ≡ None → is_counting word ≡ false
+  pub relieves : is_shareable word ≡ true → record_in name v.records ≡ None
+      → is_counting word ≡ false
       → IsSomeAnd (record_in name u.records) (λ r. (r.slot ≡ slot) × (r.counting ≡ false))
   relieves has fresh late = let got = recorded has fresh in rw got.1 (refl, late)

@@ -36,8 +36,8 @@ pub took_next : (i tries more all : ℕ) (old was now then : Effort) → Took i 
     → Took 0 0 more now then → all ≡ tries + more → Took (i + 1) (i + 1) all old then
 took_next i tries more all old was now then h probe corrections lost g sum = (
   rose_then i i 1 1 (i + 1) (i + 1) old.probes was.probes then.probes h.0
-      (rose_then 1 1 0 0 1 1 was.probes now.probes then.probes probe g.0 (omega arith) (omega arith))
-      (omega arith) (omega arith),
+      (rose_then 1 1 0 0 1 1 was.probes now.probes then.probes probe g.0 (omega arith)
+      (omega arith)) (omega arith) (omega arith),
   rose_then 0 tries 0 more 0 all old.corrections was.corrections then.corrections h.1
       (rw (← corrections) g.1) (omega arith) sum,
   rose_then 0 tries 0 more 0 all old.lost was.lost then.lost h.2
@@ -71,6 +71,7 @@ took_probes visited tries slots old was now h probes corrections lost some few s
   rose_within visited visited 1 slots old.probes now.probes some few
       (rose_then 0 0 visited visited visited visited old.probes was.probes now.probes h.0 probes
       (omega arith) (omega arith)),
-  rw corrections (rose_within 0 tries 0 slots old.corrections was.corrections (omega arith) short h.1),
+  rw corrections (rose_within 0 tries 0 slots old.corrections was.corrections (omega arith) short
+      h.1),
   rw lost (rose_within 0 tries 0 slots old.lost was.lost (omega arith) short h.2),
 )

@@ -14,11 +14,13 @@ use Rattle.hcc_rule.specs.Words.{key_of}
 use Rattle.hcc_table.specs.Searched.{Grows, Searched, Sought}
 
 -- What stands in a list stands there once more stand behind it.
-any_append : {A : Type 0} (p : A → Bool) (xs ys : List A) → list_any p xs ≡ true → list_any p (xs ++ ys) ≡ true
+any_append : {A : Type 0} (p : A → Bool) (xs ys : List A) → list_any p xs ≡ true
+    → list_any p (xs ++ ys) ≡ true
 any_append p [] ys h = cc
 any_append p (x ∷ xs) ys h = by (p x) (any_append p xs ys) h
   where
-    by : (b : Bool) → (list_any p xs ≡ true → list_any p (xs ++ ys) ≡ true) → (b || list_any p xs) ≡ true
+    by : (b : Bool) → (list_any p xs ≡ true → list_any p (xs ++ ys) ≡ true)
+        → (b || list_any p xs) ≡ true
         → (b || list_any p (xs ++ ys)) ≡ true
     by true later h = refl
     by false later h = later h
@@ -57,14 +59,30 @@ module _ {T : Type 0} where
       dead = ap (λ (z : View T). z.work.dead) same
 
   pub searched_refl : (v : View T) → Sought v v
-  searched_refl v = record { searched = record { same = refl; dead = λ stamp h. h; met = ([], no_more v.met) }; records = refl }
+  searched_refl v = record {
+    searched = record {
+      same = refl;
+      dead = λ stamp h. h;
+      met = ([], no_more v.met);
+    };
+    records = refl;
+  }
 
   -- one search behind another
   pub searched_then : (u v w : View T) → Searched u v → Searched v w → Searched u w
   searched_then u v w a b = record {
-    same = b.same ∙ ap (λ (z : View T). record z { work = record z.work { looked = w.work.looked; dead = w.work.dead }; records = w.records; met = w.met }) a.same;
+    same = b.same ∙ ap (λ (z : View T).
+        record z {
+          work = record z.work { looked = w.work.looked; dead = w.work.dead };
+          records = w.records;
+          met = w.met;
+        }) a.same;
     dead = λ stamp h. b.dead stamp (a.dead stamp h);
-    met = (a.met.0 ++ b.met.0, b.met.1 ∙ (ap (λ z. z ++ b.met.0) a.met.1 ∙ append_assoc u.met a.met.0 b.met.0));
+    met = (
+      a.met.0 ++ b.met.0,
+      b.met.1
+          ∙ (ap (λ z. z ++ b.met.0) a.met.1 ∙ append_assoc u.met a.met.0 b.met.0),
+    );
   }
 
   pub sought_then : (u v w : View T) → Sought u v → Sought v w → Sought u w
@@ -77,7 +95,8 @@ module _ {T : Type 0} where
   pub read_there : (name index : ℕ) (v w : View T) → w ≡ after_read name index v → Sought v w
   read_there name index v w same = rw same (by (index == KEY1))
     where
-      met_by : (shown : Bool) (key : Key) → (more : List Key) × (cond shown (v.met ++ key ∷ []) v.met ≡ v.met ++ more)
+      met_by : (shown : Bool) (key : Key)
+          → (more : List Key) × (cond shown (v.met ++ key ∷ []) v.met ≡ v.met ++ more)
       met_by true key = (key ∷ [], refl)
       met_by false key = ([], no_more v.met)
 
@@ -85,9 +104,14 @@ module _ {T : Type 0} where
       met None = ([], no_more v.met)
       met (Some r) = met_by r.shown (key_of r.entry)
 
-      by : (b : Bool) → Sought v (cond b (record v { met = with_met (record_in name v.records) v.met }) v)
+      by : (b : Bool) → Sought v (cond b
+          (record v { met = with_met (record_in name v.records) v.met }) v)
       by true = record {
-        searched = record { same = refl; dead = λ stamp h. h; met = met (record_in name v.records) };
+        searched = record {
+          same = refl;
+          dead = λ stamp h. h;
+          met = met (record_in name v.records);
+        };
         records = refl;
       }
       by false = searched_refl v

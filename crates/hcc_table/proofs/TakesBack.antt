@@ -1,4 +1,4 @@
--- The trail of a taken entry, taken back from its first place on.
+-- The trail of a taken entry, taken back from its first probe on.
 use Rattle.std.proofs.Common.{◌≡◌, ℕ, suc, ◌+◌, ◌-◌, ◌%◌, ◌^◌, ◌<◌, ◌≤◌, ◌≢◌, ◌==◌, ◌||◌, cond, true, List, [], ◌∷◌, map, sym, refl, ap, ◌∙◌, bit_and, bit_or, arith, ne_eqb, Option, slice_index}
 use Rattle.std.specs.List.{list_any, range_with_len}
 use Rattle.std.proofs.lemmas.Bool.{eq-eqb, eqb-true}
@@ -22,17 +22,19 @@ use Rattle.hcc_rule.specs.ToldOwners.{Freed, after_free, records_left}
 use Rattle.hcc_table.specs.Freed.{IsFreed, TakenAt, emptied}
 use Rattle.hcc_table.proofs.Searches.{grows_joined}
 
--- the places from this one on, up to the slot
+-- the probes from this one on, up to the slot
 abbrev pub trail_from : (slots : ℕ) → Key → (slot i : ℕ) → List ℕ
-trail_from slots key slot i = before slot (map (probe_slot slots key) (range_with_len i (slots - i)))
+trail_from slots key slot i =
+    before slot (map (probe_slot slots key) (range_with_len i (slots - i)))
 
 module _ (slots : ℕ) (key : Key) (slot i : ℕ) where
-  -- The first of them is this place, where it isn't the slot.
+  -- The first of them is this probe, where it isn't the slot.
   pub trail_first : i < slots → probe_slot slots key i ≢ slot
       → trail_from slots key slot i ≡ probe_slot slots key i ∷ trail_from slots key slot (i + 1)
   trail_first low other =
       ap (λ n. before slot (map (probe_slot slots key) (range_with_len i n))) more
-      ∙ ap (λ b. cond b [] (probe_slot slots key i ∷ trail_from slots key slot (i + 1))) (ne_eqb (probe_slot slots key i) slot other)
+      ∙ ap (λ b. cond b [] (probe_slot slots key i ∷ trail_from slots key slot (i + 1)))
+      (ne_eqb (probe_slot slots key i) slot other)
     where
       more : slots - i ≡ suc (slots - (i + 1))
       more = omega arith
@@ -41,31 +43,43 @@ module _ (slots : ℕ) (key : Key) (slot i : ℕ) where
   pub trail_over : i < slots → probe_slot slots key i ≡ slot → trail_from slots key slot i ≡ []
   trail_over low same =
       ap (λ n. before slot (map (probe_slot slots key) (range_with_len i n))) more
-      ∙ ap (λ b. cond b [] (probe_slot slots key i ∷ trail_from slots key slot (i + 1))) (eq-eqb (probe_slot slots key i) slot same)
+      ∙ ap (λ b. cond b [] (probe_slot slots key i ∷ trail_from slots key slot (i + 1)))
+      (eq-eqb (probe_slot slots key i) slot same)
     where
       more : slots - i ≡ suc (slots - (i + 1))
       more = omega arith
 
-  -- After all places there is none.
+  -- After all probes there is none.
   pub trail_end : slots ≤ i → trail_from slots key slot i ≡ []
   trail_end past =
       let none : slots - i ≡ 0 = omega arith in
       ap (λ n. before slot (map (probe_slot slots key) (range_with_len i n))) none
 
 module _ {T : Type 0} where
-  -- What is left of the trail, once the first so many places were taken back.
-  pub record IsTakingBack (slots : ℕ) (key : Key) (slot i : ℕ) (walk : Walk) (seat now : SeatOf T) : Type 0 where
+  -- What is left of the trail, once the first so many probes were taken back.
+  pub record IsTakingBack (slots : ℕ) (key : Key) (slot i : ℕ) (walk : Walk)
+      (seat now : SeatOf T) : Type 0 where
     pub same : IsSameSeat seat now
     pub walking : IsAt slots key i walk
-    pub left : view now ≡ record (view seat) { work = record (view seat).work { trail = trail_from slots key slot i } }
+    pub left : view now ≡ record (view seat) {
+      work =
+          record (view seat).work { trail = trail_from slots key slot i };
+    }
 
-  pub takes_back : (slots : ℕ) (key : Key) (slot : ℕ) (walk : Walk) (seat : SeatOf T) → MOST_SLOTS % slots ≡ 0
+  pub takes_back : (slots : ℕ) (key : Key) (slot : ℕ) (walk : Walk) (seat : SeatOf T)
+      → MOST_SLOTS % slots ≡ 0
       → (view seat).work.trail ≡ trail_to slots key slot → walk.probe ≡ key.w1
-      → walk.stride ≡ bit_or key.w0 1 → walk.mask ≡ slots - 1 → IsTakingBack slots key slot 0 walk seat seat
+      → walk.stride ≡ bit_or key.w0 1 → walk.mask ≡ slots - 1
+      → IsTakingBack slots key slot 0 walk seat seat
   takes_back slots key slot walk seat power trail probe stride mask = record {
     same = record { table = refl; number = refl; slots = refl };
-    walking = record { probe = rw (probe, mask) (first_masked slots key power); stride = stride; mask = mask };
-    left = ap (λ t. record (view seat) { work = record (view seat).work { trail = t } }) (trail ∙ sym whole);
+    walking = record {
+      probe = rw (probe, mask) (first_masked slots key power);
+      stride = stride;
+      mask = mask;
+    };
+    left = ap (λ t. record (view seat) { work = record (view seat).work { trail = t } })
+        (trail ∙ sym whole);
   }
     where
       whole : trail_from slots key slot 0 ≡ trail_to slots key slot
@@ -73,7 +87,9 @@ module _ {T : Type 0} where
           let all : slots - 0 ≡ slots = omega arith in
           ap (λ n. before slot (map (probe_slot slots key) (range_with_len 0 n))) all
 
-  module _ (slots : ℕ) (key : Key) (slot i there : ℕ) (walk : Walk) (seat now : SeatOf T) (s : IsTakingBack slots key slot i walk seat now) (is : there ≡ bit_and walk.probe walk.mask) (low : i < slots) where
+  module _ (slots : ℕ) (key : Key) (slot i there : ℕ) (walk : Walk) (seat now : SeatOf T)
+      (s : IsTakingBack slots key slot i walk seat now) (is : there ≡ bit_and walk.probe walk.mask)
+      (low : i < slots) where
     probe_is : there ≡ probe_slot slots key i
     probe_is = is ∙ s.walking.probe
 
@@ -81,8 +97,11 @@ module _ {T : Type 0} where
     trail_is = ap (λ (z : View T). z.work.trail) s.left
 
     -- all is taken back at the slot
-    pub back : there ≡ slot → view now ≡ record (view seat) { work = record (view seat).work { trail = [] } }
-    back same = s.left ∙ ap (λ t. record (view seat) { work = record (view seat).work { trail = t } }) (trail_over slots key slot i low (sym probe_is ∙ same))
+    pub back : there ≡ slot
+        → view now ≡ record (view seat) { work = record (view seat).work { trail = [] } }
+    back same = s.left ∙ ap (λ t.
+        record (view seat) { work = record (view seat).work { trail = t } })
+        (trail_over slots key slot i low (sym probe_is ∙ same))
 
     module _ (other : there ≢ slot) where
       first_is : (view now).work.trail ≡ there ∷ trail_from slots key slot (i + 1)
@@ -90,13 +109,16 @@ module _ {T : Type 0} where
           trail_is ∙ (trail_first slots key slot i low (λ e. other (probe_is ∙ e))
           ∙ ap (λ p. p ∷ trail_from slots key slot (i + 1)) (sym probe_is))
 
-      -- else the place stands in it
+      -- else the slot stands in it
       pub stands : list_any (is_slot there) (view now).work.trail ≡ true
-      stands = ap (list_any (is_slot there)) first_is ∙ ap (λ b. b || list_any (is_slot there) (trail_from slots key slot (i + 1))) (eq-eqb there there refl)
+      stands = ap (list_any (is_slot there)) first_is
+          ∙ ap (λ b. b || list_any (is_slot there) (trail_from slots key slot (i + 1)))
+          (eq-eqb there there refl)
 
       -- and goes
       pub goes_back : (new : SeatOf T) (next : Walk) → MOST_SLOTS % slots ≡ 0 → IsSameSeat now new
-          → view new ≡ after_unpass there (view now) → next.probe ≡ (walk.probe + walk.stride) % 2 ^ 64
+          → view new ≡ after_unpass there (view now)
+          → next.probe ≡ (walk.probe + walk.stride) % 2 ^ 64
           → next.stride ≡ walk.stride → next.mask ≡ walk.mask
           → IsTakingBack slots key slot (i + 1) next seat new
       goes_back new next power same told probe stride mask = record {
@@ -109,19 +131,27 @@ module _ {T : Type 0} where
           mask = mask ∙ s.walking.mask;
         };
         left =
-            told ∙ (ap (λ (v : View T). record v { work = record v.work { trail = dropped (is_slot there) (view now).work.trail } }) s.left
+            told ∙ (ap (λ (v : View T). record v {
+              work =
+                  record v.work { trail = dropped (is_slot there) (view now).work.trail };
+            }) s.left
             ∙ ap (λ t. record (view seat) { work = record (view seat).work { trail = t } }) gone);
       }
         where
           gone : dropped (is_slot there) (view now).work.trail ≡ trail_from slots key slot (i + 1)
-          gone = ap (dropped (is_slot there)) first_is ∙ ap (λ b. cond b (trail_from slots key slot (i + 1)) (there ∷ dropped (is_slot there) (trail_from slots key slot (i + 1)))) (eq-eqb there there refl)
+          gone = ap (dropped (is_slot there)) first_is
+              ∙ ap (λ b. cond b (trail_from slots key slot (i + 1))
+              (there ∷ dropped (is_slot there) (trail_from slots key slot (i + 1))))
+              (eq-eqb there there refl)
 
-  -- All is taken back after all places.
-  pub back_at_end : (slots : ℕ) (key : Key) (slot i : ℕ) (walk : Walk) (seat now : SeatOf T) → slots ≤ i
+  -- All is taken back after all probes.
+  pub back_at_end : (slots : ℕ) (key : Key) (slot i : ℕ) (walk : Walk) (seat now : SeatOf T)
+      → slots ≤ i
       → IsTakingBack slots key slot i walk seat now
       → view now ≡ record (view seat) { work = record (view seat).work { trail = [] } }
   back_at_end slots key slot i walk seat now past s =
-      s.left ∙ ap (λ t. record (view seat) { work = record (view seat).work { trail = t } }) (trail_end slots key slot i past)
+      s.left ∙ ap (λ t. record (view seat) { work = record (view seat).work { trail = t } })
+      (trail_end slots key slot i past)
 
   -- A taken entry's slot was emptied.
   pub taken_at : (fits : T → Key → List ℕ → Type 0) (slots room slot old word charge : ℕ)
@@ -137,7 +167,8 @@ module _ {T : Type 0} where
         made = got.1;
         taken = got.2;
         charged = charged ∙ ap (λ (z : View T). slice_index z.written CHARGE) got.3;
-        is = same ∙ (ap emptied got.3 ∙ ap (λ n. emptied (after_free slots slot n name got.0 got.1 u)) is);
+        is = same ∙ (ap emptied got.3
+            ∙ ap (λ n. emptied (after_free slots slot n name got.0 got.1 u)) is);
       }
 
   -- So it was freed.

@@ -29,27 +29,33 @@ value_word entry k word within told = told (λ e. omega arith) inside ∙ at
 
     inside : PAYLOAD + k < length (entry_words entry)
     inside =
-        let long = length-map-range_with_len (payload_word entry.value) 0 (words_for (length entry.value)) in
+        let long = length-map-range_with_len (payload_word entry.value) 0
+        (words_for (length entry.value)) in
         omega (arith, long)
 
     at : slice_index (entry_words entry) (PAYLOAD + k) ≡ payload_word entry.value k
     at =
         let past : PAYLOAD + k ≡ suc (suc (suc (suc (suc k)))) = omega arith in
         ap (slice_index (entry_words entry)) past
-        ∙ get_or-map-range_with_len (payload_word entry.value) 0 (words_for (length entry.value)) k k 0 low (omega arith)
+        ∙ get_or-map-range_with_len (payload_word entry.value) 0 (words_for (length entry.value)) k
+        k 0 low (omega arith)
 
 -- The same, of the record that a word was read by.
-pub told_word : (o : Option Record) (k word : ℕ) → IfSome o (λ r. IsDataWord r.entry (PAYLOAD + k) word)
+pub told_word : (o : Option Record) (k word : ℕ)
+    → IfSome o (λ r. IsDataWord r.entry (PAYLOAD + k) word)
     → IfSome o (λ r. 8 * k < length r.entry.value → word ≡ payload_word r.entry.value k)
 told_word None k word told = tt
 told_word (Some r) k word told = λ within. value_word r.entry k word within told
 
 -- The first bytes of a word were put in their place.
-pub copied : (o : Option Record) (slot room k count word : ℕ) (old new : List ℕ) → 0 < count → count ≤ 8
-    → IsSomeAnd o (λ r. (r.slot ≡ slot) × IsReadable room r × (8 * k + count ≤ length r.entry.value))
+pub copied : (o : Option Record) (slot room k count word : ℕ) (old new : List ℕ) → 0 < count
+    → count ≤ 8
+    → IsSomeAnd o (λ r. (r.slot ≡ slot) × IsReadable room r
+    × (8 * k + count ≤ length r.entry.value))
     → IfSome o (λ r. 8 * k < length r.entry.value → word ≡ payload_word r.entry.value k)
     → new ≡ take (8 * k) old ++ (take count (to_le_bytes w64 word) ++ drop (8 * k + count) old)
-    → IfSome o (λ r. new ≡ take (8 * k) old ++ (take count (drop (8 * k) r.entry.value) ++ drop (8 * k + count) old))
+    → IfSome o (λ r.
+    new ≡ take (8 * k) old ++ (take count (drop (8 * k) r.entry.value) ++ drop (8 * k + count) old))
 copied None slot room k count word old new some few holds told put = tt
 copied (Some r) slot room k count word old new some few holds told put =
     put ∙ ap (λ z. take (8 * k) old ++ (z ++ drop (8 * k + count) old)) same
@@ -58,33 +64,41 @@ copied (Some r) slot room k count word old new some few holds told put =
     inside = let most = holds.2 in omega arith
 
     same : take count (to_le_bytes w64 word) ≡ take count (drop (8 * k) r.entry.value)
-    same = ap (λ w. take count (to_le_bytes w64 w)) (told inside) ∙ word_bytes r.entry.value k count holds.1.bytes few holds.2
+    same = ap (λ w. take count (to_le_bytes w64 w)) (told inside)
+        ∙ word_bytes r.entry.value k count holds.1.bytes few holds.2
 
 -- The value of an entry that was met or found can be read.
-pub readable_met : {T : Type 0} (fits : T → Key → List ℕ → Type 0) (room slot word : ℕ) (v : View T) (r : Record)
+pub readable_met : {T : Type 0} (fits : T → Key → List ℕ → Type 0) (room slot word : ℕ) (v : View T)
+    (r : Record)
     → IsMet fits room slot word v r.entry → IsReadable room r
 readable_met fits room slot word v r met = record { short = met.short; bytes = met.bytes }
 
-pub readable_found : {T : Type 0} (fits : T → Key → List ℕ → Type 0) (room slot name : ℕ) (key : Key) (v w : View T) (r : Record)
+pub readable_found : {T : Type 0} (fits : T → Key → List ℕ → Type 0) (room slot name : ℕ)
+    (key : Key) (v w : View T) (r : Record)
     → IsFound fits room slot name key v w r → IsReadable room r
-readable_found fits room slot name key v w r found = record { short = found.short; bytes = found.bytes }
+readable_found fits room slot name key v w r found =
+    record { short = found.short; bytes = found.bytes }
 
 -- It can be read by each record of it.
-pub readable_same : (room : ℕ) (q r : Record) → r.entry ≡ q.entry → IsReadable room q → IsReadable room r
+pub readable_same : (room : ℕ) (q r : Record) → r.entry ≡ q.entry → IsReadable room q
+    → IsReadable room r
 readable_same room q r same h = record { short = rw same h.short; bytes = rw same h.bytes }
 
 -- More of the value was put behind what was there.
-filled : (o : Option Record) (at count next len : ℕ) (old buffer new : List ℕ) → next ≡ at + count → next ≤ len
+filled : (o : Option Record) (at count next len : ℕ) (old buffer new : List ℕ) → next ≡ at + count
+    → next ≤ len
     → IfSome o (λ r. len ≡ length r.entry.value)
     → IfSome o (λ r. buffer ≡ take at r.entry.value ++ drop at old)
-    → IfSome o (λ r. new ≡ take at buffer ++ (take count (drop at r.entry.value) ++ drop (at + count) buffer))
+    → IfSome o (λ r.
+    new ≡ take at buffer ++ (take count (drop at r.entry.value) ++ drop (at + count) buffer))
     → IfSome o (λ r. new ≡ take next r.entry.value ++ drop next old)
 filled None at count next len old buffer new sum most exact was is = tt
 filled (Some r) at count next len old buffer new sum most exact was is =
     rw sum (fills r.entry.value old buffer new at count (omega arith) was is)
 
 -- All of it is there.
-all_filled : (o : Option Record) (len : ℕ) (old new : List ℕ) → IfSome o (λ r. len ≡ length r.entry.value)
+all_filled : (o : Option Record) (len : ℕ) (old new : List ℕ)
+    → IfSome o (λ r. len ≡ length r.entry.value)
     → IfSome o (λ r. new ≡ take len r.entry.value ++ drop len old)
     → IfSome o (λ r. new ≡ r.entry.value ++ drop (length r.entry.value) old)
 all_filled None len old new exact is = tt
@@ -97,7 +111,8 @@ module _ {T : Type 0} where
   pub record IsReading (name k : ℕ) (seat now : SeatOf T) (old buffer : List ℕ) : Type 0 where
     pub same : IsSameSeat seat now
     pub kept : view now ≡ view seat
-    pub front : IfSome (record_in name (view seat).records) (λ r. buffer ≡ take (8 * k) r.entry.value ++ drop (8 * k) old)
+    pub front : IfSome (record_in name (view seat).records)
+        (λ r. buffer ≡ take (8 * k) r.entry.value ++ drop (8 * k) old)
 
   -- a word more
   pub reads_next : (name len : ℕ) (seat : SeatOf T) (old : List ℕ)
@@ -105,25 +120,30 @@ module _ {T : Type 0} where
       → (k more : ℕ) (now next : SeatOf T) (buffer new : List ℕ) → more ≡ k + 1 → k < len / 8
       → IsReading name k seat now old buffer → IsSameSeat now next → view next ≡ view now
       → IfSome (record_in name (view now).records)
-      (λ r. new ≡ take (8 * k) buffer ++ (take 8 (drop (8 * k) r.entry.value) ++ drop (8 * k + 8) buffer))
+      (λ r. new ≡ take (8 * k) buffer
+      ++ (take 8 (drop (8 * k) r.entry.value) ++ drop (8 * k + 8) buffer))
       → IsReading name more seat next old new
   reads_next name len seat old exact k more now next buffer new is low s same kept put = record {
     same = seat_then seat now next s.same same;
     kept = kept ∙ s.kept;
     front =
-        filled (record_in name (view seat).records) (8 * k) 8 (8 * more) len old buffer new (omega arith)
-        (omega arith) exact s.front (rw (← s.kept) put);
+        filled (record_in name (view seat).records) (8 * k) 8 (8 * more) len old buffer new
+        (omega arith) (omega arith) exact s.front (rw (← s.kept) put);
   }
 
   -- The rest of the value is less than a word.
-  pub reads_rest : (name k len : ℕ) (seat now : SeatOf T) (old buffer new : List ℕ) → len / 8 ≤ k → k ≤ len / 8
+  pub reads_rest : (name k len : ℕ) (seat now : SeatOf T) (old buffer new : List ℕ) → len / 8 ≤ k
+      → k ≤ len / 8
       → IfSome (record_in name (view seat).records) (λ r. len ≡ length r.entry.value)
       → IsReading name k seat now old buffer
       → IfSome (record_in name (view now).records)
       (λ r. new ≡ take (8 * (len / 8)) buffer
-      ++ (take (len % 8) (drop (8 * (len / 8)) r.entry.value) ++ drop (8 * (len / 8) + len % 8) buffer))
-      → IfSome (record_in name (view seat).records) (λ r. new ≡ r.entry.value ++ drop (length r.entry.value) old)
+      ++ (take (len % 8) (drop (8 * (len / 8)) r.entry.value)
+      ++ drop (8 * (len / 8) + len % 8) buffer))
+      → IfSome (record_in name (view seat).records)
+      (λ r. new ≡ r.entry.value ++ drop (length r.entry.value) old)
   reads_rest name k len seat now old buffer new past most exact s put =
       all_filled (record_in name (view seat).records) len old new exact
-      (filled (record_in name (view seat).records) (8 * (len / 8)) (len % 8) len len old buffer new (omega arith) (omega arith) exact
-      (rw (← (let at : k ≡ len / 8 = omega arith in at)) s.front) (rw (← s.kept) put))
+      (filled (record_in name (view seat).records) (8 * (len / 8)) (len % 8) len len old buffer new
+      (omega arith) (omega arith) exact (rw (← (let at : k ≡ len / 8 = omega arith in at)) s.front)
+      (rw (← s.kept) put))

@@ -5,4 +5,5 @@ use Rattle.hcc_table.proofs.build.short_word.Goals as goal
 pub returns : goal.returns
 returns c =
     c.from_le_bytes.ensures
-    ∙ word_copied c.args.bytes.now c.copy_from_slice.new.self (length c.args.bytes.now) c.copy_from_slice.ensures.after
+    ∙ word_copied c.args.bytes.now c.copy_from_slice.new.self (length c.args.bytes.now)
+    c.copy_from_slice.ensures.after

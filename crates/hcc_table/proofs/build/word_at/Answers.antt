@@ -4,4 +4,5 @@ use Rattle.hcc_table.proofs.build.word_at.Goals as goal
 
 pub returns-in-None : goal.returns-in-None
 returns-in-None c =
-    c.short_word.ensures ∙ word_last c.args.value.now c.args.offset c.requires c.in-None.ensures.cases
+    c.short_word.ensures
+    ∙ word_last c.args.value.now c.args.offset c.requires c.in-None.ensures.cases

@@ -12,19 +12,23 @@ write_at-requires-clause-seat g c =
 
 pub write_at-requires-clause-owned : goal.write_at-requires-clause-owned
 write_at-requires-clause-owned g c =
-    still_builds c.args.value.now c.loop-k.k c.args.seat.now c.loop-k.seat c.loop-k.invariant c.args.slot c.requires.owned
+    still_builds c.args.value.now c.loop-k.k c.args.seat.now c.loop-k.seat c.loop-k.invariant
+    c.args.slot c.requires.owned
 
 pub write_at-requires-clause-next : goal.write_at-requires-clause-next
 write_at-requires-clause-next g c = (
-  next_word c.args.value.now c.loop-k.k c.args.seat.now c.loop-k.seat c.loop-k.invariant c.requires.head,
+  next_word c.args.value.now c.loop-k.k c.args.seat.now c.loop-k.seat c.loop-k.invariant
+      c.requires.head,
   omega arith,
 )
 
 pub loop-k-preserved : goal.loop-k-preserved
 loop-k-preserved g c =
     writes_more c.args.value.now c.loop-k.k c.args.seat.now c.loop-k.seat c.loop-k.invariant
-    c.write_at.new.seat c.word_at.result c.write_at.ensures.seat c.write_at.ensures.view c.word_at.ensures
+    c.write_at.new.seat c.word_at.result c.write_at.ensures.seat c.write_at.ensures.view
+    c.word_at.ensures
 
 pub returns-clause-view : goal.returns-clause-view
 returns-clause-view g c =
-    writes_all c.args.value.now c.loop-k.k c.args.seat.now c.loop-k.seat c.loop-k.invariant (omega arith)
+    writes_all c.args.value.now c.loop-k.k c.args.seat.now c.loop-k.seat c.loop-k.invariant
+    (omega arith)

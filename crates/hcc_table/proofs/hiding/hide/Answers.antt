@@ -10,8 +10,8 @@ loop-init g c =
     let table = c.args.table.now in
     let told = c.begin-walk.ensures in (
       hides_none table.geometry.slots c.args.key table.limits.power c.begin-walk.result
-          (record { hidden = 0; slots = 0; charge = 0 }) c.args.seat.now c.requires.idle told.probe told.stride
-          (rw (← c.geometry-slots.ensures) told.mask) refl,
+          (record { hidden = 0; slots = 0; charge = 0 }) c.args.seat.now c.requires.idle told.probe
+          told.stride (rw (← c.geometry-slots.ensures) told.mask) refl,
       took_none c.args.effort.now,
     )
 
@@ -20,8 +20,9 @@ returns-then-count-eq0-clause-view g c =
     let here = c.hide_at-here.ensures in
     let all = c.with-all.ensures in
     let told = c.count.ensures in
-    both c.args.table.now.geometry.slots c.args.key c.args.table.now.limits.power c.loop.counter c.count.result c.slot-slot.result c.loop.walk
-    c.loop.all c.hide_at-here.result c.with-all.result c.args.seat.now c.loop.seat c.loop.invariant.0 c.slot-slot.ensures
+    both c.args.table.now.geometry.slots c.args.key c.args.table.now.limits.power c.loop.counter
+    c.count.result c.slot-slot.result c.loop.walk c.loop.all c.hide_at-here.result c.with-all.result
+    c.args.seat.now c.loop.seat c.loop.invariant.0 c.slot-slot.ensures
     c.hide_at-here.new.seat c.count.new.seat here.seat told.seat here.view here.dead here.few
     (all.hidden, all.slots, all.charge) told.view told.held told.within
 
@@ -30,8 +31,9 @@ returns-then-count-eq0-clause-dead g c =
     let here = c.hide_at-here.ensures in
     let all = c.with-all.ensures in
     let told = c.count.ensures in
-    hides_last c.args.table.now.geometry.slots c.args.key c.args.table.now.limits.power c.loop.counter c.count.result c.slot-slot.result c.loop.walk
-    c.loop.all c.hide_at-here.result c.with-all.result c.args.seat.now c.loop.seat c.loop.invariant.0 c.slot-slot.ensures
+    hides_last c.args.table.now.geometry.slots c.args.key c.args.table.now.limits.power
+    c.loop.counter c.count.result c.slot-slot.result c.loop.walk c.loop.all c.hide_at-here.result
+    c.with-all.result c.args.seat.now c.loop.seat c.loop.invariant.0 c.slot-slot.ensures
     c.hide_at-here.new.seat c.count.new.seat here.seat told.seat here.view here.dead here.few
     (all.hidden, all.slots, all.charge) told.view told.held told.within
     c.if-count-eq0.true
@@ -42,17 +44,18 @@ loop-preserved g c =
     let all = c.with-all.ensures in
     let told = c.count.ensures in
     let next = c.next-walk.ensures in (
-      hides_on c.args.table.now.geometry.slots c.args.key c.args.table.now.limits.power c.loop.counter
-          c.count.result c.slot-slot.result c.loop.walk c.loop.all c.hide_at-here.result c.with-all.result
-          c.args.seat.now c.loop.seat c.loop.invariant.0 c.slot-slot.ensures c.hide_at-here.new.seat
-          c.count.new.seat here.seat told.seat here.view here.dead here.few
-          (all.hidden, all.slots, all.charge) told.view told.held told.within c.next-walk.result next.probe
-          next.stride next.mask,
+      hides_on c.args.table.now.geometry.slots c.args.key c.args.table.now.limits.power
+          c.loop.counter
+          c.count.result c.slot-slot.result c.loop.walk c.loop.all c.hide_at-here.result
+          c.with-all.result c.args.seat.now c.loop.seat c.loop.invariant.0 c.slot-slot.ensures
+          c.hide_at-here.new.seat c.count.new.seat here.seat told.seat here.view here.dead here.few
+          (all.hidden, all.slots, all.charge) told.view told.held told.within c.next-walk.result
+          next.probe next.stride next.mask,
       visited,
     )
   where
-    visited : Took (c.loop.counter + 1) (c.loop.counter + 1) (2 * (c.loop.counter + 1)) c.args.effort.now
-        c.hide_at-here.new.effort
+    visited : Took (c.loop.counter + 1) (c.loop.counter + 1) (2 * (c.loop.counter + 1))
+        c.args.effort.now c.hide_at-here.new.effort
     visited =
         let probe = c.probes.ensures in
         took_next c.loop.counter (2 * c.loop.counter) 2 (2 * (c.loop.counter + 1)) c.args.effort.now
@@ -63,9 +66,9 @@ pub returns-clause-dead : goal.returns-clause-dead
 returns-clause-dead g c =
     let table = c.args.table.now in
     let size = c.geometry-slots.ensures in
-    hides_all table.geometry.slots c.args.key table.limits.power c.loop.counter c.loop.walk c.loop.all c.args.seat.now c.loop.seat
-    (some_slots table.geometry.slots table.limits.power) (rw (← size) c.loop-test.false)
-    (rw (← size) c.loop.auto.counter-end) c.loop.invariant.0
+    hides_all table.geometry.slots c.args.key table.limits.power c.loop.counter c.loop.walk
+    c.loop.all c.args.seat.now c.loop.seat (some_slots table.geometry.slots table.limits.power)
+    (rw (← size) c.loop-test.false) (rw (← size) c.loop.auto.counter-end) c.loop.invariant.0
 
 pub returns-then-count-eq0-clause-effort : goal.returns-then-count-eq0-clause-effort
 returns-then-count-eq0-clause-effort g c =
@@ -73,11 +76,11 @@ returns-then-count-eq0-clause-effort g c =
     let size = c.geometry-slots.ensures in
     let low : c.loop.counter < c.args.table.now.geometry.slots = rw (← size) c.loop-test.true in
     took_within (c.loop.counter + 1) (2 * (c.loop.counter + 1)) 1 c.args.table.now.geometry.slots
-    (2 * c.args.table.now.geometry.slots) c.args.effort.now c.hide_at-here.new.effort (omega arith) (omega arith)
-    (omega arith)
+    (2 * c.args.table.now.geometry.slots) c.args.effort.now c.hide_at-here.new.effort (omega arith)
+    (omega arith) (omega arith)
     (took_next c.loop.counter (2 * c.loop.counter) 2 (2 * (c.loop.counter + 1)) c.args.effort.now
-    c.loop.effort c.probes.new.self c.hide_at-here.new.effort c.loop.invariant.1 probe.probes probe.corrections
-    probe.lost c.hide_at-here.ensures.effort (omega arith))
+    c.loop.effort c.probes.new.self c.hide_at-here.new.effort c.loop.invariant.1 probe.probes
+    probe.corrections probe.lost c.hide_at-here.ensures.effort (omega arith))
 
 pub returns-clause-effort : goal.returns-clause-effort
 returns-clause-effort g c =
@@ -86,5 +89,5 @@ returns-clause-effort g c =
     let past : slots ≤ c.loop.counter = rw (← size) c.loop-test.false in
     let most : c.loop.counter ≤ slots = rw (← size) c.loop.auto.counter-end in
     let some : 0 < slots = some_slots slots c.args.table.now.limits.power in
-    took_within c.loop.counter (2 * c.loop.counter) 1 slots (2 * slots) c.args.effort.now c.loop.effort
-    (omega arith) (omega arith) (omega arith) c.loop.invariant.1
+    took_within c.loop.counter (2 * c.loop.counter) 1 slots (2 * slots) c.args.effort.now
+    c.loop.effort (omega arith) (omega arith) (omega arith) c.loop.invariant.1

@@ -12,18 +12,20 @@ pub returns-in-Some-clause-view : goal.returns-in-Some-clause-view
 returns-in-Some-clause-view g c =
     let found = c.in-Some.ensures.found in
     let all = c.hide_held.result in
-    erased_there g.T.Tag.fits c.args.table.now.geometry.room c.args.slot c.args.name all.hidden all.slots all.charge c.args.key
-    c.args.seat.now.me.0 c.hold.new.seat.me.0 c.hide_held.new.seat.me.0 found.0 c.requires.fresh found.1
-    c.hide_held.ensures.few.1 c.hide_held.ensures.view c.hide_held.ensures.records
+    erased_there g.T.Tag.fits c.args.table.now.geometry.room c.args.slot c.args.name all.hidden
+    all.slots all.charge c.args.key c.args.seat.now.me.0 c.hold.new.seat.me.0
+    c.hide_held.new.seat.me.0 found.0 c.requires.fresh found.1 c.hide_held.ensures.few.1
+    c.hide_held.ensures.view c.hide_held.ensures.records
 
 pub returns-in-Some-clause-dead : goal.returns-in-Some-clause-dead
 returns-in-Some-clause-dead g c =
     let found = c.in-Some.ensures.found in
     let all = c.hide_held.result in
-    buried_there g.T.Tag.fits c.args.table.now.geometry.room c.args.slot c.args.name all.hidden all.slots all.charge c.args.key
-    c.args.seat.now.me.0 c.hold.new.seat.me.0 c.hide_held.new.seat.me.0 found.0 c.requires.fresh found.1
-    c.hide_held.ensures.view
+    buried_there g.T.Tag.fits c.args.table.now.geometry.room c.args.slot c.args.name all.hidden
+    all.slots all.charge c.args.key c.args.seat.now.me.0 c.hold.new.seat.me.0
+    c.hide_held.new.seat.me.0 found.0 c.requires.fresh found.1 c.hide_held.ensures.view
 
 pub returns-in-None-clause-view : goal.returns-in-None-clause-view
 returns-in-None-clause-view g c =
-    erased_none c.args.key c.args.seat.now.me.0 c.hold.new.seat.me.0 c.requires.idle c.in-None.ensures.missed.0
+    erased_none c.args.key c.args.seat.now.me.0 c.hold.new.seat.me.0 c.requires.idle
+    c.in-None.ensures.missed.0

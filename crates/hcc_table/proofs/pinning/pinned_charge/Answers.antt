@@ -8,8 +8,9 @@ use Rattle.hcc_table.proofs.pinning.pinned_charge.Goals as goal
 
 pub read-charge-requires-clause-holds : goal.read-charge-requires-clause-holds
 read-charge-requires-clause-holds g c =
-    holds_slot g.T.Tag.fits c.args.table.now.geometry.room c.args.slot 1 c.args.name c.reach-found.result
-    no_key c.args.seat.now.me.0 c.look-word.new.seat.me.0 c.reach-found.new.seat.me.0
+    holds_slot g.T.Tag.fits c.args.table.now.geometry.room c.args.slot 1 c.args.name
+    c.reach-found.result no_key c.args.seat.now.me.0 c.look-word.new.seat.me.0
+    c.reach-found.new.seat.me.0
     (looked_at c.args.slot c.look-word.result _ _ c.look-word.ensures.view)
     c.reach-found.ensures.view (sym c.if-not-has_entry-2.ensures) c.requires.fresh
     c.reach-found.new.seat.me.0 (searched_refl c.reach-found.new.seat.me.0)
@@ -24,8 +25,9 @@ give-requires-clause-holds g c =
 
 pub returns-then-refs-eq0-2-clause-view : goal.returns-then-refs-eq0-2-clause-view
 returns-then-refs-eq0-2-clause-view g c =
-    given_back g.T.Tag.fits c.args.table.now.geometry.room c.args.slot 1 c.args.name c.reach-found.result
-    no_key c.args.seat.now.me.0 c.look-word.new.seat.me.0 c.reach-found.new.seat.me.0
+    given_back g.T.Tag.fits c.args.table.now.geometry.room c.args.slot 1 c.args.name
+    c.reach-found.result no_key c.args.seat.now.me.0 c.look-word.new.seat.me.0
+    c.reach-found.new.seat.me.0
     (looked_at c.args.slot c.look-word.result _ _ c.look-word.ensures.view)
     c.reach-found.ensures.view (sym c.if-not-has_entry-2.ensures) c.requires.fresh
     c.give.result c.read-charge.new.seat.me.0 c.give.new.seat.me.0
@@ -33,8 +35,9 @@ returns-then-refs-eq0-2-clause-view g c =
 
 pub returns-clause-view : goal.returns-clause-view
 returns-clause-view g c =
-    given_back g.T.Tag.fits c.args.table.now.geometry.room c.args.slot 1 c.args.name c.reach-found.result
-    no_key c.args.seat.now.me.0 c.look-word.new.seat.me.0 c.reach-found.new.seat.me.0
+    given_back g.T.Tag.fits c.args.table.now.geometry.room c.args.slot 1 c.args.name
+    c.reach-found.result no_key c.args.seat.now.me.0 c.look-word.new.seat.me.0
+    c.reach-found.new.seat.me.0
     (looked_at c.args.slot c.look-word.result _ _ c.look-word.ensures.view)
     c.reach-found.ensures.view (sym c.if-not-has_entry-2.ensures) c.requires.fresh
     c.give.result c.read-charge.new.seat.me.0 c.give.new.seat.me.0
@@ -44,21 +47,26 @@ pub returns-clause-held : goal.returns-clause-held
 returns-clause-held g c some =
     let entry = (c.reach-found.ensures.view.got (sym c.if-not-has_entry-2.ensures)).0 in
     charged_each c.args.slot c.read-charge.result entry c.args.seat.now.me.0.records
-    (charge_is entry c.read-charge.result (told_key g.T.Tag.fits c.args.table.now.geometry.room c.args.slot 1 c.args.name c.reach-found.result
-    no_key c.args.seat.now.me.0 c.look-word.new.seat.me.0 c.reach-found.new.seat.me.0
+    (charge_is entry c.read-charge.result
+    (told_key g.T.Tag.fits c.args.table.now.geometry.room c.args.slot 1 c.args.name
+    c.reach-found.result no_key c.args.seat.now.me.0 c.look-word.new.seat.me.0
+    c.reach-found.new.seat.me.0
     (looked_at c.args.slot c.look-word.result _ _ c.look-word.ensures.view)
     c.reach-found.ensures.view (sym c.if-not-has_entry-2.ensures) c.requires.fresh
     (λ e. IsDataWord e CHARGE c.read-charge.result) c.read-charge.ensures.word))
-    (one_entry g.T.Tag.fits c.args.table.now.geometry.room c.args.slot 1 c.args.name c.reach-found.result
-    no_key c.args.seat.now.me.0 c.look-word.new.seat.me.0 c.reach-found.new.seat.me.0
+    (one_entry g.T.Tag.fits c.args.table.now.geometry.room c.args.slot 1 c.args.name
+    c.reach-found.result no_key c.args.seat.now.me.0 c.look-word.new.seat.me.0
+    c.reach-found.new.seat.me.0
     (looked_at c.args.slot c.look-word.result _ _ c.look-word.ensures.view)
     c.reach-found.ensures.view (sym c.if-not-has_entry-2.ensures) c.requires.fresh)
 
 pub returns-clause-small : goal.returns-clause-small
 returns-clause-small g c =
     let got = c.reach-found.ensures.view.got (sym c.if-not-has_entry-2.ensures) in
-    rw (charge_is got.0 c.read-charge.result (told_key g.T.Tag.fits c.args.table.now.geometry.room c.args.slot 1 c.args.name c.reach-found.result
-    no_key c.args.seat.now.me.0 c.look-word.new.seat.me.0 c.reach-found.new.seat.me.0
+    rw (charge_is got.0 c.read-charge.result
+    (told_key g.T.Tag.fits c.args.table.now.geometry.room c.args.slot 1 c.args.name
+    c.reach-found.result no_key c.args.seat.now.me.0 c.look-word.new.seat.me.0
+    c.reach-found.new.seat.me.0
     (looked_at c.args.slot c.look-word.result _ _ c.look-word.ensures.view)
     c.reach-found.ensures.view (sym c.if-not-has_entry-2.ensures) c.requires.fresh
     (λ e. IsDataWord e CHARGE c.read-charge.result) c.read-charge.ensures.word))

@@ -7,13 +7,15 @@ loop-four-preserved g c =
     let k : ℕ = c.loop-four.four in
     let n : ℕ = c.read_len-length.result in
     let low : k < n / 8 / 4 = c.loop-four-test.true in
-    let whole = reads_next c.args.pin.name n c.args.seat.now c.args.buffer.now c.read_len-length.ensures.exact in
+    let whole = reads_next c.args.pin.name n c.args.seat.now c.args.buffer.now
+    c.read_len-length.ensures.exact in
     let a = c.copy_word in
     let b = c.copy_word-in-loop-four in
     let d = c.copy_word-in-loop-four-2 in
     let e = c.copy_word-in-loop-four-3 in
     let one = whole (4 * k) (4 * k + 1) c.loop-four.seat a.new.seat c.loop-four.buffer a.new.buffer
-    (omega arith) (omega arith) c.loop-four.invariant a.ensures.seat a.ensures.view a.ensures.bytes in
+    (omega arith) (omega arith) c.loop-four.invariant a.ensures.seat a.ensures.view
+    a.ensures.bytes in
     let two = whole (4 * k + 1) (4 * k + 2) a.new.seat b.new.seat a.new.buffer b.new.buffer
     (omega arith) (omega arith) one b.ensures.seat b.ensures.view b.ensures.bytes in
     let three = whole (4 * k + 2) (4 * k + 3) b.new.seat d.new.seat b.new.buffer d.new.buffer
@@ -33,5 +35,5 @@ pub returns-then-rest-gt0-clause-bytes : goal.returns-then-rest-gt0-clause-bytes
 returns-then-rest-gt0-clause-bytes g c =
     reads_rest c.args.pin.name c.loop-index.index c.read_len-length.result c.args.seat.now
     c.loop-index.seat c.args.buffer.now c.loop-index.buffer c.copy_word-then-rest-gt0.new.buffer
-    c.loop-index-test.false (c.loop-index.auto.index-end (omega arith)) c.read_len-length.ensures.exact
-    c.loop-index.invariant c.copy_word-then-rest-gt0.ensures.bytes
+    c.loop-index-test.false (c.loop-index.auto.index-end (omega arith))
+    c.read_len-length.ensures.exact c.loop-index.invariant c.copy_word-then-rest-gt0.ensures.bytes

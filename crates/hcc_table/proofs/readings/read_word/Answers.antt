@@ -5,4 +5,5 @@ use Rattle.hcc_table.proofs.readings.read_word.Goals as goal
 
 pub returns-clause-word : goal.returns-clause-word
 returns-clause-word g c =
-    told_word (record_in c.args.pin.name (view c.args.seat.now).records) c.args.index c.read_at.result c.read_at.ensures.word
+    told_word (record_in c.args.pin.name (view c.args.seat.now).records) c.args.index
+    c.read_at.result c.read_at.ensures.word

@@ -11,7 +11,8 @@ pub loop-probe-init : goal.loop-probe-init
 loop-probe-init g c =
     let size = c.geometry-slots.ensures in
     let told = c.begin-walk.ensures in (
-      begins c.args.table.now.geometry.slots c.args.key c.args.table.now.limits.power c.begin-walk.result
+      begins c.args.table.now.geometry.slots c.args.key c.args.table.now.limits.power
+          c.begin-walk.result
           c.args.seat.now told.probe told.stride (rw (← size) told.mask),
       took_none c.args.effort.now,
     )
@@ -20,9 +21,10 @@ pub returns-then-count-eq0-clause-missed : goal.returns-then-count-eq0-clause-mi
 returns-then-count-eq0-clause-missed g c =
     let table = c.args.table.now in
     let told = c.count.ensures in
-    ends table.geometry.slots c.args.key table.limits.power c.loop-probe.probe c.count.result c.slot-slot.result c.loop-probe.walk
-    c.args.seat.now c.loop-probe.seat c.loop-probe.invariant.0 c.slot-slot.ensures c.hold.new.seat c.count.new.seat
-    c.hold.ensures.seat told.seat (c.in_default.ensures.missed) told.view told.held told.within
+    ends table.geometry.slots c.args.key table.limits.power c.loop-probe.probe c.count.result
+    c.slot-slot.result c.loop-probe.walk c.args.seat.now c.loop-probe.seat c.loop-probe.invariant.0
+    c.slot-slot.ensures c.hold.new.seat c.count.new.seat c.hold.ensures.seat told.seat
+    (c.in_default.ensures.missed) told.view told.held told.within
     c.if-count-eq0.true
 
 pub loop-probe-preserved : goal.loop-probe-preserved
@@ -31,39 +33,43 @@ loop-probe-preserved g c =
     let told = c.count.ensures in
     let next = c.next-walk.ensures in (
       goes_on table.geometry.slots c.args.key table.limits.power c.loop-probe.probe c.count.result
-          c.slot-slot.result c.loop-probe.walk c.args.seat.now c.loop-probe.seat c.loop-probe.invariant.0 c.slot-slot.ensures
-          c.hold.new.seat c.count.new.seat c.hold.ensures.seat told.seat c.in_default.ensures.missed
-          told.view told.held told.within c.next-walk.result next.probe next.stride next.mask,
+          c.slot-slot.result c.loop-probe.walk c.args.seat.now c.loop-probe.seat
+          c.loop-probe.invariant.0 c.slot-slot.ensures c.hold.new.seat c.count.new.seat
+          c.hold.ensures.seat told.seat c.in_default.ensures.missed told.view told.held told.within
+          c.next-walk.result next.probe next.stride next.mask,
       visited,
     )
   where
     visited : Took 0 0 (c.loop-probe.probe + 1) c.args.effort.now c.hold.new.effort
     visited =
-        took_then c.loop-probe.probe 1 (c.loop-probe.probe + 1) c.args.effort.now c.loop-probe.effort
-        c.hold.new.effort c.loop-probe.invariant.1 c.hold.ensures.effort (omega arith)
+        took_then c.loop-probe.probe 1 (c.loop-probe.probe + 1) c.args.effort.now
+        c.loop-probe.effort c.hold.new.effort c.loop-probe.invariant.1 c.hold.ensures.effort
+        (omega arith)
 
 pub returns-clause-missed : goal.returns-clause-missed
 returns-clause-missed g c =
     let table = c.args.table.now in
     let size = c.geometry-slots.ensures in
-    ends_all table.geometry.slots c.args.key table.limits.power c.loop-probe.probe c.loop-probe.walk c.args.seat.now c.loop-probe.seat
-    (some_slots table.geometry.slots table.limits.power) (rw (← size) c.loop-probe-test.false)
-    (rw (← size) c.loop-probe.auto.probe-end) c.loop-probe.invariant.0
+    ends_all table.geometry.slots c.args.key table.limits.power c.loop-probe.probe c.loop-probe.walk
+    c.args.seat.now c.loop-probe.seat (some_slots table.geometry.slots table.limits.power)
+    (rw (← size) c.loop-probe-test.false) (rw (← size) c.loop-probe.auto.probe-end)
+    c.loop-probe.invariant.0
 
 pub mark_if-requires-clause-holds : goal.mark_if-requires-clause-holds
 mark_if-requires-clause-holds g c =
     let found = c.in-Some.ensures.found in
-    found_stands g.T.Tag.fits c.args.table.now.geometry.room c.slot-slot.result c.args.name c.args.key
-    c.loop-probe.seat.me.0 c.hold.new.seat.me.0 found.0
+    found_stands g.T.Tag.fits c.args.table.now.geometry.room c.slot-slot.result c.args.name
+    c.args.key c.loop-probe.seat.me.0 c.hold.new.seat.me.0 found.0
     (ap (record_in c.args.name) c.loop-probe.invariant.0.sought.records ∙ c.requires.fresh) found.1
 
 pub returns-in-Some-clause-found : goal.returns-in-Some-clause-found
 returns-in-Some-clause-found g c =
     let found = c.in-Some.ensures.found in (
       found.0,
-      found_then g.T.Tag.fits c.args.table.now.geometry.room c.slot-slot.result c.args.name c.args.key
-          c.args.seat.now.me.0 c.loop-probe.seat.me.0 c.hold.new.seat.me.0 c.mark_if.new.seat.me.0 found.0
-          c.loop-probe.invariant.0.sought found.1 c.mark_if.ensures.view,
+      found_then g.T.Tag.fits c.args.table.now.geometry.room c.slot-slot.result c.args.name
+          c.args.key
+          c.args.seat.now.me.0 c.loop-probe.seat.me.0 c.hold.new.seat.me.0 c.mark_if.new.seat.me.0
+          found.0 c.loop-probe.invariant.0.sought found.1 c.mark_if.ensures.view,
       found.2 ∙ sym c.counts.ensures,
     )
 
@@ -75,8 +81,8 @@ returns-in-Some-clause-effort g c =
     let slots = c.args.table.now.geometry.slots in
     let low : i < slots = rw (← size) c.loop-probe-test.true in
     took_probes (i + 1) (i + 1) slots c.args.effort.now c.hold.new.effort c.probes.new.self
-    (took_then i 1 (i + 1) c.args.effort.now c.loop-probe.effort c.hold.new.effort c.loop-probe.invariant.1
-    c.hold.ensures.effort (omega arith))
+    (took_then i 1 (i + 1) c.args.effort.now c.loop-probe.effort c.hold.new.effort
+    c.loop-probe.invariant.1 c.hold.ensures.effort (omega arith))
     counted.probes counted.corrections counted.lost (omega arith) (omega arith) (omega arith)
 
 pub returns-then-count-eq0-clause-effort : goal.returns-then-count-eq0-clause-effort
@@ -88,8 +94,8 @@ returns-then-count-eq0-clause-effort g c =
     let low : i < slots = rw (← size) c.loop-probe-test.true in
     took_probes (i + 1) (i + 1) slots c.args.effort.now c.hold.new.effort
     c.probes-then-count-eq0.new.self
-    (took_then i 1 (i + 1) c.args.effort.now c.loop-probe.effort c.hold.new.effort c.loop-probe.invariant.1
-    c.hold.ensures.effort (omega arith))
+    (took_then i 1 (i + 1) c.args.effort.now c.loop-probe.effort c.hold.new.effort
+    c.loop-probe.invariant.1 c.hold.ensures.effort (omega arith))
     counted.probes counted.corrections counted.lost (omega arith) (omega arith) (omega arith)
 
 pub returns-clause-effort : goal.returns-clause-effort
