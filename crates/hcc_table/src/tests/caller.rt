@@ -172,7 +172,7 @@ impl Caller<'_> {
         )
     }
 
-    /// Gives a handle back.
+    /// Releases a handle.
     pub(super) fn release(&mut self, found: Pin, usage: Use, last: IfLast) -> Option<u64>
         requires pin { (found.slot < 8) × (found.name ≡ NAME) }
         requires holds { HoldsOne found (view self.old.seat) }

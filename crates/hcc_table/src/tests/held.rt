@@ -6,8 +6,8 @@ ghost use Rattle.hcc_table.specs.Handles.{HoldsOne};
 
 use super::caller::{Caller, NAME};
 use crate::{
-    IfLast, Insertion, Pin, Use, again, find, free_taken, insert, read_bytes, read_key, read_len,
-    release, word,
+    IfLast, Insertion, Pin, Use, again, find, free_taken, insert, pinned_charge, read_bytes,
+    read_key, read_len, release, word,
 };
 use hcc_rule::Key;
 use hcc_word::layout::INVISIBLE;
@@ -107,8 +107,19 @@ impl Caller<'_> {
         (key, length, count, buffer)
     }
 
-    /// Holds the entry of the handle once more, and gives both references back. The words are those
-    /// with both and after each was given back.
+    /// The charge that is pinned on a slot, while the handle is held.
+    pub(super) fn pinned(&mut self, held: Pin, slot: u32) -> u64
+        requires pin { held.name ≡ NAME }
+        requires slot { slot < 8 }
+        requires holds { HoldsOne held (view self.old.seat) }
+        ensures same { (self.new.table ≡ self.old.table) × (self.new.shown ≡ self.old.shown) }
+        ensures holds { HoldsOne held (view self.new.seat) }
+    {
+        pinned_charge(self.table, &mut self.seat, slot, OTHER, &mut self.effort)
+    }
+
+    /// Holds the entry of the handle once more, and releases both references. The words are those
+    /// with both and after each was released.
     pub(super) fn hold_twice(&mut self, rt: &impl Abort, found: Pin) -> [u64; 3]
         requires pin { (found.slot < 8) × (found.name ≡ NAME) }
         requires holds { HoldsOne found (view self.old.seat) }

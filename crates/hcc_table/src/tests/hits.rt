@@ -21,8 +21,8 @@ const HITS: u32 = 1_000_000;
 /// The value of each entry.
 const VALUE: [u8; 16] = [0, 1, 2, 3, 4, 5, 6, 7, 8, 9, 10, 11, 12, 13, 14, 15];
 
-/// The key that a client hits: its own, or that of client 0. Each key's first place is its second
-/// word, and no two of the slots share a cache line.
+/// The key that a client hits: its own, or that of client 0. Each key's first probe is the slot of
+/// its second word, and no two of the slots share a cache line.
 fn key(client: u32, apart: bool) -> Key {
     Key {
         w0: 0,
@@ -30,8 +30,8 @@ fn key(client: u32, apart: bool) -> Key {
     }
 }
 
-/// Places the entries of the keys of four clients.
-fn places(rt: &impl Abort, table: &Shard, seat: RuleSeat<AnyBytes>) -> RuleSeat<AnyBytes>
+/// Inserts the entries of the keys of four clients.
+fn inserts(rt: &impl Abort, table: &Shard, seat: RuleSeat<AnyBytes>) -> RuleSeat<AnyBytes>
     requires plain { IsPlain (plan_of table.now) }
     requires room { (plan_of table.now).geometry.room ≡ 2 }
     requires ready { IsReadySeatAt table.now 0 0 seat }
@@ -75,7 +75,8 @@ fn hits(
         effort: Effort::NONE,
     };
     for _ in 0..HITS {
-        let hit = me.hit(rt, key(client, apart));
+        let hit = me.hit(key(client, apart));
+        let Some(hit) = hit else { panic!(rt; "no hit") };
         assert!(rt; hit.length == 16 && hit.bytes[15] == 15);
     }
     me.seat
@@ -96,7 +97,8 @@ fn looks(rt: &impl Abort, table: &Shard, seat: RuleSeat<AnyBytes>)
     let word = 0xe000_0000_8000_0002;
     let words = [me.word(0), me.word(4), me.word(8), me.word(12)];
     assert_eq!(rt; words, [word, word, word, word]);
-    assert_eq!(rt; me.hit(rt, key(3, true)).bytes, VALUE);
+    let hit = me.hit(key(3, true)).expect(rt, "no hit");
+    assert_eq!(rt; hit.bytes, VALUE);
 }
 
 /// Two clients in turn hit their keys at once.
@@ -171,7 +173,7 @@ fn four<R: Abort + Threads + Sync>(
 fn a_shard_without_hits(rt: HostRuntime) -> Result<(), AllocError> {
     let (table, mut seats) = shard(rt.alloc(), 1, 2)?;
     let seat = seated(&rt, &table, &mut seats);
-    let seat = places(&rt, &table, seat);
+    let seat = inserts(&rt, &table, seat);
     looks(&rt, &table, seat);
     Ok(())
 }
@@ -180,7 +182,7 @@ fn a_shard_without_hits(rt: HostRuntime) -> Result<(), AllocError> {
 fn one_thread_hits_a_key(rt: HostRuntime) -> Result<(), AllocError> {
     let (table, mut seats) = shard(rt.alloc(), 1, 2)?;
     let seat = seated(&rt, &table, &mut seats);
-    let seat = places(&rt, &table, seat);
+    let seat = inserts(&rt, &table, seat);
     let seat = hits(&rt, &table, seat, 0, 4, false);
     looks(&rt, &table, seat);
     Ok(())
@@ -197,7 +199,7 @@ fn four_threads<R: Abort + Threads + Sync>(
     let third = seated(rt, &table, &mut seats);
     let second = seated(rt, &table, &mut seats);
     let first = seated(rt, &table, &mut seats);
-    let first = places(rt, &table, first);
+    let first = inserts(rt, &table, first);
     let first = four(rt, &table, first, second, third, fourth, apart);
     looks(rt, &table, first);
     Ok(())
@@ -230,7 +232,10 @@ fn fills_and_hits(rt: &impl Abort, alloc: Global, room: u32) -> Result<(), Alloc
     };
     assert_eq!(rt; me.insert(rt, key(0, true), &value), 0);
     for _ in 0..HITS {
-        let (_, length) = me.read(rt, key(0, true), &mut buffer);
+        let hit = me.read(key(0, true), &mut buffer);
+        let Some((_, length)) = hit else {
+            panic!(rt; "no hit")
+        };
         assert!(rt; length == 8 * room as usize);
     }
     assert!(rt; buffer == value);
@@ -247,7 +252,7 @@ fn one_thread_hits_4096_bytes(rt: HostRuntime) -> Result<(), AllocError> {
     fills_and_hits(&rt, rt.alloc(), 512)
 }
 
-/// A client misses a key whose first place has an entry of another one.
+/// A client misses a key whose first probe has an entry of another one.
 fn misses(rt: &impl Abort, table: &Shard, seat: RuleSeat<AnyBytes>)
     requires plain { IsPlain (plan_of table.now) }
     requires ready { IsReadySeatAt table.now 0 4 seat }
@@ -260,7 +265,7 @@ fn misses(rt: &impl Abort, table: &Shard, seat: RuleSeat<AnyBytes>)
         effort: Effort::NONE,
     };
     for _ in 0..HITS {
-        me.miss(rt, Key { w0: 2, w1: 0 });
+        assert!(rt; me.misses(Key { w0: 2, w1: 0 }), "no miss");
     }
 }
 
@@ -268,7 +273,7 @@ fn misses(rt: &impl Abort, table: &Shard, seat: RuleSeat<AnyBytes>)
 fn one_thread_misses_a_key(rt: HostRuntime) -> Result<(), AllocError> {
     let (table, mut seats) = shard(rt.alloc(), 1, 2)?;
     let seat = seated(&rt, &table, &mut seats);
-    let seat = places(&rt, &table, seat);
+    let seat = inserts(&rt, &table, seat);
     misses(&rt, &table, seat);
     Ok(())
 }

@@ -1,6 +1,6 @@
 //! One of several clients at a shard. Between the calls of a mate its client has nothing in hand
 //! and holds no reference.
-ghost use Rattle.std.specs.Prelude.{◌≡◌, ◌+◌, ◌*◌, ◌<◌, ◌≤◌, [], IfOk, length};
+ghost use Rattle.std.specs.Prelude.{◌≡◌, ◌+◌, ◌*◌, ◌<◌, ◌≤◌, [], true, IfOk, IfSome, length};
 ghost use Rattle.hcc_core.specs.declared.limits.TheConstants.{MOST_CLIENTS, STAMPS_PER_CLIENT};
 ghost use Rattle.hcc_core.specs.declared.client.Place.TheVariants.{Granted};
 ghost use Rattle.hcc_core.specs.Opening.{new_client};
@@ -110,7 +110,7 @@ impl Mate<'_> {
         self.table.charge(&mut self.seat, 1);
     }
 
-    /// Places an entry of charge 1 and countdown 2, and keeps no reference. It answers the slot.
+    /// Inserts an entry of charge 1 and countdown 2, and keeps no reference. It answers the slot.
     pub(super) fn insert(&mut self, rt: &impl Abort, key: Key, value: &[u8]) -> u32
         requires ready { IsReady (view self.old.seat) }
         requires client { self.old.client < MOST_CLIENTS }
@@ -180,14 +180,15 @@ impl Mate<'_> {
         self.table.quit(&mut self.seat, 1);
     }
 
-    /// Finds the key's entry, reads its value into a buffer, and gives the reference back without
-    /// use. It answers the slot and how long the value is.
-    pub(super) fn read(&mut self, rt: &impl Abort, key: Key, buffer: &mut [u8]) -> (u32, usize)
+    /// Finds the key's entry, reads its value into a buffer, and releases the reference without
+    /// use. It answers the slot and how long the value is; none where no entry is found, or where
+    /// it goes. It takes no runtime, so that what is measured is the calls alone.
+    pub(super) fn read(&mut self, key: Key, buffer: &mut [u8]) -> Option<(u32, usize)>
         requires ready { IsReady (view self.old.seat) }
         requires space { 8 * (plan_of self.old.table.now).geometry.room ≤ length buffer.old }
         ensures same { (self.new.table ≡ self.old.table) × (self.new.client ≡ self.old.client)
             × (self.new.shown ≡ self.old.shown) }
-        ensures ready { IsReady (view self.new.seat) }
+        ensures ready { IfSome result (λ _. IsReady (view self.new.seat)) }
     {
         let found = find(
             self.table,
@@ -196,8 +197,7 @@ impl Mate<'_> {
             NAME,
             false,
             &mut self.effort,
-        );
-        let found = found.expect(rt, "the key has no entry");
+        )?;
         let length = read_bytes(self.table, &mut self.seat, found, buffer);
         let freed = release(
             self.table,
@@ -207,42 +207,44 @@ impl Mate<'_> {
             IfLast::Keep,
             &mut self.effort,
         );
-        assert!(rt; freed.is_none(), "the entry went");
-        (found.slot, length)
+        match freed {
+            None => Some((found.slot, length)),
+            Some(_) => None,
+        }
     }
 
     /// The same of a value of at most 16 bytes.
-    pub(super) fn hit(&mut self, rt: &impl Abort, key: Key) -> Hit
+    pub(super) fn hit(&mut self, key: Key) -> Option<Hit>
         requires ready { IsReady (view self.old.seat) }
         requires plain { IsPlain (plan_of self.old.table.now) }
         ensures same { (self.new.table ≡ self.old.table) × (self.new.client ≡ self.old.client)
             × (self.new.shown ≡ self.old.shown) }
-        ensures ready { IsReady (view self.new.seat) }
+        ensures ready { IfSome result (λ _. IsReady (view self.new.seat)) }
     {
         let mut bytes = [0; 16];
-        let (slot, length) = self.read(rt, key, &mut bytes);
-        Hit {
+        let (slot, length) = self.read(key, &mut bytes)?;
+        Some(Hit {
             slot,
             length,
             bytes,
-        }
+        })
     }
 
-    /// Looks for a key that has no entry.
-    pub(super) fn miss(&mut self, rt: &impl Abort, key: Key)
+    /// Whether no entry of a key is found. One that is found stays held.
+    pub(super) fn misses(&mut self, key: Key) -> bool
         requires ready { IsReady (view self.old.seat) }
         ensures same { (self.new.table ≡ self.old.table) × (self.new.client ≡ self.old.client)
             × (self.new.shown ≡ self.old.shown) }
-        ensures ready { IsReady (view self.new.seat) }
+        ensures ready { result ≡ true → IsReady (view self.new.seat) }
     {
-        let found = find(
+        find(
             self.table,
             &mut self.seat,
             key,
             NAME,
             false,
             &mut self.effort,
-        );
-        assert!(rt; found.is_none(), "the key has an entry");
+        )
+        .is_none()
     }
 }

@@ -8,14 +8,14 @@ use hcc_rule::Key;
 use hcc_word::refs;
 use std::alloc::AllocError;
 
-/// Keys whose first place is slot 1. The others' next one is slot 4 and slot 6.
+/// Keys whose first probe is slot 1. The others' next one is slot 4 and slot 6.
 const FIRST: Key = Key { w0: 0, w1: 1 };
 
 const SECOND: Key = Key { w0: 2, w1: 1 };
 
 const THIRD: Key = Key { w0: 4, w1: 1 };
 
-/// A key that no test inserts, whose first place is slot 1 and whose next one is slot 4.
+/// A key that no test inserts, whose first probe is slot 1 and whose next one is slot 4.
 const ABSENT: Key = Key { w0: 2, w1: 9 };
 
 /// What comes of hiding an entry of charge 10 that nobody holds, and of hiding one that is held.
@@ -37,6 +37,12 @@ const FREED: ClockVisit = ClockVisit::Freed {
     hit: false,
 };
 
+/// The same of one of charge 10 that was marked.
+const MARKED: ClockVisit = ClockVisit::Freed {
+    charge: 10,
+    hit: true,
+};
+
 /// The words of an entry that nobody holds, by its countdown, and by that with the maker's handle.
 const COUNTDOWNS: [(u32, u64, u64); 3] = [
     (1, 0xe000_0000_4000_0001, 0xe000_0000_0000_0001),
@@ -45,34 +51,29 @@ const COUNTDOWNS: [(u32, u64, u64); 3] = [
 ];
 
 /// A new entry's uses are its countdown, less one where its maker keeps a handle, until that is
-/// given back as a use. Whoever takes the entry frees its slot.
+/// released as a use. Whoever takes the entry frees its slot.
 #[test]
 fn a_new_word_tells_the_countdown(rt: HostRuntime) -> Result<(), AllocError> {
     let (table, mut seats) = bench(rt.alloc())?;
     let mut me = hired(&rt, &table, &mut seats);
     for (countdown, alone, held) in COUNTDOWNS {
         let placed = me.insert(&rt, FIRST, 200, countdown, &[]);
-        assert_eq!(rt; placed, Insertion::Placed { slot: 1 });
-        assert_eq!(rt; me.word(1), alone);
-        assert_eq!(rt; me.totals(), [200, 1]);
-        assert_eq!(rt; me.evict(&rt, 1), 200);
-        assert_eq!(rt; me.word(1), 0);
+        let shown = (placed, me.word(1), me.totals());
+        assert_eq!(rt; shown, (Insertion::Placed { slot: 1 }, alone, [200, 1]));
+        assert_eq!(rt; [me.evict(&rt, 1), me.word(1)], [200, 0]);
         let kept = me.keep(&rt, FIRST, 200, countdown, &[]);
-        assert_eq!(rt; kept.slot, 1);
         let word = me.word_held(kept);
-        assert_eq!(rt; word, held);
-        assert_eq!(rt; refs(word), 1);
-        assert_eq!(rt; me.release(kept, Use::Useful, IfLast::Keep), None);
-        assert_eq!(rt; me.word(1), alone);
-        assert_eq!(rt; me.evict(&rt, 1), 200);
-        assert_eq!(rt; me.totals(), [0, 0]);
+        assert_eq!(rt; (kept.slot, word, refs(word)), (1, held, 1));
+        let freed = me.release(kept, Use::Useful, IfLast::Keep);
+        let left = (freed, me.word(1), me.evict(&rt, 1), me.totals());
+        assert_eq!(rt; left, (None, alone, 200, [0, 0]));
     }
     Ok(())
 }
 
-/// A find holds the entry; its give is a use or not, and a mark stays.
+/// A find holds the entry; its release is a use or not, and a mark stays.
 #[test]
-fn a_find_is_a_use_where_its_give_is_useful(rt: HostRuntime) -> Result<(), AllocError> {
+fn a_find_is_a_use_where_its_release_is_useful(rt: HostRuntime) -> Result<(), AllocError> {
     let rows = [
         (
             false,
@@ -113,47 +114,32 @@ fn a_find_is_a_use_where_its_give_is_useful(rt: HostRuntime) -> Result<(), Alloc
     Ok(())
 }
 
-/// A key's trail is counted while its entry stands. Another key of the same places is not found,
-/// and nothing is changed by that.
-#[test]
-fn a_displacement_lasts_as_long_as_its_entry(rt: HostRuntime) -> Result<(), AllocError> {
-    let (table, mut seats) = bench(rt.alloc())?;
-    let mut me = hired(&rt, &table, &mut seats);
-    let first = me.insert(&rt, FIRST, 10, 2, &[]);
-    assert_eq!(rt; first, Insertion::Placed { slot: 1 });
-    let second = me.insert(&rt, SECOND, 10, 2, &[]);
-    assert_eq!(rt; second, Insertion::Placed { slot: 4 });
-    assert_eq!(rt; me.displacement(1), 1);
-    assert!(rt; me.misses(ABSENT));
-    assert_eq!(rt; [me.word(1), me.word(4)], [0xe000_0000_8000_0002; 2]);
-    assert_eq!(rt; me.hide(SECOND), GONE);
-    assert_eq!(rt; me.displacement(1), 0);
-    assert!(rt; me.misses(ABSENT));
-    assert_eq!(rt; [me.word(1), me.word(4)], [0xe000_0000_8000_0002, 0]);
-    assert_eq!(rt; me.totals(), [10, 1]);
-    Ok(())
-}
-
-/// Trails of several keys meet in one slot, and one is taken back. The three insertions probe one
-/// slot, two and two, and hiding the second key two.
+/// Trails of several keys meet in one slot, and each is counted while its entry stands. Another key
+/// of the same probes is not found, and nothing is changed by that. The three insertions probe one
+/// slot, two and two, a hiding two, and the search of the absent key two and then one.
 #[test]
 fn a_slot_counts_each_trail(rt: HostRuntime) -> Result<(), AllocError> {
     let (table, mut seats) = bench(rt.alloc())?;
     let mut me = hired(&rt, &table, &mut seats);
-    let first = me.insert(&rt, FIRST, 10, 2, &[]);
-    assert_eq!(rt; first, Insertion::Placed { slot: 1 });
-    let second = me.insert(&rt, SECOND, 10, 2, &[]);
-    assert_eq!(rt; second, Insertion::Placed { slot: 4 });
-    let third = me.insert(&rt, THIRD, 10, 2, &[]);
-    assert_eq!(rt; third, Insertion::Placed { slot: 6 });
+    for (key, slot, trails) in [(FIRST, 1, 0), (SECOND, 4, 1), (THIRD, 6, 2)] {
+        assert_eq!(rt; me.insert(&rt, key, 10, 2, &[]), Insertion::Placed { slot });
+        assert_eq!(rt; me.displacement(1), trails);
+    }
     for slot in 0..8 {
         let count = me.displacement(slot);
         assert!(rt; count == if slot == 1 { 2 } else { 0 });
     }
-    assert_eq!(rt; me.hide(SECOND), GONE);
-    assert_eq!(rt; me.displacement(1), 1);
+    assert!(rt; me.misses(ABSENT));
+    assert_eq!(rt; [me.word(1), me.word(4)], [0xe000_0000_8000_0002; 2]);
+    for (gone, trails) in [(SECOND, 1), (THIRD, 0)] {
+        assert_eq!(rt; me.hide(gone), GONE);
+        assert_eq!(rt; me.displacement(1), trails);
+    }
+    assert!(rt; me.misses(ABSENT));
+    assert_eq!(rt; [me.word(1), me.word(4)], [0xe000_0000_8000_0002, 0]);
+    assert_eq!(rt; me.totals(), [10, 1]);
     let took = Effort {
-        probes: 7,
+        probes: 12,
         corrections: 0,
         lost: 0,
     };
@@ -193,17 +179,24 @@ fn a_hidden_entry_and_its_successor_are_both_read(rt: HostRuntime) -> Result<(),
     let (table, mut seats) = bench(rt.alloc())?;
     let mut me = hired(&rt, &table, &mut seats);
     let old = me.keep(&rt, FIRST, 10, 2, &[0xaa]);
-    assert_eq!(rt; me.hide_held(&rt, old, FIRST), HIDDEN);
-    assert_eq!(rt; me.word_held(old), 0xc000_0000_4000_0002);
+    let hidden = (me.hide_held(&rt, old, FIRST), me.word_held(old));
+    assert_eq!(rt; hidden, (HIDDEN, 0xc000_0000_4000_0002));
     let new = me.keep_other(&rt, old, FIRST, 10, &[0xbb]);
     assert_eq!(rt; [old.slot, new.slot], [1, 2]);
     let found = (2, 0xe000_0000_4000_0003, 0xbb);
     assert_eq!(rt; me.read_three(&rt, old, new, FIRST), (0xaa, 0xbb, found));
-    me.give_other(&rt, old, new);
+    me.release_other(&rt, old, new);
     assert_eq!(rt; me.release(old, Use::Useful, IfLast::Keep), Some(10));
-    assert_eq!(rt; [me.word(1), me.word(2)], [0, 0xe000_0000_8000_0002]);
-    assert_eq!(rt; [me.displacement(1), me.displacement(2)], [1, 0]);
-    assert_eq!(rt; me.totals(), [10, 1]);
+    let left = [
+        me.word(1),
+        me.displacement(1),
+        me.word(2),
+        me.displacement(2),
+    ];
+    assert_eq!(rt;
+        (left, me.totals()),
+        ([0, 1, 0xe000_0000_8000_0002, 0], [10, 1])
+    );
     Ok(())
 }
 
@@ -223,41 +216,34 @@ fn a_hidden_entry_goes_with_its_last_handle(rt: HostRuntime) -> Result<(), Alloc
     Ok(())
 }
 
-/// An entry at countdown 0 that nobody holds is found, and is hidden and freed.
+/// An entry at countdown 0 that nobody holds is found and marked. It is hidden and freed, or a
+/// visit frees it and tells of the mark.
 #[test]
-fn an_entry_at_countdown_0_is_found_and_hidden(rt: HostRuntime) -> Result<(), AllocError> {
+fn an_entry_at_countdown_0_is_found_and_freed(rt: HostRuntime) -> Result<(), AllocError> {
     let (table, mut seats) = bench(rt.alloc())?;
     let mut me = hired(&rt, &table, &mut seats);
-    let placed = me.insert(&rt, FIRST, 10, 1, &[]);
-    assert_eq!(rt; placed, Insertion::Placed { slot: 1 });
-    assert_eq!(rt; me.visit(1), ClockVisit::Counted);
-    assert_eq!(rt; me.word(1), 0xe000_0000_0000_0000);
-    let found = me.find(FIRST, true).expect(&rt, "the entry is not found");
-    assert_eq!(rt; me.word_held(found), 0xf000_0000_0000_0001);
-    assert_eq!(rt; me.release(found, Use::NotUseful, IfLast::Keep), None);
-    assert_eq!(rt; me.word(1), 0xf000_0000_0000_0000);
-    assert_eq!(rt; me.hide(FIRST), GONE);
-    assert_eq!(rt; me.word(1), 0);
-    assert_eq!(rt; me.totals(), [0, 0]);
-    Ok(())
-}
-
-/// No second entry of a key is placed while the first is held, and the clock's load finds it
-/// pinned.
-#[test]
-fn a_held_entry_is_matched(rt: HostRuntime) -> Result<(), AllocError> {
-    let (table, mut seats) = bench(rt.alloc())?;
-    let mut me = hired(&rt, &table, &mut seats);
-    let kept = me.keep(&rt, FIRST, 200, 1, &[]);
-    assert_eq!(rt; me.insert_held(&rt, kept, FIRST, 200), Insertion::Matched);
-    assert_eq!(rt; me.word_held(kept), 0xe000_0000_8000_0003);
-    assert_eq!(rt; me.release(kept, Use::NotUseful, IfLast::Keep), None);
-    assert_eq!(rt; me.totals(), [200, 1]);
+    for hides in [true, false] {
+        let placed = me.insert(&rt, FIRST, 10, 1, &[]);
+        assert_eq!(rt; placed, Insertion::Placed { slot: 1 });
+        assert_eq!(rt; me.visit(1), ClockVisit::Counted);
+        assert_eq!(rt; me.word(1), 0xe000_0000_0000_0000);
+        let found = me.find(FIRST, true).expect(&rt, "the entry is not found");
+        assert_eq!(rt; me.word_held(found), 0xf000_0000_0000_0001);
+        assert_eq!(rt; me.release(found, Use::NotUseful, IfLast::Keep), None);
+        assert_eq!(rt; me.word(1), 0xf000_0000_0000_0000);
+        if hides {
+            assert_eq!(rt; me.hide(FIRST), GONE);
+        } else {
+            assert_eq!(rt; me.visit(1), MARKED);
+        }
+        assert_eq!(rt; me.word(1), 0);
+        assert_eq!(rt; me.totals(), [0, 0]);
+    }
     Ok(())
 }
 
 /// A reference near the end of the counters doesn't count, and they are taken back once. It is
-/// given back and not released, and frees the entry where that is asked for. The countdown of 2 and
+/// given back and not spent, and frees the entry where that is asked for. The countdown of 2 and
 /// 3·178,956,972 uses are 2^29 + 6.
 #[test]
 fn a_worn_entry_is_corrected_and_erased(rt: HostRuntime) -> Result<(), AllocError> {
@@ -306,11 +292,26 @@ fn a_value_is_read_as_it_was_written(rt: HostRuntime) -> Result<(), AllocError> 
     Ok(())
 }
 
-/// An entry is held twice by one client, and each reference is a use in the end.
+/// While an entry is held, no second one of its key is placed, the clock leaves it, and its charge
+/// is told as pinned, with none in another slot. Its last handle frees it where that is asked for.
+/// Held twice, each of its references is a use in the end.
 #[test]
-fn an_entry_is_held_again(rt: HostRuntime) -> Result<(), AllocError> {
+fn a_held_entry_stays_until_its_last_handle_goes(rt: HostRuntime) -> Result<(), AllocError> {
     let (table, mut seats) = bench(rt.alloc())?;
     let mut me = hired(&rt, &table, &mut seats);
+    let kept = me.keep(&rt, FIRST, 200, 1, &[]);
+    assert_eq!(rt; me.insert_held(&rt, kept, FIRST, 200), Insertion::Matched);
+    assert_eq!(rt; me.word_held(kept), 0xe000_0000_8000_0003);
+    assert_eq!(rt; me.release(kept, Use::NotUseful, IfLast::Keep), None);
+    assert_eq!(rt; me.totals(), [200, 1]);
+    assert_eq!(rt; me.evict(&rt, 1), 200);
+    let kept = me.keep(&rt, FIRST, 200, 2, &[]);
+    me.visit_held(&rt, kept);
+    assert_eq!(rt; [me.pinned(kept, 1), me.pinned(kept, 2)], [200, 0]);
+    assert_eq!(rt; me.word_held(kept), 0xe000_0000_4000_0002);
+    assert_eq!(rt; me.release(kept, Use::Useful, IfLast::Erase), Some(200));
+    assert_eq!(rt; me.word(1), 0);
+    assert_eq!(rt; me.totals(), [0, 0]);
     let kept = me.keep(&rt, FIRST, 200, 2, &[]);
     assert_eq!(rt;
         me.hold_twice(&rt, kept),
@@ -320,19 +321,5 @@ fn an_entry_is_held_again(rt: HostRuntime) -> Result<(), AllocError> {
             0xe000_0000_c000_0003
         ]
     );
-    Ok(())
-}
-
-/// The clock leaves an entry that is held, and its last handle frees it where that is asked for.
-#[test]
-fn a_held_entry_goes_where_its_last_handle_says(rt: HostRuntime) -> Result<(), AllocError> {
-    let (table, mut seats) = bench(rt.alloc())?;
-    let mut me = hired(&rt, &table, &mut seats);
-    let kept = me.keep(&rt, FIRST, 200, 2, &[]);
-    me.visit_held(&rt, kept);
-    assert_eq!(rt; me.word_held(kept), 0xe000_0000_4000_0002);
-    assert_eq!(rt; me.release(kept, Use::Useful, IfLast::Erase), Some(200));
-    assert_eq!(rt; me.word(1), 0);
-    assert_eq!(rt; me.totals(), [0, 0]);
     Ok(())
 }

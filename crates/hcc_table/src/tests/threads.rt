@@ -1,4 +1,4 @@
-//! Two clients on two threads: in every order of their steps all entries are placed and found.
+//! Two clients on two threads: in every order of their steps all entries are inserted and found.
 ghost use Rattle.std.specs.Prelude.{◌≡◌, ◌<◌, ◌≤◌};
 ghost use Rattle.std.specs.Thread.{IsSync};
 ghost use Rattle.hcc_rule.specs.Callers.{plan_of, IsSeatAt};
@@ -16,7 +16,7 @@ use std::thread::{Threads, join};
 /// The word of a slot whose entry has a countdown of 2 and no reference, and was used twice.
 const USED: u64 = 0xe000_0001_0000_0004;
 
-/// Keys whose first place is the slot of that number, in a shard of 16 slots.
+/// Keys whose first probe is the slot of that number, in a shard of 16 slots.
 fn key(number: u8) -> Key {
     Key {
         w0: 0,
@@ -24,8 +24,8 @@ fn key(number: u8) -> Key {
     }
 }
 
-/// Places the entries of four keys, from this number on, each in its key's first place.
-fn places(
+/// Inserts the entries of four keys, from this number on, each at its key's first probe.
+fn inserts(
     rt: &impl Abort,
     table: &Shard,
     seat: RuleSeat<AnyBytes>,
@@ -82,13 +82,14 @@ fn finds(
             length: 1,
             bytes,
         };
-        assert_eq!(rt; me.hit(rt, key(number)), want);
+        let hit = me.hit(key(number)).expect(rt, "the key has no entry");
+        assert_eq!(rt; hit, want);
     }
     me.seat
 }
 
-/// Clients 0 and 1 place four entries each at once.
-fn both_place<R: Abort + Threads + Sync>(
+/// Clients 0 and 1 insert four entries each at once.
+fn both_insert<R: Abort + Threads + Sync>(
     rt: &R,
     table: &Shard,
     first: RuleSeat<AnyBytes>,
@@ -106,40 +107,12 @@ fn both_place<R: Abort + Threads + Sync>(
             requires { IsSync R.row × IsPlain (plan_of table.now)
                 × IsReadySeatAt table.now 0 0 first }
             ensures { IsReadySeatAt table.entry.now 0 4 result }
-        { places(rt, table, first, 0, 0) },
+        { inserts(rt, table, first, 0, 0) },
         move ||
             requires { IsSync R.row × IsPlain (plan_of table.now)
                 × IsReadySeatAt table.now 1 0 second }
             ensures { IsReadySeatAt table.entry.now 1 4 result }
-        { places(rt, table, second, 1, 4) },
-    )
-}
-
-/// Clients 0 and 1 find all entries at once.
-fn both_find<R: Abort + Threads + Sync>(
-    rt: &R,
-    table: &Shard,
-    first: RuleSeat<AnyBytes>,
-    second: RuleSeat<AnyBytes>,
-) -> (RuleSeat<AnyBytes>, RuleSeat<AnyBytes>)
-    requires plain { IsPlain (plan_of table.now) }
-    requires first { IsReadySeatAt table.now 0 4 first }
-    requires second { IsReadySeatAt table.now 1 4 second }
-    ensures first { IsReadySeatAt table.now 0 4 result.0 }
-    ensures second { IsReadySeatAt table.now 1 4 result.1 }
-{
-    join(
-        rt,
-        move ||
-            requires { IsSync R.row × IsPlain (plan_of table.now)
-                × IsReadySeatAt table.now 0 4 first }
-            ensures { IsReadySeatAt table.entry.now 0 4 result }
-        { finds(rt, table, first, 0) },
-        move ||
-            requires { IsSync R.row × IsPlain (plan_of table.now)
-                × IsReadySeatAt table.now 1 4 second }
-            ensures { IsReadySeatAt table.entry.now 1 4 result }
-        { finds(rt, table, second, 1) },
+        { inserts(rt, table, second, 1, 4) },
     )
 }
 
@@ -168,12 +141,22 @@ fn meets(
     me.seat
 }
 
-/// Client 0 finds and holds the entries while client 1 tries to insert others of their keys.
-fn one_finds_and_one_meets<R: Abort + Threads + Sync>(
+/// What client 1 does while client 0 finds the entries.
+#[derive(Clone, Copy, Debug, PartialEq, Eq)]
+enum Other {
+    /// It finds them too.
+    Finds,
+    /// It tries to insert others of their keys.
+    Meets,
+}
+
+/// Client 0 finds and holds the entries, and client 1 works beside it.
+fn one_finds<R: Abort + Threads + Sync>(
     rt: &R,
     table: &Shard,
     first: RuleSeat<AnyBytes>,
     second: RuleSeat<AnyBytes>,
+    other: Other,
 ) -> (RuleSeat<AnyBytes>, RuleSeat<AnyBytes>)
     requires plain { IsPlain (plan_of table.now) }
     requires first { IsReadySeatAt table.now 0 4 first }
@@ -192,7 +175,12 @@ fn one_finds_and_one_meets<R: Abort + Threads + Sync>(
             requires { IsSync R.row × IsPlain (plan_of table.now)
                 × IsReadySeatAt table.now 1 4 second }
             ensures { IsReadySeatAt table.entry.now 1 4 result }
-        { meets(rt, table, second, 1) },
+        {
+            match other {
+                Other::Finds => finds(rt, table, second, 1),
+                Other::Meets => meets(rt, table, second, 1),
+            }
+        },
     )
 }
 
@@ -210,18 +198,18 @@ fn end_both(
     first
 }
 
-/// The two clients place eight entries at once, each at its key's first probe, and both find all of
-/// them at once. Then one finds them and the other one, whose every insertion of a second entry is
-/// answered by the first one, uses each twice. No other reference is a use, so that is what the
+/// The two clients insert eight entries at once, each at its key's first probe, and both find all
+/// of them at once. Then one finds them and the other one, whose every insertion of a second entry
+/// is answered by the first one, uses each twice. No other reference is a use, so that is what the
 /// words tell.
 #[test]
-fn two_threads_place_and_find_entries(rt: HostRuntime) -> Result<(), AllocError> {
+fn two_threads_insert_and_find_entries(rt: HostRuntime) -> Result<(), AllocError> {
     let (table, mut seats) = shard(rt.alloc(), 2, 1)?;
     let second = seated(&rt, &table, &mut seats);
     let first = seated(&rt, &table, &mut seats);
-    let (first, second) = both_place(&rt, &table, first, second);
-    let (first, second) = both_find(&rt, &table, first, second);
-    let (first, second) = one_finds_and_one_meets(&rt, &table, first, second);
+    let (first, second) = both_insert(&rt, &table, first, second);
+    let (first, second) = one_finds(&rt, &table, first, second, Other::Finds);
+    let (first, second) = one_finds(&rt, &table, first, second, Other::Meets);
     let last = end_both(&table, first, second);
     let closed = table.close(last);
     for slot in 0..16 {

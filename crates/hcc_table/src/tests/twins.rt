@@ -153,7 +153,7 @@ impl Caller<'_> {
         buffer[0]
     }
 
-    /// Finds an entry while both handles are held, and gives it back. The answer is its slot, that
+    /// Finds an entry while both handles are held, and releases it. The answer is its slot, that
     /// slot's word, and the first byte of its value.
     fn peek(&mut self, rt: &impl Abort, one: Pin, two: Pin, key: Key) -> (u32, u64, u8)
         requires pins { (one.slot < 8) × (one.name ≡ NAME) × (two.slot < 8) × (two.name ≡ OTHER) }
@@ -203,8 +203,8 @@ impl Caller<'_> {
         (first, self.first_byte(one, two, true), peeked)
     }
 
-    /// Gives the second handle back as a use.
-    pub(super) fn give_other(&mut self, rt: &impl Abort, one: Pin, two: Pin)
+    /// Releases the second handle as a use.
+    pub(super) fn release_other(&mut self, rt: &impl Abort, one: Pin, two: Pin)
         requires pins { (one.slot < 8) × (one.name ≡ NAME) × (two.slot < 8) × (two.name ≡ OTHER) }
         requires holds { HoldsTwo one two (view self.old.seat) }
         ensures same { (self.new.table ≡ self.old.table) × (self.new.shown ≡ self.old.shown) }
