@@ -32,8 +32,6 @@ impl<T: Tag, A: Allocator> RuleTable<T, A> {
         ensures seat { IsSameSeat seat.old seat.new }
         ensures view { view seat.new ≡ after_turn (view seat.old) }
     {
-        self.table
-            .shared
-            .fetch_add::<Turn>(seat, self.ledger(HAND), SLOTS_PER_TURN)
+        self.fetch_add::<Turn, _>(seat, self.ledger(HAND), SLOTS_PER_TURN, ())
     }
 }

@@ -75,7 +75,7 @@ impl<T: Tag, A: Allocator> RuleTable<T, A> {
             → result ≤ capacity_of self.now + (view seat.old).work.needed + 2 ^ 32
             * (clients_of self.now - 1) }
     {
-        self.table.shared.load::<Brand>(seat, self.ledger(USAGE))
+        self.load::<Brand, _>(seat, self.ledger(USAGE), ())
     }
 
     /// Adds a charge to the usage, for a client that has nothing granted and nothing needed.
@@ -102,9 +102,7 @@ impl<T: Tag, A: Allocator> RuleTable<T, A> {
         ensures most { is_strict self.now ≡ true
             → result ≤ capacity_of self.now + 2 ^ 32 * (clients_of self.now - 1) }
     {
-        self.table
-            .shared
-            .fetch_add::<Brand>(seat, self.ledger(USAGE), amount as u64)
+        self.fetch_add::<Brand, _>(seat, self.ledger(USAGE), amount as u64, ())
     }
 
     /// Takes the charge that the client freed from the usage. It must be some, and cover what the
@@ -118,9 +116,7 @@ impl<T: Tag, A: Allocator> RuleTable<T, A> {
         ensures seat { IsSameSeat seat.old seat.new }
         ensures view { view seat.new ≡ after_settle (view seat.old) }
     {
-        self.table
-            .shared
-            .fetch_sub::<Settle>(seat, self.ledger(USAGE), amount);
+        self.fetch_sub::<Settle, _>(seat, self.ledger(USAGE), amount, ());
     }
 
     /// Takes all that the client was granted, needed or freed from the usage, which is `amount` and
@@ -133,8 +129,6 @@ impl<T: Tag, A: Allocator> RuleTable<T, A> {
         ensures seat { IsSameSeat seat.old seat.new }
         ensures view { view seat.new ≡ after_waive (view seat.old) }
     {
-        self.table
-            .shared
-            .fetch_sub::<Waive>(seat, self.ledger(USAGE), amount);
+        self.fetch_sub::<Waive, _>(seat, self.ledger(USAGE), amount, ());
     }
 }

@@ -54,9 +54,7 @@ impl<T: Tag, A: Allocator> RuleTable<T, A> {
             → result + (view seat.old).takings
             ≡ length (view seat.old).made + occupied_by (view seat.old).work }
     {
-        self.table
-            .shared
-            .load::<Brand>(seat, self.ledger(OCCUPANCY))
+        self.load::<Brand, _>(seat, self.ledger(OCCUPANCY), ())
     }
 
     /// Asks for a place in the table, for a client that has none. It is granted where the found
@@ -80,9 +78,7 @@ impl<T: Tag, A: Allocator> RuleTable<T, A> {
             → result + (view seat.old).takings
             ≡ length (view seat.old).made + occupied_by (view seat.old).work }
     {
-        self.table
-            .shared
-            .fetch_add::<Brand>(seat, self.ledger(OCCUPANCY), 1)
+        self.fetch_add::<Brand, _>(seat, self.ledger(OCCUPANCY), 1, ())
     }
 
     /// Gives back the slots that the client freed, `count` of them, at least one. An open place of
@@ -95,9 +91,7 @@ impl<T: Tag, A: Allocator> RuleTable<T, A> {
         ensures seat { IsSameSeat seat.old seat.new }
         ensures view { view seat.new ≡ after_slots (view seat.old) }
     {
-        self.table
-            .shared
-            .fetch_sub::<GiveSlots>(seat, self.ledger(OCCUPANCY), count);
+        self.fetch_sub::<GiveSlots, _>(seat, self.ledger(OCCUPANCY), count, ());
     }
 
     /// Gives back the place of the client, granted or open, with the slots that it freed: `count`
@@ -111,8 +105,6 @@ impl<T: Tag, A: Allocator> RuleTable<T, A> {
         ensures seat { IsSameSeat seat.old seat.new }
         ensures view { view seat.new ≡ after_quit (view seat.old) }
     {
-        self.table
-            .shared
-            .fetch_sub::<Quit>(seat, self.ledger(OCCUPANCY), count);
+        self.fetch_sub::<Quit, _>(seat, self.ledger(OCCUPANCY), count, ());
     }
 }

@@ -81,9 +81,7 @@ impl<T: Tag, A: Allocator> RuleTable<T, A> {
         ensures seat { IsSameSeat seat.old seat.new }
         ensures view { view seat.new ≡ after_write word (view seat.old) }
     {
-        self.table
-            .shared
-            .store::<Write>(seat, self.data_address(slot, first, index), word);
+        self.store::<Write, _>(seat, self.data_address(slot, first, index), word, ());
     }
 
     /// Empties the slot that the client took to free, once its trail was taken back.
@@ -97,8 +95,6 @@ impl<T: Tag, A: Allocator> RuleTable<T, A> {
         ensures seat { IsSameSeat seat.old seat.new }
         ensures view { view seat.new ≡ after_empty (view seat.old) }
     {
-        self.table
-            .shared
-            .store::<Empty>(seat, self.address(slot, META), EMPTY_WORD);
+        self.store::<Empty, _>(seat, self.address(slot, META), EMPTY_WORD, ());
     }
 }

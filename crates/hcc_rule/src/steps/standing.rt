@@ -35,7 +35,7 @@ impl<T: Tag, A: Allocator> RuleTable<T, A> {
             → result + (view seat.old).work.granted + (view seat.old).work.freed
             + charge_held (view seat.old).records ≤ capacity_of self.now }
     {
-        self.table.shared.load::<Brand>(seat, self.ledger(STANDING))
+        self.load::<Brand, _>(seat, self.ledger(STANDING), ())
     }
 
     /// Makes a standalone entry of this name, with a charge that the client was granted. The client

@@ -3,4 +3,4 @@ use Rattle.hcc_rule.specs.ToldLedgers.{charges}
 use Rattle.hcc_rule.proofs.table.RuleTable.charge.Given as goal
 
 abbrev pub ghosts-fetch_add : goal.ghosts-fetch_add
-ghosts-fetch_add g a = record { then = charges (setup_of a.self.now.key) }
+ghosts-fetch_add g a = record { then = charges (setup_of a.self.now.table.shared.key) }

@@ -3,4 +3,4 @@ use Rattle.hcc_rule.specs.ToldLedgers.{occupancies}
 use Rattle.hcc_rule.proofs.table.RuleTable.occupancy.Given as goal
 
 abbrev pub ghosts-load : goal.ghosts-load
-ghosts-load g a = record { then = occupancies (setup_of a.self.now.key) }
+ghosts-load g a = record { then = occupancies (setup_of a.self.now.table.shared.key) }

@@ -3,4 +3,4 @@ use Rattle.hcc_rule.specs.ToldLedgers.{usages}
 use Rattle.hcc_rule.proofs.table.RuleTable.usage.Given as goal
 
 abbrev pub ghosts-load : goal.ghosts-load
-ghosts-load g a = record { then = usages (setup_of a.self.now.key) }
+ghosts-load g a = record { then = usages (setup_of a.self.now.table.shared.key) }
