@@ -1,3 +1,4 @@
+pub mod Lifts
 pub mod Openings
 pub mod Splits
 pub mod Dealing

@@ -4,11 +4,13 @@ use Rattle.hcc_core.specs.declared.client.Client.{Client}
 use Rattle.hcc_core.specs.World.{owns_nothing}
 use Rattle.hcc_core.specs.Opening.{new_client}
 use Rattle.hcc_rule.specs.declared.geometry.Geometry.{Geometry}
+use Rattle.hcc_rule.specs.declared.layout.TheConstants.{META, DISPLACEMENT, DATA}
 use Rattle.hcc_rule.specs.declared.rule.Plan.{Plan}
 use Rattle.hcc_rule.specs.declared.table.RuleTable.{RuleTable}
 use Rattle.hcc_rule.specs.declared.view.View.{View}
 use Rattle.hcc_rule.specs.Seats.{SeatOf, IsSeatOf, AreNewSeats}
 use Rattle.hcc_rule.specs.Views.{record_in}
+use Rattle.hcc_rule.specs.Words.{field_at, ledger_at}
 
 module _ {T A : Type 0} where
   -- its sizes, its rule of capacity and its tag
@@ -32,6 +34,19 @@ module _ {T A : Type 0} where
 
   abbrev pub clients_of : RuleTable T A → ℕ
   clients_of table = table.geometry.clients
+
+  -- where the words of a slot stand, and the ledger words
+  abbrev pub address_of_meta : RuleTable T A → (slot : ℕ) → ℕ
+  address_of_meta table slot = field_at table.geometry.room slot META
+
+  abbrev pub address_of_displacement : RuleTable T A → (slot : ℕ) → ℕ
+  address_of_displacement table slot = field_at table.geometry.room slot DISPLACEMENT
+
+  abbrev pub address_of_data : RuleTable T A → (slot index : ℕ) → ℕ
+  address_of_data table slot index = field_at table.geometry.room slot (DATA + index)
+
+  abbrev pub address_of_ledger : RuleTable T A → (ledger : ℕ) → ℕ
+  address_of_ledger table ledger = ledger_at table.geometry.slots table.geometry.room ledger
 
   -- a seat at this table that stands for a client
   abbrev pub IsSeatAt : RuleTable T A → SeatOf T → Type 0

@@ -4,6 +4,7 @@ pub mod Views
 pub mod Rule
 pub mod Opening
 pub mod Seats
+pub mod Logs
 pub mod Told
 pub mod ToldReferences
 pub mod ToldLedgers

@@ -6,7 +6,8 @@ use Rattle.hcc_rule.specs.declared.key.Key.{Key}
 use Rattle.hcc_rule.specs.declared.rule.Plan.{Plan}
 use Rattle.hcc_rule.specs.declared.table.RuleTable.{RuleTable}
 use Rattle.hcc_rule.specs.Rule.{Holds}
-use Rattle.hcc_rule.specs.Seats.{SeatOf}
+use Rattle.hcc_rule.specs.Logs.{known_of}
+use Rattle.hcc_rule.specs.Seats.{SeatOf, Makes}
 use Rattle.hcc_rule.specs.Told.{Held}
 
 module _ {T A : Type 0} where
@@ -15,15 +16,24 @@ module _ {T A : Type 0} where
   step_of table address first second = step table.table.shared.table_id.slots address first second
       none
 
+  -- what it tells, of the word that it found and of the seat after it
+  abbrev pub tells : (Step (Unit {0}) → Held T → ℕ → Held T → Type 0) → RuleTable T A → SeatOf T
+      → (address first second : ℕ) → ℕ → Held T → Type 0
+  tells then table seat address first second =
+      then (step_of table address first second) (known_of seat.me)
+
   -- the seat may do it: a word that was n is f n after it, and this is told of it
   abbrev pub May : (T → Key → List ℕ → Type 0) → RuleTable T A → SeatOf T → (address : ℕ) → (ℕ → ℕ)
       → (ℕ → Held T → Type 0) → Type 0
   May fits table seat address f told =
       (seat.table_id ≡ table.table.shared.table_id) × (address < table.table.shared.table_id.words)
-      × Allows (Holds fits table.table.shared.key) table.table.shared.table_id.slots seat.id seat.me
-      address f told
+      × Allows (Holds fits table.table.shared.key) table.table.shared.table_id.slots seat.id
+      (known_of seat.me) address f told
 
-module _ {T : Type 0} where
-  -- it was done, and this is told
-  abbrev pub Did : SeatOf T → SeatOf T → (Held T → Type 0) → Type 0
-  Did old new told = (new.table_id ≡ old.table_id) × (new.id ≡ old.id) × told new.me
+  -- it was done, as one step more of the seat that found this, and that is told
+  abbrev pub Did : (Step (Unit {0}) → Held T → ℕ → Held T → Type 0) → RuleTable T A
+      → (address first second found : ℕ) → SeatOf T → SeatOf T → Type 0
+  Did then table address first second found old new =
+      (new.table_id ≡ old.table_id) × (new.id ≡ old.id)
+      × tells then table old address first second found (known_of new.me)
+      × Makes address first second found old new

@@ -1,8 +1,10 @@
 -- What the steps of owners tell their seat: those that take a slot, write it, show it, free it and
 -- empty it.
-use Rattle.std.specs.Prelude.{◌≡◌, ◌≢◌, ℕ, true, false, ◌+◌, ◌^◌, ◌<◌, ◌≤◌, ◌==◌, List, [], ◌∷◌, ◌++◌, Option, Some, None, IfSome, IsSomeAnd, Bool, ◌&&◌, nat_lt, length, slice_index, if◌then◌else◌}
+use Rattle.std.specs.Prelude.{◌≡◌, ◌≢◌, ℕ, true, false, ◌+◌, ◌-◌, ◌^◌, ◌<◌, ◌≤◌, ◌==◌, List, [], ◌∷◌, ◌++◌, Option, Some, None, is_some, IfSome, IsSomeAnd, Bool, ◌&&◌, nat_lt, length, slice_index, if◌then◌else◌}
+use Rattle.std.specs.Int.{from_bool}
 use Rattle.atomic_table.specs.Table.{Step}
-use Rattle.hcc_word.specs.Word.{is_empty, is_visible, refs_of, releases_of}
+use Rattle.hcc_word.specs.declared.layout.TheConstants.{VISIBLE}
+use Rattle.hcc_word.specs.Word.{is_empty, is_visible, refs_of, releases_of, word_of}
 use Rattle.hcc_core.specs.declared.limits.TheConstants.{REFERENCES_PER_CLIENT, STAMPS_PER_CLIENT, MOST_COUNTDOWN}
 use Rattle.hcc_core.specs.declared.client.Place.TheVariants as places
 use Rattle.hcc_core.specs.Outcomes.{dropped}
@@ -55,6 +57,12 @@ first_records slot (Some name) entry =
 -- that entry, by the client's count of stamps
 abbrev pub shown_entry : {T : Type 0} → View T → Made → Entry
 shown_entry v made = entry_of (record { client = v.client; number = v.work.stamps }) made
+
+-- the word that an entry is shown with: its countdown in both counters, but one release less where
+-- its maker keeps a reference
+abbrev pub first_word : Draft → ℕ
+first_word draft =
+    word_of draft.countdown (draft.countdown - from_bool (is_some draft.name)) false VISIBLE
 
 -- what a draft makes of these bytes
 abbrev pub made_of : Draft → List ℕ → Made

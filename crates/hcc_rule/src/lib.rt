@@ -23,4 +23,4 @@ pub use key::{Key, Tag};
 pub use rule::{Plan, ShardRule};
 pub use steps::Draft;
 pub use table::{RuleSeat, RuleTable};
-pub use view::{Made, Other, Record, View};
+pub use view::{Atomic, Logged, Made, Other, Record, View};

@@ -1,8 +1,8 @@
 //! A new shard, and the seats of its clients.
-ghost use Rattle.std.specs.Prelude.{◌≡◌, ◌+◌, ◌≤◌, IfOk, length};
+ghost use Rattle.std.specs.Prelude.{◌≡◌, ◌+◌, ◌≤◌, [], IfOk, length};
 ghost use Rattle.hcc_rule.specs.Callers.{plan_of, geometry_of, capacity_of, is_strict, IsSeatAt, AreSeatsAt};
 ghost use Rattle.hcc_rule.specs.Opening.{opening_view};
-ghost use Rattle.hcc_rule.specs.Seats.{IsPlanned, view};
+ghost use Rattle.hcc_rule.specs.Seats.{IsPlanned, steps, view};
 
 use crate::geometry::Geometry;
 use crate::key::Tag;
@@ -14,7 +14,7 @@ use std::alloc::{AllocError, Allocator};
 
 impl<T: Tag, A: Allocator> RuleTable<T, A> {
     /// A shard with no entries, and the seats of all its clients, in order of their numbers. Each
-    /// client has nothing in hand, and its lists and counts are empty.
+    /// client has nothing in hand, its lists and counts are empty, and no seat has made a step.
     ///
     /// The sizes and the capacity keep their limits. It takes memory for the words and for the
     /// seats, and costs as many stores as the shard has words, and a load for each client.
@@ -61,6 +61,7 @@ impl<T: Tag, A: Allocator> RuleTable<T, A> {
         ensures seat { IfOk result (λ made.
             IsSeatAt made.0 made.1) }
         ensures view { IfOk result (λ made. view made.1 ≡ opening_view (plan_of made.0)) }
+        ensures steps { IfOk result (λ made. steps made.1 ≡ []) }
     {
         let stride = geometry.room as usize + SLOT_HEAD;
         let count = geometry.slots as usize * stride + LEDGER_WORDS;
@@ -88,6 +89,7 @@ impl<T: Tag, A: Allocator> RuleTable<T, A> {
     fn dealt(&self, alloc: A, mut first: RuleSeat<T>) -> Result<Vec<RuleSeat<T>, A>, AllocError>
         requires seat { IsSeatAt self.now first }
         requires view { view first ≡ opening_view (plan_of self.now) }
+        requires steps { steps first ≡ [] }
         ensures count { IfOk result (λ seats. length seats.items ≡ self.now.geometry.clients) }
         ensures seats { IfOk result (λ seats.
             AreSeatsAt self.now 0 seats.items) }

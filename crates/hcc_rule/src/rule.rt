@@ -1,7 +1,7 @@
 //! The rule of a shard's table, and what the table is told once.
 use crate::geometry::Geometry;
 use crate::key::Tag;
-use crate::view::View;
+use crate::view::Logged;
 use atomic_table::TableRule;
 use std::marker::PhantomData;
 
@@ -14,16 +14,15 @@ pub struct Plan<T> {
     pub tag: T,
 }
 
-/// The rule: the words and the views show some lawful world.
+/// The rule: the words and the views show some lawful world, whatever steps the seats made.
 pub struct ShardRule<T> {
     tag: PhantomData<T>,
 }
 
-impl<T: Tag> TableRule<(), View<T>, Plan<T>> for ShardRule<T> {
-    ghost use Rattle.hcc_rule.specs.Rule.{Holds};
-    ghost use Rattle.hcc_rule.specs.Opening.{opening_view};
+impl<T: Tag> TableRule<(), Logged<T>, Plan<T>> for ShardRule<T> {
+    ghost use Rattle.hcc_rule.specs.Logs.{HoldsLogged, first_logged};
 
-    ghost holds = { Holds T.fits };
+    ghost holds = { HoldsLogged T.fits };
 
-    ghost first = { opening_view };
+    ghost first = { first_logged };
 }

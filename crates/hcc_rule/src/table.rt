@@ -8,14 +8,14 @@ use crate::geometry::Geometry;
 use crate::key::Tag;
 use crate::layout::DATA;
 use crate::rule::{Plan, ShardRule};
-use crate::view::View;
+use crate::view::Logged;
 use atomic_table::{Seat, Table};
 use std::alloc::Allocator;
 
 /// The words of a shard, which change by the steps of its seats alone.
 #[derive(Drop)]
 pub struct RuleTable<T: Tag, A: Allocator> {
-    pub(crate) table: Table<(), View<T>, Plan<T>, ShardRule<T>, A>,
+    pub(crate) table: Table<(), Logged<T>, Plan<T>, ShardRule<T>, A>,
     pub(crate) geometry: Geometry,
     /// How many words a slot has.
     pub(crate) stride: usize,
@@ -29,8 +29,8 @@ pub struct RuleTable<T: Tag, A: Allocator> {
     ghost limits: { IsPlanned geometry capacity },
 }
 
-/// What one client knows of a shard. It has no bytes.
-pub type RuleSeat<T> = Seat<(), View<T>>;
+/// What one client knows of a shard, and which atomic steps it made there. It has no bytes.
+pub type RuleSeat<T> = Seat<(), Logged<T>>;
 
 impl<T: Tag, A: Allocator> RuleTable<T, A> {
     /// The size of the shard. It costs a copy.

@@ -69,3 +69,20 @@ pub struct View<T> {
     /// The charges of which not all was granted at once.
     pub tight: LinkedList<u64>,
 }
+
+/// An atomic step that a seat made: the address of its word, its operands (0 where it has fewer),
+/// and the word that it found. A load has no operand, a store, an add, a take, an and or an or has
+/// one, and an exchange has the word that it asks for and the one that it would leave. Of a store,
+/// what it found is the word that it stored.
+pub struct Atomic {
+    pub address: u64,
+    pub first: u64,
+    pub second: u64,
+    pub found: u64,
+}
+
+/// What a seat knows, and each atomic step that it made, in order.
+pub struct Logged<T> {
+    pub known: View<T>,
+    pub steps: LinkedList<Atomic>,
+}

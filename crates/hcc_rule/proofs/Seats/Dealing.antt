@@ -6,7 +6,7 @@ use Rattle.hcc_core.proofs.SumLemmas.{length-push}
 use Rattle.hcc_rule.specs.declared.view.Other.{Other}
 use Rattle.hcc_rule.specs.declared.view.View.{View}
 use Rattle.hcc_rule.specs.Opening.{fresh_view, unstarted, left_view, right_view}
-use Rattle.hcc_rule.specs.Seats.{SeatOf, view, IsSameSeat, IsSeatOf, IsNewSeat, AreNewSeats}
+use Rattle.hcc_rule.specs.Seats.{SeatOf, steps, view, IsSameSeat, IsSeatOf, IsNewSeat, AreNewSeats}
 
 -- the clients from one number on that were not started yet
 abbrev pub unstarted_from : (next clients : ℕ) → List Other
@@ -24,6 +24,7 @@ module _ {T : Type 0} (id : TableId) (tag : T) (clients : ℕ) where
   pub record Deals (next : ℕ) (first : SeatOf T) (seats : List (SeatOf T)) : Type 0 where
     pub seat_of : IsSeatOf id tag first
     pub view_is : view first ≡ fresh_view (Some tag) (unstarted 0) (unstarted_from next clients)
+    pub no_steps : steps first ≡ []
     pub count : length seats + 1 ≡ next
     pub low : next ≤ clients
     pub dealt_seats : AreNewSeats id tag 1 seats
@@ -42,8 +43,9 @@ module _ {T : Type 0} (id : TableId) (tag : T) (clients : ℕ) where
       → Deals next first seats
       → next < clients → IsSameSeat first later → view later ≡ left_view (view first)
       → IsSeatOf id tag seat → view seat ≡ right_view (view first)
+      → steps later ≡ steps first → steps seat ≡ []
       → Deals (next + 1) later (seats ++ seat ∷ [])
-  deal next first later seat seats d more same left new right =
+  deal next first later seat seats d more same left new right kept none =
       let others : (view first).others ≡ unstarted next ∷ unstarted_from (next + 1) clients =
       ap (λ (v : View T). v.others) d.view_is ∙ next_unstarted next clients more in
       let count = d.count in
@@ -54,6 +56,7 @@ module _ {T : Type 0} (id : TableId) (tag : T) (clients : ℕ) where
           tagged = ap (λ (v : View T). v.tag) left ∙ d.seat_of.tagged;
         };
         view_is = rw (left, d.view_is, next_unstarted next clients more) refl;
+        no_steps = kept ∙ d.no_steps;
         count = let push = length-push seats seat in omega arith;
         low = omega arith;
         dealt_seats = push_seat 1 seats seat d.dealt_seats record {
@@ -61,6 +64,7 @@ module _ {T : Type 0} (id : TableId) (tag : T) (clients : ℕ) where
           fresh = rw (right, d.view_is, next_unstarted next clients more)
               (ap (λ k. fresh_view (Some tag) (unstarted k) [])
               (let g : next ≡ 1 + length seats = omega arith in g));
+          no_steps = none;
         };
       }
 
@@ -75,6 +79,7 @@ module _ {T : Type 0} (id : TableId) (tag : T) (clients : ℕ) where
           seat_of = d.seat_of;
           fresh =
               d.view_is ∙ ap (fresh_view (Some tag) (unstarted 0)) none;
+          no_steps = d.no_steps;
         },
         d.dealt_seats,
       )

@@ -1,9 +1,10 @@
 //! The exchange that takes an entry to free it.
 ghost use Rattle.std.specs.Prelude.{◌≡◌, ◌+◌, ◌^◌, ◌<◌, ◌≤◌, [], true};
+ghost use Rattle.hcc_word.specs.declared.layout.TheConstants.{CONSTRUCTION_WORD};
 ghost use Rattle.hcc_word.specs.Word.{is_shareable};
 ghost use Rattle.hcc_core.specs.World.{owns_nothing};
-ghost use Rattle.hcc_rule.specs.Callers.{IsSeatAt};
-ghost use Rattle.hcc_rule.specs.Seats.{IsSameSeat, view};
+ghost use Rattle.hcc_rule.specs.Callers.{address_of_meta, IsSeatAt};
+ghost use Rattle.hcc_rule.specs.Seats.{IsSameSeat, Makes, view};
 ghost use Rattle.hcc_rule.specs.ToldOwners.{IsLast, Freed};
 
 use crate::key::Tag;
@@ -33,6 +34,8 @@ impl<T: Tag, A: Allocator> RuleTable<T, A> {
         ensures seat { IsSameSeat seat.old seat.new }
         ensures view { Freed T.fits self.now.geometry.slots self.now.geometry.room slot old result
             name (view seat.old) (view seat.new) }
+        ensures step { Makes (address_of_meta self.now slot) old CONSTRUCTION_WORD result
+            seat.old seat.new }
     {
         let address = self.address(slot, META);
         self.compare_exchange::<Brand, _>(seat, address, old, CONSTRUCTION_WORD, (slot, name))

@@ -1,7 +1,9 @@
 //! Turns of the hand.
 ghost use Rattle.std.specs.Prelude.{◌≡◌};
-ghost use Rattle.hcc_rule.specs.Callers.{IsSeatAt};
-ghost use Rattle.hcc_rule.specs.Seats.{IsSameSeat, view};
+ghost use Rattle.hcc_core.specs.declared.limits.TheConstants.{SLOTS_PER_TURN};
+ghost use Rattle.hcc_rule.specs.declared.layout.TheConstants.{HAND};
+ghost use Rattle.hcc_rule.specs.Callers.{address_of_ledger, IsSeatAt};
+ghost use Rattle.hcc_rule.specs.Seats.{IsSameSeat, Makes, view};
 ghost use Rattle.hcc_rule.specs.ToldLedgers.{after_turn};
 
 use crate::key::Tag;
@@ -31,6 +33,8 @@ impl<T: Tag, A: Allocator> RuleTable<T, A> {
         requires seat { IsSeatAt self.now seat.old }
         ensures seat { IsSameSeat seat.old seat.new }
         ensures view { view seat.new ≡ after_turn (view seat.old) }
+        ensures step { Makes (address_of_ledger self.now HAND) SLOTS_PER_TURN 0 result
+            seat.old seat.new }
     {
         self.fetch_add::<Turn, _>(seat, self.ledger(HAND), SLOTS_PER_TURN, ())
     }

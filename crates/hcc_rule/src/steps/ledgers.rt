@@ -2,11 +2,11 @@
 ghost use Rattle.std.specs.Prelude.{◌≡◌, ◌+◌, ◌-◌, ◌*◌, ◌^◌, ◌<◌, ◌≤◌, true};
 ghost use Rattle.hcc_core.specs.Lawful.{real_to};
 ghost use Rattle.hcc_core.specs.World.{charged_to};
-ghost use Rattle.hcc_rule.specs.declared.layout.TheConstants.{LEDGER_WORDS};
+ghost use Rattle.hcc_rule.specs.declared.layout.TheConstants.{LEDGER_WORDS, USAGE};
 ghost use Rattle.hcc_rule.specs.declared.view.Record.{Record};
-ghost use Rattle.hcc_rule.specs.Callers.{capacity_of, clients_of, is_strict, plan_of, IsSeatAt};
+ghost use Rattle.hcc_rule.specs.Callers.{address_of_ledger, capacity_of, clients_of, is_strict, plan_of, IsSeatAt};
 ghost use Rattle.hcc_rule.specs.Rule.{setup_of};
-ghost use Rattle.hcc_rule.specs.Seats.{IsSameSeat, view};
+ghost use Rattle.hcc_rule.specs.Seats.{IsSameSeat, Makes, MakesSome, view};
 ghost use Rattle.hcc_rule.specs.ToldLedgers.{Charged, after_usage, after_charge, after_settle, after_waive, waived};
 ghost use Rattle.hcc_rule.specs.Views.{charge_held, Each};
 ghost use Rattle.hcc_rule.specs.Words.{ledger_at};
@@ -74,6 +74,7 @@ impl<T: Tag, A: Allocator> RuleTable<T, A> {
         ensures most { is_strict self.now ≡ true
             → result ≤ capacity_of self.now + (view seat.old).work.needed + 2 ^ 32
             * (clients_of self.now - 1) }
+        ensures step { Makes (address_of_ledger self.now USAGE) 0 0 result seat.old seat.new }
     {
         self.load::<Brand, _>(seat, self.ledger(USAGE), ())
     }
@@ -101,6 +102,7 @@ impl<T: Tag, A: Allocator> RuleTable<T, A> {
             ≤ capacity_of self.now }
         ensures most { is_strict self.now ≡ true
             → result ≤ capacity_of self.now + 2 ^ 32 * (clients_of self.now - 1) }
+        ensures step { Makes (address_of_ledger self.now USAGE) amount 0 result seat.old seat.new }
     {
         self.fetch_add::<Brand, _>(seat, self.ledger(USAGE), amount as u64, ())
     }
@@ -115,6 +117,7 @@ impl<T: Tag, A: Allocator> RuleTable<T, A> {
         requires covered { (view seat.old).work.needed ≤ amount }
         ensures seat { IsSameSeat seat.old seat.new }
         ensures view { view seat.new ≡ after_settle (view seat.old) }
+        ensures step { MakesSome (address_of_ledger self.now USAGE) amount 0 seat.old seat.new }
     {
         self.fetch_sub::<Settle, _>(seat, self.ledger(USAGE), amount, ());
     }
@@ -128,6 +131,7 @@ impl<T: Tag, A: Allocator> RuleTable<T, A> {
         requires amount { (waived (view seat.old).work ≡ amount) × (0 < amount) }
         ensures seat { IsSameSeat seat.old seat.new }
         ensures view { view seat.new ≡ after_waive (view seat.old) }
+        ensures step { MakesSome (address_of_ledger self.now USAGE) amount 0 seat.old seat.new }
     {
         self.fetch_sub::<Waive, _>(seat, self.ledger(USAGE), amount, ());
     }

@@ -1,8 +1,8 @@
 //! Loads of meta words.
 ghost use Rattle.std.specs.Prelude.{◌≡◌, ◌<◌};
-ghost use Rattle.hcc_rule.specs.Callers.{plan_of, IsSeatAt};
+ghost use Rattle.hcc_rule.specs.Callers.{address_of_meta, plan_of, IsSeatAt};
 ghost use Rattle.hcc_rule.specs.Rule.{setup_of};
-ghost use Rattle.hcc_rule.specs.Seats.{IsSameSeat, view};
+ghost use Rattle.hcc_rule.specs.Seats.{IsSameSeat, Makes, view};
 ghost use Rattle.hcc_rule.specs.Told.{after_look, Alone, Backs};
 
 use crate::key::Tag;
@@ -26,6 +26,7 @@ impl<T: Tag, A: Allocator> RuleTable<T, A> {
         ensures view { view seat.new ≡ after_look slot result (view seat.old) }
         ensures backs { Backs slot result (view seat.old) }
         ensures alone { Alone (setup_of (plan_of self.now)) slot result (view seat.old) }
+        ensures step { Makes (address_of_meta self.now slot) 0 0 result seat.old seat.new }
     {
         self.load::<Brand, _>(seat, self.address(slot, META), slot)
     }

@@ -1,9 +1,10 @@
 //! Steps on a meta word that leave its references: hiding, marking, the clock's and corrections.
 ghost use Rattle.std.specs.Prelude.{◌≡◌, ◌<◌, true, false, IsSomeAnd};
+ghost use Rattle.hcc_word.specs.declared.layout.TheConstants.{HIDING_MASK, HIT_BIT};
 ghost use Rattle.hcc_word.specs.Word.{is_shareable};
 ghost use Rattle.hcc_word.specs.Changes.{IsClockable, clocked_word, IsCorrectable, corrected_word};
-ghost use Rattle.hcc_rule.specs.Callers.{IsSeatAt};
-ghost use Rattle.hcc_rule.specs.Seats.{IsSameSeat, view};
+ghost use Rattle.hcc_rule.specs.Callers.{address_of_meta, IsSeatAt};
+ghost use Rattle.hcc_rule.specs.Seats.{IsSameSeat, Makes, view};
 ghost use Rattle.hcc_rule.specs.Told.{noticing};
 ghost use Rattle.hcc_rule.specs.Views.{record_in};
 ghost use Rattle.hcc_rule.specs.ToldReferences.{after_hide, after_clock, after_correct};
@@ -29,6 +30,8 @@ impl<T: Tag, A: Allocator> RuleTable<T, A> {
         ensures seat { IsSameSeat seat.old seat.new }
         ensures view { view seat.new ≡ after_hide name result (view seat.old) }
         ensures entry { is_shareable result ≡ true }
+        ensures step { Makes (address_of_meta self.now slot) HIDING_MASK 0 result
+            seat.old seat.new }
     {
         self.fetch_and::<Brand, _>(seat, self.address(slot, META), HIDING_MASK, name)
     }
@@ -45,6 +48,7 @@ impl<T: Tag, A: Allocator> RuleTable<T, A> {
         ensures seat { IsSameSeat seat.old seat.new }
         ensures view { view seat.new ≡ noticing slot result (view seat.old) }
         ensures entry { is_shareable result ≡ true }
+        ensures step { Makes (address_of_meta self.now slot) HIT_BIT 0 result seat.old seat.new }
     {
         self.fetch_or::<Brand, _>(seat, self.address(slot, META), HIT_BIT, slot)
     }
@@ -62,6 +66,7 @@ impl<T: Tag, A: Allocator> RuleTable<T, A> {
         requires clocked { new ≡ clocked_word old }
         ensures seat { IsSameSeat seat.old seat.new }
         ensures view { view seat.new ≡ after_clock slot old result (view seat.old) }
+        ensures step { Makes (address_of_meta self.now slot) old new result seat.old seat.new }
     {
         self.compare_exchange::<Brand, _>(seat, self.address(slot, META), old, new, slot)
     }
@@ -82,6 +87,7 @@ impl<T: Tag, A: Allocator> RuleTable<T, A> {
         requires corrected { new ≡ corrected_word old }
         ensures seat { IsSameSeat seat.old seat.new }
         ensures view { view seat.new ≡ after_correct slot old result (view seat.old) }
+        ensures step { Makes (address_of_meta self.now slot) old new result seat.old seat.new }
     {
         self.compare_exchange::<Brand, _>(seat, self.address(slot, META), old, new, (slot, name))
     }

@@ -2,9 +2,10 @@
 ghost use Rattle.std.specs.Prelude.{◌≡◌, ◌+◌, ◌<◌, ◌≤◌, true, length};
 ghost use Rattle.hcc_core.specs.declared.client.Place.TheVariants.{Absent};
 ghost use Rattle.hcc_core.specs.World.{occupied_by, is_placed, limit_of};
-ghost use Rattle.hcc_rule.specs.Callers.{plan_of, IsSeatAt};
+ghost use Rattle.hcc_rule.specs.declared.layout.TheConstants.{OCCUPANCY};
+ghost use Rattle.hcc_rule.specs.Callers.{address_of_ledger, plan_of, IsSeatAt};
 ghost use Rattle.hcc_rule.specs.Rule.{setup_of};
-ghost use Rattle.hcc_rule.specs.Seats.{IsSameSeat, view};
+ghost use Rattle.hcc_rule.specs.Seats.{IsSameSeat, Makes, MakesSome, view};
 ghost use Rattle.hcc_rule.specs.ToldLedgers.{after_enter, after_slots, after_quit};
 ghost use Rattle.hcc_rule.specs.Views.{different};
 
@@ -53,6 +54,7 @@ impl<T: Tag, A: Allocator> RuleTable<T, A> {
         ensures alone { self.now.geometry.clients ≡ 1
             → result + (view seat.old).takings
             ≡ length (view seat.old).made + occupied_by (view seat.old).work }
+        ensures step { Makes (address_of_ledger self.now OCCUPANCY) 0 0 result seat.old seat.new }
     {
         self.load::<Brand, _>(seat, self.ledger(OCCUPANCY), ())
     }
@@ -77,6 +79,7 @@ impl<T: Tag, A: Allocator> RuleTable<T, A> {
         ensures alone { self.now.geometry.clients ≡ 1
             → result + (view seat.old).takings
             ≡ length (view seat.old).made + occupied_by (view seat.old).work }
+        ensures step { Makes (address_of_ledger self.now OCCUPANCY) 1 0 result seat.old seat.new }
     {
         self.fetch_add::<Brand, _>(seat, self.ledger(OCCUPANCY), 1, ())
     }
@@ -90,6 +93,7 @@ impl<T: Tag, A: Allocator> RuleTable<T, A> {
         requires count { ((view seat.old).work.freed_slots ≡ count) × (0 < count) }
         ensures seat { IsSameSeat seat.old seat.new }
         ensures view { view seat.new ≡ after_slots (view seat.old) }
+        ensures step { MakesSome (address_of_ledger self.now OCCUPANCY) count 0 seat.old seat.new }
     {
         self.fetch_sub::<GiveSlots, _>(seat, self.ledger(OCCUPANCY), count, ());
     }
@@ -104,6 +108,7 @@ impl<T: Tag, A: Allocator> RuleTable<T, A> {
         requires count { 1 + (view seat.old).work.freed_slots ≡ count }
         ensures seat { IsSameSeat seat.old seat.new }
         ensures view { view seat.new ≡ after_quit (view seat.old) }
+        ensures step { MakesSome (address_of_ledger self.now OCCUPANCY) count 0 seat.old seat.new }
     {
         self.fetch_sub::<Quit, _>(seat, self.ledger(OCCUPANCY), count, ());
     }

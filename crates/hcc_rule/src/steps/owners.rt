@@ -1,10 +1,11 @@
 //! Steps by which a client takes a slot, writes it and gives it back.
 ghost use Rattle.std.specs.Prelude.{◌≡◌, ◌+◌, ◌<◌, [], true, length};
+ghost use Rattle.hcc_word.specs.declared.layout.TheConstants.{EMPTY_WORD, OCCUPIED_BIT};
 ghost use Rattle.hcc_core.specs.declared.client.Owned.TheVariants.{ForBuilding, ForFreeing};
 ghost use Rattle.hcc_core.specs.World.{owns_nothing};
 ghost use Rattle.hcc_rule.specs.declared.layout.TheConstants.{DATA, PAYLOAD};
-ghost use Rattle.hcc_rule.specs.Callers.{IsSeatAt};
-ghost use Rattle.hcc_rule.specs.Seats.{IsSameSeat, view};
+ghost use Rattle.hcc_rule.specs.Callers.{address_of_data, address_of_meta, IsSeatAt};
+ghost use Rattle.hcc_rule.specs.Seats.{IsSameSeat, Makes, view};
 ghost use Rattle.hcc_rule.specs.Told.{Backs};
 ghost use Rattle.hcc_rule.specs.ToldOwners.{after_occupy, after_empty, after_write};
 ghost use Rattle.hcc_rule.specs.Words.{field_at};
@@ -49,6 +50,8 @@ impl<T: Tag, A: Allocator> RuleTable<T, A> {
         ensures seat { IsSameSeat seat.old seat.new }
         ensures view { view seat.new ≡ after_occupy slot result (view seat.old) }
         ensures backs { Backs slot result (view seat.old) }
+        ensures step { Makes (address_of_meta self.now slot) OCCUPIED_BIT 0 result
+            seat.old seat.new }
     {
         self.fetch_or::<Brand, _>(seat, self.address(slot, META), OCCUPIED_BIT, slot)
     }
@@ -66,6 +69,7 @@ impl<T: Tag, A: Allocator> RuleTable<T, A> {
             × (index < PAYLOAD + self.now.geometry.room) }
         ensures seat { IsSameSeat seat.old seat.new }
         ensures view { view seat.new ≡ after_write word (view seat.old) }
+        ensures step { Makes (address_of_data self.now slot index) word 0 word seat.old seat.new }
     {
         self.write_at(seat, slot, self.data_of(slot), index, word);
     }
@@ -80,6 +84,7 @@ impl<T: Tag, A: Allocator> RuleTable<T, A> {
             × (index < PAYLOAD + self.now.geometry.room) }
         ensures seat { IsSameSeat seat.old seat.new }
         ensures view { view seat.new ≡ after_write word (view seat.old) }
+        ensures step { Makes (address_of_data self.now slot index) word 0 word seat.old seat.new }
     {
         self.store::<Write, _>(seat, self.data_address(slot, first, index), word, ());
     }
@@ -94,6 +99,8 @@ impl<T: Tag, A: Allocator> RuleTable<T, A> {
         requires back { (view seat.old).work.trail ≡ [] }
         ensures seat { IsSameSeat seat.old seat.new }
         ensures view { view seat.new ≡ after_empty (view seat.old) }
+        ensures step { Makes (address_of_meta self.now slot) EMPTY_WORD 0 EMPTY_WORD
+            seat.old seat.new }
     {
         self.store::<Empty, _>(seat, self.address(slot, META), EMPTY_WORD, ());
     }

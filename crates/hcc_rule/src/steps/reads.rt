@@ -2,8 +2,8 @@
 ghost use Rattle.std.specs.Prelude.{◌≡◌, ◌+◌, ◌<◌, Some, IfSome, IsSomeAnd, length, slice_index};
 ghost use Rattle.hcc_core.specs.Lawful.{owned_slot};
 ghost use Rattle.hcc_rule.specs.declared.layout.TheConstants.{DATA, PAYLOAD};
-ghost use Rattle.hcc_rule.specs.Callers.{IsSeatAt};
-ghost use Rattle.hcc_rule.specs.Seats.{IsSameSeat, view};
+ghost use Rattle.hcc_rule.specs.Callers.{address_of_data, IsSeatAt};
+ghost use Rattle.hcc_rule.specs.Seats.{IsSameSeat, Makes, view};
 ghost use Rattle.hcc_rule.specs.ToldOwners.{IsDataWord, after_read};
 ghost use Rattle.hcc_rule.specs.Views.{record_in};
 ghost use Rattle.hcc_rule.specs.Words.{field_at};
@@ -29,6 +29,7 @@ impl<T: Tag, A: Allocator> RuleTable<T, A> {
         ensures view { view seat.new ≡ after_read name index (view seat.old) }
         ensures word { IfSome (record_in name (view seat.old).records)
             (λ r. IsDataWord r.entry index result) }
+        ensures step { Makes (address_of_data self.now slot index) 0 0 result seat.old seat.new }
     {
         self.read_at(seat, slot, self.data_of(slot), index, name)
     }
@@ -51,6 +52,7 @@ impl<T: Tag, A: Allocator> RuleTable<T, A> {
         ensures view { view seat.new ≡ after_read name index (view seat.old) }
         ensures word { IfSome (record_in name (view seat.old).records)
             (λ r. IsDataWord r.entry index result) }
+        ensures step { Makes (address_of_data self.now slot index) 0 0 result seat.old seat.new }
     {
         self.load::<Brand, _>(seat, self.data_address(slot, first, index), (name, index))
     }
@@ -68,6 +70,7 @@ impl<T: Tag, A: Allocator> RuleTable<T, A> {
         ensures view { view seat.new ≡ view seat.old }
         ensures word { index < length (view seat.old).written
             → result ≡ slice_index (view seat.old).written index }
+        ensures step { Makes (address_of_data self.now slot index) 0 0 result seat.old seat.new }
     {
         self.load::<Brand, _>(seat, self.address(slot, DATA + index), index)
     }

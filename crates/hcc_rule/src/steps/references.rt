@@ -1,9 +1,10 @@
 //! References: a client acquires them, gives them back, or releases them as uses.
-ghost use Rattle.std.specs.Prelude.{◌≡◌, ◌+◌, ◌<◌, ◌≤◌, true, None, IsSomeAnd};
+ghost use Rattle.std.specs.Prelude.{◌≡◌, ◌+◌, ◌*◌, ◌<◌, ◌≤◌, true, None, IsSomeAnd};
+ghost use Rattle.hcc_word.specs.declared.layout.TheConstants.{ONE_RELEASE};
 ghost use Rattle.hcc_word.specs.Word.{refs_of, is_shareable};
 ghost use Rattle.hcc_core.specs.declared.limits.TheConstants.{MOST_WEIGHT, REFERENCES_PER_CLIENT};
-ghost use Rattle.hcc_rule.specs.Callers.{IsSeatAt};
-ghost use Rattle.hcc_rule.specs.Seats.{IsSameSeat, view};
+ghost use Rattle.hcc_rule.specs.Callers.{address_of_meta, IsSeatAt};
+ghost use Rattle.hcc_rule.specs.Seats.{IsSameSeat, Makes, view};
 ghost use Rattle.hcc_rule.specs.Views.{load_of, record_in};
 ghost use Rattle.hcc_rule.specs.ToldReferences.{may_reach, Acquired, after_give};
 
@@ -38,6 +39,7 @@ impl<T: Tag, A: Allocator> RuleTable<T, A> {
         ensures seat { IsSameSeat seat.old seat.new }
         ensures view { Acquired T.fits self.now.geometry.room slot weight name result
             (view seat.old) (view seat.new) }
+        ensures step { Makes (address_of_meta self.now slot) weight 0 result seat.old seat.new }
     {
         self.fetch_add::<Brand, _>(seat, self.address(slot, META), weight as u64, (slot, name))
     }
@@ -58,6 +60,7 @@ impl<T: Tag, A: Allocator> RuleTable<T, A> {
         ensures view { view seat.new ≡ after_give slot name result (view seat.old) }
         ensures entry { is_shareable result ≡ true }
         ensures references { weight ≤ refs_of result }
+        ensures step { Makes (address_of_meta self.now slot) weight 0 result seat.old seat.new }
     {
         self.fetch_sub::<Brand, _>(seat, self.address(slot, META), weight as u64, (slot, name))
     }
@@ -78,6 +81,8 @@ impl<T: Tag, A: Allocator> RuleTable<T, A> {
         ensures view { view seat.new ≡ after_give slot name result (view seat.old) }
         ensures entry { is_shareable result ≡ true }
         ensures references { weight ≤ refs_of result }
+        ensures step { Makes (address_of_meta self.now slot) (weight * ONE_RELEASE) 0 result
+            seat.old seat.new }
     {
         self.fetch_add::<Brand, _>(
             seat,

@@ -2,20 +2,31 @@
 //! it is, by which name, and the like. What is said is no part of the program that runs.
 ghost use Rattle.std.specs.Prelude.{◌≡◌, ◌+◌, ◌-◌, ◌%◌, ◌^◌, ◌==◌, bit_and, bit_or};
 ghost use prog.Atomic.{either};
-ghost use Rattle.hcc_rule.specs.Said.{May, Did, step_of};
+ghost use Rattle.hcc_rule.specs.Said.{tells, May, Did};
 
 use crate::key::Tag;
 use crate::table::{RuleSeat, RuleTable};
-use crate::view::View;
+use crate::view::{Logged, View};
 use atomic_table::Play;
 use std::alloc::Allocator;
-use std::marker::Brand;
+use std::marker::{Brand, PhantomData};
 
 /// What a step tells its seat. Each call picks it; it is for the proofs alone.
 impl<T> Play<(), View<T>> for Brand {
     ghost use Rattle.hcc_rule.specs.Told.{nothing};
 
     ghost then = { nothing };
+}
+
+/// The same, beside the list of the seat's steps, which grows by this one.
+pub struct Logging<J> {
+    said: PhantomData<J>,
+}
+
+impl<T, J: Play<(), View<T>>> Play<(), Logged<T>> for Logging<J> {
+    ghost use Rattle.hcc_rule.specs.Logs.{Logs};
+
+    ghost then = { Logs J.then };
 }
 
 impl<T: Tag, A: Allocator> RuleTable<T, A> {
@@ -27,10 +38,10 @@ impl<T: Tag, A: Allocator> RuleTable<T, A> {
         _said: S,
     ) -> u64
         requires { May T.fits self.now seat.old address (λ n. n)
-            (J.then (step_of self.now address 0 0) seat.old.me) }
-        ensures { Did seat.old seat.new (J.then (step_of self.now address 0 0) seat.old.me result) }
+            (tells J.then self.now seat.old address 0 0) }
+        ensures { Did J.then self.now address 0 0 result seat.old seat.new }
     {
-        self.table.shared.load::<J>(seat, address)
+        self.table.shared.load::<Logging<J>>(seat, address)
     }
 
     #[inline(always)]
@@ -42,11 +53,10 @@ impl<T: Tag, A: Allocator> RuleTable<T, A> {
         _said: S,
     )
         requires { May T.fits self.now seat.old address (λ n. word)
-            (λ n. J.then (step_of self.now address word 0) seat.old.me word) }
-        ensures { Did seat.old seat.new
-            (J.then (step_of self.now address word 0) seat.old.me word) }
+            (λ n. tells J.then self.now seat.old address word 0 word) }
+        ensures { Did J.then self.now address word 0 word seat.old seat.new }
     {
-        self.table.shared.store::<J>(seat, address, word);
+        self.table.shared.store::<Logging<J>>(seat, address, word);
     }
 
     #[inline(always)]
@@ -58,11 +68,12 @@ impl<T: Tag, A: Allocator> RuleTable<T, A> {
         _said: S,
     ) -> u64
         requires { May T.fits self.now seat.old address (λ n. (n + amount) % 2 ^ 64)
-            (J.then (step_of self.now address amount 0) seat.old.me) }
-        ensures { Did seat.old seat.new (J.then (step_of self.now address amount 0) seat.old.me
-            result) }
+            (tells J.then self.now seat.old address amount 0) }
+        ensures { Did J.then self.now address amount 0 result seat.old seat.new }
     {
-        self.table.shared.fetch_add::<J>(seat, address, amount)
+        self.table
+            .shared
+            .fetch_add::<Logging<J>>(seat, address, amount)
     }
 
     #[inline(always)]
@@ -74,11 +85,12 @@ impl<T: Tag, A: Allocator> RuleTable<T, A> {
         _said: S,
     ) -> u64
         requires { May T.fits self.now seat.old address (λ n. (n + (2 ^ 64 - amount)) % 2 ^ 64)
-            (J.then (step_of self.now address amount 0) seat.old.me) }
-        ensures { Did seat.old seat.new (J.then (step_of self.now address amount 0) seat.old.me
-            result) }
+            (tells J.then self.now seat.old address amount 0) }
+        ensures { Did J.then self.now address amount 0 result seat.old seat.new }
     {
-        self.table.shared.fetch_sub::<J>(seat, address, amount)
+        self.table
+            .shared
+            .fetch_sub::<Logging<J>>(seat, address, amount)
     }
 
     #[inline(always)]
@@ -90,11 +102,12 @@ impl<T: Tag, A: Allocator> RuleTable<T, A> {
         _said: S,
     ) -> u64
         requires { May T.fits self.now seat.old address (λ n. bit_and n mask)
-            (J.then (step_of self.now address mask 0) seat.old.me) }
-        ensures { Did seat.old seat.new (J.then (step_of self.now address mask 0) seat.old.me
-            result) }
+            (tells J.then self.now seat.old address mask 0) }
+        ensures { Did J.then self.now address mask 0 result seat.old seat.new }
     {
-        self.table.shared.fetch_and::<J>(seat, address, mask)
+        self.table
+            .shared
+            .fetch_and::<Logging<J>>(seat, address, mask)
     }
 
     #[inline(always)]
@@ -106,11 +119,12 @@ impl<T: Tag, A: Allocator> RuleTable<T, A> {
         _said: S,
     ) -> u64
         requires { May T.fits self.now seat.old address (λ n. bit_or n bits)
-            (J.then (step_of self.now address bits 0) seat.old.me) }
-        ensures { Did seat.old seat.new (J.then (step_of self.now address bits 0) seat.old.me
-            result) }
+            (tells J.then self.now seat.old address bits 0) }
+        ensures { Did J.then self.now address bits 0 result seat.old seat.new }
     {
-        self.table.shared.fetch_or::<J>(seat, address, bits)
+        self.table
+            .shared
+            .fetch_or::<Logging<J>>(seat, address, bits)
     }
 
     #[inline(always)]
@@ -123,12 +137,11 @@ impl<T: Tag, A: Allocator> RuleTable<T, A> {
         _said: S,
     ) -> u64
         requires { May T.fits self.now seat.old address (λ n. either (n == old) new n)
-            (J.then (step_of self.now address old new) seat.old.me) }
-        ensures { Did seat.old seat.new (J.then (step_of self.now address old new) seat.old.me
-            result) }
+            (tells J.then self.now seat.old address old new) }
+        ensures { Did J.then self.now address old new result seat.old seat.new }
     {
         self.table
             .shared
-            .compare_exchange::<J>(seat, address, old, new)
+            .compare_exchange::<Logging<J>>(seat, address, old, new)
     }
 }

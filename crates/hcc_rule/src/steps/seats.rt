@@ -3,39 +3,40 @@ ghost use Rattle.std.specs.Prelude.{◌≡◌, ◌∷◌, [], List};
 ghost use Rattle.hcc_rule.specs.declared.view.Other.{Other};
 ghost use Rattle.hcc_rule.specs.Callers.{IsSeatAt};
 ghost use Rattle.hcc_rule.specs.Opening.{IsIdle, joined_view, left_view, right_view};
-ghost use Rattle.hcc_rule.specs.Seats.{IsSameSeat, view};
+ghost use Rattle.hcc_rule.specs.Seats.{IsSameSeat, steps, view};
 
 use crate::key::Tag;
 use crate::table::{RuleSeat, RuleTable};
-use crate::view::View;
+use crate::view::Logged;
 use atomic_table::{Join, Split};
 use std::alloc::Allocator;
 
 /// How a view is split: the new seat stands for the first of the other clients.
 pub struct Start;
 
-impl<T: Tag> Split<View<T>> for Start {
-    ghost use Rattle.hcc_rule.specs.Opening.{left_view, right_view};
+impl<T: Tag> Split<Logged<T>> for Start {
+    ghost use Rattle.hcc_rule.specs.Logs.{left_logged, right_logged};
 
-    ghost left = { left_view };
+    ghost left = { left_logged };
 
-    ghost right = { right_view };
+    ghost right = { right_logged };
 }
 
 /// How two views are joined: the client of the second ends.
 pub struct End;
 
-impl<T: Tag> Join<View<T>> for End {
-    ghost use Rattle.hcc_rule.specs.Opening.{joined_view, spent_view};
+impl<T: Tag> Join<Logged<T>> for End {
+    ghost use Rattle.hcc_rule.specs.Logs.{joined_logged, spent_logged};
 
-    ghost both = { joined_view };
+    ghost both = { joined_logged };
 
-    ghost spent = { spent_view };
+    ghost spent = { spent_logged };
 }
 
 impl<T: Tag, A: Allocator> RuleTable<T, A> {
     /// Starts the first of the clients that a seat names beside its own: the seat of that client.
     /// It has nothing in hand; its made list and its dead list are those it had when it last ended.
+    /// The seat that is split keeps its steps, and the new one has made none.
     ///
     /// It takes no memory. It costs one load.
     pub fn split(&self, seat: &mut RuleSeat<T>) -> RuleSeat<T>
@@ -45,13 +46,15 @@ impl<T: Tag, A: Allocator> RuleTable<T, A> {
         ensures left { view seat.new ≡ left_view (view seat.old) }
         ensures new { IsSeatAt self.now result }
         ensures right { view result ≡ right_view (view seat.old) }
+        ensures kept { steps seat.new ≡ steps seat.old }
+        ensures none { steps result ≡ [] }
     {
         self.table.shared.split_seat::<Start>(seat)
     }
 
     /// Ends the client of another seat, which has nothing in hand and holds no reference. The seat
     /// that is left names that client from then on, with all that the other one named, and takes
-    /// over its hidden keys, its met keys, its answers and its counts.
+    /// over its hidden keys, its met keys, its answers and its counts. Its steps stay its own.
     ///
     /// It takes no memory. It costs one load.
     pub fn join(&self, seat: &mut RuleSeat<T>, other: RuleSeat<T>)
@@ -60,6 +63,7 @@ impl<T: Tag, A: Allocator> RuleTable<T, A> {
         requires idle { IsIdle (view other).work × ((view other).records ≡ []) }
         ensures seat { IsSameSeat seat.old seat.new }
         ensures both { view seat.new ≡ joined_view (view seat.old) (view other) }
+        ensures kept { steps seat.new ≡ steps seat.old }
     {
         self.table.shared.join_seat::<End>(seat, other)
     }

@@ -1,8 +1,8 @@
 //! The store that shows an entry.
 ghost use Rattle.std.specs.Prelude.{◌≡◌, ◌<◌};
-ghost use Rattle.hcc_rule.specs.Callers.{plan_of, IsSeatAt};
-ghost use Rattle.hcc_rule.specs.Seats.{IsSameSeat, view};
-ghost use Rattle.hcc_rule.specs.ToldOwners.{MayShow, after_show, made_of};
+ghost use Rattle.hcc_rule.specs.Callers.{address_of_meta, plan_of, IsSeatAt};
+ghost use Rattle.hcc_rule.specs.Seats.{IsSameSeat, Makes, view};
+ghost use Rattle.hcc_rule.specs.ToldOwners.{MayShow, after_show, first_word, made_of};
 
 use crate::key::{Key, Tag};
 use crate::layout::META;
@@ -40,6 +40,8 @@ impl<T: Tag, A: Allocator> RuleTable<T, A> {
         ensures seat { IsSameSeat seat.old seat.new }
         ensures view { view seat.new ≡ after_show slot draft.name (made_of draft value.now)
             (view seat.old) }
+        ensures step { Makes (address_of_meta self.now slot) (first_word draft) 0 (first_word draft)
+            seat.old seat.new }
     {
         let word = started(draft.countdown, draft.name.is_some());
         self.store::<Brand, _>(seat, self.address(slot, META), word, (slot, draft, value));

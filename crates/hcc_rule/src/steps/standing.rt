@@ -5,9 +5,10 @@ ghost use Rattle.hcc_core.specs.declared.client.Place.TheVariants.{Absent};
 ghost use Rattle.hcc_core.specs.World.{standing_of};
 ghost use Rattle.hcc_core.specs.Ledgers.{is_standing};
 ghost use Rattle.hcc_core.specs.declared.limits.TheConstants.{MOST_HANDLES};
-ghost use Rattle.hcc_rule.specs.Callers.{capacity_of, clients_of, is_strict, plan_of, IsSeatAt};
+ghost use Rattle.hcc_rule.specs.declared.layout.TheConstants.{STANDING};
+ghost use Rattle.hcc_rule.specs.Callers.{address_of_ledger, capacity_of, clients_of, is_strict, plan_of, IsSeatAt};
 ghost use Rattle.hcc_rule.specs.Rule.{setup_of};
-ghost use Rattle.hcc_rule.specs.Seats.{IsSameSeat, view};
+ghost use Rattle.hcc_rule.specs.Seats.{IsSameSeat, Makes, MakesSome, view};
 ghost use Rattle.hcc_rule.specs.ToldLedgers.{after_stand, after_fall};
 ghost use Rattle.hcc_rule.specs.Views.{charge_held};
 
@@ -34,6 +35,7 @@ impl<T: Tag, A: Allocator> RuleTable<T, A> {
         ensures real { is_strict self.now ≡ true
             → result + (view seat.old).work.granted + (view seat.old).work.freed
             + charge_held (view seat.old).records ≤ capacity_of self.now }
+        ensures step { Makes (address_of_ledger self.now STANDING) 0 0 result seat.old seat.new }
     {
         self.load::<Brand, _>(seat, self.ledger(STANDING), ())
     }
@@ -50,6 +52,7 @@ impl<T: Tag, A: Allocator> RuleTable<T, A> {
         requires few { length (view seat.old).work.standalones < MOST_HANDLES }
         ensures seat { IsSameSeat seat.old seat.new }
         ensures view { view seat.new ≡ after_stand name charge (view seat.old) }
+        ensures step { MakesSome (address_of_ledger self.now STANDING) charge 0 seat.old seat.new }
     {
         self.fetch_add::<Brand, _>(seat, self.ledger(STANDING), charge as u64, name);
     }
@@ -65,6 +68,7 @@ impl<T: Tag, A: Allocator> RuleTable<T, A> {
         requires room { (view seat.old).work.freed + charge < 2 ^ 49 }
         ensures seat { IsSameSeat seat.old seat.new }
         ensures view { view seat.new ≡ after_fall name charge (view seat.old) }
+        ensures step { MakesSome (address_of_ledger self.now STANDING) charge 0 seat.old seat.new }
     {
         self.fetch_sub::<Brand, _>(seat, self.ledger(STANDING), charge, name);
     }

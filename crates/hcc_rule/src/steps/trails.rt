@@ -4,10 +4,10 @@ ghost use Rattle.std.specs.List.{list_any};
 ghost use Rattle.hcc_core.specs.World.{times, limit_of};
 ghost use Rattle.hcc_core.specs.Trails.{is_slot};
 ghost use Rattle.hcc_rule.specs.declared.view.Record.{Record};
-ghost use Rattle.hcc_rule.specs.Callers.{clients_of, plan_of, slots_of, IsSeatAt};
+ghost use Rattle.hcc_rule.specs.Callers.{address_of_displacement, clients_of, plan_of, slots_of, IsSeatAt};
 ghost use Rattle.hcc_rule.specs.Probes.{trail_to};
 ghost use Rattle.hcc_rule.specs.Rule.{setup_of};
-ghost use Rattle.hcc_rule.specs.Seats.{IsSameSeat, view};
+ghost use Rattle.hcc_rule.specs.Seats.{IsSameSeat, Makes, MakesSome, view};
 ghost use Rattle.hcc_rule.specs.ToldTrails.{after_pass, after_unpass, passed_held, Passed};
 ghost use Rattle.hcc_rule.specs.Views.{different, Each};
 ghost use Rattle.hcc_rule.specs.Words.{key_of};
@@ -50,6 +50,7 @@ impl<T: Tag, A: Allocator> RuleTable<T, A> {
             (view seat.old).records }
         ensures within { Each (λ (r : Record). r.slot < self.now.geometry.slots)
             (view seat.old).records }
+        ensures step { Makes (address_of_displacement self.now slot) 0 0 result seat.old seat.new }
     {
         self.load::<Brand, _>(seat, self.address(slot, DISPLACEMENT), slot)
     }
@@ -64,6 +65,7 @@ impl<T: Tag, A: Allocator> RuleTable<T, A> {
         requires room { length (view seat.old).work.trail < self.now.geometry.slots }
         ensures seat { IsSameSeat seat.old seat.new }
         ensures view { view seat.new ≡ after_pass slot (view seat.old) }
+        ensures step { MakesSome (address_of_displacement self.now slot) 1 0 seat.old seat.new }
     {
         self.fetch_add::<Brand, _>(seat, self.address(slot, DISPLACEMENT), 1, slot);
     }
@@ -78,6 +80,7 @@ impl<T: Tag, A: Allocator> RuleTable<T, A> {
         requires passed { list_any (is_slot slot) (view seat.old).work.trail ≡ true }
         ensures seat { IsSameSeat seat.old seat.new }
         ensures view { view seat.new ≡ after_unpass slot (view seat.old) }
+        ensures step { MakesSome (address_of_displacement self.now slot) 1 0 seat.old seat.new }
     {
         self.fetch_sub::<Brand, _>(seat, self.address(slot, DISPLACEMENT), 1, slot);
     }

@@ -1,20 +1,23 @@
 use Rattle.std.proofs.Common.{ap, is_some}
 use Rattle.hcc_rule.specs.Seats.{view}
 use Rattle.hcc_rule.proofs.LastSeat.Closings.{shown_last, named_last, closes_last}
+use Rattle.hcc_rule.proofs.Seats.Lifts.{final_unlogged}
 use Rattle.hcc_rule.proofs.table.RuleTable.close.Goals as goal
 
 pub returns-clause-shown : goal.returns-clause-shown
 returns-clause-shown g c =
     rw c.of.ensures.closed
     (shown_last g.T.Tag.fits c.args.self.table.shared.key _ _ _ (view c.args.seat)
-    c.close_with.ensures.values.2)
+    (final_unlogged g.T.Tag.fits c.args.self.table.shared.key _ _ _ c.args.seat.me.0
+    c.close_with.ensures.values.2))
 
 pub returns-clause-few : goal.returns-clause-few
 returns-clause-few g c =
     named_last g.T.Tag.fits c.args.self.table.shared.key c.args.self.geometry _ (view c.args.seat)
     c.args.self.planned.0
     (shown_last g.T.Tag.fits c.args.self.table.shared.key _ _ _ (view c.args.seat)
-    c.close_with.ensures.values.2)
+    (final_unlogged g.T.Tag.fits c.args.self.table.shared.key _ _ _ c.args.seat.me.0
+    c.close_with.ensures.values.2))
 
 pub returns-clause-closes : goal.returns-clause-closes
 returns-clause-closes g c back =
@@ -22,5 +25,6 @@ returns-clause-closes g c back =
     (closes_last g.T.Tag.fits c.args.self.table.shared.key c.args.self.geometry _ (view c.args.seat)
     c.args.self.planned.0
     (shown_last g.T.Tag.fits c.args.self.table.shared.key _ _ _ (view c.args.seat)
-    c.close_with.ensures.values.2)
+    (final_unlogged g.T.Tag.fits c.args.self.table.shared.key _ _ _ c.args.seat.me.0
+    c.close_with.ensures.values.2))
     (ap is_some c.requires.seat.tagged) back)

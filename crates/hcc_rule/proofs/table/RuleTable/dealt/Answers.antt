@@ -19,4 +19,5 @@ loop-preserved g c =
     rw (c.in_ok-push.ensures.items)
     (deal c.args.self.now.table.shared.table_id c.args.self.now.table.shared.key.tag
     c.args.self.now.geometry.clients c.loop.counter c.loop.first c.split.new.seat c.split.result
-    c.loop.seats.items c.loop.invariant c.loop-test.true told.seat told.left told.new told.right)
+    c.loop.seats.items c.loop.invariant c.loop-test.true told.seat told.left told.new told.right
+    told.kept told.none)

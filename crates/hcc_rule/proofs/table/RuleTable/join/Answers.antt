@@ -1,5 +1,6 @@
 use Rattle.std.proofs.Common.{ap, is_some, arith}
 use Rattle.hcc_rule.proofs.Seats.Joins.{joins}
+use Rattle.hcc_rule.proofs.Seats.Lifts.{joins_logged}
 use Rattle.hcc_rule.proofs.table.RuleTable.join.Goals as goal
 
 pub join_seat-requires : goal.join_seat-requires
@@ -10,7 +11,8 @@ join_seat-requires g c =
       c.requires.other.table,
       c.requires.other.slots,
       omega arith,
-      joins g.T.Tag.fits c.args.self.now.table.shared.key _ _ _ _
+      joins_logged g.T.Tag.fits c.args.self.now.table.shared.key _ _ _ _
+          (joins g.T.Tag.fits c.args.self.now.table.shared.key _ _ _ _
           (ap is_some c.requires.seat.tagged)
-          (ap is_some c.requires.other.tagged) idle.0 idle.1,
+          (ap is_some c.requires.other.tagged) idle.0 idle.1),
     )

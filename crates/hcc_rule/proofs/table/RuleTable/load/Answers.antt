@@ -1,0 +1,9 @@
+use Rattle.hcc_rule.proofs.Seats.Lifts.{loaded, lifted}
+use Rattle.hcc_rule.proofs.table.RuleTable.load.Goals as goal
+
+pub load-requires : goal.load-requires
+load-requires g c = (
+  c.requires.0,
+  c.requires.1,
+  lifted g.T.Tag.fits c.args.self.now.table.shared.key loaded c.requires.2,
+)

@@ -1,0 +1,60 @@
+-- A seat's view beside the list of its own atomic steps. The rule speaks of the views alone.
+use Rattle.std.specs.Prelude.{◌≡◌, ℕ, ◌+◌, List, [], ◌∷◌, ◌++◌, length, map}
+use Rattle.atomic_table.specs.Table as table
+use Rattle.hcc_rule.specs.declared.key.Key.{Key}
+use Rattle.hcc_rule.specs.declared.rule.Plan.{Plan}
+use Rattle.hcc_rule.specs.declared.view.Atomic.{Atomic}
+use Rattle.hcc_rule.specs.declared.view.Logged.{Logged}
+use Rattle.hcc_rule.specs.declared.view.View.{View}
+use Rattle.hcc_rule.specs.Opening.{opening_view, left_view, right_view, joined_view, spent_view}
+use Rattle.hcc_rule.specs.Rule.{Holds}
+use Rattle.hcc_rule.specs.Seats.{atomic}
+use Rattle.hcc_rule.specs.Told.{Held}
+
+module _ {T : Type 0} where
+  -- a seat's view, of what it has beside its steps
+  abbrev pub known_of : table.Me (Unit {0}) (Logged T) → Held T
+  known_of me = (me.0.known, me.1)
+
+  -- the words, and the views alone
+  abbrev pub unlogged : table.State (Unit {0}) (Logged T) → table.State (Unit {0}) (View T)
+  unlogged s = record {
+    words = s.words;
+    homes = s.homes;
+    views = map (λ (l : Logged T). l.known) s.views;
+  }
+
+  -- the words and the views meet the rule, whatever steps were made
+  abbrev pub HoldsLogged : (T → Key → List ℕ → Type 0) → Plan T
+      → table.State (Unit {0}) (Logged T) → Type 0
+  HoldsLogged fits p s = Holds fits p (unlogged s)
+
+  -- a view with these steps
+  abbrev pub logged : View T → List Atomic → Logged T
+  logged v steps = record { known = v; steps = steps }
+
+  abbrev pub first_logged : Plan T → Logged T
+  first_logged p = logged (opening_view p) []
+
+  -- A seat that is split keeps its steps, and the new one has made none. A seat that takes in
+  -- another keeps its own.
+  abbrev pub left_logged : Logged T → Logged T
+  left_logged l = logged (left_view l.known) l.steps
+
+  abbrev pub right_logged : Logged T → Logged T
+  right_logged l = logged (right_view l.known) []
+
+  abbrev pub joined_logged : Logged T → Logged T → Logged T
+  joined_logged l m = logged (joined_view l.known m.known) l.steps
+
+  abbrev pub spent_logged : Logged T
+  spent_logged = logged spent_view []
+
+  -- What a step tells of the views, and that it is one step more of the seat.
+  pub record Logs (then : table.Step (Unit {0}) → Held T → ℕ → Held T → Type 0)
+      (step : table.Step (Unit {0})) (me : table.Me (Unit {0}) (Logged T)) (found : ℕ)
+      (after : table.Me (Unit {0}) (Logged T)) : Type 0 where
+    pub told : then step (known_of me) found (known_of after)
+    pub logged_is : after.0.steps
+        ≡ me.0.steps ++ atomic step.word step.first step.second found ∷ []
+    pub one : length after.0.steps ≡ length me.0.steps + 1
