@@ -1,5 +1,5 @@
 //! How a worker shows an entry.
-ghost use Rattle.std.specs.Prelude.{◌≡◌, ◌+◌, ◌^◌, ◌<◌, ◌≤◌, [], Some, None, IfSome, option_to_list};
+ghost use Rattle.std.specs.Prelude.{◌≡◌, ◌+◌, ◌^◌, ◌<◌, ◌≤◌, [], Some, None, IfSome, length, option_to_list};
 ghost use Rattle.hcc_core.specs.declared.limits.TheConstants.{STAMPS_PER_CLIENT};
 ghost use Rattle.hcc_core.specs.declared.slot.Entry.{Entry};
 ghost use Rattle.hcc_core.specs.declared.client.Owned.TheVariants.{ForBuilding};
@@ -9,7 +9,7 @@ ghost use Rattle.hcc_rule.specs.Work.{Carries};
 ghost use Rattle.hcc_rule.specs.Benches.{IsReady};
 ghost use Rattle.hcc_rule.specs.Probes.{trail_to};
 ghost use Rattle.hcc_rule.specs.Seats.{view};
-ghost use Rattle.hcc_rule.specs.ToldOwners.{first_records, made_of};
+ghost use Rattle.hcc_rule.specs.ToldOwners.{after_write, first_records, made_of};
 ghost use Rattle.hcc_rule.specs.Words.{made_words};
 
 use super::worker::{LIMIT, NAME, PAYLOAD_WORDS, VALUE, Worker};
@@ -110,13 +110,26 @@ impl Worker<'_> {
         ensures view { view self.new.seat ≡ record (view self.old.seat) { written = words } }
     {
         let [key0, key1, charge, stamp, length, first, second] = words;
-        self.table.write(&mut self.seat, slot, KEY0, key0);
-        self.table.write(&mut self.seat, slot, KEY1, key1);
-        self.table.write(&mut self.seat, slot, CHARGE, charge);
-        self.table.write(&mut self.seat, slot, STAMP, stamp);
-        self.table.write(&mut self.seat, slot, LENGTH, length);
-        self.table.write(&mut self.seat, slot, PAYLOAD, first);
-        self.table.write(&mut self.seat, slot, PAYLOAD + 1, second);
+        self.write_next(slot, KEY0, key0);
+        self.write_next(slot, KEY1, key1);
+        self.write_next(slot, CHARGE, charge);
+        self.write_next(slot, STAMP, stamp);
+        self.write_next(slot, LENGTH, length);
+        self.write_next(slot, PAYLOAD, first);
+        self.write_next(slot, PAYLOAD + 1, second);
+    }
+
+    /// Writes the next word.
+    fn write_next(&mut self, slot: u32, index: usize, word: u64)
+        requires slot { slot < 8 }
+        requires owned { (view self.old.seat).work.owned ≡ ForBuilding slot }
+        requires next { (index ≡ length (view self.old.seat).written) × (index < 7) }
+        ensures same { (self.new.table ≡ self.old.table) × (self.new.client ≡ self.old.client)
+            × (self.new.shown ≡ self.old.shown)
+            × ((view self.new.seat).others ≡ (view self.old.seat).others) }
+        ensures view { view self.new.seat ≡ after_write word (view self.old.seat) }
+    {
+        self.table.write(&mut self.seat, slot, index, word);
     }
 
     /// Shows an entry in an empty slot, once the slot of its trail was passed.

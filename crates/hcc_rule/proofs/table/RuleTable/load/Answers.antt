@@ -5,5 +5,5 @@ pub load-requires : goal.load-requires
 load-requires g c = (
   c.requires.0,
   c.requires.1,
-  lifted g.T.Tag.fits c.args.self.now.table.shared.key loaded c.requires.2,
+  lifted g.T.Tag.fits c.args.self.now.table.shared.key loaded loaded c.requires.2,
 )
