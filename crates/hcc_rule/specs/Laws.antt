@@ -1,5 +1,5 @@
 -- The words of a state, by their names, for what holds of every state that keeps the rule.
-use Rattle.std.specs.Prelude.{◌≡◌, ◌≢◌, ℕ, ◌+◌, ◌<◌, Bool, slice_index, length}
+use Rattle.std.specs.Prelude.{◌≡◌, ℕ, ◌+◌, Bool, slice_index}
 use Rattle.atomic_table.specs.Table as table
 use Rattle.hcc_word.specs.Word.{is_shareable, refs_of}
 use Rattle.hcc_core.specs.declared.slot.Entry.{Entry}
@@ -12,7 +12,7 @@ use Rattle.hcc_rule.specs.ToldOwners.{IsDataWord}
 use Rattle.hcc_rule.specs.Views.{weight_on, Each}
 use Rattle.hcc_rule.specs.Words.{field_at, ledger_at}
 
--- the words of a shard and the views of all seats
+-- the words of a shard and the views of all seats, without their logs
 abbrev pub StateOf : Type 0 → Type 0
 StateOf T = table.State (Unit {0}) (View T)
 

@@ -5,7 +5,6 @@ use Rattle.hcc_core.specs.declared.setup.Setup.{Setup}
 use Rattle.hcc_core.specs.declared.client.Place.{Place}
 use Rattle.hcc_core.specs.declared.client.Place.TheVariants as places
 use Rattle.hcc_core.specs.declared.client.Client.{Client}
-use Rattle.hcc_core.specs.Sums.{total}
 use Rattle.hcc_core.specs.Lawful.{real_to}
 use Rattle.hcc_core.specs.World.{charged_to, occupied_by, standing_of, limit_of}
 use Rattle.hcc_core.specs.Outcomes.{dropped}

@@ -1,7 +1,8 @@
 //! What holds of every state that keeps the rule: so between any two atomic steps of any threads.
 //!
 //! No function here does anything when it runs: its contract is the law. `h.world` is the lawful
-//! world that the words and the views of a state show.
+//! world that the words and the views of a state show. A state is meant without the seats' logs, of
+//! which the rule says nothing (`unlogged`).
 ghost use Rattle.std.specs.Prelude.{◌≡◌, ℕ, ◌+◌, ◌^◌, ◌<◌, ◌≤◌, true, Some, slice_get};
 ghost use Rattle.hcc_core.specs.declared.client.Client.{Client};
 ghost use Rattle.hcc_core.specs.Lawful.{real_in, taken_in};

@@ -1,6 +1,6 @@
 -- Records of different slots are on different entries: what these entries have in sum is within
 -- what all slots have.
-use Rattle.std.proofs.Common.{◌≡◌, ℕ, ◌+◌, ◌≤◌, ◌≢◌, Bool, true, false, cond, not, eq-eqb, List, [], ◌∷◌, Option, Some, None, length, slice_get, slice_set, sym, refl, ap, ◌∙◌, arith}
+use Rattle.std.proofs.Common.{◌≡◌, ℕ, ◌≤◌, ◌≢◌, List, [], ◌∷◌, Option, Some, None, length, slice_get, slice_set, refl, ap, ◌∙◌, arith}
 use Rattle.hcc_core.specs.declared.slot.Entry.{Entry}
 use Rattle.hcc_core.specs.declared.slot.Slot.{Slot}
 use Rattle.hcc_core.specs.declared.slot.Slot.TheVariants as slots
@@ -8,7 +8,7 @@ use Rattle.hcc_core.specs.Sums.{total}
 use Rattle.hcc_core.specs.World.{charge_of, taken_by_slot}
 use Rattle.hcc_core.proofs.SumLemmas.{total-set}
 use Rattle.hcc_rule.specs.declared.view.Record.{Record}
-use Rattle.hcc_rule.specs.Views.{is_on, off, different, Each}
+use Rattle.hcc_rule.specs.Views.{different, Each}
 use Rattle.hcc_rule.specs.Rule.{entry_by, entry_in, IsRecorded}
 use Rattle.hcc_core.proofs.ListLemmas.{read_other}
 use Rattle.hcc_rule.proofs.Basics.Lists.{each_map}

@@ -1,6 +1,6 @@
 -- Lists of records: what is found by a name, how often a name is called, what the records of a slot
 -- weigh, and the first record of each slot. Callers cite these.
-use Rattle.std.proofs.Common.{◌≡◌, ◌≢◌, ℕ, ◌+◌, ◌≤◌, ◌==◌, ◌++◌, Bool, true, false, cond, not, eq-eqb, ne_eqb, List, [], ◌∷◌, Option, Some, None, length, sym, refl, ap, ◌∙◌, arith}
+use Rattle.std.proofs.Common.{◌≡◌, ◌≢◌, ℕ, ◌+◌, ◌≤◌, ◌++◌, Bool, true, false, cond, not, eq-eqb, ne_eqb, List, [], ◌∷◌, Option, Some, None, length, sym, refl, ap, ◌∙◌, arith}
 use Rattle.std.specs.List.{find}
 use Rattle.std.proofs.lemmas.Bool.{eqb-true}
 use Rattle.hcc_core.specs.declared.client.Client.{Client}
@@ -12,7 +12,7 @@ use Rattle.hcc_rule.specs.declared.view.Record.{Record}
 use Rattle.hcc_rule.specs.Callers.{IsBetweenCalls}
 use Rattle.hcc_rule.specs.Opening.{IsIdle}
 use Rattle.hcc_rule.specs.Views.{is_on, is_called, record_in, times_called, weight_on, load_of, off, different, Each}
-use Rattle.hcc_rule.proofs.Basics.Findings.{none_passes, find_passes, some_found}
+use Rattle.hcc_rule.proofs.Basics.Findings.{none_passes, find_passes}
 
 -- Records by name.
 

@@ -8,10 +8,10 @@ use Rattle.hcc_core.specs.declared.event.Reply.TheVariants as replies
 use Rattle.hcc_core.specs.declared.client.Place.TheVariants as places
 use Rattle.hcc_core.specs.declared.client.Client.{Client}
 use Rattle.hcc_core.specs.declared.client.Standalone.{Standalone}
-use Rattle.hcc_core.specs.World.{State, charged_to, occupied_by, standing_of, standing_in, usage_of}
+use Rattle.hcc_core.specs.World.{State, charged_to, occupied_by, standing_of, standing_in}
 use Rattle.hcc_core.specs.Outcomes.{dropped}
 use Rattle.hcc_core.specs.Ledgers.{is_standing}
-use Rattle.hcc_core.proofs.SumLemmas.{total-member, total-append, total-le, length-push}
+use Rattle.hcc_core.proofs.SumLemmas.{total-member, total-append, length-push}
 use Rattle.hcc_core.proofs.DroppedLemmas.{dropped-total, dropped-length}
 use Rattle.hcc_rule.specs.declared.key.Key.{Key}
 use Rattle.hcc_rule.specs.declared.layout.TheConstants.{STANDING}

@@ -1,6 +1,6 @@
 -- What holds at every moment: between any two steps the words show some lawful world, and these are
 -- its limits.
-use Rattle.std.proofs.Common.{◌≡◌, ℕ, zero, suc, ◌+◌, ◌-◌, ◌*◌, ◌^◌, ◌<◌, ◌≤◌, true, List, [], ◌∷◌, slice_get, slice_index, length, Some, refl, ap, ◌∙◌, arith}
+use Rattle.std.proofs.Common.{◌≡◌, ℕ, zero, suc, ◌+◌, ◌-◌, ◌*◌, ◌^◌, ◌<◌, ◌≤◌, true, List, [], ◌∷◌, slice_get, length, Some, refl, ap, ◌∙◌, arith}
 use Rattle.hcc_core.specs.declared.client.Client.{Client}
 use Rattle.hcc_core.specs.Sums.{total}
 use Rattle.hcc_core.specs.World.{State, charged_to, standing_of, standing_in, usage_of, limit_of}

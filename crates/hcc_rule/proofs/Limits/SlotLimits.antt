@@ -1,5 +1,5 @@
 -- What holds of the words of a slot at every moment.
-use Rattle.std.proofs.Common.{◌≡◌, ℕ, ◌+◌, ◌<◌, Bool, true, false, List, Some, slice_get, slice_index, sym, refl, ap, ◌∙◌, arith}
+use Rattle.std.proofs.Common.{◌≡◌, ℕ, ◌<◌, true, false, List, Some, slice_get, slice_index, sym, ap, ◌∙◌}
 use Rattle.hcc_word.specs.Word.{is_shareable, refs_of}
 use Rattle.hcc_word.proofs.CodeLaws.{refs_of-shareable}
 use Rattle.hcc_core.specs.declared.slot.Reference.{Reference}
@@ -12,7 +12,7 @@ use Rattle.hcc_rule.specs.declared.rule.Plan.{Plan}
 use Rattle.hcc_rule.specs.declared.view.Record.{Record}
 use Rattle.hcc_rule.specs.declared.view.View.{View}
 use Rattle.hcc_rule.specs.Laws.{has_entry, references_counted, references_held, HasWordsOf, HasWordsOfRecords}
-use Rattle.hcc_rule.specs.Views.{held, weight_on}
+use Rattle.hcc_rule.specs.Views.{weight_on}
 use Rattle.hcc_rule.specs.Words.{code_of}
 use Rattle.hcc_rule.specs.Rule.{IsRecorded, Holds}
 use Rattle.hcc_rule.proofs.Parts.Addresses.{data_field}

@@ -1,7 +1,7 @@
 -- Each step that keeps the rule on views keeps it on views beside the steps that were made.
 use prog.Atomic.{either}
 use mathlib.Core.Option.{Option}
-use Rattle.std.proofs.Common.{◌≡◌, ℕ, ◌+◌, ◌-◌, ◌%◌, ◌^◌, ◌==◌, bit_and, bit_or, List, [], ◌∷◌, ◌++◌, map, length, slice_index, slice_set, sym, refl, ap, ◌∙◌, subst}
+use Rattle.std.proofs.Common.{◌≡◌, ℕ, ◌+◌, ◌-◌, ◌%◌, ◌^◌, ◌==◌, bit_and, bit_or, List, [], ◌∷◌, ◌++◌, map, slice_index, slice_set, sym, refl, ap, ◌∙◌, subst}
 use Rattle.std.proofs.lemmas.List.{map-set, map-append}
 use Rattle.atomic_table.specs.Table as table
 use Rattle.atomic_table.specs.Table.{Allows, Act, Splits, Joins, Final, Seen}
