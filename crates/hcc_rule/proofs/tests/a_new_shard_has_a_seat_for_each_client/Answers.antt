@@ -1,4 +1,4 @@
-use Rattle.std.proofs.Common.{rules, ◌≤◌, refl, arith}
+use Rattle.std.proofs.Common.{refl, arith}
 use Rattle.hcc_rule.proofs.tests.a_new_shard_has_a_seat_for_each_client.Goals as goal
 
 pub new-requires : goal.new-requires

@@ -1,4 +1,4 @@
-use Rattle.std.proofs.Common.{rules, ◌≤◌, refl, arith}
+use Rattle.std.proofs.Common.{refl, arith}
 use Rattle.hcc_rule.proofs.tests.a_shard_that_nobody_used_closes_with_words_of_zero.Goals as goal
 
 pub new-requires : goal.new-requires
