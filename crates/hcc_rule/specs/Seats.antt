@@ -1,4 +1,4 @@
--- A seat at a table, and the sizes that a table may have.
+-- A seat at a table, the steps that it made, and the sizes that a table may have.
 use Rattle.std.specs.Prelude.{◌≡◌, ℕ, ◌+◌, ◌%◌, ◌≤◌, List, [], ◌∷◌, ◌++◌, length, Some}
 use Rattle.atomic_table.specs.declared.shared.Seat.{Seat}
 use Rattle.atomic_table.specs.Seated.{TableId}
