@@ -1,22 +1,30 @@
 -- One more reference on an entry that is held, and references that are given back.
-use Rattle.std.proofs.Common.{◌≡◌, ℕ, ◌++◌, ◌||◌, cond, Bool, true, false, List, [], ◌∷◌, Option, Some, None, IfSome, IfNone, IsSomeAnd, sym, refl, ap, ◌∙◌}
+use Rattle.std.proofs.Common.{◌≡◌, ℕ, ◌++◌, ◌||◌, ◌+◌, ◌&&◌, ◌==◌, not, subst, cond, Bool, true, false, List, [], ◌∷◌, Option, Some, None, IfSome, IfNone, IsSomeAnd, sym, refl, ap, ◌∙◌}
 use Rattle.std.specs.List.{find, list_any}
 use Rattle.std.proofs.lemmas.Bool.{eq-eqb}
-use Rattle.hcc_word.specs.Word.{is_shareable, is_counting}
+use Rattle.hcc_word.specs.declared.layout.TheConstants.{CONSTRUCTION_WORD}
+use Rattle.hcc_word.specs.Word.{is_shareable, is_visible, is_counting, refs_of}
+use Rattle.hcc_core.specs.declared.client.Owned.TheVariants as owned
+use Rattle.hcc_core.specs.Sums.{when}
 use Rattle.hcc_core.specs.References.{looks_at}
 use Rattle.hcc_rule.specs.declared.key.Key.{Key}
 use Rattle.hcc_rule.specs.declared.view.Record.{Record}
 use Rattle.hcc_rule.specs.declared.view.View.{View}
 use Rattle.hcc_rule.specs.Callers.{HasOn}
+use Rattle.hcc_rule.specs.Rule.{IsRight}
+use Rattle.hcc_rule.specs.ToldOwners.{is_warm}
 use Rattle.hcc_rule.specs.ToldReferences.{may_reach, record_of}
+use Rattle.hcc_rule.specs.Seats.{SeatOf, atomic, steps}
 use Rattle.hcc_rule.specs.Views.{is_on, is_called, record_in}
 use Rattle.hcc_rule.proofs.Basics.Findings.{find_each}
 use Rattle.hcc_table.specs.declared.pins.Pin.{Pin}
 use Rattle.hcc_table.specs.declared.efforts.Effort.{Effort}
 use Rattle.hcc_table.specs.Efforts.{Lost}
-use Rattle.hcc_table.specs.Freed.{TriedWhereDue}
+use Rattle.hcc_table.specs.Freed.{IsFreed, TriedWhereDue, is_due}
 use Rattle.hcc_table.specs.Pins.{IsOf, IsPinned}
-use Rattle.hcc_table.specs.Searched.{Reached}
+use Rattle.hcc_table.specs.Searched.{Reached, Searched}
+use Rattle.hcc_table.specs.Steps.{Adds, Among, TriesToTake}
+use Rattle.hcc_table.proofs.Logs.{among_after, among_first}
 
 -- one of a list that passes is found by a search for any
 any_found : {A : Type 0} (p q : A → Bool) (xs : List A) (x : A) → find q xs ≡ Some x → p x ≡ true
@@ -34,17 +42,41 @@ any_found p q (y ∷ ys) x found passes = by (q y) (any_found p q ys x) found
     by true rest found = let same : y ≡ x = cc in ap (λ b. b || list_any p ys) (ap p same ∙ passes)
     by false rest found = later (p y) (rest found passes)
 
--- Where freeing was due, it was tried.
-pub tried_due : (A B : Type 0) (due : Bool) (o : Option ℕ) (old new : Effort) → due ≡ true
-    → IfSome o (λ _. new ≡ old) → IfNone o (A × B × Lost 1 1 old new) → TriedWhereDue due o old new
-tried_due A B due None old new is won lost =
-    (tt, (λ _. lost.2, λ not. let bad : true ≡ false = sym is ∙ not in cc))
-tried_due A B due (Some charge) old new is won lost = ((is, won), tt)
+module _ {T : Type 0} (address left : ℕ) (due : Bool) (before after : Effort) (a b : SeatOf T) where
+  -- Where freeing was due, it was tried.
+  pub tried_due : (A B : Type 0) (o : Option ℕ) → due ≡ true → IfSome o (λ _. after ≡ before)
+      → IfNone o (A × B × Lost 1 1 before after) → TriesToTake address left o a b
+      → TriedWhereDue address left due o before after a b
+  tried_due A B o is won lost tried = record {
+    won = by_won o won;
+    lost = by_lost o lost;
+    same = λ not_due. absurd (no not_due);
+    tried = λ _. tried;
+    passed = λ not_due. absurd (no not_due);
+  }
+    where
+      no : due ≡ false → ⊥
+      no not_due = let bad : true ≡ false = sym is ∙ not_due in cc
 
-pub not_due : (due : Bool) (old new : Effort) → due ≡ false → new ≡ old
-    → TriedWhereDue due None old new
-not_due due old new not same =
-    (tt, (λ is. let bad : true ≡ false = sym is ∙ not in cc, λ _. same))
+      by_won : (o : Option ℕ) → IfSome o (λ _. after ≡ before)
+          → IfSome o (λ _. (due ≡ true) × (after ≡ before))
+      by_won None h = tt
+      by_won (Some charge) h = (is, h)
+
+      by_lost : (o : Option ℕ) → IfNone o (A × B × Lost 1 1 before after)
+          → IfNone o (due ≡ true → Lost 1 1 before after)
+      by_lost None h = λ _. h.2
+      by_lost (Some charge) h = tt
+
+  pub not_due : due ≡ false → after ≡ before → steps b ≡ steps a
+      → TriedWhereDue address left due None before after a b
+  not_due is same none = record {
+    won = tt;
+    lost = λ is_due. let bad : true ≡ false = sym is_due ∙ is in cc;
+    same = λ _. same;
+    tried = λ is_due. let bad : true ≡ false = sym is_due ∙ is in cc;
+    passed = λ _. none;
+  }
 
 module _ {T : Type 0} where
   -- A pin that is held is a record on its slot.
@@ -94,3 +126,64 @@ module _ {T : Type 0} where
           let same = find_each (is_called held) (λ r. r.slot ≡ slot → r.entry ≡ got.0) v.records q
           got.1.same is on in
           (record_of slot 1 name word got.0, got.2, refl, refl, refl, refl, sym same)
+
+-- What is due though nobody asks for it is not visible.
+unseen_due : (s r e v : Bool) → (s && r && (e || not v)) ≡ true → e ≡ false → v ≡ false
+unseen_due s r e false h kept = refl
+unseen_due false r e true h kept = cc
+unseen_due true false e true h kept = cc
+unseen_due true true e true h kept = cc
+
+module _ {T : Type 0} (fits : T → Key → List ℕ → Type 0) (room : ℕ) (v b w : View T)
+    (before : Searched v b) (met : b.met ≡ v.met) where
+  -- An entry that is freed after a look, or after a reference was given back, is freed of the view
+  -- before.
+  pub freed_after : (word charge : ℕ) → IsFreed fits room word None charge b w
+      → IsFreed fits room word None charge v w
+  freed_after word charge h = record {
+    stamp = h.stamp;
+    made = h.made;
+    taken = record {
+      right = subst (λ (z : View T). IfSome z.tag (λ tag. IsRight fits tag room h.made)) before.same
+          h.taken.right;
+      same = tt;
+    };
+    charged = h.charged;
+    dead = λ stamp there. h.dead stamp (before.dead stamp there);
+    same = h.same ∙ ap freed_of before.same ∙ ap (λ keys. record (freed_of v) { met = keys }) met;
+  }
+    where
+      freed_of : View T → View T
+      freed_of z = record z {
+        work = record z.work {
+          looked = w.work.looked;
+          owned = owned.Nothing;
+          trail = [];
+          freed = z.work.freed + charge;
+          freed_slots = z.work.freed_slots + 1;
+          dead = w.work.dead;
+        };
+        written = [];
+        records = w.records;
+        takings = z.takings + 1;
+        warm = z.warm + when (is_warm word) 1;
+      }
+
+  -- So it is where freeing was due: the entry of the word that was left.
+  pub freed_where_due : (address : ℕ) (a c d : SeatOf T) (erase : Bool) (word : ℕ) (P : ℕ → Type 0)
+      (o : Option ℕ) → is_due erase word ≡ true → v.work.looked ≡ b.work.looked
+      → Adds a c → TriesToTake address word o c d
+      → IfSome o (λ charge. IsFreed fits room word None charge b w × P charge
+      × (w.work.looked ≡ b.work.looked))
+      → IfSome o (λ charge. (n : ℕ)
+      × Among (atomic address n CONSTRUCTION_WORD n) a d × IsFreed fits room n None charge v w
+      × (erase ≡ false → is_visible n ≡ false) × (w.work.looked ≡ v.work.looked))
+  freed_where_due address a c d erase word P None due looked adds tried freed = tt
+  freed_where_due address a c d erase word P (Some charge) due looked adds tried freed =
+      let one = atomic address word CONSTRUCTION_WORD word in (
+        word,
+        among_after one a c d adds (among_first one c d tried.1),
+        freed_after word charge freed.0,
+        unseen_due (is_shareable word) (refs_of word == 0) erase (is_visible word) due,
+        freed.2 ∙ sym looked,
+      )

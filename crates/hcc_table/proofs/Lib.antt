@@ -1,4 +1,5 @@
 pub mod Rises
+pub mod Logs
 pub mod Searches
 pub mod Reaches
 pub mod Probes

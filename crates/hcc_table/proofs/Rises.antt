@@ -63,14 +63,19 @@ took_then tries more all old was now h g sum = (
 )
 
 -- The slots that were visited are counted at the end.
+pub counted_probes : (visited tries : ℕ) (old was now : Effort) → Took 0 0 tries old was
+    → Rose visited visited was.probes now.probes → Rose visited visited old.probes now.probes
+counted_probes visited tries old was now h probes =
+    rose_then 0 0 visited visited visited visited old.probes was.probes now.probes h.0 probes
+    (omega arith) (omega arith)
+
 pub took_probes : (visited tries slots : ℕ) (old was now : Effort) → Took 0 0 tries old was
     → Rose visited visited was.probes now.probes → now.corrections ≡ was.corrections
     → now.lost ≡ was.lost → 1 ≤ visited → visited ≤ slots → tries ≤ slots
     → Took 1 slots slots old now
 took_probes visited tries slots old was now h probes corrections lost some few short = (
   rose_within visited visited 1 slots old.probes now.probes some few
-      (rose_then 0 0 visited visited visited visited old.probes was.probes now.probes h.0 probes
-      (omega arith) (omega arith)),
+      (counted_probes visited tries old was now h probes),
   rw corrections (rose_within 0 tries 0 slots old.corrections was.corrections (omega arith) short
       h.1),
   rw lost (rose_within 0 tries 0 slots old.lost was.lost (omega arith) short h.2),

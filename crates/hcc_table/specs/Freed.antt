@@ -6,6 +6,7 @@ use Rattle.hcc_core.specs.declared.client.Owned.TheVariants as owned
 use Rattle.hcc_core.specs.declared.slot.Stamp.{Stamp}
 use Rattle.hcc_core.specs.Sums.{when}
 use Rattle.hcc_core.specs.Outcomes.{dropped}
+use Rattle.hcc_rule.specs.Seats.{SeatOf, Makes, view}
 use Rattle.hcc_rule.specs.Views.{is_called}
 use Rattle.hcc_rule.specs.declared.key.Key.{Key}
 use Rattle.hcc_rule.specs.declared.layout.TheConstants.{KEY0, KEY1, PAYLOAD}
@@ -17,6 +18,7 @@ use Rattle.hcc_rule.specs.ToldReferences.{after_give}
 use Rattle.hcc_table.specs.declared.efforts.Effort.{Effort}
 use Rattle.hcc_table.specs.Efforts.{Lost}
 use Rattle.hcc_table.specs.Searched.{Grows}
+use Rattle.hcc_table.specs.Steps.{MakesNone, TriesToTake, amount_of}
 
 -- what a release of so many references, as uses or not, leaves of a word
 abbrev pub left_of : Bool → (weight found : ℕ) → ℕ
@@ -26,12 +28,6 @@ left_of used weight found =
 -- whether this is the word of an entry that nobody holds, and that is hidden or is to be erased
 abbrev pub is_due : (erase : Bool) → (left : ℕ) → Bool
 is_due erase left = is_shareable left && (refs_of left == 0) && (erase || not (is_visible left))
-
--- Freeing an entry was tried where it was due: it was freed, or one exchange more lost.
-abbrev pub TriedWhereDue : (due : Bool) → Option ℕ → Effort → Effort → Type 0
-TriedWhereDue due freed old new =
-    IfSome freed (λ _. (due ≡ true) × (new ≡ old))
-    × IfNone freed ((due ≡ true → Lost 1 1 old new) × (due ≡ false → new ≡ old))
 
 module _ {T : Type 0} where
   -- the key of the entry whose words stand in the slot that the client owns
@@ -85,11 +81,23 @@ module _ {T : Type 0} where
     pub charged : charge ≡ made.charge
     pub is : w ≡ emptied (after_free slots slot word last stamp made v)
 
-  -- References of this name and weight were given back, as uses or not, and this word is left of
-  -- the one that was found.
-  pub record IsLeft (slot weight name : ℕ) (used : Bool) (left : ℕ) (v w : View T) : Type 0 where
+  -- References of this name and weight were given back by one step, as uses or not, and this word
+  -- is left of the one that it found.
+  pub record IsLeft (address slot weight name : ℕ) (used : Bool) (left : ℕ) (old new : SeatOf T)
+      : Type 0 where
     pub found : ℕ
+    pub step : Makes address (amount_of used weight) 0 found old new
     pub entry : is_shareable found ≡ true
     pub enough : weight ≤ refs_of found
     pub is : left ≡ left_of used weight found
-    pub view : w ≡ after_give slot name found v
+    pub view : view new ≡ after_give slot name found (view old)
+
+  -- To take the entry of the word that was left was tried where it was due: it was freed, or one
+  -- exchange more lost. Where it wasn't due no step was made.
+  pub record TriedWhereDue (address left : ℕ) (due : Bool) (freed : Option ℕ)
+      (before after : Effort) (old new : SeatOf T) : Type 0 where
+    pub won : IfSome freed (λ _. (due ≡ true) × (after ≡ before))
+    pub lost : IfNone freed (due ≡ true → Lost 1 1 before after)
+    pub same : due ≡ false → after ≡ before
+    pub tried : due ≡ true → TriesToTake address left freed old new
+    pub passed : due ≡ false → MakesNone old new

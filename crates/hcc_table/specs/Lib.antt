@@ -8,3 +8,4 @@ pub mod Readings
 pub mod Inserted
 pub mod Mates
 pub mod Handles
+pub mod Steps

@@ -1,14 +1,17 @@
 //! One more reference on an entry, and the one try to take its counters back.
-ghost use Rattle.std.specs.Prelude.{◌≡◌, ◌+◌, ◌++◌, ◌∷◌, ◌<◌, ◌≤◌, [], false, true, None, IfSome, IsSomeAnd};
+ghost use Rattle.std.specs.Prelude.{◌≡◌, ◌+◌, ◌++◌, ◌∷◌, ◌<◌, ◌≤◌, [], false, true, None, IfSome, IsSomeAnd, ℕ};
+ghost use Rattle.hcc_word.specs.Changes.{IsCorrectable, corrected_word};
+ghost use Rattle.hcc_word.specs.Word.{is_counting};
 ghost use Rattle.hcc_core.specs.declared.limits.TheConstants.{MOST_WEIGHT, REFERENCES_PER_CLIENT};
 ghost use Rattle.hcc_rule.specs.declared.view.Record.{Record};
-ghost use Rattle.hcc_rule.specs.Callers.{room_of, IsSeatAt, IsSlotOf};
-ghost use Rattle.hcc_rule.specs.Seats.{IsSameSeat, view};
+ghost use Rattle.hcc_rule.specs.Callers.{room_of, IsSeatAt, IsSlotOf, address_of_meta};
+ghost use Rattle.hcc_rule.specs.Seats.{IsSameSeat, view, Makes};
 ghost use Rattle.hcc_rule.specs.ToldReferences.{may_reach};
 ghost use Rattle.hcc_rule.specs.Views.{load_of, record_in};
 ghost use Rattle.hcc_table.specs.Efforts.{Took};
 ghost use Rattle.hcc_table.specs.Pins.{IsOf, IsPinned};
 ghost use Rattle.hcc_table.specs.Searched.{Searched, Sought, Reached};
+ghost use Rattle.hcc_table.specs.Steps.{Acquires, Adds, MakesAtMost, MakesNone};
 
 use crate::efforts::Effort;
 use crate::pins::Pin;
@@ -41,6 +44,9 @@ pub fn again<T: Tag, A: Allocator>(
     ensures record { (r : Record) × ((view seat.new).records ≡ (view seat.old).records ++ r ∷ [])
         × IsOf result r × (r.name ≡ name)
         × IfSome (record_in pin.name (view seat.old).records) (λ q. r.entry ≡ q.entry) }
+    ensures acquires { (found : ℕ) × (result.counting ≡ is_counting found)
+        × Acquires (address_of_meta table.now pin.slot) 1 found seat.old seat.new }
+    ensures steps { MakesAtMost 2 seat.old seat.new }
 {
     let found = reach(table, seat, pin.slot, 1, name, effort);
     Pin {
@@ -71,6 +77,8 @@ pub(crate) fn reach<T: Tag, A: Allocator>(
     ensures effort { Took 0 0 1 effort.old effort.new }
     ensures view { Reached T.fits (room_of table.now) slot weight name result
         (view seat.old) (view seat.new) }
+    ensures acquires { Acquires (address_of_meta table.now slot) weight result seat.old seat.new }
+    ensures steps { MakesAtMost 2 seat.old seat.new }
 {
     let found = table.acquire(seat, slot, weight, name);
     if has_entry(found) && !counts(found) {
@@ -104,6 +112,12 @@ fn relieve<T: Tag, A: Allocator>(
     ensures seat { IsSameSeat seat.old seat.new }
     ensures effort { Took 0 0 1 effort.old effort.new }
     ensures view { Sought (view seat.old) (view seat.new) }
+    ensures corrects { IsCorrectable word → (other : ℕ)
+        × Makes (address_of_meta table.now slot) word (corrected_word word) other
+        seat.old seat.new }
+    ensures passes { ¬ (IsCorrectable word) → MakesNone seat.old seat.new }
+    ensures adds { Adds seat.old seat.new }
+    ensures steps { MakesAtMost 1 seat.old seat.new }
 {
     let Some(next) = corrected(word) else {
         return;

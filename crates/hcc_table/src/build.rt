@@ -5,11 +5,12 @@ ghost use mir.Syntax.{w64};
 ghost use Rattle.hcc_core.specs.declared.limits.TheConstants.{MOST_CLIENTS, STAMPS_PER_CLIENT};
 ghost use Rattle.hcc_core.specs.declared.client.Owned.TheVariants.{ForBuilding};
 ghost use Rattle.hcc_rule.specs.declared.layout.TheConstants.{PAYLOAD};
-ghost use Rattle.hcc_rule.specs.Callers.{plan_of, room_of, IsSeatAt, IsSlotOf};
-ghost use Rattle.hcc_rule.specs.Seats.{IsSameSeat, view};
-ghost use Rattle.hcc_rule.specs.ToldOwners.{MayShow, after_show, made_of};
+ghost use Rattle.hcc_rule.specs.Callers.{plan_of, room_of, IsSeatAt, IsSlotOf, address_of_meta};
+ghost use Rattle.hcc_rule.specs.Seats.{IsSameSeat, view, atomic};
+ghost use Rattle.hcc_rule.specs.ToldOwners.{MayShow, after_show, made_of, first_word};
 ghost use Rattle.hcc_rule.specs.Words.{made_words, payload, stamp_word};
 ghost use Rattle.hcc_table.specs.Inserted.{with_words};
+ghost use Rattle.hcc_table.specs.Steps.{Adds, Ends, MakesAtMost};
 
 use hcc_core::limits::STAMPS_PER_CLIENT;
 use hcc_rule::layout::{CHARGE, KEY0, KEY1, LENGTH, PAYLOAD, STAMP};
@@ -35,6 +36,9 @@ pub(crate) fn build<T: Tag, A: Allocator>(
     ensures seat { IsSameSeat seat.old seat.new }
     ensures view { view seat.new
         ≡ after_show slot draft.name (made_of draft value.now) (view seat.old) }
+    ensures shown { Ends (atomic (address_of_meta table.now slot) (first_word draft) 0
+        (first_word draft)) seat.old seat.new }
+    ensures steps { MakesAtMost (room_of table.now + 6) seat.old seat.new }
 {
     write_head(table, seat, slot, draft, value.len() as u64, client);
     write_payload(table, seat, slot, value);
@@ -59,6 +63,8 @@ fn write_head<T: Tag, A: Allocator>(
     ensures seat { IsSameSeat seat.old seat.new }
     ensures view { view seat.new ≡ with_words (draft.key.w0 ∷ draft.key.w1 ∷ draft.charge
         ∷ stamp_word client draft.serial ∷ bytes ∷ []) (view seat.old) }
+    ensures adds { Adds seat.old seat.new }
+    ensures steps { MakesAtMost 5 seat.old seat.new }
 {
     let first = table.data_of(slot);
     table.write_at(seat, slot, first, KEY0, draft.key.w0);
@@ -84,6 +90,8 @@ fn write_payload<T: Tag, A: Allocator>(
     ensures seat { IsSameSeat seat.old seat.new }
     ensures view { view seat.new
         ≡ with_words ((view seat.old).written ++ payload value.now) (view seat.old) }
+    ensures adds { Adds seat.old seat.new }
+    ensures steps { MakesAtMost (room_of table.now) seat.old seat.new }
 {
     let first = table.data_of(slot);
     for k in 0..(value.len() + 7) / 8 {

@@ -2,13 +2,14 @@
 ghost use Rattle.std.specs.Prelude.{◌≡◌, ◌+◌, ◌^◌, ◌<◌, ◌≤◌, [], true, IfSome, IfNone, slice_index};
 ghost use Rattle.hcc_word.specs.Word.{is_shareable};
 ghost use Rattle.hcc_rule.specs.declared.layout.TheConstants.{CHARGE};
-ghost use Rattle.hcc_rule.specs.Callers.{slots_of, room_of, IsSeatAt, IsSlotOf, MayFree};
+ghost use Rattle.hcc_rule.specs.Callers.{slots_of, room_of, IsSeatAt, IsSlotOf, MayFree, address_of_meta};
 ghost use Rattle.hcc_rule.specs.Probes.{trail_to};
 ghost use Rattle.hcc_rule.specs.Seats.{IsSameSeat, view};
 ghost use Rattle.hcc_rule.specs.ToldOwners.{IsLast, records_left};
 ghost use Rattle.hcc_table.specs.Efforts.{Lost};
 ghost use Rattle.hcc_table.specs.Freed.{HasTaken, IsFreed, TakenAt, emptied};
 ghost use Rattle.hcc_table.specs.Searched.{Sought};
+ghost use Rattle.hcc_table.specs.Steps.{Adds, MakesAtMost, TriesToTake, freeing};
 
 use crate::efforts::Effort;
 use crate::walk::Walk;
@@ -32,6 +33,8 @@ pub fn free_taken<T: Tag, A: Allocator>(
     ensures seat { IsSameSeat seat.old seat.new }
     ensures charge { result ≡ slice_index (view seat.old).written CHARGE }
     ensures view { view seat.new ≡ emptied (view seat.old) }
+    ensures adds { Adds seat.old seat.new }
+    ensures steps { MakesAtMost (slots_of table.now + 4) seat.old seat.new }
 {
     let key = Key {
         w0: table.read_own(seat, slot, KEY0),
@@ -55,6 +58,8 @@ pub(crate) fn take_back<T: Tag, A: Allocator>(
     ensures seat { IsSameSeat seat.old seat.new }
     ensures view { view seat.new
         ≡ record (view seat.old) { work = record (view seat.old).work { trail = [] } } }
+    ensures adds { Adds seat.old seat.new }
+    ensures steps { MakesAtMost (slots_of table.now) seat.old seat.new }
 {
     let slots = table.geometry().slots;
     let mut walk = Walk::begin(key, slots);
@@ -93,6 +98,8 @@ pub(crate) fn try_free<T: Tag, A: Allocator>(
         IsFreed T.fits (room_of table.now) word name charge (view seat.old) (view seat.new)
         × ((view seat.new).records ≡ records_left name (view seat.old).records)
         × ((view seat.new).work.looked ≡ (view seat.old).work.looked)) }
+    ensures tried { TriesToTake (address_of_meta table.now slot) word result seat.old seat.new }
+    ensures steps { MakesAtMost (freeing (slots_of table.now)) seat.old seat.new }
 {
     if table.free(seat, slot, word, name) != word {
         effort.lose();

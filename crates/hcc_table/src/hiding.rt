@@ -10,6 +10,7 @@ ghost use Rattle.hcc_rule.specs.Words.{key_of};
 ghost use Rattle.hcc_table.specs.Efforts.{Lost, Took};
 ghost use Rattle.hcc_table.specs.Erased.{Erases, IsAtRest, IsErased};
 ghost use Rattle.hcc_table.specs.Searched.{Sought, Buried, AllDead};
+ghost use Rattle.hcc_table.specs.Steps.{MakesFor, freeing, MakesAtMost};
 
 use crate::efforts::Effort;
 use crate::freeing::try_free;
@@ -86,6 +87,8 @@ pub fn hide<T: Tag, A: Allocator>(
     ensures dead { AllDead key (view seat.old) (view seat.new) }
     ensures few { (result.hidden ≤ slots_of table.now) × (result.slots ≤ slots_of table.now) }
     ensures charge { result.charge ≤ result.slots * (2 ^ 32 - 1) }
+    ensures steps { MakesFor (freeing (slots_of table.now) + 9) 0 (slots_of table.now)
+        effort.old effort.new seat.old seat.new }
 {
     let slots = table.geometry().slots;
     let mut walk = Walk::begin(key, slots);
@@ -125,6 +128,7 @@ fn hide_at<T: Tag, A: Allocator>(
     ensures dead { Buried key (λ s. s ≡ slot) (view seat.old) (view seat.new) }
     ensures few { (result.hidden ≤ 1) × (result.slots ≤ 1)
         × (result.charge ≤ result.slots * (2 ^ 32 - 1)) }
+    ensures steps { MakesAtMost (freeing (slots_of table.now) + 8) seat.old seat.new }
 {
     match hold(table, seat, slot, key, name, effort) {
         Some(_) => hide_held(table, seat, slot, name, effort),
@@ -156,6 +160,7 @@ fn hide_held<T: Tag, A: Allocator>(
     ensures records { (view seat.new).records ≡ dropped (is_called name) (view seat.old).records }
     ensures few { (result.hidden ≤ 1) × (result.slots ≤ 1)
         × (result.charge ≤ result.slots * (2 ^ 32 - 1)) }
+    ensures steps { MakesAtMost (freeing (slots_of table.now) + 2) seat.old seat.new }
 {
     let found = table.hide(seat, slot, name);
     let left = found & HIDING_MASK;
@@ -199,6 +204,7 @@ fn free_last<T: Tag, A: Allocator>(
     ensures freed { IfSome result (λ charge. (charge < 2 ^ 32)
         × Erases [] 1 charge (view seat.old) (view seat.new)
         × ((view seat.new).records ≡ dropped (is_called name) (view seat.old).records)) }
+    ensures steps { MakesAtMost (freeing (slots_of table.now)) seat.old seat.new }
 {
     if has_entry(word) && !is_shown(word) && refs(word) == 1 {
         try_free(table, seat, slot, word, Some(name), effort)

@@ -1,16 +1,19 @@
 //! The insertion of an entry: at each probe of its key in turn, until a slot is found that is
 //! empty, or one that shows an entry of the key.
-ghost use Rattle.std.specs.Prelude.{◌≡◌, ◌+◌, ◌<◌, ◌≤◌, true, false, None, []};
+ghost use Rattle.std.specs.Prelude.{◌≡◌, ◌+◌, ◌<◌, ◌≤◌, true, false, None, [], ℕ};
+ghost use Rattle.hcc_table.specs.declared.inserting.Insertion.TheVariants.{Placed, Matched};
+ghost use Rattle.hcc_rule.specs.ToldOwners.{first_word};
 ghost use Rattle.hcc_word.specs.Word.{is_empty};
 ghost use Rattle.hcc_core.specs.declared.limits.TheConstants.{MOST_WEIGHT, REFERENCES_PER_CLIENT};
-ghost use Rattle.hcc_rule.specs.Callers.{plan_of, slots_of, IsSeatAt, IsSlotOf};
+ghost use Rattle.hcc_rule.specs.Callers.{plan_of, slots_of, IsSeatAt, IsSlotOf, room_of, address_of_meta};
 ghost use Rattle.hcc_rule.specs.Probes.{trail_to};
-ghost use Rattle.hcc_rule.specs.Seats.{IsSameSeat, view};
+ghost use Rattle.hcc_rule.specs.Seats.{IsSameSeat, view, atomic};
 ghost use Rattle.hcc_rule.specs.ToldReferences.{may_reach};
 ghost use Rattle.hcc_rule.specs.Views.{load_of, record_in};
 ghost use Rattle.hcc_table.specs.Efforts.{Took};
 ghost use Rattle.hcc_table.specs.Inserted.{InsertedBy, MayInsert, Meets, TriedAt};
 ghost use Rattle.hcc_table.specs.Searched.{Sought, Buried};
+ghost use Rattle.hcc_table.specs.Steps.{Adds, Ends, MakesAtMost, MakesFor, UsesUp, trying};
 
 use crate::acquire::reach;
 use crate::build::build;
@@ -74,6 +77,13 @@ pub fn insert<T: Tag, A: Allocator>(
     ensures effort { Took 1 (slots_of table.now) (slots_of table.now) effort.old effort.new }
     ensures view { InsertedBy (slots_of table.now) draft value.now result
         (view seat.old) (view seat.new) }
+    ensures placed { (slot : ℕ) → result ≡ Placed slot → Ends (atomic
+        (address_of_meta table.now slot) (first_word draft) 0 (first_word draft))
+        seat.old seat.new }
+    ensures matched { result ≡ Matched → (slot : ℕ) × (slot < slots_of table.now)
+        × UsesUp (address_of_meta table.now slot) draft.countdown seat.old seat.new }
+    ensures steps { MakesFor 7 (slots_of table.now + room_of table.now) (slots_of table.now)
+        effort.old effort.new seat.old seat.new }
 {
     let slots = table.geometry().slots;
     let mut walk = Walk::begin(draft.key, slots);
@@ -119,6 +129,13 @@ fn insert_at<T: Tag, A: Allocator>(
     ensures seat { IsSameSeat seat.old seat.new }
     ensures effort { Took 0 0 1 effort.old effort.new }
     ensures view { TriedAt slot draft value.now result (view seat.old) (view seat.new) }
+    ensures placed { (at : ℕ) → result ≡ Placed at → Ends (atomic
+        (address_of_meta table.now at) (first_word draft) 0 (first_word draft))
+        seat.old seat.new }
+    ensures matched { result ≡ Matched
+        → UsesUp (address_of_meta table.now slot) draft.countdown seat.old seat.new }
+    ensures adds { Adds seat.old seat.new }
+    ensures steps { MakesAtMost (trying (room_of table.now) result) seat.old seat.new }
 {
     let found = table.occupy(seat, slot);
     if is_free(found) {
@@ -160,6 +177,10 @@ fn meet<T: Tag, A: Allocator>(
     ensures view { Sought (view seat.old) (view seat.new) }
     ensures met { result ≡ true → Meets key (view seat.old) (view seat.new) }
     ensures dead { result ≡ false → Buried key (λ s. s ≡ slot) (view seat.old) (view seat.new) }
+    ensures matched { result ≡ true
+        → UsesUp (address_of_meta table.now slot) weight seat.old seat.new }
+    ensures adds { Adds seat.old seat.new }
+    ensures steps { MakesAtMost 5 seat.old seat.new }
 {
     let found = reach(table, seat, slot, weight, name, effort);
     if !has_entry(found) {

@@ -7,6 +7,7 @@ ghost use Rattle.hcc_rule.specs.Seats.{IsSameSeat, view};
 ghost use Rattle.hcc_rule.specs.Views.{Each, load_of, record_in, weight_on};
 ghost use Rattle.hcc_table.specs.Efforts.{Took};
 ghost use Rattle.hcc_table.specs.Searched.{Sought};
+ghost use Rattle.hcc_table.specs.Steps.{MakesAtMost};
 
 use crate::acquire::reach;
 use crate::efforts::Effort;
@@ -43,6 +44,7 @@ pub fn pinned_charge<T: Tag, A: Allocator>(
     ensures alone { clients_of table.now ≡ 1
         → weight_on slot (view seat.old).records ≡ 0 → result ≡ 0 }
     ensures small { result < 2 ^ 32 }
+    ensures steps { MakesAtMost 5 seat.old seat.new }
 {
     let word = table.look(seat, slot);
     if !has_entry(word) || refs(word) == 0 {

@@ -13,9 +13,10 @@ ghost use Rattle.hcc_rule.specs.Told.{after_look, Alone, Backs};
 ghost use Rattle.hcc_rule.specs.ToldOwners.{after_read};
 ghost use Rattle.hcc_rule.specs.ToldTrails.{passed_held};
 ghost use Rattle.hcc_rule.specs.Views.{different, Each, record_in};
-ghost use Rattle.hcc_rule.specs.Words.{field_at, key_of, payload_word};
+ghost use Rattle.hcc_rule.specs.Words.{field_at, key_of, payload_word, words_for};
 ghost use Rattle.hcc_table.specs.Pins.{IsPinned};
 ghost use Rattle.hcc_table.specs.Readings.{IsReadable};
+ghost use Rattle.hcc_table.specs.Steps.{MakesAtMost};
 
 use crate::pins::Pin;
 use hcc_rule::layout::{KEY0, KEY1, LENGTH, PAYLOAD};
@@ -36,6 +37,7 @@ pub fn word<T: Tag, A: Allocator>(table: &RuleTable<T, A>, seat: &mut RuleSeat<T
     ensures view { view seat.new ≡ after_look slot result (view seat.old) }
     ensures backs { Backs slot result (view seat.old) }
     ensures alone { Alone (setup_of (plan_of table.now)) slot result (view seat.old) }
+    ensures steps { MakesAtMost 1 seat.old seat.new }
 {
     table.look(seat, slot)
 }
@@ -73,6 +75,7 @@ pub fn displacement<T: Tag, A: Allocator>(
         ≤ times slot (view seat.old).work.trail
         + passed_held (slots_of table.now) slot (view seat.old).records
         + length (view seat.old).made }
+    ensures steps { MakesAtMost 1 seat.old seat.new }
 {
     table.count(seat, slot)
 }
@@ -93,6 +96,7 @@ pub fn read_len<T: Tag, A: Allocator>(
     ensures view { view seat.new ≡ view seat.old }
     ensures exact { IfSome (record_in pin.name (view seat.old).records)
         (λ r. result ≡ length r.entry.value) }
+    ensures steps { MakesAtMost 1 seat.old seat.new }
 {
     table.read(seat, pin.slot, LENGTH, pin.name) as usize
 }
@@ -114,6 +118,7 @@ pub fn read_key<T: Tag, A: Allocator>(
     ensures view { view seat.new ≡ after_read pin.name KEY1 (view seat.old) }
     ensures exact { IfSome (record_in pin.name (view seat.old).records)
         (λ r. result ≡ key_of r.entry) }
+    ensures steps { MakesAtMost 2 seat.old seat.new }
 {
     Key {
         w0: table.read(seat, pin.slot, KEY0, pin.name),
@@ -146,6 +151,7 @@ pub fn read_bytes<T: Tag, A: Allocator>(
         (λ r. result ≡ length r.entry.value) }
     ensures bytes { IfSome (record_in pin.name (view seat.old).records)
         (λ r. buffer.new ≡ r.entry.value ++ drop (length r.entry.value) buffer.old) }
+    ensures steps { MakesAtMost (words_for result + 1) seat.old seat.new }
 {
     let length = read_len(table, seat, pin);
     let first = table.data_of(pin.slot);
@@ -192,6 +198,7 @@ fn copy_word<T: Tag, A: Allocator>(
     ensures bytes { IfSome (record_in pin.name (view seat.old).records)
         (λ r. buffer.new ≡ take (8 * index) buffer.old
         ++ (take count (drop (8 * index) r.entry.value) ++ drop (8 * index + count) buffer.old)) }
+    ensures steps { MakesAtMost 1 seat.old seat.new }
 {
     let word = read_word(table, seat, pin, first, index);
     put(buffer, 8 * index, count, word);
@@ -214,6 +221,7 @@ fn read_word<T: Tag, A: Allocator>(
     ensures view { view seat.new ≡ view seat.old }
     ensures word { IfSome (record_in pin.name (view seat.old).records)
         (λ r. 8 * index < length r.entry.value → result ≡ payload_word r.entry.value index) }
+    ensures steps { MakesAtMost 1 seat.old seat.new }
 {
     table.read_at(seat, pin.slot, first, PAYLOAD + index, pin.name)
 }

@@ -1,15 +1,16 @@
 //! References that are given back.
 ghost use Rattle.std.specs.Prelude.{◌≡◌, ◌+◌, ◌^◌, ◌<◌, ◌≤◌, true, false, ◌&&◌, ◌||◌, ◌==◌, not, None, IfSome, IfNone, IsSomeAnd, ℕ};
+ghost use Rattle.hcc_word.specs.declared.layout.TheConstants.{CONSTRUCTION_WORD};
 ghost use Rattle.hcc_word.specs.Word.{is_visible};
 ghost use Rattle.hcc_core.specs.Outcomes.{dropped};
-ghost use Rattle.hcc_rule.specs.declared.view.View.{View};
-ghost use Rattle.hcc_rule.specs.Callers.{room_of, IsSeatAt, IsSlotOf, MayFree};
-ghost use Rattle.hcc_rule.specs.Seats.{IsSameSeat, view};
+ghost use Rattle.hcc_rule.specs.Callers.{room_of, IsSeatAt, IsSlotOf, MayFree, slots_of, address_of_meta};
+ghost use Rattle.hcc_rule.specs.Seats.{IsSameSeat, view, SeatOf, atomic};
 ghost use Rattle.hcc_rule.specs.Views.{is_called, record_in};
 ghost use Rattle.hcc_table.specs.Efforts.{Lost};
 ghost use Rattle.hcc_table.specs.Freed.{IsFreed, IsLeft, TriedWhereDue, is_due};
 ghost use Rattle.hcc_table.specs.Pins.{IsPinned, erases, is_useful};
 ghost use Rattle.hcc_table.specs.Searched.{Searched};
+ghost use Rattle.hcc_table.specs.Steps.{Among, MakesAtMost, freeing};
 
 use crate::efforts::Effort;
 use crate::freeing::try_free;
@@ -49,12 +50,17 @@ pub fn release<T: Tag, A: Allocator>(
     ensures kept { IfNone result (Searched (view seat.old) (view seat.new)
         × ((view seat.new).met ≡ (view seat.old).met)) }
     ensures freed { IfSome result (λ charge. (word : ℕ)
+        × Among (atomic (address_of_meta table.now pin.slot) word CONSTRUCTION_WORD word)
+        seat.old seat.new
         × IsFreed T.fits (room_of table.now) word None charge (view seat.old) (view seat.new)
         × (erases last ≡ false → is_visible word ≡ false)
         × ((view seat.new).work.looked ≡ (view seat.old).work.looked)) }
-    ensures tried { (left : ℕ) × (between : View T)
-        × IsLeft pin.slot 1 pin.name (is_useful usage && pin.counting) left (view seat.old) between
-        × TriedWhereDue (is_due (erases last) left) result effort.old effort.new }
+    ensures tried { (left : ℕ) × (between : SeatOf T)
+        × IsLeft (address_of_meta table.now pin.slot) pin.slot 1 pin.name
+        (is_useful usage && pin.counting) left seat.old between
+        × TriedWhereDue (address_of_meta table.now pin.slot) left (is_due (erases last) left) result
+        effort.old effort.new between seat.new }
+    ensures steps { MakesAtMost (freeing (slots_of table.now) + 1) seat.old seat.new }
 {
     let used = usage.is_use(pin.counting);
     let left = let_go(table, seat, pin.slot, 1, pin.name, used);
@@ -80,7 +86,9 @@ pub(crate) fn let_go<T: Tag, A: Allocator>(
     requires holds { IsSomeAnd (record_in name (view seat.old).records)
         (λ r. (r.slot ≡ slot) × (r.weight ≡ weight) × (used ≡ true → r.counting ≡ true)) }
     ensures seat { IsSameSeat seat.old seat.new }
-    ensures view { IsLeft slot weight name used result (view seat.old) (view seat.new) }
+    ensures left { IsLeft (address_of_meta table.now slot) slot weight name used result
+        seat.old seat.new }
+    ensures steps { MakesAtMost 1 seat.old seat.new }
 {
     if used {
         released(table.spend(seat, slot, weight, name), weight)

@@ -1,15 +1,17 @@
 //! The search for a key's entry.
-ghost use Rattle.std.specs.Prelude.{◌≡◌, ◌+◌, ◌<◌, ◌≤◌, true, false, None, IfSome, IfNone};
-ghost use Rattle.hcc_word.specs.Word.{is_counting, is_visible};
+ghost use Rattle.std.specs.Prelude.{◌≡◌, ◌+◌, ◌<◌, ◌≤◌, true, false, None, IfSome, IfNone, ℕ};
+ghost use Rattle.hcc_word.specs.declared.layout.TheConstants.{HIT_BIT};
+ghost use Rattle.hcc_word.specs.Word.{is_counting, is_visible, hit_of};
 ghost use Rattle.hcc_core.specs.declared.limits.TheConstants.{REFERENCES_PER_CLIENT};
 ghost use Rattle.hcc_rule.specs.declared.view.Record.{Record};
-ghost use Rattle.hcc_rule.specs.Callers.{slots_of, room_of, IsSeatAt, IsSlotOf, HasOn};
-ghost use Rattle.hcc_rule.specs.Seats.{IsSameSeat, view};
+ghost use Rattle.hcc_rule.specs.Callers.{slots_of, room_of, IsSeatAt, IsSlotOf, HasOn, address_of_meta};
+ghost use Rattle.hcc_rule.specs.Seats.{IsSameSeat, view, Makes, atomic};
 ghost use Rattle.hcc_rule.specs.ToldOwners.{with_met};
 ghost use Rattle.hcc_rule.specs.Views.{load_of, record_in};
 ghost use Rattle.hcc_rule.specs.Words.{key_of};
 ghost use Rattle.hcc_table.specs.Efforts.{Took};
 ghost use Rattle.hcc_table.specs.Searched.{Sought, IsFound, IsMissed, Buried};
+ghost use Rattle.hcc_table.specs.Steps.{Adds, Among, MakesAtMost, MakesFor, MakesNone, Marks};
 
 use crate::acquire::reach;
 use crate::efforts::Effort;
@@ -54,6 +56,9 @@ pub fn find<T: Tag, A: Allocator>(
         × IsFound T.fits (room_of table.now) pin.slot name key (view seat.old) (view seat.new) r
         × (r.counting ≡ pin.counting)) }
     ensures missed { IfNone result (IsMissed key (view seat.old) (view seat.new)) }
+    ensures marked { marks ≡ true → IfSome result (λ pin.
+        Marks (address_of_meta table.now pin.slot) seat.old seat.new) }
+    ensures steps { MakesFor 7 0 (slots_of table.now) effort.old effort.new seat.old seat.new }
 {
     let slots = table.geometry().slots;
     let mut walk = Walk::begin(key, slots);
@@ -99,6 +104,10 @@ pub(crate) fn hold<T: Tag, A: Allocator>(
         × (r.counting ≡ is_counting word)) }
     ensures missed { IfNone result (Sought (view seat.old) (view seat.new)
         × Buried key (λ s. s ≡ slot) (view seat.old) (view seat.new)) }
+    ensures acquired { IfSome result (λ word.
+        Among (atomic (address_of_meta table.now slot) 1 0 word) seat.old seat.new) }
+    ensures adds { Adds seat.old seat.new }
+    ensures steps { MakesAtMost 6 seat.old seat.new }
 {
     if !is_shown(table.look(seat, slot)) {
         return None;
@@ -136,6 +145,8 @@ pub(crate) fn matches<T: Tag, A: Allocator>(
         → IfSome (record_in name (view seat.old).records) (λ r. ¬ (key_of r.entry ≡ key)) }
     ensures met { result ≡ true → (view seat.new).met
         ≡ with_met (record_in name (view seat.old).records) (view seat.old).met }
+    ensures adds { Adds seat.old seat.new }
+    ensures steps { MakesAtMost 2 seat.old seat.new }
 {
     is_shown(found) && has_key(table, seat, slot, key, name)
 }
@@ -161,6 +172,8 @@ fn has_key<T: Tag, A: Allocator>(
         → IfSome (record_in name (view seat.old).records) (λ r. ¬ (key_of r.entry ≡ key)) }
     ensures met { result ≡ true → (view seat.new).met
         ≡ with_met (record_in name (view seat.old).records) (view seat.old).met }
+    ensures adds { Adds seat.old seat.new }
+    ensures steps { MakesAtMost 2 seat.old seat.new }
 {
     let first = table.data_of(slot);
     table.read_at(seat, slot, first, KEY0, name) == key.w0
@@ -182,6 +195,10 @@ fn mark_if<T: Tag, A: Allocator>(
     requires holds { HasOn slot name (view seat.old) }
     ensures seat { IsSameSeat seat.old seat.new }
     ensures view { Sought (view seat.old) (view seat.new) }
+    ensures marked { marks ≡ true → hit_of found ≡ false → (other : ℕ)
+        × Makes (address_of_meta table.now slot) HIT_BIT 0 other seat.old seat.new }
+    ensures unmarked { hit_of found ≡ true → MakesNone seat.old seat.new }
+    ensures steps { MakesAtMost 1 seat.old seat.new }
 {
     if marks && !hit(found) {
         table.mark(seat, slot, name);

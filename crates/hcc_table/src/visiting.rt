@@ -2,9 +2,10 @@
 ghost use Rattle.std.specs.Prelude.{◌≡◌, ◌+◌, ◌^◌, ◌<◌, ◌≤◌, [], true};
 ghost use Rattle.hcc_word.specs.Changes.{IsClockable, clocked_word};
 ghost use Rattle.hcc_word.specs.Word.{is_shareable, refs_of};
-ghost use Rattle.hcc_rule.specs.Callers.{slots_of, room_of, IsSeatAt, IsSlotOf, MayFree};
+ghost use Rattle.hcc_rule.specs.Callers.{slots_of, room_of, IsSeatAt, IsSlotOf, MayFree, address_of_meta};
 ghost use Rattle.hcc_rule.specs.Seats.{IsSameSeat, view};
 ghost use Rattle.hcc_table.specs.Visited.{LostBy, Visited, CountedDown, Swept};
+ghost use Rattle.hcc_table.specs.Steps.{MakesAtMost, freeing};
 
 use crate::efforts::Effort;
 use crate::freeing::try_free;
@@ -46,8 +47,9 @@ pub fn visit<T: Tag, A: Allocator>(
     requires may { MayFree (view seat.old) }
     ensures seat { IsSameSeat seat.old seat.new }
     ensures effort { LostBy result effort.old effort.new }
-    ensures view { Visited T.fits (slots_of table.now) (room_of table.now) slot result
-        (view seat.old) (view seat.new) }
+    ensures visit { Visited T.fits (slots_of table.now) (room_of table.now)
+        (address_of_meta table.now slot) slot result seat.old seat.new }
+    ensures steps { MakesAtMost (freeing (slots_of table.now) + 1) seat.old seat.new }
 {
     let word = table.look(seat, slot);
     if !has_entry(word) {
@@ -77,7 +79,8 @@ fn count_down<T: Tag, A: Allocator>(
     requires clocked { next ≡ clocked_word word }
     ensures seat { IsSameSeat seat.old seat.new }
     ensures effort { LostBy result effort.old effort.new }
-    ensures view { CountedDown result (view seat.old) (view seat.new) }
+    ensures visit { CountedDown (address_of_meta table.now slot) word result seat.old seat.new }
+    ensures steps { MakesAtMost 1 seat.old seat.new }
 {
     if table.clock(seat, slot, word, next) == word {
         return ClockVisit::Counted;
@@ -101,8 +104,9 @@ fn sweep<T: Tag, A: Allocator>(
     requires may { MayFree (view seat.old) }
     ensures seat { IsSameSeat seat.old seat.new }
     ensures effort { LostBy result effort.old effort.new }
-    ensures view { Swept T.fits (slots_of table.now) (room_of table.now) slot word result
-        (view seat.old) (view seat.new) }
+    ensures visit { Swept T.fits (slots_of table.now) (room_of table.now)
+        (address_of_meta table.now slot) slot word result seat.old seat.new }
+    ensures steps { MakesAtMost (freeing (slots_of table.now)) seat.old seat.new }
 {
     match try_free(table, seat, slot, word, None, effort) {
         Some(charge) => ClockVisit::Freed {

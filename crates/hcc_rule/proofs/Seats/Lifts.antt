@@ -65,8 +65,8 @@ module _ {T : Type 0} (fits : T → Key → List ℕ → Type 0) (p : Plan T) wh
   set_known words s homes id w h =
       subst (λ vs. Meets words homes vs) (sym (map-set known s.views id w)) h
 
-  -- A step that leaves f of the word, and tells of `word` of it: the word itself, but at a store the
-  -- one that it leaves.
+  -- A step that leaves f of the word, and tells of `word` of it: the word itself, but at a store
+  -- the one that it leaves.
   pub lifted : {then : Then} {step : table.Step (Unit {0})} {count id a : ℕ}
       {me : table.Me (Unit {0}) (Logged T)} (f word : ℕ → ℕ)
       → Allows (Holds fits p) count id (known_of me) a f (λ n. then step (known_of me) (word n))

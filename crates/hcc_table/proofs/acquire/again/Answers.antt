@@ -1,16 +1,17 @@
 use Rattle.std.proofs.Common.{sym, ◌∙◌}
+use Rattle.hcc_rule.specs.Seats.{view}
 use Rattle.hcc_table.proofs.Gives.{pinned_on, reaches_held, one_more}
 use Rattle.hcc_table.proofs.acquire.again.Goals as goal
 
 pub reach-found-requires-clause-reach : goal.reach-found-requires-clause-reach
 reach-found-requires-clause-reach g c =
-    reaches_held c.args.pin.slot c.args.pin.name c.args.seat.now.me.0
-    (pinned_on c.args.pin c.args.seat.now.me.0 c.requires.holds)
+    reaches_held c.args.pin.slot c.args.pin.name (view c.args.seat.now)
+    (pinned_on c.args.pin (view c.args.seat.now) c.requires.holds)
 
 pub returns-clause-record : goal.returns-clause-record
 returns-clause-record g c =
     let more =
     one_more g.T.Tag.fits c.args.table.now.geometry.room c.args.pin.slot c.args.pin.name c.args.name
-    c.reach-found.result c.args.seat.now.me.0 c.reach-found.new.seat.me.0
-    (pinned_on c.args.pin c.args.seat.now.me.0 c.requires.holds) c.reach-found.ensures.view in
+    c.reach-found.result (view c.args.seat.now) (view c.reach-found.new.seat)
+    (pinned_on c.args.pin (view c.args.seat.now) c.requires.holds) c.reach-found.ensures.view in
     (more.0, more.1, (more.2, more.4, more.5 ∙ sym c.counts.ensures), more.3, more.6)

@@ -1,4 +1,8 @@
-use Rattle.std.proofs.Common.{sym}
+use Rattle.std.proofs.Common.{length, ap, sym, ◌∙◌}
+use Rattle.hcc_rule.specs.declared.view.Atomic.{Atomic}
+use Rattle.hcc_rule.specs.Callers.{address_of_meta}
+use Rattle.hcc_rule.specs.Seats.{Makes, atomic}
+use Rattle.hcc_table.proofs.Logs.{begins_then, makes_two}
 use Rattle.hcc_table.proofs.Reaches.{relieves}
 use Rattle.hcc_table.proofs.acquire.reach.Goals as goal
 
@@ -6,3 +10,31 @@ pub relieve-requires-clause-holds : goal.relieve-requires-clause-holds
 relieve-requires-clause-holds g c =
     relieves g.T.Tag.fits _ c.args.slot c.args.weight c.args.name _ _ _ c.acquire-found.ensures.view
     (sym c.if-has_entry.ensures) c.requires.fresh (sym c.if-not-counts.ensures)
+
+pub returns-then-not-counts-clause-acquires : goal.returns-then-not-counts-clause-acquires
+returns-then-not-counts-clause-acquires g c = record {
+  first = begins_then got c.args.seat.now c.acquire-found.new.seat c.relieve.new.seat
+      added.step c.relieve.ensures.adds;
+  once = λ fresh.
+      let none = c.relieve.ensures.passes (λ worn. fresh (
+        sym c.if-has_entry.ensures,
+        sym c.if-not-counts.ensures,
+        worn,
+      )) in
+      record { step = none ∙ added.step; one = ap length none ∙ added.one };
+  worn = λ worn.
+      let corrected = c.relieve.ensures.corrects worn.2 in (
+        corrected.0,
+        makes_two got _ c.args.seat.now c.acquire-found.new.seat c.relieve.new.seat added.step
+            corrected.1.step,
+      );
+}
+  where
+    got : Atomic
+    got =
+        atomic (address_of_meta c.args.table.now c.args.slot) c.args.weight 0
+        c.acquire-found.result
+
+    added : Makes (address_of_meta c.args.table.now c.args.slot) c.args.weight 0
+        c.acquire-found.result c.args.seat.now c.acquire-found.new.seat
+    added = c.acquire-found.ensures.step

@@ -1,34 +1,45 @@
-use Rattle.std.proofs.Common.{arith}
+use Rattle.std.proofs.Common.{arith, refl}
+use Rattle.hcc_table.proofs.Logs.{adds_none, adds_one, adds_then}
 use Rattle.hcc_table.proofs.InsertsWords.{writes_none, still_seat, still_builds, next_word, writes_more, writes_all}
 use Rattle.hcc_table.proofs.build.write_payload.Goals as goal
 
 pub loop-k-init : goal.loop-k-init
-loop-k-init g c = writes_none c.args.value.now c.args.seat.now
+loop-k-init g c = (
+  writes_none c.args.value.now c.args.seat.now,
+  omega arith,
+  adds_none c.args.seat.now c.args.seat.now refl,
+)
 
 pub write_at-requires-clause-seat : goal.write_at-requires-clause-seat
 write_at-requires-clause-seat g c =
-    still_seat c.args.value.now c.loop-k.k c.args.seat.now c.loop-k.seat c.loop-k.invariant
+    still_seat c.args.value.now c.loop-k.k c.args.seat.now c.loop-k.seat c.loop-k.invariant.0
     c.args.table.now.table.shared.table_id c.args.table.now.table.shared.key.tag c.requires.seat
 
 pub write_at-requires-clause-owned : goal.write_at-requires-clause-owned
 write_at-requires-clause-owned g c =
-    still_builds c.args.value.now c.loop-k.k c.args.seat.now c.loop-k.seat c.loop-k.invariant
+    still_builds c.args.value.now c.loop-k.k c.args.seat.now c.loop-k.seat c.loop-k.invariant.0
     c.args.slot c.requires.owned
 
 pub write_at-requires-clause-next : goal.write_at-requires-clause-next
 write_at-requires-clause-next g c = (
-  next_word c.args.value.now c.loop-k.k c.args.seat.now c.loop-k.seat c.loop-k.invariant
+  next_word c.args.value.now c.loop-k.k c.args.seat.now c.loop-k.seat c.loop-k.invariant.0
       c.requires.head,
   omega arith,
 )
 
 pub loop-k-preserved : goal.loop-k-preserved
 loop-k-preserved g c =
-    writes_more c.args.value.now c.loop-k.k c.args.seat.now c.loop-k.seat c.loop-k.invariant
-    c.write_at.new.seat c.word_at.result c.write_at.ensures.seat c.write_at.ensures.view
-    c.word_at.ensures
+    let so_far = c.loop-k.invariant.1 in
+    let one = c.write_at.ensures.step.one in (
+      writes_more c.args.value.now c.loop-k.k c.args.seat.now c.loop-k.seat c.loop-k.invariant.0
+          c.write_at.new.seat c.word_at.result c.write_at.ensures.seat c.write_at.ensures.view
+          c.word_at.ensures,
+      omega arith,
+      adds_then c.args.seat.now c.loop-k.seat c.write_at.new.seat c.loop-k.invariant.2
+          (adds_one _ c.loop-k.seat c.write_at.new.seat c.write_at.ensures.step.step),
+    )
 
 pub returns-clause-view : goal.returns-clause-view
 returns-clause-view g c =
-    writes_all c.args.value.now c.loop-k.k c.args.seat.now c.loop-k.seat c.loop-k.invariant
+    writes_all c.args.value.now c.loop-k.k c.args.seat.now c.loop-k.seat c.loop-k.invariant.0
     (omega arith)

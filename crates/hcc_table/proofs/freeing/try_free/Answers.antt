@@ -1,4 +1,5 @@
 use Rattle.std.proofs.lemmas.Bool.{eq-eqb}
+use Rattle.hcc_rule.specs.Seats.{view}
 use Rattle.hcc_table.specs.Freed.{TakenAt}
 use Rattle.hcc_table.proofs.TakesBack.{freed, taken_at}
 use Rattle.hcc_table.proofs.freeing.try_free.Goals as goal
@@ -6,17 +7,17 @@ use Rattle.hcc_table.proofs.freeing.try_free.Goals as goal
 pub returns-clause-taken : goal.returns-clause-taken
 returns-clause-taken g c =
     taken_at g.T.Tag.fits c.args.table.now.geometry.slots c.args.table.now.geometry.room c.args.slot
-    c.free.result c.args.word c.free_taken.result c.args.name c.args.seat.now.me.0
-    c.free.new.seat.me.0 c.free_taken.new.seat.me.0
+    c.free.result c.args.word c.free_taken.result c.args.name (view c.args.seat.now)
+    (view c.free.new.seat) (view c.free_taken.new.seat)
     (eq-eqb c.free.result c.args.word c.if-free-word.false) c.free.ensures.view
     c.free_taken.ensures.charge c.free_taken.ensures.view
 
 pub returns-clause-freed : goal.returns-clause-freed
 returns-clause-freed g c =
     freed g.T.Tag.fits c.args.table.now.geometry.slots c.args.table.now.geometry.room c.args.slot
-    c.args.word c.free_taken.result c.args.name c.args.seat.now.me.0 c.free_taken.new.seat.me.0
+    c.args.word c.free_taken.result c.args.name (view c.args.seat.now) (view c.free_taken.new.seat)
     (taken_at g.T.Tag.fits c.args.table.now.geometry.slots c.args.table.now.geometry.room
-    c.args.slot c.free.result c.args.word c.free_taken.result c.args.name c.args.seat.now.me.0
-    c.free.new.seat.me.0 c.free_taken.new.seat.me.0
+    c.args.slot c.free.result c.args.word c.free_taken.result c.args.name (view c.args.seat.now)
+    (view c.free.new.seat) (view c.free_taken.new.seat)
     (eq-eqb c.free.result c.args.word c.if-free-word.false) c.free.ensures.view
     c.free_taken.ensures.charge c.free_taken.ensures.view)

@@ -1,5 +1,6 @@
-use Rattle.std.proofs.Common.{◌≡◌, ◌+◌, ◌*◌, ◌<◌, ◌≤◌, refl, arith}
+use Rattle.std.proofs.Common.{mul-suc, ◌≡◌, ◌+◌, ◌*◌, ◌<◌, ◌≤◌, refl, arith}
 use Rattle.hcc_table.specs.Efforts.{Took}
+use Rattle.hcc_table.specs.Steps.{freeing}
 use Rattle.hcc_table.proofs.Rises.{took_none, took_next, took_within}
 use Rattle.hcc_rule.proofs.Probes.ProbeLaws.{some_slots}
 use Rattle.hcc_table.proofs.Hidings.{hides_none, both, hides_on, hides_last, hides_all}
@@ -13,6 +14,7 @@ loop-init g c =
           (record { hidden = 0; slots = 0; charge = 0 }) c.args.seat.now c.requires.idle told.probe
           told.stride (rw (← c.geometry-slots.ensures) told.mask) refl,
       took_none c.args.effort.now,
+      omega arith,
     )
 
 pub returns-then-count-eq0-clause-view : goal.returns-then-count-eq0-clause-view
@@ -52,6 +54,9 @@ loop-preserved g c =
           (all.hidden, all.slots, all.charge) told.view told.held told.within c.next-walk.result
           next.probe next.stride next.mask,
       visited,
+      (let so_far = c.loop.invariant.2 in let hid = c.hide_at-here.ensures.steps in
+          let one = told.step.one in
+          omega (arith, mul-suc (freeing c.args.table.now.geometry.slots + 9) c.loop.counter)),
     )
   where
     visited : Took (c.loop.counter + 1) (c.loop.counter + 1) (2 * (c.loop.counter + 1))
@@ -91,3 +96,21 @@ returns-clause-effort g c =
     let some : 0 < slots = some_slots slots c.args.table.now.limits.power in
     took_within c.loop.counter (2 * c.loop.counter) 1 slots (2 * slots) c.args.effort.now
     c.loop.effort (omega arith) (omega arith) (omega arith) c.loop.invariant.1
+
+pub returns-then-count-eq0-clause-steps : goal.returns-then-count-eq0-clause-steps
+returns-then-count-eq0-clause-steps g c =
+    let probe = c.probes.ensures in
+    let size = c.geometry-slots.ensures in
+    let low : c.loop.counter < c.args.table.now.geometry.slots = rw (← size) c.loop-test.true in
+    let so_far = c.loop.invariant.2 in
+    let hid = c.hide_at-here.ensures.steps in
+    let one = c.count.ensures.step.one in
+    record {
+      visited = c.loop.counter + 1;
+      within = omega arith;
+      counted = (took_next c.loop.counter (2 * c.loop.counter) 2 (2 * (c.loop.counter + 1))
+          c.args.effort.now c.loop.effort c.probes.new.self c.hide_at-here.new.effort
+          c.loop.invariant.1 probe.probes probe.corrections probe.lost c.hide_at-here.ensures.effort
+          (omega arith)).0;
+      steps = omega (arith, mul-suc (freeing c.args.table.now.geometry.slots + 9) c.loop.counter);
+    }

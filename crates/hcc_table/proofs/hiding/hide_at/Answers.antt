@@ -1,4 +1,5 @@
 use Rattle.hcc_table.proofs.Erasures.{erased_none, erased_there, buried_there}
+use Rattle.hcc_rule.specs.Seats.{view}
 use Rattle.hcc_table.proofs.Probes.{found_holds}
 use Rattle.hcc_table.proofs.hiding.hide_at.Goals as goal
 
@@ -6,15 +7,15 @@ pub hide_held-requires-clause-holds : goal.hide_held-requires-clause-holds
 hide_held-requires-clause-holds g c =
     let found = c.in-Some.ensures.found in
     found_holds g.T.Tag.fits c.args.table.now.geometry.room c.args.slot c.args.name c.args.key
-    c.args.seat.now.me.0 c.hold.new.seat.me.0 found.0 c.requires.fresh found.1
+    (view c.args.seat.now) (view c.hold.new.seat) found.0 c.requires.fresh found.1
 
 pub returns-in-Some-clause-view : goal.returns-in-Some-clause-view
 returns-in-Some-clause-view g c =
     let found = c.in-Some.ensures.found in
     let all = c.hide_held.result in
     erased_there g.T.Tag.fits c.args.table.now.geometry.room c.args.slot c.args.name all.hidden
-    all.slots all.charge c.args.key c.args.seat.now.me.0 c.hold.new.seat.me.0
-    c.hide_held.new.seat.me.0 found.0 c.requires.fresh found.1 c.hide_held.ensures.few.1
+    all.slots all.charge c.args.key (view c.args.seat.now) (view c.hold.new.seat)
+    (view c.hide_held.new.seat) found.0 c.requires.fresh found.1 c.hide_held.ensures.few.1
     c.hide_held.ensures.view c.hide_held.ensures.records
 
 pub returns-in-Some-clause-dead : goal.returns-in-Some-clause-dead
@@ -22,10 +23,10 @@ returns-in-Some-clause-dead g c =
     let found = c.in-Some.ensures.found in
     let all = c.hide_held.result in
     buried_there g.T.Tag.fits c.args.table.now.geometry.room c.args.slot c.args.name all.hidden
-    all.slots all.charge c.args.key c.args.seat.now.me.0 c.hold.new.seat.me.0
-    c.hide_held.new.seat.me.0 found.0 c.requires.fresh found.1 c.hide_held.ensures.view
+    all.slots all.charge c.args.key (view c.args.seat.now) (view c.hold.new.seat)
+    (view c.hide_held.new.seat) found.0 c.requires.fresh found.1 c.hide_held.ensures.view
 
 pub returns-in-None-clause-view : goal.returns-in-None-clause-view
 returns-in-None-clause-view g c =
-    erased_none c.args.key c.args.seat.now.me.0 c.hold.new.seat.me.0 c.requires.idle
+    erased_none c.args.key (view c.args.seat.now) (view c.hold.new.seat) c.requires.idle
     c.in-None.ensures.missed.0

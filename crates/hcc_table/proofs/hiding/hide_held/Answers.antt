@@ -1,4 +1,5 @@
 use Rattle.std.proofs.Common.{ap, ◌∙◌}
+use Rattle.hcc_rule.specs.Seats.{view}
 use Rattle.std.specs.Int.{from_bool}
 use Rattle.hcc_table.proofs.Erasures.{hidden_then}
 use Rattle.hcc_table.proofs.Probes.{given_at}
@@ -7,10 +8,11 @@ use Rattle.hcc_table.proofs.hiding.hide_held.Goals as goal
 
 pub returns-in-None-clause-view : goal.returns-in-None-clause-view
 returns-in-None-clause-view g c =
-    let u = c.free_last.new.seat.me.0 in
+    let u = (view c.free_last.new.seat) in
     hidden_then c.args.slot c.args.name c.hide-found.result c.from-hidden.result
-    c.args.seat.now.me.0 c.hide-found.new.seat.me.0 c.give.new.seat.me.0
+    (view c.args.seat.now) (view c.hide-found.new.seat) (view c.give.new.seat)
     c.requires.idle (c.from-hidden.ensures ∙ ap from_bool c.is_shown.ensures) c.requires.holds
     c.hide-found.ensures.view
-    (searched_then c.hide-found.new.seat.me.0 u c.give.new.seat.me.0 c.in-None.ensures.lost.searched
-    (given_at c.args.slot c.args.name c.give.result u c.give.new.seat.me.0 c.give.ensures.view))
+    (searched_then (view c.hide-found.new.seat) u (view c.give.new.seat)
+    c.in-None.ensures.lost.searched
+    (given_at c.args.slot c.args.name c.give.result u (view c.give.new.seat) c.give.ensures.view))

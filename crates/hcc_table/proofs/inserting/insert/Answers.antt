@@ -1,5 +1,12 @@
-use Rattle.std.proofs.Common.{◌≡◌, ◌+◌, ◌<◌, sym, arith}
+use Rattle.std.proofs.Common.{◌≡◌, ◌+◌, ◌*◌, ◌<◌, ◌≤◌, refl, rules, sym, ◌∙◌, arith}
+use Rattle.hcc_word.specs.Word.{is_counting}
+use Rattle.hcc_rule.specs.declared.view.Atomic.{Atomic}
+use Rattle.hcc_rule.specs.Callers.{address_of_meta}
+use Rattle.hcc_rule.specs.Seats.{atomic}
+use Rattle.hcc_rule.specs.ToldOwners.{first_word}
 use Rattle.hcc_table.specs.Efforts.{Took}
+use Rattle.hcc_table.specs.Steps.{Among, UsesUp, amount_of}
+use Rattle.hcc_table.proofs.Logs.{adds_none, adds_one, adds_then, among_after, among_then, ends_later}
 use Rattle.hcc_table.proofs.Rises.{took_none, took_next, took_within}
 use Rattle.hcc_table.proofs.InsertsTries.{tries_first, probed_room, tries_placed, tries_matched, tries_last, tries_next}
 use Rattle.hcc_table.proofs.inserting.insert.Goals as goal
@@ -13,6 +20,8 @@ loop-slot-init g c =
           c.begin-walk.result
           c.args.seat.now told.probe told.stride (rw (← size) told.mask) c.requires.trail,
       took_none c.args.effort.now,
+      omega arith,
+      adds_none c.args.seat.now c.args.seat.now refl,
     )
 
 pub returns-in-Placed-clause-view : goal.returns-in-Placed-clause-view
@@ -68,6 +77,12 @@ loop-slot-preserved g c =
           told.0 told.2 c.pass.new.seat c.next-walk.result (omega arith) told.1 c.pass.ensures.seat
           c.pass.ensures.view next.probe next.stride next.mask,
       visited,
+      (let so_far = c.loop-slot.invariant.2 in let tried = c.in-NoSlot.ensures.steps in
+          let one = c.pass.ensures.step.1.one in omega arith),
+      adds_then c.args.seat.now c.insert_at.new.seat c.pass.new.seat
+          (adds_then c.args.seat.now c.loop-slot.seat c.insert_at.new.seat c.loop-slot.invariant.3
+          c.insert_at.ensures.adds)
+          (adds_one _ c.insert_at.new.seat c.pass.new.seat c.pass.ensures.step.1.step),
     )
   where
     visited : Took (c.loop-slot.passed + 1) (c.loop-slot.passed + 1) (c.loop-slot.passed + 1)
@@ -110,3 +125,84 @@ returns-then-passed-slots-clause-effort g c =
     (took_next c.loop-slot.passed c.loop-slot.passed 1 (c.loop-slot.passed + 1) c.args.effort.now
     c.loop-slot.effort c.probes.new.self c.insert_at.new.effort c.loop-slot.invariant.1 probe.probes
     probe.corrections probe.lost c.insert_at.ensures.effort (omega arith))
+
+pub returns-in-Placed-clause-steps : goal.returns-in-Placed-clause-steps
+returns-in-Placed-clause-steps g c =
+    let probe = c.probes.ensures in
+    let inside = c.loop-slot.invariant.0.inside in
+    let so_far = c.loop-slot.invariant.2 in
+    let tried = c.in-Placed.ensures.steps in
+    record {
+      visited = c.loop-slot.passed + 1;
+      within = omega arith;
+      counted = (took_next c.loop-slot.passed c.loop-slot.passed 1 (c.loop-slot.passed + 1)
+          c.args.effort.now c.loop-slot.effort c.probes.new.self c.insert_at.new.effort
+          c.loop-slot.invariant.1 probe.probes probe.corrections probe.lost
+          c.insert_at.ensures.effort (omega arith)).0;
+      steps = omega arith;
+    }
+
+pub returns-in-Matched-clause-steps : goal.returns-in-Matched-clause-steps
+returns-in-Matched-clause-steps g c =
+    let probe = c.probes.ensures in
+    let inside = c.loop-slot.invariant.0.inside in
+    let so_far = c.loop-slot.invariant.2 in
+    let tried = c.in-Matched.ensures.steps in
+    let back = c.take_back.ensures.steps in
+    record {
+      visited = c.loop-slot.passed + 1;
+      within = omega arith;
+      counted = (took_next c.loop-slot.passed c.loop-slot.passed 1 (c.loop-slot.passed + 1)
+          c.args.effort.now c.loop-slot.effort c.probes.new.self c.insert_at.new.effort
+          c.loop-slot.invariant.1 probe.probes probe.corrections probe.lost
+          c.insert_at.ensures.effort (omega arith)).0;
+      steps = omega arith;
+    }
+
+pub returns-then-passed-slots-clause-steps : goal.returns-then-passed-slots-clause-steps
+returns-then-passed-slots-clause-steps g c =
+    let probe = c.probes.ensures in
+    let inside = c.loop-slot.invariant.0.inside in
+    let so_far = c.loop-slot.invariant.2 in
+    let tried = c.in-NoSlot.ensures.steps in
+    let back = c.take_back-then-passed-slots.ensures.steps in
+    record {
+      visited = c.loop-slot.passed + 1;
+      within = omega arith;
+      counted = (took_next c.loop-slot.passed c.loop-slot.passed 1 (c.loop-slot.passed + 1)
+          c.args.effort.now c.loop-slot.effort c.probes.new.self c.insert_at.new.effort
+          c.loop-slot.invariant.1 probe.probes probe.corrections probe.lost
+          c.insert_at.ensures.effort (omega arith)).0;
+      steps = omega arith;
+    }
+
+pub returns-in-Placed-clause-placed : goal.returns-in-Placed-clause-placed
+returns-in-Placed-clause-placed g c slot same =
+    ends_later (atomic (address_of_meta c.args.table.now slot) (first_word c.args.draft) 0
+    (first_word c.args.draft)) c.args.seat.now c.loop-slot.seat c.insert_at.new.seat
+    c.loop-slot.invariant.3 (c.insert_at.ensures.placed slot (c.in-Placed.is ∙ same))
+
+pub returns-in-Matched-clause-matched : goal.returns-in-Matched-clause-matched
+returns-in-Matched-clause-matched g c _ = (
+  c.slot-slot.result,
+  search rules,
+  (
+    used.0,
+    used.1,
+    over (atomic (address_of_meta c.args.table.now c.slot-slot.result) c.args.draft.countdown 0
+        used.0) used.2,
+    over (atomic (address_of_meta c.args.table.now c.slot-slot.result)
+        (amount_of (is_counting used.0) c.args.draft.countdown) 0 used.1) used.3,
+  ),
+)
+  where
+    used : UsesUp (address_of_meta c.args.table.now c.slot-slot.result) c.args.draft.countdown
+        c.loop-slot.seat c.insert_at.new.seat
+    used = c.insert_at.ensures.matched c.in-Matched.is
+
+    over : (one : Atomic) → Among one c.loop-slot.seat c.insert_at.new.seat
+        → Among one c.args.seat.now c.take_back.new.seat
+    over one h =
+        among_then one c.args.seat.now c.insert_at.new.seat c.take_back.new.seat
+        (among_after one c.args.seat.now c.loop-slot.seat c.insert_at.new.seat
+        c.loop-slot.invariant.3 h) c.take_back.ensures.adds

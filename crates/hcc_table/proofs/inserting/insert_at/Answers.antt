@@ -20,19 +20,19 @@ returns-clause-view g c = (tried.0, tried.1, buried)
     tried : Tried (view c.args.seat.now) (view c.else-is_shown.seat)
         × ((view c.else-is_shown.seat).saw ≡ (view c.args.seat.now).saw + 1)
     tried =
-        tried_there c.args.slot c.occupy-found.result c.args.seat.now.me.0
-        c.occupy-found.new.seat.me.0 c.else-is_shown.seat.me.0 (sym c.if-is_free.ensures)
+        tried_there c.args.slot c.occupy-found.result (view c.args.seat.now)
+        (view c.occupy-found.new.seat) (view c.else-is_shown.seat) (sym c.if-is_free.ensures)
         c.occupy-found.ensures.view kept
 
     buried : Buried c.args.draft.key (λ s. s ≡ c.args.slot) (view c.args.seat.now)
         (view c.else-is_shown.seat)
     buried = elim c.else-is_shown.branch [
       | else-is_shown-via-then-is_shown+else-meet w ↦ rw w.seat-is
-          (shown_there c.args.draft.key c.args.slot c.occupy-found.result c.args.seat.now.me.0
-          c.occupy-found.new.seat.me.0 w.meet.new.seat.me.0 (sym c.if-is_free.ensures)
+          (shown_there c.args.draft.key c.args.slot c.occupy-found.result (view c.args.seat.now)
+          (view c.occupy-found.new.seat) (view w.meet.new.seat) (sym c.if-is_free.ensures)
           c.occupy-found.ensures.view (w.meet.ensures.dead w.if-meet.false))
       | else-is_shown-via-else-is_shown w ↦ rw w.seat-is
-          (unshown_there c.args.draft.key c.args.slot c.occupy-found.result c.args.seat.now.me.0
-          c.occupy-found.new.seat.me.0 (sym c.if-is_free.ensures) (sym w.if-is_shown.ensures)
+          (unshown_there c.args.draft.key c.args.slot c.occupy-found.result (view c.args.seat.now)
+          (view c.occupy-found.new.seat) (sym c.if-is_free.ensures) (sym w.if-is_shown.ensures)
           c.occupy-found.ensures.backs c.occupy-found.ensures.view)
     ]

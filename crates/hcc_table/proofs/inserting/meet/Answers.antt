@@ -1,4 +1,9 @@
-use Rattle.std.proofs.Common.{◌≡◌, sym}
+use Rattle.std.proofs.Common.{◌≡◌, refl, sym}
+use Rattle.hcc_rule.specs.declared.view.Atomic.{Atomic}
+use Rattle.hcc_rule.specs.Callers.{address_of_meta}
+use Rattle.hcc_rule.specs.Seats.{atomic, view}
+use Rattle.hcc_table.specs.Steps.{Adds}
+use Rattle.hcc_table.proofs.Logs.{adds_none, adds_one, adds_then, among_at, among_first, among_then, begins_adds}
 use Rattle.hcc_rule.specs.Words.{key_of}
 use Rattle.hcc_table.proofs.Searches.{searched_refl}
 use Rattle.hcc_table.proofs.Probes.{strayed, holds, holds_slot, holds_used, told_key, given_back, met_there, missed_there}
@@ -8,89 +13,133 @@ pub returns-then-not-has_entry-clause-view : goal.returns-then-not-has_entry-cla
 returns-then-not-has_entry-clause-view g c =
     (strayed
     g.T.Tag.fits c.args.table.now.geometry.room c.args.slot c.args.weight c.args.name
-    c.reach-found.result c.args.key c.args.seat.now.me.0 c.args.seat.now.me.0
-    c.reach-found.new.seat.me.0 (searched_refl c.args.seat.now.me.0) c.reach-found.ensures.view
+    c.reach-found.result c.args.key (view c.args.seat.now) (view c.args.seat.now)
+    (view c.reach-found.new.seat) (searched_refl (view c.args.seat.now)) c.reach-found.ensures.view
     (sym c.if-not-has_entry.ensures)).0
 
 pub returns-then-not-has_entry-clause-dead : goal.returns-then-not-has_entry-clause-dead
 returns-then-not-has_entry-clause-dead g c = λ _.
     (strayed
     g.T.Tag.fits c.args.table.now.geometry.room c.args.slot c.args.weight c.args.name
-    c.reach-found.result c.args.key c.args.seat.now.me.0 c.args.seat.now.me.0
-    c.reach-found.new.seat.me.0 (searched_refl c.args.seat.now.me.0) c.reach-found.ensures.view
+    c.reach-found.result c.args.key (view c.args.seat.now) (view c.args.seat.now)
+    (view c.reach-found.new.seat) (searched_refl (view c.args.seat.now)) c.reach-found.ensures.view
     (sym c.if-not-has_entry.ensures)).1
 
 pub matches-requires-clause-holds : goal.matches-requires-clause-holds
 matches-requires-clause-holds g c =
     holds_slot
     g.T.Tag.fits c.args.table.now.geometry.room c.args.slot c.args.weight c.args.name
-    c.reach-found.result c.args.key c.args.seat.now.me.0 c.args.seat.now.me.0
-    c.reach-found.new.seat.me.0 (searched_refl c.args.seat.now.me.0) c.reach-found.ensures.view
-    (sym c.if-not-has_entry.ensures) c.requires.fresh c.reach-found.new.seat.me.0
-    (searched_refl c.reach-found.new.seat.me.0)
+    c.reach-found.result c.args.key (view c.args.seat.now) (view c.args.seat.now)
+    (view c.reach-found.new.seat) (searched_refl (view c.args.seat.now)) c.reach-found.ensures.view
+    (sym c.if-not-has_entry.ensures) c.requires.fresh (view c.reach-found.new.seat)
+    (searched_refl (view c.reach-found.new.seat))
 
 pub let_go-requires-clause-holds : goal.let_go-requires-clause-holds
 let_go-requires-clause-holds g c =
     holds_used
     g.T.Tag.fits c.args.table.now.geometry.room c.args.slot c.args.weight c.args.name
-    c.reach-found.result c.args.key c.args.seat.now.me.0 c.args.seat.now.me.0
-    c.reach-found.new.seat.me.0 (searched_refl c.args.seat.now.me.0) c.reach-found.ensures.view
-    (sym c.if-not-has_entry.ensures) c.requires.fresh c.matches.new.seat.me.0 c.counts.result
+    c.reach-found.result c.args.key (view c.args.seat.now) (view c.args.seat.now)
+    (view c.reach-found.new.seat) (searched_refl (view c.args.seat.now)) c.reach-found.ensures.view
+    (sym c.if-not-has_entry.ensures) c.requires.fresh (view c.matches.new.seat) c.counts.result
     c.matches.ensures.view c.counts.ensures
 
 pub returns-then-matches-clause-view : goal.returns-then-matches-clause-view
 returns-then-matches-clause-view g c =
     given_back
     g.T.Tag.fits c.args.table.now.geometry.room c.args.slot c.args.weight c.args.name
-    c.reach-found.result c.args.key c.args.seat.now.me.0 c.args.seat.now.me.0
-    c.reach-found.new.seat.me.0 (searched_refl c.args.seat.now.me.0) c.reach-found.ensures.view
-    (sym c.if-not-has_entry.ensures) c.requires.fresh c.let_go.ensures.view.found
-    c.matches.new.seat.me.0 c.let_go.new.seat.me.0 c.matches.ensures.view c.let_go.ensures.view.view
+    c.reach-found.result c.args.key (view c.args.seat.now) (view c.args.seat.now)
+    (view c.reach-found.new.seat) (searched_refl (view c.args.seat.now)) c.reach-found.ensures.view
+    (sym c.if-not-has_entry.ensures) c.requires.fresh c.let_go.ensures.left.found
+    (view c.matches.new.seat) (view c.let_go.new.seat) c.matches.ensures.view
+    c.let_go.ensures.left.view
 
 pub returns-then-matches-clause-met : goal.returns-then-matches-clause-met
 returns-then-matches-clause-met g c = λ _.
     met_there
     g.T.Tag.fits c.args.table.now.geometry.room c.args.slot c.args.weight c.args.name
-    c.reach-found.result c.args.key c.args.seat.now.me.0 c.args.seat.now.me.0
-    c.reach-found.new.seat.me.0 (searched_refl c.args.seat.now.me.0) c.reach-found.ensures.view
-    (sym c.if-not-has_entry.ensures) c.requires.fresh c.let_go.ensures.view.found
-    c.matches.new.seat.me.0 c.let_go.new.seat.me.0 (c.matches.ensures.shown c.if-matches.true)
+    c.reach-found.result c.args.key (view c.args.seat.now) (view c.args.seat.now)
+    (view c.reach-found.new.seat) (searched_refl (view c.args.seat.now)) c.reach-found.ensures.view
+    (sym c.if-not-has_entry.ensures) c.requires.fresh c.let_go.ensures.left.found
+    (view c.matches.new.seat) (view c.let_go.new.seat) (c.matches.ensures.shown c.if-matches.true)
     (told_key
     g.T.Tag.fits c.args.table.now.geometry.room c.args.slot c.args.weight c.args.name
-    c.reach-found.result c.args.key c.args.seat.now.me.0 c.args.seat.now.me.0
-    c.reach-found.new.seat.me.0 (searched_refl c.args.seat.now.me.0) c.reach-found.ensures.view
+    c.reach-found.result c.args.key (view c.args.seat.now) (view c.args.seat.now)
+    (view c.reach-found.new.seat) (searched_refl (view c.args.seat.now)) c.reach-found.ensures.view
     (sym c.if-not-has_entry.ensures) c.requires.fresh (λ e. key_of e ≡ c.args.key)
     (c.matches.ensures.equal c.if-matches.true)) (c.matches.ensures.met c.if-matches.true)
-    c.let_go.ensures.view.view
+    c.let_go.ensures.left.view
 
 pub give-requires-clause-holds : goal.give-requires-clause-holds
 give-requires-clause-holds g c =
     holds
     g.T.Tag.fits c.args.table.now.geometry.room c.args.slot c.args.weight c.args.name
-    c.reach-found.result c.args.key c.args.seat.now.me.0 c.args.seat.now.me.0
-    c.reach-found.new.seat.me.0 (searched_refl c.args.seat.now.me.0) c.reach-found.ensures.view
-    (sym c.if-not-has_entry.ensures) c.requires.fresh c.matches.new.seat.me.0 c.matches.ensures.view
+    c.reach-found.result c.args.key (view c.args.seat.now) (view c.args.seat.now)
+    (view c.reach-found.new.seat) (searched_refl (view c.args.seat.now)) c.reach-found.ensures.view
+    (sym c.if-not-has_entry.ensures) c.requires.fresh (view c.matches.new.seat)
+    c.matches.ensures.view
 
 pub returns-clause-view : goal.returns-clause-view
 returns-clause-view g c =
     given_back
     g.T.Tag.fits c.args.table.now.geometry.room c.args.slot c.args.weight c.args.name
-    c.reach-found.result c.args.key c.args.seat.now.me.0 c.args.seat.now.me.0
-    c.reach-found.new.seat.me.0 (searched_refl c.args.seat.now.me.0) c.reach-found.ensures.view
-    (sym c.if-not-has_entry.ensures) c.requires.fresh c.give.result c.matches.new.seat.me.0
-    c.give.new.seat.me.0 c.matches.ensures.view c.give.ensures.view
+    c.reach-found.result c.args.key (view c.args.seat.now) (view c.args.seat.now)
+    (view c.reach-found.new.seat) (searched_refl (view c.args.seat.now)) c.reach-found.ensures.view
+    (sym c.if-not-has_entry.ensures) c.requires.fresh c.give.result (view c.matches.new.seat)
+    (view c.give.new.seat) c.matches.ensures.view c.give.ensures.view
 
 pub returns-clause-dead : goal.returns-clause-dead
 returns-clause-dead g c = λ _.
     (missed_there
     g.T.Tag.fits c.args.table.now.geometry.room c.args.slot c.args.weight c.args.name
-    c.reach-found.result c.args.key c.args.seat.now.me.0 c.args.seat.now.me.0
-    c.reach-found.new.seat.me.0 (searched_refl c.args.seat.now.me.0) c.reach-found.ensures.view
-    (sym c.if-not-has_entry.ensures) c.requires.fresh c.give.result c.matches.new.seat.me.0
-    c.give.new.seat.me.0 c.matches.ensures.view c.give.ensures.view
+    c.reach-found.result c.args.key (view c.args.seat.now) (view c.args.seat.now)
+    (view c.reach-found.new.seat) (searched_refl (view c.args.seat.now)) c.reach-found.ensures.view
+    (sym c.if-not-has_entry.ensures) c.requires.fresh c.give.result (view c.matches.new.seat)
+    (view c.give.new.seat) c.matches.ensures.view c.give.ensures.view
     (λ shown. told_key
     g.T.Tag.fits c.args.table.now.geometry.room c.args.slot c.args.weight c.args.name
-    c.reach-found.result c.args.key c.args.seat.now.me.0 c.args.seat.now.me.0
-    c.reach-found.new.seat.me.0 (searched_refl c.args.seat.now.me.0) c.reach-found.ensures.view
+    c.reach-found.result c.args.key (view c.args.seat.now) (view c.args.seat.now)
+    (view c.reach-found.new.seat) (searched_refl (view c.args.seat.now)) c.reach-found.ensures.view
     (sym c.if-not-has_entry.ensures) c.requires.fresh (λ e. ¬ (key_of e ≡ c.args.key))
     (c.matches.ensures.other c.if-matches.false shown))).1
+
+pub returns-then-matches-clause-matched : goal.returns-then-matches-clause-matched
+returns-then-matches-clause-matched g c _ = (
+  c.reach-found.result,
+  c.let_go.ensures.left.found,
+  among_then got c.args.seat.now c.matches.new.seat c.let_go.new.seat
+      (among_then got c.args.seat.now c.reach-found.new.seat c.matches.new.seat
+      (among_first got c.args.seat.now c.reach-found.new.seat c.reach-found.ensures.acquires.first)
+      c.matches.ensures.adds)
+      (adds_one _ c.matches.new.seat c.let_go.new.seat c.let_go.ensures.left.step.step),
+  rw (← c.counts.ensures) (among_at _ c.args.seat.now c.matches.new.seat c.let_go.new.seat
+      c.let_go.new.seat before c.let_go.ensures.left.step.step
+      (adds_none c.let_go.new.seat c.let_go.new.seat refl)),
+)
+  where
+    got : Atomic
+    got =
+        atomic (address_of_meta c.args.table.now c.args.slot) c.args.weight 0 c.reach-found.result
+
+    before : Adds c.args.seat.now c.matches.new.seat
+    before =
+        adds_then c.args.seat.now c.reach-found.new.seat c.matches.new.seat
+        (begins_adds got c.args.seat.now c.reach-found.new.seat
+        c.reach-found.ensures.acquires.first) c.matches.ensures.adds
+
+pub returns-then-matches-clause-adds : goal.returns-then-matches-clause-adds
+returns-then-matches-clause-adds g c =
+    adds_then c.args.seat.now c.reach-found.new.seat c.let_go.new.seat
+    (begins_adds _ c.args.seat.now c.reach-found.new.seat c.reach-found.ensures.acquires.first)
+    (adds_then c.reach-found.new.seat c.matches.new.seat c.let_go.new.seat c.matches.ensures.adds
+    (adds_one _ c.matches.new.seat c.let_go.new.seat c.let_go.ensures.left.step.step))
+
+pub returns-then-not-has_entry-clause-adds : goal.returns-then-not-has_entry-clause-adds
+returns-then-not-has_entry-clause-adds g c =
+    begins_adds _ c.args.seat.now c.reach-found.new.seat c.reach-found.ensures.acquires.first
+
+pub returns-clause-adds : goal.returns-clause-adds
+returns-clause-adds g c =
+    adds_then c.args.seat.now c.reach-found.new.seat c.give.new.seat
+    (begins_adds _ c.args.seat.now c.reach-found.new.seat c.reach-found.ensures.acquires.first)
+    (adds_then c.reach-found.new.seat c.matches.new.seat c.give.new.seat c.matches.ensures.adds
+    (adds_one _ c.matches.new.seat c.give.new.seat c.give.ensures.step.step))

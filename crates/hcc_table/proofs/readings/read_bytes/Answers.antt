@@ -14,26 +14,38 @@ loop-four-preserved g c =
     let d = c.copy_word-in-loop-four-2 in
     let e = c.copy_word-in-loop-four-3 in
     let one = whole (4 * k) (4 * k + 1) c.loop-four.seat a.new.seat c.loop-four.buffer a.new.buffer
-    (omega arith) (omega arith) c.loop-four.invariant a.ensures.seat a.ensures.view
+    (omega arith) (omega arith) c.loop-four.invariant.0 a.ensures.seat a.ensures.view
     a.ensures.bytes in
     let two = whole (4 * k + 1) (4 * k + 2) a.new.seat b.new.seat a.new.buffer b.new.buffer
     (omega arith) (omega arith) one b.ensures.seat b.ensures.view b.ensures.bytes in
     let three = whole (4 * k + 2) (4 * k + 3) b.new.seat d.new.seat b.new.buffer d.new.buffer
     (omega arith) (omega arith) two d.ensures.seat d.ensures.view d.ensures.bytes in
-    whole (4 * k + 3) (4 * (k + 1)) d.new.seat e.new.seat d.new.buffer e.new.buffer
-    (omega arith) (omega arith) three e.ensures.seat e.ensures.view e.ensures.bytes
+    let so_far = c.loop-four.invariant.1 in
+    let load_a = a.ensures.steps in
+    let load_b = b.ensures.steps in
+    let load_d = d.ensures.steps in
+    let load_e = e.ensures.steps in (
+      whole (4 * k + 3) (4 * (k + 1)) d.new.seat e.new.seat d.new.buffer e.new.buffer
+          (omega arith) (omega arith) three e.ensures.seat e.ensures.view e.ensures.bytes,
+      omega arith,
+    )
 
 pub loop-index-preserved : goal.loop-index-preserved
 loop-index-preserved g c =
     let told = c.copy_word-in-loop-index.ensures in
-    reads_next c.args.pin.name c.read_len-length.result c.args.seat.now c.args.buffer.now
-    c.read_len-length.ensures.exact c.loop-index.index (c.loop-index.index + 1) c.loop-index.seat
-    c.copy_word-in-loop-index.new.seat c.loop-index.buffer c.copy_word-in-loop-index.new.buffer
-    (omega arith) c.loop-index-test.true c.loop-index.invariant told.seat told.view told.bytes
+    let so_far = c.loop-index.invariant.1 in
+    let one = told.steps in (
+      reads_next c.args.pin.name c.read_len-length.result c.args.seat.now c.args.buffer.now
+          c.read_len-length.ensures.exact c.loop-index.index (c.loop-index.index + 1)
+          c.loop-index.seat c.copy_word-in-loop-index.new.seat c.loop-index.buffer
+          c.copy_word-in-loop-index.new.buffer (omega arith) c.loop-index-test.true
+          c.loop-index.invariant.0 told.seat told.view told.bytes,
+      omega arith,
+    )
 
 pub returns-then-rest-gt0-clause-bytes : goal.returns-then-rest-gt0-clause-bytes
 returns-then-rest-gt0-clause-bytes g c =
     reads_rest c.args.pin.name c.loop-index.index c.read_len-length.result c.args.seat.now
     c.loop-index.seat c.args.buffer.now c.loop-index.buffer c.copy_word-then-rest-gt0.new.buffer
     c.loop-index-test.false (c.loop-index.auto.index-end (omega arith))
-    c.read_len-length.ensures.exact c.loop-index.invariant c.copy_word-then-rest-gt0.ensures.bytes
+    c.read_len-length.ensures.exact c.loop-index.invariant.0 c.copy_word-then-rest-gt0.ensures.bytes

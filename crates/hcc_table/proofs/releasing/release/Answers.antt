@@ -1,24 +1,47 @@
 use Rattle.std.proofs.Common.{◌≡◌, true, false, refl}
+use Rattle.hcc_rule.specs.Callers.{address_of_meta, room_of}
+use Rattle.hcc_rule.specs.Seats.{view}
 use Rattle.hcc_table.specs.Freed.{is_due}
 use Rattle.hcc_table.specs.Pins.{erases}
-use Rattle.hcc_table.proofs.Gives.{tried_due, not_due}
+use Rattle.hcc_table.proofs.Gives.{tried_due, not_due, freed_where_due}
+use Rattle.hcc_table.proofs.Logs.{adds_one}
+use Rattle.hcc_table.proofs.Probes.{given_at}
 use Rattle.hcc_table.proofs.releasing.release.Goals as goal
 
 pub returns-then-is_free_to_go-clause-tried : goal.returns-then-is_free_to_go-clause-tried
 returns-then-is_free_to_go-clause-tried g c =
     let due : is_due (erases c.args.last) c.let_go-left.result ≡ true = cc in (
       c.let_go-left.result,
-      c.let_go-left.new.seat.me.0,
-      rw (← c.is_use-used.ensures) c.let_go-left.ensures.view,
-      tried_due _ _ _ c.try_free.result c.args.effort.now c.try_free.new.effort due
-          c.try_free.ensures.won c.try_free.ensures.lost,
+      c.let_go-left.new.seat,
+      rw (← c.is_use-used.ensures) c.let_go-left.ensures.left,
+      tried_due (address_of_meta c.args.table.now c.args.pin.slot) c.let_go-left.result
+          (is_due (erases c.args.last) c.let_go-left.result) c.args.effort.now c.try_free.new.effort
+          c.let_go-left.new.seat c.try_free.new.seat _ _ c.try_free.result due
+          c.try_free.ensures.won c.try_free.ensures.lost c.try_free.ensures.tried,
     )
 
 pub returns-else-is_free_to_go-clause-tried : goal.returns-else-is_free_to_go-clause-tried
 returns-else-is_free_to_go-clause-tried g c =
     let due : is_due (erases c.args.last) c.let_go-left.result ≡ false = cc in (
       c.let_go-left.result,
-      c.let_go-left.new.seat.me.0,
-      rw (← c.is_use-used.ensures) c.let_go-left.ensures.view,
-      not_due _ c.args.effort.now c.args.effort.now due refl,
+      c.let_go-left.new.seat,
+      rw (← c.is_use-used.ensures) c.let_go-left.ensures.left,
+      not_due (address_of_meta c.args.table.now c.args.pin.slot) c.let_go-left.result
+          (is_due (erases c.args.last) c.let_go-left.result) c.args.effort.now c.args.effort.now
+          c.let_go-left.new.seat c.let_go-left.new.seat due refl refl,
     )
+
+pub returns-then-is_free_to_go-clause-freed : goal.returns-then-is_free_to_go-clause-freed
+returns-then-is_free_to_go-clause-freed g c =
+    let left = c.let_go-left.ensures.left in
+    let due : is_due (erases c.args.last) c.let_go-left.result ≡ true = cc in
+    let given = given_at c.args.pin.slot c.args.pin.name left.found (view c.args.seat.now)
+    (view c.let_go-left.new.seat) left.view in
+    freed_where_due g.T.Tag.fits (room_of c.args.table.now) (view c.args.seat.now)
+    (view c.let_go-left.new.seat) (view c.try_free.new.seat) given
+    (rw left.view refl)
+    (address_of_meta c.args.table.now c.args.pin.slot) c.args.seat.now c.let_go-left.new.seat
+    c.try_free.new.seat (erases c.args.last) c.let_go-left.result _ c.try_free.result due
+    (rw left.view refl)
+    (adds_one _ c.args.seat.now c.let_go-left.new.seat left.step.step) c.try_free.ensures.tried
+    c.try_free.ensures.freed

@@ -1,6 +1,11 @@
-use Rattle.std.proofs.Common.{◌≡◌, ◌+◌, ◌<◌, ◌≤◌, ap, sym, ◌∙◌, arith}
+use Rattle.std.proofs.Common.{◌≡◌, ◌+◌, ◌*◌, ◌<◌, ◌≤◌, ap, refl, sym, ◌∙◌, arith}
 use Rattle.hcc_table.specs.Efforts.{Took}
-use Rattle.hcc_table.proofs.Rises.{took_none, took_then, took_probes}
+use Rattle.hcc_rule.specs.declared.view.Atomic.{Atomic}
+use Rattle.hcc_rule.specs.Callers.{address_of_meta}
+use Rattle.hcc_rule.specs.Seats.{atomic, view}
+use Rattle.hcc_table.specs.Steps.{Adds}
+use Rattle.hcc_table.proofs.Logs.{adds_none, adds_one, adds_then, among_after, among_then, ends_after}
+use Rattle.hcc_table.proofs.Rises.{counted_probes, took_none, took_then, took_probes}
 use Rattle.hcc_rule.specs.Views.{record_in}
 use Rattle.hcc_rule.proofs.Probes.ProbeLaws.{some_slots}
 use Rattle.hcc_table.proofs.Finds.{begins, goes_on, ends, ends_all}
@@ -15,6 +20,8 @@ loop-probe-init g c =
           c.begin-walk.result
           c.args.seat.now told.probe told.stride (rw (← size) told.mask),
       took_none c.args.effort.now,
+      omega arith,
+      adds_none c.args.seat.now c.args.seat.now refl,
     )
 
 pub returns-then-count-eq0-clause-missed : goal.returns-then-count-eq0-clause-missed
@@ -38,6 +45,11 @@ loop-probe-preserved g c =
           c.hold.ensures.seat told.seat c.in_default.ensures.missed told.view told.held told.within
           c.next-walk.result next.probe next.stride next.mask,
       visited,
+      (let so_far = c.loop-probe.invariant.2 in let held = c.hold.ensures.steps in
+          let one = told.step.one in omega arith),
+      adds_then c.args.seat.now c.hold.new.seat c.count.new.seat
+          (adds_then c.args.seat.now c.loop-probe.seat c.hold.new.seat c.loop-probe.invariant.3
+          c.hold.ensures.adds) (adds_one _ c.hold.new.seat c.count.new.seat told.step.step),
     )
   where
     visited : Took 0 0 (c.loop-probe.probe + 1) c.args.effort.now c.hold.new.effort
@@ -59,7 +71,7 @@ pub mark_if-requires-clause-holds : goal.mark_if-requires-clause-holds
 mark_if-requires-clause-holds g c =
     let found = c.in-Some.ensures.found in
     found_stands g.T.Tag.fits c.args.table.now.geometry.room c.slot-slot.result c.args.name
-    c.args.key c.loop-probe.seat.me.0 c.hold.new.seat.me.0 found.0
+    c.args.key (view c.loop-probe.seat) (view c.hold.new.seat) found.0
     (ap (record_in c.args.name) c.loop-probe.invariant.0.sought.records ∙ c.requires.fresh) found.1
 
 pub returns-in-Some-clause-found : goal.returns-in-Some-clause-found
@@ -68,7 +80,8 @@ returns-in-Some-clause-found g c =
       found.0,
       found_then g.T.Tag.fits c.args.table.now.geometry.room c.slot-slot.result c.args.name
           c.args.key
-          c.args.seat.now.me.0 c.loop-probe.seat.me.0 c.hold.new.seat.me.0 c.mark_if.new.seat.me.0
+          (view c.args.seat.now) (view c.loop-probe.seat) (view c.hold.new.seat)
+          (view c.mark_if.new.seat)
           found.0 c.loop-probe.invariant.0.sought found.1 c.mark_if.ensures.view,
       found.2 ∙ sym c.counts.ensures,
     )
@@ -110,3 +123,75 @@ returns-clause-effort g c =
     took_probes slots i slots c.args.effort.now c.loop-probe.effort c.probes-2.new.self
     c.loop-probe.invariant.1 (rw (← size) counted.probes) counted.corrections counted.lost
     (omega arith) (omega arith) (omega arith)
+
+pub returns-in-Some-clause-steps : goal.returns-in-Some-clause-steps
+returns-in-Some-clause-steps g c =
+    let i = c.loop-probe.probe in
+    let size = c.geometry-slots.ensures in
+    let low : i < c.args.table.now.geometry.slots = rw (← size) c.loop-probe-test.true in
+    let so_far = c.loop-probe.invariant.2 in
+    let held = c.hold.ensures.steps in
+    let last = c.mark_if.ensures.steps in
+    record {
+      visited = i + 1;
+      within = omega arith;
+      counted = counted_probes (i + 1) (i + 1) c.args.effort.now c.hold.new.effort c.probes.new.self
+          (took_then i 1 (i + 1) c.args.effort.now c.loop-probe.effort c.hold.new.effort
+          c.loop-probe.invariant.1 c.hold.ensures.effort (omega arith)) c.probes.ensures.probes;
+      steps = omega arith;
+    }
+
+pub returns-then-count-eq0-clause-steps : goal.returns-then-count-eq0-clause-steps
+returns-then-count-eq0-clause-steps g c =
+    let i = c.loop-probe.probe in
+    let size = c.geometry-slots.ensures in
+    let low : i < c.args.table.now.geometry.slots = rw (← size) c.loop-probe-test.true in
+    let so_far = c.loop-probe.invariant.2 in
+    let held = c.hold.ensures.steps in
+    let last = c.count.ensures.step.one in
+    record {
+      visited = i + 1;
+      within = omega arith;
+      counted = counted_probes (i + 1) (i + 1) c.args.effort.now c.hold.new.effort
+          c.probes-then-count-eq0.new.self
+          (took_then i 1 (i + 1) c.args.effort.now c.loop-probe.effort c.hold.new.effort
+          c.loop-probe.invariant.1 c.hold.ensures.effort (omega arith))
+          c.probes-then-count-eq0.ensures.probes;
+      steps = omega arith;
+    }
+
+pub returns-clause-steps : goal.returns-clause-steps
+returns-clause-steps g c =
+    let i = c.loop-probe.probe in
+    let size = c.geometry-slots.ensures in
+    let slots = c.args.table.now.geometry.slots in
+    let most : i ≤ slots = rw (← size) c.loop-probe.auto.probe-end in
+    let so_far = c.loop-probe.invariant.2 in
+    record {
+      visited = slots;
+      within = omega arith;
+      counted = counted_probes slots i c.args.effort.now c.loop-probe.effort c.probes-2.new.self
+          c.loop-probe.invariant.1 (rw (← size) c.probes-2.ensures.probes);
+      steps = omega arith;
+    }
+
+pub returns-in-Some-clause-marked : goal.returns-in-Some-clause-marked
+returns-in-Some-clause-marked g c asked = (
+  c.in-Some.found,
+  λ unhit. let set = c.mark_if.ensures.marked asked unhit in (
+    set.0,
+    ends_after _ c.args.seat.now c.hold.new.seat c.mark_if.new.seat before set.1.step,
+  ),
+  λ hit. among_then got c.args.seat.now c.hold.new.seat c.mark_if.new.seat
+      (among_after got c.args.seat.now c.loop-probe.seat c.hold.new.seat c.loop-probe.invariant.3
+      c.in-Some.ensures.acquired)
+      (adds_none c.hold.new.seat c.mark_if.new.seat (c.mark_if.ensures.unmarked hit)),
+)
+  where
+    got : Atomic
+    got = atomic (address_of_meta c.args.table.now c.slot-slot.result) 1 0 c.in-Some.found
+
+    before : Adds c.args.seat.now c.hold.new.seat
+    before =
+        adds_then c.args.seat.now c.loop-probe.seat c.hold.new.seat c.loop-probe.invariant.3
+        c.hold.ensures.adds

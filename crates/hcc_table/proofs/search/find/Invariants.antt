@@ -1,4 +1,7 @@
+use Rattle.std.proofs.Common.{◌+◌, ◌*◌, ◌≤◌}
+use Rattle.hcc_rule.specs.Seats.{made}
 use Rattle.hcc_table.specs.Efforts.{Took}
+use Rattle.hcc_table.specs.Steps.{Adds}
 use Rattle.hcc_table.proofs.Finds.{IsSearching}
 use Rattle.hcc_table.proofs.search.find.Given as goal
 
@@ -6,3 +9,4 @@ abbrev pub invariant-loop-probe : goal.invariant-loop-probe
 invariant-loop-probe g l =
     IsSearching l.table.geometry.slots l.key l.probe l.walk l.fn.seat l.seat
     × Took 0 0 l.probe l.fn.effort l.effort
+    × (made l.seat ≤ made l.fn.seat + 7 * l.probe) × Adds l.fn.seat l.seat

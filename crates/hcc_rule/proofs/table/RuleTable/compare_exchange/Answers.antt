@@ -5,5 +5,6 @@ pub compare_exchange-requires : goal.compare_exchange-requires
 compare_exchange-requires g c = (
   c.requires.0,
   c.requires.1,
-  lifted g.T.Tag.fits c.args.self.now.table.shared.key (exchanged c.args.old c.args.new) loaded c.requires.2,
+  lifted g.T.Tag.fits c.args.self.now.table.shared.key (exchanged c.args.old c.args.new) loaded
+      c.requires.2,
 )
