@@ -1,0 +1,6 @@
+pub mod Sweepings
+pub mod Visitings
+pub mod Turnings
+pub mod Reservings
+pub mod Answered
+pub mod Guests

@@ -1,0 +1,5 @@
+pub mod Swept
+pub mod Evicted
+pub mod Settled
+pub mod Reserved
+pub mod Guests

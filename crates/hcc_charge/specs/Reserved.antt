@@ -1,0 +1,127 @@
+-- What a reservation leaves of a view, and why it evicted entries.
+use Rattle.std.specs.Prelude.{◌≡◌, ℕ, ◌+◌, ◌-◌, ◌*◌, ◌^◌, ◌/◌, min, max, ◌<◌, ◌≤◌, ◌&&◌, ◌||◌, Bool, true, false, nat_le, nat_lt, List, [], ◌∷◌, ◌++◌, Result, Ok, Err, if◌then◌else◌}
+use Rattle.std.specs.List.{list_any}
+use Rattle.hcc_core.specs.declared.client.Owned.TheVariants as owned
+use Rattle.hcc_core.specs.declared.client.Place.{Place}
+use Rattle.hcc_core.specs.declared.client.Place.TheVariants as places
+use Rattle.hcc_core.specs.Sums.{when}
+use Rattle.hcc_rule.specs.declared.view.View.{View}
+use Rattle.hcc_rule.specs.Views.{Each}
+use Rattle.hcc_table.specs.Efforts.{Rose}
+use Rattle.hcc_table.specs.Searched.{Grows}
+use Rattle.hcc_charge.specs.declared.reserving.Reservation.{Reservation}
+use Rattle.hcc_charge.specs.declared.reserving.Reservation.TheVariants.{Reserved, NoPlace}
+use Rattle.hcc_charge.specs.declared.reserving.Refused.{Refused}
+use Rattle.hcc_charge.specs.declared.reserving.Refused.TheVariants.{TooLarge, CapacityFull, OccupancyFull}
+use Rattle.hcc_charge.specs.declared.tally.Tally.{Tally}
+use Rattle.hcc_charge.specs.Evicted.{most_turns}
+
+-- How much is asked for.
+
+-- the charge doesn't fit beside this usage, and isn't more than all of it
+abbrev pub presses : (capacity charge used : ℕ) → Bool
+presses capacity charge used = nat_le charge used && nat_lt capacity (used + charge)
+
+-- a little more than the charge, where the usage is above the capacity already
+abbrev pub surplus : (capacity used charge : ℕ) → ℕ
+surplus capacity used charge =
+    if nat_lt capacity used then min (capacity / 1024) charge + 1 else 0
+
+abbrev pub ask_of : (capacity used charge : ℕ) → ℕ
+ask_of capacity used charge =
+    if presses capacity charge used then charge + surplus capacity used charge else 0
+
+-- what of the charge isn't granted under strict capacity
+abbrev pub still_needed : (capacity used charge : ℕ) → ℕ
+still_needed capacity used charge = charge - min charge (capacity - min used capacity)
+
+-- at least 1 where a place has to be freed
+abbrev pub at_least_one : Bool → ℕ → ℕ
+at_least_one full ask = if full then max ask 1 else ask
+
+-- Why entries are evicted: the shard was full, not all of the charge was granted at once, or it
+-- didn't fit beside a usage that was loaded.
+abbrev pub has_cause : (capacity charge opened : ℕ) → (short loads : List ℕ) → Bool
+has_cause capacity charge opened short loads =
+    nat_lt 0 opened || list_any (λ t. nat_le charge t && nat_le t charge) short
+    || list_any (presses capacity charge) loads
+
+module _ {T : Type 0} where
+  -- a place was asked for
+  abbrev pub entered : (full : Bool) → View T → View T
+  entered full v = record v {
+    work = record v.work { place = (if full then places.Open else places.Granted) };
+    open_places = v.open_places + when full 1;
+  }
+
+  -- with this place and this much granted, and all else settled
+  abbrev pub settled_as : Place → (granted : ℕ) → View T → View T
+  settled_as place granted v = record v {
+    work = record v.work {
+      place = place;
+      granted = granted;
+      needed = 0;
+      freed = 0;
+      freed_slots = 0;
+    };
+  }
+
+  -- A reservation was tried, and this place and this much charge are granted. Nothing is needed,
+  -- and what was freed is settled. It counts whether the shard was full (`opened`), which charges
+  -- weren't granted at once (`short`: none but this one), and which usages it loaded; it took
+  -- entries only for one of these, none of which was Shown with uses left. All else stays.
+  pub record Reserves (slots capacity charge : ℕ) (place : Place) (granted : ℕ)
+      (v w : View T) : Type 0 where
+    pub opened : ℕ
+    pub short : List ℕ
+    pub loads : List ℕ
+    pub taken : ℕ
+    pub turns : ℕ
+    pub same : w ≡ record v {
+      work = record v.work {
+        looked = w.work.looked;
+        owned = owned.Nothing;
+        trail = [];
+        place = place;
+        granted = granted;
+        needed = 0;
+        freed = 0;
+        freed_slots = 0;
+        dead = w.work.dead;
+      };
+      written = w.written;
+      takings = v.takings + taken;
+      open_places = v.open_places + opened;
+      turns = v.turns + turns;
+      seen = v.seen ++ loads;
+      tight = v.tight ++ short;
+    }
+    pub dead : Grows v.work.dead w.work.dead
+    pub own : Each (λ t. t ≡ charge) short
+    pub few : turns ≤ most_turns slots
+    pub cause : 0 < taken → has_cause capacity charge opened short loads ≡ true
+
+  -- The view after a reservation, by its answer.
+  abbrev pub ReservedBy : (slots capacity : ℕ) → (strict : Bool) → (charge : ℕ)
+      → Result Reservation Refused → View T → View T → Type 0
+  ReservedBy slots capacity strict charge (Ok Reserved) v w =
+      Reserves slots capacity charge places.Granted charge v w
+  ReservedBy slots capacity strict charge (Ok NoPlace) v w =
+      Reserves slots capacity charge places.Absent 0 v w × (strict ≡ false)
+      × (v.open_places < w.open_places)
+  ReservedBy slots capacity strict charge (Err TooLarge) v w =
+      (strict ≡ true) × (capacity < charge) × (w ≡ v)
+  ReservedBy slots capacity strict charge (Err CapacityFull) v w =
+      Reserves slots capacity charge places.Absent 0 v w × (strict ≡ true)
+      × (w.tight ≡ v.tight ++ charge ∷ [])
+  ReservedBy slots capacity strict charge (Err OccupancyFull) v w =
+      Reserves slots capacity charge places.Absent 0 v w × (strict ≡ true)
+      × (v.open_places < w.open_places)
+
+  -- The counts of a client's evictions rose with its view's: by its turns and its takings, of which
+  -- some had a hit bit, each with a charge below 2^32.
+  pub record RoseWith (v w : View T) (old new : Tally) : Type 0 where
+    pub turns : Rose (w.turns - v.turns) (w.turns - v.turns) old.turns new.turns
+    pub evicted : Rose (w.takings - v.takings) (w.takings - v.takings) old.evicted new.evicted
+    pub evicted_hit : Rose 0 (w.takings - v.takings) old.evicted_hit new.evicted_hit
+    pub freed : Rose 0 ((w.takings - v.takings) * 2 ^ 32) old.freed new.freed

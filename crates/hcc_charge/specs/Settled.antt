@@ -1,0 +1,56 @@
+-- What is left of a view once amounts and places were given back, and once a standalone entry was
+-- made or let go.
+use Rattle.std.specs.Prelude.{◌≡◌, ℕ, ◌+◌, nat_lt, [], ◌∷◌, ◌++◌, if◌then◌else◌}
+use Rattle.hcc_core.specs.declared.client.Place.{Place}
+use Rattle.hcc_core.specs.declared.client.Place.TheVariants as places
+use Rattle.hcc_core.specs.Ledgers.{is_standing, place_granted}
+use Rattle.hcc_core.specs.Outcomes.{dropped}
+use Rattle.hcc_rule.specs.declared.view.View.{View}
+
+-- the place that is left where so many slots were freed
+abbrev pub left_place : (slots : ℕ) → Place → Place
+left_place slots place = if nat_lt 0 slots then place_granted place else place
+
+module _ {T : Type 0} where
+  -- nothing is needed, and nothing was freed that isn't settled
+  abbrev pub HasFreedNothing : View T → Type 0
+  HasFreedNothing v = (v.work.needed ≡ 0) × (v.work.freed ≡ 0) × (v.work.freed_slots ≡ 0)
+
+  -- freed slots were given back
+  abbrev pub placed_anew : View T → View T
+  placed_anew v = record v {
+    work = record v.work {
+      freed_slots = 0;
+      place = left_place v.work.freed_slots v.work.place;
+    };
+  }
+
+  -- freed charge was given back, and covers what was needed
+  abbrev pub paid : View T → View T
+  paid v = record v {
+    work = record v.work { granted = v.work.granted + v.work.needed; needed = 0; freed = 0 };
+  }
+
+  -- both
+  abbrev pub settled : View T → View T
+  settled v = paid (placed_anew v)
+
+  -- the place was given up, and this much is granted still
+  abbrev pub without_place : (granted : ℕ) → View T → View T
+  without_place granted v =
+      record v { work = record v.work { place = places.Absent; granted = granted } }
+
+  -- a standalone entry was made of what was granted
+  abbrev pub stood : (name charge : ℕ) → View T → View T
+  stood name charge v = record v {
+    work = record v.work {
+      granted = 0;
+      standalones = v.work.standalones ++ record { name = name; charge = charge } ∷ [];
+    };
+  }
+
+  -- a standalone entry was let go
+  abbrev pub fallen : (name : ℕ) → View T → View T
+  fallen name v = record v {
+    work = record v.work { standalones = dropped (is_standing name) v.work.standalones };
+  }
