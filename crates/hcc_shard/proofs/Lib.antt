@@ -1,0 +1,4 @@
+pub mod Names
+pub mod Seatings
+pub mod Resting
+pub mod Settlings

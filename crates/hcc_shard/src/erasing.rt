@@ -1,0 +1,58 @@
+//! Erasures.
+ghost use Rattle.std.specs.Prelude.{◌*◌, ◌+◌};
+ghost use Rattle.hcc_rule.specs.Callers.{slots_of};
+ghost use Rattle.hcc_rule.specs.Seats.{view};
+ghost use Rattle.hcc_table.specs.Efforts.{Took};
+ghost use Rattle.hcc_table.specs.Searched.{AllDead};
+ghost use Rattle.hcc_table.specs.Steps.{MakesFor, freeing};
+ghost use Rattle.hcc_shard.specs.Counted.{SameEvictions};
+ghost use Rattle.hcc_shard.specs.Referred.{IsErasedAll};
+ghost use Rattle.hcc_shard.specs.Seated.{Rests};
+
+use crate::seat::ShardSeat;
+use crate::shard::Shard;
+use hcc_charge::settle;
+use hcc_rule::{Key, Tag};
+use hcc_table::hide;
+use std::alloc::Allocator;
+
+/// The name of references that no call keeps: no serial is so high.
+pub const IN_FLIGHT: u64 = u64::MAX;
+
+impl<T: Tag, A: Allocator> Shard<T, A> {
+    /// Hides each visible entry of the key: look-ups find none of them from then on. Those that
+    /// nobody else holds are freed, where the one exchange for it wins. The answer is how many were
+    /// hidden.
+    ///
+    /// Each entry of the key that the client holds has been seen dead afterwards. It takes no
+    /// memory. Each probe costs what it costs a look-up; each match an atomic and, an exchange
+    /// where nobody else holds the entry, and the freeing where that wins, else a take. Two takes
+    /// follow where any was freed.
+    pub fn erase(&self, seat: &mut ShardSeat<T>, key: Key) -> u32
+        requires seat { Rests self.now seat.old }
+        ensures seat { Rests self.now seat.new }
+        ensures view { IsErasedAll key result (view seat.old.seat) (view seat.new.seat) }
+        ensures dead { AllDead key (view seat.old.seat) (view seat.new.seat) }
+        ensures effort { Took 1 (slots_of self.now.table) (2 * slots_of self.now.table)
+            seat.old.effort seat.new.effort }
+        ensures counts { SameEvictions seat.old seat.new }
+        ensures steps { MakesFor (freeing (slots_of self.now.table) + 9) 2
+            (slots_of self.now.table) seat.old.effort seat.new.effort
+            seat.old.seat seat.new.seat }
+    {
+        let erased = hide(
+            &self.table,
+            &mut seat.seat,
+            key,
+            IN_FLIGHT,
+            &mut seat.effort,
+        );
+        settle(
+            &self.table,
+            &mut seat.seat,
+            erased.slots as u64,
+            erased.charge,
+        );
+        erased.hidden
+    }
+}

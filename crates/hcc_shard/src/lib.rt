@@ -1,0 +1,13 @@
+//! The calls of the cache on one shard: each by one seat of one client, which begins and ends with
+//! nothing in hand but its references and its standalone entries.
+#![tactic(auto)]
+
+mod erasing;
+mod reading;
+mod referring;
+mod seat;
+mod shard;
+mod totals;
+
+pub use seat::{ShardSeat, Stats};
+pub use shard::Shard;

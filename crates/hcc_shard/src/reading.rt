@@ -1,0 +1,123 @@
+//! What a client reads of slots and of the entries that it holds.
+ghost use Rattle.std.specs.Prelude.{◌≡◌, ◌+◌, ◌≤◌, ◌++◌, IfSome, length, drop};
+ghost use Rattle.hcc_core.specs.World.{limit_of};
+ghost use Rattle.hcc_rule.specs.declared.layout.TheConstants.{KEY1};
+ghost use Rattle.hcc_rule.specs.Callers.{clients_of, plan_of, slots_of, IsSlotOf};
+ghost use Rattle.hcc_rule.specs.Rule.{setup_of};
+ghost use Rattle.hcc_rule.specs.Seats.{view};
+ghost use Rattle.hcc_rule.specs.Told.{after_look, Alone, Backs};
+ghost use Rattle.hcc_rule.specs.ToldOwners.{after_read};
+ghost use Rattle.hcc_rule.specs.ToldTrails.{passed_held};
+ghost use Rattle.hcc_rule.specs.Views.{different, record_in};
+ghost use Rattle.hcc_rule.specs.Words.{key_of, words_for};
+ghost use Rattle.hcc_table.specs.Pins.{IsPinned};
+ghost use Rattle.hcc_table.specs.Steps.{MakesAtMost};
+ghost use Rattle.hcc_shard.specs.Counted.{SameCounts};
+ghost use Rattle.hcc_shard.specs.Seated.{Rests};
+
+use crate::seat::ShardSeat;
+use crate::shard::Shard;
+use hcc_rule::{Key, Tag};
+use hcc_table::{Pin, displacement, read_bytes, read_key, read_len, word};
+use std::alloc::Allocator;
+
+impl<T: Tag, A: Allocator> Shard<T, A> {
+    /// The meta word of a slot, whose fields `hcc_word` reads.
+    ///
+    /// Where the client holds references on the slot, the word is that of an entry with at least
+    /// these; in a shard of one client, with just these. It refuses nothing and takes no memory. It
+    /// costs one load.
+    pub fn word(&self, seat: &mut ShardSeat<T>, slot: u32) -> u64
+        requires seat { Rests self.now seat.old }
+        requires slot { IsSlotOf self.now.table slot }
+        ensures seat { Rests self.now seat.new }
+        ensures view { view seat.new.seat ≡ after_look slot result (view seat.old.seat) }
+        ensures backs { Backs slot result (view seat.old.seat) }
+        ensures alone { Alone (setup_of (plan_of self.now.table)) slot result (view seat.old.seat) }
+        ensures counts { SameCounts seat.old seat.new }
+        ensures steps { MakesAtMost 1 seat.old.seat seat.new.seat }
+    {
+        word(&self.table, &mut seat.seat, slot)
+    }
+
+    /// How often a slot stands in the trails of entries and of clients.
+    ///
+    /// It is at least the number of entries that the client holds, each once, whose trail has the
+    /// slot. In a shard of one client the others are those that it made and did not take: so it is
+    /// exact where the client holds all of these. It refuses nothing and takes no memory. It costs
+    /// one load.
+    pub fn displacement(&self, seat: &mut ShardSeat<T>, slot: u32) -> u64
+        requires seat { Rests self.now seat.old }
+        requires slot { IsSlotOf self.now.table slot }
+        ensures seat { Rests self.now seat.new }
+        ensures view { view seat.new.seat ≡ view seat.old.seat }
+        ensures entries { passed_held (slots_of self.now.table) slot (view seat.old.seat).records
+            ≤ result }
+        ensures alone { clients_of self.now.table ≡ 1
+            → result + (view seat.old.seat).takings
+            + length (different (view seat.old.seat).records)
+            ≤ passed_held (slots_of self.now.table) slot (view seat.old.seat).records
+            + length (view seat.old.seat).made }
+        ensures counts { SameCounts seat.old seat.new }
+        ensures steps { MakesAtMost 1 seat.old.seat seat.new.seat }
+    {
+        displacement(&self.table, &mut seat.seat, slot)
+    }
+
+    /// The key of the entry of a pin that the client holds.
+    ///
+    /// It refuses nothing and takes no memory. It costs two loads.
+    pub fn key(&self, seat: &mut ShardSeat<T>, pin: Pin) -> Key
+        requires seat { Rests self.now seat.old }
+        requires slot { IsSlotOf self.now.table pin.slot }
+        requires holds { IsPinned pin (view seat.old.seat) }
+        ensures seat { Rests self.now seat.new }
+        ensures view { view seat.new.seat ≡ after_read pin.name KEY1 (view seat.old.seat) }
+        ensures exact { IfSome (record_in pin.name (view seat.old.seat).records)
+            (λ r. result ≡ key_of r.entry) }
+        ensures counts { SameCounts seat.old seat.new }
+        ensures steps { MakesAtMost 2 seat.old.seat seat.new.seat }
+    {
+        read_key(&self.table, &mut seat.seat, pin)
+    }
+
+    /// How many bytes the value has of the entry of a pin that the client holds.
+    ///
+    /// It refuses nothing and takes no memory. It costs one load.
+    pub fn value_len(&self, seat: &mut ShardSeat<T>, pin: Pin) -> usize
+        requires seat { Rests self.now seat.old }
+        requires slot { IsSlotOf self.now.table pin.slot }
+        requires holds { IsPinned pin (view seat.old.seat) }
+        ensures seat { Rests self.now seat.new }
+        ensures view { view seat.new.seat ≡ view seat.old.seat }
+        ensures exact { IfSome (record_in pin.name (view seat.old.seat).records)
+            (λ r. result ≡ length r.entry.value) }
+        ensures counts { SameCounts seat.old seat.new }
+        ensures steps { MakesAtMost 1 seat.old.seat seat.new.seat }
+    {
+        read_len(&self.table, &mut seat.seat, pin)
+    }
+
+    /// Copies the value of the entry of a pin that the client holds to the front of a buffer, which
+    /// has room for it. The answer is how many bytes it has. The rest of the buffer stays.
+    ///
+    /// It refuses nothing and takes no memory. It costs a load for the length, and one for each
+    /// eight bytes, the last ones too.
+    pub fn read_value(&self, seat: &mut ShardSeat<T>, pin: Pin, buffer: &mut [u8]) -> usize
+        requires seat { Rests self.now seat.old }
+        requires slot { IsSlotOf self.now.table pin.slot }
+        requires holds { IsPinned pin (view seat.old.seat) }
+        requires space { IfSome (record_in pin.name (view seat.old.seat).records)
+            (λ r. length r.entry.value ≤ length buffer.old) }
+        ensures seat { Rests self.now seat.new }
+        ensures view { view seat.new.seat ≡ view seat.old.seat }
+        ensures length { IfSome (record_in pin.name (view seat.old.seat).records)
+            (λ r. result ≡ length r.entry.value) }
+        ensures bytes { IfSome (record_in pin.name (view seat.old.seat).records)
+            (λ r. buffer.new ≡ r.entry.value ++ drop (length r.entry.value) buffer.old) }
+        ensures counts { SameCounts seat.old seat.new }
+        ensures steps { MakesAtMost (words_for result + 1) seat.old.seat seat.new.seat }
+    {
+        read_bytes(&self.table, &mut seat.seat, pin, buffer)
+    }
+}

@@ -1,0 +1,145 @@
+//! Look-ups, and references that are given back.
+ghost use Rattle.std.specs.Prelude.{◌≡◌, ◌+◌, ◌<◌, ◌++◌, ◌∷◌, [], Some, IfSome, IfNone, length};
+ghost use Rattle.std.specs.List.{find};
+ghost use Rattle.hcc_core.specs.declared.limits.TheConstants.{MOST_HANDLES};
+ghost use Rattle.hcc_core.specs.Ledgers.{is_standing};
+ghost use Rattle.hcc_rule.specs.declared.view.Record.{Record};
+ghost use Rattle.hcc_rule.specs.Callers.{room_of, slots_of, IsSlotOf};
+ghost use Rattle.hcc_rule.specs.Seats.{view};
+ghost use Rattle.hcc_rule.specs.Views.{record_in};
+ghost use Rattle.hcc_table.specs.Efforts.{Lost, Took};
+ghost use Rattle.hcc_table.specs.Pins.{IsOf, IsPinned, erases};
+ghost use Rattle.hcc_table.specs.Searched.{IsFound, IsMissed, Searched};
+ghost use Rattle.hcc_table.specs.Steps.{MakesAtMost, MakesFor, freeing};
+ghost use Rattle.hcc_charge.specs.Settled.{fallen};
+ghost use Rattle.hcc_shard.specs.Counted.{SameCounts, SameEvictions};
+ghost use Rattle.hcc_shard.specs.Referred.{IsReleased};
+ghost use Rattle.hcc_shard.specs.Seated.{IsNext, Rests};
+
+use crate::seat::ShardSeat;
+use crate::shard::Shard;
+use hcc_charge::{settle, standalone_out};
+use hcc_rule::{Key, Tag};
+use hcc_table::{IfLast, Pin, Use, again, find, release};
+use std::alloc::Allocator;
+
+impl<T: Tag, A: Allocator> Shard<T, A> {
+    /// Looks for a visible entry of the key, and gives a reference on it, named by the serial that
+    /// the call is handed: it is above the names that the client has, which holds fewer than 16,384
+    /// references.
+    ///
+    /// Where it finds one, the client has one record more, behind its others: of an entry of this
+    /// key, with a value that fits it, which the client hadn't seen dead. Where it finds none, it
+    /// holds what it held, and has seen dead each entry of the key that it holds.
+    ///
+    /// It takes no memory. Each probe costs a load and one of the displacement word, and where the
+    /// slot is visible an add, a load of each half of the key that is compared, and a take. A hit
+    /// at the first probe is one load, one add and two loads.
+    #[inline(always)]
+    pub fn lookup(&self, seat: &mut ShardSeat<T>, key: Key, serial: u64) -> Option<Pin>
+        requires seat { Rests self.now seat.old }
+        requires serial { IsNext serial (view seat.old.seat) }
+        requires few { length (view seat.old.seat).records < MOST_HANDLES }
+        ensures seat { Rests self.now seat.new }
+        ensures pin { IfSome result (λ pin. IsSlotOf self.now.table pin.slot
+            × (pin.name ≡ serial)) }
+        ensures found { IfSome result (λ pin. (r : Record)
+            × IsFound T.fits (room_of self.now.table) pin.slot serial key
+            (view seat.old.seat) (view seat.new.seat) r
+            × IsOf pin r) }
+        ensures missed { IfNone result (IsMissed key (view seat.old.seat) (view seat.new.seat)) }
+        ensures effort { Took 1 (slots_of self.now.table) (slots_of self.now.table)
+            seat.old.effort seat.new.effort }
+        ensures counts { SameEvictions seat.old seat.new }
+        ensures steps { MakesFor 7 0 (slots_of self.now.table) seat.old.effort seat.new.effort
+            seat.old.seat seat.new.seat }
+    {
+        find(
+            &self.table,
+            &mut seat.seat,
+            key,
+            serial,
+            self.marks,
+            &mut seat.effort,
+        )
+    }
+
+    /// One reference more on the entry of a pin that the client holds, named by the serial that the
+    /// call is handed: it is above the names that the client has, which holds fewer than 16,384
+    /// references. The answer is the pin of it.
+    ///
+    /// The record of it is behind the client's others, on the very same entry. It takes no memory.
+    /// It costs one atomic add, and an exchange where the reference doesn't count.
+    pub fn reref(&self, seat: &mut ShardSeat<T>, pin: Pin, serial: u64) -> Pin
+        requires seat { Rests self.now seat.old }
+        requires slot { IsSlotOf self.now.table pin.slot }
+        requires holds { IsPinned pin (view seat.old.seat) }
+        requires serial { IsNext serial (view seat.old.seat) }
+        requires few { length (view seat.old.seat).records < MOST_HANDLES }
+        ensures seat { Rests self.now seat.new }
+        ensures view { Searched (view seat.old.seat) (view seat.new.seat) }
+        ensures pin { (result.slot ≡ pin.slot) × (result.name ≡ serial) }
+        ensures record { (r : Record)
+            × ((view seat.new.seat).records ≡ (view seat.old.seat).records ++ r ∷ [])
+            × IsOf result r × (r.name ≡ serial)
+            × IfSome (record_in pin.name (view seat.old.seat).records) (λ q. r.entry ≡ q.entry) }
+        ensures effort { Took 0 0 1 seat.old.effort seat.new.effort }
+        ensures counts { SameEvictions seat.old seat.new }
+        ensures steps { MakesAtMost 2 seat.old.seat seat.new.seat }
+    {
+        again(&self.table, &mut seat.seat, pin, serial, &mut seat.effort)
+    }
+
+    /// Gives the reference of a pin that the client holds back: as a use, where it is useful and
+    /// counts. Where no reference is left then, and the entry is hidden or `last` asks for it,
+    /// taking the entry is tried once, and it is freed. The answer says whether this call freed an
+    /// entry.
+    ///
+    /// The record of the pin is gone afterwards, and no other. It takes no memory. It costs one
+    /// atomic add or take; where nobody holds the entry and it may go an exchange, and where that
+    /// wins what freeing the slot costs and two takes.
+    #[inline(always)]
+    pub fn release(&self, seat: &mut ShardSeat<T>, pin: Pin, usage: Use, last: IfLast) -> bool
+        requires seat { Rests self.now seat.old }
+        requires slot { IsSlotOf self.now.table pin.slot }
+        requires holds { IsPinned pin (view seat.old.seat) }
+        ensures seat { Rests self.now seat.new }
+        ensures view { IsReleased pin.name (erases last) result
+            (view seat.old.seat) (view seat.new.seat) }
+        ensures effort { Lost 0 1 seat.old.effort seat.new.effort }
+        ensures counts { SameEvictions seat.old seat.new }
+        ensures steps { MakesAtMost (freeing (slots_of self.now.table) + 3)
+            seat.old.seat seat.new.seat }
+    {
+        match release(
+            &self.table,
+            &mut seat.seat,
+            pin,
+            usage,
+            last,
+            &mut seat.effort,
+        ) {
+            Some(charge) => {
+                settle(&self.table, &mut seat.seat, 1, charge);
+                true
+            }
+            None => false,
+        }
+    }
+
+    /// Lets go of a standalone entry of the client, whose charge this is: its last reference is
+    /// gone.
+    ///
+    /// It takes no memory. It costs two atomic subtractions.
+    pub fn release_standalone(&self, seat: &mut ShardSeat<T>, name: u64, charge: u32)
+        requires seat { Rests self.now seat.old }
+        requires stands { find (is_standing name) (view seat.old.seat).work.standalones
+            ≡ Some (record { name = name; charge = charge }) }
+        ensures seat { Rests self.now seat.new }
+        ensures view { view seat.new.seat ≡ fallen name (view seat.old.seat) }
+        ensures counts { SameCounts seat.old seat.new }
+        ensures steps { MakesAtMost 2 seat.old.seat seat.new.seat }
+    {
+        standalone_out(&self.table, &mut seat.seat, name, charge);
+    }
+}

@@ -1,0 +1,59 @@
+//! Totals of a shard.
+ghost use Rattle.std.specs.Prelude.{◌≡◌, ◌+◌, ◌<◌, ◌≤◌, ◌^◌, true, ℕ, length};
+ghost use Rattle.hcc_core.specs.World.{standing_of};
+ghost use Rattle.hcc_rule.specs.Callers.{capacity_of, clients_of, is_strict};
+ghost use Rattle.hcc_rule.specs.Seats.{view};
+ghost use Rattle.hcc_rule.specs.ToldLedgers.{after_usage};
+ghost use Rattle.hcc_rule.specs.Views.{charge_held, different};
+ghost use Rattle.hcc_table.specs.Steps.{MakesAtMost};
+ghost use Rattle.hcc_shard.specs.Counted.{SameCounts};
+ghost use Rattle.hcc_shard.specs.Seated.{Rests};
+
+use crate::seat::ShardSeat;
+use crate::shard::Shard;
+use hcc_rule::Tag;
+use std::alloc::Allocator;
+
+impl<T: Tag, A: Allocator> Shard<T, A> {
+    /// How many entries the shard has, with the places and the freed slots that other clients have
+    /// in hand: at least the entries that the client holds, each once. In a shard of one client it
+    /// is exact: those that it made, less those that it took.
+    ///
+    /// It refuses nothing and takes no memory. It costs one load.
+    pub fn occupancy(&self, seat: &mut ShardSeat<T>) -> u64
+        requires seat { Rests self.now seat.old }
+        ensures seat { Rests self.now seat.new }
+        ensures view { view seat.new.seat ≡ view seat.old.seat }
+        ensures entries { length (different (view seat.old.seat).records) ≤ result }
+        ensures alone { clients_of self.now.table ≡ 1
+            → result + (view seat.old.seat).takings ≡ length (view seat.old.seat).made }
+        ensures counts { SameCounts seat.old seat.new }
+        ensures steps { MakesAtMost 1 seat.old.seat seat.new.seat }
+    {
+        self.table.occupancy(&mut seat.seat)
+    }
+
+    /// What is charged in the shard: at most its capacity, where that is strict. It is at least the
+    /// charges of the entries that the client holds, each once, and of its standalone entries. The
+    /// usage that was loaded joins the client's seen list.
+    ///
+    /// It refuses nothing and takes no memory. It costs one load.
+    pub fn usage(&self, seat: &mut ShardSeat<T>) -> u64
+        requires seat { Rests self.now seat.old }
+        ensures seat { Rests self.now seat.new }
+        ensures view { (used : ℕ) × (view seat.new.seat ≡ after_usage used (view seat.old.seat)) }
+        ensures entries { standing_of (view seat.old.seat).work
+            + charge_held (view seat.old.seat).records ≤ result }
+        ensures strict { is_strict self.now.table ≡ true → result ≤ capacity_of self.now.table }
+        ensures low { result < 2 ^ 60 }
+        ensures counts { SameCounts seat.old seat.new }
+        ensures steps { MakesAtMost 1 seat.old.seat seat.new.seat }
+    {
+        let used = self.table.usage(&mut seat.seat);
+        if self.table.strict() {
+            used.min(self.table.capacity())
+        } else {
+            used
+        }
+    }
+}
