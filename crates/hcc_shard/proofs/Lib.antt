@@ -2,3 +2,5 @@ pub mod Names
 pub mod Seatings
 pub mod Resting
 pub mod Settlings
+pub mod Pins
+pub mod Insertions

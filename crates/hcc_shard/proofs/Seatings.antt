@@ -41,7 +41,10 @@ module _ {T A : Type 0} where
   new_more : (shard : Shard T A) (first : ℕ) (named : List (ShardSeat T)) (next : ShardSeat T)
       → AreNew shard first named → IsNew shard (first + length named) next
       → AreNew shard first (named ++ next ∷ [])
-  new_more shard first [] next h is = (let same : first + 0 ≡ first = omega arith in rw same at is, tt)
+  new_more shard first [] next h is = (
+    (let same : first + 0 ≡ first = omega arith in rw same at is),
+    tt,
+  )
   new_more shard first (seat ∷ seats) next h is = (
     h.0,
     new_more shard (first + 1) seats next h.1

@@ -24,8 +24,8 @@ module _ {T : Type 0} where
     pub few : warm ≤ when freed 1
     pub cold : erase ≡ false → warm ≡ 0
 
-  -- So many visible entries of the key were hidden, and it holds what it held. It freed no more than
-  -- it met of the key, none with uses left.
+  -- So many visible entries of the key were hidden, and the client holds what it held. It freed no
+  -- more entries than it met of the key, none with uses left.
   pub record IsErasedAll (key : Key) (hidden : ℕ) (v w : View T) : Type 0 where
     pub freed : ℕ
     pub met : List Key

@@ -3,11 +3,13 @@
 #![tactic(auto)]
 
 mod erasing;
+mod inserting;
 mod reading;
 mod referring;
 mod seat;
 mod shard;
 mod totals;
 
+pub use inserting::{Inserted, Pinned};
 pub use seat::{ShardSeat, Stats};
 pub use shard::Shard;

@@ -1,17 +1,21 @@
 //! Totals of a shard.
-ghost use Rattle.std.specs.Prelude.{◌≡◌, ◌+◌, ◌<◌, ◌≤◌, ◌^◌, true, ℕ, length};
+ghost use Rattle.std.specs.Prelude.{◌≡◌, ◌+◌, ◌*◌, ◌<◌, ◌≤◌, ◌^◌, true, ℕ, length};
 ghost use Rattle.hcc_core.specs.World.{standing_of};
-ghost use Rattle.hcc_rule.specs.Callers.{capacity_of, clients_of, is_strict};
+ghost use Rattle.hcc_rule.specs.Callers.{capacity_of, clients_of, is_strict, slots_of};
 ghost use Rattle.hcc_rule.specs.Seats.{view};
 ghost use Rattle.hcc_rule.specs.ToldLedgers.{after_usage};
 ghost use Rattle.hcc_rule.specs.Views.{charge_held, different};
+ghost use Rattle.hcc_table.specs.Efforts.{Took};
+ghost use Rattle.hcc_table.specs.Searched.{Sought};
 ghost use Rattle.hcc_table.specs.Steps.{MakesAtMost};
-ghost use Rattle.hcc_shard.specs.Counted.{SameCounts};
+ghost use Rattle.hcc_shard.specs.Counted.{SameCounts, SameEvictions};
 ghost use Rattle.hcc_shard.specs.Seated.{Rests};
 
+use crate::erasing::IN_FLIGHT;
 use crate::seat::ShardSeat;
 use crate::shard::Shard;
 use hcc_rule::Tag;
+use hcc_table::pinned_charge;
 use std::alloc::Allocator;
 
 impl<T: Tag, A: Allocator> Shard<T, A> {
@@ -55,5 +59,39 @@ impl<T: Tag, A: Allocator> Shard<T, A> {
         } else {
             used
         }
+    }
+
+    /// What is charged for entries that are held, and for standalone ones: slot by slot, where a
+    /// look and then an acquire find that the slot's entry is held. It is at least the charges of
+    /// the entries that the client holds, each once, and of its standalone entries; in a shard of
+    /// one client it is these.
+    ///
+    /// It refuses nothing and takes no memory. It costs a load, and one for each slot; where that
+    /// finds an entry held an add, a load and a take more, with an exchange where the reference
+    /// doesn't count.
+    pub fn pinned_usage(&self, seat: &mut ShardSeat<T>) -> u64
+        requires seat { Rests self.now seat.old }
+        ensures seat { Rests self.now seat.new }
+        ensures view { Sought (view seat.old.seat) (view seat.new.seat) }
+        ensures entries { standing_of (view seat.old.seat).work
+            + charge_held (view seat.old.seat).records ≤ result }
+        ensures alone { clients_of self.now.table ≡ 1
+            → result ≡ standing_of (view seat.old.seat).work
+            + charge_held (view seat.old.seat).records }
+        ensures effort { Took 0 0 (slots_of self.now.table) seat.old.effort seat.new.effort }
+        ensures counts { SameEvictions seat.old seat.new }
+        ensures steps { MakesAtMost (5 * slots_of self.now.table + 1) seat.old.seat seat.new.seat }
+    {
+        let mut sum = self.table.standing(&mut seat.seat);
+        for slot in 0..self.table.geometry().slots {
+            sum += pinned_charge(
+                &self.table,
+                &mut seat.seat,
+                slot,
+                IN_FLIGHT,
+                &mut seat.effort,
+            );
+        }
+        sum
     }
 }

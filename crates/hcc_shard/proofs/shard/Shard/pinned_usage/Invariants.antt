@@ -1,0 +1,7 @@
+use Rattle.hcc_rule.specs.Callers.{clients_of}
+use Rattle.hcc_shard.proofs.Pins.{IsPinning}
+use Rattle.hcc_shard.proofs.shard.Shard.pinned_usage.Given as goal
+
+abbrev pub invariant-loop-slot : goal.invariant-loop-slot
+invariant-loop-slot g l =
+    IsPinning (clients_of l.self.table) l.initial.sum l.slot l.sum l.fn.seat l.seat

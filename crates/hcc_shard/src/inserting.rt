@@ -1,0 +1,226 @@
+//! Insertions.
+ghost use Rattle.std.specs.Prelude.{◌≡◌, ◌+◌, ◌*◌, ◌<◌, false, true, None, Some, Err, [], length};
+ghost use Rattle.std.specs.List.{list_any};
+ghost use Rattle.hcc_core.specs.declared.client.Place.TheVariants.{Granted};
+ghost use Rattle.hcc_core.specs.declared.limits.TheConstants.{MOST_HANDLES};
+ghost use Rattle.hcc_core.specs.Ledgers.{is_standing};
+ghost use Rattle.hcc_rule.specs.Callers.{capacity_of, is_strict, plan_of, room_of, slots_of, IsSeatAt};
+ghost use Rattle.hcc_rule.specs.Seats.{IsSameSeat, view};
+ghost use Rattle.hcc_table.specs.Efforts.{Rose, Took};
+ghost use Rattle.hcc_table.specs.Inserted.{MayInsert};
+ghost use Rattle.hcc_table.specs.Steps.{MakesAtMost};
+ghost use Rattle.hcc_charge.specs.declared.reserving.Refused.TheVariants.{TooLarge};
+ghost use Rattle.hcc_charge.specs.Evicted.{most_turns};
+ghost use Rattle.hcc_charge.specs.Reserved.{RoseWith};
+ghost use Rattle.hcc_charge.specs.Settled.{HasFreedNothing, stood, without_place};
+ghost use Rattle.hcc_shard.specs.Inserted.{InsertedBy, IsInsertable, PinnedBy, PutBy, inserting};
+ghost use Rattle.hcc_shard.specs.Seated.{Rests};
+
+use crate::seat::ShardSeat;
+use crate::shard::Shard;
+use hcc_charge::{Refused, Reservation, give_up, keep_charge, reserve, standalone_in};
+use hcc_rule::{Draft, RuleSeat, RuleTable, Tag};
+use hcc_table::{Insertion, Pin, insert};
+use std::alloc::Allocator;
+
+/// What came of an insertion that keeps no reference.
+#[derive(Clone, Copy, Debug, PartialEq, Eq)]
+pub enum Inserted {
+    /// The entry is shown.
+    Placed,
+    /// It is as if it had been placed and evicted at once.
+    Dropped,
+}
+
+/// What came of an insertion that keeps a reference.
+#[derive(Clone, Copy, Debug, PartialEq, Eq)]
+pub enum Pinned {
+    /// The entry is shown, and this is the reference on it.
+    Placed { pin: Pin },
+    /// It is a standalone entry, named by its serial, whose value the caller keeps.
+    Standalone,
+}
+
+impl<T: Tag, A: Allocator> Shard<T, A> {
+    /// Inserts an entry and keeps no reference on it. A place and the charge are reserved first,
+    /// which may evict others; that is refused under strict capacity alone. Then it is put into the
+    /// first slot of its key that is empty.
+    ///
+    /// It is dropped only where the shard was full and no place was found, where an entry of the
+    /// key was met first, or where as many slots as the shard has were seen taken. A refusal leaves
+    /// the client what it held and made, with nothing in hand, and evictions stay made. TooLarge
+    /// makes no step.
+    ///
+    /// The draft has no name, and its serial is above those before. It takes no memory. It costs a
+    /// reservation, and where that is granted each probe of the key as a search does, a store for
+    /// each word of the entry, and two takes where it is dropped.
+    pub fn insert(
+        &self,
+        seat: &mut ShardSeat<T>,
+        draft: Draft,
+        value: &[u8],
+    ) -> Result<Inserted, Refused>
+        requires seat { Rests self.now seat.old }
+        requires may { IsInsertable T.fits (plan_of self.now.table) draft value.now
+            (view seat.old.seat) }
+        requires unnamed { draft.name ≡ None }
+        ensures seat { Rests self.now seat.new }
+        ensures view { InsertedBy (slots_of self.now.table) (capacity_of self.now.table)
+            (is_strict self.now.table) draft value.now result
+            (view seat.old.seat) (view seat.new.seat) }
+        ensures large { is_strict self.now.table ≡ true → capacity_of self.now.table < draft.charge
+            → result ≡ Err TooLarge }
+        ensures effort { Took 0 (slots_of self.now.table)
+            (4 * most_turns (slots_of self.now.table) + slots_of self.now.table)
+            seat.old.effort seat.new.effort }
+        ensures tally { RoseWith (view seat.old.seat) (view seat.new.seat)
+            seat.old.tally seat.new.tally }
+        ensures boosts { Rose 0 1 seat.old.boosts seat.new.boosts }
+        ensures steps { MakesAtMost (inserting (slots_of self.now.table) (room_of self.now.table))
+            seat.old.seat seat.new.seat }
+    {
+        let reserved = reserve(
+            &self.table,
+            &mut seat.seat,
+            draft.charge,
+            &mut seat.tally,
+            &mut seat.effort,
+        )?;
+        match reserved {
+            Reservation::Reserved => match self.put(seat, draft, value) {
+                Some(_) => Ok(Inserted::Placed),
+                None => {
+                    give_up(&self.table, &mut seat.seat, draft.charge);
+                    Ok(Inserted::Dropped)
+                }
+            },
+            Reservation::NoPlace => Ok(Inserted::Dropped),
+        }
+    }
+
+    /// Inserts an entry and keeps a reference on it, named by the draft's serial. Where it isn't
+    /// put into the table, for one of the reasons that `insert` has, it is a standalone entry of
+    /// that name: its charge is in the usage, and the caller keeps its value.
+    ///
+    /// The draft's name is its serial, which is above those before. The client holds fewer than
+    /// 16,384 references, and has fewer standalone entries. It takes no memory. It costs what
+    /// `insert` does, and where the entry stands alone one add more.
+    pub fn insert_pinned(
+        &self,
+        seat: &mut ShardSeat<T>,
+        draft: Draft,
+        value: &[u8],
+    ) -> Result<Pinned, Refused>
+        requires seat { Rests self.now seat.old }
+        requires may { IsInsertable T.fits (plan_of self.now.table) draft value.now
+            (view seat.old.seat) }
+        requires named { draft.name ≡ Some draft.serial }
+        requires few { length (view seat.old.seat).records < MOST_HANDLES }
+        requires alone { length (view seat.old.seat).work.standalones < MOST_HANDLES }
+        ensures seat { Rests self.now seat.new }
+        ensures view { PinnedBy (slots_of self.now.table) (capacity_of self.now.table)
+            (is_strict self.now.table) draft value.now result
+            (view seat.old.seat) (view seat.new.seat) }
+        ensures large { is_strict self.now.table ≡ true → capacity_of self.now.table < draft.charge
+            → result ≡ Err TooLarge }
+        ensures effort { Took 0 (slots_of self.now.table)
+            (4 * most_turns (slots_of self.now.table) + slots_of self.now.table)
+            seat.old.effort seat.new.effort }
+        ensures tally { RoseWith (view seat.old.seat) (view seat.new.seat)
+            seat.old.tally seat.new.tally }
+        ensures boosts { Rose 0 1 seat.old.boosts seat.new.boosts }
+        ensures steps { MakesAtMost (inserting (slots_of self.now.table) (room_of self.now.table))
+            seat.old.seat seat.new.seat }
+    {
+        let reserved = reserve(
+            &self.table,
+            &mut seat.seat,
+            draft.charge,
+            &mut seat.tally,
+            &mut seat.effort,
+        )?;
+        match reserved {
+            Reservation::Reserved => match self.put(seat, draft, value) {
+                Some(slot) => Ok(Pinned::Placed {
+                    pin: Pin {
+                        name: draft.serial,
+                        slot,
+                        counting: true,
+                    },
+                }),
+                None => {
+                    stand(&self.table, &mut seat.seat, draft.serial, draft.charge);
+                    Ok(Pinned::Standalone)
+                }
+            },
+            Reservation::NoPlace => {
+                standalone_in(
+                    &self.table,
+                    &mut seat.seat,
+                    draft.serial,
+                    draft.charge,
+                    false,
+                );
+                Ok(Pinned::Standalone)
+            }
+        }
+    }
+
+    /// Puts an entry into the table whose place and charge are granted. The answer is its slot;
+    /// where there is none, they are granted still.
+    fn put(&self, seat: &mut ShardSeat<T>, draft: Draft, value: &[u8]) -> Option<u32>
+        requires seat { IsSeatAt self.now.table seat.old.seat }
+        requires may { MayInsert T.fits (plan_of self.now.table) draft value.now seat.old.client
+            draft.serial (view seat.old.seat) }
+        requires trail { (view seat.old.seat).work.trail ≡ [] }
+        ensures seat { IsSameSeat seat.old.seat seat.new.seat }
+        ensures client { seat.new.client ≡ seat.old.client }
+        ensures view { PutBy (slots_of self.now.table) draft value.now result
+            (view seat.old.seat) (view seat.new.seat) }
+        ensures effort { Took 1 (slots_of self.now.table) (slots_of self.now.table)
+            seat.old.effort seat.new.effort }
+        ensures tally { seat.new.tally ≡ seat.old.tally }
+        ensures boosts { Rose 0 1 seat.old.boosts seat.new.boosts }
+        ensures steps { MakesAtMost (8 * slots_of self.now.table + room_of self.now.table)
+            seat.old.seat seat.new.seat }
+    {
+        let insertion = insert(
+            &self.table,
+            &mut seat.seat,
+            draft,
+            value,
+            seat.client,
+            draft.serial,
+            &mut seat.effort,
+        );
+        match insertion {
+            Insertion::Placed { slot } => Some(slot),
+            Insertion::Matched => {
+                seat.boosts = seat.boosts.saturating_add(1);
+                None
+            }
+            Insertion::NoSlot => None,
+        }
+    }
+}
+
+/// Makes a standalone entry of what was reserved, and gives the place up.
+fn stand<T: Tag, A: Allocator>(
+    table: &RuleTable<T, A>,
+    seat: &mut RuleSeat<T>,
+    name: u64,
+    charge: u32,
+)
+    requires seat { IsSeatAt table.now seat.old }
+    requires placed { (view seat.old).work.place ≡ Granted }
+    requires granted { (view seat.old).work.granted ≡ charge }
+    requires none { HasFreedNothing (view seat.old) }
+    requires fresh { list_any (is_standing name) (view seat.old).work.standalones ≡ false }
+    requires few { length (view seat.old).work.standalones < MOST_HANDLES }
+    ensures seat { IsSameSeat seat.old seat.new }
+    ensures view { view seat.new ≡ stood name charge (without_place charge (view seat.old)) }
+    ensures steps { MakesAtMost 3 seat.old seat.new }
+{
+    keep_charge(table, seat);
+    standalone_in(table, seat, name, charge, true);
+}
