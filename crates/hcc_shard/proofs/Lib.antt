@@ -4,3 +4,4 @@ pub mod Resting
 pub mod Settlings
 pub mod Pins
 pub mod Insertions
+pub mod Joinings

@@ -2,3 +2,4 @@ pub mod Seated
 pub mod Counted
 pub mod Referred
 pub mod Inserted
+pub mod Closed

@@ -2,6 +2,7 @@
 //! nothing in hand but its references and its standalone entries.
 #![tactic(auto)]
 
+mod closing;
 mod erasing;
 mod inserting;
 mod reading;
@@ -10,6 +11,7 @@ mod seat;
 mod shard;
 mod totals;
 
+pub use closing::ClosedShard;
 pub use inserting::{Inserted, Pinned};
 pub use seat::{ShardSeat, Stats};
 pub use shard::Shard;

@@ -54,14 +54,15 @@ impl<T: Tag, A: Allocator> Shard<T, A> {
         ensures steps { MakesFor 7 0 (slots_of self.now.table) seat.old.effort seat.new.effort
             seat.old.seat seat.new.seat }
     {
-        find(
+        let found = find(
             &self.table,
             &mut seat.seat,
             key,
             serial,
             self.marks,
             &mut seat.effort,
-        )
+        );
+        found
     }
 
     /// One reference more on the entry of a pin that the client holds, named by the serial that the

@@ -5,13 +5,13 @@ use Rattle.hcc_shard.proofs.Names.{load_is, not_held}
 use Rattle.hcc_shard.proofs.Resting.{quiet_looked, rests_again}
 use Rattle.hcc_shard.proofs.shard.Shard.lookup.Goals as goal
 
-pub find-requires-clause-fresh : goal.find-requires-clause-fresh
-find-requires-clause-fresh g c =
+pub find-found-requires-clause-fresh : goal.find-found-requires-clause-fresh
+find-found-requires-clause-fresh g c =
     not_held c.args.serial c.args.serial (omega arith) (view c.args.seat.now.seat).records
     c.requires.serial.records
 
-pub find-requires-clause-load : goal.find-requires-clause-load
-find-requires-clause-load g c =
+pub find-found-requires-clause-load : goal.find-found-requires-clause-load
+find-found-requires-clause-load g c =
     let load =
     load_is (geometry_of c.args.self.now.table) (view c.args.seat.now.seat).records
     c.requires.seat.quiet.kept in
@@ -20,8 +20,8 @@ find-requires-clause-load g c =
 
 pub returns-clause-seat : goal.returns-clause-seat
 returns-clause-seat g c =
-    rests_again _ c.args.seat.now _ c.requires.seat c.find.ensures.seat refl
+    rests_again _ c.args.seat.now _ c.requires.seat c.find-found.ensures.seat refl
     (quiet_looked (geometry_of c.args.self.now.table) (view c.args.seat.now.seat)
-    (view c.find.new.seat) c.requires.seat.quiet g.T.Tag.fits c.args.serial c.args.key c.find.result
-    c.find.ensures.pin c.find.ensures.found c.find.ensures.missed c.requires.serial.low
-    c.requires.few)
+    (view c.find-found.new.seat) c.requires.seat.quiet g.T.Tag.fits c.args.serial c.args.key
+    c.find-found.result c.find-found.ensures.pin c.find-found.ensures.found
+    c.find-found.ensures.missed c.requires.serial.low c.requires.few)
