@@ -87,9 +87,11 @@ module _ {T A : Type 0} where
   }
 
   -- All seats are back, and what the last one tells is told of all.
-  pub joins_all : (shard : Shard T A) (last : SeatOf T) (all : List (ShardSeat T))
-      → IsJoining shard last all [] → IsBack (clients_of shard.table) (view last)
-  joins_all shard last all s = record {
+  pub joins_all : (shard : Shard T A) (last : SeatOf T) (all left : List (ShardSeat T))
+      → length left ≡ 0 → IsJoining shard last all left
+      → IsBack (clients_of shard.table) (view last)
+  joins_all shard last all [] none s = record {
     idle = s.idle;
     all = let named = s.named in omega arith;
   }
+  joins_all shard last all (seat ∷ seats) none s = absurd (omega arith)

@@ -5,3 +5,4 @@ pub mod Settlings
 pub mod Pins
 pub mod Insertions
 pub mod Joinings
+pub mod Lefts

@@ -2,4 +2,5 @@ pub mod Seated
 pub mod Counted
 pub mod Referred
 pub mod Inserted
+pub mod Left
 pub mod Closed

@@ -3,6 +3,7 @@
 #![tactic(auto)]
 
 mod closing;
+mod entries;
 mod erasing;
 mod inserting;
 mod reading;
@@ -11,7 +12,7 @@ mod seat;
 mod shard;
 mod totals;
 
-pub use closing::ClosedShard;
+pub use entries::{ClosedEntry, ClosedShard};
 pub use inserting::{Inserted, Pinned};
 pub use seat::{ShardSeat, Stats};
 pub use shard::Shard;

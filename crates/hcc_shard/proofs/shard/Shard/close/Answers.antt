@@ -1,0 +1,20 @@
+use Rattle.std.proofs.Common.{◌≡◌, length, arith}
+use Rattle.hcc_rule.specs.Callers.{geometry_of, plan_of}
+use Rattle.hcc_rule.specs.Closing.{words_of}
+use Rattle.hcc_rule.specs.Seats.{view}
+use Rattle.hcc_shard.proofs.Joinings.{joins_all}
+use Rattle.hcc_shard.proofs.Lefts.{left_of}
+use Rattle.hcc_shard.proofs.shard.Shard.close.Goals as goal
+
+pub invariant_of-result : goal.invariant_of-result
+invariant_of-result g c =
+    let over = c.in-None.ensures.steps in
+    let rest = c.loop-seat.seat-iterator.rest in
+    let none : length rest.items ≡ 0 = omega (arith, over.0, rest.ok.0) in
+    let told =
+    left_of g.T.Tag.fits (plan_of c.args.self.table).tag (geometry_of c.args.self.table)
+    (words_of c.close.result) (view c.loop-seat.last)
+    (c.close.ensures.closes
+    (joins_all c.args.self c.loop-seat.last c.args.seats.items rest.items none
+    c.loop-seat.invariant)) in
+    record { left = rw c.close.ensures.size told }
