@@ -1,16 +1,16 @@
 //! Look-ups, and references that are given back.
-ghost use Rattle.std.specs.Prelude.{◌≡◌, ◌+◌, ◌<◌, ◌++◌, ◌∷◌, [], Some, IfSome, IfNone, length};
+ghost use Rattle.std.specs.Prelude.{◌≡◌, ◌+◌, ◌<◌, ◌++◌, ◌∷◌, [], true, Some, IfSome, IfNone, length};
 ghost use Rattle.std.specs.List.{find};
 ghost use Rattle.hcc_core.specs.declared.limits.TheConstants.{MOST_HANDLES};
 ghost use Rattle.hcc_core.specs.Ledgers.{is_standing};
 ghost use Rattle.hcc_rule.specs.declared.view.Record.{Record};
-ghost use Rattle.hcc_rule.specs.Callers.{room_of, slots_of, IsSlotOf};
+ghost use Rattle.hcc_rule.specs.Callers.{address_of_meta, room_of, slots_of, IsSlotOf};
 ghost use Rattle.hcc_rule.specs.Seats.{view};
 ghost use Rattle.hcc_rule.specs.Views.{record_in};
 ghost use Rattle.hcc_table.specs.Efforts.{Lost, Took};
 ghost use Rattle.hcc_table.specs.Pins.{IsOf, IsPinned, erases};
 ghost use Rattle.hcc_table.specs.Searched.{IsFound, IsMissed, Searched};
-ghost use Rattle.hcc_table.specs.Steps.{MakesAtMost, MakesFor, freeing};
+ghost use Rattle.hcc_table.specs.Steps.{MakesAtMost, MakesFor, Marks, freeing};
 ghost use Rattle.hcc_charge.specs.Settled.{fallen};
 ghost use Rattle.hcc_shard.specs.Counted.{SameCounts, SameEvictions};
 ghost use Rattle.hcc_shard.specs.Referred.{IsReleased};
@@ -30,7 +30,8 @@ impl<T: Tag, A: Allocator> Shard<T, A> {
     ///
     /// Where it finds one, the client has one record more, behind its others: of an entry of this
     /// key, with a value that fits it, which the client hadn't seen dead. Where it finds none, it
-    /// holds what it held, and has seen dead each entry of the key that it holds.
+    /// holds what it held, and has seen dead each entry of the key that it holds. In a shard that
+    /// marks, the entry that it finds has the hit bit then.
     ///
     /// It takes no memory. Each probe costs a load and one of the displacement word, and where the
     /// slot is visible an add, a load of each half of the key that is compared, and a take. A hit
@@ -48,6 +49,8 @@ impl<T: Tag, A: Allocator> Shard<T, A> {
             (view seat.old.seat) (view seat.new.seat) r
             × IsOf pin r) }
         ensures missed { IfNone result (IsMissed key (view seat.old.seat) (view seat.new.seat)) }
+        ensures marked { self.now.marks ≡ true → IfSome result (λ pin.
+            Marks (address_of_meta self.now.table pin.slot) seat.old.seat seat.new.seat) }
         ensures effort { Took 1 (slots_of self.now.table) (slots_of self.now.table)
             seat.old.effort seat.new.effort }
         ensures counts { SameEvictions seat.old seat.new }
