@@ -1,5 +1,5 @@
 //! What a client reads of slots and of the entries that it holds.
-ghost use Rattle.std.specs.Prelude.{◌≡◌, ◌+◌, ◌≤◌, ◌++◌, IfSome, length, drop};
+ghost use Rattle.std.specs.Prelude.{◌≡◌, ◌+◌, ◌-◌, ◌*◌, ◌≤◌, ◌++◌, IfSome, length, drop};
 ghost use Rattle.hcc_core.specs.World.{limit_of};
 ghost use Rattle.hcc_rule.specs.declared.layout.TheConstants.{KEY1};
 ghost use Rattle.hcc_rule.specs.Callers.{clients_of, plan_of, slots_of, IsSlotOf};
@@ -43,9 +43,10 @@ impl<T: Tag, A: Allocator> Shard<T, A> {
     /// How often a slot stands in the trails of entries and of clients.
     ///
     /// It is at least the number of entries that the client holds, each once, whose trail has the
-    /// slot. In a shard of one client the others are those that it made and did not take: so it is
-    /// exact where the client holds all of these. It refuses nothing and takes no memory. It costs
-    /// one load.
+    /// slot. Any other entry has the slot in its trail once at most, and any other client as often
+    /// as there are slots. In a shard of one client the others are those that it made and did not
+    /// take: so it is exact where the client holds all of these. It refuses nothing and takes no
+    /// memory. It costs one load.
     pub fn displacement(&self, seat: &mut ShardSeat<T>, slot: u32) -> u64
         requires seat { Rests self.now seat.old }
         requires slot { IsSlotOf self.now.table slot }
@@ -53,6 +54,10 @@ impl<T: Tag, A: Allocator> Shard<T, A> {
         ensures view { view seat.new.seat ≡ view seat.old.seat }
         ensures entries { passed_held (slots_of self.now.table) slot (view seat.old.seat).records
             ≤ result }
+        ensures most { result + length (different (view seat.old.seat).records)
+            ≤ passed_held (slots_of self.now.table) slot (view seat.old.seat).records
+            + limit_of (setup_of (plan_of self.now.table))
+            + slots_of self.now.table * (clients_of self.now.table - 1) }
         ensures alone { clients_of self.now.table ≡ 1
             → result + (view seat.old.seat).takings
             + length (different (view seat.old.seat).records)

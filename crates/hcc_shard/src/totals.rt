@@ -1,7 +1,8 @@
 //! Totals of a shard.
 ghost use Rattle.std.specs.Prelude.{◌≡◌, ◌+◌, ◌*◌, ◌<◌, ◌≤◌, ◌^◌, true, ℕ, length};
-ghost use Rattle.hcc_core.specs.World.{standing_of};
-ghost use Rattle.hcc_rule.specs.Callers.{capacity_of, clients_of, is_strict, slots_of};
+ghost use Rattle.hcc_core.specs.World.{limit_of, standing_of};
+ghost use Rattle.hcc_rule.specs.Callers.{capacity_of, clients_of, is_strict, plan_of, slots_of};
+ghost use Rattle.hcc_rule.specs.Rule.{setup_of};
 ghost use Rattle.hcc_rule.specs.Seats.{view};
 ghost use Rattle.hcc_rule.specs.ToldLedgers.{after_usage};
 ghost use Rattle.hcc_rule.specs.Views.{charge_held, different};
@@ -20,8 +21,9 @@ use std::alloc::Allocator;
 
 impl<T: Tag, A: Allocator> Shard<T, A> {
     /// How many entries the shard has, with the places and the freed slots that other clients have
-    /// in hand: at least the entries that the client holds, each once. In a shard of one client it
-    /// is exact: those that it made, less those that it took.
+    /// in hand: at least the entries that the client holds, each once, and at most the limit, with
+    /// an open place for each client. In a shard of one client it is exact: those that it made,
+    /// less those that it took.
     ///
     /// It refuses nothing and takes no memory. It costs one load.
     pub fn occupancy(&self, seat: &mut ShardSeat<T>) -> u64
@@ -29,6 +31,8 @@ impl<T: Tag, A: Allocator> Shard<T, A> {
         ensures seat { Rests self.now seat.new }
         ensures view { view seat.new.seat ≡ view seat.old.seat }
         ensures entries { length (different (view seat.old.seat).records) ≤ result }
+        ensures low { result ≤ limit_of (setup_of (plan_of self.now.table))
+            + clients_of self.now.table }
         ensures alone { clients_of self.now.table ≡ 1
             → result + (view seat.old.seat).takings ≡ length (view seat.old.seat).made }
         ensures counts { SameCounts seat.old seat.new }
