@@ -1,8 +1,12 @@
 //! Closing a shard.
 ghost use Rattle.std.specs.Prelude.{◌≡◌};
-ghost use Rattle.hcc_rule.specs.Callers.{geometry_of, plan_of};
+ghost use Rattle.hcc_rule.specs.Callers.{clients_of, geometry_of, plan_of};
 ghost use Rattle.hcc_rule.specs.Closing.{Closes, words_of};
-ghost use Rattle.hcc_shard.specs.Closed.{AreBack, together};
+ghost use Rattle.hcc_rule.specs.Opening.{joined_view};
+ghost use Rattle.hcc_rule.specs.Seats.{view};
+ghost use Rattle.hcc_rule.specs.Views.{named_by};
+ghost use Rattle.hcc_table.specs.Steps.{MakesAtMost};
+ghost use Rattle.hcc_shard.specs.Closed.{AreBack, HoldsNothing, together};
 
 use crate::entries::ClosedShard;
 use crate::seat::ShardSeat;
@@ -30,6 +34,35 @@ impl<T: Tag, A: Allocator> Shard<T, A> {
         }
         ClosedShard {
             table: self.table.close(last),
+        }
+    }
+
+    /// Joins another seat to a seat: the first names the clients of both from now on. Both are at
+    /// rest, and their clients hold nothing. The counts of the other's calls go.
+    ///
+    /// It refuses nothing and takes no memory. It costs a load.
+    pub fn join(&self, seat: &mut ShardSeat<T>, other: ShardSeat<T>)
+        requires seat { HoldsNothing self.now seat.old }
+        requires other { HoldsNothing self.now other }
+        ensures seat { HoldsNothing self.now seat.new }
+        ensures view { view seat.new.seat ≡ joined_view (view seat.old.seat) (view other.seat) }
+    {
+        self.table.join(&mut seat.seat, other.seat);
+    }
+
+    /// Ends the shard as `close` does, by the one seat to which those of all other clients were
+    /// joined.
+    ///
+    /// It refuses nothing and takes no memory. It costs nothing.
+    pub fn close_joined(self, last: ShardSeat<T>) -> ClosedShard<A>
+        requires back { HoldsNothing self last }
+        requires all { named_by (view last.seat) ≡ clients_of self.table }
+        ensures size { result.table.geometry ≡ geometry_of self.table }
+        ensures closes { Closes T.fits (plan_of self.table).tag (geometry_of self.table)
+            (words_of result.table) (view last.seat) }
+    {
+        ClosedShard {
+            table: self.table.close(last.seat),
         }
     }
 }

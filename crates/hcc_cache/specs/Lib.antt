@@ -1,0 +1,5 @@
+pub mod Configs
+pub mod Priorities
+pub mod Keys
+pub mod Clients
+pub mod Known

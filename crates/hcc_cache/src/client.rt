@@ -1,0 +1,60 @@
+//! A client: a seat at each shard, its serials, and what it keeps of its handles.
+ghost use Rattle.std.specs.Prelude.{◌≡◌, ◌↔◌, IsTrue};
+ghost use Rattle.hcc_cache.specs.Clients.{Holds, held_by};
+
+use crate::handle::Handle;
+use crate::holding::{Alone, Hold};
+use crate::seeded::Seeded;
+use hcc_shard::ShardSeat;
+use slab::Slab;
+
+/// One client of a cache. One thread works with it at a time; it may go from thread to thread.
+#[derive(Drop)]
+pub struct Client<T> {
+    pub(crate) number: u32,
+    /// How many handles it holds, and how many it may hold.
+    pub(crate) held: u32,
+    pub(crate) most: u32,
+    /// How many serials it used, and how many are left.
+    pub(crate) used: u64,
+    pub(crate) left: u64,
+    /// Its seat at each shard.
+    pub(crate) seats: Vec<ShardSeat<Seeded<T>>>,
+    /// What it keeps of its handles, by their places.
+    pub(crate) handles: Slab<Hold>,
+    /// Its standalone entries.
+    pub(crate) alone: Slab<Alone>,
+}
+
+impl<T> Client<T> {
+    /// Its number among the cache's clients, from 0. It costs a copy.
+    pub fn number(&self) -> u32
+        ensures { result ≡ self.now.number }
+    {
+        self.number
+    }
+
+    /// How many handles it holds. It costs a copy.
+    pub fn held(&self) -> u32
+        ensures { result ≡ held_by self.now }
+    {
+        self.held
+    }
+
+    /// How many serials it has left. It costs a copy.
+    pub fn serials_left(&self) -> u64
+        ensures { result ≡ self.now.left }
+    {
+        self.left
+    }
+
+    /// Whether it holds this handle. It costs a look at the handle's place.
+    pub fn holds(&self, handle: Handle) -> bool
+        ensures { IsTrue result ↔ Holds self.now handle }
+    {
+        match self.handles.get(handle.place) {
+            Some(hold) => handle.client == self.number && hold.serial == handle.serial,
+            None => false,
+        }
+    }
+}

@@ -1,0 +1,122 @@
+//! What a client keeps of its handles.
+ghost use Rattle.std.specs.Prelude.{◌≡◌, ◌+◌, ◌-◌, ◌<◌, ◌≤◌, ◌^◌, ◌↔◌, Some, None, IfOk, IsErrOf};
+ghost use Rattle.slab.specs.Slab.{get, slab_len, HasRoomFor, Updates};
+ghost use Rattle.hcc_cache.specs.Clients.{Holds, hold_of};
+
+use crate::client::Client;
+use crate::errors::LookupError;
+use crate::handle::Handle;
+use hcc_rule::Key;
+
+/// What a client keeps of a handle.
+#[derive(Clone, Copy, Debug, PartialEq, Eq)]
+pub(crate) struct Hold {
+    /// The handle's serial, which no other handle of the client had.
+    pub(crate) serial: u64,
+    /// The caller's key.
+    pub(crate) key: Key,
+    /// The number of the entry's shard.
+    pub(crate) shard: usize,
+    pub(crate) kept: Kept,
+}
+
+/// Where the entry of a handle is.
+#[derive(Clone, Copy, Debug, PartialEq, Eq)]
+pub(crate) enum Kept {
+    /// In a slot of the shard. Its release may count as a use where it is counting.
+    Pinned { slot: u32, counting: bool },
+    /// It is the standalone entry of this place.
+    Standing { place: usize },
+}
+
+/// A standalone entry, which no table has.
+#[derive(Drop)]
+pub(crate) struct Alone {
+    /// The serial of its insertion.
+    pub(crate) name: u64,
+    pub(crate) charge: u32,
+    /// How many handles there are on it.
+    pub(crate) references: u32,
+    pub(crate) value: Vec<u8>,
+}
+
+impl<T> Client<T> {
+    /// Whether one more handle may be given.
+    pub(crate) fn may_hold(&self) -> Result<(), LookupError>
+        ensures full { IsErrOf result LookupError.HandlesFull ↔ (self.now.most ≤ self.now.held) }
+        ensures spent { IsErrOf result LookupError.Spent
+            ↔ ((self.now.held < self.now.most) × (self.now.left ≡ 0)) }
+        ensures free { IfOk result (λ _. (self.now.held < self.now.most) × (0 < self.now.left)) }
+    {
+        if self.held >= self.most {
+            return Err(LookupError::HandlesFull);
+        }
+        if self.left == 0 {
+            return Err(LookupError::Spent);
+        }
+        Ok(())
+    }
+
+    /// Gives a handle with the next serial, and keeps this of it.
+    pub(crate) fn keep(&mut self, key: Key, shard: usize, kept: Kept) -> Handle
+        requires room { HasRoomFor self.old.handles 1 }
+        requires held { self.old.held < self.old.most }
+        requires serial { (0 < self.old.left) × (self.old.used + self.old.left < 2 ^ 64) }
+        ensures client { result.client ≡ self.old.number }
+        ensures serial { result.serial ≡ self.old.used }
+        ensures was_free { get self.old.handles result.place ≡ None }
+        ensures kept { Updates self.old.handles self.new.handles result.place
+            (Some (record { serial = self.old.used; key = key; shard = shard; kept = kept })) }
+        ensures count { slab_len self.new.handles ≡ slab_len self.old.handles + 1 }
+        ensures capacity { self.new.handles.capacity ≡ self.old.handles.capacity }
+        ensures rest { self.new ≡ record self.old {
+            handles = self.new.handles;
+            held = self.old.held + 1;
+            used = self.old.used + 1;
+            left = self.old.left - 1;
+        } }
+    {
+        let serial = self.used;
+        let place = self.handles.insert_reserved(Hold {
+            serial,
+            key,
+            shard,
+            kept,
+        });
+        self.held += 1;
+        self.used += 1;
+        self.left -= 1;
+        Handle {
+            client: self.number,
+            place,
+            serial,
+        }
+    }
+
+    /// What it keeps of a handle that it holds.
+    pub(crate) fn hold(&self, handle: Handle) -> Hold
+        requires { Holds self.now handle }
+        ensures held { hold_of self.now handle ≡ Some result }
+        ensures there { get self.now.handles handle.place ≡ Some result }
+    {
+        self.handles[handle.place]
+    }
+
+    /// Lets go of a handle that it holds, and tells what it kept of it.
+    pub(crate) fn let_go(&mut self, handle: Handle) -> Hold
+        requires holds { Holds self.old handle }
+        requires some { 0 < self.old.held }
+        ensures held { hold_of self.old handle ≡ Some result }
+        ensures there { get self.old.handles handle.place ≡ Some result }
+        ensures gone { Updates self.old.handles self.new.handles handle.place None }
+        ensures count { slab_len self.new.handles + 1 ≡ slab_len self.old.handles }
+        ensures capacity { self.new.handles.capacity ≡ self.old.handles.capacity }
+        ensures rest { self.new ≡ record self.old {
+            handles = self.new.handles;
+            held = self.old.held - 1;
+        } }
+    {
+        self.held -= 1;
+        self.handles.remove(handle.place)
+    }
+}

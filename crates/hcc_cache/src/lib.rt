@@ -1,0 +1,22 @@
+//! A block cache that many threads share: its shards, its clients and their handles.
+#![tactic(auto)]
+
+mod cache;
+mod client;
+mod config;
+mod errors;
+mod handle;
+mod holding;
+pub mod limits;
+mod priority;
+mod seeded;
+mod tags;
+
+pub use cache::Cache;
+pub use client::Client;
+pub use config::Config;
+pub use errors::{CloseError, InsertError, LookupError, NewError};
+pub use handle::Handle;
+pub use hcc_rule::{Key, Tag};
+pub use priority::Priority;
+pub use tags::AnyBytes;

@@ -1,0 +1,16 @@
+use Rattle.hcc_rule.specs.Callers.{geometry_of, plan_of}
+use Rattle.hcc_rule.specs.Closing.{words_of}
+use Rattle.hcc_rule.specs.Seats.{view}
+use Rattle.hcc_shard.proofs.Joinings.{idle_held}
+use Rattle.hcc_shard.proofs.Lefts.{left_of}
+use Rattle.hcc_shard.proofs.shard.Shard.close_joined.Goals as goal
+
+pub invariant_of-result : goal.invariant_of-result
+invariant_of-result g c =
+    let shard = c.args.self in
+    let told =
+    left_of g.T.Tag.fits (plan_of shard.table).tag (geometry_of shard.table)
+    (words_of c.close.result) (view c.args.last.seat)
+    (c.close.ensures.closes
+    (record { idle = (idle_held shard c.args.last c.requires.back).0; all = c.requires.all })) in
+    record { left = rw c.close.ensures.size told }
