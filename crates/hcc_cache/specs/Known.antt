@@ -97,7 +97,7 @@ module _ {T : Type 0} (seed : ℕ) (seats : List (ShardSeat T)) (alone : Slab Al
   -- what is kept of a handle is on one of the shards, and stands for something
   pub record IsKept (hold : Hold) : Type 0 where
     pub within : hold.shard < length seats
-    pub as : IsKeptAs hold hold.kept
+    pub stands : IsKeptAs hold hold.kept
 
 -- how many references the client of a seat holds, and how many standalone entries
 abbrev pub records_at : {T : Type 0} → ShardSeat T → ℕ

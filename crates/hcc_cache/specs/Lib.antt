@@ -3,3 +3,6 @@ pub mod Priorities
 pub mod Keys
 pub mod Clients
 pub mod Known
+pub mod Opened
+pub mod Calls
+pub mod Closings

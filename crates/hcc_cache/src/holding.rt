@@ -70,10 +70,10 @@ impl<T> Client<T> {
         ensures count { slab_len self.new.handles ≡ slab_len self.old.handles + 1 }
         ensures capacity { self.new.handles.capacity ≡ self.old.handles.capacity }
         ensures rest { self.new ≡ record self.old {
-            handles = self.new.handles;
-            held = self.old.held + 1;
-            used = self.old.used + 1;
-            left = self.old.left - 1;
+          handles = self.new.handles;
+          held = self.old.held + 1;
+          used = self.old.used + 1;
+          left = self.old.left - 1;
         } }
     {
         let serial = self.used;
@@ -112,8 +112,8 @@ impl<T> Client<T> {
         ensures count { slab_len self.new.handles + 1 ≡ slab_len self.old.handles }
         ensures capacity { self.new.handles.capacity ≡ self.old.handles.capacity }
         ensures rest { self.new ≡ record self.old {
-            handles = self.new.handles;
-            held = self.old.held - 1;
+          handles = self.new.handles;
+          held = self.old.held - 1;
         } }
     {
         self.held -= 1;

@@ -3,17 +3,22 @@
 
 mod cache;
 mod client;
+mod closed;
+mod closing;
 mod config;
 mod errors;
 mod handle;
 mod holding;
 pub mod limits;
+mod lookups;
+mod opening;
 mod priority;
 mod seeded;
 mod tags;
 
 pub use cache::Cache;
 pub use client::Client;
+pub use closed::Closed;
 pub use config::Config;
 pub use errors::{CloseError, InsertError, LookupError, NewError};
 pub use handle::Handle;

@@ -1,0 +1,159 @@
+-- What each call leaves of a client.
+use Rattle.std.specs.Prelude.{◌≡◌, ℕ, ◌+◌, ◌≤◌, ◌++◌, Bool, true, false, List, [], ◌∷◌, Option, Some, None, length}
+use Rattle.hcc_core.specs.declared.slot.Entry.{Entry}
+use Rattle.hcc_core.specs.Sums.{total}
+use Rattle.hcc_rule.specs.declared.key.Key.{Key}
+use Rattle.hcc_rule.specs.declared.view.Record.{Record}
+use Rattle.hcc_rule.specs.declared.view.View.{View}
+use Rattle.hcc_rule.specs.Words.{key_of}
+use Rattle.hcc_table.specs.Searched.{AllDead, IsFound, IsMissed, Searched}
+use Rattle.hcc_charge.specs.Settled.{fallen}
+use Rattle.hcc_shard.specs.Callers.{steps_of}
+use Rattle.hcc_shard.specs.Referred.{IsErasedAll, IsReleased}
+use Rattle.hcc_cache.specs.declared.cache.Cache.{Cache}
+use Rattle.hcc_cache.specs.declared.client.Client.{Client}
+use Rattle.hcc_cache.specs.declared.handle.Handle.{Handle}
+use Rattle.hcc_cache.specs.declared.seeded.Seeded.{Seeded}
+use Rattle.hcc_cache.specs.Clients.{Held, held_by, held_entry, held_of, hold_of, view_at}
+use Rattle.hcc_cache.specs.Keys.{fits_seeded, key_from, key_to, shard_of}
+
+module _ {T : Type 0} where
+  -- how many atomic steps the client made, at all shards
+  abbrev pub steps_by : Client T → ℕ
+  steps_by client = total steps_of client.seats.items
+
+  -- at most so many more
+  abbrev pub TakesAtMost : (most : ℕ) → (old new : Client T) → Type 0
+  TakesAtMost most old new = steps_by new ≤ steps_by old + most
+
+  -- one serial was used, or none
+  abbrev pub UsesOne : (old new : Client T) → Type 0
+  UsesOne old new = (new.used ≡ old.used + 1) × (new.left + 1 ≡ old.left)
+
+  abbrev pub UsesNone : (old new : Client T) → Type 0
+  UsesNone old new = (new.used ≡ old.used) × (new.left ≡ old.left)
+
+  -- The client keeps its number and how many handles it may hold.
+  abbrev pub IsSelf : (old new : Client T) → Type 0
+  IsSelf old new = (new.number ≡ old.number) × (new.most ≡ old.most)
+
+  -- It worked at this shard alone: what it knew of it is the first view, and what it knows the
+  -- second. Of the others it knows what it knew.
+  pub record Works (shard : ℕ) (old new : Client T) (v w : View (Seeded T)) : Type 0 where
+    pub before : view_at shard old ≡ v
+    pub after : view_at shard new ≡ w
+    pub others : (s : ℕ) → ¬ (s ≡ shard) → view_at s new ≡ view_at s old
+    pub self : IsSelf old new
+
+  -- it knows what it knew of all shards
+  pub record Rests (old new : Client T) : Type 0 where
+    pub all : (s : ℕ) → view_at s new ≡ view_at s old
+    pub self : IsSelf old new
+
+module _ {T : Type 0} (cache : Cache T) where
+  -- the number of a key's shard
+  abbrev pub shard_in : Key → ℕ
+  shard_in key = shard_of (key_to cache.seed key) (length cache.shards.items)
+
+  -- Handles other than this one stand for what they stood for.
+  abbrev pub KeepsBut : Handle → (old new : Client T) → Type 0
+  KeepsBut handle old new =
+      (h : Handle) → ¬ (h ≡ handle) → held_of cache new h ≡ held_of cache old h
+
+  -- All handles stand for what they stood for, and are as many.
+  pub record KeepsAll (old new : Client T) : Type 0 where
+    pub all : (h : Handle) → held_of cache new h ≡ held_of cache old h
+    pub count : held_by new ≡ held_by old
+    pub serials : UsesNone old new
+
+  -- There is one handle more, which was none before. It stands for this, and uses a serial.
+  pub record Gains (handle : Handle) (held : Held) (old new : Client T) : Type 0 where
+    pub free : hold_of old handle ≡ None
+    pub stands : held_of cache new handle ≡ Some held
+    pub others : KeepsBut handle old new
+    pub count : held_by new ≡ held_by old + 1
+    pub serials : UsesOne old new
+
+  -- This handle is gone, and no other.
+  pub record Loses (handle : Handle) (old new : Client T) : Type 0 where
+    pub gone : hold_of new handle ≡ None
+    pub others : KeepsBut handle old new
+    pub count : held_by new + 1 ≡ held_by old
+    pub serials : UsesNone old new
+
+  -- A look-up found a visible entry of the key, which the client hadn't seen dead, and whose value
+  -- fits it: the handle is on it. The record of it joined the client's.
+  pub record Finds (fits : T → Key → List ℕ → Type 0) (key : Key) (handle : Handle)
+      (old new : Client T) : Type 0 where
+    pub found : Record
+    pub v : View (Seeded T)
+    pub w : View (Seeded T)
+    pub works : Works (shard_in key) old new v w
+    pub finds : IsFound (fits_seeded fits) cache.geometry.room found.slot handle.serial
+        (key_to cache.seed key) v w found
+    pub asked : key_from cache.seed (key_of found.entry) ≡ key
+    pub right : fits cache.tag key found.entry.value
+    pub gains : Gains handle (held_entry cache.seed found.entry) old new
+
+  -- It found none: the client holds what it held, and each entry of the key that it holds is dead
+  -- to it.
+  pub record Misses (key : Key) (old new : Client T) : Type 0 where
+    pub v : View (Seeded T)
+    pub w : View (Seeded T)
+    pub works : Works (shard_in key) old new v w
+    pub misses : IsMissed (key_to cache.seed key) v w
+    pub keeps : KeepsAll old new
+
+  -- The record that another handle on the same adds: one on that entry of the table, or none where
+  -- it is a standalone one.
+  abbrev pub AddsOn : (serial : ℕ) → (entry : Option Entry) → List Record → Type 0
+  AddsOn serial None added = added ≡ []
+  AddsOn serial (Some e) added =
+      (r : Record) × (added ≡ r ∷ []) × (r.entry ≡ e) × (r.name ≡ serial) × (r.weight ≡ 1)
+
+  -- There is one handle more on the very same entry.
+  pub record Rerefs (handle more : Handle) (old new : Client T) : Type 0 where
+    pub held : Held
+    pub was : held_of cache old handle ≡ Some held
+    pub shard : ℕ
+    pub v : View (Seeded T)
+    pub w : View (Seeded T)
+    pub works : Works shard old new v w
+    pub searched : Searched v w
+    pub added : List Record
+    pub adds : AddsOn more.serial held.entry added
+    pub records : w.records ≡ v.records ++ added
+    pub gains : Gains more held old new
+
+  -- what a release leaves of a view: of an entry of the table, or of a standalone one of this name,
+  -- which goes with its last handle
+  abbrev pub ReleasedOf : (serial : ℕ) → (erase freed : Bool) → (standing : Option ℕ)
+      → View (Seeded T) → View (Seeded T) → Type 0
+  ReleasedOf serial erase freed None v w = IsReleased serial erase freed v w
+  ReleasedOf serial erase true (Some name) v w = w ≡ fallen name v
+  ReleasedOf serial erase false (Some name) v w = w ≡ v
+
+  -- The handle was given back.
+  pub record Releases (handle : Handle) (erase freed : Bool) (old new : Client T) : Type 0 where
+    pub held : Held
+    pub was : held_of cache old handle ≡ Some held
+    pub shard : ℕ
+    pub v : View (Seeded T)
+    pub w : View (Seeded T)
+    pub works : Works shard old new v w
+    pub released : ReleasedOf handle.serial erase freed held.standing v w
+    pub loses : Loses handle old new
+
+  -- The client read what it holds.
+  pub record Reads (old new : Client T) : Type 0 where
+    pub rests : Rests old new
+    pub keeps : KeepsAll old new
+
+  -- So many visible entries of the key were hidden, and each that the client holds is dead to it.
+  pub record Erases (key : Key) (hidden : ℕ) (old new : Client T) : Type 0 where
+    pub v : View (Seeded T)
+    pub w : View (Seeded T)
+    pub works : Works (shard_in key) old new v w
+    pub erases : IsErasedAll (key_to cache.seed key) hidden v w
+    pub dead : AllDead (key_to cache.seed key) v w
+    pub keeps : KeepsAll old new

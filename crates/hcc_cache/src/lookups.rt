@@ -1,0 +1,154 @@
+//! Look-ups, and more handles on what is held.
+ghost use Rattle.std.specs.Prelude.{◌≡◌, ◌*◌, ◌<◌, ◌≤◌, ◌↔◌, IfSome, IfNone, IfOk, OnErr, IsErrOf, Some, length};
+ghost use Rattle.hcc_cache.specs.declared.holding.Kept.TheVariants.{Pinned, Standing};
+ghost use Rattle.hcc_cache.specs.Calls.{Finds, Misses, Rerefs, TakesAtMost};
+ghost use Rattle.hcc_cache.specs.Clients.{held_by, hold_of, Holds};
+ghost use Rattle.hcc_cache.specs.Keys.{shard_of};
+ghost use Rattle.hcc_cache.specs.Known.{AreAlike, Knows};
+
+use crate::cache::Cache;
+use crate::client::Client;
+use crate::errors::LookupError;
+use crate::handle::Handle;
+use crate::holding::{Hold, Kept};
+use crate::seeded::{key_to, shard_of};
+use hcc_rule::{Key, Tag};
+use hcc_table::Pin;
+
+impl<T: Tag> Cache<T> {
+    /// Looks for a visible entry of the key. Where it finds one, the client has a handle on it: an
+    /// entry that it hadn't seen erased, with a value that fits the key. Where it finds none, the
+    /// client holds what it held, and has seen dead each entry of the key that it holds.
+    ///
+    /// It is refused where the client holds all the handles that it may, then where it has used all
+    /// its serials; nothing is changed then. A handle uses a serial. It takes no memory. It costs
+    /// what a look-up in the key's shard costs: at a first hit a load, an add and two loads.
+    pub fn lookup(&self, client: &mut Client<T>, key: Key) -> Result<Option<Handle>, LookupError>
+        requires { Knows self.now client.old }
+        ensures known { Knows self.now client.new }
+        ensures full { IsErrOf result LookupError.HandlesFull
+            ↔ (held_by client.old ≡ client.old.most) }
+        ensures spent { IsErrOf result LookupError.Spent
+            ↔ ((held_by client.old < client.old.most) × (client.old.left ≡ 0)) }
+        ensures refused { OnErr result (client.new ≡ client.old) }
+        ensures found { IfOk result (λ o. IfSome o (λ handle.
+            Finds self.now T.fits key handle client.old client.new)) }
+        ensures missed { IfOk result (λ o. IfNone o
+            (Misses self.now key client.old client.new)) }
+        ensures steps { TakesAtMost (7 * self.now.geometry.slots) client.old client.new }
+    {
+        client.may_hold()?;
+        Ok(self.found(client, key))
+    }
+
+    /// The same, where a handle may be given.
+    fn found(&self, client: &mut Client<T>, key: Key) -> Option<Handle>
+        requires known { Knows self.now client.old }
+        requires free { (held_by client.old < client.old.most) × (0 < client.old.left) }
+        ensures known { Knows self.now client.new }
+        ensures found { IfSome result (λ handle.
+            Finds self.now T.fits key handle client.old client.new) }
+        ensures missed { IfNone result (Misses self.now key client.old client.new) }
+        ensures steps { TakesAtMost (7 * self.now.geometry.slots) client.old client.new }
+    {
+        let under = key_to(self.seed, key);
+        let shard = self.shard_number(under);
+        let serial = client.used;
+        let seat = &mut client.seats[shard];
+        let pin = self.shards[shard].lookup(seat, under, serial)?;
+        Some(client.keep(key, shard, pinned(pin)))
+    }
+
+    /// The number of the shard of a seeded key.
+    pub(crate) fn shard_number(&self, key: Key) -> usize
+        requires { AreAlike self.now }
+        ensures value { result ≡ shard_of key (length self.now.shards.items) }
+        ensures inside { result < length self.now.shards.items }
+    {
+        shard_of(key, self.shards.len() as u32) as usize
+    }
+
+    /// One handle more on the very entry that a handle is on, a standalone one too.
+    ///
+    /// It is refused as a look-up is. It uses a serial. It takes no memory. It costs an atomic add,
+    /// and an exchange where the reference doesn't count; a standalone entry costs no atomic step.
+    pub fn reref(&self, client: &mut Client<T>, handle: Handle) -> Result<Handle, LookupError>
+        requires known { Knows self.now client.old }
+        requires holds { Holds client.old handle }
+        ensures known { Knows self.now client.new }
+        ensures full { IsErrOf result LookupError.HandlesFull
+            ↔ (held_by client.old ≡ client.old.most) }
+        ensures spent { IsErrOf result LookupError.Spent
+            ↔ ((held_by client.old < client.old.most) × (client.old.left ≡ 0)) }
+        ensures refused { OnErr result (client.new ≡ client.old) }
+        ensures again { IfOk result (λ more. Rerefs self.now handle more client.old client.new) }
+        ensures steps { TakesAtMost 2 client.old client.new }
+    {
+        client.may_hold()?;
+        let hold = client.hold(handle);
+        match hold.kept {
+            Kept::Pinned { slot, counting } => {
+                Ok(self.pinned_again(client, handle, hold, slot, counting))
+            }
+            Kept::Standing { place } => Ok(self.standing_again(client, handle, hold, place)),
+        }
+    }
+
+    /// One handle more on an entry of the table.
+    fn pinned_again(
+        &self,
+        client: &mut Client<T>,
+        handle: Handle,
+        hold: Hold,
+        slot: u32,
+        counting: bool,
+    ) -> Handle
+        requires known { Knows self.now client.old }
+        requires held { hold_of client.old handle ≡ Some hold }
+        requires kept { hold.kept ≡ Pinned slot counting }
+        requires free { (held_by client.old < client.old.most) × (0 < client.old.left) }
+        ensures known { Knows self.now client.new }
+        ensures again { Rerefs self.now handle result client.old client.new }
+        ensures steps { TakesAtMost 2 client.old client.new }
+    {
+        let serial = client.used;
+        let seat = &mut client.seats[hold.shard];
+        let pin = Pin {
+            name: hold.serial,
+            slot,
+            counting,
+        };
+        let pin = self.shards[hold.shard].reref(seat, pin, serial);
+        client.keep(hold.key, hold.shard, pinned(pin))
+    }
+
+    /// One handle more on a standalone entry.
+    fn standing_again(
+        &self,
+        client: &mut Client<T>,
+        handle: Handle,
+        hold: Hold,
+        place: usize,
+    ) -> Handle
+        requires known { Knows self.now client.old }
+        requires held { hold_of client.old handle ≡ Some hold }
+        requires kept { hold.kept ≡ Standing place }
+        requires free { (held_by client.old < client.old.most) × (0 < client.old.left) }
+        ensures known { Knows self.now client.new }
+        ensures again { Rerefs self.now handle result client.old client.new }
+        ensures steps { TakesAtMost 0 client.old client.new }
+    {
+        client.alone[place].references += 1;
+        client.keep(hold.key, hold.shard, hold.kept)
+    }
+}
+
+/// What is kept of a pin.
+pub(crate) fn pinned(pin: Pin) -> Kept
+    ensures { result ≡ Pinned pin.slot pin.counting }
+{
+    Kept::Pinned {
+        slot: pin.slot,
+        counting: pin.counting,
+    }
+}
