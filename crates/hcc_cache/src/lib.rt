@@ -13,6 +13,8 @@ pub mod limits;
 mod lookups;
 mod opening;
 mod priority;
+mod reading;
+mod releasing;
 mod seeded;
 mod tags;
 

@@ -1,0 +1,107 @@
+//! Handles that are given back.
+ghost use Rattle.std.specs.Prelude.{◌≡◌, ◌+◌, ◌*◌, Some};
+ghost use Rattle.hcc_cache.specs.declared.holding.Kept.TheVariants.{Pinned, Standing};
+ghost use Rattle.hcc_cache.specs.Calls.{Releases, TakesAtMost};
+ghost use Rattle.hcc_cache.specs.Clients.{hold_of, Holds};
+ghost use Rattle.hcc_cache.specs.Known.{Knows};
+ghost use Rattle.hcc_table.specs.Steps.{freeing};
+
+use crate::cache::Cache;
+use crate::client::Client;
+use crate::handle::Handle;
+use crate::holding::{Hold, Kept};
+use hcc_rule::Tag;
+use hcc_table::{IfLast, Pin, Use};
+
+impl<T: Tag> Cache<T> {
+    /// Gives a handle back: as a use of its entry where it is useful. Where it was the last
+    /// reference on an entry that was erased, or `erase_if_last` asks for it, freeing the entry is
+    /// tried once; a standalone entry goes with its last handle. The answer says whether this call
+    /// freed an entry.
+    ///
+    /// The handle is none that the client holds from then on, and no other changes. It refuses
+    /// nothing and takes no memory. It costs an atomic add or take; where nobody holds the entry
+    /// and it may go an exchange, and where that wins what freeing the slot costs and two takes.
+    pub fn release(
+        &self,
+        client: &mut Client<T>,
+        handle: Handle,
+        useful: bool,
+        erase_if_last: bool,
+    ) -> bool
+        requires known { Knows self.now client.old }
+        requires holds { Holds client.old handle }
+        ensures known { Knows self.now client.new }
+        ensures released { Releases self.now handle erase_if_last result client.old client.new }
+        ensures steps { TakesAtMost (freeing self.now.geometry.slots + 3) client.old client.new }
+    {
+        let hold = client.hold(handle);
+        match hold.kept {
+            Kept::Pinned { slot, counting } => {
+                let pin = Pin {
+                    name: hold.serial,
+                    slot,
+                    counting,
+                };
+                self.release_pin(client, handle, hold, pin, useful, erase_if_last)
+            }
+            Kept::Standing { place } => self.release_standing(client, handle, hold, place),
+        }
+    }
+
+    /// The same, of an entry of the table.
+    fn release_pin(
+        &self,
+        client: &mut Client<T>,
+        handle: Handle,
+        hold: Hold,
+        pin: Pin,
+        useful: bool,
+        erase_if_last: bool,
+    ) -> bool
+        requires known { Knows self.now client.old }
+        requires held { hold_of client.old handle ≡ Some hold }
+        requires name { pin.name ≡ hold.serial }
+        requires kept { hold.kept ≡ Pinned pin.slot pin.counting }
+        ensures known { Knows self.now client.new }
+        ensures released { Releases self.now handle erase_if_last result client.old client.new }
+        ensures steps { TakesAtMost (freeing self.now.geometry.slots + 3) client.old client.new }
+    {
+        client.let_go(handle);
+        let usage = if useful { Use::Useful } else { Use::NotUseful };
+        let last = if erase_if_last {
+            IfLast::Erase
+        } else {
+            IfLast::Keep
+        };
+        let seat = &mut client.seats[hold.shard];
+        self.shards[hold.shard].release(seat, pin, usage, last)
+    }
+
+    /// The same, of a standalone entry.
+    fn release_standing(
+        &self,
+        client: &mut Client<T>,
+        handle: Handle,
+        hold: Hold,
+        place: usize,
+    ) -> bool
+        requires known { Knows self.now client.old }
+        requires held { hold_of client.old handle ≡ Some hold }
+        requires kept { hold.kept ≡ Standing place }
+        ensures known { Knows self.now client.new }
+        ensures released { (erase : _) → Releases self.now handle erase result
+            client.old client.new }
+        ensures steps { TakesAtMost 2 client.old client.new }
+    {
+        client.let_go(handle);
+        if client.alone[place].references > 1 {
+            client.alone[place].references -= 1;
+            return false;
+        }
+        let gone = client.alone.remove(place);
+        let seat = &mut client.seats[hold.shard];
+        self.shards[hold.shard].release_standalone(seat, gone.name, gone.charge);
+        true
+    }
+}
