@@ -6,3 +6,5 @@ pub mod Known
 pub mod Opened
 pub mod Calls
 pub mod Closings
+pub mod Inserts
+pub mod Totals

@@ -1,0 +1,115 @@
+-- What an insertion leaves of a client.
+use Rattle.std.specs.Prelude.{◌≡◌, ℕ, List, Option, Some, None, Result, Ok, Err}
+use Rattle.hcc_rule.specs.declared.key.Key.{Key}
+use Rattle.hcc_rule.specs.declared.steps.shows.Draft.{Draft}
+use Rattle.hcc_rule.specs.declared.view.View.{View}
+use Rattle.hcc_rule.specs.ToldOwners.{made_of, shown_entry}
+use Rattle.hcc_table.specs.declared.pins.Pin.{Pin}
+use Rattle.hcc_charge.specs.declared.reserving.Refused.{Refused}
+use Rattle.hcc_charge.specs.declared.reserving.Refused.TheVariants as refused
+use Rattle.hcc_shard.specs.declared.inserting.Inserted.TheVariants as stored
+use Rattle.hcc_shard.specs.declared.inserting.Inserted.{Inserted as Stored}
+use Rattle.hcc_shard.specs.declared.inserting.Pinned.{Pinned}
+use Rattle.hcc_shard.specs.declared.inserting.Pinned.TheVariants as pinned
+use Rattle.hcc_shard.specs.Inserted.{InsertedBy, PinnedBy}
+use Rattle.hcc_cache.specs.declared.cache.Cache.{Cache}
+use Rattle.hcc_cache.specs.declared.client.Client.{Client}
+use Rattle.hcc_cache.specs.declared.errors.InsertError.{InsertError}
+use Rattle.hcc_cache.specs.declared.errors.InsertError.TheVariants.{HandlesFull, Spent, TooLarge, CapacityFull, OccupancyFull}
+use Rattle.hcc_cache.specs.declared.handle.Handle.{Handle}
+use Rattle.hcc_cache.specs.declared.inserting.Inserted.{Inserted}
+use Rattle.hcc_cache.specs.declared.inserting.Inserted.TheVariants.{Placed, Dropped, Standalone}
+use Rattle.hcc_cache.specs.declared.priority.Priority.{Priority}
+use Rattle.hcc_cache.specs.declared.seeded.Seeded.{Seeded}
+use Rattle.hcc_cache.specs.Calls.{Gains, UsesOne, Works, shard_in}
+use Rattle.hcc_cache.specs.Clients.{held_by, held_of}
+use Rattle.hcc_cache.specs.Keys.{key_to}
+use Rattle.hcc_cache.specs.Priorities.{countdown_of}
+
+module _ {T : Type 0} (cache : Cache T) where
+  -- All handles stand for what they stood for, and are as many. A serial was used.
+  pub record KeepsHandles (old new : Client T) : Type 0 where
+    pub all : (h : Handle) → held_of cache new h ≡ held_of cache old h
+    pub count : held_by new ≡ held_by old
+    pub serials : UsesOne old new
+
+module _ {T : Type 0} (cache : Cache T) (key : Key) (charge : ℕ) (priority : Priority) where
+  -- the entry that the shard is asked for, with the client's next serial
+  abbrev pub draft_of : (named : Client T → Option ℕ) → Client T → Draft
+  draft_of named client = record {
+    key = key_to cache.seed key;
+    charge = charge;
+    serial = client.used;
+    countdown = countdown_of priority;
+    name = named client;
+  }
+
+  module _ (value : List ℕ) where
+    -- the shard of the key was asked for an entry without a reference, and answered this
+    pub record Stores (answer : Result Stored Refused) (old new : Client T) : Type 0 where
+      pub v : View (Seeded T)
+      pub w : View (Seeded T)
+      pub works : Works (shard_in cache key) old new v w
+      pub told : InsertedBy cache.geometry.slots cache.capacity cache.strict
+          (draft_of (λ c. None) old) value answer v w
+      pub keeps : KeepsHandles cache old new
+
+    -- What an insertion leaves, by its answer.
+    abbrev pub Inserts : Result Inserted InsertError → (old new : Client T) → Type 0
+    Inserts (Ok Placed) old new = Stores (Ok stored.Placed) old new
+    Inserts (Ok Dropped) old new = Stores (Ok stored.Dropped) old new
+    Inserts (Ok Standalone) old new = ⊥
+    Inserts (Err HandlesFull) old new = ⊥
+    Inserts (Err Spent) old new = new ≡ old
+    Inserts (Err TooLarge) old new = new ≡ old
+    Inserts (Err CapacityFull) old new = Stores (Err refused.CapacityFull) old new
+    Inserts (Err OccupancyFull) old new = Stores (Err refused.OccupancyFull) old new
+
+    -- the draft of an entry that keeps a reference, named by its serial
+    abbrev pub pinned_draft : Client T → Draft
+    pinned_draft client = draft_of (λ c. Some c.used) client
+
+    -- The shard was asked for an entry with a reference, and answered this.
+    pub record AsksPinned (answer : Result Pinned Refused) (old new : Client T) : Type 0 where
+      pub v : View (Seeded T)
+      pub w : View (Seeded T)
+      pub works : Works (shard_in cache key) old new v w
+      pub told : PinnedBy cache.geometry.slots cache.capacity cache.strict
+          (pinned_draft old) value answer v w
+
+    -- The entry was placed in a slot of the table, and the handle is on it.
+    pub record Pins (handle : Handle) (old new : Client T) : Type 0 where
+      pub pin : Pin
+      pub asks : AsksPinned (Ok (pinned.Placed pin)) old new
+      pub gains : Gains cache handle (record {
+        insertion = record { key = key; value = value; charge = charge };
+        entry = Some (shown_entry asks.v (made_of (pinned_draft old) value));
+        standing = None;
+      }) old new
+
+    -- It stands alone, and the handle is on it.
+    pub record Stands (handle : Handle) (old new : Client T) : Type 0 where
+      pub asks : AsksPinned (Ok pinned.Standalone) old new
+      pub gains : Gains cache handle (record {
+        insertion = record { key = key; value = value; charge = charge };
+        entry = None;
+        standing = Some old.used;
+      }) old new
+
+    -- The shard refused it, and a serial was used.
+    pub record Fails (why : Refused) (old new : Client T) : Type 0 where
+      pub asks : AsksPinned (Err why) old new
+      pub keeps : KeepsHandles cache old new
+
+    -- What an insertion with a handle leaves, by its answer.
+    abbrev pub InsertsWith : Handle → Inserted → (old new : Client T) → Type 0
+    InsertsWith handle Placed old new = Pins handle old new
+    InsertsWith handle Dropped old new = ⊥
+    InsertsWith handle Standalone old new = Stands handle old new
+
+    abbrev pub RefusesWith : InsertError → (old new : Client T) → Type 0
+    RefusesWith HandlesFull old new = new ≡ old
+    RefusesWith Spent old new = new ≡ old
+    RefusesWith TooLarge old new = new ≡ old
+    RefusesWith CapacityFull old new = Fails refused.CapacityFull old new
+    RefusesWith OccupancyFull old new = Fails refused.OccupancyFull old new

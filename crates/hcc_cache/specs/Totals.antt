@@ -1,0 +1,88 @@
+-- Totals over all shards, as a client knows them.
+use Rattle.std.specs.Prelude.{◌≡◌, ◌⊎◌, ℕ, ◌+◌, ◌-◌, ◌^◌, min, List, [], ◌∷◌, length}
+use Rattle.hcc_core.specs.Sums.{total}
+use Rattle.hcc_core.specs.World.{standing_of}
+use Rattle.hcc_rule.specs.ToldLedgers.{after_usage}
+use Rattle.hcc_rule.specs.Views.{charge_held, different}
+use Rattle.hcc_table.specs.Searched.{Sought}
+use Rattle.hcc_shard.specs.declared.seat.ShardSeat.{ShardSeat}
+use Rattle.hcc_shard.specs.declared.seat.Stats.{Stats}
+use Rattle.hcc_shard.specs.Callers.{view_of}
+use Rattle.hcc_shard.specs.Counted.{stats_of}
+use Rattle.hcc_cache.specs.declared.client.Client.{Client}
+use Rattle.hcc_cache.specs.Calls.{IsSelf}
+use Rattle.hcc_cache.specs.Clients.{view_at}
+
+-- the sum of two counts, or the greatest count
+abbrev pub with_count : ℕ → ℕ → ℕ
+with_count a b = min (a + b) (2 ^ 64 - 1)
+
+-- the charges of the different entries that the client of a seat holds, and of its standalone ones
+abbrev pub charge_at : {T : Type 0} → ShardSeat T → ℕ
+charge_at seat =
+    standing_of (view_of seat).work + charge_held (view_of seat).records
+
+-- how many different entries of the table it holds
+abbrev pub entries_at : {T : Type 0} → ShardSeat T → ℕ
+entries_at seat = length (different (view_of seat).records)
+
+abbrev pub made_at : {T : Type 0} → ShardSeat T → ℕ
+made_at seat = length (view_of seat).made
+
+abbrev pub taken_at : {T : Type 0} → ShardSeat T → ℕ
+taken_at seat = (view_of seat).takings
+
+module _ {T : Type 0} where
+  -- over all shards
+  abbrev pub charge_by : Client T → ℕ
+  charge_by client = total charge_at client.seats.items
+
+  abbrev pub entries_by : Client T → ℕ
+  entries_by client = total entries_at client.seats.items
+
+  abbrev pub made_by : Client T → ℕ
+  made_by client = total made_at client.seats.items
+
+  abbrev pub taken_by : Client T → ℕ
+  taken_by client = total taken_at client.seats.items
+
+  -- The client loaded a usage at each shard, and knows nothing else that it didn't know.
+  pub record LoadsUsages (old new : Client T) : Type 0 where
+    pub all : (s : ℕ) → (view_at s new ≡ view_at s old)
+        ⊎ ((used : ℕ) × (view_at s new ≡ after_usage used (view_at s old)))
+    pub self : IsSelf old new
+
+  -- It searched each shard, and holds what it held.
+  pub record SearchesAll (old new : Client T) : Type 0 where
+    pub all : (s : ℕ) → Sought (view_at s old) (view_at s new)
+    pub self : IsSelf old new
+
+-- counts of two shards
+abbrev pub stats_with : Stats → Stats → Stats
+stats_with a b = record {
+  probes = with_count a.probes b.probes;
+  boosts = with_count a.boosts b.boosts;
+  evicted = with_count a.evicted b.evicted;
+  evicted_hit = with_count a.evicted_hit b.evicted_hit;
+  freed = with_count a.freed b.freed;
+  turns = with_count a.turns b.turns;
+  corrections = with_count a.corrections b.corrections;
+  lost = with_count a.lost b.lost;
+}
+
+abbrev pub no_stats : Stats
+no_stats = record {
+  probes = 0;
+  boosts = 0;
+  evicted = 0;
+  evicted_hit = 0;
+  freed = 0;
+  turns = 0;
+  corrections = 0;
+  lost = 0;
+}
+
+-- counts with those of these seats, one after the other
+abbrev pub stats_over : {T : Type 0} → Stats → List (ShardSeat T) → Stats
+stats_over sum [] = sum
+stats_over sum (seat ∷ seats) = stats_over (stats_with sum (stats_of seat)) seats

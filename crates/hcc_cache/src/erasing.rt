@@ -1,0 +1,34 @@
+//! Erasures.
+ghost use Rattle.std.specs.Prelude.{◌≡◌, ◌+◌, ◌*◌};
+ghost use Rattle.hcc_table.specs.Steps.{freeing};
+ghost use Rattle.hcc_cache.specs.Calls.{Erases, TakesAtMost};
+ghost use Rattle.hcc_cache.specs.Known.{Knows};
+
+use crate::cache::Cache;
+use crate::client::Client;
+use crate::seeded::key_to;
+use hcc_rule::{Key, Tag};
+
+impl<T: Tag> Cache<T> {
+    /// Hides each visible entry of the key: look-ups find none of them from then on. Those that
+    /// nobody else holds are freed, where the one exchange for it wins. The answer is how many were
+    /// hidden.
+    ///
+    /// Each entry of the key that the client holds has been seen dead afterwards; its handles show
+    /// what they showed. It refuses nothing and takes no memory. Each probe costs what it costs a
+    /// look-up; each match an atomic and, an exchange where nobody else holds the entry, and the
+    /// freeing where that wins, else a take. Two takes follow where any was freed.
+    pub fn erase(&self, client: &mut Client<T>, key: Key) -> u32
+        requires { Knows self.now client.old }
+        ensures known { Knows self.now client.new }
+        ensures erased { Erases self.now key result client.old client.new }
+        ensures steps { TakesAtMost
+            ((freeing self.now.geometry.slots + 9) * self.now.geometry.slots + 2)
+            client.old client.new }
+    {
+        let under = key_to(self.seed, key);
+        let shard = self.shard_number(under);
+        let seat = &mut client.seats[shard];
+        self.shards[shard].erase(seat, under)
+    }
+}

@@ -1,0 +1,308 @@
+//! Insertions.
+ghost use Rattle.std.specs.Prelude.{◌≡◌, ◌+◌, ◌-◌, ◌*◌, ◌<◌, ◌≤◌, ◌^◌, ◌↔◌, true, Some, None, Ok, Err, IfOk, IfErr, IsErrOf, MatchResult, length, ℕ};
+ghost use Rattle.slab.specs.Slab.{get, slab_len, HasRoomFor, Updates};
+ghost use Rattle.hcc_cache.specs.declared.holding.Kept.TheVariants.{Standing};
+ghost use Rattle.hcc_shard.specs.Inserted.{inserting};
+ghost use Rattle.hcc_cache.specs.Calls.{TakesAtMost};
+ghost use Rattle.hcc_cache.specs.Clients.{held_by};
+ghost use Rattle.hcc_cache.specs.Inserts.{Inserts, InsertsWith, RefusesWith};
+ghost use Rattle.hcc_cache.specs.Known.{Knows};
+
+use crate::cache::Cache;
+use crate::client::Client;
+use crate::errors::{InsertError, LookupError};
+use crate::handle::Handle;
+use crate::holding::{Alone, Kept};
+use crate::lookups::pinned;
+use crate::priority::Priority;
+use crate::seeded::key_to;
+use hcc_charge::Refused;
+use hcc_rule::{Draft, Key, Tag};
+use hcc_shard::Pinned;
+
+/// What came of an insertion.
+#[derive(Clone, Copy, Debug, PartialEq, Eq)]
+pub enum Inserted {
+    /// The entry is in the table.
+    Placed,
+    /// It is as if the entry had been placed and evicted at once; of insertions without a handle
+    /// alone.
+    Dropped,
+    /// The entry is in no table: it goes with its last handle; of insertions with a handle alone.
+    Standalone,
+}
+
+impl From<Refused> for InsertError {
+    fn from(why: Refused) -> InsertError {
+        match why {
+            Refused::TooLarge => InsertError::TooLarge,
+            Refused::CapacityFull => InsertError::CapacityFull,
+            Refused::OccupancyFull => InsertError::OccupancyFull,
+        }
+    }
+}
+
+impl<T: Tag> Cache<T> {
+    /// Inserts an entry of this key, value and charge, and keeps no handle on it. A place and the
+    /// charge are reserved in the key's shard first, which may evict others.
+    ///
+    /// It is dropped only where the shard was full and no place was found, where an entry of the
+    /// key was met first, or where as many slots as the shard has were seen taken. It is refused
+    /// where all serials of the client are used, then where a strict shard's capacity is below the
+    /// charge: nothing is changed then. It is refused under strict capacity where evictions freed
+    /// too little, or no place: they stay made, and a serial is used.
+    ///
+    /// The value fits the key by the tag and has at most [`Cache::room`] bytes, and the charge
+    /// isn't 0. It takes no memory. It costs a reservation, and each probe of the key as a look-up
+    /// does, and a store for each word of the entry.
+    pub fn insert(
+        &self,
+        client: &mut Client<T>,
+        key: Key,
+        value: &[u8],
+        charge: u32,
+        priority: Priority,
+    ) -> Result<Inserted, InsertError>
+        requires known { Knows self.now client.old }
+        requires fits { T.fits self.now.tag key value.now }
+        requires short { length value.now ≤ 8 * self.now.geometry.room }
+        requires paid { 0 < charge }
+        ensures known { Knows self.now client.new }
+        ensures spent { IsErrOf result InsertError.Spent ↔ (client.old.left ≡ 0) }
+        ensures large { IsErrOf result InsertError.TooLarge
+            ↔ ((0 < client.old.left) × (self.now.strict ≡ true)
+            × (self.now.capacity < charge)) }
+        ensures inserted { Inserts self.now key charge priority value.now result
+            client.old client.new }
+        ensures steps { TakesAtMost
+            (inserting self.now.geometry.slots self.now.geometry.room)
+            client.old client.new }
+    {
+        if client.left == 0 {
+            return Err(InsertError::Spent);
+        }
+        if self.is_too_large(charge) {
+            return Err(InsertError::TooLarge);
+        }
+        self.stored(client, key, value, charge, priority)
+    }
+
+    /// The same, where a serial is left and the charge isn't too large.
+    fn stored(
+        &self,
+        client: &mut Client<T>,
+        key: Key,
+        value: &[u8],
+        charge: u32,
+        priority: Priority,
+    ) -> Result<Inserted, InsertError>
+        requires known { Knows self.now client.old }
+        requires fits { T.fits self.now.tag key value.now }
+        requires short { length value.now ≤ 8 * self.now.geometry.room }
+        requires paid { 0 < charge }
+        requires some { 0 < client.old.left }
+        requires small { self.now.strict ≡ true → charge ≤ self.now.capacity }
+        ensures known { Knows self.now client.new }
+        ensures inserted { Inserts self.now key charge priority value.now result
+            client.old client.new }
+        ensures no_spent { ¬ IsErrOf result InsertError.Spent }
+        ensures no_large { ¬ IsErrOf result InsertError.TooLarge }
+        ensures steps { TakesAtMost
+            (inserting self.now.geometry.slots self.now.geometry.room)
+            client.old client.new }
+    {
+        let under = key_to(self.seed, key);
+        let shard = self.shard_number(under);
+        let draft = Draft {
+            key: under,
+            charge,
+            serial: client.next_serial(),
+            countdown: priority.countdown(),
+            name: None,
+        };
+        let seat = &mut client.seats[shard];
+        match self.shards[shard].insert(seat, draft, value)? {
+            hcc_shard::Inserted::Placed => Ok(Inserted::Placed),
+            hcc_shard::Inserted::Dropped => Ok(Inserted::Dropped),
+        }
+    }
+
+    /// Whether a charge is above the capacity of a shard, which is strict.
+    fn is_too_large(&self, charge: u32) -> bool
+        ensures yes { result ≡ true → (self.now.strict ≡ true) × (self.now.capacity < charge) }
+        ensures no { (self.now.strict ≡ true) × (self.now.capacity < charge) → result ≡ true }
+    {
+        self.strict && self.capacity < charge as u64
+    }
+}
+
+impl<T> Client<T> {
+    /// Uses a serial.
+    fn next_serial(&mut self) -> u64
+        requires { (0 < self.old.left) × (self.old.used + self.old.left < 2 ^ 64) }
+        ensures serial { result ≡ self.old.used }
+        ensures rest { self.new ≡ record self.old {
+          used = self.old.used + 1;
+          left = self.old.left - 1;
+        } }
+    {
+        let serial = self.used;
+        self.used += 1;
+        self.left -= 1;
+        serial
+    }
+}
+
+impl<T: Tag> Cache<T> {
+    /// Inserts an entry of this key, value and charge, and gives a handle on it. Where it isn't put
+    /// into the table, for one of the reasons that `insert` has, it stands alone: look-ups don't
+    /// find it, its charge is in the usage, and it goes with its last handle.
+    ///
+    /// It is refused where the client holds all the handles that it may, and then as `insert` is;
+    /// the value is handed back.
+    ///
+    /// The value fits the key by the tag and has at most [`Cache::room`] bytes, and the charge
+    /// isn't 0. It takes no memory. It costs what `insert` does, and where the entry stands alone
+    /// one add more.
+    pub fn insert_pinned(
+        &self,
+        client: &mut Client<T>,
+        key: Key,
+        value: Vec<u8>,
+        charge: u32,
+        priority: Priority,
+    ) -> Result<(Handle, Inserted), (InsertError, Vec<u8>)>
+        requires known { Knows self.now client.old }
+        requires fits { T.fits self.now.tag key value.items }
+        requires short { length value.items ≤ 8 * self.now.geometry.room }
+        requires paid { 0 < charge }
+        ensures known { Knows self.now client.new }
+        ensures back { IfErr result (λ e. e.1 ≡ value) }
+        ensures full { IfErr result (λ e. (e.0 ≡ InsertError.HandlesFull)
+            ↔ (held_by client.old ≡ client.old.most)) }
+        ensures spent { IfErr result (λ e. (e.0 ≡ InsertError.Spent)
+            ↔ ((held_by client.old < client.old.most) × (client.old.left ≡ 0))) }
+        ensures large { IfErr result (λ e. (e.0 ≡ InsertError.TooLarge)
+            ↔ ((held_by client.old < client.old.most) × (0 < client.old.left)
+            × (self.now.strict ≡ true) × (self.now.capacity < charge))) }
+        ensures may { IfOk result (λ _. (held_by client.old < client.old.most)
+            × (0 < client.old.left)
+            × (self.now.strict ≡ true → charge ≤ self.now.capacity)) }
+        ensures inserted { MatchResult result
+            (λ made. InsertsWith self.now key charge priority value.items made.0 made.1
+            client.old client.new)
+            (λ e. RefusesWith self.now key charge priority value.items e.0
+            client.old client.new) }
+        ensures steps { TakesAtMost
+            (inserting self.now.geometry.slots self.now.geometry.room)
+            client.old client.new }
+    {
+        match client.may_hold() {
+            Ok(()) => {}
+            Err(LookupError::HandlesFull) => return Err((InsertError::HandlesFull, value)),
+            Err(LookupError::Spent) => return Err((InsertError::Spent, value)),
+        }
+        if self.is_too_large(charge) {
+            return Err((InsertError::TooLarge, value));
+        }
+        self.stored_pinned(client, key, value, charge, priority)
+    }
+
+    /// The same, where a handle may be given and the charge isn't too large.
+    fn stored_pinned(
+        &self,
+        client: &mut Client<T>,
+        key: Key,
+        value: Vec<u8>,
+        charge: u32,
+        priority: Priority,
+    ) -> Result<(Handle, Inserted), (InsertError, Vec<u8>)>
+        requires known { Knows self.now client.old }
+        requires fits { T.fits self.now.tag key value.items }
+        requires short { length value.items ≤ 8 * self.now.geometry.room }
+        requires paid { 0 < charge }
+        requires free { (held_by client.old < client.old.most) × (0 < client.old.left) }
+        requires small { self.now.strict ≡ true → charge ≤ self.now.capacity }
+        ensures known { Knows self.now client.new }
+        ensures back { IfErr result (λ e. e.1 ≡ value) }
+        ensures late { IfErr result (λ e. (¬ (e.0 ≡ InsertError.HandlesFull))
+            × (¬ (e.0 ≡ InsertError.Spent)) × (¬ (e.0 ≡ InsertError.TooLarge))) }
+        ensures inserted { MatchResult result
+            (λ made. InsertsWith self.now key charge priority value.items made.0 made.1
+            client.old client.new)
+            (λ e. RefusesWith self.now key charge priority value.items e.0
+            client.old client.new) }
+        ensures steps { TakesAtMost
+            (inserting self.now.geometry.slots self.now.geometry.room)
+            client.old client.new }
+    {
+        let under = key_to(self.seed, key);
+        let shard = self.shard_number(under);
+        let draft = Draft {
+            key: under,
+            charge,
+            serial: client.used,
+            countdown: priority.countdown(),
+            name: Some(client.used),
+        };
+        let seat = &mut client.seats[shard];
+        match self.shards[shard].insert_pinned(seat, draft, &value) {
+            Ok(Pinned::Placed { pin }) => {
+                let handle = client.keep(key, shard, pinned(pin));
+                Ok((handle, Inserted::Placed))
+            }
+            Ok(Pinned::Standalone) => {
+                let handle = client.keep_alone(key, shard, charge, value);
+                Ok((handle, Inserted::Standalone))
+            }
+            Err(why) => {
+                client.next_serial();
+                Err((InsertError::from(why), value))
+            }
+        }
+    }
+}
+
+impl<T> Client<T> {
+    /// Gives a handle on a standalone entry, which is named by the next serial.
+    fn keep_alone(&mut self, key: Key, shard: usize, charge: u32, value: Vec<u8>) -> Handle
+        requires room { HasRoomFor self.old.handles 1 × HasRoomFor self.old.alone 1 }
+        requires held { self.old.held < self.old.most }
+        requires serial { (0 < self.old.left) × (self.old.used + self.old.left < 2 ^ 64) }
+        ensures client { result.client ≡ self.old.number }
+        ensures serial { result.serial ≡ self.old.used }
+        ensures kept { (place : ℕ) × (get self.old.alone place ≡ None)
+            × Updates self.old.alone self.new.alone place (Some (record {
+              name = self.old.used;
+              charge = charge;
+              references = 1;
+              value = value;
+            }))
+            × (get self.old.handles result.place ≡ None)
+            × Updates self.old.handles self.new.handles result.place (Some (record {
+              serial = self.old.used;
+              key = key;
+              shard = shard;
+              kept = Standing place;
+            })) }
+        ensures count { (slab_len self.new.handles ≡ slab_len self.old.handles + 1)
+            × (slab_len self.new.alone ≡ slab_len self.old.alone + 1) }
+        ensures capacity { (self.new.handles.capacity ≡ self.old.handles.capacity)
+            × (self.new.alone.capacity ≡ self.old.alone.capacity) }
+        ensures rest { self.new ≡ record self.old {
+          handles = self.new.handles;
+          alone = self.new.alone;
+          held = self.old.held + 1;
+          used = self.old.used + 1;
+          left = self.old.left - 1;
+        } }
+    {
+        let place = self.alone.insert_reserved(Alone {
+            name: self.used,
+            charge,
+            references: 1,
+            value,
+        });
+        self.keep(key, shard, Kept::Standing { place })
+    }
+}

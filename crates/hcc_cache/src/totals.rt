@@ -1,0 +1,167 @@
+//! Totals of a cache, and words of its shards.
+ghost use Rattle.std.specs.Prelude.{◌≡◌, ◌+◌, ◌-◌, ◌*◌, ◌^◌, ◌<◌, ◌≤◌, min, true, ℕ, length};
+ghost use Rattle.hcc_rule.specs.Told.{after_look, Backs};
+ghost use Rattle.hcc_rule.specs.ToldTrails.{passed_held};
+ghost use Rattle.hcc_cache.specs.Calls.{KeepsAll, Reads, TakesAtMost, Works};
+ghost use Rattle.hcc_cache.specs.Clients.{view_at};
+ghost use Rattle.hcc_cache.specs.Known.{Knows};
+ghost use Rattle.hcc_cache.specs.Totals.{charge_by, entries_by, made_by, no_stats, stats_over, stats_with, taken_by, LoadsUsages, SearchesAll};
+
+use crate::cache::Cache;
+use crate::client::Client;
+use hcc_rule::Tag;
+use hcc_shard::Stats;
+
+impl<T: Tag> Cache<T> {
+    /// What is charged in all shards, one after the other: at most their capacities, where they are
+    /// strict. It is at least the charges of the different entries that the client holds, standalone
+    /// ones too. Above 2^64 - 1 it says that.
+    ///
+    /// It refuses nothing and takes no memory. It costs a load for each shard.
+    pub fn usage(&self, client: &mut Client<T>) -> u64
+        requires { Knows self.now client.old }
+        ensures known { Knows self.now client.new }
+        ensures keeps { KeepsAll self.now client.old client.new }
+        ensures views { LoadsUsages client.old client.new }
+        ensures entries { min (charge_by client.old) (2 ^ 64 - 1) ≤ result }
+        ensures strict { self.now.strict ≡ true
+            → result ≤ length self.now.shards.items * self.now.capacity }
+        ensures steps { TakesAtMost (length self.now.shards.items) client.old client.new }
+    {
+        let mut sum: u64 = 0;
+        for shard in 0..self.shards.len() {
+            let seat = &mut client.seats[shard];
+            sum = sum.saturating_add(self.shards[shard].usage(seat));
+        }
+        sum
+    }
+
+    /// What is charged for entries that are held and for standalone ones, in all shards, one after
+    /// the other. It is at least the charges of the different entries that the client holds; in a
+    /// cache of one client it is these. Above 2^64 - 1 it says that.
+    ///
+    /// It refuses nothing and takes no memory. It costs a load for each shard and for each slot;
+    /// where that finds an entry held an add, a load and a take more.
+    pub fn pinned_usage(&self, client: &mut Client<T>) -> u64
+        requires { Knows self.now client.old }
+        ensures known { Knows self.now client.new }
+        ensures keeps { KeepsAll self.now client.old client.new }
+        ensures views { SearchesAll client.old client.new }
+        ensures entries { min (charge_by client.old) (2 ^ 64 - 1) ≤ result }
+        ensures alone { self.now.geometry.clients ≡ 1
+            → result ≡ min (charge_by client.old) (2 ^ 64 - 1) }
+        ensures steps { TakesAtMost
+            (length self.now.shards.items * (5 * self.now.geometry.slots + 1))
+            client.old client.new }
+    {
+        let mut sum: u64 = 0;
+        for shard in 0..self.shards.len() {
+            let seat = &mut client.seats[shard];
+            sum = sum.saturating_add(self.shards[shard].pinned_usage(seat));
+        }
+        sum
+    }
+
+    /// How many entries all shards have, one after the other, with the places and the freed slots
+    /// that other clients have in hand: at least the different entries that the client holds. In a
+    /// cache of one client it is exact: those that it made, less those that it took.
+    ///
+    /// It refuses nothing and takes no memory. It costs a load for each shard.
+    pub fn occupancy(&self, client: &mut Client<T>) -> u64
+        requires { Knows self.now client.old }
+        ensures known { Knows self.now client.new }
+        ensures reads { Reads self.now client.old client.new }
+        ensures entries { entries_by client.old ≤ result }
+        ensures alone { self.now.geometry.clients ≡ 1
+            → result + taken_by client.old ≡ made_by client.old }
+        ensures steps { TakesAtMost (length self.now.shards.items) client.old client.new }
+    {
+        let mut sum: u64 = 0;
+        for shard in 0..self.shards.len() {
+            let seat = &mut client.seats[shard];
+            sum += self.shards[shard].occupancy(seat);
+        }
+        sum
+    }
+
+    /// The meta word of a slot of a shard.
+    ///
+    /// Where the client holds references on the slot, the word is that of an entry with at least
+    /// these. Both numbers are in range. It refuses nothing and takes no memory. It costs one load.
+    pub fn word(&self, client: &mut Client<T>, shard: u32, slot: u32) -> u64
+        requires known { Knows self.now client.old }
+        requires shard { shard < length self.now.shards.items }
+        requires slot { slot < self.now.geometry.slots }
+        ensures known { Knows self.now client.new }
+        ensures keeps { KeepsAll self.now client.old client.new }
+        ensures view { Works shard client.old client.new (view_at shard client.old)
+            (after_look slot result (view_at shard client.old)) }
+        ensures backs { Backs slot result (view_at shard client.old) }
+        ensures steps { TakesAtMost 1 client.old client.new }
+    {
+        let shard = shard as usize;
+        let seat = &mut client.seats[shard];
+        self.shards[shard].word(seat, slot)
+    }
+
+    /// How often a slot of a shard stands in the trails of entries and of clients: at least the
+    /// number of entries that the client holds, each once, whose trail has the slot.
+    ///
+    /// Both numbers are in range. It refuses nothing and takes no memory. It costs one load.
+    pub fn displacement(&self, client: &mut Client<T>, shard: u32, slot: u32) -> u64
+        requires known { Knows self.now client.old }
+        requires shard { shard < length self.now.shards.items }
+        requires slot { slot < self.now.geometry.slots }
+        ensures known { Knows self.now client.new }
+        ensures reads { Reads self.now client.old client.new }
+        ensures entries { passed_held self.now.geometry.slots slot
+            (view_at shard client.old).records ≤ result }
+        ensures steps { TakesAtMost 1 client.old client.new }
+    {
+        let shard = shard as usize;
+        let seat = &mut client.seats[shard];
+        self.shards[shard].displacement(seat, slot)
+    }
+}
+
+impl<T> Client<T> {
+    /// What its calls did on all shards. It makes no atomic step. It costs a few additions for each
+    /// shard.
+    pub fn stats(&self) -> Stats
+        ensures { result ≡ stats_over no_stats self.now.seats.items }
+    {
+        let mut sum = NO_STATS;
+        for seat in &self.seats {
+            sum = with_stats(sum, seat.stats());
+        }
+        sum
+    }
+}
+
+/// Counts of no shard.
+const NO_STATS: Stats = Stats {
+    probes: 0,
+    boosts: 0,
+    evicted: 0,
+    evicted_hit: 0,
+    freed: 0,
+    turns: 0,
+    corrections: 0,
+    lost: 0,
+};
+
+/// The counts of two shards.
+fn with_stats(a: Stats, b: Stats) -> Stats
+    ensures { result ≡ stats_with a b }
+{
+    Stats {
+        probes: a.probes.saturating_add(b.probes),
+        boosts: a.boosts.saturating_add(b.boosts),
+        evicted: a.evicted.saturating_add(b.evicted),
+        evicted_hit: a.evicted_hit.saturating_add(b.evicted_hit),
+        freed: a.freed.saturating_add(b.freed),
+        turns: a.turns.saturating_add(b.turns),
+        corrections: a.corrections.saturating_add(b.corrections),
+        lost: a.lost.saturating_add(b.lost),
+    }
+}
