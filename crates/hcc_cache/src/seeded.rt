@@ -1,0 +1,49 @@
+//! Keys under a seed. The shards know seeded keys alone, and values by a tag that has the seed.
+ghost use Rattle.std.specs.Prelude.{◌≡◌, ◌%◌, ◌<◌, ◌≤◌};
+ghost use Rattle.hcc_cache.specs.declared.limits.TheConstants.{MOST_SHARDS};
+ghost use Rattle.hcc_cache.specs.Keys.{key_from, key_to, shard_of};
+
+use hcc_rule::{Key, Tag};
+use hcc_word::{seeded, unseeded};
+
+/// The caller's tag with the seed: a value fits a seeded key just where it fits the caller's key.
+#[derive(Clone, Copy, Debug, PartialEq, Eq)]
+pub(crate) struct Seeded<T> {
+    pub(crate) tag: T,
+    pub(crate) seed: u64,
+}
+
+impl<T: Tag> Tag for Seeded<T> {
+    ghost use Rattle.hcc_cache.specs.Keys.{fits_seeded};
+
+    ghost fits = { fits_seeded T.fits };
+}
+
+/// The seeded key of the caller's key.
+pub(crate) fn key_to(seed: u64, key: Key) -> Key
+    ensures words { result ≡ key_to seed key }
+    ensures undone { key_from seed result ≡ key }
+{
+    let (w0, w1) = seeded(seed, key.w0, key.w1);
+    Key { w0, w1 }
+}
+
+/// The caller's key of a seeded key.
+pub(crate) fn key_from(seed: u64, key: Key) -> Key
+    ensures words { result ≡ key_from seed key }
+    ensures undone { key_to seed result ≡ key }
+{
+    let (w0, w1) = unseeded(seed, key.w0, key.w1);
+    Key { w0, w1 }
+}
+
+/// The shard of a seeded key, of so many shards, a power of two: by the upper half of its first
+/// word, which no shard's slots depend on so much as on its lower half.
+pub(crate) fn shard_of(key: Key, shards: u32) -> u32
+    requires some { 1 ≤ shards }
+    requires power { MOST_SHARDS % shards ≡ 0 }
+    ensures exact { result ≡ shard_of key shards }
+    ensures within { result < shards }
+{
+    (key.w0 >> 32) as u32 & (shards - 1)
+}
