@@ -48,8 +48,14 @@ fn an_entry_that_is_not_inserted(rt: HostRuntime) -> Result<(), Fail> {
 #[test]
 fn a_cache_that_is_not_closed(rt: HostRuntime) -> Result<(), Fail> {
     let missing = CloseError::Missing { have: 1, want: 2 };
-    assert_eq!(rt; missing.to_string(rt.alloc())?.as_str(), "1 of 2 clients came back");
+    assert_eq!(rt;
+        missing.to_string(rt.alloc())?.as_str(),
+        "1 of 2 clients came back"
+    );
     let out = CloseError::HandlesOut { client: 0 };
-    assert_eq!(rt; out.to_string(rt.alloc())?.as_str(), "client 0 holds a handle");
+    assert_eq!(rt;
+        out.to_string(rt.alloc())?.as_str(),
+        "client 0 holds a handle"
+    );
     Ok(())
 }
