@@ -1,5 +1,6 @@
 -- Which caches can be made, which refusal is told, and what each shard of a cache is.
-use Rattle.std.specs.Prelude.{◌≡◌, ℕ, ◌+◌, ◌-◌, ◌/◌, ◌%◌, ◌≤◌, ◌==◌, ◌&&◌, nat_le, Bool, List, [], ◌∷◌, Result, Ok, Err, if◌then◌else◌}
+use Rattle.std.specs.Prelude.{◌≡◌, ℕ, ◌+◌, ◌-◌, ◌/◌, ◌%◌, ◌≤◌, ◌&&◌, nat_le, Bool, List, [], ◌∷◌, Result, Ok, Err, if◌then◌else◌}
+use Rattle.std.specs.Int.{is_power_of_two}
 use Rattle.hcc_core.specs.declared.limits.TheConstants.{MOST_CLIENTS, MOST_HANDLES, MOST_SLOTS, STAMPS_PER_CLIENT}
 use Rattle.hcc_rule.specs.declared.geometry.Geometry.{Geometry}
 use Rattle.hcc_rule.specs.declared.layout.TheConstants.{FEWEST_SLOTS, MOST_CAPACITY, MOST_ROOM}
@@ -11,9 +12,8 @@ use Rattle.hcc_cache.specs.declared.errors.NewError.TheVariants.{BadSlots, BadRo
 abbrev pub is_within : (least most n : ℕ) → Bool
 is_within least most n = nat_le least n && nat_le n most
 
--- A power of two in a range whose ends are powers of two: a number that divides the last one.
 abbrev pub is_power_within : (least most n : ℕ) → Bool
-is_power_within least most n = is_within least most n && (most % n == 0)
+is_power_within least most n = is_within least most n && is_power_of_two n
 
 -- whether each number is in its range, beside the refusal where it isn't, in order
 abbrev pub judged : Config → List (Bool × NewError)
@@ -36,7 +36,7 @@ first_due (one ∷ others) = if one.0 then first_due others else Err one.1
 abbrev pub checked : Config → Result (Unit {0}) NewError
 checked c = first_due (judged c)
 
--- each number is in its range
+-- Each number is in its range. What divides a power of two is one.
 pub record IsAllowed (c : Config) : Type 0 where
   pub some_slots : FEWEST_SLOTS ≤ c.slots
   pub slots : c.slots ≤ MOST_SLOTS

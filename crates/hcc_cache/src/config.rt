@@ -1,5 +1,5 @@
 //! How large a cache is, and how it behaves.
-ghost use Rattle.std.specs.Prelude.{◌≡◌, ◌≤◌, OnOk};
+ghost use Rattle.std.specs.Prelude.{◌≡◌, OnOk};
 ghost use Rattle.hcc_rule.specs.Seats.{IsPlanned};
 ghost use Rattle.hcc_cache.specs.Configs.{IsAllowed, checked, is_power_within, is_within, shard_capacity, shard_geometry};
 
@@ -100,10 +100,9 @@ fn is_within(least: u32, most: u32, number: u32) -> bool
     least <= number && number <= most
 }
 
-/// Whether a number is a power of two in this range, whose ends are powers of two.
+/// Whether a number is a power of two in this range.
 fn is_power_within(least: u32, most: u32, number: u32) -> bool
-    requires { 1 ≤ least }
     ensures { result ≡ is_power_within least most number }
 {
-    is_within(least, most, number) && most % number == 0
+    is_within(least, most, number) && number.is_power_of_two()
 }

@@ -19,6 +19,8 @@ mod reading;
 mod releasing;
 mod seeded;
 mod tags;
+#[cfg(test)]
+mod tests;
 mod totals;
 
 pub use cache::Cache;
