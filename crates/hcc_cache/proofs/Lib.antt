@@ -1,0 +1,4 @@
+pub mod Names
+pub mod Seats
+pub mod Framing
+pub mod At
