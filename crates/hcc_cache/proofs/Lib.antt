@@ -1,1 +1,5 @@
+pub mod Names
+pub mod Seats
+pub mod Framing
+pub mod At
 pub mod Slots
