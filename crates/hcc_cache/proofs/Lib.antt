@@ -5,3 +5,4 @@ pub mod Names
 pub mod Seats
 pub mod Framing
 pub mod At
+pub mod Slots
