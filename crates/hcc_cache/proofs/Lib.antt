@@ -6,3 +6,5 @@ pub mod Seats
 pub mod Framing
 pub mod At
 pub mod Slots
+pub mod Held
+pub mod Resting

@@ -2,6 +2,7 @@
 use Rattle.std.specs.Prelude.{◌≡◌, ◌⊎◌, ℕ, ◌+◌, ◌-◌, ◌^◌, min, List, [], ◌∷◌, length}
 use Rattle.hcc_core.specs.Sums.{total}
 use Rattle.hcc_core.specs.World.{standing_of}
+use Rattle.hcc_rule.specs.declared.view.View.{View}
 use Rattle.hcc_rule.specs.ToldLedgers.{after_usage}
 use Rattle.hcc_rule.specs.Views.{charge_held, different}
 use Rattle.hcc_table.specs.Searched.{Sought}
@@ -17,10 +18,12 @@ use Rattle.hcc_cache.specs.Clients.{view_at}
 abbrev pub with_count : ℕ → ℕ → ℕ
 with_count a b = min (a + b) (2 ^ 64 - 1)
 
--- the charges of the different entries that the client of a seat holds, and of its standalone ones
+-- the charges of the different entries that a client holds in a shard, and of its standalone ones
+abbrev pub charge_in : {T : Type 0} → View T → ℕ
+charge_in v = standing_of v.work + charge_held v.records
+
 abbrev pub charge_at : {T : Type 0} → ShardSeat T → ℕ
-charge_at seat =
-    standing_of (view_of seat).work + charge_held (view_of seat).records
+charge_at seat = charge_in (view_of seat)
 
 -- how many different entries of the table it holds
 abbrev pub entries_at : {T : Type 0} → ShardSeat T → ℕ

@@ -5,7 +5,10 @@ ghost use Rattle.hcc_rule.specs.ToldTrails.{passed_held};
 ghost use Rattle.hcc_cache.specs.Calls.{KeepsAll, Reads, TakesAtMost, Works};
 ghost use Rattle.hcc_cache.specs.Clients.{view_at};
 ghost use Rattle.hcc_cache.specs.Known.{Knows};
-ghost use Rattle.hcc_cache.specs.Totals.{charge_by, entries_by, made_by, no_stats, stats_over, stats_with, taken_by, LoadsUsages, SearchesAll};
+ghost use Rattle.hcc_cache.specs.Totals.{charge_by, charge_in, entries_by, made_by, no_stats, stats_over, stats_with, taken_by, LoadsUsages, SearchesAll};
+ghost use Rattle.hcc_rule.specs.ToldLedgers.{after_usage};
+ghost use Rattle.hcc_rule.specs.Views.{different};
+ghost use Rattle.hcc_table.specs.Searched.{Sought};
 
 use crate::cache::Cache;
 use crate::client::Client;
@@ -30,10 +33,25 @@ impl<T: Tag> Cache<T> {
     {
         let mut sum: u64 = 0;
         for shard in 0..self.shards.len() {
-            let seat = &mut client.seats[shard];
-            sum = sum.saturating_add(self.shards[shard].usage(seat));
+            sum = sum.saturating_add(self.usage_at(client, shard));
         }
         sum
+    }
+
+    /// The same, at one shard.
+    fn usage_at(&self, client: &mut Client<T>, shard: usize) -> u64
+        requires known { Knows self.now client.old }
+        requires within { shard < length self.now.shards.items }
+        ensures known { Knows self.now client.new }
+        ensures keeps { KeepsAll self.now client.old client.new }
+        ensures view { (used : ℕ) × Works shard client.old client.new (view_at shard client.old)
+            (after_usage used (view_at shard client.old)) }
+        ensures entries { charge_in (view_at shard client.old) ≤ result }
+        ensures strict { self.now.strict ≡ true → result ≤ self.now.capacity }
+        ensures steps { TakesAtMost 1 client.old client.new }
+    {
+        let seat = &mut client.seats[shard];
+        self.shards[shard].usage(seat)
     }
 
     /// What is charged for entries that are held and for standalone ones, in all shards, one after
@@ -56,10 +74,27 @@ impl<T: Tag> Cache<T> {
     {
         let mut sum: u64 = 0;
         for shard in 0..self.shards.len() {
-            let seat = &mut client.seats[shard];
-            sum = sum.saturating_add(self.shards[shard].pinned_usage(seat));
+            sum = sum.saturating_add(self.pinned_at(client, shard));
         }
         sum
+    }
+
+    /// The same, at one shard.
+    fn pinned_at(&self, client: &mut Client<T>, shard: usize) -> u64
+        requires known { Knows self.now client.old }
+        requires within { shard < length self.now.shards.items }
+        ensures known { Knows self.now client.new }
+        ensures keeps { KeepsAll self.now client.old client.new }
+        ensures view { Works shard client.old client.new (view_at shard client.old)
+            (view_at shard client.new) }
+        ensures sought { Sought (view_at shard client.old) (view_at shard client.new) }
+        ensures entries { charge_in (view_at shard client.old) ≤ result }
+        ensures alone { self.now.geometry.clients ≡ 1
+            → result ≡ charge_in (view_at shard client.old) }
+        ensures steps { TakesAtMost (5 * self.now.geometry.slots + 1) client.old client.new }
+    {
+        let seat = &mut client.seats[shard];
+        self.shards[shard].pinned_usage(seat)
     }
 
     /// How many entries all shards have, one after the other, with the places and the freed slots
@@ -78,10 +113,26 @@ impl<T: Tag> Cache<T> {
     {
         let mut sum: u64 = 0;
         for shard in 0..self.shards.len() {
-            let seat = &mut client.seats[shard];
-            sum += self.shards[shard].occupancy(seat);
+            sum += self.occupancy_at(client, shard);
         }
         sum
+    }
+
+    /// The same, at one shard.
+    fn occupancy_at(&self, client: &mut Client<T>, shard: usize) -> u64
+        requires known { Knows self.now client.old }
+        requires within { shard < length self.now.shards.items }
+        ensures known { Knows self.now client.new }
+        ensures reads { Reads self.now client.old client.new }
+        ensures entries { length (different (view_at shard client.old).records) ≤ result }
+        ensures low { result < 2 ^ 33 }
+        ensures alone { self.now.geometry.clients ≡ 1
+            → result + (view_at shard client.old).takings
+            ≡ length (view_at shard client.old).made }
+        ensures steps { TakesAtMost 1 client.old client.new }
+    {
+        let seat = &mut client.seats[shard];
+        self.shards[shard].occupancy(seat)
     }
 
     /// The meta word of a slot of a shard.

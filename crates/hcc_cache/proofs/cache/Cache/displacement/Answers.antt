@@ -1,0 +1,56 @@
+use Rattle.std.proofs.Common.{◌≡◌, ◌+◌, ◌*◌, ◌≤◌, ℕ, sym, refl, ap, true, ◌∙◌, arith}
+use Rattle.hcc_shard.specs.Callers.{view_of}
+use Rattle.hcc_rule.specs.declared.geometry.Geometry.{Geometry}
+use Rattle.hcc_cache.specs.Clients.{view_by}
+use Rattle.hcc_cache.proofs.At.{is_at, seated_at, works_at}
+use Rattle.hcc_cache.proofs.Resting.{changes_same, keeps_same, knows_same, same_all}
+use Rattle.hcc_cache.proofs.Seats.{part_same, steps_set, view_here}
+use Rattle.hcc_cache.proofs.cache.Cache.displacement.Goals as goal
+
+pub displacement-requires-clause-seat : goal.displacement-requires-clause-seat
+displacement-requires-clause-seat g c =
+    let was = c.index_mut-seat.result.now in
+    let at = is_at c.args.self.now c.args.client.now c.args.shard c.index.result.now was
+    c.requires.known c.requires.shard c.index.ensures c.index_mut-seat.ensures.value in
+    (seated_at c.args.self.now c.args.client.now c.args.client.now c.args.shard c.index.result.now
+    was was at).rests
+
+pub returns-clause-known : goal.returns-clause-known
+returns-clause-known g c =
+    let was = c.index_mut-seat.result.now in
+    let at = is_at c.args.self.now c.args.client.now c.args.shard c.index.result.now was
+    c.requires.known c.requires.shard c.index.ensures c.index_mut-seat.ensures.value in
+    knows_same c.args.self.now c.args.client.now _ c.args.shard c.index.result.now was c.displacement.new.seat at
+    c.displacement.ensures.seat (same_all (view_of was) (view_of c.displacement.new.seat) c.displacement.ensures.view) refl
+    (record { rest = refl })
+
+pub returns-clause-reads : goal.returns-clause-reads
+returns-clause-reads g c =
+    let was = c.index_mut-seat.result.now in
+    let at = is_at c.args.self.now c.args.client.now c.args.shard c.index.result.now was
+    c.requires.known c.requires.shard c.index.ensures c.index_mut-seat.ensures.value in
+    record {
+      rests = record {
+        all = λ s. part_same (λ v. v) c.args.client.now.seats.items c.args.shard s was c.displacement.new.seat at.seat_is c.displacement.ensures.view;
+        self = (refl, refl);
+      };
+      keeps = keeps_same c.args.self.now c.args.client.now _ c.args.shard c.index.result.now was c.displacement.new.seat at
+          c.displacement.ensures.seat (same_all (view_of was) (view_of c.displacement.new.seat) c.displacement.ensures.view) refl
+          (record { rest = refl });
+    }
+
+pub returns-clause-entries : goal.returns-clause-entries
+returns-clause-entries g c =
+    let was = c.index_mut-seat.result.now in
+    let at = is_at c.args.self.now c.args.client.now c.args.shard c.index.result.now was
+    c.requires.known c.requires.shard c.index.ensures c.index_mut-seat.ensures.value in
+    let slots : c.index.result.now.table.geometry.slots ≡ c.args.self.now.geometry.slots = ap (λ (x : Geometry). x.slots) (at.knows.alike.plans c.args.shard c.index.result.now at.shard_is).0 in
+    rw (ap view_by at.seat_is, ← slots) c.displacement.ensures.entries
+
+pub returns-clause-steps : goal.returns-clause-steps
+returns-clause-steps g c =
+    let was = c.index_mut-seat.result.now in
+    let at = is_at c.args.self.now c.args.client.now c.args.shard c.index.result.now was
+    c.requires.known c.requires.shard c.index.ensures c.index_mut-seat.ensures.value in
+    steps_set c.args.client.now.seats.items c.args.shard 1 was c.displacement.new.seat at.seat_is
+    c.displacement.ensures.steps

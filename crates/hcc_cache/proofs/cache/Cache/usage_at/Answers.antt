@@ -1,0 +1,77 @@
+use Rattle.std.proofs.Common.{◌≡◌, ◌+◌, ◌≤◌, ℕ, sym, refl, ap, true, ◌∙◌, arith}
+use Rattle.hcc_shard.specs.Callers.{view_of}
+use Rattle.hcc_cache.specs.Clients.{view_by}
+use Rattle.hcc_cache.specs.Totals.{charge_in}
+use Rattle.hcc_cache.proofs.At.{is_at, seated_at, works_at}
+use Rattle.hcc_cache.proofs.Resting.{changes_same, keeps_same, knows_same, same_usage}
+use Rattle.hcc_cache.proofs.Seats.{steps_set}
+use Rattle.hcc_cache.proofs.cache.Cache.usage_at.Goals as goal
+
+pub usage-requires : goal.usage-requires
+usage-requires g c =
+    let was = c.index_mut-seat.result.now in
+    let at = is_at c.args.self.now c.args.client.now c.args.shard c.index.result.now was
+    c.requires.known c.requires.within c.index.ensures c.index_mut-seat.ensures.value in
+    record {
+      seat = (seated_at c.args.self.now c.args.client.now c.args.client.now c.args.shard
+          c.index.result.now was was at).rests;
+    }
+
+pub returns-clause-known : goal.returns-clause-known
+returns-clause-known g c =
+    let was = c.index_mut-seat.result.now in
+    let is = c.usage.new.seat in
+    let at = is_at c.args.self.now c.args.client.now c.args.shard c.index.result.now was
+    c.requires.known c.requires.within c.index.ensures c.index_mut-seat.ensures.value in
+    let told = c.usage.ensures.view in
+    knows_same c.args.self.now c.args.client.now _ c.args.shard c.index.result.now was is at
+    c.usage.ensures.seat (same_usage (view_of was) (view_of is) told.0 told.1) refl
+    (record { rest = refl })
+
+pub returns-clause-keeps : goal.returns-clause-keeps
+returns-clause-keeps g c =
+    let was = c.index_mut-seat.result.now in
+    let is = c.usage.new.seat in
+    let at = is_at c.args.self.now c.args.client.now c.args.shard c.index.result.now was
+    c.requires.known c.requires.within c.index.ensures c.index_mut-seat.ensures.value in
+    let told = c.usage.ensures.view in
+    keeps_same c.args.self.now c.args.client.now _ c.args.shard c.index.result.now was is at
+    c.usage.ensures.seat (same_usage (view_of was) (view_of is) told.0 told.1) refl
+    (record { rest = refl })
+
+pub returns-clause-view : goal.returns-clause-view
+returns-clause-view g c =
+    let old = c.args.client.now in
+    let was = c.index_mut-seat.result.now in
+    let is = c.usage.new.seat in
+    let at = is_at c.args.self.now old c.args.shard c.index.result.now was
+    c.requires.known c.requires.within c.index.ensures c.index_mut-seat.ensures.value in
+    let told = c.usage.ensures.view in (
+      told.0,
+      rw (ap view_by at.seat_is, ← told.1)
+          (works_at c.args.self.now old _ c.args.shard c.index.result.now was is at
+          (record { seats = refl; number = refl; most = refl; capacity = (refl, refl) })),
+    )
+
+pub returns-clause-entries : goal.returns-clause-entries
+returns-clause-entries g c =
+    let was = c.index_mut-seat.result.now in
+    let at = is_at c.args.self.now c.args.client.now c.args.shard c.index.result.now was
+    c.requires.known c.requires.within c.index.ensures c.index_mut-seat.ensures.value in
+    rw (ap view_by at.seat_is) c.usage.ensures.entries
+
+pub returns-clause-strict : goal.returns-clause-strict
+returns-clause-strict g c =
+    let was = c.index_mut-seat.result.now in
+    let at = is_at c.args.self.now c.args.client.now c.args.shard c.index.result.now was
+    c.requires.known c.requires.within c.index.ensures c.index_mut-seat.ensures.value in
+    let plans = at.knows.alike.plans c.args.shard c.index.result.now at.shard_is in
+    λ strict. rw (← plans.1) (c.usage.ensures.strict (plans.2 ∙ strict))
+
+pub returns-clause-steps : goal.returns-clause-steps
+returns-clause-steps g c =
+    let was = c.index_mut-seat.result.now in
+    let at = is_at c.args.self.now c.args.client.now c.args.shard c.index.result.now was
+    c.requires.known c.requires.within c.index.ensures c.index_mut-seat.ensures.value in
+    steps_set c.args.client.now.seats.items c.args.shard 1 was c.usage.new.seat at.seat_is
+    c.usage.ensures.steps
