@@ -8,3 +8,4 @@ pub mod At
 pub mod Slots
 pub mod Held
 pub mod Resting
+pub mod Through
