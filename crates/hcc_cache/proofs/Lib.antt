@@ -3,3 +3,8 @@ pub mod Seats
 pub mod Framing
 pub mod At
 pub mod Slots
+pub mod Held
+pub mod More
+pub mod Gained
+pub mod Found
+pub mod Again
