@@ -3,3 +3,4 @@ pub mod Seats
 pub mod Framing
 pub mod At
 pub mod Slots
+pub mod Less
