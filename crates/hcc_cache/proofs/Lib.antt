@@ -4,6 +4,7 @@ pub mod Framing
 pub mod At
 pub mod Slots
 pub mod Held
+pub mod Less
 pub mod More
 pub mod Gained
 pub mod Found
