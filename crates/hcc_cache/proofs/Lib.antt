@@ -9,3 +9,5 @@ pub mod More
 pub mod Gained
 pub mod Found
 pub mod Again
+pub mod StandsAgain
+pub mod StandingAgain
