@@ -9,3 +9,10 @@ pub mod Slots
 pub mod Held
 pub mod Resting
 pub mod Through
+pub mod Less
+pub mod More
+pub mod Gained
+pub mod Found
+pub mod Again
+pub mod StandsAgain
+pub mod StandingAgain
