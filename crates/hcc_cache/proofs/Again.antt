@@ -1,5 +1,5 @@
 -- One handle more on an entry of the table that is held.
-use Rattle.std.proofs.Common.{◌≡◌, ℕ, ◌+◌, ◌<◌, ◌≤◌, Bool, List, [], ◌∷◌, ◌++◌, Option, Some, None, IfSome, IsSomeAnd, length, option_map, slice_get, sym, refl, ap, subst, ◌∙◌, arith}
+use Rattle.std.proofs.Common.{◌≡◌, ℕ, ◌+◌, ◌<◌, ◌≤◌, Bool, Global, List, [], ◌∷◌, ◌++◌, Option, Some, None, IfSome, IsSomeAnd, length, option_map, slice_get, sym, refl, ap, subst, ◌∙◌, arith}
 use Rattle.slab.specs.Slab.{get}
 use Rattle.hcc_rule.specs.declared.view.Record.{Record}
 use Rattle.hcc_rule.specs.Views.{is_called, record_in}
@@ -34,7 +34,7 @@ module _ {T : Type 0} (cache : Cache T) (client : Client T) (hold : Hold) where
       (within, omega arith)
 
   -- the record that a handle on an entry of the table stands for, in the view of its shard
-  pub record IsPinAt (slot : ℕ) (counting : Bool) (shard : Shard (Seeded T) _)
+  pub record IsPinAt (slot : ℕ) (counting : Bool) (shard : Shard (Seeded T) Global)
       (was : ShardSeat (Seeded T)) : Type 0 where
     pub handled : Record
     pub there : record_in hold.serial (view_of was).records ≡ Some handled

@@ -9,3 +9,6 @@ pub mod More
 pub mod Gained
 pub mod Found
 pub mod Again
+pub mod Standing
+pub mod Released
+pub mod Readings
