@@ -16,3 +16,6 @@ pub mod Found
 pub mod Again
 pub mod StandsAgain
 pub mod StandingAgain
+pub mod Standing
+pub mod Released
+pub mod Readings
