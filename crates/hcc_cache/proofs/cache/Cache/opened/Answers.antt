@@ -1,12 +1,19 @@
-use Rattle.std.proofs.Common.{◌≡◌, ℕ, ◌+◌, ◌<◌, ◌≤◌, List, [], ◌∷◌, Some, sym, refl, ap, ◌∙◌, length, slice_get, arith}
+use Rattle.std.proofs.Common.{◌≡◌, ℕ, ◌+◌, ◌<◌, ◌≤◌, List, [], ◌∷◌, ◌++◌, Some, sym, refl, ap, ◌∙◌, length, slice_get, arith}
 use Rattle.std.proofs.lemmas.List.{length_push}
 use Rattle.hcc_rule.proofs.Seats.Splits.{each_snoc}
 use Rattle.hcc_cache.specs.Opened.{IsConfigured}
 use Rattle.hcc_cache.proofs.Dealing.{dealt_more, dealt_none, opened}
 use Rattle.hcc_cache.proofs.cache.Cache.opened.Goals as goal
 
-pub loop-initial : goal.loop-initial
-loop-initial g c = ?
+pub loop-init : goal.loop-init
+loop-init g c =
+    let items = c.in_ok-shards.ensures.items in
+    record {
+      count = ap length items;
+      dealt = rw items
+          (dealt_none c.args.config c.in_ok-clients.clients.items c.in_ok-clients.ensures);
+      configured = λ s shard h. absurd (let none = ap (λ xs. slice_get xs s) items in cc);
+    }
 
 pub loop-preserved : goal.loop-preserved
 loop-preserved g c =
@@ -14,12 +21,13 @@ loop-preserved g c =
     let old = c.loop.shards.items in
     let made = c.in_ok-shard.ensures in
     let shard = c.in_ok-shard.shard in
-    let items = c.in_ok-push.ensures.items in
+    let items : c.push.new.self.items ≡ old ++ shard ∷ [] = c.in_ok-push.ensures.items in
+    let longer = ap length {y = old ++ shard ∷ []} items ∙ length_push old shard in
     record {
-      count = ap length items ∙ length_push old shard ∙ ap (λ n. n + 1) kept.count;
-      dealt = rw items (dealt_more c.args.config old c.loop.clients.items c.deal.new.clients.items
-          shard c.in_ok-shard.seats.items
-          kept.dealt c.in_ok-deal.ensures made.seats);
+      count = longer ∙ ap (λ n. n + 1) kept.count;
+      dealt = rw items
+          (dealt_more c.args.config old c.loop.clients.items c.deal.new.clients.items shard
+          c.in_ok-shard.seats.items kept.dealt c.in_ok-deal.ensures made.seats);
       configured = rw items
           (each_snoc (IsConfigured c.args.config c.args.tag) old shard made.shard kept.configured);
     }
@@ -29,13 +37,12 @@ returns g c =
     let kept = c.loop.invariant in
     let counted = kept.count in
     let done = c.loop-test.false in
-    let made = record {
+    opened c.args.config c.args.tag _ c.loop.clients.items c.requires (record {
       tag_is = refl;
       seed = refl;
-      geometry = refl;
-      capacity = refl;
+      geometry = c.shard_geometry.ensures;
+      capacity = c.shard_capacity.ensures.exact;
       strict = refl;
       count = omega arith;
       shards = kept.configured;
-    } in
-    opened c.args.config c.args.tag _ c.loop.clients.items c.requires made kept.dealt
+    }) kept.dealt
