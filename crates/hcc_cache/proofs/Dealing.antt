@@ -1,5 +1,5 @@
 -- New clients, as each is dealt a seat at each shard.
-use Rattle.std.proofs.Common.{◌≡◌, ◌≢◌, ◌⊎◌, inl, inr, ℕ, zero, suc, ◌+◌, ◌<◌, ◌≤◌, List, [], ◌∷◌, ◌++◌, Option, Some, None, get_or, length, slice_get, slice_set, sym, refl, ap, ◌∙◌, length-set, length-append, arith}
+use Rattle.std.proofs.Common.{◌≡◌, ◌≢◌, ◌⊎◌, inl, inr, ℕ, zero, suc, ◌+◌, ◌≤◌, List, [], ◌∷◌, ◌++◌, Some, None, get_or, length, slice_get, slice_set, sym, refl, ap, ◌∙◌, length-set, length-append, arith}
 use Rattle.std.proofs.lemmas.Bool.{cases_eq}
 use Rattle.slab.specs.Slab.{Slab, get}
 use Rattle.hcc_core.specs.Sums.{total}
@@ -15,7 +15,7 @@ use Rattle.hcc_cache.specs.declared.client.Client.{Client}
 use Rattle.hcc_cache.specs.declared.config.Config.{Config}
 use Rattle.hcc_cache.specs.declared.seeded.Seeded.{Seeded}
 use Rattle.hcc_cache.specs.Configs.{IsAllowed, shard_capacity, shard_geometry}
-use Rattle.hcc_cache.specs.Known.{AreAlike, AreHeld, AreSeated, IsSeated, Knows, records_at, standalones_at}
+use Rattle.hcc_cache.specs.Known.{AreAlike, AreHeld, IsSeated, Knows, records_at, standalones_at}
 use Rattle.hcc_cache.specs.Opened.{AreDealt, AreGiven, AreUnseated, Gains, IsConfigured, IsDealt, IsOpened, IsUnused}
 
 -- a list with one more member has that one, or what was there
@@ -87,6 +87,7 @@ module _ {T A : Type 0} where
 
 -- The seats of one shard are dealt, from the last client's on.
 module _ {T : Type 0} where
+  -- at first no client has its seat
   pub given_none : (clients : List (Client T)) (seats : List (ShardSeat (Seeded T)))
       → length seats ≡ length clients → AreGiven (length seats) clients seats clients
   given_none clients seats count = record {
@@ -95,6 +96,7 @@ module _ {T : Type 0} where
     given = λ k client above h. let inside = within clients k client h in absurd (omega arith);
   }
 
+  -- the next client gets its seat, where those after it have theirs
   pub given_more : (old now : List (Client T)) (seats : List (ShardSeat (Seeded T))) (n : ℕ)
       (was is : Client T) (seat : ShardSeat (Seeded T)) → AreGiven (n + 1) old seats now
       → slice_get now n ≡ Some was → slice_get seats n ≡ Some seat → Gains was seat is
@@ -110,15 +112,16 @@ module _ {T : Type 0} where
           ap (slice_get (slice_set now n is)) e ∙ read_here now n was is at in
           let both : Some client ≡ Some is = sym h ∙ here in
           let same : client ≡ is = cc in
-          let unchanged = all.same n was (omega arith) at in
-          (was, seat, ap (slice_get old) e ∙ unchanged, ap (slice_get seats) e ∙ from, rw same gains)
+          let stood = ap (slice_get old) e ∙ all.same n was (omega arith) at in
+          let dealt = ap (slice_get seats) e ∙ from in
+          (was, seat, stood, dealt, rw same gains)
       | inr after ↦
           let later : n + 1 ≤ k = omega arith in
           all.given k client later (sym (read_other now n k is after) ∙ h)
     ];
   }
 
-  -- a client with one more seat did nothing still
+  -- a client that got a seat did nothing still
   unused_still : (config : Config) (k : ℕ) (was client : Client T) (seat : ShardSeat (Seeded T))
       → IsUnused config k was → Gains was seat client → IsUnused config k client
   unused_still config k was client seat unused gains = record {
@@ -306,5 +309,6 @@ module _ {T : Type 0} where
         count = made.count;
         shards = made.shards;
         dealt = dealt;
-        known = λ k client h. dealt_known config cache k client allowed alike (dealt.each k client h);
+        known = λ k client h.
+            dealt_known config cache k client allowed alike (dealt.each k client h);
       }

@@ -1,4 +1,4 @@
-use Rattle.std.proofs.Common.{◌≡◌, ℕ, ◌+◌, List, [], ◌∷◌, ◌++◌, Some, inl, inr, sym, refl, ap, ◌∙◌, length, slice_get}
+use Rattle.std.proofs.Common.{◌+◌, [], ◌∷◌, ◌++◌, inl, inr, sym, refl, ap, ◌∙◌, length, slice_get}
 use Rattle.std.proofs.lemmas.List.{length_push}
 use Rattle.hcc_cache.specs.declared.client.Client.{Client}
 use Rattle.hcc_cache.proofs.Dealing.{get_push}
@@ -19,8 +19,9 @@ loop-number-preserved g c =
       alone = c.in_ok-with_capacity-3.field-0;
     } in
     let kept = c.loop-number.invariant in
+    let longer = ap length {y = old ++ made ∷ []} items ∙ length_push old made in
     record {
-      count = ap length {y = old ++ made ∷ []} items ∙ length_push old made ∙ ap (λ n. n + 1) kept.count;
+      count = longer ∙ ap (λ n. n + 1) kept.count;
       each = λ k client h. elim (get_push old made client k (ap (λ xs. slice_get xs k)
           {x = old ++ made ∷ []} (sym items) ∙ h)) [
             | inl there ↦ kept.each k client there

@@ -1,4 +1,4 @@
-use Rattle.std.proofs.Common.{◌≡◌, ℕ, ◌+◌, ◌<◌, ◌≤◌, List, [], ◌∷◌, ◌++◌, Some, sym, refl, ap, ◌∙◌, length, slice_get, arith}
+use Rattle.std.proofs.Common.{◌≡◌, ◌+◌, [], ◌∷◌, ◌++◌, refl, ap, ◌∙◌, length, slice_get, arith}
 use Rattle.std.proofs.lemmas.List.{length_push}
 use Rattle.hcc_rule.proofs.Seats.Splits.{each_snoc}
 use Rattle.hcc_cache.specs.Opened.{IsConfigured}
