@@ -15,6 +15,8 @@ mod opening;
 mod priority;
 mod seeded;
 mod tags;
+#[cfg(test)]
+mod tests;
 
 pub use cache::Cache;
 pub use client::Client;
