@@ -19,3 +19,4 @@ pub mod StandingAgain
 pub mod Standing
 pub mod Released
 pub mod Readings
+pub mod Dealing

@@ -1,5 +1,5 @@
 //! A new cache, whose clients are dealt a seat at each shard.
-ghost use Rattle.std.specs.Prelude.{◌≡◌, ◌≤◌, ◌+◌, [], ◌∷◌, ◌++◌, ℕ, Ok, Err, Some, IfOk, IfErr, IsOkUnless, OnOk, length, slice_get};
+ghost use Rattle.std.specs.Prelude.{◌≡◌, Err, IfOk, IfErr, IsOkUnless, OnOk, length};
 ghost use Rattle.hcc_shard.specs.Seated.{AreNew};
 ghost use Rattle.hcc_cache.specs.Configs.{checked, IsAllowed};
 ghost use Rattle.hcc_cache.specs.Opened.{AreGiven, AreUnseated, IsConfigured, IsOpened};
