@@ -4,7 +4,6 @@ use Rattle.hcc_rule.specs.declared.key.Key.{Key}
 use Rattle.hcc_rule.specs.declared.table.RuleTable.{RuleTable}
 use Rattle.hcc_rule.specs.Callers.{slots_of}
 use Rattle.hcc_rule.specs.Seats.{SeatOf, IsSameSeat, made, view}
-use Rattle.hcc_rule.specs.ToldLedgers.{after_turn}
 use Rattle.hcc_table.specs.declared.efforts.Effort.{Effort}
 use Rattle.hcc_table.specs.declared.visiting.ClockVisit.{ClockVisit}
 use Rattle.hcc_table.specs.Efforts.{Lost}

@@ -6,7 +6,6 @@ use Rattle.hcc_core.specs.declared.client.Place.{Place}
 use Rattle.hcc_core.specs.declared.client.Place.TheVariants as places
 use Rattle.hcc_core.specs.Sums.{when}
 use Rattle.hcc_rule.specs.declared.view.View.{View}
-use Rattle.hcc_rule.specs.Views.{Each}
 use Rattle.hcc_table.specs.Efforts.{Rose}
 use Rattle.hcc_table.specs.Searched.{Grows}
 use Rattle.hcc_charge.specs.declared.reserving.Reservation.{Reservation}
@@ -14,7 +13,8 @@ use Rattle.hcc_charge.specs.declared.reserving.Reservation.TheVariants.{Reserved
 use Rattle.hcc_charge.specs.declared.reserving.Refused.{Refused}
 use Rattle.hcc_charge.specs.declared.reserving.Refused.TheVariants.{TooLarge, CapacityFull, OccupancyFull}
 use Rattle.hcc_charge.specs.declared.tally.Tally.{Tally}
-use Rattle.hcc_charge.specs.Evicted.{most_turns}
+use Rattle.hcc_charge.specs.declared.swept.Swept.{Swept}
+use Rattle.hcc_charge.specs.Evicted.{IsSweptFor}
 
 -- How much is asked for.
 
@@ -39,12 +39,33 @@ still_needed capacity used charge = charge - min charge (capacity - min used cap
 abbrev pub at_least_one : Bool → ℕ → ℕ
 at_least_one full ask = if full then max ask 1 else ask
 
+-- what a reservation asks eviction for, by the usage where it loads that, else by what it needs
+abbrev pub asked : (capacity charge : ℕ) → (full : Bool) → (needed : ℕ) → (loads : List ℕ) → ℕ
+asked capacity charge full needed [] = at_least_one full needed
+asked capacity charge full needed (used ∷ _) = at_least_one full (ask_of capacity used charge)
+
+-- the charges that aren't granted at once
+abbrev pub short_of : (needed charge : ℕ) → List ℕ
+short_of needed charge = if nat_lt 0 needed then charge ∷ [] else []
+
 -- Why entries are evicted: the shard was full, not all of the charge was granted at once, or it
 -- didn't fit beside a usage that was loaded.
-abbrev pub has_cause : (capacity charge opened : ℕ) → (short loads : List ℕ) → Bool
-has_cause capacity charge opened short loads =
-    nat_lt 0 opened || list_any (λ t. nat_le charge t && nat_le t charge) short
-    || list_any (presses capacity charge) loads
+abbrev pub has_cause : (capacity charge : ℕ) → (full : Bool) → (needed : ℕ) → (loads : List ℕ)
+    → Bool
+has_cause capacity charge full needed loads =
+    full || nat_lt 0 needed || list_any (presses capacity charge) loads
+
+-- What a reservation found, and what it did about it: whether the shard was full, how much of the
+-- charge wasn't granted at once, which usages it loaded, and what its eviction did. It evicts just
+-- where it has a cause.
+pub record Shortage (slots capacity charge : ℕ) : Type 0 where
+  pub full : Bool
+  pub needed : ℕ
+  pub loads : List ℕ
+  pub swept : Swept
+  pub part : needed ≤ charge
+  pub cause : nat_lt 0 swept.turns ≡ has_cause capacity charge full needed loads
+  pub evicts : IsSweptFor slots (asked capacity charge full needed loads) swept
 
 module _ {T : Type 0} where
   -- a place was asked for
@@ -67,16 +88,11 @@ module _ {T : Type 0} where
   }
 
   -- A reservation was tried, and this place and this much charge are granted. Nothing is needed,
-  -- and what was freed is settled. It counts whether the shard was full (`opened`), which charges
-  -- weren't granted at once (`short`: none but this one), and which usages it loaded; it took
-  -- entries only for one of these, none of which was Shown with uses left. All else stays.
+  -- and what was freed is settled. It took as many entries as its eviction freed, none of which was
+  -- Shown with uses left. All else stays.
   pub record Reserves (slots capacity charge : ℕ) (place : Place) (granted : ℕ)
       (v w : View T) : Type 0 where
-    pub opened : ℕ
-    pub short : List ℕ
-    pub loads : List ℕ
-    pub taken : ℕ
-    pub turns : ℕ
+    pub shortage : Shortage slots capacity charge
     pub same : w ≡ record v {
       work = record v.work {
         looked = w.work.looked;
@@ -90,33 +106,33 @@ module _ {T : Type 0} where
         dead = w.work.dead;
       };
       written = w.written;
-      takings = v.takings + taken;
-      open_places = v.open_places + opened;
-      turns = v.turns + turns;
-      seen = v.seen ++ loads;
-      tight = v.tight ++ short;
+      takings = v.takings + shortage.swept.slots;
+      open_places = v.open_places + when shortage.full 1;
+      turns = v.turns + shortage.swept.turns;
+      seen = v.seen ++ shortage.loads;
+      tight = v.tight ++ short_of shortage.needed charge;
     }
     pub dead : Grows v.work.dead w.work.dead
-    pub own : Each (λ t. t ≡ charge) short
-    pub few : turns ≤ most_turns slots
-    pub cause : 0 < taken → has_cause capacity charge opened short loads ≡ true
 
   -- The view after a reservation, by its answer.
   abbrev pub ReservedBy : (slots capacity : ℕ) → (strict : Bool) → (charge : ℕ)
       → Result Reservation Refused → View T → View T → Type 0
   ReservedBy slots capacity strict charge (Ok Reserved) v w =
-      Reserves slots capacity charge places.Granted charge v w
+      (r : Reserves slots capacity charge places.Granted charge v w)
+      × (r.shortage.full ≡ true → 0 < r.shortage.swept.slots)
+      × (r.shortage.needed ≤ r.shortage.swept.charge)
   ReservedBy slots capacity strict charge (Ok NoPlace) v w =
       Reserves slots capacity charge places.Absent 0 v w × (strict ≡ false)
-      × (v.open_places < w.open_places)
+      × (v.open_places < w.open_places) × (w.takings ≡ v.takings)
   ReservedBy slots capacity strict charge (Err TooLarge) v w =
       (strict ≡ true) × (capacity < charge) × (w ≡ v)
   ReservedBy slots capacity strict charge (Err CapacityFull) v w =
-      Reserves slots capacity charge places.Absent 0 v w × (strict ≡ true)
+      (r : Reserves slots capacity charge places.Absent 0 v w) × (strict ≡ true)
       × (w.tight ≡ v.tight ++ charge ∷ [])
+      × (r.shortage.swept.charge < r.shortage.needed)
   ReservedBy slots capacity strict charge (Err OccupancyFull) v w =
       Reserves slots capacity charge places.Absent 0 v w × (strict ≡ true)
-      × (v.open_places < w.open_places)
+      × (v.open_places < w.open_places) × (w.takings ≡ v.takings) × (w.tight ≡ v.tight)
 
   -- The counts of a client's evictions rose with its view's: by its turns and its takings, of which
   -- some had a hit bit, each with a charge below 2^32.

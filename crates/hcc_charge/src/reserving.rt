@@ -8,9 +8,9 @@ ghost use Rattle.hcc_rule.specs.ToldLedgers.{waived};
 ghost use Rattle.hcc_table.specs.Efforts.{Lost};
 ghost use Rattle.hcc_table.specs.Erased.{IsAtRest};
 ghost use Rattle.hcc_charge.specs.declared.reserving.Refused.TheVariants.{TooLarge};
-ghost use Rattle.hcc_charge.specs.Evicted.{most_turns, Sweeps, evicting, reserving};
+ghost use Rattle.hcc_charge.specs.Evicted.{most_turns, IsSweptFor, Sweeps, evicting, reserving};
 ghost use Rattle.hcc_charge.specs.Reserved.{entered, settled_as, ReservedBy, RoseWith};
-ghost use Rattle.hcc_charge.specs.Swept.{IsModest, Tallied};
+ghost use Rattle.hcc_charge.specs.Swept.{Tallied};
 ghost use Rattle.hcc_table.specs.Steps.{MakesAtMost};
 
 use crate::asking::{ask, at_least_one, needed};
@@ -103,6 +103,7 @@ fn reserve_lax<T: Tag, A: Allocator>(
     requires seat { IsSeatAt table.now seat.old }
     requires idle { IsBetweenCalls (view seat.old).work }
     requires lax { is_strict table.now ≡ false }
+    requires some { 0 < charge }
     ensures seat { IsSameSeat seat.old seat.new }
     ensures view { ReservedBy (slots_of table.now) (capacity_of table.now) false
         charge (Ok result) (view seat.old) (view seat.new) }
@@ -186,9 +187,7 @@ fn evict_for<T: Tag, A: Allocator>(
     requires ask { ask < 2 ^ 34 }
     ensures seat { IsSameSeat seat.old seat.new }
     ensures view { Sweeps result.turns result.slots result.charge (view seat.old) (view seat.new) }
-    ensures turns { result.turns ≤ most_turns (slots_of table.now) }
-    ensures asked { 0 < result.slots → 0 < ask }
-    ensures modest { IsModest (4 * result.turns) result }
+    ensures swept { IsSweptFor (slots_of table.now) ask result }
     ensures tally { Tallied result tally.old tally.new }
     ensures effort { Lost result.lost result.lost effort.old effort.new }
     ensures steps { MakesAtMost (evicting (slots_of table.now)) seat.old seat.new }

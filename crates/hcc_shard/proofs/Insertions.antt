@@ -1,13 +1,14 @@
 -- What an insertion leaves of a view, put together.
-use Rattle.std.proofs.Common.{◌≡◌, ℕ, ◌+◌, ◌-◌, ◌<◌, ◌++◌, ◌||◌, ◌&&◌, ◌==◌, append_assoc, IfSome, nat_lt, nat_le, Bool, true, false, List, [], ◌∷◌, Err, length, sym, subst, refl, ap, ◌∙◌, arith}
+use Rattle.std.proofs.Common.{◌≡◌, ℕ, ◌+◌, ◌-◌, ◌<◌, ◌++◌, ◌||◌, ◌&&◌, ◌==◌, append_assoc, IfSome, nat_le, Bool, true, false, List, [], ◌∷◌, Err, length, sym, subst, refl, ap, ◌∙◌, arith}
 use Rattle.std.specs.List.{list_any}
-use Rattle.std.proofs.lemmas.Bool.{lt-ltb, le-leb, eq-eqb}
+use Rattle.std.proofs.lemmas.Bool.{le-leb, eq-eqb}
 use Rattle.hcc_core.specs.declared.client.Owned.TheVariants as owned
 use Rattle.hcc_core.specs.declared.client.Place.TheVariants as places
 use Rattle.hcc_core.specs.declared.limits.TheConstants.{MOST_CLIENTS}
 use Rattle.hcc_core.specs.declared.slot.Stamp.{Stamp}
 use Rattle.hcc_core.specs.Lawful.{is_in}
 use Rattle.hcc_core.specs.Ledgers.{is_standing}
+use Rattle.hcc_core.specs.Sums.{when}
 use Rattle.hcc_rule.specs.declared.geometry.Geometry.{Geometry}
 use Rattle.hcc_rule.specs.declared.key.Key.{Key}
 use Rattle.hcc_rule.specs.declared.rule.Plan.{Plan}
@@ -19,7 +20,7 @@ use Rattle.hcc_table.specs.Inserted.{MayInsert, Meets, Tried}
 use Rattle.hcc_table.specs.Searched.{is_key}
 use Rattle.hcc_charge.specs.declared.reserving.Refused.{Refused}
 use Rattle.hcc_charge.specs.declared.reserving.Refused.TheVariants.{TooLarge, CapacityFull, OccupancyFull}
-use Rattle.hcc_charge.specs.Reserved.{Reserves, ReservedBy}
+use Rattle.hcc_charge.specs.Reserved.{Reserves, ReservedBy, short_of}
 use Rattle.hcc_charge.specs.Settled.{stood, without_place}
 use Rattle.hcc_shard.specs.Inserted.{IsInsertable, IsUnplaced, IsUnshown, RefusedBy, Tries, with_draft}
 use Rattle.hcc_shard.specs.Seated.{IsQuiet}
@@ -81,11 +82,7 @@ module _ {T : Type 0} where
       → Reserves slots capacity charge places.Absent 0 v w
       → Tries slots capacity charge v.work.stamps v.work.standalones v.records v.made v w
   tries_none slots capacity charge v w r = record {
-    opened = r.opened;
-    short = r.short;
-    loads = r.loads;
-    taken = r.taken;
-    turns = r.turns;
+    shortage = r.shortage;
     met = [];
     tries = 0;
     same = r.same ∙ (λ k. record v {
@@ -101,18 +98,15 @@ module _ {T : Type 0} where
         dead = w.work.dead;
       };
       written = w.written;
-      takings = v.takings + r.taken;
-      open_places = v.open_places + r.opened;
+      takings = v.takings + r.shortage.swept.slots;
+      open_places = v.open_places + when r.shortage.full 1;
       saw = no_added v.saw k;
-      turns = v.turns + r.turns;
+      turns = v.turns + r.shortage.swept.turns;
       met = none_more v.met k;
-      seen = v.seen ++ r.loads;
-      tight = v.tight ++ r.short;
+      seen = v.seen ++ r.shortage.loads;
+      tight = v.tight ++ short_of r.shortage.needed charge;
     });
     dead = r.dead;
-    own = r.own;
-    few = r.few;
-    cause = r.cause;
   }
 
   -- Nothing was reserved, and the entry stands alone.
@@ -121,11 +115,7 @@ module _ {T : Type 0} where
       → Tries slots capacity charge v.work.stamps
       (v.work.standalones ++ record { name = name; charge = charge } ∷ []) v.records v.made v w
   tries_alone slots capacity charge name v a w r stands = record {
-    opened = r.opened;
-    short = r.short;
-    loads = r.loads;
-    taken = r.taken;
-    turns = r.turns;
+    shortage = r.shortage;
     met = [];
     tries = 0;
     same = stands ∙ (ap (stood name charge) r.same ∙ (λ k. record v {
@@ -142,19 +132,16 @@ module _ {T : Type 0} where
         dead = sym (ap (λ (z : View T). z.work.dead) stands) k;
       };
       written = sym (ap (λ (z : View T). z.written) stands) k;
-      takings = v.takings + r.taken;
-      open_places = v.open_places + r.opened;
+      takings = v.takings + r.shortage.swept.slots;
+      open_places = v.open_places + when r.shortage.full 1;
       saw = no_added v.saw k;
-      turns = v.turns + r.turns;
+      turns = v.turns + r.shortage.swept.turns;
       met = none_more v.met k;
-      seen = v.seen ++ r.loads;
-      tight = v.tight ++ r.short;
+      seen = v.seen ++ r.shortage.loads;
+      tight = v.tight ++ short_of r.shortage.needed charge;
     }));
     dead = λ stamp h. subst (λ d. is_in stamp d ≡ true)
         (sym (ap (λ (z : View T). z.work.dead) stands)) (r.dead stamp h);
-    own = r.own;
-    few = r.few;
-    cause = r.cause;
   }
 
   module _ (slots capacity charge : ℕ) (v a : View T)
@@ -166,11 +153,7 @@ module _ {T : Type 0} where
         (v.records ++ first_records slot draft.name (shown_entry v (made_of draft value)))
         (v.made ++ made_of draft value ∷ []) v w
     tries_placed slot draft value w paid t = record {
-      opened = r.opened;
-      short = r.short;
-      loads = r.loads;
-      taken = r.taken;
-      turns = r.turns;
+      shortage = r.shortage;
       met = t.met.0;
       tries = w.saw - v.saw;
       same =
@@ -199,18 +182,15 @@ module _ {T : Type 0} where
                 v.records ++ first_records slot draft.name (shown_entry v (made_of draft value));
             written = sym (ap (λ (z : View T). z.written) t.same) k;
             made = v.made ++ made_of draft value ∷ [];
-            takings = v.takings + r.taken;
-            open_places = v.open_places + r.opened;
+            takings = v.takings + r.shortage.swept.slots;
+            open_places = v.open_places + when r.shortage.full 1;
             saw = saw_is k;
-            turns = v.turns + r.turns;
+            turns = v.turns + r.shortage.swept.turns;
             met = met_is k;
-            seen = v.seen ++ r.loads;
-            tight = v.tight ++ r.short;
+            seen = v.seen ++ r.shortage.loads;
+            tight = v.tight ++ short_of r.shortage.needed charge;
           }));
       dead = λ stamp h. t.dead stamp (r.dead stamp h);
-      own = r.own;
-      few = r.few;
-      cause = r.cause;
     }
       where
         spent : charge - draft.charge ≡ 0
@@ -253,13 +233,13 @@ module _ {T : Type 0} where
           dead = w.work.dead;
         };
         written = w.written;
-        takings = v.takings + r.taken;
-        open_places = v.open_places + r.opened;
+        takings = v.takings + r.shortage.swept.slots;
+        open_places = v.open_places + when r.shortage.full 1;
         saw = v.saw + u.tries;
-        turns = v.turns + r.turns;
+        turns = v.turns + r.shortage.swept.turns;
         met = v.met ++ u.met;
-        seen = v.seen ++ r.loads;
-        tight = v.tight ++ r.short;
+        seen = v.seen ++ r.shortage.loads;
+        tight = v.tight ++ short_of r.shortage.needed charge;
       }
       left_over =
           left ∙ (ap (without_place granted) u.tried.same
@@ -282,13 +262,13 @@ module _ {T : Type 0} where
             written =
                 (sym (ap (λ (z : View T). z.written) u.tried.same)
                 ∙ sym (ap (λ (z : View T). z.written) left)) k;
-            takings = v.takings + r.taken;
-            open_places = v.open_places + r.opened;
+            takings = v.takings + r.shortage.swept.slots;
+            open_places = v.open_places + when r.shortage.full 1;
             saw = (sym (ap (λ (z : View T). z.saw) left) ∙ saw_more) k;
-            turns = v.turns + r.turns;
+            turns = v.turns + r.shortage.swept.turns;
             met = (sym (ap (λ (z : View T). z.met) left) ∙ met_more) k;
-            seen = v.seen ++ r.loads;
-            tight = v.tight ++ r.short;
+            seen = v.seen ++ r.shortage.loads;
+            tight = v.tight ++ short_of r.shortage.needed charge;
           })))
 
       pub dead_more : (stamp : Stamp) → is_in stamp v.work.dead ≡ true
@@ -302,18 +282,11 @@ module _ {T : Type 0} where
         → w ≡ without_place 0 b
         → Tries slots capacity charge v.work.stamps v.work.standalones v.records v.made v w
     tries_dropped key b w u left = record {
-      opened = r.opened;
-      short = r.short;
-      loads = r.loads;
-      taken = r.taken;
-      turns = r.turns;
+      shortage = r.shortage;
       met = u.met;
       tries = u.tries;
       same = left_over key b w 0 u left;
       dead = dead_more key b w 0 u left;
-      own = r.own;
-      few = r.few;
-      cause = r.cause;
     }
 
     -- The charge was kept, and is a standalone entry's.
@@ -322,11 +295,7 @@ module _ {T : Type 0} where
         → Tries slots capacity charge v.work.stamps
         (v.work.standalones ++ record { name = name; charge = charge } ∷ []) v.records v.made v w
     tries_stood key name b w u stands = record {
-      opened = r.opened;
-      short = r.short;
-      loads = r.loads;
-      taken = r.taken;
-      turns = r.turns;
+      shortage = r.shortage;
       met = u.met;
       tries = u.tries;
       same =
@@ -345,20 +314,17 @@ module _ {T : Type 0} where
               dead = sym (ap (λ (z : View T). z.work.dead) stands) k;
             };
             written = sym (ap (λ (z : View T). z.written) stands) k;
-            takings = v.takings + r.taken;
-            open_places = v.open_places + r.opened;
+            takings = v.takings + r.shortage.swept.slots;
+            open_places = v.open_places + when r.shortage.full 1;
             saw = v.saw + u.tries;
-            turns = v.turns + r.turns;
+            turns = v.turns + r.shortage.swept.turns;
             met = v.met ++ u.met;
-            seen = v.seen ++ r.loads;
-            tight = v.tight ++ r.short;
+            seen = v.seen ++ r.shortage.loads;
+            tight = v.tight ++ short_of r.shortage.needed charge;
           }));
       dead = λ stamp h. subst (λ d. is_in stamp d ≡ true)
           (sym (ap (λ (z : View T). z.work.dead) stands))
           (dead_more key b (without_place charge b) charge u refl stamp h);
-      own = r.own;
-      few = r.few;
-      cause = r.cause;
     }
 
   module _ (slots capacity : ℕ) (strict : Bool) (draft : Draft) where
@@ -366,34 +332,39 @@ module _ {T : Type 0} where
     pub refused_by : (why : Refused) (v w : View T)
         → ReservedBy slots capacity strict draft.charge (Err why) v w
         → RefusedBy slots capacity strict draft why v w
+    unfolding tries_none
     refused_by TooLarge v w told = told
     refused_by CapacityFull v w told = (
       tries_none slots capacity draft.charge v w told.0,
       told.1,
       told.2,
+      told.3,
     )
     refused_by OccupancyFull v w told = (
       tries_none slots capacity draft.charge v w told.0,
       told.1,
       told.2,
+      told.3,
+      told.4,
     )
 
     -- The shard was full:
     module _ (v a : View T)
         (r : Reserves slots capacity draft.charge places.Absent 0 v a)
         (more : v.open_places < a.open_places) where
-      was_full : nat_lt 0 r.opened ≡ true
-      was_full =
-          let now : a.open_places ≡ v.open_places + r.opened =
-          ap (λ (z : View T). z.open_places) r.same in
-          lt-ltb 0 r.opened (omega arith)
+      was_full : r.shortage.full ≡ true
+      was_full = by r.shortage.full (ap (λ (z : View T). z.open_places) r.same)
+        where
+          by : (full : Bool) → a.open_places ≡ v.open_places + when full 1 → full ≡ true
+          by true now = refl
+          by false now = absurd (omega arith)
 
       -- the entry is dropped, or stands alone.
       pub left_none : IsUnshown slots capacity strict draft v.work.standalones v a
       unfolding tries_none
       left_none = record {
         tries = tries_none slots capacity draft.charge v a r;
-        reason = or_first _ _ (or_first (nat_lt 0 r.opened) _ was_full);
+        reason = or_first _ _ (or_first r.shortage.full _ was_full);
       }
 
       pub left_alone : (w : View T) → w ≡ stood draft.serial draft.charge a
@@ -402,7 +373,7 @@ module _ {T : Type 0} where
       left_alone w stands = record {
         tries =
             tries_alone slots capacity draft.charge draft.serial v a w r stands;
-        reason = or_first _ _ (or_first (nat_lt 0 r.opened) _ was_full);
+        reason = or_first _ _ (or_first r.shortage.full _ was_full);
       }
 
     -- A place and the charge were granted:
@@ -415,7 +386,7 @@ module _ {T : Type 0} where
       unfolding tries_dropped
       left_dropped w left = record {
         tries = tries_dropped slots capacity draft.charge v a r draft.key b w u left;
-        reason = or_last (nat_lt 0 r.opened) _ _ u.why;
+        reason = or_last r.shortage.full _ _ u.why;
       }
 
       pub left_stood : (w : View T)
@@ -426,7 +397,7 @@ module _ {T : Type 0} where
         tries =
             tries_stood slots capacity draft.charge v a r draft.key draft.serial b w u
             stands;
-        reason = or_last (nat_lt 0 r.opened) _ _ u.why;
+        reason = or_last r.shortage.full _ _ u.why;
       }
 
       -- What wasn't placed may stand alone.
