@@ -22,19 +22,19 @@ module _ {T : Type 0} (setup : Setup) (slots capacity charge used : ℕ) (full :
     (s : Sweeps swept.turns swept.slots swept.charge a b) where
   -- Without strict capacity:
   module _ (lax : setup.strict ≡ false) (some : 0 < charge) (loads : a ≡ after_usage used u)
-      (evicts : IsSweptFor slots (asked capacity charge full 0 (used ∷ [])) swept) where
-    abbrev lent : Asked charge v a
-    lent = asks_lax full used charge v u a idle enters loads
+      (evicts : IsSweptFor slots (asked false capacity charge full used) swept) where
+    abbrev lent : Asked false capacity charge v a
+    lent = asks_lax full capacity used charge v u a idle enters loads
 
-    lax_why : nat_lt 0 swept.turns ≡ has_cause capacity charge full 0 (used ∷ [])
+    lax_why : nat_lt 0 swept.turns ≡ has_cause false capacity charge full used
     lax_why = evicts.made ∙ lax_cause capacity charge used full some
 
     -- no place was found;
     pub lax_refused : (w : View T) → full ≡ true → swept.slots ≡ 0 → w ≡ after_quit b
         → ReservedBy slots capacity false charge (Ok NoPlace) v w
     lax_refused w is none quits = (
-      reserves charge swept v a b idle lent s slots capacity places.Absent 0 w left (omega arith)
-          lax_why evicts,
+      reserves false capacity charge swept v a b idle lent s slots places.Absent 0 w left lax_why
+          evicts,
       refl,
       opened,
       untaken,
@@ -44,19 +44,19 @@ module _ {T : Type 0} (setup : Setup) (slots capacity charge used : ℕ) (full :
         bare = let least = evicts.modest.charge in omega arith
 
         left : w ≡ settled_as places.Absent 0 b
-        left = quits_as charge swept v a b idle lent s bare refl refl w quits
+        left = quits_as false capacity charge swept v a b idle lent s bare refl refl w quits
 
         opened : v.open_places < w.open_places
         opened =
             let now =
-            opened_is charge swept v a b idle lent s slots capacity places.Absent 0 w left in
+            opened_is false capacity charge swept v a b idle lent s slots places.Absent 0 w left in
             let some = full_some full is in
             omega arith
 
         untaken : w.takings ≡ v.takings
         untaken =
             let now =
-            takings_is charge swept v a b idle lent s slots capacity places.Absent 0 w left in
+            takings_is false capacity charge swept v a b idle lent s slots places.Absent 0 w left in
             omega arith
 
     -- a place and the charge are granted.
@@ -64,27 +64,23 @@ module _ {T : Type 0} (setup : Setup) (slots capacity charge used : ℕ) (full :
         → c ≡ placed_anew b → d ≡ after_charge setup charge found c → w ≡ paid d
         → ReservedBy slots capacity false charge (Ok Reserved) v w
     lax_reserved found c d w placed anew charges pays = (
-      reserves charge swept v a b idle lent s slots capacity places.Granted charge w left
-          (omega arith) lax_why evicts,
+      reserves false capacity charge swept v a b idle lent s slots places.Granted charge w left
+          lax_why evicts,
       placed,
       omega arith,
     )
       where
         left : w ≡ settled_as places.Granted charge b
         left =
-            charges_as charge swept v a b idle lent s setup found c d w lax placed anew charges
+            charges_as false capacity charge swept v a b idle lent s setup found c d w lax placed anew charges
             pays
 
   -- Under it:
   module _ (strict : setup.strict ≡ true) (same : setup.capacity ≡ capacity)
       (charges : a ≡ after_charge setup charge used u)
-      (evicts : IsSweptFor slots
-      (asked capacity charge full (still_needed capacity used charge) []) swept) where
-    abbrev ask : Asked charge v a
+      (evicts : IsSweptFor slots (asked true capacity charge full used) swept) where
+    abbrev ask : Asked true capacity charge v a
     ask = asks_strict setup full capacity used charge v u a strict same enters charges
-
-    part : still_needed capacity used charge ≤ charge
-    part = omega arith
 
     whole : grant_of setup used charge + still_needed capacity used charge ≡ charge
     whole =
@@ -92,22 +88,21 @@ module _ {T : Type 0} (setup : Setup) (slots capacity charge used : ℕ) (full :
         let needed = needed_same setup capacity used charge strict same in
         omega arith
 
-    strict_why : nat_lt 0 swept.turns
-        ≡ has_cause capacity charge full (still_needed capacity used charge) []
-    strict_why = evicts.made ∙ strict_cause capacity charge (still_needed capacity used charge) full
+    strict_why : nat_lt 0 swept.turns ≡ has_cause true capacity charge full used
+    strict_why = evicts.made ∙ strict_cause capacity charge used full
 
     -- what is in hand then;
     pub strict_needed : b.work.needed ≡ still_needed capacity used charge
-    strict_needed = need_is charge swept v a b idle ask s
+    strict_needed = need_is true capacity charge swept v a b idle ask s
 
     pub strict_waived : waived b.work ≡ charge + swept.charge
     strict_waived =
-        let all = waived_is charge swept v a b idle ask s in
+        let all = waived_is true capacity charge swept v a b idle ask s in
         let sum = whole in
         omega arith
 
     pub strict_placed : is_placed b.work.place ≡ true
-    strict_placed = ap is_placed (place_is charge swept v a b idle ask s) ∙ by full
+    strict_placed = ap is_placed (place_is true capacity charge swept v a b idle ask s) ∙ by full
       where
         by : (b : Bool) → is_placed (place_of b) ≡ true
         by true = refl
@@ -116,11 +111,11 @@ module _ {T : Type 0} (setup : Setup) (slots capacity charge used : ℕ) (full :
     -- A refusal:
     module _ (w : View T) (left : w ≡ settled_as places.Absent 0 b) where
       tight : w.tight ≡ v.tight ++ short_of (still_needed capacity used charge) charge
-      tight = tight_is charge swept v a b idle ask s slots capacity places.Absent 0 w left
+      tight = tight_is true capacity charge swept v a b idle ask s slots places.Absent 0 w left
 
-      abbrev refused : Reserves slots capacity charge places.Absent 0 v w
+      abbrev refused : Reserves slots capacity true charge places.Absent 0 v w
       refused =
-          reserves charge swept v a b idle ask s slots capacity places.Absent 0 w left part strict_why
+          reserves true capacity charge swept v a b idle ask s slots places.Absent 0 w left strict_why
           evicts
 
       -- too little charge was freed;
@@ -143,14 +138,14 @@ module _ {T : Type 0} (setup : Setup) (slots capacity charge used : ℕ) (full :
           opened : v.open_places < w.open_places
           opened =
               let now =
-              opened_is charge swept v a b idle ask s slots capacity places.Absent 0 w left in
+              opened_is true capacity charge swept v a b idle ask s slots places.Absent 0 w left in
               let some = full_some full is in
               omega arith
 
           untaken : w.takings ≡ v.takings
           untaken =
               let now =
-              takings_is charge swept v a b idle ask s slots capacity places.Absent 0 w left in
+              takings_is true capacity charge swept v a b idle ask s slots places.Absent 0 w left in
               omega arith
 
           needless : still_needed capacity used charge ≡ 0
@@ -164,11 +159,11 @@ module _ {T : Type 0} (setup : Setup) (slots capacity charge used : ℕ) (full :
         → still_needed capacity used charge ≤ swept.charge → w ≡ settled b
         → ReservedBy slots capacity true charge (Ok Reserved) v w
     strict_reserved w placed enough settles = (
-      reserves charge swept v a b idle ask s slots capacity places.Granted charge w left part strict_why
+      reserves true capacity charge swept v a b idle ask s slots places.Granted charge w left strict_why
           evicts,
       placed,
       enough,
     )
       where
         left : w ≡ settled_as places.Granted charge b
-        left = settles_as charge swept v a b idle ask s w whole placed settles
+        left = settles_as true capacity charge swept v a b idle ask s w whole placed settles

@@ -1,5 +1,5 @@
 -- What a reservation leaves of a view, step by step.
-use Rattle.std.proofs.Common.{◌≡◌, ℕ, ◌+◌, ◌-◌, ◌<◌, ◌≤◌, min, max, ◌++◌, ◌||◌, nat_lt, cond, Bool, true, false, List, [], ◌∷◌, sym, subst, refl, ap, ◌∙◌, arith}
+use Rattle.std.proofs.Common.{◌≡◌, ℕ, ◌+◌, ◌-◌, ◌<◌, min, max, ◌++◌, nat_lt, cond, Bool, true, false, List, [], ◌∷◌, sym, subst, refl, ap, ◌∙◌, arith}
 use Rattle.std.proofs.lemmas.Bool.{lt-ltb}
 use Rattle.hcc_core.specs.declared.client.Client.{Client}
 use Rattle.hcc_core.specs.declared.client.Owned.TheVariants as owned
@@ -14,7 +14,7 @@ use Rattle.hcc_rule.specs.Callers.{IsBetweenCalls}
 use Rattle.hcc_rule.specs.ToldLedgers.{after_charge, after_quit, after_usage, needed_of, waived}
 use Rattle.hcc_charge.specs.declared.swept.Swept.{Swept}
 use Rattle.hcc_charge.specs.Evicted.{IsSweptFor, Sweeps}
-use Rattle.hcc_charge.specs.Reserved.{Reserves, ask_of, asked, entered, has_cause, presses, settled_as, short_of, still_needed, surplus}
+use Rattle.hcc_charge.specs.Reserved.{Reserves, ask_of, asked, entered, has_cause, loaded, needed_by, presses, settled_as, short_of, still_needed, surplus}
 use Rattle.hcc_charge.specs.Settled.{left_place, paid, placed_anew, settled}
 
 pub none_more : {A : Type 0} (xs : List A) → xs ≡ xs ++ []
@@ -30,27 +30,22 @@ place_of full = cond full places.Open places.Granted
 
 -- Without strict capacity something is asked for just where there is a cause,
 pub lax_cause : (capacity charge used : ℕ) (full : Bool) → 0 < charge
-    → nat_lt 0 (asked capacity charge full 0 (used ∷ []))
-    ≡ has_cause capacity charge full 0 (used ∷ [])
+    → nat_lt 0 (asked false capacity charge full used) ≡ has_cause false capacity charge full used
 lax_cause capacity charge used true some = at_least (ask_of capacity used charge)
 lax_cause capacity charge used false some = by (presses capacity charge used)
   where
     more : ℕ
     more = surplus capacity used charge
 
-    by : (b : Bool) → nat_lt 0 (cond b (charge + more) 0) ≡ (b || false)
+    by : (b : Bool) → nat_lt 0 (cond b (charge + more) 0) ≡ b
     by true = lt-ltb 0 (charge + more) (omega arith)
     by false = refl
 
 -- and so it is under it.
-pub strict_cause : (capacity charge needed : ℕ) (full : Bool)
-    → nat_lt 0 (asked capacity charge full needed []) ≡ has_cause capacity charge full needed []
-strict_cause capacity charge needed true = at_least needed
-strict_cause capacity charge needed false = by (nat_lt 0 needed)
-  where
-    by : (b : Bool) → b ≡ (b || false)
-    by true = refl
-    by false = refl
+pub strict_cause : (capacity charge used : ℕ) (full : Bool)
+    → nat_lt 0 (asked true capacity charge full used) ≡ has_cause true capacity charge full used
+strict_cause capacity charge used true = at_least (still_needed capacity used charge)
+strict_cause capacity charge used false = refl
 
 -- A place is granted where none has to be freed, or one was.
 pub left_granted : (slots : ℕ) (full : Bool) → (full ≡ true → 0 < slots)
@@ -75,26 +70,29 @@ needed_same setup capacity used charge strict same =
 
 module _ {T : Type 0} where
   -- A client asked: it has a place and amounts in hand, and more was counted.
-  pub record Asked (charge : ℕ) (v a : View T) : Type 0 where
+  pub record Asked (strict : Bool) (capacity charge : ℕ) (v a : View T) : Type 0 where
     pub full : Bool
+    pub used : ℕ
     pub got : ℕ
-    pub need : ℕ
-    pub loads : List ℕ
     pub same : a ≡ record v {
-      work = record v.work { place = place_of full; granted = got; needed = need };
+      work = record v.work {
+        place = place_of full;
+        granted = got;
+        needed = needed_by strict capacity used charge;
+      };
       open_places = v.open_places + when full 1;
-      seen = v.seen ++ loads;
-      tight = v.tight ++ short_of need charge;
+      seen = v.seen ++ loaded strict used;
+      tight = v.tight ++ short_of (needed_by strict capacity used charge) charge;
     }
 
   -- Without strict capacity it loaded the usage,
-  abbrev pub asks_lax : (full : Bool) (used charge : ℕ) (v u a : View T) → IsBetweenCalls v.work
-      → u ≡ entered full v → a ≡ after_usage used u → Asked charge v a
-  asks_lax full used charge v u a idle enters loads = record {
+  abbrev pub asks_lax : (full : Bool) (capacity used charge : ℕ) (v u a : View T)
+      → IsBetweenCalls v.work → u ≡ entered full v → a ≡ after_usage used u
+      → Asked false capacity charge v a
+  asks_lax full capacity used charge v u a idle enters loads = record {
     full = full;
+    used = used;
     got = 0;
-    need = 0;
-    loads = used ∷ [];
     same = loads ∙ (ap (after_usage used) enters ∙ (λ k. record v {
       work = record v.work {
         place = place_of full;
@@ -110,40 +108,45 @@ module _ {T : Type 0} where
   -- and under it it added the charge.
   abbrev pub asks_strict : (setup : Setup) (full : Bool) (capacity used charge : ℕ)
       (v u a : View T) → setup.strict ≡ true → setup.capacity ≡ capacity → u ≡ entered full v
-      → a ≡ after_charge setup charge used u → Asked charge v a
+      → a ≡ after_charge setup charge used u → Asked true capacity charge v a
   asks_strict setup full capacity used charge v u a strict within enters charges = record {
     full = full;
+    used = used;
     got = grant_of setup used charge;
-    need = still_needed capacity used charge;
-    loads = [];
     same = charges ∙ (ap (after_charge setup charge used) enters ∙ (λ k. record v {
       work = record v.work {
         place = place_of full;
         granted = grant_of setup used charge;
-        needed = needed_same setup capacity used charge strict within k;
+        needed = needs k;
       };
       open_places = v.open_places + when full 1;
       seen = none_more v.seen k;
       tight =
           (joins (nat_lt 0 (needed_of setup used charge))
-          ∙ ap (λ n. v.tight ++ short_of n charge)
-          (needed_same setup capacity used charge strict within)) k;
+          ∙ ap (λ n. v.tight ++ short_of n charge) needs) k;
     }));
   }
     where
+      needs : needed_of setup used charge ≡ still_needed capacity used charge
+      needs = needed_same setup capacity used charge strict within
+
       joins : (b : Bool)
           → cond b (v.tight ++ charge ∷ []) v.tight ≡ v.tight ++ cond b (charge ∷ []) []
       joins true = refl
       joins false = none_more v.tight
 
   -- It asked, and then turns of the hand took entries.
-  module _ (charge : ℕ) (swept : Swept) (v a b : View T) (idle : IsBetweenCalls v.work)
-      (ask : Asked charge v a) (s : Sweeps swept.turns swept.slots swept.charge a b) where
+  module _ (strict : Bool) (capacity charge : ℕ) (swept : Swept) (v a b : View T)
+      (idle : IsBetweenCalls v.work) (ask : Asked strict capacity charge v a)
+      (s : Sweeps swept.turns swept.slots swept.charge a b) where
+    abbrev need : ℕ
+    need = needed_by strict capacity ask.used charge
+
     got_is : b.work.granted ≡ ask.got
     got_is =
         ap (λ (z : View T). z.work.granted) s.same ∙ ap (λ (z : View T). z.work.granted) ask.same
 
-    pub need_is : b.work.needed ≡ ask.need
+    pub need_is : b.work.needed ≡ need
     need_is =
         ap (λ (z : View T). z.work.needed) s.same ∙ ap (λ (z : View T). z.work.needed) ask.same
 
@@ -176,7 +179,7 @@ module _ {T : Type 0} where
         ∙ left_granted swept.slots ask.full placed
 
     -- It was settled then.
-    module _ (slots capacity : ℕ) (place : Place) (granted : ℕ) (w : View T)
+    module _ (slots : ℕ) (place : Place) (granted : ℕ) (w : View T)
         (left : w ≡ settled_as place granted b) where
       pub takings_is : w.takings ≡ v.takings + swept.slots
       takings_is =
@@ -188,22 +191,20 @@ module _ {T : Type 0} where
           ap (λ (z : View T). z.open_places) left ∙ (ap (λ (z : View T). z.open_places) s.same
           ∙ ap (λ (z : View T). z.open_places) ask.same)
 
-      pub tight_is : w.tight ≡ v.tight ++ short_of ask.need charge
+      pub tight_is : w.tight ≡ v.tight ++ short_of need charge
       tight_is =
           ap (λ (z : View T). z.tight) left ∙ (ap (λ (z : View T). z.tight) s.same
           ∙ ap (λ (z : View T). z.tight) ask.same)
 
-      abbrev pub reserves : ask.need ≤ charge
-          → nat_lt 0 swept.turns ≡ has_cause capacity charge ask.full ask.need ask.loads
-          → IsSweptFor slots (asked capacity charge ask.full ask.need ask.loads) swept
-          → Reserves slots capacity charge place granted v w
-      reserves part cause evicts = record {
+      abbrev pub reserves :
+          nat_lt 0 swept.turns ≡ has_cause strict capacity charge ask.full ask.used
+          → IsSweptFor slots (asked strict capacity charge ask.full ask.used) swept
+          → Reserves slots capacity strict charge place granted v w
+      reserves cause evicts = record {
         shortage = record {
           full = ask.full;
-          needed = ask.need;
-          loads = ask.loads;
+          used = ask.used;
           swept = swept;
-          part = part;
           cause = cause;
           evicts = evicts;
         };
@@ -239,8 +240,8 @@ module _ {T : Type 0} where
               takings = v.takings + swept.slots;
               open_places = v.open_places + when ask.full 1;
               turns = v.turns + swept.turns;
-              seen = v.seen ++ ask.loads;
-              tight = v.tight ++ short_of ask.need charge;
+              seen = v.seen ++ loaded strict ask.used;
+              tight = v.tight ++ short_of need charge;
             })));
         dead = λ stamp h.
             subst (λ d. is_in stamp d ≡ true) (sym (ap (λ (z : View T). z.work.dead) left))
@@ -250,7 +251,7 @@ module _ {T : Type 0} where
       }
 
     -- Nothing was freed, and the place was given back.
-    pub quits_as : swept.charge ≡ 0 → ask.got ≡ 0 → ask.need ≡ 0 → (w : View T) → w ≡ after_quit b
+    pub quits_as : swept.charge ≡ 0 → ask.got ≡ 0 → need ≡ 0 → (w : View T) → w ≡ after_quit b
         → w ≡ settled_as places.Absent 0 b
     quits_as none nothing no_need w same =
         same ∙ (λ k. record b {
@@ -293,7 +294,7 @@ module _ {T : Type 0} where
         all = let g = grants in let n = none_needed in omega arith
 
     -- Under it what was needed is granted once it was freed.
-    pub settles_as : (w : View T) → ask.got + ask.need ≡ charge
+    pub settles_as : (w : View T) → ask.got + need ≡ charge
         → (ask.full ≡ true → 0 < swept.slots) → w ≡ settled b
         → w ≡ settled_as places.Granted charge b
     settles_as w whole placed same =
@@ -311,5 +312,5 @@ module _ {T : Type 0} where
         all = let g = got_is in let n = need_is in omega arith
 
     -- what it may take back
-    pub waived_is : waived b.work ≡ ask.got + ask.need + swept.charge
+    pub waived_is : waived b.work ≡ ask.got + need + swept.charge
     waived_is = let g = got_is in let n = need_is in let f = freed_is in omega arith

@@ -1,6 +1,5 @@
 -- What a reservation leaves of a view, and why it evicted entries.
 use Rattle.std.specs.Prelude.{◌≡◌, ℕ, ◌+◌, ◌-◌, ◌*◌, ◌^◌, ◌/◌, min, max, ◌<◌, ◌≤◌, ◌&&◌, ◌||◌, Bool, true, false, nat_le, nat_lt, List, [], ◌∷◌, ◌++◌, Result, Ok, Err, if◌then◌else◌}
-use Rattle.std.specs.List.{list_any}
 use Rattle.hcc_core.specs.declared.client.Owned.TheVariants as owned
 use Rattle.hcc_core.specs.declared.client.Place.{Place}
 use Rattle.hcc_core.specs.declared.client.Place.TheVariants as places
@@ -39,33 +38,42 @@ still_needed capacity used charge = charge - min charge (capacity - min used cap
 abbrev pub at_least_one : Bool → ℕ → ℕ
 at_least_one full ask = if full then max ask 1 else ask
 
--- what a reservation asks eviction for, by the usage where it loads that, else by what it needs
-abbrev pub asked : (capacity charge : ℕ) → (full : Bool) → (needed : ℕ) → (loads : List ℕ) → ℕ
-asked capacity charge full needed [] = at_least_one full needed
-asked capacity charge full needed (used ∷ _) = at_least_one full (ask_of capacity used charge)
+-- What a reservation finds: whether the capacity is strict, whether the shard is full, and the usage
+-- before it.
 
--- the charges that aren't granted at once
+-- what of the charge isn't granted at once
+abbrev pub needed_by : (strict : Bool) → (capacity used charge : ℕ) → ℕ
+needed_by true capacity used charge = still_needed capacity used charge
+needed_by false capacity used charge = 0
+
+-- the charges that so join the tight list
 abbrev pub short_of : (needed charge : ℕ) → List ℕ
 short_of needed charge = if nat_lt 0 needed then charge ∷ [] else []
 
--- Why entries are evicted: the shard was full, not all of the charge was granted at once, or it
--- didn't fit beside a usage that was loaded.
-abbrev pub has_cause : (capacity charge : ℕ) → (full : Bool) → (needed : ℕ) → (loads : List ℕ)
-    → Bool
-has_cause capacity charge full needed loads =
-    full || nat_lt 0 needed || list_any (presses capacity charge) loads
+-- the usages that are loaded
+abbrev pub loaded : (strict : Bool) → (used : ℕ) → List ℕ
+loaded true used = []
+loaded false used = used ∷ []
 
--- What a reservation found, and what it did about it: whether the shard was full, how much of the
--- charge wasn't granted at once, which usages it loaded, and what its eviction did. It evicts just
--- where it has a cause.
-pub record Shortage (slots capacity charge : ℕ) : Type 0 where
+-- what it asks eviction for
+abbrev pub asked : (strict : Bool) → (capacity charge : ℕ) → (full : Bool) → (used : ℕ) → ℕ
+asked true capacity charge full used = at_least_one full (still_needed capacity used charge)
+asked false capacity charge full used = at_least_one full (ask_of capacity used charge)
+
+-- Why it evicts entries: the shard was full, not all of the charge was granted at once, or it
+-- didn't fit beside the usage that was loaded.
+abbrev pub has_cause : (strict : Bool) → (capacity charge : ℕ) → (full : Bool) → (used : ℕ) → Bool
+has_cause true capacity charge full used =
+    full || nat_lt 0 (still_needed capacity used charge)
+has_cause false capacity charge full used = full || presses capacity charge used
+
+-- What a reservation found, and what its eviction did. It evicts just where it has a cause.
+pub record Shortage (slots capacity : ℕ) (strict : Bool) (charge : ℕ) : Type 0 where
   pub full : Bool
-  pub needed : ℕ
-  pub loads : List ℕ
+  pub used : ℕ
   pub swept : Swept
-  pub part : needed ≤ charge
-  pub cause : nat_lt 0 swept.turns ≡ has_cause capacity charge full needed loads
-  pub evicts : IsSweptFor slots (asked capacity charge full needed loads) swept
+  pub cause : nat_lt 0 swept.turns ≡ has_cause strict capacity charge full used
+  pub evicts : IsSweptFor slots (asked strict capacity charge full used) swept
 
 module _ {T : Type 0} where
   -- a place was asked for
@@ -90,9 +98,9 @@ module _ {T : Type 0} where
   -- A reservation was tried, and this place and this much charge are granted. Nothing is needed,
   -- and what was freed is settled. It took as many entries as its eviction freed, none of which was
   -- Shown with uses left. All else stays.
-  pub record Reserves (slots capacity charge : ℕ) (place : Place) (granted : ℕ)
-      (v w : View T) : Type 0 where
-    pub shortage : Shortage slots capacity charge
+  pub record Reserves (slots capacity : ℕ) (strict : Bool) (charge : ℕ) (place : Place)
+      (granted : ℕ) (v w : View T) : Type 0 where
+    pub shortage : Shortage slots capacity strict charge
     pub same : w ≡ record v {
       work = record v.work {
         looked = w.work.looked;
@@ -109,8 +117,8 @@ module _ {T : Type 0} where
       takings = v.takings + shortage.swept.slots;
       open_places = v.open_places + when shortage.full 1;
       turns = v.turns + shortage.swept.turns;
-      seen = v.seen ++ shortage.loads;
-      tight = v.tight ++ short_of shortage.needed charge;
+      seen = v.seen ++ loaded strict shortage.used;
+      tight = v.tight ++ short_of (needed_by strict capacity shortage.used charge) charge;
     }
     pub dead : Grows v.work.dead w.work.dead
 
@@ -118,20 +126,20 @@ module _ {T : Type 0} where
   abbrev pub ReservedBy : (slots capacity : ℕ) → (strict : Bool) → (charge : ℕ)
       → Result Reservation Refused → View T → View T → Type 0
   ReservedBy slots capacity strict charge (Ok Reserved) v w =
-      (r : Reserves slots capacity charge places.Granted charge v w)
+      (r : Reserves slots capacity strict charge places.Granted charge v w)
       × (r.shortage.full ≡ true → 0 < r.shortage.swept.slots)
-      × (r.shortage.needed ≤ r.shortage.swept.charge)
+      × (needed_by strict capacity r.shortage.used charge ≤ r.shortage.swept.charge)
   ReservedBy slots capacity strict charge (Ok NoPlace) v w =
-      Reserves slots capacity charge places.Absent 0 v w × (strict ≡ false)
+      Reserves slots capacity strict charge places.Absent 0 v w × (strict ≡ false)
       × (v.open_places < w.open_places) × (w.takings ≡ v.takings)
   ReservedBy slots capacity strict charge (Err TooLarge) v w =
       (strict ≡ true) × (capacity < charge) × (w ≡ v)
   ReservedBy slots capacity strict charge (Err CapacityFull) v w =
-      (r : Reserves slots capacity charge places.Absent 0 v w) × (strict ≡ true)
+      (r : Reserves slots capacity strict charge places.Absent 0 v w) × (strict ≡ true)
       × (w.tight ≡ v.tight ++ charge ∷ [])
-      × (r.shortage.swept.charge < r.shortage.needed)
+      × (r.shortage.swept.charge < still_needed capacity r.shortage.used charge)
   ReservedBy slots capacity strict charge (Err OccupancyFull) v w =
-      Reserves slots capacity charge places.Absent 0 v w × (strict ≡ true)
+      Reserves slots capacity strict charge places.Absent 0 v w × (strict ≡ true)
       × (v.open_places < w.open_places) × (w.takings ≡ v.takings) × (w.tight ≡ v.tight)
 
   -- The counts of a client's evictions rose with its view's: by its turns and its takings, of which

@@ -20,7 +20,7 @@ use Rattle.hcc_table.specs.Inserted.{MayInsert, Meets, Tried}
 use Rattle.hcc_table.specs.Searched.{is_key}
 use Rattle.hcc_charge.specs.declared.reserving.Refused.{Refused}
 use Rattle.hcc_charge.specs.declared.reserving.Refused.TheVariants.{TooLarge, CapacityFull, OccupancyFull}
-use Rattle.hcc_charge.specs.Reserved.{Reserves, ReservedBy, short_of}
+use Rattle.hcc_charge.specs.Reserved.{Reserves, ReservedBy, loaded, needed_by, short_of}
 use Rattle.hcc_charge.specs.Settled.{stood, without_place}
 use Rattle.hcc_shard.specs.Inserted.{IsInsertable, IsUnplaced, IsUnshown, RefusedBy, Tries, with_draft}
 use Rattle.hcc_shard.specs.Seated.{IsQuiet}
@@ -78,10 +78,10 @@ module _ {T : Type 0} where
   }
 
   -- Nothing was reserved.
-  pub tries_none : (slots capacity charge : ℕ) (v w : View T)
-      → Reserves slots capacity charge places.Absent 0 v w
-      → Tries slots capacity charge v.work.stamps v.work.standalones v.records v.made v w
-  tries_none slots capacity charge v w r = record {
+  pub tries_none : (slots capacity : ℕ) (strict : Bool) (charge : ℕ) (v w : View T)
+      → Reserves slots capacity strict charge places.Absent 0 v w
+      → Tries slots capacity strict charge v.work.stamps v.work.standalones v.records v.made v w
+  tries_none slots capacity strict charge v w r = record {
     shortage = r.shortage;
     met = [];
     tries = 0;
@@ -103,18 +103,18 @@ module _ {T : Type 0} where
       saw = no_added v.saw k;
       turns = v.turns + r.shortage.swept.turns;
       met = none_more v.met k;
-      seen = v.seen ++ r.shortage.loads;
-      tight = v.tight ++ short_of r.shortage.needed charge;
+      seen = v.seen ++ loaded strict r.shortage.used;
+      tight = v.tight ++ short_of (needed_by strict capacity r.shortage.used charge) charge;
     });
     dead = r.dead;
   }
 
   -- Nothing was reserved, and the entry stands alone.
-  pub tries_alone : (slots capacity charge name : ℕ) (v a w : View T)
-      → Reserves slots capacity charge places.Absent 0 v a → w ≡ stood name charge a
-      → Tries slots capacity charge v.work.stamps
+  pub tries_alone : (slots capacity : ℕ) (strict : Bool) (charge name : ℕ) (v a w : View T)
+      → Reserves slots capacity strict charge places.Absent 0 v a → w ≡ stood name charge a
+      → Tries slots capacity strict charge v.work.stamps
       (v.work.standalones ++ record { name = name; charge = charge } ∷ []) v.records v.made v w
-  tries_alone slots capacity charge name v a w r stands = record {
+  tries_alone slots capacity strict charge name v a w r stands = record {
     shortage = r.shortage;
     met = [];
     tries = 0;
@@ -137,19 +137,19 @@ module _ {T : Type 0} where
       saw = no_added v.saw k;
       turns = v.turns + r.shortage.swept.turns;
       met = none_more v.met k;
-      seen = v.seen ++ r.shortage.loads;
-      tight = v.tight ++ short_of r.shortage.needed charge;
+      seen = v.seen ++ loaded strict r.shortage.used;
+      tight = v.tight ++ short_of (needed_by strict capacity r.shortage.used charge) charge;
     }));
     dead = λ stamp h. subst (λ d. is_in stamp d ≡ true)
         (sym (ap (λ (z : View T). z.work.dead) stands)) (r.dead stamp h);
   }
 
-  module _ (slots capacity charge : ℕ) (v a : View T)
-      (r : Reserves slots capacity charge places.Granted charge v a) where
+  module _ (slots capacity : ℕ) (strict : Bool) (charge : ℕ) (v a : View T)
+      (r : Reserves slots capacity strict charge places.Granted charge v a) where
     -- The entry was placed.
     pub tries_placed : (slot : ℕ) (draft : Draft) (value : List ℕ) (w : View T)
         → draft.charge ≡ charge → Tried (after_show slot draft.name (made_of draft value) a) w
-        → Tries slots capacity charge (v.work.stamps + 1) v.work.standalones
+        → Tries slots capacity strict charge (v.work.stamps + 1) v.work.standalones
         (v.records ++ first_records slot draft.name (shown_entry v (made_of draft value)))
         (v.made ++ made_of draft value ∷ []) v w
     tries_placed slot draft value w paid t = record {
@@ -187,8 +187,8 @@ module _ {T : Type 0} where
             saw = saw_is k;
             turns = v.turns + r.shortage.swept.turns;
             met = met_is k;
-            seen = v.seen ++ r.shortage.loads;
-            tight = v.tight ++ short_of r.shortage.needed charge;
+            seen = v.seen ++ loaded strict r.shortage.used;
+            tight = v.tight ++ short_of (needed_by strict capacity r.shortage.used charge) charge;
           }));
       dead = λ stamp h. t.dead stamp (r.dead stamp h);
     }
@@ -238,8 +238,8 @@ module _ {T : Type 0} where
         saw = v.saw + u.tries;
         turns = v.turns + r.shortage.swept.turns;
         met = v.met ++ u.met;
-        seen = v.seen ++ r.shortage.loads;
-        tight = v.tight ++ short_of r.shortage.needed charge;
+        seen = v.seen ++ loaded strict r.shortage.used;
+        tight = v.tight ++ short_of (needed_by strict capacity r.shortage.used charge) charge;
       }
       left_over =
           left ∙ (ap (without_place granted) u.tried.same
@@ -267,8 +267,8 @@ module _ {T : Type 0} where
             saw = (sym (ap (λ (z : View T). z.saw) left) ∙ saw_more) k;
             turns = v.turns + r.shortage.swept.turns;
             met = (sym (ap (λ (z : View T). z.met) left) ∙ met_more) k;
-            seen = v.seen ++ r.shortage.loads;
-            tight = v.tight ++ short_of r.shortage.needed charge;
+            seen = v.seen ++ loaded strict r.shortage.used;
+            tight = v.tight ++ short_of (needed_by strict capacity r.shortage.used charge) charge;
           })))
 
       pub dead_more : (stamp : Stamp) → is_in stamp v.work.dead ≡ true
@@ -280,7 +280,7 @@ module _ {T : Type 0} where
     -- All was given up.
     pub tries_dropped : (key : Key) (b w : View T) (u : IsUnplaced slots key a b)
         → w ≡ without_place 0 b
-        → Tries slots capacity charge v.work.stamps v.work.standalones v.records v.made v w
+        → Tries slots capacity strict charge v.work.stamps v.work.standalones v.records v.made v w
     tries_dropped key b w u left = record {
       shortage = r.shortage;
       met = u.met;
@@ -292,7 +292,7 @@ module _ {T : Type 0} where
     -- The charge was kept, and is a standalone entry's.
     pub tries_stood : (key : Key) (name : ℕ) (b w : View T) (u : IsUnplaced slots key a b)
         → w ≡ stood name charge (without_place charge b)
-        → Tries slots capacity charge v.work.stamps
+        → Tries slots capacity strict charge v.work.stamps
         (v.work.standalones ++ record { name = name; charge = charge } ∷ []) v.records v.made v w
     tries_stood key name b w u stands = record {
       shortage = r.shortage;
@@ -319,8 +319,8 @@ module _ {T : Type 0} where
             saw = v.saw + u.tries;
             turns = v.turns + r.shortage.swept.turns;
             met = v.met ++ u.met;
-            seen = v.seen ++ r.shortage.loads;
-            tight = v.tight ++ short_of r.shortage.needed charge;
+            seen = v.seen ++ loaded strict r.shortage.used;
+            tight = v.tight ++ short_of (needed_by strict capacity r.shortage.used charge) charge;
           }));
       dead = λ stamp h. subst (λ d. is_in stamp d ≡ true)
           (sym (ap (λ (z : View T). z.work.dead) stands))
@@ -335,13 +335,13 @@ module _ {T : Type 0} where
     unfolding tries_none
     refused_by TooLarge v w told = told
     refused_by CapacityFull v w told = (
-      tries_none slots capacity draft.charge v w told.0,
+      tries_none slots capacity strict draft.charge v w told.0,
       told.1,
       told.2,
       told.3,
     )
     refused_by OccupancyFull v w told = (
-      tries_none slots capacity draft.charge v w told.0,
+      tries_none slots capacity strict draft.charge v w told.0,
       told.1,
       told.2,
       told.3,
@@ -350,7 +350,7 @@ module _ {T : Type 0} where
 
     -- The shard was full:
     module _ (v a : View T)
-        (r : Reserves slots capacity draft.charge places.Absent 0 v a)
+        (r : Reserves slots capacity strict draft.charge places.Absent 0 v a)
         (more : v.open_places < a.open_places) where
       was_full : r.shortage.full ≡ true
       was_full = by r.shortage.full (ap (λ (z : View T). z.open_places) r.same)
@@ -363,7 +363,7 @@ module _ {T : Type 0} where
       pub left_none : IsUnshown slots capacity strict draft v.work.standalones v a
       unfolding tries_none
       left_none = record {
-        tries = tries_none slots capacity draft.charge v a r;
+        tries = tries_none slots capacity strict draft.charge v a r;
         reason = or_first _ _ (or_first r.shortage.full _ was_full);
       }
 
@@ -372,20 +372,20 @@ module _ {T : Type 0} where
       unfolding tries_alone
       left_alone w stands = record {
         tries =
-            tries_alone slots capacity draft.charge draft.serial v a w r stands;
+            tries_alone slots capacity strict draft.charge draft.serial v a w r stands;
         reason = or_first _ _ (or_first r.shortage.full _ was_full);
       }
 
     -- A place and the charge were granted:
     module _ (v a b : View T)
-        (r : Reserves slots capacity draft.charge places.Granted draft.charge v a)
+        (r : Reserves slots capacity strict draft.charge places.Granted draft.charge v a)
         (u : IsUnplaced slots draft.key a b) where
       -- the entry is dropped, or stands alone.
       pub left_dropped : (w : View T) → w ≡ without_place 0 b
           → IsUnshown slots capacity strict draft v.work.standalones v w
       unfolding tries_dropped
       left_dropped w left = record {
-        tries = tries_dropped slots capacity draft.charge v a r draft.key b w u left;
+        tries = tries_dropped slots capacity strict draft.charge v a r draft.key b w u left;
         reason = or_last r.shortage.full _ _ u.why;
       }
 
@@ -395,7 +395,7 @@ module _ {T : Type 0} where
       unfolding tries_stood
       left_stood w stands = record {
         tries =
-            tries_stood slots capacity draft.charge v a r draft.key draft.serial b w u
+            tries_stood slots capacity strict draft.charge v a r draft.key draft.serial b w u
             stands;
         reason = or_last r.shortage.full _ _ u.why;
       }
@@ -413,7 +413,7 @@ module _ {T : Type 0} where
         (value : List ℕ) (client : ℕ) (v a : View T)
         → v.client ≡ client → client < MOST_CLIENTS → IsInsertable fits p draft value v
         → IsQuiet geometry v → IfSome draft.name (λ x. x ≡ draft.serial)
-        → Reserves slots capacity draft.charge places.Granted draft.charge v a
+        → Reserves slots capacity strict draft.charge places.Granted draft.charge v a
         → MayInsert fits p draft value client draft.serial a
     may_insert fits p geometry value client v a own known may quiet called r = record {
       own = sym own ∙ sym (ap (λ (z : View T). z.client) r.same);

@@ -19,7 +19,7 @@ use Rattle.hcc_table.specs.Searched.{Grows, is_key}
 use Rattle.hcc_charge.specs.declared.reserving.Refused.{Refused}
 use Rattle.hcc_charge.specs.declared.reserving.Refused.TheVariants.{TooLarge, CapacityFull, OccupancyFull}
 use Rattle.hcc_charge.specs.Evicted.{reserving}
-use Rattle.hcc_charge.specs.Reserved.{Shortage, short_of}
+use Rattle.hcc_charge.specs.Reserved.{Shortage, loaded, needed_by, short_of, still_needed}
 use Rattle.hcc_shard.specs.declared.inserting.Inserted.{Inserted}
 use Rattle.hcc_shard.specs.declared.inserting.Inserted.TheVariants as inserted
 use Rattle.hcc_shard.specs.declared.inserting.Pinned.{Pinned}
@@ -70,9 +70,10 @@ module _ {T : Type 0} where
   -- stamps, its standalone entries, its records and its made entries. It counts what its
   -- reservation found and evicted, which keys it met and how many slots it tried that weren't
   -- empty. None of the entries that it took was Shown with uses left. All else stays.
-  pub record Tries (slots capacity charge stamps : ℕ) (standalones : List Standalone)
-      (records : List Record) (made : List Made) (v w : View T) : Type 0 where
-    pub shortage : Shortage slots capacity charge
+  pub record Tries (slots capacity : ℕ) (strict : Bool) (charge stamps : ℕ)
+      (standalones : List Standalone) (records : List Record) (made : List Made)
+      (v w : View T) : Type 0 where
+    pub shortage : Shortage slots capacity strict charge
     pub met : List Key
     pub tries : ℕ
     pub same : w ≡ record v {
@@ -97,8 +98,8 @@ module _ {T : Type 0} where
       saw = v.saw + tries;
       turns = v.turns + shortage.swept.turns;
       met = v.met ++ met;
-      seen = v.seen ++ shortage.loads;
-      tight = v.tight ++ short_of shortage.needed charge;
+      seen = v.seen ++ loaded strict shortage.used;
+      tight = v.tight ++ short_of (needed_by strict capacity shortage.used charge) charge;
     }
     pub dead : Grows v.work.dead w.work.dead
 
@@ -107,7 +108,7 @@ module _ {T : Type 0} where
     -- reference on it where the draft has a name.
     pub record Shows (value : List ℕ) (slot : ℕ) (v w : View T) : Type 0 where
       pub within : slot < slots
-      pub tries : Tries slots capacity draft.charge (v.work.stamps + 1)
+      pub tries : Tries slots capacity strict draft.charge (v.work.stamps + 1)
           v.work.standalones
           (v.records ++ first_records slot draft.name (shown_entry v (made_of draft value)))
           (v.made ++ made_of draft value ∷ []) v w
@@ -115,7 +116,7 @@ module _ {T : Type 0} where
     -- No entry was made, and these standalone entries stand.
     abbrev pub MakesNoEntry : List Standalone → View T → View T → Type 0
     MakesNoEntry standalones v w =
-        Tries slots capacity draft.charge v.work.stamps standalones v.records v.made
+        Tries slots capacity strict draft.charge v.work.stamps standalones v.records v.made
         v w
 
     -- nothing was placed, for one of the reasons
@@ -129,7 +130,7 @@ module _ {T : Type 0} where
     RefusedBy CapacityFull v w =
         (m : MakesNoEntry v.work.standalones v w) × (strict ≡ true)
         × (w.tight ≡ v.tight ++ draft.charge ∷ [])
-        × (m.shortage.swept.charge < m.shortage.needed)
+        × (m.shortage.swept.charge < still_needed capacity m.shortage.used draft.charge)
     RefusedBy OccupancyFull v w =
         MakesNoEntry v.work.standalones v w × (strict ≡ true)
         × (v.open_places < w.open_places) × (w.takings ≡ v.takings) × (w.tight ≡ v.tight)

@@ -32,7 +32,7 @@ returns-in-Some-clause-view g c =
       record {
         within = told.1.low;
         tries =
-            tries_placed (slots_of t) (capacity_of t) c.args.draft.charge
+            tries_placed (slots_of t) (capacity_of t) (is_strict t) c.args.draft.charge
             (view c.args.seat.now.seat) (view c.reserve.new.seat)
             (rw c.in-Reserved.is at c.in_ok-reserved.ensures.view).0 _ c.args.draft
             c.args.value.now (view c.put.new.seat.seat) refl told.1.tried;
