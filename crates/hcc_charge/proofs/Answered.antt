@@ -33,7 +33,7 @@ module _ {T : Type 0} (setup : Setup) (slots capacity charge used : ℕ) (full :
     pub lax_refused : (w : View T) → full ≡ true → swept.slots ≡ 0 → w ≡ after_quit b
         → ReservedBy slots capacity false charge (Ok NoPlace) v w
     lax_refused w is none quits = (
-      reserves false capacity charge swept v a b idle lent s slots places.Absent 0 w left lax_why
+      reserves swept idle lent s slots places.Absent 0 w left lax_why
           evicts,
       refl,
       opened,
@@ -44,19 +44,19 @@ module _ {T : Type 0} (setup : Setup) (slots capacity charge used : ℕ) (full :
         bare = let least = evicts.modest.charge in omega arith
 
         left : w ≡ settled_as places.Absent 0 b
-        left = quits_as false capacity charge swept v a b idle lent s bare refl refl w quits
+        left = quits_as swept idle lent s bare refl refl w quits
 
         opened : v.open_places < w.open_places
         opened =
             let now =
-            opened_is false capacity charge swept v a b idle lent s slots places.Absent 0 w left in
+            opened_is swept idle lent s slots places.Absent 0 w left in
             let some = full_some full is in
             omega arith
 
         untaken : w.takings ≡ v.takings
         untaken =
             let now =
-            takings_is false capacity charge swept v a b idle lent s slots places.Absent 0 w left in
+            takings_is swept idle lent s slots places.Absent 0 w left in
             omega arith
 
     -- a place and the charge are granted.
@@ -64,7 +64,7 @@ module _ {T : Type 0} (setup : Setup) (slots capacity charge used : ℕ) (full :
         → c ≡ placed_anew b → d ≡ after_charge setup charge found c → w ≡ paid d
         → ReservedBy slots capacity false charge (Ok Reserved) v w
     lax_reserved found c d w placed anew charges pays = (
-      reserves false capacity charge swept v a b idle lent s slots places.Granted charge w left
+      reserves swept idle lent s slots places.Granted charge w left
           lax_why evicts,
       placed,
       omega arith,
@@ -72,7 +72,7 @@ module _ {T : Type 0} (setup : Setup) (slots capacity charge used : ℕ) (full :
       where
         left : w ≡ settled_as places.Granted charge b
         left =
-            charges_as false capacity charge swept v a b idle lent s setup found c d w lax placed anew charges
+            charges_as swept idle lent s setup found c d w lax placed anew charges
             pays
 
   -- Under it:
@@ -93,16 +93,16 @@ module _ {T : Type 0} (setup : Setup) (slots capacity charge used : ℕ) (full :
 
     -- what is in hand then;
     pub strict_needed : b.work.needed ≡ still_needed capacity used charge
-    strict_needed = need_is true capacity charge swept v a b idle ask s
+    strict_needed = need_is swept idle ask s
 
     pub strict_waived : waived b.work ≡ charge + swept.charge
     strict_waived =
-        let all = waived_is true capacity charge swept v a b idle ask s in
+        let all = waived_is swept idle ask s in
         let sum = whole in
         omega arith
 
     pub strict_placed : is_placed b.work.place ≡ true
-    strict_placed = ap is_placed (place_is true capacity charge swept v a b idle ask s) ∙ by full
+    strict_placed = ap is_placed (place_is swept idle ask s) ∙ by full
       where
         by : (b : Bool) → is_placed (place_of b) ≡ true
         by true = refl
@@ -111,11 +111,11 @@ module _ {T : Type 0} (setup : Setup) (slots capacity charge used : ℕ) (full :
     -- A refusal:
     module _ (w : View T) (left : w ≡ settled_as places.Absent 0 b) where
       tight : w.tight ≡ v.tight ++ short_of (still_needed capacity used charge) charge
-      tight = tight_is true capacity charge swept v a b idle ask s slots places.Absent 0 w left
+      tight = tight_is swept idle ask s slots places.Absent 0 w left
 
       abbrev refused : Reserves slots capacity true charge places.Absent 0 v w
       refused =
-          reserves true capacity charge swept v a b idle ask s slots places.Absent 0 w left strict_why
+          reserves swept idle ask s slots places.Absent 0 w left strict_why
           evicts
 
       -- too little charge was freed;
@@ -138,14 +138,14 @@ module _ {T : Type 0} (setup : Setup) (slots capacity charge used : ℕ) (full :
           opened : v.open_places < w.open_places
           opened =
               let now =
-              opened_is true capacity charge swept v a b idle ask s slots places.Absent 0 w left in
+              opened_is swept idle ask s slots places.Absent 0 w left in
               let some = full_some full is in
               omega arith
 
           untaken : w.takings ≡ v.takings
           untaken =
               let now =
-              takings_is true capacity charge swept v a b idle ask s slots places.Absent 0 w left in
+              takings_is swept idle ask s slots places.Absent 0 w left in
               omega arith
 
           needless : still_needed capacity used charge ≡ 0
@@ -159,11 +159,11 @@ module _ {T : Type 0} (setup : Setup) (slots capacity charge used : ℕ) (full :
         → still_needed capacity used charge ≤ swept.charge → w ≡ settled b
         → ReservedBy slots capacity true charge (Ok Reserved) v w
     strict_reserved w placed enough settles = (
-      reserves true capacity charge swept v a b idle ask s slots places.Granted charge w left strict_why
+      reserves swept idle ask s slots places.Granted charge w left strict_why
           evicts,
       placed,
       enough,
     )
       where
         left : w ≡ settled_as places.Granted charge b
-        left = settles_as true capacity charge swept v a b idle ask s w whole placed settles
+        left = settles_as swept idle ask s w whole placed settles

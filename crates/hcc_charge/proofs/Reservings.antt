@@ -136,7 +136,7 @@ module _ {T : Type 0} where
       joins false = none_more v.tight
 
   -- It asked, and then turns of the hand took entries.
-  module _ (strict : Bool) (capacity charge : ℕ) (swept : Swept) (v a b : View T)
+  module _ {strict : Bool} {capacity charge : ℕ} (swept : Swept) {v a b : View T}
       (idle : IsBetweenCalls v.work) (ask : Asked strict capacity charge v a)
       (s : Sweeps swept.turns swept.slots swept.charge a b) where
     abbrev need : ℕ

@@ -14,7 +14,7 @@ use Rattle.hcc_table.proofs.Rises.{rose_then}
 use Rattle.hcc_charge.specs.declared.swept.Swept.{Swept}
 use Rattle.hcc_charge.specs.Evicted.{Moved, Sweeps, Turned, VisitedAt, VisitedBy, Visits}
 use Rattle.hcc_charge.specs.Swept.{IsModest, both, one_turn, swept_of, with_visits}
-use Rattle.hcc_charge.proofs.Sweepings.{modest_both, sweeps_then, sweeps_turned}
+use Rattle.hcc_charge.proofs.Sweepings.{modest_both, modest_idle, sweeps_then, sweeps_turned}
 
 -- losses, one after the other
 pub lost_then : (a b : ℕ) (old between new : Effort) → Lost a a old between
@@ -85,13 +85,7 @@ module _ {T A : Type 0} (fits : T → Key → List ℕ → Type 0) (table : Rule
   turning_begins hand old now effort same rest moved = record {
     same = same;
     swept = sweeps_turned (view old) (view now) rest moved.view;
-    modest = record {
-      slots = omega arith;
-      charge = omega arith;
-      hits = omega arith;
-      pinned = omega arith;
-      lost = omega arith;
-    };
+    modest = modest_idle 0 1 0 0 (omega arith) (omega arith);
     one = refl;
     effort = lost_none effort;
     turned = now;

@@ -38,8 +38,8 @@ still_needed capacity used charge = charge - min charge (capacity - min used cap
 abbrev pub at_least_one : Bool → ℕ → ℕ
 at_least_one full ask = if full then max ask 1 else ask
 
--- What a reservation finds: whether the capacity is strict, whether the shard is full, and the usage
--- before it.
+-- What a reservation finds and asks for, by whether the capacity is strict, whether the shard is
+-- full, and the usage before it.
 
 -- what of the charge isn't granted at once
 abbrev pub needed_by : (strict : Bool) → (capacity used charge : ℕ) → ℕ
