@@ -33,8 +33,7 @@ module _ {T : Type 0} (setup : Setup) (slots capacity charge used : ℕ) (full :
     pub lax_refused : (w : View T) → full ≡ true → swept.slots ≡ 0 → w ≡ after_quit b
         → ReservedBy slots capacity false charge (Ok NoPlace) v w
     lax_refused w is none quits = (
-      reserves swept idle lent s slots places.Absent 0 w left lax_why
-          evicts,
+      reserves swept idle lent s slots places.Absent 0 w left lax_why evicts,
       refl,
       opened,
       untaken,
@@ -48,15 +47,13 @@ module _ {T : Type 0} (setup : Setup) (slots capacity charge used : ℕ) (full :
 
         opened : v.open_places < w.open_places
         opened =
-            let now =
-            opened_is swept idle lent s slots places.Absent 0 w left in
+            let now = opened_is swept idle lent s slots places.Absent 0 w left in
             let some = full_some full is in
             omega arith
 
         untaken : w.takings ≡ v.takings
         untaken =
-            let now =
-            takings_is swept idle lent s slots places.Absent 0 w left in
+            let now = takings_is swept idle lent s slots places.Absent 0 w left in
             omega arith
 
     -- a place and the charge are granted.
@@ -64,16 +61,13 @@ module _ {T : Type 0} (setup : Setup) (slots capacity charge used : ℕ) (full :
         → c ≡ placed_anew b → d ≡ after_charge setup charge found c → w ≡ paid d
         → ReservedBy slots capacity false charge (Ok Reserved) v w
     lax_reserved found c d w placed anew charges pays = (
-      reserves swept idle lent s slots places.Granted charge w left
-          lax_why evicts,
+      reserves swept idle lent s slots places.Granted charge w left lax_why evicts,
       placed,
       omega arith,
     )
       where
         left : w ≡ settled_as places.Granted charge b
-        left =
-            charges_as swept idle lent s setup found c d w lax placed anew charges
-            pays
+        left = charges_as swept idle lent s setup found c d w lax placed anew charges pays
 
   -- Under it:
   module _ (strict : setup.strict ≡ true) (same : setup.capacity ≡ capacity)
@@ -114,9 +108,7 @@ module _ {T : Type 0} (setup : Setup) (slots capacity charge used : ℕ) (full :
       tight = tight_is swept idle ask s slots places.Absent 0 w left
 
       abbrev refused : Reserves slots capacity true charge places.Absent 0 v w
-      refused =
-          reserves swept idle ask s slots places.Absent 0 w left strict_why
-          evicts
+      refused = reserves swept idle ask s slots places.Absent 0 w left strict_why evicts
 
       -- too little charge was freed;
       pub strict_short : swept.charge < still_needed capacity used charge
@@ -137,15 +129,13 @@ module _ {T : Type 0} (setup : Setup) (slots capacity charge used : ℕ) (full :
         where
           opened : v.open_places < w.open_places
           opened =
-              let now =
-              opened_is swept idle ask s slots places.Absent 0 w left in
+              let now = opened_is swept idle ask s slots places.Absent 0 w left in
               let some = full_some full is in
               omega arith
 
           untaken : w.takings ≡ v.takings
           untaken =
-              let now =
-              takings_is swept idle ask s slots places.Absent 0 w left in
+              let now = takings_is swept idle ask s slots places.Absent 0 w left in
               omega arith
 
           needless : still_needed capacity used charge ≡ 0
@@ -159,8 +149,7 @@ module _ {T : Type 0} (setup : Setup) (slots capacity charge used : ℕ) (full :
         → still_needed capacity used charge ≤ swept.charge → w ≡ settled b
         → ReservedBy slots capacity true charge (Ok Reserved) v w
     strict_reserved w placed enough settles = (
-      reserves swept idle ask s slots places.Granted charge w left strict_why
-          evicts,
+      reserves swept idle ask s slots places.Granted charge w left strict_why evicts,
       placed,
       enough,
     )
