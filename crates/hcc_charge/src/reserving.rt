@@ -28,7 +28,7 @@ use std::alloc::Allocator;
 pub enum Reservation {
     /// A place and the charge are granted.
     Reserved,
-    /// No place was found. Nothing is granted.
+    /// There was no place left, and an eviction freed no slot. Nothing is granted.
     NoPlace,
 }
 
@@ -37,9 +37,9 @@ pub enum Reservation {
 pub enum Refused {
     /// The charge is above the capacity. No step was made.
     TooLarge,
-    /// Not enough charge was freed.
+    /// An eviction freed less charge than was needed.
     CapacityFull,
-    /// There was no place left, and no slot was freed.
+    /// There was no place left, and an eviction freed no slot.
     OccupancyFull,
 }
 
@@ -57,8 +57,9 @@ pub enum Refused {
 /// Reserved: the client has a granted place and the charge granted, and what it freed is settled.
 /// Not strict, and no place found: nothing is granted or charged. Under strict capacity, where less
 /// charge was freed than needed, or no place was found: the place, the charge and what was freed
-/// are given back. Entries are evicted only where the shard was full, where the charge didn't fit,
-/// or where under strict capacity not all of it was granted at once.
+/// are given back. It evicts just where the shard was full, where the charge didn't fit, or where
+/// under strict capacity not all of it was granted at once. So CapacityFull, OccupancyFull and
+/// NoPlace come after an eviction that has ended, and the last two only where it freed nothing.
 ///
 /// The client has nothing in hand but its references and standalone entries, and the charge isn't
 /// 0. What evictions did is added to the tally, and exchanges that lost to the effort. It takes no
