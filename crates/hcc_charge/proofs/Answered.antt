@@ -4,21 +4,20 @@ use Rattle.std.proofs.lemmas.Bool.{lt-ltb}
 use Rattle.hcc_core.specs.declared.client.Place.TheVariants as places
 use Rattle.hcc_core.specs.declared.setup.Setup.{Setup}
 use Rattle.hcc_core.specs.Ledgers.{grant_of}
-use Rattle.hcc_core.specs.World.{is_placed}
 use Rattle.hcc_core.proofs.LawfulLedgers.{grant-le}
 use Rattle.hcc_rule.specs.declared.view.View.{View}
 use Rattle.hcc_rule.specs.Callers.{IsBetweenCalls}
-use Rattle.hcc_rule.specs.ToldLedgers.{after_charge, after_quit, after_usage, waived}
+use Rattle.hcc_rule.specs.ToldLedgers.{after_charge, after_quit, after_usage}
 use Rattle.hcc_charge.specs.declared.reserving.Reservation.TheVariants.{Reserved, NoPlace}
 use Rattle.hcc_charge.specs.declared.reserving.Refused.TheVariants.{CapacityFull, OccupancyFull}
 use Rattle.hcc_charge.specs.declared.swept.Swept.{Swept}
 use Rattle.hcc_charge.specs.Evicted.{IsSweptFor, Sweeps}
 use Rattle.hcc_charge.specs.Reserved.{Reserves, ReservedBy, asked, entered, has_cause, settled_as, short_of, still_needed}
 use Rattle.hcc_charge.specs.Settled.{paid, placed_anew, settled}
-use Rattle.hcc_charge.proofs.Reservings.{Asked, asks_lax, asks_strict, charges_as, full_some, lax_cause, need_is, needed_same, none_more, opened_is, place_is, place_of, quits_as, reserves, settles_as, strict_cause, takings_is, tight_is, waived_is}
+use Rattle.hcc_charge.proofs.Reservings.{Asked, asks_lax, asks_strict, charges_as, lax_cause, needed_same, none_more, opened_more, quits_as, reserves, settles_as, strict_cause, tight_is, untaken}
 
 module _ {T : Type 0} (setup : Setup) (slots capacity charge used : ℕ) (full : Bool) (swept : Swept)
-    (v u a b : View T) (idle : IsBetweenCalls v.work) (enters : u ≡ entered full v)
+    (v : View T) {u a b : View T} (idle : IsBetweenCalls v.work) (enters : u ≡ entered full v)
     (s : Sweeps swept.turns swept.slots swept.charge a b) where
   -- Without strict capacity:
   module _ (lax : setup.strict ≡ false) (some : 0 < charge) (loads : a ≡ after_usage used u)
@@ -35,8 +34,8 @@ module _ {T : Type 0} (setup : Setup) (slots capacity charge used : ℕ) (full :
     lax_refused w is none quits = (
       reserves swept idle lent s slots places.Absent 0 w left lax_why evicts,
       refl,
-      opened,
-      untaken,
+      opened_more swept idle lent s slots places.Absent 0 w left is,
+      untaken swept idle lent s slots places.Absent 0 w left none,
     )
       where
         bare : swept.charge ≡ 0
@@ -44,17 +43,6 @@ module _ {T : Type 0} (setup : Setup) (slots capacity charge used : ℕ) (full :
 
         left : w ≡ settled_as places.Absent 0 b
         left = quits_as swept idle lent s bare refl refl w quits
-
-        opened : v.open_places < w.open_places
-        opened =
-            let now = opened_is swept idle lent s slots places.Absent 0 w left in
-            let some = full_some full is in
-            omega arith
-
-        untaken : w.takings ≡ v.takings
-        untaken =
-            let now = takings_is swept idle lent s slots places.Absent 0 w left in
-            omega arith
 
     -- a place and the charge are granted.
     pub lax_reserved : (found : ℕ) (c d w : View T) → (full ≡ true → 0 < swept.slots)
@@ -85,23 +73,6 @@ module _ {T : Type 0} (setup : Setup) (slots capacity charge used : ℕ) (full :
     strict_why : nat_lt 0 swept.turns ≡ has_cause true capacity charge full used
     strict_why = evicts.made ∙ strict_cause capacity charge used full
 
-    -- what is in hand then;
-    pub strict_needed : b.work.needed ≡ still_needed capacity used charge
-    strict_needed = need_is swept idle ask s
-
-    pub strict_waived : waived b.work ≡ charge + swept.charge
-    strict_waived =
-        let all = waived_is swept idle ask s in
-        let sum = whole in
-        omega arith
-
-    pub strict_placed : is_placed b.work.place ≡ true
-    strict_placed = ap is_placed (place_is swept idle ask s) ∙ by full
-      where
-        by : (b : Bool) → is_placed (place_of b) ≡ true
-        by true = refl
-        by false = refl
-
     -- A refusal:
     module _ (w : View T) (left : w ≡ settled_as places.Absent 0 b) where
       tight : w.tight ≡ v.tight ++ short_of (still_needed capacity used charge) charge
@@ -125,19 +96,14 @@ module _ {T : Type 0} (setup : Setup) (slots capacity charge used : ℕ) (full :
       pub strict_full : full ≡ true → swept.slots ≡ 0
           → still_needed capacity used charge ≤ swept.charge
           → ReservedBy slots capacity true charge (Err OccupancyFull) v w
-      strict_full is none enough = (refused, refl, opened, untaken, tight ∙ unjoined)
+      strict_full is none enough = (
+        refused,
+        refl,
+        opened_more swept idle ask s slots places.Absent 0 w left is,
+        untaken swept idle ask s slots places.Absent 0 w left none,
+        tight ∙ unjoined,
+      )
         where
-          opened : v.open_places < w.open_places
-          opened =
-              let now = opened_is swept idle ask s slots places.Absent 0 w left in
-              let some = full_some full is in
-              omega arith
-
-          untaken : w.takings ≡ v.takings
-          untaken =
-              let now = takings_is swept idle ask s slots places.Absent 0 w left in
-              omega arith
-
           needless : still_needed capacity used charge ≡ 0
           needless = let least = evicts.modest.charge in omega arith
 

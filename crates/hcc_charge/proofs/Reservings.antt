@@ -11,21 +11,23 @@ use Rattle.hcc_core.specs.Ledgers.{grant_of}
 use Rattle.hcc_core.specs.Sums.{when}
 use Rattle.hcc_rule.specs.declared.view.View.{View}
 use Rattle.hcc_rule.specs.Callers.{IsBetweenCalls}
-use Rattle.hcc_rule.specs.ToldLedgers.{after_charge, after_quit, after_usage, needed_of, waived}
+use Rattle.hcc_rule.specs.ToldLedgers.{after_charge, after_quit, after_usage, needed_of}
 use Rattle.hcc_charge.specs.declared.swept.Swept.{Swept}
 use Rattle.hcc_charge.specs.Evicted.{IsSweptFor, Sweeps}
 use Rattle.hcc_charge.specs.Reserved.{Reserves, ask_of, asked, entered, has_cause, loaded, needed_by, presses, settled_as, short_of, still_needed, surplus}
 use Rattle.hcc_charge.specs.Settled.{left_place, paid, placed_anew, settled}
 
+-- nothing is added
 pub none_more : {A : Type 0} (xs : List A) → xs ≡ xs ++ []
 none_more [] = refl
 none_more (x ∷ xs) = ap (λ z. x ∷ z) (none_more xs)
 
+-- at least 1 is above 0
 at_least : (n : ℕ) → nat_lt 0 (max n 1) ≡ true
 at_least n = lt-ltb 0 (max n 1) (omega arith)
 
 -- the place that is asked for
-abbrev pub place_of : Bool → Place
+abbrev place_of : Bool → Place
 place_of full = cond full places.Open places.Granted
 
 -- Without strict capacity something is asked for just where there is a cause,
@@ -48,7 +50,7 @@ strict_cause capacity charge used true = at_least (still_needed capacity used ch
 strict_cause capacity charge used false = refl
 
 -- A place is granted where none has to be freed, or one was.
-pub left_granted : (slots : ℕ) (full : Bool) → (full ≡ true → 0 < slots)
+left_granted : (slots : ℕ) (full : Bool) → (full ≡ true → 0 < slots)
     → left_place slots (place_of full) ≡ places.Granted
 left_granted slots true freed =
     ap (λ b. cond b places.Granted places.Open) (lt-ltb 0 slots (freed refl))
@@ -58,7 +60,7 @@ left_granted slots false freed = by (nat_lt 0 slots)
     by true = refl
     by false = refl
 
-pub full_some : (full : Bool) → full ≡ true → 0 < when full 1
+full_some : (full : Bool) → full ≡ true → 0 < when full 1
 full_some full is = rw is (let one : 0 < 1 = omega arith in one)
 
 -- What the code needs under strict capacity is what the step needed.
@@ -146,15 +148,15 @@ module _ {T : Type 0} where
     got_is =
         ap (λ (z : View T). z.work.granted) s.same ∙ ap (λ (z : View T). z.work.granted) ask.same
 
-    pub need_is : b.work.needed ≡ need
+    need_is : b.work.needed ≡ need
     need_is =
         ap (λ (z : View T). z.work.needed) s.same ∙ ap (λ (z : View T). z.work.needed) ask.same
 
-    pub place_is : b.work.place ≡ place_of ask.full
+    place_is : b.work.place ≡ place_of ask.full
     place_is =
         ap (λ (z : View T). z.work.place) s.same ∙ ap (λ (z : View T). z.work.place) ask.same
 
-    pub freed_is : b.work.freed ≡ swept.charge
+    freed_is : b.work.freed ≡ swept.charge
     freed_is =
         let was : a.work.freed ≡ 0 =
         ap (λ (z : View T). z.work.freed) ask.same ∙ ap (λ (c : Client). c.freed) idle in
@@ -162,7 +164,7 @@ module _ {T : Type 0} where
         ap (λ (z : View T). z.work.freed) s.same in
         omega arith
 
-    pub freed_slots_is : b.work.freed_slots ≡ swept.slots
+    freed_slots_is : b.work.freed_slots ≡ swept.slots
     freed_slots_is =
         let was : a.work.freed_slots ≡ 0 =
         ap (λ (z : View T). z.work.freed_slots) ask.same
@@ -181,15 +183,22 @@ module _ {T : Type 0} where
     -- It was settled then.
     module _ (slots : ℕ) (place : Place) (granted : ℕ) (w : View T)
         (left : w ≡ settled_as place granted b) where
-      pub takings_is : w.takings ≡ v.takings + swept.slots
-      takings_is =
-          ap (λ (z : View T). z.takings) left ∙ (ap (λ (z : View T). z.takings) s.same
-          ∙ ap (λ (z : View T). z.takings + swept.slots) ask.same)
-
-      pub opened_is : w.open_places ≡ v.open_places + when ask.full 1
-      opened_is =
+      -- more places are open where the shard was full
+      pub opened_more : ask.full ≡ true → v.open_places < w.open_places
+      opened_more is =
+          let now : w.open_places ≡ v.open_places + when ask.full 1 =
           ap (λ (z : View T). z.open_places) left ∙ (ap (λ (z : View T). z.open_places) s.same
-          ∙ ap (λ (z : View T). z.open_places) ask.same)
+          ∙ ap (λ (z : View T). z.open_places) ask.same) in
+          let some = full_some ask.full is in
+          omega arith
+
+      -- no taking was made where no slot was freed
+      pub untaken : swept.slots ≡ 0 → w.takings ≡ v.takings
+      untaken none =
+          let now : w.takings ≡ v.takings + swept.slots =
+          ap (λ (z : View T). z.takings) left ∙ (ap (λ (z : View T). z.takings) s.same
+          ∙ ap (λ (z : View T). z.takings + swept.slots) ask.same) in
+          omega arith
 
       pub tight_is : w.tight ≡ v.tight ++ short_of need charge
       tight_is =
@@ -310,7 +319,3 @@ module _ {T : Type 0} where
       where
         all : b.work.granted + b.work.needed ≡ charge
         all = let g = got_is in let n = need_is in omega arith
-
-    -- what it may take back
-    pub waived_is : waived b.work ≡ ask.got + need + swept.charge
-    waived_is = let g = got_is in let n = need_is in let f = freed_is in omega arith

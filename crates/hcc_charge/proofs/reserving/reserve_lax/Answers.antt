@@ -12,7 +12,6 @@ returns-then-swept-eq0-clause-view g c =
     let told = c.evict_for-swept.ensures in
     lax_refused (setup_of (plan_of table)) table.geometry.slots table.capacity c.args.charge
     c.usage-used.result c.enter-full.result c.evict_for-swept.result (view c.args.seat.now)
-    (view c.enter-full.new.seat) (view c.usage-used.new.seat) (view c.evict_for-swept.new.seat)
     c.requires.idle c.enter-full.ensures.view told.view (table.planned.2 ∙ c.requires.lax)
     c.requires.some c.usage-used.ensures.view
     (rw (← c.capacity.ensures) (rw (← c.ask.ensures.value)
@@ -25,7 +24,6 @@ returns-clause-view g c =
     let told = c.evict_for-swept.ensures in
     lax_reserved (setup_of (plan_of table)) table.geometry.slots table.capacity c.args.charge
     c.usage-used.result c.enter-full.result c.evict_for-swept.result (view c.args.seat.now)
-    (view c.enter-full.new.seat) (view c.usage-used.new.seat) (view c.evict_for-swept.new.seat)
     c.requires.idle c.enter-full.ensures.view told.view (table.planned.2 ∙ c.requires.lax)
     c.requires.some c.usage-used.ensures.view
     (rw (← c.capacity.ensures) (rw (← c.ask.ensures.value)

@@ -13,7 +13,6 @@ returns-then-swept-needed-clause-view g c =
     let told = c.evict_for-swept.ensures in
     strict_short (setup_of (plan_of table)) table.geometry.slots table.capacity c.args.charge
     c.charge-used.result c.enter-full.result c.evict_for-swept.result (view c.args.seat.now)
-    (view c.enter-full.new.seat) (view c.charge-used.new.seat) (view c.evict_for-swept.new.seat)
     c.requires.idle c.enter-full.ensures.view told.view (table.planned.2 ∙ c.requires.strict)
     table.planned.1 c.charge-used.ensures.view
     (rw (← c.capacity.ensures) (rw (← c.needed-needed.ensures.value)
@@ -27,7 +26,6 @@ returns-then-swept-eq0-clause-view g c =
     let told = c.evict_for-swept.ensures in
     strict_full (setup_of (plan_of table)) table.geometry.slots table.capacity c.args.charge
     c.charge-used.result c.enter-full.result c.evict_for-swept.result (view c.args.seat.now)
-    (view c.enter-full.new.seat) (view c.charge-used.new.seat) (view c.evict_for-swept.new.seat)
     c.requires.idle c.enter-full.ensures.view told.view (table.planned.2 ∙ c.requires.strict)
     table.planned.1 c.charge-used.ensures.view
     (rw (← c.capacity.ensures) (rw (← c.needed-needed.ensures.value)
@@ -47,7 +45,6 @@ returns-clause-view g c =
     let told = c.evict_for-swept.ensures in
     strict_reserved (setup_of (plan_of table)) table.geometry.slots table.capacity c.args.charge
     c.charge-used.result c.enter-full.result c.evict_for-swept.result (view c.args.seat.now)
-    (view c.enter-full.new.seat) (view c.charge-used.new.seat) (view c.evict_for-swept.new.seat)
     c.requires.idle c.enter-full.ensures.view told.view (table.planned.2 ∙ c.requires.strict)
     table.planned.1 c.charge-used.ensures.view
     (rw (← c.capacity.ensures) (rw (← c.needed-needed.ensures.value)
