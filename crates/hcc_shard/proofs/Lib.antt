@@ -6,3 +6,4 @@ pub mod Pins
 pub mod Insertions
 pub mod Joinings
 pub mod Lefts
+pub mod Values
