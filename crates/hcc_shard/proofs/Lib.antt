@@ -7,3 +7,4 @@ pub mod Insertions
 pub mod Joinings
 pub mod Lefts
 pub mod Values
+pub mod Guests
