@@ -4,3 +4,4 @@ pub mod Referred
 pub mod Inserted
 pub mod Left
 pub mod Closed
+pub mod Guests
