@@ -1,17 +1,15 @@
 -- What a client knows once a look-up found an entry, or none.
-use Rattle.std.proofs.Common.{◌≡◌, ℕ, ◌+◌, ◌*◌, ◌<◌, ◌≤◌, Bool, List, [], ◌∷◌, ◌++◌, Option, Some, None, IfSome, length, option_map, slice_get, slice_set, sym, refl, ap, subst, ◌∙◌, arith}
-use Rattle.slab.specs.Slab.{get, slab_len}
-use Rattle.hcc_core.specs.declared.client.Standalone.{Standalone}
+use Rattle.std.proofs.Common.{◌≡◌, ℕ, ◌+◌, ◌*◌, ◌<◌, ◌≤◌, Bool, List, [], ◌∷◌, ◌++◌, Some, length, option_map, sym, ap, subst, ◌∙◌, arith}
 use Rattle.hcc_rule.specs.declared.geometry.Geometry.{Geometry}
 use Rattle.hcc_rule.specs.declared.key.Key.{Key}
 use Rattle.hcc_rule.specs.declared.view.Record.{Record}
 use Rattle.hcc_rule.specs.declared.view.View.{View}
-use Rattle.hcc_rule.specs.Views.{Each, record_in}
+use Rattle.hcc_rule.specs.Views.{Each}
 use Rattle.hcc_rule.specs.Words.{key_of}
 use Rattle.hcc_rule.proofs.Basics.Lists.{each_append, within}
 use Rattle.hcc_table.specs.declared.efforts.Effort.{Effort}
 use Rattle.hcc_table.specs.Pins.{IsOf}
-use Rattle.hcc_table.specs.Searched.{IsFound, IsMissed, Searched, Sought}
+use Rattle.hcc_table.specs.Searched.{IsFound, IsMissed, Searched}
 use Rattle.hcc_table.specs.Steps.{MakesFor}
 use Rattle.hcc_shard.specs.declared.seat.ShardSeat.{ShardSeat}
 use Rattle.hcc_shard.specs.declared.shard.Shard.{Shard}
@@ -23,10 +21,10 @@ use Rattle.hcc_cache.specs.declared.handle.Handle.{Handle}
 use Rattle.hcc_cache.specs.declared.holding.Hold.{Hold}
 use Rattle.hcc_cache.specs.declared.holding.Kept.TheVariants.{Pinned}
 use Rattle.hcc_cache.specs.declared.seeded.Seeded.{Seeded}
-use Rattle.hcc_cache.specs.Calls.{Finds, Gains, KeepsAll, Misses, TakesAtMost, UsesNone, UsesOne, shard_in}
-use Rattle.hcc_cache.specs.Clients.{held_by, held_entry, hold_of, kept_as, pin_of, records_in}
+use Rattle.hcc_cache.specs.Calls.{Finds, Gains, KeepsAll, Misses, TakesAtMost, UsesNone, shard_in}
+use Rattle.hcc_cache.specs.Clients.{held_entry, pin_of}
 use Rattle.hcc_cache.specs.Keys.{fits_seeded, key_from, key_to}
-use Rattle.hcc_cache.specs.Known.{AreHeld, IsSeated, Knows}
+use Rattle.hcc_cache.specs.Known.{IsSeated, Knows}
 use Rattle.hcc_cache.proofs.At.{ChangesAt, IsAt, knows_at, seated_at, takes_at, works_at}
 use Rattle.hcc_cache.proofs.Framing.{keeps_all}
 use Rattle.hcc_cache.proofs.Gained.{gains, IsGiven}

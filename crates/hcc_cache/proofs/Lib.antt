@@ -12,3 +12,5 @@ pub mod Again
 pub mod Standing
 pub mod Released
 pub mod Readings
+pub mod StandsAgain
+pub mod StandingAgain

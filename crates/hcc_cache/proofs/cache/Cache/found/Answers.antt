@@ -1,10 +1,10 @@
-use Rattle.std.proofs.Common.{rules, ◌≡◌, ◌∙◌, ◌+◌, ◌-◌, ◌<◌, Some, length, ap, refl, arith}
+use Rattle.std.proofs.Common.{◌≡◌, ◌∙◌, ◌-◌, length, ap, refl, arith}
 use Rattle.std.specs.Vec.{with_item}
 use Rattle.hcc_cache.specs.declared.client.Client.{Client}
 use Rattle.hcc_cache.specs.declared.holding.Hold.{Hold}
 use Rattle.hcc_cache.specs.Keys.{shard_of}
 use Rattle.hcc_cache.proofs.At.{ChangesAt, few_at, is_at, next_at, seated_at}
-use Rattle.hcc_cache.proofs.Found.{IsLeft, finds, knows_left, knows_more, looks_at, misses, seated_sought}
+use Rattle.hcc_cache.proofs.Found.{finds, knows_left, knows_more, looks_at, misses, seated_sought}
 use Rattle.hcc_cache.proofs.Gained.{IsGiven}
 use Rattle.hcc_cache.proofs.cache.Cache.found.Goals as goal
 
