@@ -8,7 +8,7 @@ use Rattle.hcc_rule.specs.declared.view.View.{View}
 use Rattle.hcc_rule.specs.Views.{record_in}
 use Rattle.hcc_shard.specs.declared.seat.ShardSeat.{ShardSeat}
 use Rattle.hcc_shard.specs.declared.shard.Shard.{Shard}
-use Rattle.hcc_shard.specs.Callers.{view_of}
+use Rattle.hcc_shard.specs.Callers.{geometry_of, view_of}
 use Rattle.hcc_shard.specs.Seated.{Rests}
 use Rattle.hcc_cache.specs.declared.cache.Cache.{Cache}
 use Rattle.hcc_cache.specs.declared.client.Client.{Client}
@@ -73,7 +73,7 @@ module _ {T : Type 0} (cache : Cache T) (client : Client T) (handle : Handle) (h
     (at : IsAt cache client hold.shard shard was) (held : hold_of client handle ≡ Some hold)
     (there : get client.handles handle.place ≡ Some hold) (kept : hold.kept ≡ Pinned slot counting)
     (P : List ℕ → Type 0) where
-  abbrev pin : IsPinAt cache client hold slot counting shard was
+  abbrev pin : IsPinAt cache client hold slot counting (geometry_of shard).slots was
   pin = pin_at cache client hold slot counting handle.place shard was at there kept
 
   stands : held_of cache client handle ≡ Some (held_entry cache.seed pin.handled.entry)

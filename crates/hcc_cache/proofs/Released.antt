@@ -13,7 +13,7 @@ use Rattle.hcc_rule.proofs.Basics.Findings.{dropped_each}
 use Rattle.hcc_charge.specs.Settled.{fallen}
 use Rattle.hcc_shard.specs.declared.seat.ShardSeat.{ShardSeat}
 use Rattle.hcc_shard.specs.declared.shard.Shard.{Shard}
-use Rattle.hcc_shard.specs.Callers.{view_of}
+use Rattle.hcc_shard.specs.Callers.{geometry_of, view_of}
 use Rattle.hcc_shard.specs.Referred.{IsReleased}
 use Rattle.hcc_shard.specs.Seated.{Rests}
 use Rattle.hcc_cache.specs.declared.cache.Cache.{Cache}
@@ -131,7 +131,7 @@ module _ {T : Type 0} (cache : Cache T) (old new : Client T) (handle : Handle) (
       abbrev without : IsWithout hold.serial was is
       without = without_released hold.serial erase freed was is released
 
-      abbrev pin : IsPinAt cache old hold slot counting shard was
+      abbrev pin : IsPinAt cache old hold slot counting (geometry_of shard).slots was
       pin = pin_at cache old hold slot counting handle.place shard was at lets.gone.there kept
 
       -- the client is known still
