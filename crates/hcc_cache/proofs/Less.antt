@@ -104,7 +104,7 @@ pub record IsWithout {T : Type 0} (name : ℕ) (was is : ShardSeat T) : Type 0 w
   pub records : (view_of is).records ≡ dropped (is_called name) (view_of was).records
   pub standalones : (view_of is).work.standalones ≡ (view_of was).work.standalones
 
--- which place it has makes no difference to a handle on an entry of the table
+-- a hold on an entry of the table counts as one, and for no standalone entry
 pub pinned_test : (o : Option Hold) (slot : ℕ) (counting : Bool) (place : ℕ) (hold : Hold)
     → o ≡ Some hold → hold.kept ≡ Pinned slot counting
     → (is_pinned o ≡ true) × (is_standing_at place o ≡ false)
