@@ -9,5 +9,8 @@ pub mod More
 pub mod Gained
 pub mod Found
 pub mod Again
+pub mod Standing
+pub mod Released
+pub mod Readings
 pub mod StandsAgain
 pub mod StandingAgain
