@@ -9,7 +9,7 @@ use Rattle.hcc_rule.specs.Words.{key_of}
 use Rattle.hcc_rule.proofs.Basics.Lists.{each_append, within}
 use Rattle.hcc_table.specs.declared.efforts.Effort.{Effort}
 use Rattle.hcc_table.specs.Pins.{IsOf}
-use Rattle.hcc_table.specs.Searched.{IsFound, IsMissed, Searched}
+use Rattle.hcc_table.specs.Searched.{IsFound, IsMissed, Searched, Sought}
 use Rattle.hcc_table.specs.Steps.{MakesFor}
 use Rattle.hcc_shard.specs.declared.seat.ShardSeat.{ShardSeat}
 use Rattle.hcc_shard.specs.declared.shard.Shard.{Shard}
@@ -106,6 +106,15 @@ module _ {T : Type 0} where
         count = left.held;
         serials = left.uses;
       }
+
+    -- It is known still, where nothing was found.
+    pub knows_sought : IsLeft old new → Rests shard is → Sought (view_of was) (view_of is)
+        → Knows cache new
+    knows_sought left rests sought =
+        knows_left left sought.records
+        (ap (λ (v : View (Seeded T)). v.work.standalones) sought.searched.same)
+        (seated_sought shard old.number old.used was is
+        (seated_at cache old new i shard was is at) rests sought.searched sought.records)
 
     -- A look-up makes seven steps at most for each slot that it visits.
     pub looks_at : (before after : Effort)

@@ -1,13 +1,12 @@
 -- The handles of a client, once one on an entry of the table was given back.
-use Rattle.std.proofs.Common.{◌≡◌, ◌≢◌, ◌⊎◌, inl, inr, ℕ, ◌+◌, ◌<◌, ◌≤◌, ◌==◌, Bool, true, false}
+use Rattle.std.proofs.Common.{◌≡◌, ◌≢◌, inl, inr, ℕ, ◌+◌, Bool, true, false}
 use Rattle.std.proofs.Common.{List, Option, Some, None, find, length, slice_get, slice_set}
 use Rattle.std.proofs.Common.{sym, refl, ap, ◌∙◌, length-set, arith}
 use Rattle.std.proofs.lemmas.Bool.{cases_eq, eqb-true, ne_eqb}
 use Rattle.slab.specs.Slab.{Slab, get, slab_len, Updates}
-use Rattle.hcc_core.specs.declared.client.Standalone.{Standalone}
 use Rattle.hcc_core.specs.Ledgers.{is_standing}
 use Rattle.hcc_core.specs.Outcomes.{dropped}
-use Rattle.hcc_core.specs.Sums.{total, when}
+use Rattle.hcc_core.specs.Sums.{when}
 use Rattle.hcc_core.proofs.SumLemmas.{total-set}
 use Rattle.hcc_rule.specs.declared.view.Record.{Record}
 use Rattle.hcc_rule.specs.declared.view.View.{View}
@@ -16,10 +15,9 @@ use Rattle.hcc_shard.specs.declared.seat.ShardSeat.{ShardSeat}
 use Rattle.hcc_shard.specs.Callers.{view_of}
 use Rattle.hcc_cache.specs.declared.holding.Alone.{Alone}
 use Rattle.hcc_cache.specs.declared.holding.Hold.{Hold}
-use Rattle.hcc_cache.specs.declared.holding.Kept.{Kept}
-use Rattle.hcc_cache.specs.declared.holding.Kept.TheVariants.{Pinned, Standing}
-use Rattle.hcc_cache.specs.Clients.{records_in, standalones_in, view_by, view_in}
-use Rattle.hcc_cache.specs.Known.{AreHeld, IsKept, IsKeptAs, count_of, is_pinned, is_standing_at, records_at, references_of, standalones_at}
+use Rattle.hcc_cache.specs.declared.holding.Kept.TheVariants.{Pinned}
+use Rattle.hcc_cache.specs.Clients.{view_by, view_in}
+use Rattle.hcc_cache.specs.Known.{AreHeld, count_of, is_pinned, is_standing_at, records_at, standalones_at}
 use Rattle.hcc_cache.proofs.Framing.{Stands, freed_is, kept_still, same_alone, stands_if, stood_there}
 use Rattle.hcc_cache.proofs.Held.{AreApart}
 use Rattle.hcc_cache.proofs.Names.{dropped_one, find_left}
@@ -106,7 +104,7 @@ pub record IsWithout {T : Type 0} (name : ℕ) (was is : ShardSeat T) : Type 0 w
   pub records : (view_of is).records ≡ dropped (is_called name) (view_of was).records
   pub standalones : (view_of is).work.standalones ≡ (view_of was).work.standalones
 
--- which place it has makes no difference to a handle on an entry of the table
+-- a hold on an entry of the table counts as one, and for no standalone entry
 pub pinned_test : (o : Option Hold) (slot : ℕ) (counting : Bool) (place : ℕ) (hold : Hold)
     → o ≡ Some hold → hold.kept ≡ Pinned slot counting
     → (is_pinned o ≡ true) × (is_standing_at place o ≡ false)
@@ -121,7 +119,8 @@ module _ {T : Type 0} (seed used : ℕ) (seats : List (ShardSeat T)) (handles le
   pub stand_unpinned : (p : ℕ) (k : Hold) → p ≢ place → get handles p ≡ Some k
       → Stands seats (slice_set seats hold.shard is) alone alone k
   stand_unpinned p k ne there =
-      let serial = serial_apart handles less place hold gone seed used seats alone all p k ne there in
+      let serial = serial_apart handles less place hold gone seed used seats alone all p k ne there
+      in
       stands_if seats (slice_set seats hold.shard is) alone alone seed k (all.each p k there).0
       (λ r found.
       found_left (λ v. v.records) (is_called hold.serial) (is_called k.serial) seats hold.shard

@@ -1,13 +1,12 @@
 -- The handles of a client, once one on a standalone entry was given back.
-use Rattle.std.proofs.Common.{◌≡◌, ◌≢◌, ◌⊎◌, inl, inr, ℕ, ◌+◌, ◌<◌, ◌≤◌, ◌==◌, Bool, true, false}
+use Rattle.std.proofs.Common.{◌≡◌, ◌≢◌, inl, inr, ℕ, ◌+◌, ◌<◌, ◌≤◌, ◌==◌, true, false}
 use Rattle.std.proofs.Common.{List, Option, Some, None, find, length, slice_get, slice_set}
 use Rattle.std.proofs.Common.{sym, refl, ap, ◌∙◌, length-set, arith}
 use Rattle.std.proofs.lemmas.Bool.{cases_eq, eq-eqb, ne_eqb}
-use Rattle.slab.specs.Slab.{Slab, get, slab_len, Updates}
-use Rattle.hcc_core.specs.declared.client.Standalone.{Standalone}
+use Rattle.slab.specs.Slab.{Slab, get, Updates}
 use Rattle.hcc_core.specs.Ledgers.{is_standing}
 use Rattle.hcc_core.specs.Outcomes.{dropped}
-use Rattle.hcc_core.specs.Sums.{total, when}
+use Rattle.hcc_core.specs.Sums.{when}
 use Rattle.hcc_core.proofs.SumLemmas.{total-set}
 use Rattle.hcc_shard.specs.declared.seat.ShardSeat.{ShardSeat}
 use Rattle.hcc_shard.specs.Callers.{view_of}
@@ -131,8 +130,8 @@ module _ {T : Type 0} (seed used : ℕ) (seats : List (ShardSeat T)) (handles le
 
     pub held_fewer : AreHeld seed used seats less fewer
     held_fewer =
-        let apart = apart_less handles less place hold gone seed used seats alone all seats fewer refl
-        stand_fewer in
+        let apart = apart_less handles less place hold gone seed used seats alone all seats fewer
+        refl stand_fewer in
         let pinned = pinned_else in
         let count = gone.count in
         let length = len_updated alone fewer at (Some b) updates in
@@ -154,14 +153,16 @@ module _ {T : Type 0} (seed used : ℕ) (seats : List (ShardSeat T)) (handles le
           some = λ p x is. elim (cases_eq p at) [
             | inl here ↦ some_at p x here (written_is alone fewer at b x p updates here is)
             | inr other ↦
-                let stood = all.some p x (stood_there alone fewer at (Some b) x p updates other is) in
+                let stood = all.some p x (stood_there alone fewer at (Some b) x p updates other is)
+                in
                 (stood.0, stood.1 ∙ sym (standing_else p other), stood.2)
           ];
           references = omega arith;
         }
 
   -- Where it was the last handle on the entry: the entry is gone, at its shard too.
-  module _ (fewer : Slab Alone) (was is : ShardSeat T) (sits : slice_get seats hold.shard ≡ Some was)
+  module _ (fewer : Slab Alone) (was is : ShardSeat T)
+      (sits : slice_get seats hold.shard ≡ Some was)
       (records : (view_of is).records ≡ (view_of was).records)
       (standalones : (view_of is).work.standalones
       ≡ dropped (is_standing a.name) (view_of was).work.standalones)
@@ -215,7 +216,8 @@ module _ {T : Type 0} (seed used : ℕ) (seats : List (ShardSeat T)) (handles le
         let same : records_at is ≡ records_at was = ap length records in
         let dropped_is : standalones_at is + 1 ≡ standalones_at was =
         ap (λ ss. length ss + 1) standalones
-        ∙ dropped_one (is_standing a.name) (view_of was).work.standalones _ (known_there was sits) in
+        ∙ dropped_one (is_standing a.name) (view_of was).work.standalones _
+        (known_there was sits) in
         let held_pins = all.pins in
         let held_entries = all.entries in
         let held_references = all.references in

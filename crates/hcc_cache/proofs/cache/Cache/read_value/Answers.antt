@@ -56,7 +56,8 @@ returns-in-Pinned g c =
       known =
           knows_read cache old new hold.shard shard was is at change left c.read_value.ensures.view
           c.read_value.ensures.seat;
-      reads = reads_at cache old new hold.shard shard was is at change left c.read_value.ensures.view;
+      reads =
+          reads_at cache old new hold.shard shard was is at change left c.read_value.ensures.view;
       length =
           told_of cache old c.args.handle hold slot counting shard was at c.hold-hold.ensures.held
           there c.in-Pinned.is
@@ -64,9 +65,10 @@ returns-in-Pinned g c =
       bytes =
           told_of cache old c.args.handle hold slot counting shard was at c.hold-hold.ensures.held
           there c.in-Pinned.is
-          (λ (bytes : List ℕ). c.read_value.new.buffer ≡ bytes ++ drop (length bytes) c.args.buffer.now)
+          (λ (bytes : List ℕ).
+          c.read_value.new.buffer ≡ bytes ++ drop (length bytes) c.args.buffer.now)
           c.read_value.ensures.bytes;
       steps =
-          takes_at cache old new hold.shard shard was is at change (words_for c.read_value.result + 1)
-          c.read_value.ensures.steps;
+          takes_at cache old new hold.shard shard was is at change
+          (words_for c.read_value.result + 1) c.read_value.ensures.steps;
     }

@@ -1,4 +1,4 @@
-use Rattle.std.proofs.Common.{◌≡◌, ◌∙◌, ◌+◌, ◌-◌, ◌<◌, ◌≤◌, get_or, slice_set, ap, refl, sym, arith}
+use Rattle.std.proofs.Common.{◌≡◌, ◌∙◌, ◌+◌, get_or, slice_set, ap, refl, sym, arith}
 use Rattle.std.specs.Vec.{with_item}
 use Rattle.slab.specs.Slab.{get}
 use Rattle.hcc_rule.specs.declared.geometry.Geometry.{Geometry}

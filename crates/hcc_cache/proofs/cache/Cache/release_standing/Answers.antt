@@ -1,4 +1,4 @@
-use Rattle.std.proofs.Common.{◌≡◌, ◌∙◌, ◌+◌, ◌-◌, ◌<◌, ◌≤◌, Some, None, get_or, slice_set, ap, refl, subst, sym, arith}
+use Rattle.std.proofs.Common.{◌≡◌, ◌∙◌, ◌+◌, ◌-◌, ◌≤◌, Some, None, get_or, slice_set, ap, refl, subst, sym, arith}
 use Rattle.std.specs.Vec.{with_item}
 use Rattle.slab.specs.Slab.{Updates, get, with_value}
 use Rattle.hcc_cache.specs.declared.client.Client.{Client}
