@@ -8,3 +8,8 @@ pub mod At
 pub mod Slots
 pub mod Held
 pub mod Resting
+pub mod Less
+pub mod More
+pub mod Gained
+pub mod Found
+pub mod Again

@@ -72,7 +72,7 @@ total_below f g (x ∷ xs) below =
 -- Of slabs.
 
 -- one for a value, none for an empty slot
-pub one_of : {X : Type 0} → Option X → ℕ
+abbrev pub one_of : {X : Type 0} → Option X → ℕ
 one_of slot = cond (is_some slot) 1 0
 
 module _ {X : Type 0} where
@@ -197,4 +197,15 @@ module _ {X : Type 0} where
       let change = total_updated one_of refl old new key slot updates in
       let was = len_total old in
       let is = len_total new in
+      omega arith
+
+  -- A count once a value was removed, and the length.
+  pub count_removed : (test : Option X → Bool) → test None ≡ false → (old new : Slab X) (key : ℕ)
+      (value : X) → get old key ≡ Some value → Updates old new key None
+      → count_of test new + when (test (Some value)) 1 ≡ count_of test old
+  count_removed test none old new key value there updates =
+      let change = count_updated test none old new key None updates in
+      let nothing : when (test None) 1 ≡ 0 = ap (λ b. when b 1) none in
+      let was : when (test (get old key)) 1 ≡ when (test (Some value)) 1 =
+      ap (λ o. when (test o) 1) there in
       omega arith

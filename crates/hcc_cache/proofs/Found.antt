@@ -1,0 +1,209 @@
+-- What a client knows once a look-up found an entry, or none.
+use Rattle.std.proofs.Common.{◌≡◌, ℕ, ◌+◌, ◌*◌, ◌<◌, ◌≤◌, Bool, List, [], ◌∷◌, ◌++◌, Option, Some, None, IfSome, length, option_map, slice_get, slice_set, sym, refl, ap, subst, ◌∙◌, arith}
+use Rattle.slab.specs.Slab.{get, slab_len}
+use Rattle.hcc_core.specs.declared.client.Standalone.{Standalone}
+use Rattle.hcc_rule.specs.declared.geometry.Geometry.{Geometry}
+use Rattle.hcc_rule.specs.declared.key.Key.{Key}
+use Rattle.hcc_rule.specs.declared.view.Record.{Record}
+use Rattle.hcc_rule.specs.declared.view.View.{View}
+use Rattle.hcc_rule.specs.Views.{Each, record_in}
+use Rattle.hcc_rule.specs.Words.{key_of}
+use Rattle.hcc_rule.proofs.Basics.Lists.{each_append, within}
+use Rattle.hcc_table.specs.declared.efforts.Effort.{Effort}
+use Rattle.hcc_table.specs.Pins.{IsOf}
+use Rattle.hcc_table.specs.Searched.{IsFound, IsMissed, Searched, Sought}
+use Rattle.hcc_table.specs.Steps.{MakesFor}
+use Rattle.hcc_shard.specs.declared.seat.ShardSeat.{ShardSeat}
+use Rattle.hcc_shard.specs.declared.shard.Shard.{Shard}
+use Rattle.hcc_shard.specs.Callers.{geometry_of, view_of}
+use Rattle.hcc_shard.specs.Seated.{Rests}
+use Rattle.hcc_cache.specs.declared.cache.Cache.{Cache}
+use Rattle.hcc_cache.specs.declared.client.Client.{Client}
+use Rattle.hcc_cache.specs.declared.handle.Handle.{Handle}
+use Rattle.hcc_cache.specs.declared.holding.Hold.{Hold}
+use Rattle.hcc_cache.specs.declared.holding.Kept.TheVariants.{Pinned}
+use Rattle.hcc_cache.specs.declared.seeded.Seeded.{Seeded}
+use Rattle.hcc_cache.specs.Calls.{Finds, Gains, KeepsAll, Misses, TakesAtMost, UsesNone, UsesOne, shard_in}
+use Rattle.hcc_cache.specs.Clients.{held_by, held_entry, hold_of, kept_as, pin_of, records_in}
+use Rattle.hcc_cache.specs.Keys.{fits_seeded, key_from, key_to}
+use Rattle.hcc_cache.specs.Known.{AreHeld, IsSeated, Knows}
+use Rattle.hcc_cache.proofs.At.{ChangesAt, IsAt, knows_at, seated_at, takes_at, works_at}
+use Rattle.hcc_cache.proofs.Framing.{keeps_all}
+use Rattle.hcc_cache.proofs.Gained.{gains, IsGiven}
+use Rattle.hcc_cache.proofs.Held.{held_rest, stands_rest}
+use Rattle.hcc_cache.proofs.More.{held_pinned, stands_pinned, there_pinned}
+use Rattle.hcc_cache.proofs.Names.{names_later, standings_later}
+use Rattle.hcc_cache.proofs.Seats.{seated_by}
+
+-- Of a seat.
+
+module _ {T A : Type 0} (shard : Shard T A) (number used : ℕ) (was is : ShardSeat T)
+    (seated : IsSeated shard number used was) (rests : Rests shard is)
+    (searched : Searched (view_of was) (view_of is)) where
+  -- it is one of its client still, where these are the records, and so many serials are used
+  seated_searched : (more : ℕ) → used ≤ more
+      → Each (λ (r : Record). r.name < more) (view_of is).records → IsSeated shard number more is
+  seated_searched more le records =
+      let made_same : length (view_of is).made ≡ length (view_of was).made =
+      ap (λ (v : View T). length v.made) searched.same in
+      let made = seated.made in
+      seated_by shard number used more was is seated rests
+      (ap (λ (v : View T). v.client) searched.same) (ap (λ (v : View T). v.others) searched.same)
+      records
+      (rw (ap (λ (v : View T). v.work.standalones) searched.same)
+      (standings_later used more (view_of was).work.standalones le seated.standalones))
+      (omega arith)
+
+  -- where it holds what it held
+  pub seated_sought : (view_of is).records ≡ (view_of was).records → IsSeated shard number used is
+  seated_sought same = seated_searched used (omega arith) (rw same seated.records)
+
+  -- where it has one record more, which has the next serial for its name
+  pub seated_more : (r : Record) → (view_of is).records ≡ (view_of was).records ++ r ∷ []
+      → r.name ≡ used → IsSeated shard number (used + 1) is
+  seated_more r joins called =
+      seated_searched (used + 1) (omega arith)
+      (rw joins
+      (each_append (λ (q : Record). q.name < used + 1) (view_of was).records (r ∷ [])
+      (names_later used (used + 1) (view_of was).records (omega arith) seated.records)
+      (omega arith, tt)))
+
+-- Of a client.
+
+module _ {T : Type 0} where
+  -- Nothing was found, or nothing was sought: the client has what it had.
+  pub record IsLeft (old new : Client T) : Type 0 where
+    pub handles : new.handles ≡ old.handles
+    pub alone : new.alone ≡ old.alone
+    pub held : new.held ≡ old.held
+    pub uses : UsesNone old new
+
+  module _ (cache : Cache T) (old new : Client T) (i : ℕ) (shard : Shard (Seeded T) _)
+      (was is : ShardSeat (Seeded T)) (at : IsAt cache old i shard was)
+      (change : ChangesAt old new i is) where
+    module _ (left : IsLeft old new)
+        (records : (view_of is).records ≡ (view_of was).records)
+        (standalones : (view_of is).work.standalones ≡ (view_of was).work.standalones) where
+      -- it is known still, where its seat is one of it
+      pub knows_left : IsSeated shard old.number old.used is → Knows cache new
+      knows_left seated =
+          let count = at.knows.count in
+          knows_at cache old new i shard was is at change (rw (left.uses.0) (omega arith))
+          (rw (left.uses.0) seated)
+          (rw (change.seats, left.handles, left.alone, left.uses.0)
+          (held_rest cache.seed old.used old.seats.items old.handles old.alone at.knows.holds i
+          was is at.seat_is records standalones old.used (omega arith)))
+          (rw (left.held, left.handles) count)
+          (rw (left.held) at.knows.few)
+          (rw (left.uses.0, left.uses.1) at.knows.serials)
+
+      -- and its handles stand for what they stood for
+      pub keeps_left : KeepsAll cache old new
+      keeps_left = record {
+        all =
+            keeps_all cache old new change.number left.handles
+            (λ p k there. rw (change.seats, left.alone)
+            (stands_rest cache.seed old.used old.seats.items old.handles old.alone at.knows.holds
+            i was is at.seat_is records standalones p k there));
+        count = left.held;
+        serials = left.uses;
+      }
+
+    -- A look-up makes seven steps at most for each slot that it visits.
+    pub looks_at : (before after : Effort)
+        → MakesFor 7 0 (geometry_of shard).slots before after was.seat is.seat
+        → TakesAtMost (7 * cache.geometry.slots) old new
+    looks_at before after makes =
+        let alike = at.knows.alike.plans i shard at.shard_is in
+        let slots : (geometry_of shard).slots ≡ cache.geometry.slots =
+        ap (λ (g : Geometry). g.slots) alike.0 in
+        let within = makes.within in
+        let steps = makes.steps in
+        takes_at cache old new i shard was is at change (7 * cache.geometry.slots) (omega arith)
+
+    -- A look-up found none.
+    pub misses : (key : Key) → IsLeft old new → i ≡ shard_in cache key
+        → IsMissed (key_to cache.seed key) (view_of was) (view_of is)
+        → Misses cache key old new
+    misses key left there missed = record {
+      v = view_of was;
+      w = view_of is;
+      works = rw (← there) (works_at cache old new i shard was is at change);
+      misses = missed;
+      keeps =
+          keeps_left left missed.sought.records
+          (ap (λ (v : View (Seeded T)). v.work.standalones) missed.sought.searched.same);
+    }
+
+    -- One record more was found, and a handle on it is kept.
+    module _ (handle : Handle) (hold : Hold) (slot : ℕ) (counting : Bool) (r : Record)
+        (given : IsGiven old new handle hold) (alone : new.alone ≡ old.alone)
+        (shard_is : hold.shard ≡ i) (kept : hold.kept ≡ Pinned slot counting)
+        (searched : Searched (view_of was) (view_of is))
+        (joins : (view_of is).records ≡ (view_of was).records ++ r ∷ [])
+        (called : r.name ≡ old.used) (of : IsOf (pin_of hold.serial slot counting) r)
+        (key_is : key_of r.entry ≡ key_to cache.seed hold.key) where
+      standalones_same : (view_of is).work.standalones ≡ (view_of was).work.standalones
+      standalones_same = ap (λ (v : View (Seeded T)). v.work.standalones) searched.same
+
+      -- it is known still
+      pub knows_more : Rests shard is → old.held < old.most → Knows cache new
+      knows_more rests few =
+          let seated = seated_at cache old new i shard was is at in
+          let left = given.uses.1 in
+          let held = given.held in
+          let count = given.count in
+          let counted = at.knows.count in
+          let serials = at.knows.serials in
+          let used = given.uses.0 in
+          knows_at cache old new i shard was is at change (omega arith)
+          (rw used (seated_more shard old.number old.used was is seated rests searched r joins
+          called))
+          (rw (change.seats, alone, used)
+          (held_pinned cache.seed old.used old.seats.items old.handles old.alone at.knows.holds i
+          was is r at.seat_is joins standalones_same hold slot counting handle.place new.handles
+          seated.records given.named shard_is kept (within old.seats.items i was at.seat_is)
+          called of key_is given.free given.updates given.count))
+          (omega arith) (omega arith) (omega arith)
+
+      -- the handle stands for the record's entry
+      pub gains_pinned : Gains cache handle (held_entry cache.seed r.entry) old new
+      gains_pinned =
+          let seated = seated_at cache old new i shard was is at in
+          let there = there_pinned cache.seed old.used old.seats.items old.handles old.alone
+          at.knows.holds i was is r at.seat_is joins standalones_same hold slot counting
+          handle.place new.handles seated.records given.named shard_is kept
+          (within old.seats.items i was at.seat_is) called of key_is in
+          gains cache old new handle hold given (held_entry cache.seed r.entry)
+          (rw (kept, change.seats)
+          (ap (option_map (λ (q : Record). held_entry cache.seed q.entry)) there))
+          (λ p k ne at_p. rw (change.seats, alone)
+          (stands_pinned cache.seed old.used old.seats.items old.handles old.alone at.knows.holds i
+          was is r at.seat_is joins standalones_same p k at_p))
+
+      -- A look-up found it.
+      pub finds : (fits : T → Key → List ℕ → Type 0) (key : Key) → i ≡ shard_in cache key
+          → key_from cache.seed (key_to cache.seed key) ≡ key
+          → IsFound (fits_seeded fits) (geometry_of shard).room slot old.used
+          (key_to cache.seed key) (view_of was) (view_of is) r
+          → Finds cache fits key handle old new
+      finds fits key there undone found =
+          let seated = seated_at cache old new i shard was is at in
+          let alike = at.knows.alike.plans i shard at.shard_is in
+          let tag : (view_of was).tag ≡ Some (record { tag = cache.tag; seed = cache.seed }) =
+          seated.rests.at.tagged ∙ ap Some alike.3 in
+          let right : fits cache.tag (key_from cache.seed (key_to cache.seed key)) r.entry.value =
+          rw tag at found.right in
+          record {
+            found = r;
+            v = view_of was;
+            w = view_of is;
+            works = rw (← there) (works_at cache old new i shard was is at change);
+            finds =
+                subst (λ (s : ℕ). IsFound (fits_seeded fits) cache.geometry.room s handle.serial
+                (key_to cache.seed key) (view_of was) (view_of is) r)
+                (sym found.on) (rw (given.serial, ← alike.0) found);
+            asked = ap (key_from cache.seed) found.asked ∙ undone;
+            right = rw undone at right;
+            gains = gains_pinned;
+          }
