@@ -13,3 +13,6 @@ pub mod More
 pub mod Gained
 pub mod Found
 pub mod Again
+pub mod Insertions
+pub mod Alone
+pub mod Handing
