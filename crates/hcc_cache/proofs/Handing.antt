@@ -13,9 +13,10 @@ use Rattle.hcc_rule.specs.Words.{key_of}
 use Rattle.hcc_rule.proofs.Basics.Lists.{within}
 use Rattle.hcc_table.specs.declared.pins.Pin.{Pin}
 use Rattle.hcc_shard.specs.declared.inserting.Pinned.TheVariants as pinned
+use Rattle.hcc_shard.specs.declared.inserting.Pinned.{Pinned as Answered}
 use Rattle.hcc_shard.specs.declared.seat.ShardSeat.{ShardSeat}
 use Rattle.hcc_shard.specs.declared.shard.Shard.{Shard}
-use Rattle.hcc_shard.specs.Callers.{view_of}
+use Rattle.hcc_shard.specs.Callers.{capacity_of, geometry_of, is_strict, view_of}
 use Rattle.hcc_shard.specs.Inserted.{PinnedBy}
 use Rattle.hcc_shard.specs.Seated.{Rests}
 use Rattle.hcc_shard.proofs.Names.{each_more}
@@ -36,7 +37,7 @@ use Rattle.hcc_cache.specs.Known.{AreHeld, IsSeated, Knows, references_of, stand
 use Rattle.hcc_cache.proofs.Alone.{IsJoined, held_joined, known_of, stands_joined}
 use Rattle.hcc_cache.proofs.At.{ChangesAt, IsAt, knows_at, seated_at, works_at}
 use Rattle.hcc_cache.proofs.Gained.{IsGiven, gains}
-use Rattle.hcc_cache.proofs.Insertions.{IsTried, Leaves, first_record, leaves_pinned, seated_tried}
+use Rattle.hcc_cache.proofs.Insertions.{IsTried, Leaves, first_record, leaves_pinned, seated_tried, told_as}
 use Rattle.hcc_cache.proofs.More.{held_pinned, stands_pinned, there_pinned}
 use Rattle.hcc_cache.proofs.Names.{names_later, standings_later}
 use Rattle.hcc_cache.proofs.Slots.{len_within}
@@ -56,6 +57,18 @@ alone_within cache client knows =
     let count = knows.count in
     omega arith
 
+-- A handle on one more has room.
+pub has_room : {T : Type 0} (cache : Cache T) (client : Client T) → Knows cache client
+    → client.held < client.most
+    → (slab_len client.handles + 1 ≤ client.handles.capacity)
+    × (slab_len client.alone + 1 ≤ client.alone.capacity)
+has_room cache client knows free =
+    let fewer = alone_within cache client knows in
+    let count = knows.count in
+    let handles = knows.room.0 in
+    let alone = knows.room.1 in
+    (omega arith, omega arith)
+
 module _ {T : Type 0} (cache : Cache T) (old new : Client T) (i : ℕ) (shard : Shard (Seeded T) _)
     (was is : ShardSeat (Seeded T)) (at : IsAt cache old i shard was) where
   -- One more standalone entry may be held there.
@@ -66,6 +79,23 @@ module _ {T : Type 0} (cache : Cache T) (old new : Client T) (i : ℕ) (shard : 
       let fewer = alone_within cache old at.knows in
       let most = at.knows.most in
       omega arith
+
+  -- What the shard answered, in the cache's words.
+  pub pinned_told : (draft asked : Draft) → draft ≡ asked → (bytes value : List ℕ) → bytes ≡ value
+      → (answer told : Answered) → answer ≡ told
+      → PinnedBy (geometry_of shard).slots (capacity_of shard) (is_strict shard) draft bytes
+      (Ok answer) (view_of was) (view_of is)
+      → PinnedBy cache.geometry.slots cache.capacity cache.strict asked value (Ok told)
+      (view_of was) (view_of is)
+  pinned_told draft asked same bytes value read answer told named by_shard =
+      told_as cache old new i shard was is at
+      (λ s b p d. PinnedBy s b p d value (Ok told) (view_of was) (view_of is)) draft asked same
+      (subst (λ x. At x told) read (subst (At bytes) named by_shard))
+    where
+      At : List ℕ → Answered → Type 0
+      At x o =
+          PinnedBy (geometry_of shard).slots (capacity_of shard) (is_strict shard) draft x (Ok o)
+          (view_of was) (view_of is)
 
   module _ (change : ChangesAt old new i is) (rests : Rests shard is) (handle : Handle) (key : Key)
       (kept : Kept) (given : IsGiven old new handle (hold_with old.used key i kept))
@@ -172,7 +202,7 @@ module _ {T : Type 0} (cache : Cache T) (old new : Client T) (i : ℕ) (shard : 
           (told : PinnedBy cache.geometry.slots cache.capacity cache.strict
           (pinned_draft cache key charge priority value old) value (Ok (pinned.Placed pin))
           (view_of was) (view_of is)) where
-        handled : Record
+        abbrev handled : Record
         handled =
             first_record pin.slot old.used
             (shown_entry (view_of was)

@@ -258,7 +258,8 @@ impl<T: Tag> Cache<T> {
             name: Some(client.used),
         };
         let seat = &mut client.seats[shard];
-        match self.shards[shard].insert_pinned(seat, draft, &value) {
+        let bytes: &[u8] = &value;
+        match self.shards[shard].insert_pinned(seat, draft, bytes) {
             Ok(Pinned::Placed { pin }) => {
                 let handle = client.keep(key, shard, pinned(pin));
                 Ok((handle, Inserted::Placed))
