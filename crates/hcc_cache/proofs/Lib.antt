@@ -20,3 +20,6 @@ pub mod Standing
 pub mod Released
 pub mod Readings
 pub mod Dealing
+pub mod Insertions
+pub mod Alone
+pub mod Handing
