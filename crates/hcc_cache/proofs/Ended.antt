@@ -1,6 +1,7 @@
 -- The shards of a cache, as they are closed from the last on.
 use Rattle.std.proofs.Common.{◌≡◌, ◌⊎◌, inl, inr, ℕ, ◌+◌, ◌-◌, ◌<◌, ◌≤◌, List, [], ◌∷◌, ◌++◌, Option, Some, None, is_some, length, reverse, take, slice_get, sym, refl, ap, ◌∙◌, length-append, arith}
 use Rattle.std.proofs.lemmas.List.{length-take-le, take_all, take-take, length-reverse}
+use Rattle.std.specs.declared.alloc.Global.{Global}
 use Rattle.hcc_core.proofs.ListLemmas.{read_last}
 use Rattle.hcc_rule.specs.declared.key.Key.{Key}
 use Rattle.hcc_rule.specs.declared.view.View.{View}
@@ -20,6 +21,7 @@ use Rattle.hcc_cache.specs.Clients.{view_at, view_by}
 use Rattle.hcc_cache.specs.Closings.{all_joined, views_at, AreBack, HasLast, IsClosed, KeepsFront}
 use Rattle.hcc_cache.specs.Keys.{fits_seeded}
 use Rattle.hcc_cache.specs.Known.{IsSeated}
+use Rattle.hcc_cache.specs.Left.{AreWhole}
 use Rattle.hcc_cache.proofs.Emptied.{holds_nothing}
 use Rattle.hcc_cache.proofs.Joining.{all_named, from_view, views_count, views_same}
 use Rattle.hcc_cache.proofs.Lists.{get_in_take, get_push, get_reverse, get_take}
@@ -32,28 +34,28 @@ place_of cache j = length cache.shards.items - 1 - j
 module _ {T : Type 0} (fits : T → Key → List ℕ → Type 0) (cache : Cache T)
     (old : List (Client T)) where
   -- what is left of the shard of this number, closed by what the clients know of it
-  pub record IsLeft (s : ℕ) (left : ClosedShard _) : Type 0 where
+  pub record IsLeft (s : ℕ) (left : ClosedShard Global) : Type 0 where
     pub size : left.table.geometry ≡ cache.geometry
     pub closes : Closes (fits_seeded fits) (record { tag = cache.tag; seed = cache.seed })
         cache.geometry (words_of left.table) (all_joined (views_at s old))
 
   -- The first shards stand, the others are closed, the last one first, and the clients have the
   -- seats of the first alone.
-  pub record IsClosing (shards : List (Shard (Seeded T) _)) (closed : List (Option (ClosedShard _)))
-      (now : List (Client T)) : Type 0 where
-    pub front : (s : ℕ) (shard : Shard (Seeded T) _) → slice_get shards s ≡ Some shard
+  pub record IsClosing (shards : List (Shard (Seeded T) Global))
+      (closed : List (Option (ClosedShard Global))) (now : List (Client T)) : Type 0 where
+    pub front : (s : ℕ) (shard : Shard (Seeded T) Global) → slice_get shards s ≡ Some shard
         → slice_get cache.shards.items s ≡ Some shard
     pub count : length closed + length shards ≡ length cache.shards.items
     pub clients : length now ≡ length old
     pub left : (k : ℕ) (client : Client T) → slice_get now k ≡ Some client
         → (was : Client T) × (slice_get old k ≡ Some was) × KeepsFront (length shards) was client
-    pub each : (j : ℕ) (one : Option (ClosedShard _)) → slice_get closed j ≡ Some one
-        → (left : ClosedShard _) × (one ≡ Some left) × IsLeft (place_of cache j) left
+    pub each : (j : ℕ) (one : Option (ClosedShard Global)) → slice_get closed j ≡ Some one
+        → (left : ClosedShard Global) × (one ≡ Some left) × IsLeft (place_of cache j) left
 
 module _ {T : Type 0} (fits : T → Key → List ℕ → Type 0) (cache : Cache T)
     (old : List (Client T)) (back : AreBack cache old) where
   -- no shard is closed yet
-  pub closing_none : (closed : List (Option (ClosedShard _))) → length closed ≡ 0
+  pub closing_none : (closed : List (Option (ClosedShard Global))) → length closed ≡ 0
       → IsClosing fits cache old cache.shards.items closed old
   closing_none closed empty = record {
     front = λ s shard h. h;
@@ -66,8 +68,8 @@ module _ {T : Type 0} (fits : T → Key → List ℕ → Type 0) (cache : Cache 
   }
 
   -- What a client knows of a shard, it knows by a seat of its own.
-  seat_there : (s : ℕ) (shard : Shard (Seeded T) _) → slice_get cache.shards.items s ≡ Some shard
-      → (k : ℕ) (client : Client T) → slice_get old k ≡ Some client
+  seat_there : (s : ℕ) (shard : Shard (Seeded T) Global)
+      → slice_get cache.shards.items s ≡ Some shard → (k : ℕ) (client : Client T) → slice_get old k ≡ Some client
       → (seat : ShardSeat (Seeded T)) × (slice_get client.seats.items s ≡ Some seat)
       × IsSeated shard client.number client.used seat
   seat_there s shard stands k client h =
@@ -78,7 +80,7 @@ module _ {T : Type 0} (fits : T → Key → List ℕ → Type 0) (cache : Cache 
       (one.0, one.1, seated.each s shard one.0 stands one.1)
 
   -- each view of a shard is a client's, and names that client alone
-  views_single : (s : ℕ) (shard : Shard (Seeded T) _)
+  views_single : (s : ℕ) (shard : Shard (Seeded T) Global)
       → slice_get cache.shards.items s ≡ Some shard
       → (k : ℕ) (w : View (Seeded T)) → slice_get (views_at s old) k ≡ Some w
       → (client : Client T) × (slice_get old k ≡ Some client) × (view_at s client ≡ w)
@@ -95,7 +97,7 @@ module _ {T : Type 0} (fits : T → Key → List ℕ → Type 0) (cache : Cache 
       )
 
   -- the view that is joined of theirs names all clients
-  all_are_named : (s : ℕ) (shard : Shard (Seeded T) _)
+  all_are_named : (s : ℕ) (shard : Shard (Seeded T) Global)
       → slice_get cache.shards.items s ≡ Some shard → 1 ≤ length old
       → named_by (all_joined (views_at s old)) ≡ length old
   all_are_named s shard stands some =
@@ -108,8 +110,8 @@ module _ {T : Type 0} (fits : T → Key → List ℕ → Type 0) (cache : Cache 
       ∙ counted
 
   -- Of the last shard that stands.
-  module _ (shards : List (Shard (Seeded T) _)) (shard : Shard (Seeded T) _)
-      (closed : List (Option (ClosedShard _))) (now : List (Client T))
+  module _ (shards : List (Shard (Seeded T) Global)) (shard : Shard (Seeded T) Global)
+      (closed : List (Option (ClosedShard Global))) (now : List (Client T))
       (closing : IsClosing fits cache old (shards ++ shard ∷ []) closed now) where
     stands : slice_get cache.shards.items (length shards) ≡ Some shard
     stands = closing.front (length shards) shard (read_last shards shard)
@@ -182,7 +184,7 @@ module _ {T : Type 0} (fits : T → Key → List ℕ → Type 0) (cache : Cache 
           let enough = back.enough in
           omega arith
 
-      left_is : (left : ClosedShard _) → left.table.geometry ≡ geometry_of shard
+      left_is : (left : ClosedShard Global) → left.table.geometry ≡ geometry_of shard
           → Closes (fits_seeded fits) (plan_of shard).tag (geometry_of shard) (words_of left.table)
           (view_of seat)
           → IsLeft fits cache old (length shards) left
@@ -192,7 +194,7 @@ module _ {T : Type 0} (fits : T → Key → List ℕ → Type 0) (cache : Cache 
       }
 
       -- One more shard is closed.
-      pub closing_more : (more : List (Client T)) (left : ClosedShard _)
+      pub closing_more : (more : List (Client T)) (left : ClosedShard Global)
           → length more ≡ length now
           → ((k : ℕ) (client : Client T) → slice_get more k ≡ Some client
           → (was : Client T) × (slice_get now k ≡ Some was)
@@ -228,73 +230,78 @@ module _ {T : Type 0} (fits : T → Key → List ℕ → Type 0) (cache : Cache 
             ];
           }
 
-  -- All are closed, and put in order.
-  pub closed_all : (now : List (Client T)) (shards : List (Shard (Seeded T) _))
-      (closed : List (Option (ClosedShard _))) (result : Closed) → 1 ≤ length old
-      → IsClosing fits cache old shards closed now → length shards ≡ 0 → result.seed ≡ cache.seed
-      → result.shards.items ≡ reverse closed
-      → IsClosed fits cache old result
-  closed_all now shards closed result some closing none seed items = record {
-    seed = seed;
-    count = ap length items ∙ length-reverse closed ∙ closed_count;
-    size = λ s left h. (left_of s left h).size;
-    closes = λ s left h. (left_of s left h).closes;
-    full = λ s inside.
-        let turned = length-reverse closed in
-        let n = closed_count in
-        let one = there (reverse closed) s (omega arith) in
-        let is = one_left s one.0 (ap (λ xs. slice_get xs s) items ∙ one.1) in
-        (is.0, ap (λ xs. slice_get xs s) items ∙ one.1 ∙ ap Some is.1);
-    members = λ s stamp made inside h.
-        let single = views_single s (there cache.shards.items s inside).0
-        (there cache.shards.items s inside).1 in
-        let joined = made_joined stamp.client stamp.number made (views_at s old)
-        (λ k w hw. (single k w hw).3) h in
-        let one = single joined.0 joined.1 joined.2 in
-        record {
-          place = joined.0;
-          client = one.0;
-          there = one.1;
-          number = sym one.4 ∙ joined.3;
-          listed =
-              ap (λ (v : View (Seeded T)). slice_get v.made stamp.number) one.2 ∙ joined.4;
-        };
-    counted = λ s left h.
-        let n = closed_count in
-        let turned = length-reverse closed in
-        let low : s < length (reverse closed) =
-        within (reverse closed) s (Some left) (ap (λ xs. slice_get xs s) (sym items) ∙ h) in
-        let inside : s < length cache.shards.items = omega arith in
-        let single = λ (k : ℕ) (w : View (Seeded T))
-        (hw : slice_get (views_at s old) k ≡ Some w).
-        (views_single s (there cache.shards.items s inside).0
-        (there cache.shards.items s inside).1 k w hw).3 in
-        let views = views_count s old in
-        let takings = takings_joined (views_at s old) (omega arith) in
-        let made = made_count (views_at s old) (omega arith) single in
-        let left_is = (left_of s left h).closes.left in
-        omega arith;
-  }
-    where
-      closed_count : length closed ≡ length cache.shards.items
-      closed_count = let count = closing.count in omega arith
+  -- Of all shards, once they are closed and put in order.
+  module _ (now : List (Client T)) (shards : List (Shard (Seeded T) Global))
+      (closed items : List (Option (ClosedShard Global)))
+      (closing : IsClosing fits cache old shards closed now) (none : length shards ≡ 0)
+      (turned : items ≡ reverse closed) where
+    closed_count : length closed ≡ length cache.shards.items
+    closed_count = let count = closing.count in omega arith
 
-      one_left : (s : ℕ) (one : Option (ClosedShard _)) → slice_get result.shards.items s ≡ Some one
-          → (left : ClosedShard _) × (one ≡ Some left) × IsLeft fits cache old s left
-      one_left s one h =
-          let turned : slice_get (reverse closed) s ≡ Some one =
-          ap (λ xs. slice_get xs s) (sym items) ∙ h in
-          let low = within (reverse closed) s one turned in
-          let same = length-reverse closed in
-          let n = closed_count in
-          let at = get_reverse closed s one (omega arith) turned in
-          let is = closing.each (length closed - 1 - s) one at in
-          let place : place_of cache (length closed - 1 - s) ≡ s = omega arith in
-          (is.0, is.1, rw place at is.2)
+    items_count : length items ≡ length cache.shards.items
+    items_count = ap length turned ∙ length-reverse closed ∙ closed_count
 
-      left_of : (s : ℕ) (left : ClosedShard _) → slice_get result.shards.items s ≡ Some (Some left)
-          → IsLeft fits cache old s left
-      left_of s left h =
-          let is = one_left s (Some left) h in
-          let same : is.0 ≡ left = let e = is.1 in cc in
-          rw same at is.2
+    one_left : (s : ℕ) (one : Option (ClosedShard Global)) → slice_get items s ≡ Some one
+        → (left : ClosedShard Global) × (one ≡ Some left) × IsLeft fits cache old s left
+    one_left s one h =
+        let low = within items s one h in
+        let same = items_count in
+        let n = closed_count in
+        let at = get_reverse closed s one (omega arith)
+        (ap (λ xs. slice_get xs s) (sym turned) ∙ h) in
+        let is = closing.each (length closed - 1 - s) one at in
+        let place : place_of cache (length closed - 1 - s) ≡ s = omega arith in
+        (is.0, is.1, rw place at is.2)
+
+    left_of : (s : ℕ) (left : ClosedShard Global) → slice_get items s ≡ Some (Some left)
+        → IsLeft fits cache old s left
+    left_of s left h =
+        let is = one_left s (Some left) h in
+        let same : is.0 ≡ left = let e = is.1 in cc in
+        rw same at is.2
+
+    pub whole_all : AreWhole items
+    whole_all = record {
+      there = λ s h. let is = (one_left s None h).1 in cc;
+      few = λ s left h.
+          let size = ap (λ g. g.slots) (left_of s left h).size in
+          let most = cache.limits.slots in
+          omega arith;
+    }
+
+    pub closed_all : (result : Closed) → 1 ≤ length old → result.seed ≡ cache.seed
+        → result.shards.items ≡ items → IsClosed fits cache old result
+    closed_all result some seed same = record {
+      seed = seed;
+      count = ap length same ∙ items_count;
+      size = λ s left h. (left_of s left (rw same at h)).size;
+      closes = λ s left h. (left_of s left (rw same at h)).closes;
+      full = λ s inside.
+          let n = items_count in
+          let one = there items s (omega arith) in
+          let is = one_left s one.0 one.1 in
+          (is.0, ap (λ xs. slice_get xs s) same ∙ one.1 ∙ ap Some is.1);
+      members = λ s stamp made inside h.
+          let shard = there cache.shards.items s inside in
+          let joined = made_joined stamp.client stamp.number made (views_at s old)
+          (λ k w hw. (views_single s shard.0 shard.1 k w hw).3) h in
+          let one = views_single s shard.0 shard.1 joined.0 joined.1 joined.2 in
+          record {
+            place = joined.0;
+            client = one.0;
+            there = one.1;
+            number = sym one.4 ∙ joined.3;
+            listed =
+                ap (λ (v : View (Seeded T)). slice_get v.made stamp.number) one.2 ∙ joined.4;
+          };
+      counted = λ s left h.
+          let n = items_count in
+          let low = within items s (Some left) (rw same at h) in
+          let shard = there cache.shards.items s (omega arith) in
+          let views = views_count s old in
+          let takings = takings_joined (views_at s old) (omega arith) in
+          let made = made_count (views_at s old) (omega arith)
+          (λ k w hw. (views_single s shard.0 shard.1 k w hw).3) in
+          let left_is = (left_of s left (rw same at h)).closes.left in
+          omega arith;
+    }

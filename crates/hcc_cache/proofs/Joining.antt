@@ -146,7 +146,7 @@ module _ {T A : Type 0} where
       → Joins shard at old (k + 1) (slice_set now k is) more
   joins_more shard at old now k was is seat more other joins here loses empty both = record {
     some = omega arith;
-    short = omega arith;
+    short = let low = inside in omega arith;
     count = length-set now k is ∙ joins.count;
     empty = empty;
     view =

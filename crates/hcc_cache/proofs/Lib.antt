@@ -4,3 +4,4 @@ pub mod Joining
 pub mod MadeLists
 pub mod Emptied
 pub mod Ended
+pub mod Lefts

@@ -5,4 +5,5 @@ pub mod Clients
 pub mod Known
 pub mod Opened
 pub mod Calls
+pub mod Left
 pub mod Closings

@@ -23,5 +23,6 @@ pub use config::Config;
 pub use errors::{CloseError, InsertError, LookupError, NewError};
 pub use handle::Handle;
 pub use hcc_rule::{Key, Tag};
+pub use hcc_shard::ClosedEntry;
 pub use priority::Priority;
 pub use tags::AnyBytes;

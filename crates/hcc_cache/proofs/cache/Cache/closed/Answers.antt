@@ -1,6 +1,6 @@
 use Rattle.std.proofs.Common.{◌≡◌, ◌+◌, ◌-◌, ◌<◌, ◌≤◌, ℕ, [], ◌∷◌, ◌++◌, Some, None, option_to_list, refl, sym, ap, ◌∙◌, length, reverse, slice_get, vec_len, arith}
 use Rattle.std.proofs.lemmas.List.{take_at}
-use Rattle.hcc_cache.proofs.Ended.{IsClosing, closed_all, closing_more, closing_none, has_last, names_enough, room_left}
+use Rattle.hcc_cache.proofs.Ended.{IsClosing, closed_all, closing_more, closing_none, has_last, names_enough, room_left, whole_all}
 use Rattle.hcc_cache.proofs.cache.Cache.closed.Goals as goal
 
 pub loop-shard-init : goal.loop-shard-init
@@ -83,6 +83,21 @@ loop-shard-preserved g c =
           c.close_joined.ensures.size c.close_joined.ensures.closes);
     }
 
+-- the items that are left stand turned round
+pub invariant_of-result : goal.invariant_of-result
+invariant_of-result g c =
+    let none = c.in_default.ensures.cases in
+    let length_is = c.loop-shard.shards.ok.0 in
+    record {
+      whole =
+          whole_all g.T.Tag.fits c.args.self c.args.clients.items c.requires
+          c.loop-shard.clients.items c.loop-shard.shards.items c.loop-shard.closed.items _
+          c.loop-shard.invariant.closes (omega arith)
+          (take_at c.reverse.new.self _ (length c.loop-shard.closed.items)
+          (c.reverse.ensures.len ∙ ap length c.deref_mut.ensures.value)
+          ∙ (c.reverse.ensures.after ∙ ap reverse c.deref_mut.ensures.value));
+    }
+
 pub returns : goal.returns
 returns g c =
     let none = c.in_default.ensures.cases in
@@ -90,8 +105,9 @@ returns g c =
     let one = c.args.self.limits.some_client in
     let length_is = c.loop-shard.shards.ok.0 in
     closed_all g.T.Tag.fits c.args.self c.args.clients.items c.requires c.loop-shard.clients.items
-    c.loop-shard.shards.items c.loop-shard.closed.items _ (omega arith)
-    c.loop-shard.invariant.closes (omega arith) refl
+    c.loop-shard.shards.items c.loop-shard.closed.items _ c.loop-shard.invariant.closes
+    (omega arith)
     (take_at c.reverse.new.self _ (length c.loop-shard.closed.items)
     (c.reverse.ensures.len ∙ ap length c.deref_mut.ensures.value)
     ∙ (c.reverse.ensures.after ∙ ap reverse c.deref_mut.ensures.value))
+    _ (omega arith) refl refl
