@@ -3,6 +3,7 @@ use Rattle.std.proofs.Common.{◌≡◌, ◌⊎◌, inl, inr, ℕ, ◌+◌, ◌-
 use Rattle.std.proofs.lemmas.List.{length-take-le, take_all, take-take, length-reverse}
 use Rattle.std.specs.declared.alloc.Global.{Global}
 use Rattle.hcc_core.proofs.ListLemmas.{read_last}
+use Rattle.hcc_rule.specs.declared.geometry.Geometry.{Geometry}
 use Rattle.hcc_rule.specs.declared.key.Key.{Key}
 use Rattle.hcc_rule.specs.declared.view.View.{View}
 use Rattle.hcc_rule.specs.Closing.{Closes, words_of}
@@ -30,6 +31,15 @@ use Rattle.hcc_cache.proofs.MadeLists.{made_count, made_joined, takings_joined}
 -- the number of the shard that was closed as number j
 abbrev place_of : {T : Type 0} → Cache T → (j : ℕ) → ℕ
 place_of cache j = length cache.shards.items - 1 - j
+
+-- what a tag, a size and a view tell, the same ones tell
+closes_same : {T : Type 0} (fits : T → Key → List ℕ → Type 0) (tag same_tag : Seeded T)
+    (geometry same_geometry : Geometry) (words : List ℕ) (v w : View (Seeded T))
+    → tag ≡ same_tag → geometry ≡ same_geometry → v ≡ w
+    → Closes (fits_seeded fits) tag geometry words v
+    → Closes (fits_seeded fits) same_tag same_geometry words w
+closes_same fits tag same_tag geometry same_geometry words v w tags geometries views closes =
+    rw (tags, geometries, views) at closes
 
 module _ {T : Type 0} (fits : T → Key → List ℕ → Type 0) (cache : Cache T)
     (old : List (Client T)) where
@@ -69,7 +79,8 @@ module _ {T : Type 0} (fits : T → Key → List ℕ → Type 0) (cache : Cache 
 
   -- What a client knows of a shard, it knows by a seat of its own.
   seat_there : (s : ℕ) (shard : Shard (Seeded T) Global)
-      → slice_get cache.shards.items s ≡ Some shard → (k : ℕ) (client : Client T) → slice_get old k ≡ Some client
+      → slice_get cache.shards.items s ≡ Some shard
+      → (k : ℕ) (client : Client T) → slice_get old k ≡ Some client
       → (seat : ShardSeat (Seeded T)) × (slice_get client.seats.items s ≡ Some seat)
       × IsSeated shard client.number client.used seat
   seat_there s shard stands k client h =
@@ -190,7 +201,7 @@ module _ {T : Type 0} (fits : T → Key → List ℕ → Type 0) (cache : Cache 
           → IsLeft fits cache old (length shards) left
       left_is left size closes = record {
         size = size ∙ alike.0;
-        closes = rw (alike.0, alike.1, view_is) at closes;
+        closes = closes_same fits _ _ _ _ _ _ _ alike.1 alike.0 view_is closes;
       }
 
       -- One more shard is closed.
@@ -260,8 +271,13 @@ module _ {T : Type 0} (fits : T → Key → List ℕ → Type 0) (cache : Cache 
         let same : is.0 ≡ left = let e = is.1 in cc in
         rw same at is.2
 
-    pub whole_all : AreWhole items
-    whole_all = record {
+    pub whole_all : 1 ≤ length old → AreWhole items
+    whole_all some = record {
+      short =
+          let client = there old 0 some in
+          let few = (back.known 0 client.0 client.1).alike.few in
+          let n = items_count in
+          omega arith;
       there = λ s h. let is = (one_left s None h).1 in cc;
       few = λ s left h.
           let size = ap (λ g. g.slots) (left_of s left h).size in

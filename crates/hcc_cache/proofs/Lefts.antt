@@ -7,17 +7,11 @@ use Rattle.hcc_core.specs.declared.limits.TheConstants.{MOST_SLOTS}
 use Rattle.hcc_core.specs.Sums.{when, total}
 use Rattle.hcc_core.proofs.SumLemmas.{total-append}
 use Rattle.hcc_rule.specs.Closing.{has_entry, over_entries, words_of}
-use Rattle.hcc_rule.proofs.Basics.Lists.{there}
+use Rattle.hcc_rule.proofs.Basics.Lists.{within}
 use Rattle.hcc_shard.specs.declared.entries.ClosedShard.{ClosedShard}
 use Rattle.hcc_shard.specs.Left.{charges_left, over_slots, slots_left}
 use Rattle.hcc_cache.specs.Left.{AreWhole, at_shard, given, over_shards, slots_at}
 use Rattle.hcc_cache.proofs.Lists.{take_snoc}
-
--- what is read of the shard of a number
-pub at_is : (shards : List (Option (ClosedShard Global))) (shard : ℕ) (left : ClosedShard Global)
-    (read : ClosedShard Global → ℕ) → slice_get shards shard ≡ Some (Some left)
-    → at_shard shards shard read ≡ read left
-at_is shards shard left read h = rw h refl
 
 module _ (slots room : ℕ) (words : List ℕ) (f : ℕ → ℕ) where
   -- a slot gives at most this
@@ -34,9 +28,9 @@ module _ (slots room : ℕ) (words : List ℕ) (f : ℕ → ℕ) where
       let rest = few_from most (from + 1) n (omega arith) low in
       omega arith
 
--- What the entries of a shard give in sum is below 2^49, where each gives at most 2^32.
-few_over : (left : ClosedShard Global) (f : ℕ → ℕ) → left.table.geometry.slots ≤ MOST_SLOTS
-    → ((s : ℕ) → s < left.table.geometry.slots
+-- What the entries of a shard give in sum is at most 2^48, where each gives at most 2^32.
+few_over : (left : ClosedShard Global) (f : ℕ → ℕ)
+    → left.table.geometry.slots ≤ MOST_SLOTS → ((s : ℕ) → s < left.table.geometry.slots
     → has_entry left.table.geometry.room (words_of left.table) s ≡ true → f s ≤ 2 ^ 32)
     → over_slots left.table f ≤ 2 ^ 48
 few_over left f few low =
@@ -44,6 +38,7 @@ few_over left f few low =
     (2 ^ 32) 0 left.table.geometry.slots (omega arith) low in
     omega arith
 
+-- so are the charges of its entries, and their number
 pub few_charges : (left : ClosedShard Global) → left.table.geometry.slots ≤ MOST_SLOTS
     → charges_left left.table ≤ 2 ^ 48
 few_charges left few =
@@ -59,6 +54,7 @@ pub record IsSumOf (read : ClosedShard Global → ℕ) (shards : List (Option (C
   pub is : sum ≡ over_shards (take k shards) read
   pub low : sum ≤ k * 2 ^ 48
 
+-- no shard yet
 pub sum_none : (read : ClosedShard Global → ℕ) (shards : List (Option (ClosedShard Global)))
     → IsSumOf read shards 0 0
 sum_none read [] = record { is = refl; low = omega arith }
@@ -80,8 +76,12 @@ sum_more read shards k sum n left so here is few = record {
   low = let low = so.low in omega arith;
 }
 
--- all shards
-pub sum_all : (read : ClosedShard Global → ℕ) (shards : List (Option (ClosedShard Global)))
-    (k sum : ℕ) → IsSumOf read shards k sum → length shards ≤ k → sum ≡ over_shards shards read
-sum_all read shards k sum so done =
-    so.is ∙ ap (total (given read)) (take_all k shards done)
+-- The sum has room for what one shard more gives.
+pub sum_fits : (read : ClosedShard Global → ℕ) (shards : List (Option (ClosedShard Global)))
+    (k sum n : ℕ) (left : ClosedShard Global) → AreWhole shards → IsSumOf read shards k sum
+    → slice_get shards k ≡ Some (Some left) → n ≤ 2 ^ 48 → sum + n < 2 ^ 64
+sum_fits read shards k sum n left whole so here few =
+    let inside = within shards k (Some left) here in
+    let short = whole.short in
+    let low = so.low in
+    omega arith

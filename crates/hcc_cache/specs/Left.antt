@@ -1,5 +1,5 @@
 -- What is left of a closed cache: of each of its shards, in order, and of all in sum.
-use Rattle.std.specs.Prelude.{◌≡◌, ℕ, ◌≤◌, true, false, List, Option, Some, None, slice_get, slice_index}
+use Rattle.std.specs.Prelude.{◌≡◌, ℕ, ◌≤◌, true, false, List, Option, Some, None, length, slice_get, slice_index}
 use Rattle.std.specs.declared.alloc.Global.{Global}
 use Rattle.hcc_core.specs.declared.limits.TheConstants.{MOST_SLOTS}
 use Rattle.hcc_core.specs.Sums.{total}
@@ -8,6 +8,7 @@ use Rattle.hcc_rule.specs.Closing.{data_at, has_entry, key_at, meta_at, words_of
 use Rattle.hcc_rule.specs.Words.{field_at, ledger_at}
 use Rattle.hcc_shard.specs.declared.entries.ClosedEntry.{ClosedEntry}
 use Rattle.hcc_shard.specs.declared.entries.ClosedShard.{ClosedShard}
+use Rattle.hcc_cache.specs.declared.limits.TheConstants.{MOST_SHARDS}
 use Rattle.hcc_cache.specs.Keys.{key_from}
 
 -- Of one shard.
@@ -35,8 +36,10 @@ TellsEntry seed slot (Some e) left =
 
 -- Of all shards.
 
--- none is missing, and none has more slots than a shard may have
+-- They are no more than a cache may have, none is missing, and none has more slots than a shard may
+-- have.
 pub record AreWhole (shards : List (Option (ClosedShard Global))) : Type 0 where
+  pub short : length shards ≤ MOST_SHARDS
   pub there : (s : ℕ) → ¬ (slice_get shards s ≡ Some None)
   pub few : (s : ℕ) (left : ClosedShard Global) → slice_get shards s ≡ Some (Some left)
       → left.table.geometry.slots ≤ MOST_SLOTS

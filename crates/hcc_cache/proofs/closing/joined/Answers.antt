@@ -13,8 +13,8 @@ loop-k-init g c =
     slice_get_read old (length old) 0 was refl (omega arith) c.index_mut.ensures.value in
     let has = c.requires.last 0 was at in
     let count : length was.seats.items - 1 ≡ c.args.at = let n = has.count in omega arith in
-    joins_first c.args.shard.now c.args.at old was c.taken-seat.new.client c.taken-seat.result at has
-    (record {
+    joins_first c.args.shard.now c.args.at old was c.taken-seat.new.client c.taken-seat.result at
+    has (record {
       last = rw count at c.taken-seat.ensures.last;
       left = rw count at c.taken-seat.ensures.left;
     })

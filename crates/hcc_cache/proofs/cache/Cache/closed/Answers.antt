@@ -58,7 +58,6 @@ push-requires g c =
     let one = c.args.self.limits.some_client in
     let room = room_left g.T.Tag.fits c.args.self c.args.clients.items c.requires ys d
     c.loop-shard.closed.items c.loop-shard.clients.items from (omega arith) in
-    let length_is = c.loop-shard.closed.ok in
     omega arith
 
 pub loop-shard-preserved : goal.loop-shard-preserved
@@ -87,6 +86,8 @@ loop-shard-preserved g c =
 pub invariant_of-result : goal.invariant_of-result
 invariant_of-result g c =
     let none = c.in_default.ensures.cases in
+    let enough = c.requires.enough in
+    let one = c.args.self.limits.some_client in
     let length_is = c.loop-shard.shards.ok.0 in
     record {
       whole =
@@ -95,7 +96,7 @@ invariant_of-result g c =
           c.loop-shard.invariant.closes (omega arith)
           (take_at c.reverse.new.self _ (length c.loop-shard.closed.items)
           (c.reverse.ensures.len ∙ ap length c.deref_mut.ensures.value)
-          ∙ (c.reverse.ensures.after ∙ ap reverse c.deref_mut.ensures.value));
+          ∙ (c.reverse.ensures.after ∙ ap reverse c.deref_mut.ensures.value)) (omega arith);
     }
 
 pub returns : goal.returns
