@@ -230,7 +230,7 @@ module _ {T : Type 0} (fits : T → Key → List ℕ → Type 0) (cache : Cache 
                   before.0,
                   before.1,
                   one.2 ∙ ap (take (length shards)) before.2
-                  ∙ take-take (length shards) whole before.0.seats.items (omega arith),
+                      ∙ take-take (length shards) whole before.0.seats.items (omega arith),
                 );
             each = λ j one h. elim (get_push closed (Some left) one j h) [
               | inl old_one ↦ closing.each j one old_one

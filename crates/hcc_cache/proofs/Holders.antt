@@ -66,14 +66,14 @@ module _ {T : Type 0} where
       (still_least xs c m found (λ h. absurd (omega arith)), tt)
   holder_more xs c None (suc held) is found none = (
     now_least xs c (omega arith)
-    (λ k client old holds. let z = none k client old in absurd (omega arith)),
+        (λ k client old holds. let z = none k client old in absurd (omega arith)),
     tt,
   )
   holder_more xs c (Some m) (suc held) is found none = elim (cases_lt c.number m) [
     | inl less ↦
         let e : min m c.number ≡ c.number = omega arith in (
           rw e (now_least xs c (omega arith)
-          (λ k client old holds. let low = found.least k client old holds in omega arith)),
+              (λ k client old holds. let low = found.least k client old holds in omega arith)),
           tt,
         )
     | inr more ↦

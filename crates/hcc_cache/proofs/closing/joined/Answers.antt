@@ -1,4 +1,4 @@
-use Rattle.std.proofs.Common.{◌≡◌, ◌+◌, ◌-◌, ◌<◌, ◌≤◌, ℕ, Some, take, refl, sym, ap, ◌∙◌, length, slice_get, slice_set, arith}
+use Rattle.std.proofs.Common.{◌≡◌, ◌-◌, Some, refl, length, slice_get, arith}
 use Rattle.std.proofs.lemmas.Option.{slice_get_read}
 use Rattle.hcc_rule.proofs.Basics.Lists.{within}
 use Rattle.hcc_cache.proofs.Joining.{joins_first, joins_more, joins_all}

@@ -1,4 +1,4 @@
-use Rattle.std.proofs.Common.{◌≡◌, ◌+◌, ◌-◌, ◌<◌, ◌≤◌, ℕ, [], ◌∷◌, ◌++◌, Some, None, option_to_list, refl, sym, ap, ◌∙◌, length, reverse, slice_get, vec_len, arith}
+use Rattle.std.proofs.Common.{◌≡◌, [], ◌∷◌, ◌++◌, option_to_list, refl, ap, ◌∙◌, length, reverse, arith}
 use Rattle.std.proofs.lemmas.List.{take_at}
 use Rattle.hcc_cache.proofs.Ended.{IsClosing, closed_all, closing_more, closing_none, has_last, names_enough, room_left, whole_all}
 use Rattle.hcc_cache.proofs.cache.Cache.closed.Goals as goal

@@ -1,4 +1,4 @@
-use Rattle.std.proofs.Common.{◌≡◌, ◌≤◌, ◌^◌, arith}
+use Rattle.std.proofs.Common.{◌≤◌, ◌^◌, arith}
 use Rattle.hcc_rule.specs.declared.layout.TheConstants.{OCCUPANCY}
 use Rattle.hcc_shard.specs.Left.{slots_left}
 use Rattle.hcc_cache.specs.Left.{ledger_of}

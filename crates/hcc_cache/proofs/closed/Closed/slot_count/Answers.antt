@@ -1,4 +1,4 @@
-use Rattle.std.proofs.Common.{◌≡◌, ◌≤◌, ◌^◌, arith}
+use Rattle.std.proofs.Common.{◌≤◌, ◌^◌, arith}
 use Rattle.hcc_shard.specs.Left.{slots_left}
 use Rattle.hcc_cache.proofs.Lefts.{few_slots, sum_fits, sum_more}
 use Rattle.hcc_cache.proofs.closed.Closed.slot_count.Goals as goal

@@ -1,4 +1,4 @@
-use Rattle.std.proofs.Common.{◌≡◌, ◌≤◌, ◌^◌, arith}
+use Rattle.std.proofs.Common.{◌≤◌, ◌^◌, arith}
 use Rattle.hcc_rule.specs.declared.layout.TheConstants.{USAGE}
 use Rattle.hcc_shard.specs.Left.{charges_left}
 use Rattle.hcc_cache.specs.Left.{ledger_of}
