@@ -23,3 +23,10 @@ pub mod Dealing
 pub mod Insertions
 pub mod Alone
 pub mod Handing
+pub mod Lists
+pub mod Holders
+pub mod Joining
+pub mod MadeLists
+pub mod Emptied
+pub mod Ended
+pub mod Lefts
