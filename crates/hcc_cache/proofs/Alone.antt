@@ -1,12 +1,11 @@
 -- One standalone entry more, and a handle on it.
-use Rattle.std.proofs.Common.{◌≡◌, ◌≢◌, ◌⊎◌, inl, inr, ℕ, zero, suc, ◌+◌, ◌<◌, ◌≤◌, ◌==◌, Bool, true, false, List, [], ◌∷◌, ◌++◌, Option, Some, None, find, get_or, length, slice_get, slice_set, sym, refl, ap, ◌∙◌, length-set, arith}
+use Rattle.std.proofs.Common.{◌≡◌, ◌≢◌, inl, inr, ℕ, suc, ◌+◌, ◌<◌, ◌≤◌, ◌==◌, Bool, true, false, List, [], ◌∷◌, ◌++◌, Option, Some, None, find, get_or, length, slice_get, slice_set, sym, refl, ap, ◌∙◌, length-set, arith}
 use Rattle.std.proofs.lemmas.Bool.{cases_eq, eq-eqb, ne_eqb}
 use Rattle.slab.specs.Slab.{Slab, get, slab_len, Updates}
 use Rattle.hcc_core.specs.declared.client.Standalone.{Standalone}
 use Rattle.hcc_core.specs.Ledgers.{is_standing}
 use Rattle.hcc_core.specs.Sums.{total, when}
 use Rattle.hcc_core.proofs.SumLemmas.{total-set}
-use Rattle.hcc_rule.specs.declared.view.View.{View}
 use Rattle.hcc_rule.specs.Views.{Each, record_in}
 use Rattle.hcc_shard.specs.declared.seat.ShardSeat.{ShardSeat}
 use Rattle.hcc_shard.specs.Callers.{view_of}
@@ -70,7 +69,8 @@ module _ {T : Type 0} (seed used : ℕ) (seats : List (ShardSeat T)) (handles : 
       no
 
   -- and their shards know them still
-  standing_still : (j n : ℕ) (s : Standalone) → find (is_standing n) (standalones_in seats j) ≡ Some s
+  standing_still : (j n : ℕ) (s : Standalone) → find (is_standing n) (standalones_in seats j) ≡
+      Some s
       → find (is_standing n) (standalones_in (slice_set seats i is) j) ≡ Some s
   standing_still j n s found = elim (cases_eq j i) [
     | inl same ↦
@@ -153,7 +153,8 @@ module _ {T : Type 0} (seed used : ℕ) (seats : List (ShardSeat T)) (handles : 
       one_here =
           let test : is_standing_at index (Some hold) ≡ true =
           rw kept (eq-eqb index index refl) in
-          let more = counted_more (is_standing_at index) handles gained at_handle hold refl free updates in
+          let more = counted_more (is_standing_at index) handles gained at_handle hold refl free
+          updates in
           let one : when (is_standing_at index (Some hold)) 1 ≡ 1 = ap (λ b. when b 1) test in
           let before = none_there in
           omega arith
@@ -163,7 +164,8 @@ module _ {T : Type 0} (seed used : ℕ) (seats : List (ShardSeat T)) (handles : 
       as_many q ne =
           let test : is_standing_at q (Some hold) ≡ false =
           rw kept (ne_eqb index q (λ e. ne (sym e))) in
-          let more = counted_more (is_standing_at q) handles gained at_handle hold refl free updates in
+          let more = counted_more (is_standing_at q) handles gained at_handle hold refl free
+          updates in
           let none : when (is_standing_at q (Some hold)) 1 ≡ 0 = ap (λ b. when b 1) test in
           omega arith
 
