@@ -197,7 +197,7 @@ fn passes(rt: &impl Abort, me: &mut Guest)
     }
 }
 
-/// One of four keys whose first probe is slot 1, and whose further probes are 1, 3, 5 or 7 slots on.
+/// One of four keys. Its first probe is slot 1, and the others follow 1, 3, 5 or 7 slots on.
 fn crossing(round: u64) -> Key {
     Key {
         w0: round % 4 * 2,
