@@ -21,7 +21,8 @@ map_same : (f h : ℕ → ℕ) (a n : ℕ) → ((k : ℕ) → a ≤ k → k < a 
 map_same f h a zero same = refl
 map_same f h a (suc n) same =
     ap (λ x. x ∷ map f (range_with_len (a + 1) n)) (same a (omega arith) (omega arith))
-    ∙ ap (λ xs. h a ∷ xs) (map_same f h (a + 1) n (λ k from low. same k (omega arith) (omega arith)))
+    ∙ ap (λ xs. h a ∷ xs)
+    (map_same f h (a + 1) n (λ k from low. same k (omega arith) (omega arith)))
 
 -- Words have eight bytes each.
 bytes_length : (ws : List ℕ) → length (bytes_of ws) ≡ 8 * length ws

@@ -159,7 +159,8 @@ impl<A: Allocator> ClosedShard<A> {
         sum
     }
 
-    /// Copies the first bytes of a word of a slot's value, by its index, to their place in a buffer.
+    /// Copies the first bytes of a word of a slot's value, by its index, to their place in a
+    /// buffer.
     fn copy_word(&self, slot: u32, index: usize, count: usize, buffer: &mut [u8])
         requires slot { slot < self.now.table.geometry.slots }
         requires within { index < self.now.table.geometry.room }

@@ -5,6 +5,7 @@ use hcc_rule::Tag;
 mod calls;
 mod guest;
 mod rows;
+mod threads;
 mod visit;
 
 /// The tag that every value fits.

@@ -236,8 +236,8 @@ impl Guest<'_> {
     fn draft(&self, rt: &impl Abort, key: Key, charge: u32, countdown: u32, value: &[u8]) -> Draft
         requires keeps { IsGuest self.now.shard.now self.now.seat self.now.pins.items
             self.now.standing.items self.now.next }
-        ensures may { IsDrafted (plan_of self.now.shard.now.table).geometry.room result (length value.now)
-            (view self.now.seat.seat) }
+        ensures may { IsDrafted (plan_of self.now.shard.now.table).geometry.room result
+            (length value.now) (view self.now.seat.seat) }
         ensures serial { result.serial ≡ self.now.next }
         ensures charge { result.charge ≡ charge }
         ensures name { result.name ≡ Some result.serial }

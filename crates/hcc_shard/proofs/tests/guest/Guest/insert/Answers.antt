@@ -16,5 +16,5 @@ returns-clause-keeps g c =
 pub insert-answer-requires-clause-may : goal.insert-answer-requires-clause-may
 insert-answer-requires-clause-may g c =
     may_insert (plan_of c.args.self.now.shard.now.table)
-    c.draft-draft.result None c.args.value.now (view c.args.self.now.seat.seat) c.draft-draft.ensures.may
-    (λ k. (omega (arith, c.type_inv.value k)))
+    c.draft-draft.result None c.args.value.now (view c.args.self.now.seat.seat)
+    c.draft-draft.ensures.may (λ k. (omega (arith, c.type_inv.value k)))

@@ -47,5 +47,5 @@ returns-in-Ok-push-2-clause-keeps g c =
 pub insert_pinned-answer-requires-clause-may : goal.insert_pinned-answer-requires-clause-may
 insert_pinned-answer-requires-clause-may g c =
     may_insert (plan_of c.args.self.now.shard.now.table) c.draft-draft.result
-    c.draft-draft.result.name c.args.value.now (view c.args.self.now.seat.seat) c.draft-draft.ensures.may
-    (λ k. (omega (arith, c.type_inv.value k)))
+    c.draft-draft.result.name c.args.value.now (view c.args.self.now.seat.seat)
+    c.draft-draft.ensures.may (λ k. (omega (arith, c.type_inv.value k)))
