@@ -1,12 +1,11 @@
 -- One standalone entry more, and a handle on it.
-use Rattle.std.proofs.Common.{◌≡◌, ◌≢◌, ◌⊎◌, inl, inr, ℕ, zero, suc, ◌+◌, ◌<◌, ◌≤◌, ◌==◌, Bool, true, false, List, [], ◌∷◌, ◌++◌, Option, Some, None, find, get_or, length, slice_get, slice_set, sym, refl, ap, ◌∙◌, length-set, arith}
+use Rattle.std.proofs.Common.{◌≡◌, ◌≢◌, inl, inr, ℕ, suc, ◌+◌, ◌<◌, ◌≤◌, ◌==◌, Bool, true, false, List, [], ◌∷◌, ◌++◌, Option, Some, None, find, get_or, length, slice_get, slice_set, sym, refl, ap, ◌∙◌, length-set, arith}
 use Rattle.std.proofs.lemmas.Bool.{cases_eq, eq-eqb, ne_eqb}
 use Rattle.slab.specs.Slab.{Slab, get, slab_len, Updates}
 use Rattle.hcc_core.specs.declared.client.Standalone.{Standalone}
 use Rattle.hcc_core.specs.Ledgers.{is_standing}
 use Rattle.hcc_core.specs.Sums.{total, when}
 use Rattle.hcc_core.proofs.SumLemmas.{total-set}
-use Rattle.hcc_rule.specs.declared.view.View.{View}
 use Rattle.hcc_rule.specs.Views.{Each, record_in}
 use Rattle.hcc_shard.specs.declared.seat.ShardSeat.{ShardSeat}
 use Rattle.hcc_shard.specs.Callers.{view_of}
@@ -70,12 +69,13 @@ module _ {T : Type 0} (seed used : ℕ) (seats : List (ShardSeat T)) (handles : 
       no
 
   -- and their shards know them still
-  standing_still : (j n : ℕ) (s : Standalone) → find (is_standing n) (standalones_in seats j) ≡ Some s
+  standing_still : (j n : ℕ) (s : Standalone)
+      → find (is_standing n) (standalones_in seats j) ≡ Some s
       → find (is_standing n) (standalones_in (slice_set seats i is) j) ≡ Some s
   standing_still j n s found = elim (cases_eq j i) [
     | inl same ↦
         let now : standalones_in (slice_set seats i is) j
-            ≡ (view_of was).work.standalones ++ known_of a ∷ [] =
+        ≡ (view_of was).work.standalones ++ known_of a ∷ [] =
         ap (standalones_in (slice_set seats i is)) same
         ∙ (ap (λ v. v.work.standalones) (view_here seats i was is at) ∙ joined.standalones) in
         let before : standalones_in seats j ≡ (view_of was).work.standalones =
@@ -127,7 +127,7 @@ module _ {T : Type 0} (seed used : ℕ) (seats : List (ShardSeat T)) (handles : 
         ≡ Some (known_of a)
     known_joined =
         let now : standalones_in (slice_set seats i is) hold.shard
-            ≡ (view_of was).work.standalones ++ known_of a ∷ [] =
+        ≡ (view_of was).work.standalones ++ known_of a ∷ [] =
         ap (standalones_in (slice_set seats i is)) shard
         ∙ (ap (λ v. v.work.standalones) (view_here seats i was is at) ∙ joined.standalones) in
         let free : find (is_standing a.name) (view_of was).work.standalones ≡ None =
@@ -153,7 +153,8 @@ module _ {T : Type 0} (seed used : ℕ) (seats : List (ShardSeat T)) (handles : 
       one_here =
           let test : is_standing_at place (Some hold) ≡ true =
           rw kept (eq-eqb place place refl) in
-          let more = counted_more (is_standing_at place) handles gained at_handle hold refl free updates in
+          let more = counted_more (is_standing_at place) handles gained at_handle hold refl free
+          updates in
           let one : when (is_standing_at place (Some hold)) 1 ≡ 1 = ap (λ b. when b 1) test in
           let before = none_there in
           omega arith
@@ -163,7 +164,8 @@ module _ {T : Type 0} (seed used : ℕ) (seats : List (ShardSeat T)) (handles : 
       as_many q ne =
           let test : is_standing_at q (Some hold) ≡ false =
           rw kept (ne_eqb place q (λ e. ne (sym e))) in
-          let more = counted_more (is_standing_at q) handles gained at_handle hold refl free updates in
+          let more = counted_more (is_standing_at q) handles gained at_handle hold refl free
+          updates in
           let none : when (is_standing_at q (Some hold)) 1 ≡ 0 = ap (λ b. when b 1) test in
           omega arith
 
@@ -212,7 +214,7 @@ module _ {T : Type 0} (seed used : ℕ) (seats : List (ShardSeat T)) (handles : 
           → AreHeld seed (used + 1) (slice_set seats i is) gained new
       held_joined count =
           let apart = apart_more seed used seats (slice_set seats i is) handles old all at_handle
-              hold gained new (length-set seats i is) serial kept_joined updates stands_joined in
+          hold gained new (length-set seats i is) serial kept_joined updates stands_joined in
           let pinned : is_pinned (Some hold) ≡ false = rw kept refl in
           let pins : count_of is_pinned gained ≡ count_of is_pinned handles + 0 =
           counted_more is_pinned handles gained at_handle hold refl free updates
@@ -237,7 +239,7 @@ module _ {T : Type 0} (seed used : ℕ) (seats : List (ShardSeat T)) (handles : 
             some = some_joined;
             references =
                 let change = total_updated references_of refl old new place (Some a)
-                    joined.updates in
+                joined.updates in
                 let nothing : references_of (get old place) ≡ 0 =
                 ap references_of joined.free in
                 let single = joined.single in
