@@ -98,9 +98,9 @@ returns-in-Ok-Placed g c =
       name = Some old.used;
     } in
     let pin = c.in-Ok-Placed.pin in
-    let told = pinned_told cache old old i shard was is at draft asked same c.deref-bytes.result.now
-    value c.deref-bytes.ensures.value c.in-Ok-Placed.field-0 (Placed pin) c.in-Ok-Placed.field-0-is
-    c.in-Ok-Placed.ensures.view in
+    let told = pinned_told cache old old i shard was is at draft asked same
+    c.deref-bytes.result.now value c.deref-bytes.ensures.value c.in-Ok-Placed.field-0
+    (Placed pin) c.in-Ok-Placed.field-0-is c.in-Ok-Placed.ensures.view in
     let new = c.keep-handle.new.self in
     let rest = c.keep-handle.ensures.rest in
     let some = c.requires.free.1 in
@@ -168,9 +168,9 @@ returns-in-Ok-Standalone g c =
       countdown = c.countdown.ensures.exact j;
       name = Some old.used;
     } in
-    let told = pinned_told cache old old i shard was is at draft asked same c.deref-bytes.result.now
-    value c.deref-bytes.ensures.value c.in-Ok-Standalone.field-0 Standalone c.in-Ok-Standalone.field-0-is
-    c.in-Ok-Standalone.ensures.view in
+    let told = pinned_told cache old old i shard was is at draft asked same
+    c.deref-bytes.result.now value c.deref-bytes.ensures.value c.in-Ok-Standalone.field-0
+    Standalone c.in-Ok-Standalone.field-0-is c.in-Ok-Standalone.ensures.view in
     let new = c.keep_alone-handle.new.self in
     let rest = c.keep_alone-handle.ensures.rest in
     let some = c.requires.free.1 in
