@@ -22,11 +22,10 @@ use Rattle.hcc_shard.specs.Seated.{Rests}
 use Rattle.hcc_shard.proofs.Names.{length_more}
 use Rattle.hcc_cache.specs.declared.cache.Cache.{Cache}
 use Rattle.hcc_cache.specs.declared.client.Client.{Client}
-use Rattle.hcc_cache.specs.declared.errors.InsertError.TheVariants as answers
 use Rattle.hcc_cache.specs.declared.priority.Priority.{Priority}
 use Rattle.hcc_cache.specs.declared.seeded.Seeded.{Seeded}
 use Rattle.hcc_cache.specs.Calls.{TakesAtMost, UsesOne, shard_in}
-use Rattle.hcc_cache.specs.Inserts.{Fails, Inserts, KeepsHandles, RefusesWith, Stores, answer_of, draft_of, error_of, pinned_draft}
+use Rattle.hcc_cache.specs.Inserts.{Fails, KeepsHandles, Stores, draft_of, pinned_draft}
 use Rattle.hcc_cache.specs.Keys.{fits_seeded, key_from}
 use Rattle.hcc_cache.specs.Known.{IsSeated, Knows}
 use Rattle.hcc_cache.proofs.At.{ChangesAt, IsAt, knows_at, next_at, seated_at, takes_at, works_at}
@@ -290,69 +289,3 @@ module _ {T : Type 0} where
             };
             keeps = keeps_asked;
           }
-
--- Of answers.
-
--- A refusal isn't that all serials are used,
-pub not_spent : (why : Refused) → error_of why ≡ answers.Spent → ⊥
-not_spent TooLarge same = cc
-not_spent CapacityFull same = cc
-not_spent OccupancyFull same = cc
-
-pub answers_unspent : (answer : Result Inserted Refused)
-    → answer_of answer ≡ Err answers.Spent → ⊥
-answers_unspent (Ok Placed) same = cc
-answers_unspent (Ok Dropped) same = cc
-answers_unspent (Err why) same =
-    let is : error_of why ≡ answers.Spent = cc in
-    not_spent why is
-
--- or all handles are held,
-pub not_full : (why : Refused) → error_of why ≡ answers.HandlesFull → ⊥
-not_full TooLarge same = cc
-not_full CapacityFull same = cc
-not_full OccupancyFull same = cc
-
-module _ {T : Type 0} where
-  -- nor that the charge is too large, where it is not.
-  pub not_large : (slots capacity : ℕ) (strict : Bool) (draft : Draft) (v w : View T)
-      (why : Refused) → RefusedBy slots capacity strict draft why v w
-      → (strict ≡ true → draft.charge ≤ capacity) → error_of why ≡ answers.TooLarge → ⊥
-  not_large slots capacity strict draft v w TooLarge told small same =
-      let above = told.1 in
-      let below = small told.0 in
-      omega arith
-  not_large slots capacity strict draft v w CapacityFull told small same = cc
-  not_large slots capacity strict draft v w OccupancyFull told small same = cc
-
-  -- Of answers without a handle the same.
-  pub answers_small : (slots capacity : ℕ) (strict : Bool) (draft : Draft) (value : List ℕ)
-      (v w : View T) (answer : Result Inserted Refused)
-      → InsertedBy slots capacity strict draft value answer v w
-      → (strict ≡ true → draft.charge ≤ capacity) → answer_of answer ≡ Err answers.TooLarge → ⊥
-  answers_small slots capacity strict draft value v w (Ok Placed) told small same = cc
-  answers_small slots capacity strict draft value v w (Ok Dropped) told small same = cc
-  answers_small slots capacity strict draft value v w (Err why) told small same =
-      let is : error_of why ≡ answers.TooLarge = cc in
-      not_large slots capacity strict draft v w why told small is
-
-  module _ (cache : Cache T) (key : Key) (charge : ℕ) (priority : Priority) (value : List ℕ)
-      (old new : Client T) where
-    -- The answer is told, without a handle
-    pub inserts_told : (answer : Result Inserted Refused)
-        → (answer_of answer ≡ Err answers.TooLarge → ⊥)
-        → Stores cache key charge priority value answer old new
-        → Inserts cache key charge priority value (answer_of answer) old new
-    inserts_told (Ok Placed) fits stores = stores
-    inserts_told (Ok Dropped) fits stores = stores
-    inserts_told (Err TooLarge) fits stores = absurd (fits refl)
-    inserts_told (Err CapacityFull) fits stores = stores
-    inserts_told (Err OccupancyFull) fits stores = stores
-
-    -- and the refusal with one.
-    pub refuses_told : (why : Refused) → (error_of why ≡ answers.TooLarge → ⊥)
-        → Fails cache key charge priority value why old new
-        → RefusesWith cache key charge priority value (error_of why) old new
-    refuses_told TooLarge fits fails = absurd (fits refl)
-    refuses_told CapacityFull fits fails = fails
-    refuses_told OccupancyFull fits fails = fails

@@ -14,5 +14,6 @@ pub mod Gained
 pub mod Found
 pub mod Again
 pub mod Insertions
+pub mod Refusals
 pub mod Alone
 pub mod Handing

@@ -12,7 +12,8 @@ use Rattle.hcc_cache.proofs.Alone.{IsJoined}
 use Rattle.hcc_cache.proofs.At.{ChangesAt, few_at, is_at, seated_at}
 use Rattle.hcc_cache.proofs.Gained.{IsGiven}
 use Rattle.hcc_cache.proofs.Handing.{few_alone, has_room, hold_with, knows_alone, knows_pins, pinned_told, pins_at, stands_at}
-use Rattle.hcc_cache.proofs.Insertions.{IsAsked, fails_at, insertable_at, inserts_at, knows_asked, leaves_refused, leaves_unshown, not_full, not_large, not_spent, refuses_told, told_as}
+use Rattle.hcc_cache.proofs.Insertions.{IsAsked, fails_at, insertable_at, inserts_at, knows_asked, leaves_refused, leaves_unshown, told_as}
+use Rattle.hcc_cache.proofs.Refusals.{not_full, not_large, not_spent, refuses_told}
 use Rattle.hcc_cache.proofs.cache.Cache.stored_pinned.Goals as goal
 
 pub insert_pinned-requires-clause-seat : goal.insert_pinned-requires-clause-seat
