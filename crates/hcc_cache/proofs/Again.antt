@@ -1,5 +1,5 @@
 -- One handle more on an entry of the table that is held.
-use Rattle.std.proofs.Common.{◌≡◌, ℕ, ◌+◌, ◌<◌, ◌≤◌, Bool, List, [], ◌∷◌, ◌++◌, Option, Some, None, IfSome, IsSomeAnd, length, option_map, slice_get, sym, refl, ap, subst, ◌∙◌, arith}
+use Rattle.std.proofs.Common.{◌≡◌, ℕ, ◌+◌, ◌<◌, Bool, [], ◌∷◌, ◌++◌, Some, IfSome, IsSomeAnd, length, option_map, sym, refl, ap, subst, ◌∙◌, arith}
 use Rattle.slab.specs.Slab.{get}
 use Rattle.hcc_rule.specs.declared.view.Record.{Record}
 use Rattle.hcc_rule.specs.Views.{is_called, record_in}
@@ -22,7 +22,6 @@ use Rattle.hcc_cache.specs.Clients.{held_entry, held_of, hold_of, pin_of, record
 use Rattle.hcc_cache.specs.Keys.{key_to}
 use Rattle.hcc_cache.specs.Known.{IsKeptAs, IsPin, Knows}
 use Rattle.hcc_cache.proofs.At.{ChangesAt, IsAt, works_at}
-use Rattle.hcc_cache.proofs.Framing.{hold_there}
 
 module _ {T : Type 0} (cache : Cache T) (client : Client T) (hold : Hold) where
   -- what is kept of a handle is at one of the shards
@@ -34,19 +33,19 @@ module _ {T : Type 0} (cache : Cache T) (client : Client T) (hold : Hold) where
       (within, omega arith)
 
   -- the record that a handle on an entry of the table stands for, in the view of its shard
-  pub record IsPinAt (slot : ℕ) (counting : Bool) (shard : Shard (Seeded T) _)
-      (was : ShardSeat (Seeded T)) : Type 0 where
+  pub record IsPinAt (slot : ℕ) (counting : Bool) (slots : ℕ) (was : ShardSeat (Seeded T))
+      : Type 0 where
     pub handled : Record
     pub there : record_in hold.serial (view_of was).records ≡ Some handled
     pub known : record_in hold.serial (records_in client.seats.items hold.shard) ≡ Some handled
     pub of : IsOf (pin_of hold.serial slot counting) handled
     pub key : key_of handled.entry ≡ key_to cache.seed hold.key
-    pub within : slot < (geometry_of shard).slots
+    pub within : slot < slots
 
   module _ (slot : ℕ) (counting : Bool) (place : ℕ) (shard : Shard (Seeded T) _)
       (was : ShardSeat (Seeded T)) (at : IsAt cache client hold.shard shard was)
       (held : get client.handles place ≡ Some hold) (kept : hold.kept ≡ Pinned slot counting) where
-    pub pin_at : IsPinAt slot counting shard was
+    pub pin_at : IsPinAt slot counting (geometry_of shard).slots was
     pin_at =
         let pin : IsPin cache.seed client.seats.items client.alone hold slot counting =
         subst (λ k. IsKeptAs cache.seed client.seats.items client.alone hold k) kept

@@ -1,12 +1,10 @@
 -- What a client knows once a look-up found an entry, or none.
-use Rattle.std.proofs.Common.{◌≡◌, ℕ, ◌+◌, ◌*◌, ◌<◌, ◌≤◌, Bool, List, [], ◌∷◌, ◌++◌, Option, Some, None, IfSome, length, option_map, slice_get, slice_set, sym, refl, ap, subst, ◌∙◌, arith}
-use Rattle.slab.specs.Slab.{get, slab_len}
-use Rattle.hcc_core.specs.declared.client.Standalone.{Standalone}
+use Rattle.std.proofs.Common.{◌≡◌, ℕ, ◌+◌, ◌*◌, ◌<◌, ◌≤◌, Bool, List, [], ◌∷◌, ◌++◌, Some, length, option_map, sym, ap, subst, ◌∙◌, arith}
 use Rattle.hcc_rule.specs.declared.geometry.Geometry.{Geometry}
 use Rattle.hcc_rule.specs.declared.key.Key.{Key}
 use Rattle.hcc_rule.specs.declared.view.Record.{Record}
 use Rattle.hcc_rule.specs.declared.view.View.{View}
-use Rattle.hcc_rule.specs.Views.{Each, record_in}
+use Rattle.hcc_rule.specs.Views.{Each}
 use Rattle.hcc_rule.specs.Words.{key_of}
 use Rattle.hcc_rule.proofs.Basics.Lists.{each_append, within}
 use Rattle.hcc_table.specs.declared.efforts.Effort.{Effort}
@@ -23,10 +21,10 @@ use Rattle.hcc_cache.specs.declared.handle.Handle.{Handle}
 use Rattle.hcc_cache.specs.declared.holding.Hold.{Hold}
 use Rattle.hcc_cache.specs.declared.holding.Kept.TheVariants.{Pinned}
 use Rattle.hcc_cache.specs.declared.seeded.Seeded.{Seeded}
-use Rattle.hcc_cache.specs.Calls.{Finds, Gains, KeepsAll, Misses, TakesAtMost, UsesNone, UsesOne, shard_in}
-use Rattle.hcc_cache.specs.Clients.{held_by, held_entry, hold_of, kept_as, pin_of, records_in}
+use Rattle.hcc_cache.specs.Calls.{Finds, Gains, KeepsAll, Misses, TakesAtMost, UsesNone, shard_in}
+use Rattle.hcc_cache.specs.Clients.{held_entry, pin_of}
 use Rattle.hcc_cache.specs.Keys.{fits_seeded, key_from, key_to}
-use Rattle.hcc_cache.specs.Known.{AreHeld, IsSeated, Knows}
+use Rattle.hcc_cache.specs.Known.{IsSeated, Knows}
 use Rattle.hcc_cache.proofs.At.{ChangesAt, IsAt, knows_at, seated_at, takes_at, works_at}
 use Rattle.hcc_cache.proofs.Framing.{keeps_all}
 use Rattle.hcc_cache.proofs.Gained.{gains, IsGiven}
@@ -108,6 +106,15 @@ module _ {T : Type 0} where
         count = left.held;
         serials = left.uses;
       }
+
+    -- It is known still, where nothing was found.
+    pub knows_sought : IsLeft old new → Rests shard is → Sought (view_of was) (view_of is)
+        → Knows cache new
+    knows_sought left rests sought =
+        knows_left left sought.records
+        (ap (λ (v : View (Seeded T)). v.work.standalones) sought.searched.same)
+        (seated_sought shard old.number old.used was is
+        (seated_at cache old new i shard was is at) rests sought.searched sought.records)
 
     -- A look-up makes seven steps at most for each slot that it visits.
     pub looks_at : (before after : Effort)

@@ -1,5 +1,5 @@
 -- What handles stand for, where what the client keeps of them stays.
-use Rattle.std.proofs.Common.{◌≡◌, ◌≢◌, ◌⊎◌, inl, inr, ℕ, ◌+◌, ◌<◌, ◌≤◌, ◌==◌, ◌&&◌, Bool, true, false, List, Option, Some, None, find, if◌then◌else◌, length, option_map, sym, refl, ap, ◌∙◌, arith}
+use Rattle.std.proofs.Common.{◌≡◌, ◌≢◌, inl, inr, ℕ, ◌==◌, ◌&&◌, Bool, true, false, List, Option, Some, None, find, if◌then◌else◌, length, option_map, sym, refl, ap, ◌∙◌}
 use Rattle.std.proofs.lemmas.Bool.{cases_eq, eqb-true, eq-eqb}
 use Rattle.slab.specs.Slab.{Slab, get, Updates}
 use Rattle.hcc_core.specs.declared.client.Standalone.{Standalone}
@@ -14,8 +14,8 @@ use Rattle.hcc_cache.specs.declared.holding.Alone.{Alone}
 use Rattle.hcc_cache.specs.declared.holding.Hold.{Hold}
 use Rattle.hcc_cache.specs.declared.holding.Kept.{Kept}
 use Rattle.hcc_cache.specs.declared.holding.Kept.TheVariants.{Pinned, Standing}
-use Rattle.hcc_cache.specs.Clients.{held_alone, held_as, held_entry, held_of, hold_of, if_of, is_of, kept_as, records_in, standalones_in}
-use Rattle.hcc_cache.specs.Known.{IsKept, IsKeptAs, IsPin, IsStand}
+use Rattle.hcc_cache.specs.Clients.{held_alone, held_as, held_entry, held_of, if_of, is_of, kept_as, records_in, standalones_in}
+use Rattle.hcc_cache.specs.Known.{IsKept, IsKeptAs}
 
 -- Of handles.
 

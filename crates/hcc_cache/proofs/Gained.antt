@@ -1,6 +1,6 @@
 -- A client that keeps one handle more.
-use Rattle.std.proofs.Common.{◌≡◌, ℕ, ◌+◌, ◌-◌, ◌<◌, ◌≤◌, Bool, true, List, [], Option, Some, None, length, sym, refl, ap, ◌∙◌, arith}
-use Rattle.slab.specs.Slab.{Slab, get, slab_len, Updates}
+use Rattle.std.proofs.Common.{◌≡◌, ◌+◌, ◌-◌, true, Some, None, sym, refl, ◌∙◌}
+use Rattle.slab.specs.Slab.{get, slab_len, Updates}
 use Rattle.hcc_cache.specs.declared.cache.Cache.{Cache}
 use Rattle.hcc_cache.specs.declared.client.Client.{Client}
 use Rattle.hcc_cache.specs.declared.handle.Handle.{Handle}

@@ -1,11 +1,9 @@
 -- The handles of a client that stand for what they stood for.
-use Rattle.std.proofs.Common.{◌≡◌, ◌≢◌, ◌⊎◌, inl, inr, ℕ, ◌+◌, ◌<◌, ◌≤◌, List, Option, Some, None, find, length, slice_get, slice_set, sym, refl, ap, ◌∙◌, length-set, arith}
+use Rattle.std.proofs.Common.{◌≡◌, ◌≢◌, inl, inr, ℕ, ◌+◌, ◌<◌, ◌≤◌, List, Some, find, length, slice_get, slice_set, sym, ap, ◌∙◌, length-set, arith}
 use Rattle.std.proofs.lemmas.Bool.{cases_eq}
-use Rattle.slab.specs.Slab.{Slab, get, slab_len, Updates}
+use Rattle.slab.specs.Slab.{Slab, get, Updates}
 use Rattle.hcc_core.specs.Ledgers.{is_standing}
-use Rattle.hcc_core.specs.Sums.{total}
 use Rattle.hcc_core.proofs.SumLemmas.{total-set}
-use Rattle.hcc_rule.specs.declared.view.View.{View}
 use Rattle.hcc_rule.specs.Views.{record_in}
 use Rattle.hcc_shard.specs.declared.seat.ShardSeat.{ShardSeat}
 use Rattle.hcc_shard.specs.Callers.{view_of}
@@ -13,7 +11,7 @@ use Rattle.hcc_cache.specs.declared.holding.Alone.{Alone}
 use Rattle.hcc_cache.specs.declared.holding.Hold.{Hold}
 use Rattle.hcc_cache.specs.Clients.{records_in, standalones_in}
 use Rattle.hcc_cache.specs.Known.{AreHeld, IsKept, records_at, standalones_at}
-use Rattle.hcc_cache.proofs.Framing.{freed_is, kept_still, same_alone, Stands, stands_if, stood_there, written_is}
+use Rattle.hcc_cache.proofs.Framing.{kept_still, same_alone, Stands, stands_if, stood_there, written_is}
 use Rattle.hcc_cache.proofs.Seats.{part_same}
 
 -- Each handle stands for something of its own.
@@ -78,30 +76,6 @@ module _ {T : Type 0} (seed used : ℕ) (seats more : List (ShardSeat T)) (handl
           let before = stood_there handles gained place (Some hold) k q updates ne hq in
           let below = (all.each q k before).1 in
           omega arith
-
-  -- One handle is gone.
-  pub apart_less : (place : ℕ) (lost : Slab Hold) (new : Slab Alone)
-      → length more ≡ length seats → Updates handles lost place None
-      → ((p : ℕ) (k : Hold) → p ≢ place → get handles p ≡ Some k → Stands seats more old new k)
-      → AreApart seed used more lost new
-  apart_less place lost new count updates stand = record {
-    each = λ p k there. elim (cases_eq p place) [
-      | inl same ↦ absurd (freed_is handles lost place k p updates same there)
-      | inr ne ↦
-          let before = stood_there handles lost place None k p updates ne there in
-          let was = all.each p k before in
-          (kept_still seats more old new seed k count (stand p k ne before) was.0, was.1)
-    ];
-    apart = λ p q h k hp hq e. elim (cases_eq p place) [
-      | inl same ↦ absurd (freed_is handles lost place h p updates same hp)
-      | inr ne ↦ elim (cases_eq q place) [
-        | inl same ↦ absurd (freed_is handles lost place k q updates same hq)
-        | inr other ↦
-            all.apart p q h k (stood_there handles lost place None h p updates ne hp)
-            (stood_there handles lost place None k q updates other hq) e
-      ]
-    ];
-  }
 
 -- Where a client worked at one shard, and holds there what it held.
 module _ {T : Type 0} (seed used : ℕ) (seats : List (ShardSeat T)) (handles : Slab Hold)

@@ -1,13 +1,12 @@
 -- The handles of a client, once one on an entry of the table was given back.
-use Rattle.std.proofs.Common.{◌≡◌, ◌≢◌, ◌⊎◌, inl, inr, ℕ, ◌+◌, ◌<◌, ◌≤◌, ◌==◌, Bool, true, false}
+use Rattle.std.proofs.Common.{◌≡◌, ◌≢◌, inl, inr, ℕ, ◌+◌, Bool, true, false}
 use Rattle.std.proofs.Common.{List, Option, Some, None, find, length, slice_get, slice_set}
 use Rattle.std.proofs.Common.{sym, refl, ap, ◌∙◌, length-set, arith}
 use Rattle.std.proofs.lemmas.Bool.{cases_eq, eqb-true, ne_eqb}
 use Rattle.slab.specs.Slab.{Slab, get, slab_len, Updates}
-use Rattle.hcc_core.specs.declared.client.Standalone.{Standalone}
 use Rattle.hcc_core.specs.Ledgers.{is_standing}
 use Rattle.hcc_core.specs.Outcomes.{dropped}
-use Rattle.hcc_core.specs.Sums.{total, when}
+use Rattle.hcc_core.specs.Sums.{when}
 use Rattle.hcc_core.proofs.SumLemmas.{total-set}
 use Rattle.hcc_rule.specs.declared.view.Record.{Record}
 use Rattle.hcc_rule.specs.declared.view.View.{View}
@@ -16,11 +15,11 @@ use Rattle.hcc_shard.specs.declared.seat.ShardSeat.{ShardSeat}
 use Rattle.hcc_shard.specs.Callers.{view_of}
 use Rattle.hcc_cache.specs.declared.holding.Alone.{Alone}
 use Rattle.hcc_cache.specs.declared.holding.Hold.{Hold}
-use Rattle.hcc_cache.specs.declared.holding.Kept.{Kept}
-use Rattle.hcc_cache.specs.declared.holding.Kept.TheVariants.{Pinned, Standing}
-use Rattle.hcc_cache.specs.Clients.{records_in, standalones_in, view_by, view_in}
-use Rattle.hcc_cache.specs.Known.{AreHeld, IsKept, IsKeptAs, count_of, is_pinned, is_standing_at, records_at, references_of, standalones_at}
+use Rattle.hcc_cache.specs.declared.holding.Kept.TheVariants.{Pinned}
+use Rattle.hcc_cache.specs.Clients.{view_by, view_in}
+use Rattle.hcc_cache.specs.Known.{AreHeld, count_of, is_pinned, is_standing_at, records_at, standalones_at}
 use Rattle.hcc_cache.proofs.Framing.{Stands, freed_is, kept_still, same_alone, stands_if, stood_there}
+use Rattle.hcc_cache.proofs.Held.{AreApart}
 use Rattle.hcc_cache.proofs.Names.{dropped_one, find_left}
 use Rattle.hcc_cache.proofs.Seats.{part_same, view_else, view_here}
 use Rattle.hcc_cache.proofs.Slots.{count_removed}
@@ -84,21 +83,19 @@ module _ (handles less : Slab Hold) (place : ℕ) (hold : Hold)
         → k.serial ≢ hold.serial
     serial_apart p k ne is same = ne (all.apart p place k hold is gone.there same)
 
-    -- and those that are left have serials of their own
-    pub apart_less : (p q : ℕ) (h k : Hold) → get less p ≡ Some h → get less q ≡ Some k
-        → h.serial ≡ k.serial → p ≡ q
-    apart_less p q h k hp hq same =
-        all.apart p q h k (left_there p h hp).1 (left_there q k hq).1 same
-
-    -- each is kept, where it stands for what it stood for
-    pub each_less : (more : List (ShardSeat T)) (new : Slab Alone) → length more ≡ length seats
-        → ((p : ℕ) (k : Hold) → p ≢ place → get handles p ≡ Some k
-        → Stands seats more old new k)
-        → (p : ℕ) (h : Hold) → get less p ≡ Some h → IsKept seed more new h × (h.serial < used)
-    each_less more new count stand p h is =
-        let was = left_there p h is in
-        let kept = all.each p h was.1 in
-        (kept_still seats more old new seed h count (stand p h was.0 was.1) kept.0, kept.1)
+    -- and the others are kept, each for something of its own, where they stand as they stood
+    pub apart_less : (more : List (ShardSeat T)) (new : Slab Alone)
+        → length more ≡ length seats
+        → ((p : ℕ) (k : Hold) → p ≢ place → get handles p ≡ Some k → Stands seats more old new k)
+        → AreApart seed used more less new
+    apart_less more new count stand = record {
+      each = λ p h is.
+          let was = left_there p h is in
+          let kept = all.each p h was.1 in
+          (kept_still seats more old new seed h count (stand p h was.0 was.1) kept.0, kept.1);
+      apart = λ p q h k hp hq same.
+          all.apart p q h k (left_there p h hp).1 (left_there q k hq).1 same;
+    }
 
 -- Of a handle on an entry of the table.
 
@@ -107,7 +104,7 @@ pub record IsWithout {T : Type 0} (name : ℕ) (was is : ShardSeat T) : Type 0 w
   pub records : (view_of is).records ≡ dropped (is_called name) (view_of was).records
   pub standalones : (view_of is).work.standalones ≡ (view_of was).work.standalones
 
--- which place it has makes no difference to a handle on an entry of the table
+-- a hold on an entry of the table counts as one, and for no standalone entry
 pub pinned_test : (o : Option Hold) (slot : ℕ) (counting : Bool) (place : ℕ) (hold : Hold)
     → o ≡ Some hold → hold.kept ≡ Pinned slot counting
     → (is_pinned o ≡ true) × (is_standing_at place o ≡ false)
@@ -122,7 +119,8 @@ module _ {T : Type 0} (seed used : ℕ) (seats : List (ShardSeat T)) (handles le
   pub stand_unpinned : (p : ℕ) (k : Hold) → p ≢ place → get handles p ≡ Some k
       → Stands seats (slice_set seats hold.shard is) alone alone k
   stand_unpinned p k ne there =
-      let serial = serial_apart handles less place hold gone seed used seats alone all p k ne there in
+      let serial = serial_apart handles less place hold gone seed used seats alone all p k ne there
+      in
       stands_if seats (slice_set seats hold.shard is) alone alone seed k (all.each p k there).0
       (λ r found.
       found_left (λ v. v.records) (is_called hold.serial) (is_called k.serial) seats hold.shard
@@ -137,26 +135,17 @@ module _ {T : Type 0} (seed used : ℕ) (seats : List (ShardSeat T)) (handles le
             without.standalones) ∙ known;
       })
 
-  -- the record that it stands for is the seat's
-  pub record_there : (r : Record) × (record_in hold.serial (view_of was).records ≡ Some r)
-  record_there = by hold.kept kept (all.each place hold gone.there).0.stands
-    where
-      here : records_in seats hold.shard ≡ (view_of was).records
-      here = ap (λ o. (view_by o).records) at
-
-      by : (k : Kept) → k ≡ Pinned slot counting → IsKeptAs seed seats alone hold k
-          → (r : Record) × (record_in hold.serial (view_of was).records ≡ Some r)
-      by (Pinned s b) e pin = (pin.handled, rw here at pin.there)
-      by (Standing p) e stand = absurd (let no : ⊥ = cc in no)
-
-  pub held_unpinned : AreHeld seed used (slice_set seats hold.shard is) less alone
-  held_unpinned =
-      let one = record_there in
+  -- and all are held, where this record was the one of the handle
+  pub held_unpinned : (r : Record) → record_in hold.serial (view_of was).records ≡ Some r
+      → AreHeld seed used (slice_set seats hold.shard is) less alone
+  held_unpinned r found =
+      let apart = apart_less handles less place hold gone seed used seats alone all
+      (slice_set seats hold.shard is) alone (length-set seats hold.shard is) stand_unpinned in
       let records = total-set records_at seats hold.shard was is at in
       let standalones = total-set standalones_at seats hold.shard was is at in
       let fewer : records_at is + 1 ≡ records_at was =
       ap (λ rs. length rs + 1) without.records
-      ∙ dropped_one (is_called hold.serial) (view_of was).records one.0 one.1 in
+      ∙ dropped_one (is_called hold.serial) (view_of was).records r found in
       let same : standalones_at is ≡ standalones_at was = ap length without.standalones in
       let tests = λ (p : ℕ). pinned_test (Some hold) slot counting p hold refl kept in
       let pinned : when (is_pinned (Some hold)) 1 ≡ 1 = ap (λ b. when b 1) (tests 0).0 in
@@ -166,10 +155,8 @@ module _ {T : Type 0} (seed used : ℕ) (seats : List (ShardSeat T)) (handles le
       let held_entries = all.entries in
       let held_references = all.references in
       record {
-        each =
-            each_less handles less place hold gone seed used seats alone all
-            (slice_set seats hold.shard is) alone (length-set seats hold.shard is) stand_unpinned;
-        apart = apart_less handles less place hold gone seed used seats alone all;
+        each = apart.each;
+        apart = apart.apart;
         pins = omega arith;
         entries = omega arith;
         names_apart = all.names_apart;

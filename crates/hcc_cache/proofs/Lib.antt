@@ -17,3 +17,8 @@ pub mod Insertions
 pub mod Refusals
 pub mod Alone
 pub mod Handing
+pub mod Standing
+pub mod Released
+pub mod Readings
+pub mod StandsAgain
+pub mod StandingAgain

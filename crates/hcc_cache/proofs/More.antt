@@ -1,12 +1,11 @@
 -- One reference more, and a handle on it.
-use Rattle.std.proofs.Common.{◌≡◌, ◌≢◌, ◌⊎◌, inl, inr, ℕ, ◌+◌, ◌<◌, ◌≤◌, Bool, true, false, List, [], ◌∷◌, ◌++◌, Option, Some, None, find, length, slice_get, slice_set, sym, refl, ap, ◌∙◌, length-set, length-append, arith}
+use Rattle.std.proofs.Common.{◌≡◌, inl, inr, ℕ, ◌+◌, ◌<◌, Bool, true, false, List, [], ◌∷◌, ◌++◌, Option, Some, None, find, length, slice_get, slice_set, sym, refl, ap, ◌∙◌, length-set, length-append, arith}
 use Rattle.std.proofs.lemmas.Bool.{cases_eq, eq-eqb}
 use Rattle.slab.specs.Slab.{Slab, get, slab_len, Updates}
 use Rattle.hcc_core.specs.Ledgers.{is_standing}
-use Rattle.hcc_core.specs.Sums.{total, when}
+use Rattle.hcc_core.specs.Sums.{when}
 use Rattle.hcc_core.proofs.SumLemmas.{total-set}
 use Rattle.hcc_rule.specs.declared.view.Record.{Record}
-use Rattle.hcc_rule.specs.declared.view.View.{View}
 use Rattle.hcc_rule.specs.Views.{Each, is_called, record_in}
 use Rattle.hcc_rule.specs.Words.{key_of}
 use Rattle.hcc_table.specs.Pins.{IsOf}

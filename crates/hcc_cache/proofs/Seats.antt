@@ -1,6 +1,5 @@
 -- The seats of a client, once one of them was worked with.
-use Rattle.std.proofs.Common.{◌≡◌, ℕ, ◌+◌, ◌<◌, ◌≤◌, List, [], Some, length, get_or, slice_get, slice_set, sym, refl, ap, ◌∙◌, length-set, arith}
-use Rattle.std.proofs.lemmas.Option.{slice_get_read}
+use Rattle.std.proofs.Common.{◌≡◌, ℕ, ◌+◌, ◌<◌, ◌≤◌, List, Some, length, slice_get, slice_set, sym, ap, ◌∙◌, length-set, arith}
 use Rattle.hcc_core.specs.declared.client.Standalone.{Standalone}
 use Rattle.hcc_core.specs.Sums.{total}
 use Rattle.hcc_core.proofs.ListLemmas.{read_here, read_other, read_same}
@@ -11,7 +10,7 @@ use Rattle.hcc_rule.specs.Views.{Each}
 use Rattle.hcc_rule.proofs.Basics.Lists.{each_set}
 use Rattle.hcc_shard.specs.declared.seat.ShardSeat.{ShardSeat}
 use Rattle.hcc_shard.specs.declared.shard.Shard.{Shard}
-use Rattle.hcc_shard.specs.Callers.{number_of, steps_of, view_of}
+use Rattle.hcc_shard.specs.Callers.{steps_of, view_of}
 use Rattle.hcc_shard.specs.Seated.{Rests}
 use Rattle.hcc_cache.specs.Clients.{view_by, view_in}
 use Rattle.hcc_cache.specs.Known.{AreSeated, IsSeated}
@@ -93,12 +92,4 @@ module _ {T A : Type 0} where
         (λ d h. let same : shard ≡ d = cc in rw (← same) mine)
         (λ j x ne h d hd. seated_later d number used more x le (all.each j d x hd h))
         s seat hs d hd;
-  }
-
-  -- all seats, where serials were used alone
-  pub seated_more : (shards : List (Shard T A)) (number used more : ℕ) (seats : List (ShardSeat T))
-      → used ≤ more → AreSeated shards number used seats → AreSeated shards number more seats
-  seated_more shards number used more seats le all = record {
-    count = all.count;
-    each = λ s d seat hd hs. seated_later d number used more seat le (all.each s d seat hd hs);
   }

@@ -1,4 +1,4 @@
-use Rattle.std.proofs.Common.{rules, ◌≡◌, ◌∙◌, ◌+◌, ◌-◌, ◌<◌, ◌≤◌, Some, length, ap, refl, sym, arith}
+use Rattle.std.proofs.Common.{◌≡◌, ◌∙◌, ◌-◌, ap, refl, sym, arith}
 use Rattle.slab.specs.Slab.{get}
 use Rattle.hcc_rule.specs.Words.{key_of}
 use Rattle.hcc_cache.specs.declared.client.Client.{Client}

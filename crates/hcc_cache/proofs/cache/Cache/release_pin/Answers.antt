@@ -1,0 +1,93 @@
+use Rattle.std.proofs.Common.{◌≡◌, ◌∙◌, ◌+◌, get_or, slice_set, ap, refl, sym, arith}
+use Rattle.std.specs.Vec.{with_item}
+use Rattle.slab.specs.Slab.{get}
+use Rattle.hcc_rule.specs.declared.geometry.Geometry.{Geometry}
+use Rattle.hcc_table.specs.Pins.{erases}
+use Rattle.hcc_table.specs.Steps.{freeing}
+use Rattle.hcc_cache.specs.declared.client.Client.{Client}
+use Rattle.hcc_cache.proofs.Again.{hold_within, pin_at, pinned_at}
+use Rattle.hcc_cache.proofs.At.{ChangesAt, is_at, seated_at, takes_at}
+use Rattle.hcc_cache.proofs.Framing.{hold_there}
+use Rattle.hcc_cache.proofs.Less.{IsLess}
+use Rattle.hcc_cache.proofs.Released.{knows_unpinned, lets_go, releases_unpinned}
+use Rattle.hcc_cache.proofs.cache.Cache.release_pin.Goals.{then-erase_if_last, else-erase_if_last}
+use Rattle.hcc_cache.proofs.cache.Cache.release_pin.Goals as goal
+
+pub release-requires : goal.release-requires
+release-requires g c =
+    let cache = c.args.self.now in
+    let old = c.args.client.now in
+    let hold = c.args.hold in
+    let place = c.args.handle.place in
+    let there = hold_there old.number c.args.handle (get old.handles place) hold c.requires.held in
+    let within = hold_within cache old hold place c.requires.known there in
+    let rest = c.let_go.ensures.rest in
+    let shard = c.index.result.now in
+    let was = c.index_mut-seat.result.now in
+    let sits = c.index_mut-seat.ensures.value
+    ∙ ap (λ (x : Client g.row.T.Denot). get_or x.seats.items hold.shard was) rest in
+    let at = is_at cache old hold.shard shard was c.requires.known within.1 c.index.ensures sits in
+    record {
+      seat = (seated_at cache old old hold.shard shard was was at).rests;
+      slot =
+          (pin_at cache old hold c.args.pin.slot c.args.pin.counting place shard was at there
+          c.requires.kept).within;
+      holds =
+          rw (c.requires.name)
+          (pinned_at cache old hold c.args.pin.slot c.args.pin.counting place shard was at there
+          c.requires.kept);
+    }
+
+pub returns : goal.returns
+returns g c =
+    let cache = c.args.self.now in
+    let old = c.args.client.now in
+    let hold = c.args.hold in
+    let place = c.args.handle.place in
+    let there = hold_there old.number c.args.handle (get old.handles place) hold c.requires.held in
+    let within = hold_within cache old hold place c.requires.known there in
+    let rest = c.let_go.ensures.rest in
+    let shard = c.index.result.now in
+    let was = c.index_mut-seat.result.now in
+    let sits = c.index_mut-seat.ensures.value
+    ∙ ap (λ (x : Client g.row.T.Denot). get_or x.seats.items hold.shard was) rest in
+    let at = is_at cache old hold.shard shard was c.requires.known within.1 c.index.ensures sits in
+    let mid = c.let_go.new.self in
+    let is = c.release.new.seat in
+    let new : Client g.row.T.Denot = record mid { seats = with_item mid.seats hold.shard is } in
+    let change : ChangesAt old new hold.shard is = record {
+      seats = ap (λ (x : Client g.row.T.Denot). slice_set x.seats.items hold.shard is) rest;
+      number = ap (λ (x : Client g.row.T.Denot). x.number) rest;
+      most = ap (λ (x : Client g.row.T.Denot). x.most) rest;
+      capacity = (
+        c.let_go.ensures.capacity,
+        ap (λ (x : Client g.row.T.Denot). x.alone.capacity) rest,
+      );
+    } in
+    let alone = ap (λ (x : Client g.row.T.Denot). x.alone) rest in
+    let gone : IsLess old.handles mid.handles place hold =
+    record { there = there; updates = c.let_go.ensures.gone; count = c.let_go.ensures.count } in
+    let lets = lets_go cache old new c.args.handle hold mid c.requires.known c.requires.held gone
+    rest refl in
+    let asked : erases c.if-erase_if_last.last ≡ c.args.erase_if_last =
+    elim c.if-erase_if_last.branch [
+      | then-erase_if_last w ↦ ap erases w.last-is ∙ sym w.if-erase_if_last.true
+      | else-erase_if_last w ↦ ap erases w.last-is ∙ sym w.if-erase_if_last.false
+    ] in
+    let given = rw (c.requires.name, asked) at c.release.ensures.view in
+    let slots = ap (λ (y : Geometry). y.slots)
+    (at.knows.alike.plans hold.shard shard at.shard_is).0 in
+    let steps = c.release.ensures.steps in
+    record {
+      known =
+          knows_unpinned cache old new c.args.handle hold lets c.args.pin.slot
+          c.args.pin.counting c.requires.kept shard was is at change alone c.args.erase_if_last
+          c.release.result given c.release.ensures.seat;
+      released =
+          releases_unpinned cache old new c.args.handle hold lets c.args.pin.slot
+          c.args.pin.counting c.requires.kept shard was is at change alone c.args.erase_if_last
+          c.release.result given;
+      steps =
+          takes_at cache old new hold.shard shard was is at change
+          (freeing cache.geometry.slots + 3) (omega arith);
+    }

@@ -1,0 +1,148 @@
+use Rattle.std.proofs.Common.{◌≡◌, ◌∙◌, ◌+◌, ◌-◌, ◌≤◌, Some, None, get_or, slice_set, ap, refl, subst, sym, arith}
+use Rattle.std.specs.Vec.{with_item}
+use Rattle.slab.specs.Slab.{Updates, get, with_value}
+use Rattle.hcc_cache.specs.declared.client.Client.{Client}
+use Rattle.hcc_cache.specs.declared.holding.Alone.{Alone}
+use Rattle.hcc_cache.specs.Calls.{steps_by}
+use Rattle.hcc_cache.proofs.Again.{hold_within}
+use Rattle.hcc_cache.proofs.At.{ChangesAt, is_at, seated_at, takes_at}
+use Rattle.hcc_cache.proofs.Framing.{IsSameAlone, hold_there}
+use Rattle.hcc_cache.proofs.Less.{IsLess}
+use Rattle.hcc_cache.proofs.Released.{knows_fallen, knows_fewer, lets_go, releases_fallen, releases_fewer}
+use Rattle.hcc_cache.proofs.Slots.{updates_set}
+use Rattle.hcc_cache.proofs.Standing.{known_there}
+use Rattle.hcc_cache.proofs.cache.Cache.release_standing.Goals as goal
+
+pub returns-then-index-gt1 : goal.returns-then-index-gt1
+returns-then-index-gt1 g c =
+    let cache = c.args.self.now in
+    let old = c.args.client.now in
+    let mid = c.let_go.new.self in
+    let hold = c.args.hold in
+    let held = hold_there old.number c.args.handle (get old.handles c.args.handle.place) hold
+    c.requires.held in
+    let gone : IsLess old.handles mid.handles c.args.handle.place hold =
+    record { there = held; updates = c.let_go.ensures.gone; count = c.let_go.ensures.count } in
+    let rest = c.let_go.ensures.rest in
+    let alone_is = ap (λ (x : Client g.row.T.Denot). x.alone) rest in
+    let a = c.index_mut.result.now in
+    let there : get old.alone c.args.place ≡ Some a =
+    ap (λ s. get s c.args.place) (sym alone_is) ∙ c.index_mut.ensures.value in
+    let read : Some c.index.result.now ≡ Some a =
+    sym c.index.ensures ∙ c.index_mut.ensures.value in
+    let it : c.index.result.now ≡ a = cc in
+    let references = ap (λ (x : Alone). x.references) it in
+    let more = c.if-index-gt1.true in
+    let b : Alone = record a { references = a.references - 1 } in
+    let same : IsSameAlone a b = record { name = refl; charge = refl; value = refl } in
+    let reference : b.references + 1 ≡ a.references = omega arith in
+    let some : 1 ≤ b.references = omega arith in
+    let updates =
+    subst (λ s. Updates s (with_value mid.alone c.args.place b) c.args.place (Some b)) alone_is
+    (updates_set mid.alone c.args.place a (Some b) c.index_mut.ensures.value) in
+    let new : Client g.row.T.Denot = record mid { alone = with_value mid.alone c.args.place b } in
+    let lets = lets_go cache old new c.args.handle hold mid c.requires.known c.requires.held gone
+    rest refl in
+    let seats = ap (λ (x : Client g.row.T.Denot). x.seats.items) rest in
+    let steps = ap (λ (x : Client g.row.T.Denot). steps_by x) rest in
+    record {
+      known =
+          knows_fewer cache old new c.args.handle hold lets c.args.place a c.requires.kept there
+          c.requires.known b same reference some updates seats
+          (c.let_go.ensures.capacity, ap (λ (x : Client g.row.T.Denot). x.alone.capacity) rest);
+      released =
+          releases_fewer cache old new c.args.handle hold lets c.args.place a c.requires.kept there
+          c.requires.known b same reference some updates seats;
+      steps = omega arith;
+    }
+
+pub release_standalone-requires : goal.release_standalone-requires
+release_standalone-requires g c =
+    let cache = c.args.self.now in
+    let old = c.args.client.now in
+    let mid = c.let_go.new.self in
+    let hold = c.args.hold in
+    let held = hold_there old.number c.args.handle (get old.handles c.args.handle.place) hold
+    c.requires.held in
+    let gone : IsLess old.handles mid.handles c.args.handle.place hold =
+    record { there = held; updates = c.let_go.ensures.gone; count = c.let_go.ensures.count } in
+    let rest = c.let_go.ensures.rest in
+    let alone_is = ap (λ (x : Client g.row.T.Denot). x.alone) rest in
+    let within = hold_within cache old hold c.args.handle.place c.requires.known held in
+    let shard = c.index-2.result.now in
+    let was = c.index_mut-seat.result.now in
+    let sits = c.index_mut-seat.ensures.value
+    ∙ ap (λ (x : Client g.row.T.Denot). get_or x.seats.items hold.shard was) rest in
+    let at = is_at cache old hold.shard shard was c.requires.known within.1 c.index-2.ensures sits
+    in
+    let a = c.remove-gone.result in
+    let there : get old.alone c.args.place ≡ Some a =
+    ap (λ s. get s c.args.place) (sym alone_is) ∙ c.remove-gone.ensures.value in
+    record {
+      seat = (seated_at cache old old hold.shard shard was was at).rests;
+      stands =
+          known_there cache.seed old.used old.seats.items old.handles mid.handles old.alone
+          c.args.handle.place c.args.place hold a gone c.requires.kept there
+          c.requires.known.holds was at.seat_is;
+    }
+
+pub returns : goal.returns
+returns g c =
+    let cache = c.args.self.now in
+    let old = c.args.client.now in
+    let mid = c.let_go.new.self in
+    let hold = c.args.hold in
+    let held = hold_there old.number c.args.handle (get old.handles c.args.handle.place) hold
+    c.requires.held in
+    let gone : IsLess old.handles mid.handles c.args.handle.place hold =
+    record { there = held; updates = c.let_go.ensures.gone; count = c.let_go.ensures.count } in
+    let rest = c.let_go.ensures.rest in
+    let alone_is = ap (λ (x : Client g.row.T.Denot). x.alone) rest in
+    let within = hold_within cache old hold c.args.handle.place c.requires.known held in
+    let shard = c.index-2.result.now in
+    let was = c.index_mut-seat.result.now in
+    let sits = c.index_mut-seat.ensures.value
+    ∙ ap (λ (x : Client g.row.T.Denot). get_or x.seats.items hold.shard was) rest in
+    let at = is_at cache old hold.shard shard was c.requires.known within.1 c.index-2.ensures sits
+    in
+    let a = c.remove-gone.result in
+    let there : get old.alone c.args.place ≡ Some a =
+    ap (λ s. get s c.args.place) (sym alone_is) ∙ c.remove-gone.ensures.value in
+    let read : Some c.index.result.now ≡ Some a =
+    sym c.index.ensures ∙ c.remove-gone.ensures.value in
+    let it : c.index.result.now ≡ a = cc in
+    let references = ap (λ (x : Alone). x.references) it in
+    let few = c.if-index-gt1.false in
+    let some = (c.requires.known.holds.some c.args.place a there).0 in
+    let one : a.references ≡ 1 = omega arith in
+    let updates =
+    subst (λ s. Updates s c.remove-gone.new.self c.args.place None) alone_is
+    c.remove-gone.ensures.updates in
+    let is = c.release_standalone.new.seat in
+    let new : Client g.row.T.Denot = record mid {
+      seats = with_item mid.seats hold.shard is;
+      alone = c.remove-gone.new.self;
+    } in
+    let lets = lets_go cache old new c.args.handle hold mid c.requires.known c.requires.held gone
+    rest refl in
+    let change : ChangesAt old new hold.shard is = record {
+      seats = ap (λ (x : Client g.row.T.Denot). slice_set x.seats.items hold.shard is) rest;
+      number = ap (λ (x : Client g.row.T.Denot). x.number) rest;
+      most = ap (λ (x : Client g.row.T.Denot). x.most) rest;
+      capacity = (
+        c.let_go.ensures.capacity,
+        c.remove-gone.ensures.capacity ∙ ap (λ (x : Client g.row.T.Denot). x.alone.capacity) rest,
+      );
+    } in
+    record {
+      known =
+          knows_fallen cache old new c.args.handle hold lets c.args.place a c.requires.kept there
+          shard was is at change c.release_standalone.ensures.view one updates
+          c.release_standalone.ensures.seat;
+      released =
+          releases_fallen cache old new c.args.handle hold lets c.args.place a c.requires.kept there
+          shard was is at change c.release_standalone.ensures.view one updates;
+      steps =
+          takes_at cache old new hold.shard shard was is at change 2
+          c.release_standalone.ensures.steps;
+    }

@@ -1,0 +1,79 @@
+use Rattle.std.proofs.Common.{◌≡◌, ◌+◌, ◌-◌, Some, ap, refl, subst, sym, arith}
+use Rattle.slab.specs.Slab.{get, Updates}
+use Rattle.hcc_cache.specs.declared.client.Client.{Client}
+use Rattle.hcc_cache.specs.declared.holding.Alone.{Alone}
+use Rattle.hcc_cache.specs.declared.holding.Hold.{Hold}
+use Rattle.hcc_cache.proofs.Framing.{hold_there, IsSameAlone}
+use Rattle.hcc_cache.proofs.Gained.{IsGiven}
+use Rattle.hcc_cache.proofs.Slots.{updates_set}
+use Rattle.hcc_cache.proofs.StandingAgain.{few_references, knows_standing, rerefs_standing, takes_standing}
+use Rattle.hcc_cache.proofs.cache.Cache.standing_again.Goals as goal
+
+pub overflow_add-index_mut : goal.overflow_add-index_mut
+overflow_add-index_mut g c =
+    let cache = c.args.self.now in
+    let old = c.args.client.now in
+    let first = c.args.hold in
+    let from = c.args.handle.place in
+    let there = hold_there old.number c.args.handle (get old.handles from) first c.requires.held in
+    let few = few_references cache old first from c.requires.known there c.args.place
+    c.index_mut.result.now c.index_mut.ensures.value c.requires.free.0 in
+    omega arith
+
+pub returns : goal.returns
+returns g c =
+    let cache = c.args.self.now in
+    let old = c.args.client.now in
+    let new = c.keep.new.self in
+    let first = c.args.hold in
+    let from = c.args.handle.place in
+    let place = c.args.place in
+    let knows = c.requires.known in
+    let there = hold_there old.number c.args.handle (get old.handles from) first c.requires.held in
+    let a = c.index_mut.result.now in
+    let b : Alone = record a { references = a.references + 1 } in
+    let same : IsSameAlone a b = record { name = refl; charge = refl; value = refl } in
+    let rest = c.keep.ensures.rest in
+    let alone = ap (λ (x : Client g.row.T.Denot). x.alone) rest in
+    let updates : Updates old.alone new.alone place (Some b) =
+    subst (λ s. Updates old.alone s place (Some b)) (sym alone)
+    (updates_set old.alone place a (Some b) c.index_mut.ensures.value) in
+    let left : new.left ≡ old.left - 1 = ap (λ (x : Client g.row.T.Denot). x.left) rest in
+    let some = c.requires.free.1 in
+    let hold : Hold = record {
+      serial = old.used;
+      key = first.key;
+      shard = first.shard;
+      kept = first.kept;
+    } in
+    let given : IsGiven old new c.keep.result hold = record {
+      client = c.keep.ensures.client;
+      serial = c.keep.ensures.serial;
+      named = refl;
+      number = ap (λ (x : Client g.row.T.Denot). x.number) rest;
+      free = c.keep.ensures.was_free;
+      updates = c.keep.ensures.kept;
+      count = c.keep.ensures.count;
+      held = ap (λ (x : Client g.row.T.Denot). x.held) rest;
+      uses = (ap (λ (x : Client g.row.T.Denot). x.used) rest, omega arith);
+    } in
+    let seats = ap (λ (x : Client g.row.T.Denot). x.seats.items) rest in
+    let most = ap (λ (x : Client g.row.T.Denot). x.most) rest in
+    let alone_capacity = ap (λ (x : Client g.row.T.Denot). x.alone.capacity) rest in
+    record {
+      known =
+          knows_standing cache old first from knows there new c.args.handle c.keep.result hold
+          place a b c.requires.held c.requires.kept c.requires.kept refl refl
+          c.index_mut.ensures.value same refl updates given seats most
+          (c.keep.ensures.capacity, alone_capacity) c.requires.free.0;
+      again =
+          rerefs_standing cache old first from knows there new c.args.handle c.keep.result hold
+          place a b c.requires.held c.requires.kept c.requires.kept refl refl
+          c.index_mut.ensures.value same refl updates given seats most
+          (c.keep.ensures.capacity, alone_capacity);
+      steps =
+          takes_standing cache old first from knows there new c.args.handle c.keep.result hold
+          place a b c.requires.held c.requires.kept c.requires.kept refl refl
+          c.index_mut.ensures.value same refl updates given seats most
+          (c.keep.ensures.capacity, alone_capacity);
+    }

@@ -1,0 +1,63 @@
+use Rattle.std.proofs.Common.{◌≡◌, List, ℕ, length, refl}
+use Rattle.std.specs.Vec.{with_item}
+use Rattle.hcc_cache.specs.declared.client.Client.{Client}
+use Rattle.hcc_cache.proofs.Again.{hold_within, pin_at, pinned_at}
+use Rattle.hcc_cache.proofs.At.{ChangesAt, is_at, seated_at, takes_at}
+use Rattle.hcc_cache.proofs.Found.{IsLeft}
+use Rattle.hcc_cache.proofs.Readings.{knows_read, reads_at, told_of}
+use Rattle.hcc_cache.proofs.cache.Cache.value_len.Goals as goal
+
+pub value_len-requires : goal.value_len-requires
+value_len-requires g c =
+    let cache = c.args.self.now in
+    let old = c.args.client.now in
+    let hold = c.hold-hold.result in
+    let place = c.args.handle.place in
+    let there = c.hold-hold.ensures.there in
+    let within = hold_within cache old hold place c.requires.known there in
+    let shard = c.index.result.now in
+    let was = c.index_mut-seat.result.now in
+    let at = is_at cache old hold.shard shard was c.requires.known within.1 c.index.ensures
+    c.index_mut-seat.ensures.value in
+    let slot = c.in-Pinned.slot in
+    let counting = c.in-Pinned.counting in
+    record {
+      seat = (seated_at cache old old hold.shard shard was was at).rests;
+      slot = (pin_at cache old hold slot counting place shard was at there c.in-Pinned.is).within;
+      holds = pinned_at cache old hold slot counting place shard was at there c.in-Pinned.is;
+    }
+
+pub returns-in-Pinned : goal.returns-in-Pinned
+returns-in-Pinned g c =
+    let cache = c.args.self.now in
+    let old = c.args.client.now in
+    let hold = c.hold-hold.result in
+    let place = c.args.handle.place in
+    let there = c.hold-hold.ensures.there in
+    let within = hold_within cache old hold place c.requires.known there in
+    let shard = c.index.result.now in
+    let was = c.index_mut-seat.result.now in
+    let at = is_at cache old hold.shard shard was c.requires.known within.1 c.index.ensures
+    c.index_mut-seat.ensures.value in
+    let slot = c.in-Pinned.slot in
+    let counting = c.in-Pinned.counting in
+    let is = c.value_len.new.seat in
+    let new : Client g.row.T.Denot = record old { seats = with_item old.seats hold.shard is } in
+    let change : ChangesAt old new hold.shard is =
+    record { seats = refl; number = refl; most = refl; capacity = (refl, refl) } in
+    let left : IsLeft old new =
+    record { handles = refl; alone = refl; held = refl; uses = (refl, refl) } in
+    record {
+      known =
+          knows_read cache old new hold.shard shard was is at change left c.value_len.ensures.view
+          c.value_len.ensures.seat;
+      reads =
+          reads_at cache old new hold.shard shard was is at change left c.value_len.ensures.view;
+      exact =
+          told_of cache old c.args.handle hold slot counting shard was at c.hold-hold.ensures.held
+          there c.in-Pinned.is
+          (λ (bytes : List ℕ). c.value_len.result ≡ length bytes) c.value_len.ensures.exact;
+      steps =
+          takes_at cache old new hold.shard shard was is at change 1
+          c.value_len.ensures.steps;
+    }
