@@ -84,8 +84,8 @@ impl<T: Tag> Cache<T> {
         ensures again { IfOk result (λ more. Rerefs self.now handle more client.old client.new) }
         ensures steps { TakesAtMost 2 client.old client.new }
     {
-        client.may_hold()?;
         let hold = client.hold(handle);
+        client.may_hold()?;
         match hold.kept {
             Kept::Pinned { slot, counting } => {
                 Ok(self.pinned_again(client, handle, hold, slot, counting))

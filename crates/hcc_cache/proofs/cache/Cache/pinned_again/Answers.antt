@@ -139,7 +139,10 @@ returns g c =
       seats = ap (λ (x : Client g.row.T.Denot). x.seats.items) rest;
       number = ap (λ (x : Client g.row.T.Denot). x.number) rest;
       most = ap (λ (x : Client g.row.T.Denot). x.most) rest;
-      capacity = (c.keep.ensures.capacity, ap (λ a. a.capacity) alone);
+      capacity = (
+        c.keep.ensures.capacity,
+        ap (λ (x : Client g.row.T.Denot). x.alone.capacity) rest,
+      );
     } in
     let given : IsGiven old new c.keep.result hold = record {
       client = c.keep.ensures.client;
