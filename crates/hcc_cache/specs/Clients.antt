@@ -89,7 +89,7 @@ module _ {T : Type 0} (seed : ℕ) (seats : List (ShardSeat T)) (alone : Slab Al
   kept_as hold (Pinned slot counting) =
       option_map (λ (r : Record). held_entry seed r.entry)
       (record_in hold.serial (records_in seats hold.shard))
-  kept_as hold (Standing place) = option_map (held_alone hold.key) (get alone place)
+  kept_as hold (Standing index) = option_map (held_alone hold.key) (get alone index)
 
   abbrev pub held_as : Option Hold → Option Held
   held_as None = None
@@ -98,7 +98,7 @@ module _ {T : Type 0} (seed : ℕ) (seats : List (ShardSeat T)) (alone : Slab Al
 module _ {T : Type 0} where
   -- what the client keeps of a handle that it holds
   abbrev pub hold_of : Client T → Handle → Option Hold
-  hold_of client handle = if_of client.number handle (get client.handles handle.place)
+  hold_of client handle = if_of client.number handle (get client.handles handle.index)
 
   -- the client holds this handle
   abbrev pub Holds : Client T → Handle → Type 0

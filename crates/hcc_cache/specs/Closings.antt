@@ -56,17 +56,17 @@ module _ {T : Type 0} where
   -- What was made under this stamp stands in the made list of the client of its number.
   pub record IsMadeBy (clients : List (Client T)) (shard : ℕ) (stamp : Stamp) (made : Made)
       : Type 0 where
-    pub place : ℕ
+    pub index : ℕ
     pub client : Client T
-    pub there : slice_get clients place ≡ Some client
+    pub there : slice_get clients index ≡ Some client
     pub number : client.number ≡ stamp.client
     pub listed : slice_get (view_at shard client).made stamp.number ≡ Some made
 
   -- the least number of a client that holds a handle
   pub record IsLeastHolder (clients : List (Client T)) (number : ℕ) : Type 0 where
-    pub place : ℕ
+    pub index : ℕ
     pub holder : Client T
-    pub there : slice_get clients place ≡ Some holder
+    pub there : slice_get clients index ≡ Some holder
     pub holds : 0 < held_by holder
     pub called : holder.number ≡ number
     pub least : (k : ℕ) (client : Client T) → slice_get clients k ≡ Some client

@@ -1,5 +1,5 @@
 //! A new cache, whose clients are dealt a seat at each shard.
-ghost use Rattle.std.specs.Prelude.{◌≡◌, ◌≤◌, ◌+◌, [], ◌∷◌, ◌++◌, ℕ, Ok, Err, Some, IfOk, IfErr, IsOkUnless, OnOk, length, slice_get};
+ghost use Rattle.std.specs.Prelude.{◌≡◌, Err, IfOk, IfErr, IsOkUnless, OnOk, length};
 ghost use Rattle.hcc_shard.specs.Seated.{AreNew};
 ghost use Rattle.hcc_cache.specs.Configs.{checked, IsAllowed};
 ghost use Rattle.hcc_cache.specs.Opened.{AreGiven, AreUnseated, IsConfigured, IsOpened};
@@ -20,7 +20,7 @@ impl<T: Tag + Copy> Cache<T> {
     ///
     /// It refuses what [`Config::check`] refuses, and else only where memory is refused; nothing
     /// remains then. It is the only call of a cache that takes memory: for the words of all shards,
-    /// and for each client its seats and the places of its handles and standalone entries. It costs
+    /// and for each client its seats, and room for its handles and standalone entries. It costs
     /// as many stores as there are words, and a load for each client and shard.
     pub fn new(
         alloc: Global,

@@ -1,5 +1,7 @@
-//! What no clause says: the limits as numbers, the texts of errors, and keys from outside.
+//! What no clause says: the limits as numbers, the texts of errors, keys from outside, and that a
+//! cache is made where there is memory.
 
 mod configs;
 mod errors;
 mod keys;
+mod opening;

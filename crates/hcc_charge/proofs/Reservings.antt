@@ -1,7 +1,6 @@
 -- What a reservation leaves of a view, step by step.
-use Rattle.std.proofs.Common.{◌≡◌, ℕ, ◌+◌, ◌-◌, ◌/◌, ◌<◌, ◌≤◌, min, ◌++◌, ◌&&◌, ◌||◌, nat_lt, nat_le, cond, Bool, true, false, List, [], ◌∷◌, sym, subst, refl, ap, ◌∙◌, arith}
-use Rattle.std.specs.List.{list_any}
-use Rattle.std.proofs.lemmas.Bool.{lt-ltb, le-leb}
+use Rattle.std.proofs.Common.{◌≡◌, ℕ, ◌+◌, ◌-◌, ◌<◌, min, max, ◌++◌, nat_lt, cond, Bool, true, false, List, [], ◌∷◌, sym, subst, refl, ap, ◌∙◌, arith}
+use Rattle.std.proofs.lemmas.Bool.{lt-ltb}
 use Rattle.hcc_core.specs.declared.client.Client.{Client}
 use Rattle.hcc_core.specs.declared.client.Owned.TheVariants as owned
 use Rattle.hcc_core.specs.declared.client.Place.{Place}
@@ -12,54 +11,46 @@ use Rattle.hcc_core.specs.Ledgers.{grant_of}
 use Rattle.hcc_core.specs.Sums.{when}
 use Rattle.hcc_rule.specs.declared.view.View.{View}
 use Rattle.hcc_rule.specs.Callers.{IsBetweenCalls}
-use Rattle.hcc_rule.specs.ToldLedgers.{after_charge, after_quit, after_usage, needed_of, waived}
-use Rattle.hcc_rule.specs.Views.{Each}
-use Rattle.hcc_charge.specs.Evicted.{Sweeps, most_turns}
-use Rattle.hcc_charge.specs.Reserved.{Reserves, ask_of, at_least_one, entered, has_cause, presses, settled_as, still_needed}
+use Rattle.hcc_rule.specs.ToldLedgers.{after_charge, after_quit, after_usage, needed_of}
+use Rattle.hcc_charge.specs.declared.swept.Swept.{Swept}
+use Rattle.hcc_charge.specs.Evicted.{IsSweptFor, Sweeps}
+use Rattle.hcc_charge.specs.Reserved.{Reserves, ask_of, asked, entered, has_cause, loaded, needed_by, presses, settled_as, short_of, still_needed, surplus}
 use Rattle.hcc_charge.specs.Settled.{left_place, paid, placed_anew, settled}
 
+-- nothing is added
 pub none_more : {A : Type 0} (xs : List A) → xs ≡ xs ++ []
 none_more [] = refl
 none_more (x ∷ xs) = ap (λ z. x ∷ z) (none_more xs)
 
+-- at least 1 is above 0
+at_least : (n : ℕ) → nat_lt 0 (max n 1) ≡ true
+at_least n = lt-ltb 0 (max n 1) (omega arith)
+
 -- the place that is asked for
-abbrev pub place_of : Bool → Place
+abbrev place_of : Bool → Place
 place_of full = cond full places.Open places.Granted
 
--- the charges that weren't granted at once
-abbrev pub short_of : (needed charge : ℕ) → List ℕ
-short_of needed charge = cond (nat_lt 0 needed) (charge ∷ []) []
-
-pub short_own : (needed charge : ℕ) → Each (λ t. t ≡ charge) (short_of needed charge)
-short_own needed charge = by (nat_lt 0 needed)
+-- Without strict capacity something is asked for just where there is a cause,
+pub lax_cause : (capacity charge used : ℕ) (full : Bool) → 0 < charge
+    → nat_lt 0 (asked false capacity charge full used) ≡ has_cause false capacity charge full used
+lax_cause capacity charge used true some = at_least (ask_of capacity used charge)
+lax_cause capacity charge used false some = by (presses capacity charge used)
   where
-    by : (b : Bool) → Each (λ t. t ≡ charge) (cond b (charge ∷ []) [])
-    by true = (refl, tt)
-    by false = tt
+    more : ℕ
+    more = surplus capacity used charge
 
--- Why something was asked for.
-pub lax_cause : (capacity charge used : ℕ) (full : Bool)
-    → 0 < at_least_one full (ask_of capacity used charge)
-    → has_cause capacity charge (when full 1) [] (used ∷ []) ≡ true
-lax_cause capacity charge used true some = refl
-lax_cause capacity charge used false some = by (presses capacity charge used) some
-  where
-    by : (b : Bool)
-        → 0 < cond b (charge + cond (nat_lt capacity used) (min (capacity / 1024) charge + 1) 0) 0
-        → (b || false) ≡ true
-    by true some = refl
-    by false some = absurd (omega arith)
+    by : (b : Bool) → nat_lt 0 (cond b (charge + more) 0) ≡ b
+    by true = lt-ltb 0 (charge + more) (omega arith)
+    by false = refl
 
-pub strict_cause : (capacity charge needed : ℕ) (full : Bool) → 0 < at_least_one full needed
-    → has_cause capacity charge (when full 1) (short_of needed charge) [] ≡ true
-strict_cause capacity charge needed true some = refl
-strict_cause capacity charge needed false some =
-    ap (λ b. list_any (λ t. nat_le charge t && nat_le t charge) (cond b (charge ∷ []) []) || false)
-    (lt-ltb 0 needed some)
-    ∙ ap (λ b. ((b && b) || false) || false) (le-leb charge charge (omega arith))
+-- and so it is under it.
+pub strict_cause : (capacity charge used : ℕ) (full : Bool)
+    → nat_lt 0 (asked true capacity charge full used) ≡ has_cause true capacity charge full used
+strict_cause capacity charge used true = at_least (still_needed capacity used charge)
+strict_cause capacity charge used false = refl
 
 -- A place is granted where none has to be freed, or one was.
-pub left_granted : (slots : ℕ) (full : Bool) → (full ≡ true → 0 < slots)
+left_granted : (slots : ℕ) (full : Bool) → (full ≡ true → 0 < slots)
     → left_place slots (place_of full) ≡ places.Granted
 left_granted slots true freed =
     ap (λ b. cond b places.Granted places.Open) (lt-ltb 0 slots (freed refl))
@@ -69,7 +60,7 @@ left_granted slots false freed = by (nat_lt 0 slots)
     by true = refl
     by false = refl
 
-pub full_some : (full : Bool) → full ≡ true → 0 < when full 1
+full_some : (full : Bool) → full ≡ true → 0 < when full 1
 full_some full is = rw is (let one : 0 < 1 = omega arith in one)
 
 -- What the code needs under strict capacity is what the step needed.
@@ -81,32 +72,35 @@ needed_same setup capacity used charge strict same =
 
 module _ {T : Type 0} where
   -- A client asked: it has a place and amounts in hand, and more was counted.
-  pub record Asked (v a : View T) : Type 0 where
-    pub place : Place
+  pub record Asked (strict : Bool) (capacity charge : ℕ) (v a : View T) : Type 0 where
+    pub full : Bool
+    pub used : ℕ
     pub got : ℕ
-    pub need : ℕ
-    pub opened : ℕ
-    pub short : List ℕ
-    pub loads : List ℕ
     pub same : a ≡ record v {
-      work = record v.work { place = place; granted = got; needed = need };
-      open_places = v.open_places + opened;
-      seen = v.seen ++ loads;
-      tight = v.tight ++ short;
+      work = record v.work {
+        place = place_of full;
+        granted = got;
+        needed = needed_by strict capacity used charge;
+      };
+      open_places = v.open_places + when full 1;
+      seen = v.seen ++ loaded strict used;
+      tight = v.tight ++ short_of (needed_by strict capacity used charge) charge;
     }
 
   -- Without strict capacity it loaded the usage,
-  abbrev pub asks_lax : (full : Bool) (used : ℕ) (v u a : View T) → u ≡ entered full v
-      → a ≡ after_usage used u → Asked v a
-  asks_lax full used v u a enters loads = record {
-    place = place_of full;
-    got = v.work.granted;
-    need = v.work.needed;
-    opened = when full 1;
-    short = [];
-    loads = used ∷ [];
+  abbrev pub asks_lax : (full : Bool) (capacity used charge : ℕ) (v u a : View T)
+      → IsBetweenCalls v.work → u ≡ entered full v → a ≡ after_usage used u
+      → Asked false capacity charge v a
+  asks_lax full capacity used charge v u a idle enters loads = record {
+    full = full;
+    used = used;
+    got = 0;
     same = loads ∙ (ap (after_usage used) enters ∙ (λ k. record v {
-      work = record v.work { place = place_of full };
+      work = record v.work {
+        place = place_of full;
+        granted = ap (λ (c : Client). c.granted) idle k;
+        needed = ap (λ (c : Client). c.needed) idle k;
+      };
       open_places = v.open_places + when full 1;
       seen = v.seen ++ used ∷ [];
       tight = none_more v.tight k;
@@ -114,85 +108,115 @@ module _ {T : Type 0} where
   }
 
   -- and under it it added the charge.
-  abbrev pub asks_strict : (setup : Setup) (full : Bool) (used charge : ℕ) (v u a : View T)
-      → u ≡ entered full v → a ≡ after_charge setup charge used u → Asked v a
-  asks_strict setup full used charge v u a enters charges = record {
-    place = place_of full;
+  abbrev pub asks_strict : (setup : Setup) (full : Bool) (capacity used charge : ℕ)
+      (v u a : View T) → setup.strict ≡ true → setup.capacity ≡ capacity → u ≡ entered full v
+      → a ≡ after_charge setup charge used u → Asked true capacity charge v a
+  asks_strict setup full capacity used charge v u a strict within enters charges = record {
+    full = full;
+    used = used;
     got = grant_of setup used charge;
-    need = needed_of setup used charge;
-    opened = when full 1;
-    short = short_of (needed_of setup used charge) charge;
-    loads = [];
     same = charges ∙ (ap (after_charge setup charge used) enters ∙ (λ k. record v {
       work = record v.work {
         place = place_of full;
         granted = grant_of setup used charge;
-        needed = needed_of setup used charge;
+        needed = needs k;
       };
       open_places = v.open_places + when full 1;
       seen = none_more v.seen k;
-      tight = joins (nat_lt 0 (needed_of setup used charge)) k;
+      tight =
+          (joins (nat_lt 0 (needed_of setup used charge))
+          ∙ ap (λ n. v.tight ++ short_of n charge) needs) k;
     }));
   }
     where
+      needs : needed_of setup used charge ≡ still_needed capacity used charge
+      needs = needed_same setup capacity used charge strict within
+
       joins : (b : Bool)
           → cond b (v.tight ++ charge ∷ []) v.tight ≡ v.tight ++ cond b (charge ∷ []) []
       joins true = refl
       joins false = none_more v.tight
 
   -- It asked, and then turns of the hand took entries.
-  module _ (turns taken freed : ℕ) (v a b : View T) (idle : IsBetweenCalls v.work)
-      (asked : Asked v a) (s : Sweeps turns taken freed a b) where
-    got_is : b.work.granted ≡ asked.got
+  module _ {strict : Bool} {capacity charge : ℕ} (swept : Swept) {v a b : View T}
+      (idle : IsBetweenCalls v.work) (ask : Asked strict capacity charge v a)
+      (s : Sweeps swept.turns swept.slots swept.charge a b) where
+    abbrev need : ℕ
+    need = needed_by strict capacity ask.used charge
+
+    got_is : b.work.granted ≡ ask.got
     got_is =
-        ap (λ (z : View T). z.work.granted) s.same ∙ ap (λ (z : View T). z.work.granted) asked.same
+        ap (λ (z : View T). z.work.granted) s.same ∙ ap (λ (z : View T). z.work.granted) ask.same
 
-    pub need_is : b.work.needed ≡ asked.need
+    need_is : b.work.needed ≡ need
     need_is =
-        ap (λ (z : View T). z.work.needed) s.same ∙ ap (λ (z : View T). z.work.needed) asked.same
+        ap (λ (z : View T). z.work.needed) s.same ∙ ap (λ (z : View T). z.work.needed) ask.same
 
-    pub place_is : b.work.place ≡ asked.place
+    place_is : b.work.place ≡ place_of ask.full
     place_is =
-        ap (λ (z : View T). z.work.place) s.same ∙ ap (λ (z : View T). z.work.place) asked.same
+        ap (λ (z : View T). z.work.place) s.same ∙ ap (λ (z : View T). z.work.place) ask.same
 
-    pub freed_is : b.work.freed ≡ freed
+    freed_is : b.work.freed ≡ swept.charge
     freed_is =
         let was : a.work.freed ≡ 0 =
-        ap (λ (z : View T). z.work.freed) asked.same ∙ ap (λ (c : Client). c.freed) idle in
-        let now : b.work.freed ≡ a.work.freed + freed = ap (λ (z : View T). z.work.freed) s.same in
+        ap (λ (z : View T). z.work.freed) ask.same ∙ ap (λ (c : Client). c.freed) idle in
+        let now : b.work.freed ≡ a.work.freed + swept.charge =
+        ap (λ (z : View T). z.work.freed) s.same in
         omega arith
 
-    pub freed_slots_is : b.work.freed_slots ≡ taken
+    freed_slots_is : b.work.freed_slots ≡ swept.slots
     freed_slots_is =
         let was : a.work.freed_slots ≡ 0 =
-        ap (λ (z : View T). z.work.freed_slots) asked.same
+        ap (λ (z : View T). z.work.freed_slots) ask.same
         ∙ ap (λ (c : Client). c.freed_slots) idle in
-        let now : b.work.freed_slots ≡ a.work.freed_slots + taken =
+        let now : b.work.freed_slots ≡ a.work.freed_slots + swept.slots =
         ap (λ (z : View T). z.work.freed_slots) s.same in
         omega arith
 
-    -- It was settled then.
-    module _ (slots capacity charge : ℕ) (place : Place) (granted : ℕ) (w : View T)
-        (left : w ≡ settled_as place granted b) where
-      pub opened_is : w.open_places ≡ v.open_places + asked.opened
-      opened_is =
-          ap (λ (z : View T). z.open_places) left ∙ (ap (λ (z : View T). z.open_places) s.same
-          ∙ ap (λ (z : View T). z.open_places) asked.same)
+    -- a place is granted where none has to be freed, or one was
+    granted_is : (ask.full ≡ true → 0 < swept.slots)
+        → left_place b.work.freed_slots b.work.place ≡ places.Granted
+    granted_is placed =
+        (λ k. left_place (freed_slots_is k) (place_is k))
+        ∙ left_granted swept.slots ask.full placed
 
-      pub tight_is : w.tight ≡ v.tight ++ asked.short
+    -- It was settled then.
+    module _ (slots : ℕ) (place : Place) (granted : ℕ) (w : View T)
+        (left : w ≡ settled_as place granted b) where
+      -- more places are open where the shard was full
+      pub opened_more : ask.full ≡ true → v.open_places < w.open_places
+      opened_more is =
+          let now : w.open_places ≡ v.open_places + when ask.full 1 =
+          ap (λ (z : View T). z.open_places) left ∙ (ap (λ (z : View T). z.open_places) s.same
+          ∙ ap (λ (z : View T). z.open_places) ask.same) in
+          let some = full_some ask.full is in
+          omega arith
+
+      -- no taking was made where no slot was freed
+      pub untaken : swept.slots ≡ 0 → w.takings ≡ v.takings
+      untaken none =
+          let now : w.takings ≡ v.takings + swept.slots =
+          ap (λ (z : View T). z.takings) left ∙ (ap (λ (z : View T). z.takings) s.same
+          ∙ ap (λ (z : View T). z.takings + swept.slots) ask.same) in
+          omega arith
+
+      pub tight_is : w.tight ≡ v.tight ++ short_of need charge
       tight_is =
           ap (λ (z : View T). z.tight) left ∙ (ap (λ (z : View T). z.tight) s.same
-          ∙ ap (λ (z : View T). z.tight) asked.same)
+          ∙ ap (λ (z : View T). z.tight) ask.same)
 
-      pub reserves : turns ≤ most_turns slots → Each (λ t. t ≡ charge) asked.short
-          → (0 < taken → has_cause capacity charge asked.opened asked.short asked.loads ≡ true)
-          → Reserves slots capacity charge place granted v w
-      reserves few own cause = record {
-        opened = asked.opened;
-        short = asked.short;
-        loads = asked.loads;
-        taken = taken;
-        turns = turns;
+      abbrev pub reserves :
+          nat_lt 0 swept.turns ≡ has_cause strict capacity charge ask.full ask.used
+          → IsSweptFor slots (asked strict capacity charge ask.full ask.used) swept
+          → Reserves slots capacity strict charge place granted v w
+      reserves cause evicts = record {
+        shortage = record {
+          full = ask.full;
+          used = ask.used;
+          swept = swept;
+          cause = cause;
+          evicts = evicts;
+        };
         same =
             left ∙ (ap (settled_as place granted) s.same ∙ (ap (λ (z : View T). record z {
               work = record z.work {
@@ -207,9 +231,9 @@ module _ {T : Type 0} where
                 dead = b.work.dead;
               };
               written = b.written;
-              takings = z.takings + taken;
-              turns = z.turns + turns;
-            }) asked.same ∙ (λ k. record v {
+              takings = z.takings + swept.slots;
+              turns = z.turns + swept.turns;
+            }) ask.same ∙ (λ k. record v {
               work = record v.work {
                 looked = sym (ap (λ (z : View T). z.work.looked) left) k;
                 owned = owned.Nothing;
@@ -222,24 +246,21 @@ module _ {T : Type 0} where
                 dead = sym (ap (λ (z : View T). z.work.dead) left) k;
               };
               written = sym (ap (λ (z : View T). z.written) left) k;
-              takings = v.takings + taken;
-              open_places = v.open_places + asked.opened;
-              turns = v.turns + turns;
-              seen = v.seen ++ asked.loads;
-              tight = v.tight ++ asked.short;
+              takings = v.takings + swept.slots;
+              open_places = v.open_places + when ask.full 1;
+              turns = v.turns + swept.turns;
+              seen = v.seen ++ loaded strict ask.used;
+              tight = v.tight ++ short_of need charge;
             })));
         dead = λ stamp h.
             subst (λ d. is_in stamp d ≡ true) (sym (ap (λ (z : View T). z.work.dead) left))
             (s.dead stamp
             (subst (λ d. is_in stamp d ≡ true)
-            (sym (ap (λ (z : View T). z.work.dead) asked.same)) h));
-        few = few;
-        own = own;
-        cause = cause;
+            (sym (ap (λ (z : View T). z.work.dead) ask.same)) h));
       }
 
     -- Nothing was freed, and the place was given back.
-    pub quits_as : freed ≡ 0 → asked.got ≡ 0 → asked.need ≡ 0 → (w : View T) → w ≡ after_quit b
+    pub quits_as : swept.charge ≡ 0 → ask.got ≡ 0 → need ≡ 0 → (w : View T) → w ≡ after_quit b
         → w ≡ settled_as places.Absent 0 b
     quits_as none nothing no_need w same =
         same ∙ (λ k. record b {
@@ -253,16 +274,16 @@ module _ {T : Type 0} where
         })
 
     -- Without strict capacity all of the charge is granted, once a place is.
-    pub charges_as : (setup : Setup) (charge found : ℕ) (c d w : View T) → setup.strict ≡ false
-        → left_place taken asked.place ≡ places.Granted → c ≡ placed_anew b
+    pub charges_as : (setup : Setup) (found : ℕ) (c d w : View T) → setup.strict ≡ false
+        → (ask.full ≡ true → 0 < swept.slots) → c ≡ placed_anew b
         → d ≡ after_charge setup charge found c → w ≡ paid d
         → w ≡ settled_as places.Granted charge b
-    charges_as setup charge found c d w lax granted places_anew charges pays =
+    charges_as setup found c d w lax placed places_anew charges pays =
         pays ∙ (ap paid charges
         ∙ (ap (λ (z : View T). paid (after_charge setup charge found z)) places_anew
         ∙ (λ k. record b {
           work = record b.work {
-            place = (place_left ∙ granted) k;
+            place = granted_is placed k;
             granted = all k;
             needed = 0;
             freed = 0;
@@ -281,17 +302,14 @@ module _ {T : Type 0} where
         all : grant_of setup found charge + needed_of setup found charge ≡ charge
         all = let g = grants in let n = none_needed in omega arith
 
-        place_left : left_place b.work.freed_slots b.work.place ≡ left_place taken asked.place
-        place_left = λ k. left_place (freed_slots_is k) (place_is k)
-
     -- Under it what was needed is granted once it was freed.
-    pub settles_as : (charge : ℕ) (w : View T) → asked.got + asked.need ≡ charge
-        → left_place taken asked.place ≡ places.Granted → w ≡ settled b
+    pub settles_as : (w : View T) → ask.got + need ≡ charge
+        → (ask.full ≡ true → 0 < swept.slots) → w ≡ settled b
         → w ≡ settled_as places.Granted charge b
-    settles_as charge w whole granted same =
+    settles_as w whole placed same =
         same ∙ (λ k. record b {
           work = record b.work {
-            place = (place_left ∙ granted) k;
+            place = granted_is placed k;
             granted = all k;
             needed = 0;
             freed = 0;
@@ -299,12 +317,5 @@ module _ {T : Type 0} where
           };
         })
       where
-        place_left : left_place b.work.freed_slots b.work.place ≡ left_place taken asked.place
-        place_left = λ k. left_place (freed_slots_is k) (place_is k)
-
         all : b.work.granted + b.work.needed ≡ charge
         all = let g = got_is in let n = need_is in omega arith
-
-    -- what it may take back
-    pub waived_is : waived b.work ≡ asked.got + asked.need + freed
-    waived_is = let g = got_is in let n = need_is in let f = freed_is in omega arith

@@ -31,6 +31,18 @@ one_bit : (b : Bool) → from_bool b ≤ 1
 one_bit true = omega arith
 one_bit false = omega arith
 
+-- what freed nothing
+pub modest_idle : (visits turns pinned lost : ℕ) → pinned ≤ visits → lost ≤ visits
+    → IsModest visits
+    (record { turns = turns; slots = 0; charge = 0; hits = 0; pinned = pinned; lost = lost })
+modest_idle visits turns pinned lost few less = record {
+  slots = omega arith;
+  charge = omega arith;
+  hits = omega arith;
+  pinned = few;
+  lost = less;
+}
+
 module _ {T : Type 0} where
   -- A look, or an exchange that lost, sweeps nothing.
   pub sweeps_seen : (v w : View T) → IsAtRest v
@@ -126,34 +138,14 @@ module _ {T : Type 0} where
   pub visited_modest : (fits : T → Key → List ℕ → Type 0) (slots room address slot : ℕ)
       (done : ClockVisit) (a b : SeatOf T) (tag : T) → (view a).tag ≡ Some tag
       → Visited fits slots room address slot done a b → IsModest 1 (swept_of done)
-  visited_modest fits slots room address slot visits.Passed a b tag tagged h = record {
-    slots = omega arith;
-    charge = omega arith;
-    hits = omega arith;
-    pinned = omega arith;
-    lost = omega arith;
-  }
-  visited_modest fits slots room address slot visits.Pinned a b tag tagged h = record {
-    slots = omega arith;
-    charge = omega arith;
-    hits = omega arith;
-    pinned = omega arith;
-    lost = omega arith;
-  }
-  visited_modest fits slots room address slot visits.Counted a b tag tagged h = record {
-    slots = omega arith;
-    charge = omega arith;
-    hits = omega arith;
-    pinned = omega arith;
-    lost = omega arith;
-  }
-  visited_modest fits slots room address slot visits.Lost a b tag tagged h = record {
-    slots = omega arith;
-    charge = omega arith;
-    hits = omega arith;
-    pinned = omega arith;
-    lost = omega arith;
-  }
+  visited_modest fits slots room address slot visits.Passed a b tag tagged h =
+      modest_idle 1 0 0 0 (omega arith) (omega arith)
+  visited_modest fits slots room address slot visits.Pinned a b tag tagged h =
+      modest_idle 1 0 1 0 (omega arith) (omega arith)
+  visited_modest fits slots room address slot visits.Counted a b tag tagged h =
+      modest_idle 1 0 0 0 (omega arith) (omega arith)
+  visited_modest fits slots room address slot visits.Lost a b tag tagged h =
+      modest_idle 1 0 0 1 (omega arith) (omega arith)
   visited_modest fits slots room address slot (visits.Freed charge hit) a b tag tagged h =
       let small = charge_small fits room h.0 charge None (view a) (view b) tag tagged h.3 in
       let once = one_bit hit in

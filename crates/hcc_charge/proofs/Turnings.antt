@@ -13,7 +13,7 @@ use Rattle.hcc_table.proofs.Finds.{seat_then}
 use Rattle.hcc_charge.specs.declared.swept.Swept.{Swept}
 use Rattle.hcc_charge.specs.Evicted.{Evicts, GoesOn, Sweeps, Turned, Turns, has_ended, is_enough, most_turns, turning}
 use Rattle.hcc_charge.specs.Swept.{IsModest, both, nothing_swept, with_turns}
-use Rattle.hcc_charge.proofs.Sweepings.{modest_both, sweeps_none, sweeps_then}
+use Rattle.hcc_charge.proofs.Sweepings.{modest_both, modest_idle, sweeps_none, sweeps_then}
 use Rattle.hcc_charge.proofs.Visitings.{lost_none, lost_then}
 
 -- a turn more
@@ -73,13 +73,7 @@ module _ {T A : Type 0} (fits : T → Key → List ℕ → Type 0) (table : Rule
   going_begins seat effort rest = record {
     same = record { table = refl; number = refl; slots = refl };
     swept = sweeps_none (view seat) rest;
-    modest = record {
-      slots = omega arith;
-      charge = omega arith;
-      hits = omega arith;
-      pinned = omega arith;
-      lost = omega arith;
-    };
+    modest = modest_idle 0 0 0 0 (omega arith) (omega arith);
     effort = lost_none effort;
     charge = omega arith;
     few = omega arith;

@@ -4,7 +4,6 @@ use Rattle.hcc_rule.specs.declared.key.Key.{Key}
 use Rattle.hcc_rule.specs.declared.table.RuleTable.{RuleTable}
 use Rattle.hcc_rule.specs.Callers.{slots_of}
 use Rattle.hcc_rule.specs.Seats.{SeatOf, IsSameSeat, made, view}
-use Rattle.hcc_rule.specs.ToldLedgers.{after_turn}
 use Rattle.hcc_table.specs.declared.efforts.Effort.{Effort}
 use Rattle.hcc_table.specs.declared.visiting.ClockVisit.{ClockVisit}
 use Rattle.hcc_table.specs.Efforts.{Lost}
@@ -15,7 +14,7 @@ use Rattle.hcc_table.proofs.Rises.{rose_then}
 use Rattle.hcc_charge.specs.declared.swept.Swept.{Swept}
 use Rattle.hcc_charge.specs.Evicted.{Moved, Sweeps, Turned, VisitedAt, VisitedBy, Visits}
 use Rattle.hcc_charge.specs.Swept.{IsModest, both, one_turn, swept_of, with_visits}
-use Rattle.hcc_charge.proofs.Sweepings.{modest_both, sweeps_then, sweeps_turned}
+use Rattle.hcc_charge.proofs.Sweepings.{modest_both, modest_idle, sweeps_then, sweeps_turned}
 
 -- losses, one after the other
 pub lost_then : (a b : ℕ) (old between new : Effort) → Lost a a old between
@@ -86,13 +85,7 @@ module _ {T A : Type 0} (fits : T → Key → List ℕ → Type 0) (table : Rule
   turning_begins hand old now effort same rest moved = record {
     same = same;
     swept = sweeps_turned (view old) (view now) rest moved.view;
-    modest = record {
-      slots = omega arith;
-      charge = omega arith;
-      hits = omega arith;
-      pinned = omega arith;
-      lost = omega arith;
-    };
+    modest = modest_idle 0 1 0 0 (omega arith) (omega arith);
     one = refl;
     effort = lost_none effort;
     turned = now;

@@ -1,5 +1,5 @@
 -- What turns of the hand leave of a view, and when an eviction ends.
-use Rattle.std.specs.Prelude.{◌≡◌, ℕ, ◌+◌, ◌*◌, ◌/◌, ◌%◌, ◌==◌, ◌||◌, Bool, true, false, nat_le, List, [], ◌∷◌, ◌++◌, length}
+use Rattle.std.specs.Prelude.{◌≡◌, ℕ, ◌+◌, ◌*◌, ◌/◌, ◌%◌, ◌==◌, ◌<◌, ◌≤◌, ◌||◌, Bool, true, false, nat_le, nat_lt, List, [], ◌∷◌, ◌++◌, length}
 use Rattle.hcc_core.specs.declared.client.Owned.TheVariants as owned
 use Rattle.hcc_core.specs.declared.limits.TheConstants.{SLOTS_PER_TURN}
 use Rattle.hcc_rule.specs.declared.key.Key.{Key}
@@ -15,7 +15,7 @@ use Rattle.hcc_table.specs.Steps.{freeing}
 use Rattle.hcc_table.specs.Visited.{Visited}
 use Rattle.hcc_charge.specs.declared.evicting.TheConstants.{PINNED_PER_SLOT}
 use Rattle.hcc_charge.specs.declared.swept.Swept.{Swept}
-use Rattle.hcc_charge.specs.Swept.{both, nothing_swept, one_turn, swept_of, with_turns, with_visits}
+use Rattle.hcc_charge.specs.Swept.{IsModest, both, nothing_swept, one_turn, swept_of, with_turns, with_visits}
 
 -- the most turns that one eviction makes
 abbrev pub most_turns : ℕ → ℕ
@@ -42,6 +42,14 @@ is_enough ask all =
 -- or all turns were made
 abbrev pub has_ended : (slots ask : ℕ) → Swept → Bool
 has_ended slots ask all = is_enough ask all || all.turns == most_turns slots
+
+-- An eviction that asked for this much did this: it made turns until it ended. Where nothing is
+-- asked for none is made.
+pub record IsSweptFor (slots ask : ℕ) (all : Swept) : Type 0 where
+  pub few : all.turns ≤ most_turns slots
+  pub modest : IsModest (4 * all.turns) all
+  pub made : nat_lt 0 all.turns ≡ nat_lt 0 ask
+  pub ends : 0 < ask → has_ended slots ask all ≡ true
 
 -- after none of these turns it was enough
 abbrev pub GoesOn : (ask : ℕ) → Swept → List Swept → Type 0

@@ -1,12 +1,10 @@
--- What a reservation leaves of a view, and why it evicted entries.
+-- What a reservation asks for, why it evicts entries, and what it leaves of a view.
 use Rattle.std.specs.Prelude.{◌≡◌, ℕ, ◌+◌, ◌-◌, ◌*◌, ◌^◌, ◌/◌, min, max, ◌<◌, ◌≤◌, ◌&&◌, ◌||◌, Bool, true, false, nat_le, nat_lt, List, [], ◌∷◌, ◌++◌, Result, Ok, Err, if◌then◌else◌}
-use Rattle.std.specs.List.{list_any}
 use Rattle.hcc_core.specs.declared.client.Owned.TheVariants as owned
 use Rattle.hcc_core.specs.declared.client.Place.{Place}
 use Rattle.hcc_core.specs.declared.client.Place.TheVariants as places
 use Rattle.hcc_core.specs.Sums.{when}
 use Rattle.hcc_rule.specs.declared.view.View.{View}
-use Rattle.hcc_rule.specs.Views.{Each}
 use Rattle.hcc_table.specs.Efforts.{Rose}
 use Rattle.hcc_table.specs.Searched.{Grows}
 use Rattle.hcc_charge.specs.declared.reserving.Reservation.{Reservation}
@@ -14,7 +12,8 @@ use Rattle.hcc_charge.specs.declared.reserving.Reservation.TheVariants.{Reserved
 use Rattle.hcc_charge.specs.declared.reserving.Refused.{Refused}
 use Rattle.hcc_charge.specs.declared.reserving.Refused.TheVariants.{TooLarge, CapacityFull, OccupancyFull}
 use Rattle.hcc_charge.specs.declared.tally.Tally.{Tally}
-use Rattle.hcc_charge.specs.Evicted.{most_turns}
+use Rattle.hcc_charge.specs.declared.swept.Swept.{Swept}
+use Rattle.hcc_charge.specs.Evicted.{IsSweptFor}
 
 -- How much is asked for.
 
@@ -39,12 +38,42 @@ still_needed capacity used charge = charge - min charge (capacity - min used cap
 abbrev pub at_least_one : Bool → ℕ → ℕ
 at_least_one full ask = if full then max ask 1 else ask
 
--- Why entries are evicted: the shard was full, not all of the charge was granted at once, or it
--- didn't fit beside a usage that was loaded.
-abbrev pub has_cause : (capacity charge opened : ℕ) → (short loads : List ℕ) → Bool
-has_cause capacity charge opened short loads =
-    nat_lt 0 opened || list_any (λ t. nat_le charge t && nat_le t charge) short
-    || list_any (presses capacity charge) loads
+-- What a reservation finds and asks for, by whether the capacity is strict, whether the shard is
+-- full, and the usage before it.
+
+-- what of the charge isn't granted at once
+abbrev pub needed_by : (strict : Bool) → (capacity used charge : ℕ) → ℕ
+needed_by true capacity used charge = still_needed capacity used charge
+needed_by false capacity used charge = 0
+
+-- the charges that so join the tight list
+abbrev pub short_of : (needed charge : ℕ) → List ℕ
+short_of needed charge = if nat_lt 0 needed then charge ∷ [] else []
+
+-- the usages that are loaded
+abbrev pub loaded : (strict : Bool) → (used : ℕ) → List ℕ
+loaded true used = []
+loaded false used = used ∷ []
+
+-- what it asks eviction for
+abbrev pub asked : (strict : Bool) → (capacity charge : ℕ) → (full : Bool) → (used : ℕ) → ℕ
+asked true capacity charge full used = at_least_one full (still_needed capacity used charge)
+asked false capacity charge full used = at_least_one full (ask_of capacity used charge)
+
+-- Why it evicts entries: the shard was full, not all of the charge was granted at once, or it
+-- didn't fit beside the usage that was loaded.
+abbrev pub has_cause : (strict : Bool) → (capacity charge : ℕ) → (full : Bool) → (used : ℕ) → Bool
+has_cause true capacity charge full used =
+    full || nat_lt 0 (still_needed capacity used charge)
+has_cause false capacity charge full used = full || presses capacity charge used
+
+-- What a reservation found, and what its eviction did. It evicts just where it has a cause.
+pub record Shortage (slots capacity : ℕ) (strict : Bool) (charge : ℕ) : Type 0 where
+  pub full : Bool
+  pub used : ℕ
+  pub swept : Swept
+  pub cause : nat_lt 0 swept.turns ≡ has_cause strict capacity charge full used
+  pub evicts : IsSweptFor slots (asked strict capacity charge full used) swept
 
 module _ {T : Type 0} where
   -- a place was asked for
@@ -67,16 +96,11 @@ module _ {T : Type 0} where
   }
 
   -- A reservation was tried, and this place and this much charge are granted. Nothing is needed,
-  -- and what was freed is settled. It counts whether the shard was full (`opened`), which charges
-  -- weren't granted at once (`short`: none but this one), and which usages it loaded; it took
-  -- entries only for one of these, none of which was Shown with uses left. All else stays.
-  pub record Reserves (slots capacity charge : ℕ) (place : Place) (granted : ℕ)
-      (v w : View T) : Type 0 where
-    pub opened : ℕ
-    pub short : List ℕ
-    pub loads : List ℕ
-    pub taken : ℕ
-    pub turns : ℕ
+  -- and what was freed is settled. It took as many entries as its eviction freed, none of which was
+  -- Shown with uses left. All else stays.
+  pub record Reserves (slots capacity : ℕ) (strict : Bool) (charge : ℕ) (place : Place)
+      (granted : ℕ) (v w : View T) : Type 0 where
+    pub shortage : Shortage slots capacity strict charge
     pub same : w ≡ record v {
       work = record v.work {
         looked = w.work.looked;
@@ -90,33 +114,33 @@ module _ {T : Type 0} where
         dead = w.work.dead;
       };
       written = w.written;
-      takings = v.takings + taken;
-      open_places = v.open_places + opened;
-      turns = v.turns + turns;
-      seen = v.seen ++ loads;
-      tight = v.tight ++ short;
+      takings = v.takings + shortage.swept.slots;
+      open_places = v.open_places + when shortage.full 1;
+      turns = v.turns + shortage.swept.turns;
+      seen = v.seen ++ loaded strict shortage.used;
+      tight = v.tight ++ short_of (needed_by strict capacity shortage.used charge) charge;
     }
     pub dead : Grows v.work.dead w.work.dead
-    pub own : Each (λ t. t ≡ charge) short
-    pub few : turns ≤ most_turns slots
-    pub cause : 0 < taken → has_cause capacity charge opened short loads ≡ true
 
   -- The view after a reservation, by its answer.
   abbrev pub ReservedBy : (slots capacity : ℕ) → (strict : Bool) → (charge : ℕ)
       → Result Reservation Refused → View T → View T → Type 0
   ReservedBy slots capacity strict charge (Ok Reserved) v w =
-      Reserves slots capacity charge places.Granted charge v w
+      (r : Reserves slots capacity strict charge places.Granted charge v w)
+      × (r.shortage.full ≡ true → 0 < r.shortage.swept.slots)
+      × (needed_by strict capacity r.shortage.used charge ≤ r.shortage.swept.charge)
   ReservedBy slots capacity strict charge (Ok NoPlace) v w =
-      Reserves slots capacity charge places.Absent 0 v w × (strict ≡ false)
-      × (v.open_places < w.open_places)
+      Reserves slots capacity strict charge places.Absent 0 v w × (strict ≡ false)
+      × (v.open_places < w.open_places) × (w.takings ≡ v.takings)
   ReservedBy slots capacity strict charge (Err TooLarge) v w =
       (strict ≡ true) × (capacity < charge) × (w ≡ v)
   ReservedBy slots capacity strict charge (Err CapacityFull) v w =
-      Reserves slots capacity charge places.Absent 0 v w × (strict ≡ true)
+      (r : Reserves slots capacity strict charge places.Absent 0 v w) × (strict ≡ true)
       × (w.tight ≡ v.tight ++ charge ∷ [])
+      × (r.shortage.swept.charge < still_needed capacity r.shortage.used charge)
   ReservedBy slots capacity strict charge (Err OccupancyFull) v w =
-      Reserves slots capacity charge places.Absent 0 v w × (strict ≡ true)
-      × (v.open_places < w.open_places)
+      Reserves slots capacity strict charge places.Absent 0 v w × (strict ≡ true)
+      × (v.open_places < w.open_places) × (w.takings ≡ v.takings) × (w.tight ≡ v.tight)
 
   -- The counts of a client's evictions rose with its view's: by its turns and its takings, of which
   -- some had a hit bit, each with a charge below 2^32.

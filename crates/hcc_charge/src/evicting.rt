@@ -55,37 +55,13 @@ pub fn evict<T: Tag, A: Allocator>(
     ensures effort { Lost result.lost result.lost effort.old effort.new }
     ensures steps { MakesAtMost (turning (slots_of table.now) * result.turns) seat.old seat.new }
 {
-    let swept = go_round(table, seat, ask, effort);
-    tally.add(swept);
-    swept
-}
-
-/// Makes turns of the hand until the eviction ends.
-fn go_round<T: Tag, A: Allocator>(
-    table: &RuleTable<T, A>,
-    seat: &mut RuleSeat<T>,
-    ask: u64,
-    effort: &mut Effort,
-) -> Swept
-    requires seat { IsSeatAt table.now seat.old }
-    requires rest { IsAtRest (view seat.old) }
-    requires settled { (view seat.old).work.freed ≡ 0 }
-    requires ask { ask < 2 ^ 34 }
-    ensures seat { IsSameSeat seat.old seat.new }
-    ensures view { Sweeps result.turns result.slots result.charge (view seat.old) (view seat.new) }
-    ensures evicts { Evicts T.fits table.now ask result seat.old seat.new }
-    ensures turns { (1 ≤ result.turns) × (result.turns ≤ most_turns (slots_of table.now)) }
-    ensures charge { result.charge ≤ ask + 4 * 2 ^ 32 }
-    ensures modest { IsModest (4 * result.turns) result }
-    ensures effort { Lost result.lost result.lost effort.old effort.new }
-    ensures steps { MakesAtMost (turning (slots_of table.now) * result.turns) seat.old seat.new }
-{
     let slots = table.geometry().slots;
     let mut all = Swept::NOTHING;
     loop {
         let here = turn(table, seat, effort);
         all = all.with(here);
         if has_ended(slots, ask, all) {
+            tally.add(all);
             return all;
         }
     }

@@ -8,9 +8,9 @@ ghost use Rattle.hcc_rule.specs.ToldLedgers.{waived};
 ghost use Rattle.hcc_table.specs.Efforts.{Lost};
 ghost use Rattle.hcc_table.specs.Erased.{IsAtRest};
 ghost use Rattle.hcc_charge.specs.declared.reserving.Refused.TheVariants.{TooLarge};
-ghost use Rattle.hcc_charge.specs.Evicted.{most_turns, Sweeps, evicting, reserving};
+ghost use Rattle.hcc_charge.specs.Evicted.{most_turns, IsSweptFor, Sweeps, evicting, reserving};
 ghost use Rattle.hcc_charge.specs.Reserved.{entered, settled_as, ReservedBy, RoseWith};
-ghost use Rattle.hcc_charge.specs.Swept.{IsModest, Tallied};
+ghost use Rattle.hcc_charge.specs.Swept.{Tallied};
 ghost use Rattle.hcc_table.specs.Steps.{MakesAtMost};
 
 use crate::asking::{ask, at_least_one, needed};
@@ -28,7 +28,7 @@ use std::alloc::Allocator;
 pub enum Reservation {
     /// A place and the charge are granted.
     Reserved,
-    /// No place was found. Nothing is granted.
+    /// There was no place left, and an eviction freed no slot. Nothing is granted.
     NoPlace,
 }
 
@@ -37,9 +37,9 @@ pub enum Reservation {
 pub enum Refused {
     /// The charge is above the capacity. No step was made.
     TooLarge,
-    /// Not enough charge was freed.
+    /// An eviction freed less charge than was needed.
     CapacityFull,
-    /// There was no place left, and no slot was freed.
+    /// There was no place left, and an eviction freed no slot.
     OccupancyFull,
 }
 
@@ -57,8 +57,9 @@ pub enum Refused {
 /// Reserved: the client has a granted place and the charge granted, and what it freed is settled.
 /// Not strict, and no place found: nothing is granted or charged. Under strict capacity, where less
 /// charge was freed than needed, or no place was found: the place, the charge and what was freed
-/// are given back. Entries are evicted only where the shard was full, where the charge didn't fit,
-/// or where under strict capacity not all of it was granted at once.
+/// are given back. It evicts just where the shard was full, where the charge didn't fit, or where
+/// under strict capacity not all of it was granted at once. So CapacityFull, OccupancyFull and
+/// NoPlace come after an eviction that has ended, and the last two only where it freed nothing.
 ///
 /// The client has nothing in hand but its references and standalone entries, and the charge isn't
 /// 0. What evictions did is added to the tally, and exchanges that lost to the effort. It takes no
@@ -103,6 +104,7 @@ fn reserve_lax<T: Tag, A: Allocator>(
     requires seat { IsSeatAt table.now seat.old }
     requires idle { IsBetweenCalls (view seat.old).work }
     requires lax { is_strict table.now ≡ false }
+    requires some { 0 < charge }
     ensures seat { IsSameSeat seat.old seat.new }
     ensures view { ReservedBy (slots_of table.now) (capacity_of table.now) false
         charge (Ok result) (view seat.old) (view seat.new) }
@@ -186,9 +188,7 @@ fn evict_for<T: Tag, A: Allocator>(
     requires ask { ask < 2 ^ 34 }
     ensures seat { IsSameSeat seat.old seat.new }
     ensures view { Sweeps result.turns result.slots result.charge (view seat.old) (view seat.new) }
-    ensures turns { result.turns ≤ most_turns (slots_of table.now) }
-    ensures asked { 0 < result.slots → 0 < ask }
-    ensures modest { IsModest (4 * result.turns) result }
+    ensures swept { IsSweptFor (slots_of table.now) ask result }
     ensures tally { Tallied result tally.old tally.new }
     ensures effort { Lost result.lost result.lost effort.old effort.new }
     ensures steps { MakesAtMost (evicting (slots_of table.now)) seat.old seat.new }

@@ -1,13 +1,14 @@
 -- What an insertion leaves of a view, put together.
-use Rattle.std.proofs.Common.{◌≡◌, ℕ, ◌+◌, ◌-◌, ◌<◌, ◌++◌, ◌||◌, ◌&&◌, ◌==◌, append_assoc, IfSome, nat_lt, nat_le, Bool, true, false, List, [], ◌∷◌, Err, length, sym, subst, refl, ap, ◌∙◌, arith}
+use Rattle.std.proofs.Common.{◌≡◌, ℕ, ◌+◌, ◌-◌, ◌<◌, ◌++◌, ◌||◌, ◌&&◌, ◌==◌, append_assoc, IfSome, nat_le, Bool, true, false, List, [], ◌∷◌, Err, length, sym, subst, refl, ap, ◌∙◌, arith}
 use Rattle.std.specs.List.{list_any}
-use Rattle.std.proofs.lemmas.Bool.{lt-ltb, le-leb, eq-eqb}
+use Rattle.std.proofs.lemmas.Bool.{le-leb, eq-eqb}
 use Rattle.hcc_core.specs.declared.client.Owned.TheVariants as owned
 use Rattle.hcc_core.specs.declared.client.Place.TheVariants as places
 use Rattle.hcc_core.specs.declared.limits.TheConstants.{MOST_CLIENTS}
 use Rattle.hcc_core.specs.declared.slot.Stamp.{Stamp}
 use Rattle.hcc_core.specs.Lawful.{is_in}
 use Rattle.hcc_core.specs.Ledgers.{is_standing}
+use Rattle.hcc_core.specs.Sums.{when}
 use Rattle.hcc_rule.specs.declared.geometry.Geometry.{Geometry}
 use Rattle.hcc_rule.specs.declared.key.Key.{Key}
 use Rattle.hcc_rule.specs.declared.rule.Plan.{Plan}
@@ -19,7 +20,7 @@ use Rattle.hcc_table.specs.Inserted.{MayInsert, Meets, Tried}
 use Rattle.hcc_table.specs.Searched.{is_key}
 use Rattle.hcc_charge.specs.declared.reserving.Refused.{Refused}
 use Rattle.hcc_charge.specs.declared.reserving.Refused.TheVariants.{TooLarge, CapacityFull, OccupancyFull}
-use Rattle.hcc_charge.specs.Reserved.{Reserves, ReservedBy}
+use Rattle.hcc_charge.specs.Reserved.{Reserves, ReservedBy, loaded, needed_by, short_of}
 use Rattle.hcc_charge.specs.Settled.{stood, without_place}
 use Rattle.hcc_shard.specs.Inserted.{IsInsertable, IsUnplaced, IsUnshown, RefusedBy, Tries, with_draft}
 use Rattle.hcc_shard.specs.Seated.{IsQuiet}
@@ -77,15 +78,11 @@ module _ {T : Type 0} where
   }
 
   -- Nothing was reserved.
-  pub tries_none : (slots capacity charge : ℕ) (v w : View T)
-      → Reserves slots capacity charge places.Absent 0 v w
-      → Tries slots capacity charge v.work.stamps v.work.standalones v.records v.made v w
-  tries_none slots capacity charge v w r = record {
-    opened = r.opened;
-    short = r.short;
-    loads = r.loads;
-    taken = r.taken;
-    turns = r.turns;
+  pub tries_none : (slots capacity : ℕ) (strict : Bool) (charge : ℕ) (v w : View T)
+      → Reserves slots capacity strict charge places.Absent 0 v w
+      → Tries slots capacity strict charge v.work.stamps v.work.standalones v.records v.made v w
+  tries_none slots capacity strict charge v w r = record {
+    shortage = r.shortage;
     met = [];
     tries = 0;
     same = r.same ∙ (λ k. record v {
@@ -101,31 +98,24 @@ module _ {T : Type 0} where
         dead = w.work.dead;
       };
       written = w.written;
-      takings = v.takings + r.taken;
-      open_places = v.open_places + r.opened;
+      takings = v.takings + r.shortage.swept.slots;
+      open_places = v.open_places + when r.shortage.full 1;
       saw = no_added v.saw k;
-      turns = v.turns + r.turns;
+      turns = v.turns + r.shortage.swept.turns;
       met = none_more v.met k;
-      seen = v.seen ++ r.loads;
-      tight = v.tight ++ r.short;
+      seen = v.seen ++ loaded strict r.shortage.used;
+      tight = v.tight ++ short_of (needed_by strict capacity r.shortage.used charge) charge;
     });
     dead = r.dead;
-    own = r.own;
-    few = r.few;
-    cause = r.cause;
   }
 
   -- Nothing was reserved, and the entry stands alone.
-  pub tries_alone : (slots capacity charge name : ℕ) (v a w : View T)
-      → Reserves slots capacity charge places.Absent 0 v a → w ≡ stood name charge a
-      → Tries slots capacity charge v.work.stamps
+  pub tries_alone : (slots capacity : ℕ) (strict : Bool) (charge name : ℕ) (v a w : View T)
+      → Reserves slots capacity strict charge places.Absent 0 v a → w ≡ stood name charge a
+      → Tries slots capacity strict charge v.work.stamps
       (v.work.standalones ++ record { name = name; charge = charge } ∷ []) v.records v.made v w
-  tries_alone slots capacity charge name v a w r stands = record {
-    opened = r.opened;
-    short = r.short;
-    loads = r.loads;
-    taken = r.taken;
-    turns = r.turns;
+  tries_alone slots capacity strict charge name v a w r stands = record {
+    shortage = r.shortage;
     met = [];
     tries = 0;
     same = stands ∙ (ap (stood name charge) r.same ∙ (λ k. record v {
@@ -142,35 +132,28 @@ module _ {T : Type 0} where
         dead = sym (ap (λ (z : View T). z.work.dead) stands) k;
       };
       written = sym (ap (λ (z : View T). z.written) stands) k;
-      takings = v.takings + r.taken;
-      open_places = v.open_places + r.opened;
+      takings = v.takings + r.shortage.swept.slots;
+      open_places = v.open_places + when r.shortage.full 1;
       saw = no_added v.saw k;
-      turns = v.turns + r.turns;
+      turns = v.turns + r.shortage.swept.turns;
       met = none_more v.met k;
-      seen = v.seen ++ r.loads;
-      tight = v.tight ++ r.short;
+      seen = v.seen ++ loaded strict r.shortage.used;
+      tight = v.tight ++ short_of (needed_by strict capacity r.shortage.used charge) charge;
     }));
     dead = λ stamp h. subst (λ d. is_in stamp d ≡ true)
         (sym (ap (λ (z : View T). z.work.dead) stands)) (r.dead stamp h);
-    own = r.own;
-    few = r.few;
-    cause = r.cause;
   }
 
-  module _ (slots capacity charge : ℕ) (v a : View T)
-      (r : Reserves slots capacity charge places.Granted charge v a) where
+  module _ (slots capacity : ℕ) (strict : Bool) (charge : ℕ) (v a : View T)
+      (r : Reserves slots capacity strict charge places.Granted charge v a) where
     -- The entry was placed.
     pub tries_placed : (slot : ℕ) (draft : Draft) (value : List ℕ) (w : View T)
         → draft.charge ≡ charge → Tried (after_show slot draft.name (made_of draft value) a) w
-        → Tries slots capacity charge (v.work.stamps + 1) v.work.standalones
+        → Tries slots capacity strict charge (v.work.stamps + 1) v.work.standalones
         (v.records ++ first_records slot draft.name (shown_entry v (made_of draft value)))
         (v.made ++ made_of draft value ∷ []) v w
     tries_placed slot draft value w paid t = record {
-      opened = r.opened;
-      short = r.short;
-      loads = r.loads;
-      taken = r.taken;
-      turns = r.turns;
+      shortage = r.shortage;
       met = t.met.0;
       tries = w.saw - v.saw;
       same =
@@ -199,18 +182,15 @@ module _ {T : Type 0} where
                 v.records ++ first_records slot draft.name (shown_entry v (made_of draft value));
             written = sym (ap (λ (z : View T). z.written) t.same) k;
             made = v.made ++ made_of draft value ∷ [];
-            takings = v.takings + r.taken;
-            open_places = v.open_places + r.opened;
+            takings = v.takings + r.shortage.swept.slots;
+            open_places = v.open_places + when r.shortage.full 1;
             saw = saw_is k;
-            turns = v.turns + r.turns;
+            turns = v.turns + r.shortage.swept.turns;
             met = met_is k;
-            seen = v.seen ++ r.loads;
-            tight = v.tight ++ r.short;
+            seen = v.seen ++ loaded strict r.shortage.used;
+            tight = v.tight ++ short_of (needed_by strict capacity r.shortage.used charge) charge;
           }));
       dead = λ stamp h. t.dead stamp (r.dead stamp h);
-      own = r.own;
-      few = r.few;
-      cause = r.cause;
     }
       where
         spent : charge - draft.charge ≡ 0
@@ -253,13 +233,13 @@ module _ {T : Type 0} where
           dead = w.work.dead;
         };
         written = w.written;
-        takings = v.takings + r.taken;
-        open_places = v.open_places + r.opened;
+        takings = v.takings + r.shortage.swept.slots;
+        open_places = v.open_places + when r.shortage.full 1;
         saw = v.saw + u.tries;
-        turns = v.turns + r.turns;
+        turns = v.turns + r.shortage.swept.turns;
         met = v.met ++ u.met;
-        seen = v.seen ++ r.loads;
-        tight = v.tight ++ r.short;
+        seen = v.seen ++ loaded strict r.shortage.used;
+        tight = v.tight ++ short_of (needed_by strict capacity r.shortage.used charge) charge;
       }
       left_over =
           left ∙ (ap (without_place granted) u.tried.same
@@ -282,13 +262,13 @@ module _ {T : Type 0} where
             written =
                 (sym (ap (λ (z : View T). z.written) u.tried.same)
                 ∙ sym (ap (λ (z : View T). z.written) left)) k;
-            takings = v.takings + r.taken;
-            open_places = v.open_places + r.opened;
+            takings = v.takings + r.shortage.swept.slots;
+            open_places = v.open_places + when r.shortage.full 1;
             saw = (sym (ap (λ (z : View T). z.saw) left) ∙ saw_more) k;
-            turns = v.turns + r.turns;
+            turns = v.turns + r.shortage.swept.turns;
             met = (sym (ap (λ (z : View T). z.met) left) ∙ met_more) k;
-            seen = v.seen ++ r.loads;
-            tight = v.tight ++ r.short;
+            seen = v.seen ++ loaded strict r.shortage.used;
+            tight = v.tight ++ short_of (needed_by strict capacity r.shortage.used charge) charge;
           })))
 
       pub dead_more : (stamp : Stamp) → is_in stamp v.work.dead ≡ true
@@ -300,33 +280,22 @@ module _ {T : Type 0} where
     -- All was given up.
     pub tries_dropped : (key : Key) (b w : View T) (u : IsUnplaced slots key a b)
         → w ≡ without_place 0 b
-        → Tries slots capacity charge v.work.stamps v.work.standalones v.records v.made v w
+        → Tries slots capacity strict charge v.work.stamps v.work.standalones v.records v.made v w
     tries_dropped key b w u left = record {
-      opened = r.opened;
-      short = r.short;
-      loads = r.loads;
-      taken = r.taken;
-      turns = r.turns;
+      shortage = r.shortage;
       met = u.met;
       tries = u.tries;
       same = left_over key b w 0 u left;
       dead = dead_more key b w 0 u left;
-      own = r.own;
-      few = r.few;
-      cause = r.cause;
     }
 
     -- The charge was kept, and is a standalone entry's.
     pub tries_stood : (key : Key) (name : ℕ) (b w : View T) (u : IsUnplaced slots key a b)
         → w ≡ stood name charge (without_place charge b)
-        → Tries slots capacity charge v.work.stamps
+        → Tries slots capacity strict charge v.work.stamps
         (v.work.standalones ++ record { name = name; charge = charge } ∷ []) v.records v.made v w
     tries_stood key name b w u stands = record {
-      opened = r.opened;
-      short = r.short;
-      loads = r.loads;
-      taken = r.taken;
-      turns = r.turns;
+      shortage = r.shortage;
       met = u.met;
       tries = u.tries;
       same =
@@ -345,20 +314,17 @@ module _ {T : Type 0} where
               dead = sym (ap (λ (z : View T). z.work.dead) stands) k;
             };
             written = sym (ap (λ (z : View T). z.written) stands) k;
-            takings = v.takings + r.taken;
-            open_places = v.open_places + r.opened;
+            takings = v.takings + r.shortage.swept.slots;
+            open_places = v.open_places + when r.shortage.full 1;
             saw = v.saw + u.tries;
-            turns = v.turns + r.turns;
+            turns = v.turns + r.shortage.swept.turns;
             met = v.met ++ u.met;
-            seen = v.seen ++ r.loads;
-            tight = v.tight ++ r.short;
+            seen = v.seen ++ loaded strict r.shortage.used;
+            tight = v.tight ++ short_of (needed_by strict capacity r.shortage.used charge) charge;
           }));
       dead = λ stamp h. subst (λ d. is_in stamp d ≡ true)
           (sym (ap (λ (z : View T). z.work.dead) stands))
           (dead_more key b (without_place charge b) charge u refl stamp h);
-      own = r.own;
-      few = r.few;
-      cause = r.cause;
     }
 
   module _ (slots capacity : ℕ) (strict : Bool) (draft : Draft) where
@@ -366,34 +332,39 @@ module _ {T : Type 0} where
     pub refused_by : (why : Refused) (v w : View T)
         → ReservedBy slots capacity strict draft.charge (Err why) v w
         → RefusedBy slots capacity strict draft why v w
+    unfolding tries_none
     refused_by TooLarge v w told = told
     refused_by CapacityFull v w told = (
-      tries_none slots capacity draft.charge v w told.0,
+      tries_none slots capacity strict draft.charge v w told.0,
       told.1,
       told.2,
+      told.3,
     )
     refused_by OccupancyFull v w told = (
-      tries_none slots capacity draft.charge v w told.0,
+      tries_none slots capacity strict draft.charge v w told.0,
       told.1,
       told.2,
+      told.3,
+      told.4,
     )
 
     -- The shard was full:
     module _ (v a : View T)
-        (r : Reserves slots capacity draft.charge places.Absent 0 v a)
+        (r : Reserves slots capacity strict draft.charge places.Absent 0 v a)
         (more : v.open_places < a.open_places) where
-      was_full : nat_lt 0 r.opened ≡ true
-      was_full =
-          let now : a.open_places ≡ v.open_places + r.opened =
-          ap (λ (z : View T). z.open_places) r.same in
-          lt-ltb 0 r.opened (omega arith)
+      was_full : r.shortage.full ≡ true
+      was_full = by r.shortage.full (ap (λ (z : View T). z.open_places) r.same)
+        where
+          by : (full : Bool) → a.open_places ≡ v.open_places + when full 1 → full ≡ true
+          by true now = refl
+          by false now = absurd (omega arith)
 
       -- the entry is dropped, or stands alone.
       pub left_none : IsUnshown slots capacity strict draft v.work.standalones v a
       unfolding tries_none
       left_none = record {
-        tries = tries_none slots capacity draft.charge v a r;
-        reason = or_first _ _ (or_first (nat_lt 0 r.opened) _ was_full);
+        tries = tries_none slots capacity strict draft.charge v a r;
+        reason = or_first _ _ (or_first r.shortage.full _ was_full);
       }
 
       pub left_alone : (w : View T) → w ≡ stood draft.serial draft.charge a
@@ -401,21 +372,21 @@ module _ {T : Type 0} where
       unfolding tries_alone
       left_alone w stands = record {
         tries =
-            tries_alone slots capacity draft.charge draft.serial v a w r stands;
-        reason = or_first _ _ (or_first (nat_lt 0 r.opened) _ was_full);
+            tries_alone slots capacity strict draft.charge draft.serial v a w r stands;
+        reason = or_first _ _ (or_first r.shortage.full _ was_full);
       }
 
     -- A place and the charge were granted:
     module _ (v a b : View T)
-        (r : Reserves slots capacity draft.charge places.Granted draft.charge v a)
+        (r : Reserves slots capacity strict draft.charge places.Granted draft.charge v a)
         (u : IsUnplaced slots draft.key a b) where
       -- the entry is dropped, or stands alone.
       pub left_dropped : (w : View T) → w ≡ without_place 0 b
           → IsUnshown slots capacity strict draft v.work.standalones v w
       unfolding tries_dropped
       left_dropped w left = record {
-        tries = tries_dropped slots capacity draft.charge v a r draft.key b w u left;
-        reason = or_last (nat_lt 0 r.opened) _ _ u.why;
+        tries = tries_dropped slots capacity strict draft.charge v a r draft.key b w u left;
+        reason = or_last r.shortage.full _ _ u.why;
       }
 
       pub left_stood : (w : View T)
@@ -424,9 +395,9 @@ module _ {T : Type 0} where
       unfolding tries_stood
       left_stood w stands = record {
         tries =
-            tries_stood slots capacity draft.charge v a r draft.key draft.serial b w u
+            tries_stood slots capacity strict draft.charge v a r draft.key draft.serial b w u
             stands;
-        reason = or_last (nat_lt 0 r.opened) _ _ u.why;
+        reason = or_last r.shortage.full _ _ u.why;
       }
 
       -- What wasn't placed may stand alone.
@@ -442,7 +413,7 @@ module _ {T : Type 0} where
         (value : List ℕ) (client : ℕ) (v a : View T)
         → v.client ≡ client → client < MOST_CLIENTS → IsInsertable fits p draft value v
         → IsQuiet geometry v → IfSome draft.name (λ x. x ≡ draft.serial)
-        → Reserves slots capacity draft.charge places.Granted draft.charge v a
+        → Reserves slots capacity strict draft.charge places.Granted draft.charge v a
         → MayInsert fits p draft value client draft.serial a
     may_insert fits p geometry value client v a own known may quiet called r = record {
       own = sym own ∙ sym (ap (λ (z : View T). z.client) r.same);

@@ -1,10 +1,11 @@
 -- What an insertion needs, and what it leaves of a view.
-use Rattle.std.specs.Prelude.{◌≡◌, ℕ, ◌+◌, ◌*◌, ◌<◌, ◌≤◌, ◌||◌, Bool, true, nat_le, nat_lt, List, [], ◌∷◌, ◌++◌, Option, Some, None, Result, Ok, Err}
+use Rattle.std.specs.Prelude.{◌≡◌, ℕ, ◌+◌, ◌*◌, ◌<◌, ◌≤◌, ◌||◌, Bool, true, nat_le, List, [], ◌∷◌, ◌++◌, Option, Some, None, Result, Ok, Err}
 use Rattle.std.specs.List.{list_any}
 use Rattle.hcc_core.specs.declared.client.Owned.TheVariants as owned
 use Rattle.hcc_core.specs.declared.client.Place.TheVariants as places
 use Rattle.hcc_core.specs.declared.client.Standalone.{Standalone}
 use Rattle.hcc_core.specs.declared.limits.TheConstants.{MOST_COUNTDOWN}
+use Rattle.hcc_core.specs.Sums.{when}
 use Rattle.hcc_rule.specs.declared.key.Key.{Key}
 use Rattle.hcc_rule.specs.declared.rule.Plan.{Plan}
 use Rattle.hcc_rule.specs.declared.steps.shows.Draft.{Draft}
@@ -13,13 +14,12 @@ use Rattle.hcc_rule.specs.declared.view.Record.{Record}
 use Rattle.hcc_rule.specs.declared.view.View.{View}
 use Rattle.hcc_rule.specs.Rule.{IsRight}
 use Rattle.hcc_rule.specs.ToldOwners.{first_records, made_of, shown_entry}
-use Rattle.hcc_rule.specs.Views.{Each}
 use Rattle.hcc_table.specs.Inserted.{IsPlaced, Tried}
 use Rattle.hcc_table.specs.Searched.{Grows, is_key}
 use Rattle.hcc_charge.specs.declared.reserving.Refused.{Refused}
 use Rattle.hcc_charge.specs.declared.reserving.Refused.TheVariants.{TooLarge, CapacityFull, OccupancyFull}
-use Rattle.hcc_charge.specs.Evicted.{most_turns, reserving}
-use Rattle.hcc_charge.specs.Reserved.{has_cause}
+use Rattle.hcc_charge.specs.Evicted.{reserving}
+use Rattle.hcc_charge.specs.Reserved.{Shortage, loaded, needed_by, short_of, still_needed}
 use Rattle.hcc_shard.specs.declared.inserting.Inserted.{Inserted}
 use Rattle.hcc_shard.specs.declared.inserting.Inserted.TheVariants as inserted
 use Rattle.hcc_shard.specs.declared.inserting.Pinned.{Pinned}
@@ -43,9 +43,8 @@ pub record IsInsertable {T : Type 0} (fits : T → Key → List ℕ → Type 0) 
 
 -- Why an entry isn't placed: the shard was full, the key was met, or as many slots as there are
 -- were tried.
-abbrev pub has_reason : (slots opened tries : ℕ) → Key → List Key → Bool
-has_reason slots opened tries key met =
-    nat_lt 0 opened || list_any (is_key key) met || nat_le slots tries
+abbrev pub has_reason : (slots : ℕ) → (full : Bool) → (tries : ℕ) → Key → List Key → Bool
+has_reason slots full tries key met = full || list_any (is_key key) met || nat_le slots tries
 
 -- the standalone entries with that of a draft
 abbrev pub with_draft : Draft → List Standalone → List Standalone
@@ -68,18 +67,13 @@ module _ {T : Type 0} where
   PutBy slots draft value None v w = IsUnplaced slots draft.key v w
 
   -- An insertion was tried, and the client has nothing in hand again. These are its count of
-  -- stamps, its standalone entries, its records and its made entries. It counts whether the shard
-  -- was full (`opened`), which charges weren't granted at once (`short`: none but this one), which
-  -- usages it loaded, which keys it met and how many slots it tried that weren't empty. It took
-  -- entries only for one of the first three, none of which was Shown with uses left. All else
-  -- stays.
-  pub record Tries (slots capacity charge stamps : ℕ) (standalones : List Standalone)
-      (records : List Record) (made : List Made) (v w : View T) : Type 0 where
-    pub opened : ℕ
-    pub short : List ℕ
-    pub loads : List ℕ
-    pub taken : ℕ
-    pub turns : ℕ
+  -- stamps, its standalone entries, its records and its made entries. It counts what its
+  -- reservation found and evicted, which keys it met and how many slots it tried that weren't
+  -- empty. None of the entries that it took was Shown with uses left. All else stays.
+  pub record Tries (slots capacity : ℕ) (strict : Bool) (charge stamps : ℕ)
+      (standalones : List Standalone) (records : List Record) (made : List Made)
+      (v w : View T) : Type 0 where
+    pub shortage : Shortage slots capacity strict charge
     pub met : List Key
     pub tries : ℕ
     pub same : w ≡ record v {
@@ -99,25 +93,22 @@ module _ {T : Type 0} where
       records = records;
       written = w.written;
       made = made;
-      takings = v.takings + taken;
-      open_places = v.open_places + opened;
+      takings = v.takings + shortage.swept.slots;
+      open_places = v.open_places + when shortage.full 1;
       saw = v.saw + tries;
-      turns = v.turns + turns;
+      turns = v.turns + shortage.swept.turns;
       met = v.met ++ met;
-      seen = v.seen ++ loads;
-      tight = v.tight ++ short;
+      seen = v.seen ++ loaded strict shortage.used;
+      tight = v.tight ++ short_of (needed_by strict capacity shortage.used charge) charge;
     }
     pub dead : Grows v.work.dead w.work.dead
-    pub own : Each (λ t. t ≡ charge) short
-    pub few : turns ≤ most_turns slots
-    pub cause : 0 < taken → has_cause capacity charge opened short loads ≡ true
 
   module _ (slots capacity : ℕ) (strict : Bool) (draft : Draft) where
     -- The newest entry that the client made is this, on a slot of the shard, and it keeps a
     -- reference on it where the draft has a name.
     pub record Shows (value : List ℕ) (slot : ℕ) (v w : View T) : Type 0 where
       pub within : slot < slots
-      pub tries : Tries slots capacity draft.charge (v.work.stamps + 1)
+      pub tries : Tries slots capacity strict draft.charge (v.work.stamps + 1)
           v.work.standalones
           (v.records ++ first_records slot draft.name (shown_entry v (made_of draft value)))
           (v.made ++ made_of draft value ∷ []) v w
@@ -125,23 +116,24 @@ module _ {T : Type 0} where
     -- No entry was made, and these standalone entries stand.
     abbrev pub MakesNoEntry : List Standalone → View T → View T → Type 0
     MakesNoEntry standalones v w =
-        Tries slots capacity draft.charge v.work.stamps standalones v.records v.made
+        Tries slots capacity strict draft.charge v.work.stamps standalones v.records v.made
         v w
 
     -- nothing was placed, for one of the reasons
     pub record IsUnshown (standalones : List Standalone) (v w : View T) : Type 0 where
       pub tries : MakesNoEntry standalones v w
-      pub reason : has_reason slots tries.opened tries.tries draft.key tries.met ≡ true
+      pub reason : has_reason slots tries.shortage.full tries.tries draft.key tries.met ≡ true
 
     -- The view after a refused insertion.
     abbrev pub RefusedBy : Refused → View T → View T → Type 0
     RefusedBy TooLarge v w = (strict ≡ true) × (capacity < draft.charge) × (w ≡ v)
     RefusedBy CapacityFull v w =
-        MakesNoEntry v.work.standalones v w × (strict ≡ true)
+        (m : MakesNoEntry v.work.standalones v w) × (strict ≡ true)
         × (w.tight ≡ v.tight ++ draft.charge ∷ [])
+        × (m.shortage.swept.charge < still_needed capacity m.shortage.used draft.charge)
     RefusedBy OccupancyFull v w =
         MakesNoEntry v.work.standalones v w × (strict ≡ true)
-        × (v.open_places < w.open_places)
+        × (v.open_places < w.open_places) × (w.takings ≡ v.takings) × (w.tight ≡ v.tight)
 
     -- The view after an insertion, by its answer.
     abbrev pub InsertedBy : List ℕ → Result Inserted Refused → View T → View T → Type 0

@@ -1,4 +1,4 @@
-use Rattle.std.proofs.Common.{◌+◌, ◌*◌, ◌≤◌, arith}
+use Rattle.std.proofs.Common.{arith}
 use Rattle.std.proofs.Math.Nat.{mul-le-mul_left}
 use Rattle.hcc_charge.specs.Evicted.{most_turns, turning}
 use Rattle.hcc_charge.proofs.reserving.evict_for.Goals as goal

@@ -22,7 +22,7 @@ put-requires-clause-may g c =
     (view c.reserve.new.seat) c.requires.seat.own c.requires.seat.known c.requires.may
     c.requires.seat.quiet
     (subst (λ o. IfSome o (λ x. x ≡ c.args.draft.serial)) (sym c.requires.unnamed) tt)
-    (rw c.in-Reserved.is at c.in_ok-reserved.ensures.view)
+    (rw c.in-Reserved.is at c.in_ok-reserved.ensures.view).0
 
 pub returns-in-Some-clause-view : goal.returns-in-Some-clause-view
 returns-in-Some-clause-view g c =
@@ -32,9 +32,9 @@ returns-in-Some-clause-view g c =
       record {
         within = told.1.low;
         tries =
-            tries_placed (slots_of t) (capacity_of t) c.args.draft.charge
+            tries_placed (slots_of t) (capacity_of t) (is_strict t) c.args.draft.charge
             (view c.args.seat.now.seat) (view c.reserve.new.seat)
-            (rw c.in-Reserved.is at c.in_ok-reserved.ensures.view) _ c.args.draft
+            (rw c.in-Reserved.is at c.in_ok-reserved.ensures.view).0 _ c.args.draft
             c.args.value.now (view c.put.new.seat.seat) refl told.1.tried;
       },
     )
@@ -44,7 +44,7 @@ returns-in-None-clause-view g c =
     let t = c.args.self.now.table in
     left_dropped (slots_of t) (capacity_of t) (is_strict t) c.args.draft
     (view c.args.seat.now.seat) (view c.reserve.new.seat) (view c.put.new.seat.seat)
-    (rw c.in-Reserved.is at c.in_ok-reserved.ensures.view) c.in-None.ensures.view
+    (rw c.in-Reserved.is at c.in_ok-reserved.ensures.view).0 c.in-None.ensures.view
     (view c.give_up.new.seat) c.give_up.ensures.view
 
 pub returns-in-NoPlace-clause-view : goal.returns-in-NoPlace-clause-view

@@ -26,7 +26,7 @@ put-requires-clause-may g c =
     (view c.reserve.new.seat) c.requires.seat.own c.requires.seat.known c.requires.may
     c.requires.seat.quiet
     (subst (λ o. IfSome o (λ x. x ≡ c.args.draft.serial)) (sym c.requires.named) refl)
-    (rw c.in-Reserved.is at c.in_ok-reserved.ensures.view)
+    (rw c.in-Reserved.is at c.in_ok-reserved.ensures.view).0
 
 pub standalone_in-requires-clause-fresh : goal.standalone_in-requires-clause-fresh
 standalone_in-requires-clause-fresh g c =
@@ -41,7 +41,7 @@ stand-requires-clause-fresh g c =
     let t = c.args.self.now.table in
     still_fresh (slots_of t) (capacity_of t) (is_strict t) c.args.draft
     (view c.args.seat.now.seat) (view c.reserve.new.seat) (view c.put.new.seat.seat)
-    (rw c.in-Reserved.is at c.in_ok-reserved.ensures.view) c.in-None.ensures.view
+    (rw c.in-Reserved.is at c.in_ok-reserved.ensures.view).0 c.in-None.ensures.view
     (not_standing c.args.draft.serial (view c.args.seat.now.seat).work.standalones
     c.requires.may.next.standalones)
 
@@ -52,9 +52,9 @@ returns-in-Some-clause-view g c =
       record {
         within = told.1.low;
         tries =
-            tries_placed (slots_of t) (capacity_of t) c.args.draft.charge
+            tries_placed (slots_of t) (capacity_of t) (is_strict t) c.args.draft.charge
             (view c.args.seat.now.seat) (view c.reserve.new.seat)
-            (rw c.in-Reserved.is at c.in_ok-reserved.ensures.view) _ c.args.draft
+            (rw c.in-Reserved.is at c.in_ok-reserved.ensures.view).0 _ c.args.draft
             c.args.value.now (view c.put.new.seat.seat) refl told.1.tried;
       },
       refl,
@@ -66,7 +66,7 @@ returns-in-None-clause-view g c =
     let t = c.args.self.now.table in
     left_stood (slots_of t) (capacity_of t) (is_strict t) c.args.draft
     (view c.args.seat.now.seat) (view c.reserve.new.seat) (view c.put.new.seat.seat)
-    (rw c.in-Reserved.is at c.in_ok-reserved.ensures.view) c.in-None.ensures.view
+    (rw c.in-Reserved.is at c.in_ok-reserved.ensures.view).0 c.in-None.ensures.view
     (view c.stand.new.seat) c.stand.ensures.view
 
 pub returns-in-NoPlace-clause-view : goal.returns-in-NoPlace-clause-view

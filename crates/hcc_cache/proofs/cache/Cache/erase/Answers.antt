@@ -1,0 +1,74 @@
+use Rattle.std.proofs.Common.{◌≡◌, ◌+◌, ◌*◌, ◌≤◌, ℕ, sym, refl, ap, ◌∙◌, length, mul-le-mul_left, arith}
+use Rattle.hcc_rule.specs.declared.geometry.Geometry.{Geometry}
+use Rattle.hcc_table.specs.Steps.{freeing}
+use Rattle.hcc_shard.specs.Callers.{view_of}
+use Rattle.hcc_cache.specs.Clients.{view_by}
+use Rattle.hcc_cache.specs.Keys.{shard_of}
+use Rattle.hcc_cache.proofs.At.{is_at, seated_at, works_at}
+use Rattle.hcc_cache.proofs.Resting.{keeps_same, knows_same, same_erased}
+use Rattle.hcc_cache.proofs.Seats.{steps_set}
+use Rattle.hcc_cache.proofs.cache.Cache.erase.Goals as goal
+
+pub erase-requires : goal.erase-requires
+erase-requires g c =
+    let cache = c.args.self.now in
+    let old = c.args.client.now in
+    let i = c.shard_number-shard.result in
+    let was = c.index_mut-seat.result.now in
+    let at = is_at cache old i c.index.result.now was c.requires
+    c.shard_number-shard.ensures.inside c.index.ensures c.index_mut-seat.ensures.value in
+    record { seat = (seated_at cache old old i c.index.result.now was was at).rests }
+
+pub returns-clause-known : goal.returns-clause-known
+returns-clause-known g c =
+    let cache = c.args.self.now in
+    let old = c.args.client.now in
+    let i = c.shard_number-shard.result in
+    let was = c.index_mut-seat.result.now in
+    let at = is_at cache old i c.index.result.now was c.requires
+    c.shard_number-shard.ensures.inside c.index.ensures c.index_mut-seat.ensures.value in
+    knows_same cache old _ i c.index.result.now was c.erase.new.seat at c.erase.ensures.seat
+    (same_erased (view_of was) (view_of c.erase.new.seat) c.key_to-under.result c.erase.result
+    c.erase.ensures.view) refl (record { rest = refl })
+
+pub returns-clause-erased : goal.returns-clause-erased
+returns-clause-erased g c =
+    let cache = c.args.self.now in
+    let old = c.args.client.now in
+    let i = c.shard_number-shard.result in
+    let was = c.index_mut-seat.result.now in
+    let at = is_at cache old i c.index.result.now was c.requires
+    c.shard_number-shard.ensures.inside c.index.ensures c.index_mut-seat.ensures.value in
+    let words = c.key_to-under.ensures.words in
+    let there = c.shard_number-shard.ensures.value
+    ∙ ap (λ k. shard_of k (length cache.shards.items)) words in
+    record {
+      v = view_of was;
+      w = view_of c.erase.new.seat;
+      works =
+          rw (← there)
+          (works_at cache old _ i c.index.result.now was c.erase.new.seat at
+          (record { seats = refl; number = refl; most = refl; capacity = (refl, refl) }));
+      erases = rw (← words) c.erase.ensures.view;
+      dead = rw (← words) c.erase.ensures.dead;
+      keeps =
+          keeps_same cache old _ i c.index.result.now was c.erase.new.seat at c.erase.ensures.seat
+          (same_erased (view_of was) (view_of c.erase.new.seat) c.key_to-under.result
+          c.erase.result c.erase.ensures.view) refl (record { rest = refl });
+    }
+
+pub returns-clause-steps : goal.returns-clause-steps
+returns-clause-steps g c =
+    let cache = c.args.self.now in
+    let old = c.args.client.now in
+    let i = c.shard_number-shard.result in
+    let was = c.index_mut-seat.result.now in
+    let at = is_at cache old i c.index.result.now was c.requires
+    c.shard_number-shard.ensures.inside c.index.ensures c.index_mut-seat.ensures.value in
+    let slots : c.index.result.now.table.geometry.slots ≡ cache.geometry.slots =
+    ap (λ (x : Geometry). x.slots) (at.knows.alike.plans i c.index.result.now at.shard_is).0 in
+    let each = freeing c.index.result.now.table.geometry.slots + 9 in
+    let told = c.erase.ensures.steps in
+    let most = mul-le-mul_left each told.within in
+    steps_set old.seats.items i ((freeing cache.geometry.slots + 9) * cache.geometry.slots + 2) was
+    c.erase.new.seat at.seat_is (rw (← slots) (let made = told.steps in omega arith))

@@ -1,0 +1,75 @@
+use Rattle.std.proofs.Common.{mul-suc, ◌≡◌, ◌+◌, ◌*◌, ◌^◌, ◌≤◌, ◌<◌, ℕ, sym, refl, ap, length, ◌∙◌, arith}
+use Rattle.hcc_rule.specs.Views.{different}
+use Rattle.hcc_cache.specs.Clients.{view_at}
+use Rattle.hcc_cache.specs.Totals.{entries_by, made_by, taken_by}
+use Rattle.hcc_cache.proofs.Through.{goes_first, goes_on, sum_all, sum_next, sum_to}
+use Rattle.hcc_cache.proofs.cache.Cache.occupancy.Goals as goal
+
+pub loop-shard-init : goal.loop-shard-init
+loop-shard-init g c = (
+  goes_first c.args.self.now (λ v w. w ≡ v) 1 c.args.client.now c.requires,
+  omega arith,
+  omega arith,
+  λ one. omega arith,
+)
+
+pub loop-shard-preserved : goal.loop-shard-preserved
+loop-shard-preserved g c =
+    let cache = c.args.self.now in
+    let old = c.args.client.now in
+    let now = c.loop-shard.client in
+    let k = c.loop-shard.shard in
+    let told = c.occupancy_at-sum.ensures in
+    let stays = c.loop-shard.invariant.0.left k (omega arith) in
+    let sum = c.loop-shard.invariant in
+    let entries : length (different (view_at k now).records)
+    ≡ length (different (view_at k old).records) =
+    ap (λ v. length (different v.records)) stays in
+    let takings : (view_at k now).takings ≡ (view_at k old).takings = ap (λ v. v.takings) stays in
+    let made : length (view_at k now).made ≡ length (view_at k old).made =
+    ap (λ v. length v.made) stays in
+    let rests = told.reads.rests in (
+      goes_on cache (λ v w. w ≡ v) 1 old now c.occupancy_at-sum.new.client k (view_at k now) sum.0
+          told.known told.reads.keeps
+          (record {
+            before = refl;
+            after = rests.all k;
+            others = λ s ne. rests.all s;
+            self = rests.self;
+          })
+          stays told.steps,
+      rw (sum_next k (λ s. length (different (view_at s old).records)))
+          (let so = sum.1 in let more = told.entries in omega arith),
+      (let so = sum.2 in let low = told.low in let product = mul-suc (2 ^ 33) k in omega arith),
+      λ one. rw (
+        sum_next k (λ s. (view_at s old).takings),
+        sum_next k (λ s. length (view_at s old).made),
+      )
+          (let so = sum.3 one in let more = told.alone one in omega arith),
+    )
+
+pub returns-clause-entries : goal.returns-clause-entries
+returns-clause-entries g c =
+    let old = c.args.client.now in
+    let last = c.loop-shard-test.false in
+    let near = c.loop-shard.auto.shard-end in
+    let count = c.requires.seated.count in
+    let size = c.len-shard-end.ensures in
+    let end : c.loop-shard.shard ≡ length old.seats.items = omega arith in
+    rw (sum_all (λ v. length (different v.records)) old.seats.items, ← end)
+    c.loop-shard.invariant.1
+
+pub returns-clause-alone : goal.returns-clause-alone
+returns-clause-alone g c one =
+    let old = c.args.client.now in
+    let last = c.loop-shard-test.false in
+    let near = c.loop-shard.auto.shard-end in
+    let count = c.requires.seated.count in
+    let size = c.len-shard-end.ensures in
+    let end : c.loop-shard.shard ≡ length old.seats.items = omega arith in
+    rw (
+      sum_all (λ v. v.takings) old.seats.items,
+      sum_all (λ v. length v.made) old.seats.items,
+      ← end,
+    )
+    (c.loop-shard.invariant.3 one)

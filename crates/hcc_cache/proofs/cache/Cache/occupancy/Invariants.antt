@@ -1,0 +1,14 @@
+use Rattle.std.proofs.Common.{◌≡◌, ◌+◌, ◌*◌, ◌^◌, ◌≤◌, ℕ, length}
+use Rattle.hcc_rule.specs.Views.{different}
+use Rattle.hcc_cache.specs.Clients.{view_at}
+use Rattle.hcc_cache.proofs.Through.{GoesThrough, sum_to}
+use Rattle.hcc_cache.proofs.cache.Cache.occupancy.Given as goal
+
+abbrev pub invariant-loop-shard : goal.invariant-loop-shard
+invariant-loop-shard g l =
+    GoesThrough l.self (λ v w. w ≡ v) 1 l.fn.client l.client l.shard
+    × (sum_to l.shard (λ s. length (different (view_at s l.fn.client).records)) ≤ l.sum)
+    × (l.sum ≤ 2 ^ 33 * l.shard)
+    × (l.self.geometry.clients ≡ 1
+    → l.sum + sum_to l.shard (λ s. (view_at s l.fn.client).takings)
+    ≡ sum_to l.shard (λ s. length (view_at s l.fn.client).made))

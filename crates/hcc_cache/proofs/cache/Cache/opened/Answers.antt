@@ -1,0 +1,48 @@
+use Rattle.std.proofs.Common.{◌≡◌, ◌+◌, [], ◌∷◌, ◌++◌, refl, ap, ◌∙◌, length, slice_get, arith}
+use Rattle.std.proofs.lemmas.List.{length_push}
+use Rattle.hcc_rule.proofs.Seats.Splits.{each_snoc}
+use Rattle.hcc_cache.specs.Opened.{IsConfigured}
+use Rattle.hcc_cache.proofs.Dealing.{dealt_more, dealt_none, opened}
+use Rattle.hcc_cache.proofs.cache.Cache.opened.Goals as goal
+
+pub loop-init : goal.loop-init
+loop-init g c =
+    let items = c.in_ok-shards.ensures.items in
+    record {
+      count = ap length items;
+      dealt = rw items
+          (dealt_none c.args.config c.in_ok-clients.clients.items c.in_ok-clients.ensures);
+      configured = λ s shard h. absurd (let none = ap (λ xs. slice_get xs s) items in cc);
+    }
+
+pub loop-preserved : goal.loop-preserved
+loop-preserved g c =
+    let kept = c.loop.invariant in
+    let old = c.loop.shards.items in
+    let made = c.in_ok-shard.ensures in
+    let shard = c.in_ok-shard.shard in
+    let items : c.push.new.self.items ≡ old ++ shard ∷ [] = c.in_ok-push.ensures.items in
+    let longer = ap length {y = old ++ shard ∷ []} items ∙ length_push old shard in
+    record {
+      count = longer ∙ ap (λ n. n + 1) kept.count;
+      dealt = rw items
+          (dealt_more c.args.config old c.loop.clients.items c.deal.new.clients.items shard
+          c.in_ok-shard.seats.items kept.dealt c.in_ok-deal.ensures made.seats);
+      configured = rw items
+          (each_snoc (IsConfigured c.args.config c.args.tag) old shard made.shard kept.configured);
+    }
+
+pub returns : goal.returns
+returns g c =
+    let kept = c.loop.invariant in
+    let counted = kept.count in
+    let done = c.loop-test.false in
+    opened c.args.config c.args.tag _ c.loop.clients.items c.requires (record {
+      tag_is = refl;
+      seed = refl;
+      geometry = c.shard_geometry.ensures;
+      capacity = c.shard_capacity.ensures.exact;
+      strict = refl;
+      count = omega arith;
+      shards = kept.configured;
+    }) kept.dealt

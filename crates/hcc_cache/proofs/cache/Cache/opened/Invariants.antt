@@ -1,0 +1,13 @@
+use Rattle.std.proofs.Common.{◌≡◌, ℕ, Some, length, slice_get}
+use Rattle.hcc_shard.specs.declared.shard.Shard.{Shard}
+use Rattle.hcc_cache.specs.declared.seeded.Seeded.{Seeded}
+use Rattle.hcc_cache.specs.Opened.{AreDealt, IsConfigured}
+use Rattle.hcc_cache.proofs.cache.Cache.opened.Given as goal
+
+abbrev pub invariant-loop : goal.invariant-loop
+invariant-loop g l = record {
+  count : length l.shards.items ≡ l.counter;
+  dealt : AreDealt l.config l.shards.items l.clients.items;
+  configured : (s : ℕ) (shard : Shard (Seeded g.row.T.Denot) _)
+      → slice_get l.shards.items s ≡ Some shard → IsConfigured l.config l.tag shard;
+}

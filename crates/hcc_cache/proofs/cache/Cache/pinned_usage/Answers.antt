@@ -1,0 +1,65 @@
+use Rattle.std.proofs.Common.{◌≡◌, ◌+◌, ◌*◌, ◌-◌, ◌^◌, ◌≤◌, min, ℕ, sym, refl, ap, length, ◌∙◌, arith}
+use Rattle.hcc_table.specs.Searched.{Sought}
+use Rattle.hcc_cache.specs.Clients.{view_at}
+use Rattle.hcc_cache.specs.Totals.{charge_by, charge_in}
+use Rattle.hcc_cache.proofs.Through.{goes_first, goes_on, most_counted, same_counted, sought_all, sum_all, sum_next, sum_to}
+use Rattle.hcc_cache.proofs.cache.Cache.pinned_usage.Goals as goal
+
+pub loop-shard-init : goal.loop-shard-init
+loop-shard-init g c = (
+  goes_first c.args.self.now Sought (5 * c.args.self.now.geometry.slots + 1) c.args.client.now
+      c.requires,
+  omega arith,
+  λ one. omega arith,
+)
+
+pub loop-shard-preserved : goal.loop-shard-preserved
+loop-shard-preserved g c =
+    let cache = c.args.self.now in
+    let old = c.args.client.now in
+    let now = c.loop-shard.client in
+    let k = c.loop-shard.shard in
+    let told = c.pinned_at.ensures in
+    let stays = c.loop-shard.invariant.0.left k (omega arith) in
+    let charge : charge_in (view_at k now) ≡ charge_in (view_at k old) = ap charge_in stays in
+    let more = told.entries in
+    let next = c.pinned_at.new.client in (
+      goes_on cache Sought (5 * cache.geometry.slots + 1) old now next k (view_at k next)
+          c.loop-shard.invariant.0 told.known told.keeps told.view (rw (← stays) told.sought)
+          told.steps,
+      rw (sum_next k (λ s. charge_in (view_at s old)), c.saturating_add-sum.ensures)
+          (most_counted (sum_to k (λ s. charge_in (view_at s old))) (charge_in (view_at k old))
+          c.loop-shard.sum c.pinned_at.result c.loop-shard.invariant.1 (omega arith)),
+      λ one. rw (sum_next k (λ s. charge_in (view_at s old)), c.saturating_add-sum.ensures)
+          (same_counted (sum_to k (λ s. charge_in (view_at s old))) (charge_in (view_at k old))
+          c.loop-shard.sum c.pinned_at.result (c.loop-shard.invariant.2 one)
+          (told.alone one ∙ charge)),
+    )
+
+pub returns-clause-entries : goal.returns-clause-entries
+returns-clause-entries g c =
+    let old = c.args.client.now in
+    let last = c.loop-shard-test.false in
+    let near = c.loop-shard.auto.shard-end in
+    let count = c.requires.seated.count in
+    let size = c.len-shard-end.ensures in
+    let end : c.loop-shard.shard ≡ length old.seats.items = omega arith in
+    rw (sum_all charge_in old.seats.items, ← end) c.loop-shard.invariant.1
+
+pub returns-clause-alone : goal.returns-clause-alone
+returns-clause-alone g c one =
+    let old = c.args.client.now in
+    let last = c.loop-shard-test.false in
+    let near = c.loop-shard.auto.shard-end in
+    let count = c.requires.seated.count in
+    let size = c.len-shard-end.ensures in
+    let end : c.loop-shard.shard ≡ length old.seats.items = omega arith in
+    rw (sum_all charge_in old.seats.items, ← end) (c.loop-shard.invariant.2 one)
+
+pub returns-clause-views : goal.returns-clause-views
+returns-clause-views g c = record {
+  all =
+      sought_all c.args.self.now (5 * c.args.self.now.geometry.slots + 1) c.args.client.now
+      c.loop-shard.client c.loop-shard.shard c.loop-shard.invariant.0;
+  self = c.loop-shard.invariant.0.self;
+}

@@ -1,0 +1,13 @@
+use Rattle.std.proofs.Common.{◌≡◌, ◌+◌, ◌*◌, ◌-◌, ◌^◌, ◌≤◌, min, ℕ}
+use Rattle.hcc_table.specs.Searched.{Sought}
+use Rattle.hcc_cache.specs.Clients.{view_at}
+use Rattle.hcc_cache.specs.Totals.{charge_in}
+use Rattle.hcc_cache.proofs.Through.{GoesThrough, sum_to}
+use Rattle.hcc_cache.proofs.cache.Cache.pinned_usage.Given as goal
+
+abbrev pub invariant-loop-shard : goal.invariant-loop-shard
+invariant-loop-shard g l =
+    GoesThrough l.self Sought (5 * l.self.geometry.slots + 1) l.fn.client l.client l.shard
+    × (min (sum_to l.shard (λ s. charge_in (view_at s l.fn.client))) (2 ^ 64 - 1) ≤ l.sum)
+    × (l.self.geometry.clients ≡ 1
+    → l.sum ≡ min (sum_to l.shard (λ s. charge_in (view_at s l.fn.client))) (2 ^ 64 - 1))
