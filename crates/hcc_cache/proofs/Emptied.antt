@@ -1,12 +1,11 @@
 -- What a client without handles knows: no references, and no standalone entries.
-use Rattle.std.proofs.Common.{◌≡◌, ℕ, zero, suc, ◌+◌, ◌≤◌, List, [], ◌∷◌, Option, Some, None, is_some, count_by, length, slice_get, slice_index_or, refl, arith}
+use Rattle.std.proofs.Common.{◌≡◌, ℕ, suc, ◌≤◌, List, [], ◌∷◌, Option, Some, None, is_some, count_by, slice_get, slice_index_or, refl, arith}
 use Rattle.std.proofs.lemmas.List.{nil_from_length}
-use Rattle.slab.specs.Slab.{get, slab_len}
+use Rattle.slab.specs.Slab.{slab_len}
 use Rattle.hcc_core.specs.Sums.{total}
 use Rattle.hcc_core.proofs.SumLemmas.{total-member}
 use Rattle.hcc_shard.specs.declared.seat.ShardSeat.{ShardSeat}
 use Rattle.hcc_shard.specs.Callers.{view_of}
-use Rattle.hcc_shard.specs.Closed.{HoldsNothing}
 use Rattle.hcc_cache.specs.declared.cache.Cache.{Cache}
 use Rattle.hcc_cache.specs.declared.client.Client.{Client}
 use Rattle.hcc_cache.specs.declared.holding.Alone.{Alone}

@@ -1,5 +1,5 @@
 -- The shards of a cache, as they are closed from the last on.
-use Rattle.std.proofs.Common.{◌≡◌, ◌⊎◌, inl, inr, ℕ, ◌+◌, ◌-◌, ◌<◌, ◌≤◌, List, [], ◌∷◌, ◌++◌, Option, Some, None, is_some, length, reverse, take, slice_get, sym, refl, ap, ◌∙◌, length-append, arith}
+use Rattle.std.proofs.Common.{◌≡◌, inl, inr, ℕ, ◌+◌, ◌-◌, ◌<◌, ◌≤◌, List, [], ◌∷◌, ◌++◌, Option, Some, None, is_some, length, reverse, take, slice_get, sym, refl, ap, ◌∙◌, length-append, arith}
 use Rattle.std.proofs.lemmas.List.{length-take-le, take_all, take-take, length-reverse}
 use Rattle.std.specs.declared.alloc.Global.{Global}
 use Rattle.hcc_core.proofs.ListLemmas.{read_last}
@@ -14,6 +14,7 @@ use Rattle.hcc_shard.specs.declared.entries.ClosedShard.{ClosedShard}
 use Rattle.hcc_shard.specs.declared.seat.ShardSeat.{ShardSeat}
 use Rattle.hcc_shard.specs.declared.shard.Shard.{Shard}
 use Rattle.hcc_shard.specs.Callers.{geometry_of, plan_of, view_of}
+use Rattle.hcc_shard.proofs.Values.{value_kept}
 use Rattle.hcc_cache.specs.declared.cache.Cache.{Cache}
 use Rattle.hcc_cache.specs.declared.client.Client.{Client}
 use Rattle.hcc_cache.specs.declared.closed.Closed.{Closed}
@@ -292,6 +293,9 @@ module _ {T : Type 0} (fits : T → Key → List ℕ → Type 0) (cache : Cache 
       count = ap length same ∙ items_count;
       size = λ s left h. (left_of s left (rw same at h)).size;
       closes = λ s left h. (left_of s left (rw same at h)).closes;
+      values = λ s left h. value_kept (fits_seeded fits)
+          (record { tag = cache.tag; seed = cache.seed }) cache.geometry.room
+          (words_of left.table) (all_joined (views_at s old));
       full = λ s inside.
           let n = items_count in
           let one = there items s (omega arith) in

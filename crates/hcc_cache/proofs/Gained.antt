@@ -1,5 +1,5 @@
 -- A client that keeps one handle more.
-use Rattle.std.proofs.Common.{◌≡◌, ◌+◌, ◌-◌, true, Some, None, sym, refl, ◌∙◌}
+use Rattle.std.proofs.Common.{◌≡◌, ◌+◌, true, Some, None, sym, refl, ◌∙◌}
 use Rattle.slab.specs.Slab.{get, slab_len, Updates}
 use Rattle.hcc_cache.specs.declared.cache.Cache.{Cache}
 use Rattle.hcc_cache.specs.declared.client.Client.{Client}

@@ -1,12 +1,11 @@
 -- A client that was handed a handle on what it inserted.
-use Rattle.std.proofs.Common.{◌≡◌, ℕ, ◌+◌, ◌<◌, ◌≤◌, Bool, List, [], ◌∷◌, ◌++◌, Option, Some, None, Ok, length, option_map, sym, refl, ap, subst, ◌∙◌, arith}
-use Rattle.slab.specs.Slab.{get, slab_len}
+use Rattle.std.proofs.Common.{◌≡◌, ℕ, ◌+◌, ◌<◌, ◌≤◌, Bool, List, [], ◌∷◌, ◌++◌, Some, None, Ok, length, option_map, sym, refl, ap, subst, arith}
+use Rattle.slab.specs.Slab.{slab_len}
 use Rattle.hcc_core.specs.declared.client.Standalone.{Standalone}
 use Rattle.hcc_core.specs.declared.limits.TheConstants.{MOST_HANDLES}
 use Rattle.hcc_rule.specs.declared.key.Key.{Key}
 use Rattle.hcc_rule.specs.declared.steps.shows.Draft.{Draft}
 use Rattle.hcc_rule.specs.declared.view.Record.{Record}
-use Rattle.hcc_rule.specs.declared.view.View.{View}
 use Rattle.hcc_rule.specs.ToldOwners.{made_of, shown_entry}
 use Rattle.hcc_rule.specs.Views.{Each}
 use Rattle.hcc_rule.specs.Words.{key_of}
@@ -30,10 +29,10 @@ use Rattle.hcc_cache.specs.declared.holding.Kept.TheVariants.{Pinned, Standing}
 use Rattle.hcc_cache.specs.declared.priority.Priority.{Priority}
 use Rattle.hcc_cache.specs.declared.seeded.Seeded.{Seeded}
 use Rattle.hcc_cache.specs.Calls.{Gains, shard_in}
-use Rattle.hcc_cache.specs.Clients.{Held, held_alone, held_entry}
+use Rattle.hcc_cache.specs.Clients.{held_alone, held_entry}
 use Rattle.hcc_cache.specs.Inserts.{Pins, Stands, pinned_draft}
 use Rattle.hcc_cache.specs.Keys.{key_from, key_to}
-use Rattle.hcc_cache.specs.Known.{AreHeld, IsSeated, Knows, references_of, standalones_at}
+use Rattle.hcc_cache.specs.Known.{AreHeld, Knows, references_of, standalones_at}
 use Rattle.hcc_cache.proofs.Alone.{IsJoined, held_joined, known_of, stands_joined}
 use Rattle.hcc_cache.proofs.At.{ChangesAt, IsAt, knows_at, seated_at, works_at}
 use Rattle.hcc_cache.proofs.Gained.{IsGiven, gains}

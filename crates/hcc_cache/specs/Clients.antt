@@ -1,5 +1,6 @@
--- What contracts see of a client: what it knows of each shard, its handles, and what they stand for.
-use Rattle.std.specs.Prelude.{◌≡◌, ℕ, ◌&&◌, ◌==◌, Bool, List, [], Option, Some, None, IsSome, find, length, map, option_map, slice_get, if◌then◌else◌}
+-- What contracts see of a client: what it knows of each shard, its handles, and what they stand
+-- for.
+use Rattle.std.specs.Prelude.{ℕ, ◌&&◌, ◌==◌, Bool, List, Option, Some, None, IsSome, option_map, slice_get, if◌then◌else◌}
 use Rattle.slab.specs.Slab.{Slab, get}
 use Rattle.hcc_core.specs.declared.client.Standalone.{Standalone}
 use Rattle.hcc_core.specs.declared.slot.Entry.{Entry}

@@ -1,5 +1,5 @@
 -- What is left of a cache once all its clients are back.
-use Rattle.std.specs.Prelude.{◌≡◌, ℕ, ◌+◌, ◌<◌, ◌≤◌, zero, suc, min, true, List, [], ◌∷◌, Option, Some, None, length, map, slice_get, take}
+use Rattle.std.specs.Prelude.{◌≡◌, ℕ, ◌+◌, ◌<◌, ◌≤◌, zero, suc, min, List, [], ◌∷◌, Option, Some, None, length, map, slice_get, take}
 use Rattle.hcc_core.specs.declared.slot.Stamp.{Stamp}
 use Rattle.hcc_core.specs.Sums.{total}
 use Rattle.hcc_rule.specs.declared.key.Key.{Key}
@@ -10,8 +10,8 @@ use Rattle.hcc_rule.specs.Opening.{joined_view, spent_view}
 use Rattle.hcc_shard.specs.declared.entries.ClosedShard.{ClosedShard}
 use Rattle.hcc_shard.specs.declared.seat.ShardSeat.{ShardSeat}
 use Rattle.hcc_shard.specs.declared.shard.Shard.{Shard}
-use Rattle.hcc_shard.specs.Callers.{geometry_of, plan_of, view_of}
 use Rattle.hcc_shard.specs.Closed.{HoldsNothing}
+use Rattle.hcc_shard.specs.Left.{GivesValues}
 use Rattle.hcc_cache.specs.declared.cache.Cache.{Cache}
 use Rattle.hcc_cache.specs.declared.client.Client.{Client}
 use Rattle.hcc_cache.specs.declared.closed.Closed.{Closed}
@@ -100,6 +100,11 @@ pub record IsClosed {T : Type 0} (fits : T → Key → List ℕ → Type 0) (cac
       → slice_get closed.shards.items s ≡ Some (Some left)
       → Closes (fits_seeded fits) (record { tag = cache.tag; seed = cache.seed }) cache.geometry
       (words_of left.table) (all_joined (views_at s clients))
+  -- the value that is left of an entry is the one that it was made with
+  pub values : (s : ℕ) (left : ClosedShard _)
+      → slice_get closed.shards.items s ≡ Some (Some left)
+      → GivesValues (fits_seeded fits) (record { tag = cache.tag; seed = cache.seed })
+      cache.geometry.room (words_of left.table) (all_joined (views_at s clients))
   -- there is none but these
   pub full : (s : ℕ) → s < length cache.shards.items
       → (left : ClosedShard _) × (slice_get closed.shards.items s ≡ Some (Some left))
