@@ -69,8 +69,8 @@ module _ {T : Type 0} (seed used : ℕ) (seats : List (ShardSeat T)) (handles : 
       no
 
   -- and their shards know them still
-  standing_still : (j n : ℕ) (s : Standalone) → find (is_standing n) (standalones_in seats j) ≡
-      Some s
+  standing_still : (j n : ℕ) (s : Standalone)
+      → find (is_standing n) (standalones_in seats j) ≡ Some s
       → find (is_standing n) (standalones_in (slice_set seats i is) j) ≡ Some s
   standing_still j n s found = elim (cases_eq j i) [
     | inl same ↦

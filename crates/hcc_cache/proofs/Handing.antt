@@ -51,8 +51,8 @@ hold_with serial key shard kept =
 pub alone_within : {T : Type 0} (cache : Cache T) (client : Client T) → Knows cache client
     → slab_len client.alone ≤ client.held
 alone_within cache client knows =
-    let each = len_within references_of client.alone (λ p a there. (knows.holds.some p a
-    there).0) in
+    let each = len_within references_of client.alone
+    (λ p a there. (knows.holds.some p a there).0) in
     let references = knows.holds.references in
     let count = knows.count in
     omega arith

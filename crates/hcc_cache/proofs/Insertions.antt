@@ -6,7 +6,6 @@ use Rattle.hcc_core.specs.declared.slot.Entry.{Entry}
 use Rattle.hcc_rule.specs.declared.geometry.Geometry.{Geometry}
 use Rattle.hcc_rule.specs.declared.key.Key.{Key}
 use Rattle.hcc_rule.specs.declared.steps.shows.Draft.{Draft}
-use Rattle.hcc_rule.specs.declared.view.Made.{Made}
 use Rattle.hcc_rule.specs.declared.view.Record.{Record}
 use Rattle.hcc_rule.specs.declared.view.View.{View}
 use Rattle.hcc_rule.specs.ToldOwners.{first_records, made_of, shown_entry}
@@ -18,16 +17,15 @@ use Rattle.hcc_shard.specs.declared.inserting.Inserted.TheVariants.{Dropped, Pla
 use Rattle.hcc_shard.specs.declared.seat.ShardSeat.{ShardSeat}
 use Rattle.hcc_shard.specs.declared.shard.Shard.{Shard}
 use Rattle.hcc_shard.specs.Callers.{capacity_of, geometry_of, is_strict, plan_of, steps_of, view_of}
-use Rattle.hcc_shard.specs.Inserted.{InsertedBy, IsInsertable, IsUnshown, MakesNoEntry, RefusedBy, Shows, Tries, inserting}
+use Rattle.hcc_shard.specs.Inserted.{InsertedBy, IsInsertable, IsUnshown, MakesNoEntry, RefusedBy, Shows, inserting}
 use Rattle.hcc_shard.specs.Seated.{Rests}
 use Rattle.hcc_shard.proofs.Names.{length_more}
 use Rattle.hcc_cache.specs.declared.cache.Cache.{Cache}
 use Rattle.hcc_cache.specs.declared.client.Client.{Client}
-use Rattle.hcc_cache.specs.declared.errors.InsertError.TheVariants as answers
 use Rattle.hcc_cache.specs.declared.priority.Priority.{Priority}
 use Rattle.hcc_cache.specs.declared.seeded.Seeded.{Seeded}
 use Rattle.hcc_cache.specs.Calls.{TakesAtMost, UsesOne, shard_in}
-use Rattle.hcc_cache.specs.Inserts.{Fails, Inserts, KeepsHandles, RefusesWith, Stores, answer_of, draft_of, error_of, pinned_draft}
+use Rattle.hcc_cache.specs.Inserts.{Fails, KeepsHandles, Stores, draft_of, pinned_draft}
 use Rattle.hcc_cache.specs.Keys.{fits_seeded, key_from}
 use Rattle.hcc_cache.specs.Known.{IsSeated, Knows}
 use Rattle.hcc_cache.proofs.At.{ChangesAt, IsAt, knows_at, next_at, seated_at, takes_at, works_at}
@@ -56,27 +54,26 @@ module _ {T : Type 0} where
     pub others : w.others ≡ v.others
     pub made : length w.made ≤ length v.made + 1
 
-  -- and these are the references and the standalone entries
+  -- An insertion was tried, and these are the references and the standalone entries after it.
   pub record Leaves (records : List Record) (standalones : List Standalone) (v w : View T)
       : Type 0 where
     pub tried : IsTried v w
     pub records_are : w.records ≡ records
     pub standalones_are : w.work.standalones ≡ standalones
 
-  leaves_by : (slots capacity : ℕ) (strict : Bool) (charge stamps : ℕ)
-      (standalones : List Standalone) (records : List Record) (made : List Made) (v w : View T)
-      → Tries slots capacity strict charge stamps standalones records made v w
-      → length made ≤ length v.made + 1 → Leaves records standalones v w
-  leaves_by slots capacity strict charge stamps standalones records made v w tries few =
-      let is : length w.made ≡ length made = ap (λ (z : View T). length z.made) tries.same in
+  -- as this view has them
+  leaves_by : (v w x : View T) → w ≡ x → x.client ≡ v.client → x.others ≡ v.others
+      → length x.made ≤ length v.made + 1 → Leaves x.records x.work.standalones v w
+  leaves_by v w x same client others few =
+      let is : length w.made ≡ length x.made = ap (λ (z : View T). length z.made) same in
       record {
         tried = record {
-          client = ap (λ (z : View T). z.client) tries.same;
-          others = ap (λ (z : View T). z.others) tries.same;
+          client = ap (λ (z : View T). z.client) same ∙ client;
+          others = ap (λ (z : View T). z.others) same ∙ others;
           made = omega arith;
         };
-        records_are = ap (λ (z : View T). z.records) tries.same;
-        standalones_are = ap (λ (z : View T). z.work.standalones) tries.same;
+        records_are = ap (λ (z : View T). z.records) same;
+        standalones_are = ap (λ (z : View T). z.work.standalones) same;
       }
 
   module _ (slots capacity : ℕ) (strict : Bool) (draft : Draft) (value : List ℕ) (v w : View T)
@@ -85,21 +82,16 @@ module _ {T : Type 0} where
       leaves_none : (standalones : List Standalone)
           → MakesNoEntry slots capacity strict draft standalones v w
           → Leaves v.records standalones v w
-      leaves_none standalones tries =
-          leaves_by slots capacity strict draft.charge v.work.stamps standalones v.records v.made
-          v w
-          tries (omega arith)
+      leaves_none standalones tries = leaves_by v w _ (tries.same) refl refl (omega arith)
 
       -- an entry was shown
-      pub leaves_shown : (slot : ℕ) → Shows slots capacity strict draft value slot v w
-          → Leaves (v.records ++ first_records slot draft.name (shown_entry v (made_of draft
-          value)))
+      leaves_shown : (slot : ℕ) → Shows slots capacity strict draft value slot v w
+          → Leaves
+          (v.records ++ first_records slot draft.name (shown_entry v (made_of draft value)))
           v.work.standalones v w
       leaves_shown slot shows =
           let more = length_more v.made (made_of draft value) in
-          leaves_by slots capacity strict draft.charge (v.work.stamps + 1) v.work.standalones
-          (v.records ++ first_records slot draft.name (shown_entry v (made_of draft value)))
-          (v.made ++ made_of draft value ∷ []) v w (shows.tries) (omega arith)
+          leaves_by v w _ (shows.tries.same) refl refl (omega arith)
 
       -- one was kept out of the table
       pub leaves_unshown : (standalones : List Standalone)
@@ -110,18 +102,7 @@ module _ {T : Type 0} where
       -- the shard refused it
       pub leaves_refused : (why : Refused) → RefusedBy slots capacity strict draft why v w
           → Leaves v.records v.work.standalones v w
-      leaves_refused TooLarge told =
-          let same : w ≡ v = told.2 in
-          let is : length w.made ≡ length v.made = ap (λ (z : View T). length z.made) same in
-          record {
-            tried = record {
-              client = ap (λ (z : View T). z.client) same;
-              others = ap (λ (z : View T). z.others) same;
-              made = omega arith;
-            };
-            records_are = ap (λ (z : View T). z.records) same;
-            standalones_are = ap (λ (z : View T). z.work.standalones) same;
-          }
+      leaves_refused TooLarge told = leaves_by v w v (told.2) refl refl (omega arith)
       leaves_refused CapacityFull told = leaves_none v.work.standalones (told.0)
       leaves_refused OccupancyFull told = leaves_none v.work.standalones (told.0)
 
@@ -308,69 +289,3 @@ module _ {T : Type 0} where
             };
             keeps = keeps_asked;
           }
-
--- Of answers.
-
--- A refusal isn't that all serials are used,
-pub not_spent : (why : Refused) → error_of why ≡ answers.Spent → ⊥
-not_spent TooLarge same = cc
-not_spent CapacityFull same = cc
-not_spent OccupancyFull same = cc
-
-pub answers_unspent : (answer : Result Inserted Refused)
-    → answer_of answer ≡ Err answers.Spent → ⊥
-answers_unspent (Ok Placed) same = cc
-answers_unspent (Ok Dropped) same = cc
-answers_unspent (Err why) same =
-    let is : error_of why ≡ answers.Spent = cc in
-    not_spent why is
-
--- or all handles are held,
-pub not_full : (why : Refused) → error_of why ≡ answers.HandlesFull → ⊥
-not_full TooLarge same = cc
-not_full CapacityFull same = cc
-not_full OccupancyFull same = cc
-
-module _ {T : Type 0} where
-  -- nor that the charge is too large, where it is not.
-  pub not_large : (slots capacity : ℕ) (strict : Bool) (draft : Draft) (v w : View T)
-      (why : Refused) → RefusedBy slots capacity strict draft why v w
-      → (strict ≡ true → draft.charge ≤ capacity) → error_of why ≡ answers.TooLarge → ⊥
-  not_large slots capacity strict draft v w TooLarge told small same =
-      let above = told.1 in
-      let below = small told.0 in
-      omega arith
-  not_large slots capacity strict draft v w CapacityFull told small same = cc
-  not_large slots capacity strict draft v w OccupancyFull told small same = cc
-
-  -- Of answers without a handle the same.
-  pub answers_small : (slots capacity : ℕ) (strict : Bool) (draft : Draft) (value : List ℕ)
-      (v w : View T) (answer : Result Inserted Refused)
-      → InsertedBy slots capacity strict draft value answer v w
-      → (strict ≡ true → draft.charge ≤ capacity) → answer_of answer ≡ Err answers.TooLarge → ⊥
-  answers_small slots capacity strict draft value v w (Ok Placed) told small same = cc
-  answers_small slots capacity strict draft value v w (Ok Dropped) told small same = cc
-  answers_small slots capacity strict draft value v w (Err why) told small same =
-      let is : error_of why ≡ answers.TooLarge = cc in
-      not_large slots capacity strict draft v w why told small is
-
-  module _ (cache : Cache T) (key : Key) (charge : ℕ) (priority : Priority) (value : List ℕ)
-      (old new : Client T) where
-    -- The answer is told, without a handle
-    pub inserts_told : (answer : Result Inserted Refused)
-        → (answer_of answer ≡ Err answers.TooLarge → ⊥)
-        → Stores cache key charge priority value answer old new
-        → Inserts cache key charge priority value (answer_of answer) old new
-    inserts_told (Ok Placed) fits stores = stores
-    inserts_told (Ok Dropped) fits stores = stores
-    inserts_told (Err TooLarge) fits stores = absurd (fits refl)
-    inserts_told (Err CapacityFull) fits stores = stores
-    inserts_told (Err OccupancyFull) fits stores = stores
-
-    -- and the refusal with one.
-    pub refuses_told : (why : Refused) → (error_of why ≡ answers.TooLarge → ⊥)
-        → Fails cache key charge priority value why old new
-        → RefusesWith cache key charge priority value (error_of why) old new
-    refuses_told TooLarge fits fails = absurd (fits refl)
-    refuses_told CapacityFull fits fails = fails
-    refuses_told OccupancyFull fits fails = fails

@@ -21,6 +21,7 @@ pub mod Released
 pub mod Readings
 pub mod Dealing
 pub mod Insertions
+pub mod Refusals
 pub mod Alone
 pub mod Handing
 pub mod Lists

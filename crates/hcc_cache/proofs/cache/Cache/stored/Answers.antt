@@ -6,7 +6,8 @@ use Rattle.hcc_cache.specs.declared.client.Client.{Client}
 use Rattle.hcc_cache.specs.Inserts.{draft_of}
 use Rattle.hcc_cache.specs.Keys.{shard_of}
 use Rattle.hcc_cache.proofs.At.{ChangesAt, is_at, seated_at}
-use Rattle.hcc_cache.proofs.Insertions.{IsAsked, answers_small, answers_unspent, insertable_at, inserts_at, inserts_told, knows_asked, leaves_stored, stores_at, told_as}
+use Rattle.hcc_cache.proofs.Insertions.{IsAsked, insertable_at, inserts_at, knows_asked, leaves_stored, stores_at, told_as}
+use Rattle.hcc_cache.proofs.Refusals.{answers_small, answers_unspent, inserts_told}
 use Rattle.hcc_cache.proofs.cache.Cache.stored.Goals as goal
 
 pub insert-requires-clause-seat : goal.insert-requires-clause-seat

@@ -12,7 +12,8 @@ use Rattle.hcc_cache.proofs.Alone.{IsJoined}
 use Rattle.hcc_cache.proofs.At.{ChangesAt, few_at, is_at, seated_at}
 use Rattle.hcc_cache.proofs.Gained.{IsGiven}
 use Rattle.hcc_cache.proofs.Handing.{few_alone, has_room, hold_with, knows_alone, knows_pins, pinned_told, pins_at, stands_at}
-use Rattle.hcc_cache.proofs.Insertions.{IsAsked, fails_at, insertable_at, inserts_at, knows_asked, leaves_refused, leaves_unshown, not_full, not_large, not_spent, refuses_told, told_as}
+use Rattle.hcc_cache.proofs.Insertions.{IsAsked, fails_at, insertable_at, inserts_at, knows_asked, leaves_refused, leaves_unshown, told_as}
+use Rattle.hcc_cache.proofs.Refusals.{not_full, not_large, not_spent, refuses_told}
 use Rattle.hcc_cache.proofs.cache.Cache.stored_pinned.Goals as goal
 
 pub insert_pinned-requires-clause-seat : goal.insert_pinned-requires-clause-seat
@@ -35,10 +36,9 @@ insert_pinned-requires-clause-may g c =
     let was = c.index_mut-seat.result.now in
     let at = is_at cache old i shard was c.requires.known c.shard_number-shard.ensures.inside
     c.index.ensures c.index_mut-seat.ensures.value in
+    let read = c.deref-bytes.ensures.value in
     insertable_at cache old old i shard was was at g.T.Tag.fits c.args.key
-    c.deref-bytes.result.now _
-    (rw c.deref-bytes.ensures.value c.requires.fits) (rw c.deref-bytes.ensures.value
-    c.requires.short)
+    c.deref-bytes.result.now _ (rw read c.requires.fits) (rw read c.requires.short)
     (λ k inside. omega (arith, c.type_inv.bytes k))
     (c.requires.paid, c.ranges.charge.fits) c.countdown.ensures.within refl
     c.key_to-under.ensures.undone c.requires.free.1
@@ -99,9 +99,9 @@ returns-in-Ok-Placed g c =
       name = Some old.used;
     } in
     let pin = c.in-Ok-Placed.pin in
-    let told = pinned_told cache old old i shard was is at draft asked same c.deref-bytes.result.now
-    value c.deref-bytes.ensures.value c.in-Ok-Placed.field-0 (Placed pin) c.in-Ok-Placed.field-0-is
-    c.in-Ok-Placed.ensures.view in
+    let told = pinned_told cache old old i shard was is at draft asked same
+    c.deref-bytes.result.now value c.deref-bytes.ensures.value c.in-Ok-Placed.field-0
+    (Placed pin) c.in-Ok-Placed.field-0-is c.in-Ok-Placed.ensures.view in
     let new = c.keep-handle.new.self in
     let rest = c.keep-handle.ensures.rest in
     let some = c.requires.free.1 in
@@ -169,10 +169,9 @@ returns-in-Ok-Standalone g c =
       countdown = c.countdown.ensures.exact j;
       name = Some old.used;
     } in
-    let told = pinned_told cache old old i shard was is at draft asked same c.deref-bytes.result.now
-    value c.deref-bytes.ensures.value c.in-Ok-Standalone.field-0 Standalone
-    c.in-Ok-Standalone.field-0-is
-    c.in-Ok-Standalone.ensures.view in
+    let told = pinned_told cache old old i shard was is at draft asked same
+    c.deref-bytes.result.now value c.deref-bytes.ensures.value c.in-Ok-Standalone.field-0
+    Standalone c.in-Ok-Standalone.field-0-is c.in-Ok-Standalone.ensures.view in
     let new = c.keep_alone-handle.new.self in
     let rest = c.keep_alone-handle.ensures.rest in
     let some = c.requires.free.1 in

@@ -1,0 +1,80 @@
+-- How a shard's answers to insertions are told.
+use Rattle.std.proofs.Common.{◌≡◌, ℕ, ◌≤◌, Bool, true, List, Result, Ok, Err, refl, arith}
+use Rattle.hcc_rule.specs.declared.key.Key.{Key}
+use Rattle.hcc_rule.specs.declared.steps.shows.Draft.{Draft}
+use Rattle.hcc_rule.specs.declared.view.View.{View}
+use Rattle.hcc_charge.specs.declared.reserving.Refused.{Refused}
+use Rattle.hcc_charge.specs.declared.reserving.Refused.TheVariants.{CapacityFull, OccupancyFull, TooLarge}
+use Rattle.hcc_shard.specs.declared.inserting.Inserted.{Inserted}
+use Rattle.hcc_shard.specs.declared.inserting.Inserted.TheVariants.{Dropped, Placed}
+use Rattle.hcc_shard.specs.Inserted.{InsertedBy, RefusedBy}
+use Rattle.hcc_cache.specs.declared.cache.Cache.{Cache}
+use Rattle.hcc_cache.specs.declared.client.Client.{Client}
+use Rattle.hcc_cache.specs.declared.errors.InsertError.TheVariants as answers
+use Rattle.hcc_cache.specs.declared.priority.Priority.{Priority}
+use Rattle.hcc_cache.specs.Inserts.{Fails, Inserts, RefusesWith, Stores, answer_of, error_of}
+
+-- A refusal by a shard isn't that all serials are used,
+pub not_spent : (why : Refused) → error_of why ≡ answers.Spent → ⊥
+not_spent TooLarge same = cc
+not_spent CapacityFull same = cc
+not_spent OccupancyFull same = cc
+
+-- nor is an answer without a handle,
+pub answers_unspent : (answer : Result Inserted Refused)
+    → answer_of answer ≡ Err answers.Spent → ⊥
+answers_unspent (Ok Placed) same = cc
+answers_unspent (Ok Dropped) same = cc
+answers_unspent (Err why) same =
+    let is : error_of why ≡ answers.Spent = cc in
+    not_spent why is
+
+-- or that all handles are held,
+pub not_full : (why : Refused) → error_of why ≡ answers.HandlesFull → ⊥
+not_full TooLarge same = cc
+not_full CapacityFull same = cc
+not_full OccupancyFull same = cc
+
+module _ {T : Type 0} where
+  -- nor that the charge is too large, where it is not.
+  pub not_large : (slots capacity : ℕ) (strict : Bool) (draft : Draft) (v w : View T)
+      (why : Refused) → RefusedBy slots capacity strict draft why v w
+      → (strict ≡ true → draft.charge ≤ capacity) → error_of why ≡ answers.TooLarge → ⊥
+  not_large slots capacity strict draft v w TooLarge told small same =
+      let above = told.1 in
+      let below = small told.0 in
+      omega arith
+  not_large slots capacity strict draft v w CapacityFull told small same = cc
+  not_large slots capacity strict draft v w OccupancyFull told small same = cc
+
+  -- So it is with answers without a handle.
+  pub answers_small : (slots capacity : ℕ) (strict : Bool) (draft : Draft) (value : List ℕ)
+      (v w : View T) (answer : Result Inserted Refused)
+      → InsertedBy slots capacity strict draft value answer v w
+      → (strict ≡ true → draft.charge ≤ capacity) → answer_of answer ≡ Err answers.TooLarge → ⊥
+  answers_small slots capacity strict draft value v w (Ok Placed) told small same = cc
+  answers_small slots capacity strict draft value v w (Ok Dropped) told small same = cc
+  answers_small slots capacity strict draft value v w (Err why) told small same =
+      let is : error_of why ≡ answers.TooLarge = cc in
+      not_large slots capacity strict draft v w why told small is
+
+  module _ (cache : Cache T) (key : Key) (charge : ℕ) (priority : Priority) (value : List ℕ)
+      (old new : Client T) where
+    -- The answer is told, without a handle
+    pub inserts_told : (answer : Result Inserted Refused)
+        → (answer_of answer ≡ Err answers.TooLarge → ⊥)
+        → Stores cache key charge priority value answer old new
+        → Inserts cache key charge priority value (answer_of answer) old new
+    inserts_told (Ok Placed) fits stores = stores
+    inserts_told (Ok Dropped) fits stores = stores
+    inserts_told (Err TooLarge) fits stores = absurd (fits refl)
+    inserts_told (Err CapacityFull) fits stores = stores
+    inserts_told (Err OccupancyFull) fits stores = stores
+
+    -- and the refusal with one.
+    pub refuses_told : (why : Refused) → (error_of why ≡ answers.TooLarge → ⊥)
+        → Fails cache key charge priority value why old new
+        → RefusesWith cache key charge priority value (error_of why) old new
+    refuses_told TooLarge fits fails = absurd (fits refl)
+    refuses_told CapacityFull fits fails = fails
+    refuses_told OccupancyFull fits fails = fails
