@@ -1,9 +1,11 @@
 //! The example of this crate's README: clients on threads of their own read blocks through a cache.
 ghost use Rattle.std.specs.Prelude.{◌≡◌, ℕ, Some, IfOk, length, slice_get};
+ghost use Rattle.std.specs.Thread.{IsSync};
 ghost use Rattle.hcc_cache.specs.Known.{Knows};
 
 use crate::{AnyBytes, Cache, Client, Config, Key, Priority};
 use std::alloc::AllocError;
+use std::process::Abort;
 use std::test::Fail;
 use std::thread::{Threads, map_vec};
 
@@ -24,11 +26,16 @@ const CONFIG: Config = Config {
     seed: 0x5eed,
 };
 
+/// What stands in each byte of a block.
+fn content(number: u64) -> u8 {
+    (number % 251) as u8
+}
+
 /// Reads a block from where blocks come from.
 fn load(number: u64, block: &mut [u8])
     ensures { length block.new ≡ length block.old }
 {
-    block.fill((number % 251) as u8);
+    block.fill(content(number));
 }
 
 /// Reads a block through the cache.
@@ -55,19 +62,21 @@ fn read(cache: &Cache<AnyBytes>, client: &mut Client<AnyBytes>, number: u64, blo
 }
 
 /// A client reads the first hundred blocks, ten times over.
-fn works(cache: &Cache<AnyBytes>, mut client: Client<AnyBytes>) -> Client<AnyBytes>
+fn works(rt: &impl Abort, cache: &Cache<AnyBytes>, mut client: Client<AnyBytes>) -> Client<AnyBytes>
     requires { Knows cache.now client }
     ensures { Knows cache.now result }
 {
     let mut block = [0; BLOCK];
     for round in 0..1_000u64 {
-        read(cache, &mut client, round % 100, &mut block);
+        let number = round % 100;
+        read(cache, &mut client, number, &mut block);
+        assert_eq!(rt; [block[0], block[BLOCK - 1]], [content(number); 2]);
     }
     client
 }
 
 /// Each client works on a thread of its own, and comes back.
-fn all_work<R: Threads + Sync>(
+fn all_work<R: Abort + Threads + Sync>(
     rt: &R,
     cache: &Cache<AnyBytes>,
     clients: Vec<Client<AnyBytes>>,
@@ -81,9 +90,9 @@ fn all_work<R: Threads + Sync>(
         rt,
         clients,
         &|client: Client<AnyBytes>| -> Client<AnyBytes>
-            requires { Knows cache.now client }
+            requires { IsSync R.row × Knows cache.now client }
             ensures { Knows cache.entry.now result }
-        { works(cache, client) },
+        { works(rt, cache, client) },
     )
 }
 
