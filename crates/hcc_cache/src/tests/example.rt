@@ -57,6 +57,7 @@ fn read(cache: &Cache<AnyBytes>, client: &mut Client<AnyBytes>, number: u64, blo
     }
     load(number, block);
     if block.len() <= cache.room() {
+        // A block that is refused or dropped is loaded again.
         let _ = cache.insert(client, key, block, BLOCK as u32, Priority::Low);
     }
 }
