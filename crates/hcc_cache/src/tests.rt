@@ -3,5 +3,6 @@
 
 mod configs;
 mod errors;
+mod example;
 mod keys;
 mod opening;
