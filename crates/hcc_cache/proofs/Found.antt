@@ -168,7 +168,7 @@ module _ {T : Type 0} where
           called))
           (rw (change.seats, alone, used)
           (held_pinned cache.seed old.used old.seats.items old.handles old.alone at.knows.holds i
-          was is r at.seat_is joins standalones_same hold slot counting handle.place new.handles
+          was is r at.seat_is joins standalones_same hold slot counting handle.index new.handles
           seated.records given.named shard_is kept (within old.seats.items i was at.seat_is)
           called of key_is given.free given.updates given.count))
           (omega arith) (omega arith) (omega arith)
@@ -179,7 +179,7 @@ module _ {T : Type 0} where
           let seated = seated_at cache old new i shard was is at in
           let there = there_pinned cache.seed old.used old.seats.items old.handles old.alone
           at.knows.holds i was is r at.seat_is joins standalones_same hold slot counting
-          handle.place new.handles seated.records given.named shard_is kept
+          handle.index new.handles seated.records given.named shard_is kept
           (within old.seats.items i was at.seat_is) called of key_is in
           gains cache old new handle hold given (held_entry cache.seed r.entry)
           (rw (kept, change.seats)

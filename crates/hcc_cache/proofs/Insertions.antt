@@ -1,5 +1,5 @@
 -- A client that asked one shard for an entry: what it needs, and what it knows afterwards.
-use Rattle.std.proofs.Common.{◌≡◌, ℕ, suc, ◌+◌, ◌*◌, ◌^◌, ◌<◌, ◌≤◌, Bool, true, false, List, [], ◌∷◌, ◌++◌, Option, Some, None, Result, Ok, Err, length, get_or, slice_set, sym, refl, ap, ◌∙◌, append-nil, arith}
+use Rattle.std.proofs.Common.{◌≡◌, ℕ, suc, ◌+◌, ◌*◌, ◌^◌, ◌<◌, ◌≤◌, Bool, true, false, List, [], ◌∷◌, ◌++◌, Some, None, Result, Ok, Err, length, get_or, refl, ap, ◌∙◌, append-nil, arith}
 use Rattle.hcc_core.specs.declared.client.Standalone.{Standalone}
 use Rattle.hcc_core.specs.declared.limits.TheConstants.{MOST_COUNTDOWN}
 use Rattle.hcc_core.specs.declared.slot.Entry.{Entry}
@@ -18,7 +18,7 @@ use Rattle.hcc_shard.specs.declared.inserting.Inserted.TheVariants.{Dropped, Pla
 use Rattle.hcc_shard.specs.declared.seat.ShardSeat.{ShardSeat}
 use Rattle.hcc_shard.specs.declared.shard.Shard.{Shard}
 use Rattle.hcc_shard.specs.Callers.{capacity_of, geometry_of, is_strict, plan_of, steps_of, view_of}
-use Rattle.hcc_shard.specs.Inserted.{InsertedBy, IsInsertable, IsUnshown, MakesNoEntry, RefusedBy, Shows, Tries, inserting, with_draft}
+use Rattle.hcc_shard.specs.Inserted.{InsertedBy, IsInsertable, IsUnshown, MakesNoEntry, RefusedBy, Shows, Tries, inserting}
 use Rattle.hcc_shard.specs.Seated.{Rests}
 use Rattle.hcc_shard.proofs.Names.{length_more}
 use Rattle.hcc_cache.specs.declared.cache.Cache.{Cache}
@@ -86,12 +86,14 @@ module _ {T : Type 0} where
           → MakesNoEntry slots capacity strict draft standalones v w
           → Leaves v.records standalones v w
       leaves_none standalones tries =
-          leaves_by slots capacity strict draft.charge v.work.stamps standalones v.records v.made v w
+          leaves_by slots capacity strict draft.charge v.work.stamps standalones v.records v.made
+          v w
           tries (omega arith)
 
       -- an entry was shown
       pub leaves_shown : (slot : ℕ) → Shows slots capacity strict draft value slot v w
-          → Leaves (v.records ++ first_records slot draft.name (shown_entry v (made_of draft value)))
+          → Leaves (v.records ++ first_records slot draft.name (shown_entry v (made_of draft
+          value)))
           v.work.standalones v w
       leaves_shown slot shows =
           let more = length_more v.made (made_of draft value) in

@@ -71,14 +71,14 @@ module _ {T : Type 0} (cache : Cache T) (old new : Client T) (i : ℕ) (shard : 
 module _ {T : Type 0} (cache : Cache T) (client : Client T) (handle : Handle) (hold : Hold)
     (slot : ℕ) (counting : Bool) (shard : Shard (Seeded T) _) (was : ShardSeat (Seeded T))
     (at : IsAt cache client hold.shard shard was) (held : hold_of client handle ≡ Some hold)
-    (there : get client.handles handle.place ≡ Some hold) (kept : hold.kept ≡ Pinned slot counting)
+    (there : get client.handles handle.index ≡ Some hold) (kept : hold.kept ≡ Pinned slot counting)
     (P : List ℕ → Type 0) where
   abbrev pin : IsPinAt cache client hold slot counting (geometry_of shard).slots was
-  pin = pin_at cache client hold slot counting handle.place shard was at there kept
+  pin = pin_at cache client hold slot counting handle.index shard was at there kept
 
   stands : held_of cache client handle ≡ Some (held_entry cache.seed pin.handled.entry)
   stands =
-      held_at cache client hold slot counting handle.place shard was at there kept pin.handled
+      held_at cache client hold slot counting handle.index shard was at there kept pin.handled
       handle held refl
 
   -- of its value
@@ -104,10 +104,10 @@ key_back seed key first second =
 -- what a handle stands for has the key that is kept of it
 pub key_kept : {T : Type 0} (cache : Cache T) (client : Client T) (handle : Handle) (hold : Hold)
     → Knows cache client → hold_of client handle ≡ Some hold
-    → get client.handles handle.place ≡ Some hold → hold.key.w0 < 2 ^ 64 → hold.key.w1 < 2 ^ 64
+    → get client.handles handle.index ≡ Some hold → hold.key.w0 < 2 ^ 64 → hold.key.w1 < 2 ^ 64
     → IfSome (held_of cache client handle) (λ h. hold.key ≡ h.insertion.key)
 key_kept {T} cache client handle hold knows held there first second =
-    rw held (by hold.kept (knows.holds.each handle.place hold there).0.stands)
+    rw held (by hold.kept (knows.holds.each handle.index hold there).0.stands)
   where
     by : (k : Kept) → IsKeptAs cache.seed client.seats.items client.alone hold k
         → IfSome (kept_as cache.seed client.seats.items client.alone hold k)
@@ -116,4 +116,4 @@ key_kept {T} cache client handle hold knows held there first second =
         let back : key_from cache.seed (key_to cache.seed hold.key) ≡ hold.key =
         key_back cache.seed hold.key first second in
         rw (pin.there) (sym (ap (key_from cache.seed) pin.key ∙ back))
-    by (Standing place) stand = rw (stand.there) refl
+    by (Standing index) stand = rw (stand.there) refl

@@ -1,11 +1,11 @@
-use Rattle.std.proofs.Common.{rules, ◌≡◌, ◌∙◌, ◌+◌, ◌-◌, ◌<◌, ◌≤◌, ◌^◌, None, Err, Ok, length, get_or, slice_set, sym, ap, refl, arith}
+use Rattle.std.proofs.Common.{◌≡◌, ◌∙◌, ◌-◌, None, length, get_or, slice_set, ap, refl, arith}
 use Rattle.hcc_rule.specs.declared.steps.shows.Draft.{Draft}
-use Rattle.hcc_shard.specs.Callers.{capacity_of, geometry_of, is_strict, view_of}
+use Rattle.hcc_shard.specs.Callers.{view_of}
 use Rattle.hcc_shard.specs.Inserted.{InsertedBy}
 use Rattle.hcc_cache.specs.declared.client.Client.{Client}
 use Rattle.hcc_cache.specs.Inserts.{draft_of}
 use Rattle.hcc_cache.specs.Keys.{shard_of}
-use Rattle.hcc_cache.proofs.At.{ChangesAt, IsAt, is_at, seated_at}
+use Rattle.hcc_cache.proofs.At.{ChangesAt, is_at, seated_at}
 use Rattle.hcc_cache.proofs.Insertions.{IsAsked, answers_small, answers_unspent, insertable_at, inserts_at, inserts_told, knows_asked, leaves_stored, stores_at, told_as}
 use Rattle.hcc_cache.proofs.cache.Cache.stored.Goals as goal
 

@@ -1,4 +1,4 @@
-use Rattle.std.proofs.Common.{rules, ◌≡◌, ◌∙◌, ◌+◌, ◌-◌, ◌<◌, ◌≤◌, ◌^◌, Some, Err, Ok, length, get_or, slice_set, sym, ap, refl, arith}
+use Rattle.std.proofs.Common.{◌≡◌, ◌∙◌, ◌-◌, Some, length, ap, refl, arith}
 use Rattle.hcc_rule.specs.declared.steps.shows.Draft.{Draft}
 use Rattle.hcc_shard.specs.declared.inserting.Pinned.TheVariants.{Placed, Standalone}
 use Rattle.hcc_shard.specs.Callers.{view_of}
@@ -35,8 +35,10 @@ insert_pinned-requires-clause-may g c =
     let was = c.index_mut-seat.result.now in
     let at = is_at cache old i shard was c.requires.known c.shard_number-shard.ensures.inside
     c.index.ensures c.index_mut-seat.ensures.value in
-    insertable_at cache old old i shard was was at g.T.Tag.fits c.args.key c.deref-bytes.result.now _
-    (rw c.deref-bytes.ensures.value c.requires.fits) (rw c.deref-bytes.ensures.value c.requires.short)
+    insertable_at cache old old i shard was was at g.T.Tag.fits c.args.key
+    c.deref-bytes.result.now _
+    (rw c.deref-bytes.ensures.value c.requires.fits) (rw c.deref-bytes.ensures.value
+    c.requires.short)
     (λ k inside. omega (arith, c.type_inv.bytes k))
     (c.requires.paid, c.ranges.charge.fits) c.countdown.ensures.within refl
     c.key_to-under.ensures.undone c.requires.free.1
@@ -168,7 +170,8 @@ returns-in-Ok-Standalone g c =
       name = Some old.used;
     } in
     let told = pinned_told cache old old i shard was is at draft asked same c.deref-bytes.result.now
-    value c.deref-bytes.ensures.value c.in-Ok-Standalone.field-0 Standalone c.in-Ok-Standalone.field-0-is
+    value c.deref-bytes.ensures.value c.in-Ok-Standalone.field-0 Standalone
+    c.in-Ok-Standalone.field-0-is
     c.in-Ok-Standalone.ensures.view in
     let new = c.keep_alone-handle.new.self in
     let rest = c.keep_alone-handle.ensures.rest in
