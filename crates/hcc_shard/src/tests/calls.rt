@@ -14,22 +14,25 @@ use std::process::Abort;
 /// that is the name of the pin, or of the standalone entry.
 #[derive(Clone, Copy)]
 pub(super) enum Call<'v> {
-    /// Of the key, with the charge, the countdown and the value.
-    Insert(Key, u32, u32, &'v [u8]),
+    /// Of the key, as two words, with the charge, the countdown and the value.
+    Insert(u64, u64, u32, u32, &'v [u8]),
     /// The same with a reference.
-    Pin(Key, u32, u32, &'v [u8]),
-    Look(Key),
+    Pin(u64, u64, u32, u32, &'v [u8]),
+    /// Of the key.
+    Look(u64, u64),
     /// By the name of a pin, as the next two.
     Again(u64),
     Release(u64, Use, IfLast),
     Read(u64),
     /// By the name of a standalone entry.
     Fall(u64),
-    Erase(Key),
+    /// Of the key.
+    Erase(u64, u64),
     /// Of a slot.
     Slot(u32),
     Totals,
-    Stats,
+    /// What the client did.
+    Work,
 }
 
 /// What a call answers.
@@ -51,12 +54,14 @@ pub(super) enum Answer {
     /// How many entries were hidden.
     Hidden(u32),
     /// The key, how long the value is, and its bytes with 0 behind them.
-    Entry(Key, usize, [u8; 16]),
+    Entry(u64, u64, usize, [u8; 16]),
     /// The word, and how often the slot stands in trails.
     Slot(u64, u64),
     /// The usage, the occupancy and the pinned usage.
     Totals([u64; 3]),
-    Stats(Stats),
+    /// Slots that were visited, keys that were met, entries that were evicted, those of them that
+    /// were marked, their charge, turns, corrections, lost exchanges.
+    Did([u64; 8]),
 }
 
 /// Plays the calls, in order.
@@ -88,21 +93,23 @@ fn answers(rt: &impl Abort, me: &mut Guest, call: Call) -> Result<Answer, AllocE
         me.new.next }
 {
     let answer = match call {
-        Call::Insert(key, charge, countdown, value) => {
+        Call::Insert(w0, w1, charge, countdown, value) => {
+            let key = Key { w0, w1 };
             match me.insert(rt, key, charge, countdown, value) {
                 Ok(Inserted::Placed) => Answer::Placed,
                 Ok(Inserted::Dropped) => Answer::Dropped,
                 Err(why) => Answer::Refused(why),
             }
         }
-        Call::Pin(key, charge, countdown, value) => {
+        Call::Pin(w0, w1, charge, countdown, value) => {
+            let key = Key { w0, w1 };
             match me.insert_pinned(rt, key, charge, countdown, value)? {
                 Ok(Some(pin)) => Answer::At(pin.slot),
                 Ok(None) => Answer::Standalone,
                 Err(why) => Answer::Refused(why),
             }
         }
-        Call::Look(key) => match me.look(rt, key)? {
+        Call::Look(w0, w1) => match me.look(rt, Key { w0, w1 })? {
             Some(pin) => Answer::At(pin.slot),
             None => Answer::Missing,
         },
@@ -110,19 +117,33 @@ fn answers(rt: &impl Abort, me: &mut Guest, call: Call) -> Result<Answer, AllocE
         Call::Release(name, usage, last) => Answer::Freed(me.release(rt, name, usage, last)),
         Call::Read(name) => {
             let (key, length, bytes) = me.read(rt, name);
-            Answer::Entry(key, length, bytes)
+            Answer::Entry(key.w0, key.w1, length, bytes)
         }
         Call::Fall(name) => {
             me.fall(rt, name);
             Answer::Gone
         }
-        Call::Erase(key) => Answer::Hidden(me.erase(key)),
+        Call::Erase(w0, w1) => Answer::Hidden(me.erase(Key { w0, w1 })),
         Call::Slot(slot) => {
             let (word, passed) = me.slot(rt, slot);
             Answer::Slot(word, passed)
         }
         Call::Totals => Answer::Totals(me.totals()),
-        Call::Stats => Answer::Stats(me.seat.stats()),
+        Call::Work => Answer::Did(did(me.seat.stats())),
     };
     Ok(answer)
+}
+
+/// The counts, in order.
+fn did(stats: Stats) -> [u64; 8] {
+    [
+        stats.probes,
+        stats.boosts,
+        stats.evicted,
+        stats.evicted_hit,
+        stats.freed,
+        stats.turns,
+        stats.corrections,
+        stats.lost,
+    ]
 }
