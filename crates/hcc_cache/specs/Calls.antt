@@ -66,8 +66,11 @@ module _ {T : Type 0} (cache : Cache T) where
     pub count : held_by new ≡ held_by old
     pub serials : UsesNone old new
 
-  -- There is one handle more, which was none before. It stands for this, and uses a serial.
+  -- There is one handle more, which was none before: it has the client's number and its next
+  -- serial, which no handle had. It stands for this, and uses that serial.
   pub record Gains (handle : Handle) (held : Held) (old new : Client T) : Type 0 where
+    pub client : handle.client ≡ old.number
+    pub serial : handle.serial ≡ old.used
     pub free : hold_of old handle ≡ None
     pub stands : held_of cache new handle ≡ Some held
     pub others : KeepsBut handle old new
