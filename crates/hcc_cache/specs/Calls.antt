@@ -1,6 +1,7 @@
 -- What each call leaves of a client.
-use Rattle.std.specs.Prelude.{◌≡◌, ℕ, ◌+◌, ◌≤◌, ◌++◌, Bool, true, false, List, [], ◌∷◌, Option, Some, None, length}
+use Rattle.std.specs.Prelude.{◌≡◌, ℕ, ◌+◌, ◌≤◌, ◌++◌, Bool, true, false, List, [], ◌∷◌, Option, Some, None, IsSome, find, length}
 use Rattle.hcc_core.specs.declared.slot.Entry.{Entry}
+use Rattle.hcc_core.specs.Ledgers.{is_standing}
 use Rattle.hcc_core.specs.Sums.{total}
 use Rattle.hcc_rule.specs.declared.key.Key.{Key}
 use Rattle.hcc_rule.specs.declared.view.Record.{Record}
@@ -129,11 +130,12 @@ module _ {T : Type 0} (cache : Cache T) where
     pub gains : Gains more held old new
 
   -- what a release leaves of a view: of an entry of the table, or of a standalone one of this name,
-  -- which goes with its last handle
+  -- which goes with its last handle: it stood there, and stands no more
   abbrev pub ReleasedOf : (serial : ℕ) → (erase freed : Bool) → (standing : Option ℕ)
       → View (Seeded T) → View (Seeded T) → Type 0
   ReleasedOf serial erase freed None v w = IsReleased serial erase freed v w
-  ReleasedOf serial erase true (Some name) v w = w ≡ fallen name v
+  ReleasedOf serial erase true (Some name) v w =
+      IsSome (find (is_standing name) v.work.standalones) × (w ≡ fallen name v)
   ReleasedOf serial erase false (Some name) v w = w ≡ v
 
   -- The handle was given back.
