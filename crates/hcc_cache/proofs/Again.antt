@@ -1,5 +1,5 @@
 -- One handle more on an entry of the table that is held.
-use Rattle.std.proofs.Common.{◌≡◌, ℕ, ◌<◌, Bool, [], ◌∷◌, ◌++◌, Some, IfSome, IsSomeAnd, length, option_map, sym, refl, ap, subst, ◌∙◌, arith}
+use Rattle.std.proofs.Common.{◌≡◌, ℕ, ◌<◌, Bool, [], ◌∷◌, ◌++◌, Some, IfSome, IsSome, IsSomeAnd, length, option_map, sym, refl, ap, subst, ◌∙◌, arith}
 use Rattle.slab.specs.Slab.{get}
 use Rattle.hcc_rule.specs.declared.view.Record.{Record}
 use Rattle.hcc_rule.specs.Views.{is_called, record_in}
@@ -15,12 +15,12 @@ use Rattle.hcc_cache.specs.declared.cache.Cache.{Cache}
 use Rattle.hcc_cache.specs.declared.client.Client.{Client}
 use Rattle.hcc_cache.specs.declared.handle.Handle.{Handle}
 use Rattle.hcc_cache.specs.declared.holding.Hold.{Hold}
-use Rattle.hcc_cache.specs.declared.holding.Kept.TheVariants.{Pinned}
+use Rattle.hcc_cache.specs.declared.holding.Kept.TheVariants.{Pinned, Standing}
 use Rattle.hcc_cache.specs.declared.seeded.Seeded.{Seeded}
 use Rattle.hcc_cache.specs.Calls.{Gains, Rerefs}
 use Rattle.hcc_cache.specs.Clients.{held_entry, held_of, hold_of, pin_of, records_in, view_by}
 use Rattle.hcc_cache.specs.Keys.{key_to}
-use Rattle.hcc_cache.specs.Known.{IsKeptAs, IsPin, Knows}
+use Rattle.hcc_cache.specs.Known.{IsKeptAs, IsPin, IsStand, Knows}
 use Rattle.hcc_cache.proofs.At.{ChangesAt, IsAt, works_at}
 
 module _ {T : Type 0} (cache : Cache T) (client : Client T) (hold : Hold) where
@@ -31,6 +31,15 @@ module _ {T : Type 0} (cache : Cache T) (client : Client T) (hold : Hold) where
       let within = (knows.holds.each index hold there).0.within in
       let count = knows.seated.count in
       (within, omega arith)
+
+  -- the standalone entry that a handle is on is there
+  pub stand_there : (index at : ℕ) → Knows cache client → get client.handles at ≡ Some hold
+      → hold.kept ≡ Standing index → IsSome (get client.alone index)
+  stand_there index at knows there kept =
+      let stand : IsStand cache.seed client.seats.items client.alone hold index =
+      subst (λ k. IsKeptAs cache.seed client.seats.items client.alone hold k) kept
+      (knows.holds.each at hold there).0.stands in
+      rw (stand.there) refl
 
   -- the record that a handle on an entry of the table stands for, in the view of its shard
   pub record IsPinAt (slot : ℕ) (counting : Bool) (slots : ℕ) (was : ShardSeat (Seeded T))

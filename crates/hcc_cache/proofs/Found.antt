@@ -21,9 +21,9 @@ use Rattle.hcc_cache.specs.declared.handle.Handle.{Handle}
 use Rattle.hcc_cache.specs.declared.holding.Hold.{Hold}
 use Rattle.hcc_cache.specs.declared.holding.Kept.TheVariants.{Pinned}
 use Rattle.hcc_cache.specs.declared.seeded.Seeded.{Seeded}
-use Rattle.hcc_cache.specs.Calls.{Finds, Gains, KeepsAll, Misses, TakesAtMost, UsesNone, shard_in}
+use Rattle.hcc_cache.specs.Calls.{Finds, Gains, KeepsAll, Misses, TakesAtMost, UsesNone, Works, shard_in}
 use Rattle.hcc_cache.specs.Clients.{held_entry, pin_of}
-use Rattle.hcc_cache.specs.Keys.{fits_seeded, key_from, key_to}
+use Rattle.hcc_cache.specs.Keys.{fits_seeded, key_from, key_to, shard_of}
 use Rattle.hcc_cache.specs.Known.{IsSeated, Knows}
 use Rattle.hcc_cache.proofs.At.{ChangesAt, IsAt, knows_at, seated_at, takes_at, works_at}
 use Rattle.hcc_cache.proofs.Framing.{keeps_all}
@@ -31,6 +31,7 @@ use Rattle.hcc_cache.proofs.Gained.{gains, IsGiven}
 use Rattle.hcc_cache.proofs.Held.{held_rest, stands_rest}
 use Rattle.hcc_cache.proofs.More.{held_pinned, stands_pinned, there_pinned}
 use Rattle.hcc_cache.proofs.Names.{names_later, standings_later}
+use Rattle.hcc_cache.proofs.Dead.{all_held_dead}
 use Rattle.hcc_cache.proofs.Seats.{seated_by}
 
 -- Of a seat.
@@ -132,15 +133,20 @@ module _ {T : Type 0} where
     pub misses : (key : Key) → IsLeft old new → i ≡ shard_in cache key
         → IsMissed (key_to cache.seed key) (view_of was) (view_of is)
         → Misses cache key old new
-    misses key left there missed = record {
-      v = view_of was;
-      w = view_of is;
-      works = rw (← there) (works_at cache old new i shard was is at change);
-      misses = missed;
-      keeps =
-          keeps_left left missed.sought.records
-          (ap (λ (v : View (Seeded T)). v.work.standalones) missed.sought.searched.same);
-    }
+    misses key left there missed =
+        let works : Works (shard_in cache key) old new (view_of was) (view_of is) =
+        rw (← there) (works_at cache old new i shard was is at change) in
+        record {
+          v = view_of was;
+          w = view_of is;
+          works = works;
+          misses = missed;
+          held_dead =
+              all_held_dead cache old new key (view_of was) (view_of is) at.knows works missed.dead;
+          keeps =
+              keeps_left left missed.sought.records
+              (ap (λ (v : View (Seeded T)). v.work.standalones) missed.sought.searched.same);
+        }
 
     -- One record more was found, and a handle on it is kept.
     module _ (handle : Handle) (hold : Hold) (slot : ℕ) (counting : Bool) (r : Record)
@@ -154,8 +160,9 @@ module _ {T : Type 0} where
       standalones_same = ap (λ (v : View (Seeded T)). v.work.standalones) searched.same
 
       -- it is known still
-      pub knows_more : Rests shard is → old.held < old.most → Knows cache new
-      knows_more rests few =
+      pub knows_more : hold.shard ≡ shard_of (key_to cache.seed hold.key) (length old.seats.items)
+          → Rests shard is → old.held < old.most → Knows cache new
+      knows_more home rests few =
           let seated = seated_at cache old new i shard was is at in
           let left = given.uses.1 in
           let held = given.held in
@@ -170,7 +177,7 @@ module _ {T : Type 0} where
           (held_pinned cache.seed old.used old.seats.items old.handles old.alone at.knows.holds i
           was is r at.seat_is joins standalones_same hold slot counting handle.index new.handles
           seated.records given.named shard_is kept (within old.seats.items i was at.seat_is)
-          called of key_is given.free given.updates given.count))
+          called of key_is (sym shard_is ∙ home) given.free given.updates given.count))
           (omega arith) (omega arith) (omega arith)
 
       -- the handle stands for the record's entry

@@ -127,8 +127,8 @@ module _ {T : Type 0} (cache : Cache T) (old new : Client T) (i : ℕ) (shard : 
         (called : r.name ≡ old.used)
         (of : (r.slot ≡ slot) × (r.weight ≡ 1) × (r.counting ≡ counting))
         (key_is : key_of r.entry ≡ key_to cache.seed key) where
-      knows_placed : Knows cache new
-      knows_placed =
+      knows_placed : i ≡ shard_in cache key → Knows cache new
+      knows_placed here =
           let seated = seated_at cache old new i shard was is at in
           knows_given left.tried
           (rw (left.records_are)
@@ -142,8 +142,8 @@ module _ {T : Type 0} (cache : Cache T) (old new : Client T) (i : ℕ) (shard : 
           (held_pinned cache.seed old.used old.seats.items old.handles old.alone at.knows.holds i
           was is r at.seat_is left.records_are left.standalones_are
           (hold_with old.used key i kept) slot counting handle.index new.handles seated.records
-          refl refl kept_is (within old.seats.items i was at.seat_is) called of key_is given.free
-          given.updates given.count))
+          refl refl kept_is (within old.seats.items i was at.seat_is) called of key_is
+          (rw (at.knows.seated.count) here) given.free given.updates given.count))
 
       gains_placed : Gains cache handle (held_entry cache.seed r.entry) old new
       gains_placed =
@@ -165,8 +165,8 @@ module _ {T : Type 0} (cache : Cache T) (old new : Client T) (i : ℕ) (shard : 
     module _ (index : ℕ) (a : Alone) (kept_is : kept ≡ Standing index)
         (tried : IsTried (view_of was) (view_of is))
         (joined : IsJoined old.used was is old.alone new.alone index a) where
-      pub knows_alone : Knows cache new
-      knows_alone =
+      pub knows_alone : i ≡ shard_in cache key → Knows cache new
+      knows_alone here =
           let seated = seated_at cache old new i shard was is at in
           let called = joined.called in
           knows_given tried
@@ -183,7 +183,8 @@ module _ {T : Type 0} (cache : Cache T) (old new : Client T) (i : ℕ) (shard : 
           (held_joined cache.seed old.used old.seats.items old.handles old.alone new.alone
           at.knows.holds i was is index a at.seat_is joined (hold_with old.used key i kept)
           handle.index new.handles seated.standalones refl refl kept_is
-          (within old.seats.items i was at.seat_is) given.free given.updates given.count))
+          (within old.seats.items i was at.seat_is) given.free given.updates
+          (rw (at.knows.seated.count) here) given.count))
 
       gains_alone : Gains cache handle (held_alone key a) old new
       gains_alone =
@@ -218,7 +219,7 @@ module _ {T : Type 0} (cache : Cache T) (old new : Client T) (i : ℕ) (shard : 
           pub knows_pins : Knows cache new
           knows_pins =
               knows_placed pin.slot pin.counting handled alone kept_is left_placed refl
-              (refl, refl, sym told.2) refl
+              (refl, refl, sym told.2) refl here
 
           pub pins_at : Pins cache key charge priority value handle old new
           pins_at = record {

@@ -12,6 +12,7 @@ pub mod Through
 pub mod Less
 pub mod More
 pub mod Gained
+pub mod Dead
 pub mod Found
 pub mod Again
 pub mod StandsAgain

@@ -1,6 +1,7 @@
 -- What each call leaves of a client.
 use Rattle.std.specs.Prelude.{◌≡◌, ℕ, ◌+◌, ◌≤◌, ◌++◌, Bool, true, false, List, [], ◌∷◌, Option, Some, None, IsSome, find, length}
 use Rattle.hcc_core.specs.declared.slot.Entry.{Entry}
+use Rattle.hcc_core.specs.Lawful.{is_in}
 use Rattle.hcc_core.specs.Ledgers.{is_standing}
 use Rattle.hcc_core.specs.Sums.{total}
 use Rattle.hcc_rule.specs.declared.key.Key.{Key}
@@ -99,6 +100,13 @@ module _ {T : Type 0} (cache : Cache T) where
     pub right : fits cache.tag key found.entry.value
     pub gains : Gains handle (held_entry cache.seed found.entry) old new
 
+  -- Each entry of this key in the table that a handle stood for is dead to the client.
+  abbrev pub AllHeldDead : Key → (old new : Client T) → Type 0
+  AllHeldDead key old new =
+      (h : Handle) (held : Held) (e : Entry) → held_of cache old h ≡ Some held
+      → held.insertion.key ≡ key → held.entry ≡ Some e
+      → is_in e.stamp (view_at (shard_in key) new).work.dead ≡ true
+
   -- It found none: the client holds what it held, and each entry of the key that it holds is dead
   -- to it.
   pub record Misses (key : Key) (old new : Client T) : Type 0 where
@@ -106,6 +114,7 @@ module _ {T : Type 0} (cache : Cache T) where
     pub w : View (Seeded T)
     pub works : Works (shard_in key) old new v w
     pub misses : IsMissed (key_to cache.seed key) v w
+    pub held_dead : AllHeldDead key old new
     pub keeps : KeepsAll old new
 
   -- The record that another handle on the same adds: one on that entry of the table, or none where
@@ -161,4 +170,5 @@ module _ {T : Type 0} (cache : Cache T) where
     pub works : Works (shard_in key) old new v w
     pub erases : IsErasedAll (key_to cache.seed key) hidden v w
     pub dead : AllDead (key_to cache.seed key) v w
+    pub held_dead : AllHeldDead key old new
     pub keeps : KeepsAll old new

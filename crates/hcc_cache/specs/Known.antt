@@ -22,7 +22,7 @@ use Rattle.hcc_cache.specs.declared.holding.Kept.TheVariants.{Pinned, Standing}
 use Rattle.hcc_cache.specs.declared.limits.TheConstants.{MOST_SHARDS}
 use Rattle.hcc_cache.specs.declared.seeded.Seeded.{Seeded}
 use Rattle.hcc_cache.specs.Clients.{pin_of, records_in, standalones_in}
-use Rattle.hcc_cache.specs.Keys.{key_to}
+use Rattle.hcc_cache.specs.Keys.{key_to, shard_of}
 
 -- Of a client's seats.
 
@@ -94,9 +94,10 @@ module _ {T : Type 0} (seed : ℕ) (seats : List (ShardSeat T)) (alone : Slab Al
   IsKeptAs hold (Pinned slot counting) = IsPin hold slot counting
   IsKeptAs hold (Standing index) = IsStand hold index
 
-  -- what is kept of a handle is on one of the shards, and stands for something
+  -- what is kept of a handle is on one of the shards, that of its key, and stands for something
   pub record IsKept (hold : Hold) : Type 0 where
     pub within : hold.shard < length seats
+    pub home : hold.shard ≡ shard_of (key_to seed hold.key) (length seats)
     pub stands : IsKeptAs hold hold.kept
 
 -- how many references the client of a seat holds, and how many standalone entries

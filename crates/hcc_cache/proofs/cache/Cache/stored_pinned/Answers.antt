@@ -217,7 +217,7 @@ returns-in-Ok-Standalone g c =
       known =
           knows_alone cache old new i shard was is at change c.insert_pinned.ensures.seat
           c.keep_alone-handle.result c.args.key (Standing kept.0) given c.requires.free.0 kept.0
-          alone refl left.tried joined;
+          alone refl left.tried joined here;
       back = tt;
       late = tt;
       inserted =
