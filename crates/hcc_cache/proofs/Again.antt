@@ -1,5 +1,5 @@
 -- One handle more on an entry of the table that is held.
-use Rattle.std.proofs.Common.{◌≡◌, ℕ, ◌<◌, Bool, [], ◌∷◌, ◌++◌, Some, IfSome, IsSome, IsSomeAnd, length, option_map, sym, refl, ap, subst, ◌∙◌, arith}
+use Rattle.std.proofs.Common.{◌≡◌, ℕ, ◌^◌, ◌<◌, Bool, [], ◌∷◌, ◌++◌, Some, IfSome, IsSome, IsSomeAnd, length, option_map, sym, refl, ap, subst, ◌∙◌, arith}
 use Rattle.slab.specs.Slab.{get}
 use Rattle.hcc_rule.specs.declared.view.Record.{Record}
 use Rattle.hcc_rule.specs.Views.{is_called, record_in}
@@ -49,6 +49,7 @@ module _ {T : Type 0} (cache : Cache T) (client : Client T) (hold : Hold) where
     pub known : record_in hold.serial (records_in client.seats.items hold.shard) ≡ Some handled
     pub of : IsOf (pin_of hold.serial slot counting) handled
     pub key : key_of handled.entry ≡ key_to cache.seed hold.key
+    pub small : handled.entry.charge < 2 ^ 32
     pub within : slot < slots
 
   module _ (slot : ℕ) (counting : Bool) (index : ℕ) (shard : Shard (Seeded T) _)
@@ -72,6 +73,9 @@ module _ {T : Type 0} (cache : Cache T) (client : Client T) (hold : Hold) where
           known = pin.there;
           of = pin.of;
           key = pin.key;
+          small =
+              find_each (is_called hold.serial) (λ (r : Record). r.entry.charge < 2 ^ 32)
+              (view_of was).records pin.handled seated.charged.records here;
           within = omega arith;
         }
 

@@ -24,6 +24,7 @@ pub mod Dealing
 pub mod Insertions
 pub mod Alone
 pub mod Handing
+pub mod Charged
 pub mod Lists
 pub mod Holders
 pub mod Joining

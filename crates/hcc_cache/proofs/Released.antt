@@ -1,5 +1,5 @@
 -- What a client knows once it gave a handle back.
-use Rattle.std.proofs.Common.{◌≡◌, ℕ, ◌+◌, ◌-◌, ◌<◌, ◌≤◌, Bool, true, false}
+use Rattle.std.proofs.Common.{◌≡◌, ℕ, ◌+◌, ◌-◌, ◌^◌, ◌<◌, ◌≤◌, Bool, true, false}
 use Rattle.std.proofs.Common.{Some, None, find, length}
 use Rattle.std.proofs.Common.{sym, refl, ap, subst, ◌∙◌, arith}
 use Rattle.slab.specs.Slab.{get, Updates}
@@ -51,6 +51,14 @@ module _ {T A : Type 0} (shard : Shard T A) (number used : ℕ) (was is : ShardS
       seated.records))
       (rw (ap (λ (v : View T). v.work.standalones) same) seated.standalones)
       (omega arith)
+      (record {
+        records =
+            rw (ap (λ (v : View T). v.records) same)
+            (dropped_each (is_called name) (λ (r : Record). r.entry.charge < 2 ^ 32)
+            (view_of was).records seated.charged.records);
+        standalones =
+            rw (ap (λ (v : View T). v.work.standalones) same) seated.charged.standalones;
+      })
 
   -- or a standalone entry was let go
   pub seated_fallen : (name : ℕ) → view_of is ≡ fallen name (view_of was)
@@ -65,6 +73,13 @@ module _ {T A : Type 0} (shard : Shard T A) (number used : ℕ) (was is : ShardS
       (dropped_each (is_standing name) (λ (s : Standalone). s.name < used)
       (view_of was).work.standalones seated.standalones))
       (omega arith)
+      (record {
+        records = rw (ap (λ (v : View T). v.records) fell) seated.charged.records;
+        standalones =
+            rw (ap (λ (v : View T). v.work.standalones) fell)
+            (dropped_each (is_standing name) (λ (s : Standalone). s.charge < 2 ^ 32)
+            (view_of was).work.standalones seated.charged.standalones);
+      })
 
 -- what a release leaves of a seat
 pub without_released : {T : Type 0} (name : ℕ) (erase freed : Bool) (was is : ShardSeat T)
