@@ -1,5 +1,5 @@
 -- One handle more on an entry of the table that is held.
-use Rattle.std.proofs.Common.{◌≡◌, ℕ, ◌<◌, Bool, [], ◌∷◌, ◌++◌, Some, IfSome, IsSomeAnd, length, option_map, sym, refl, ap, subst, ◌∙◌, arith}
+use Rattle.std.proofs.Common.{◌≡◌, ℕ, ◌^◌, ◌<◌, Bool, [], ◌∷◌, ◌++◌, Some, IfSome, IsSome, IsSomeAnd, length, option_map, sym, refl, ap, subst, ◌∙◌, arith}
 use Rattle.slab.specs.Slab.{get}
 use Rattle.hcc_rule.specs.declared.view.Record.{Record}
 use Rattle.hcc_rule.specs.Views.{is_called, record_in}
@@ -15,12 +15,12 @@ use Rattle.hcc_cache.specs.declared.cache.Cache.{Cache}
 use Rattle.hcc_cache.specs.declared.client.Client.{Client}
 use Rattle.hcc_cache.specs.declared.handle.Handle.{Handle}
 use Rattle.hcc_cache.specs.declared.holding.Hold.{Hold}
-use Rattle.hcc_cache.specs.declared.holding.Kept.TheVariants.{Pinned}
+use Rattle.hcc_cache.specs.declared.holding.Kept.TheVariants.{Pinned, Standing}
 use Rattle.hcc_cache.specs.declared.seeded.Seeded.{Seeded}
 use Rattle.hcc_cache.specs.Calls.{Gains, Rerefs}
 use Rattle.hcc_cache.specs.Clients.{held_entry, held_of, hold_of, pin_of, records_in, view_by}
 use Rattle.hcc_cache.specs.Keys.{key_to}
-use Rattle.hcc_cache.specs.Known.{IsKeptAs, IsPin, Knows}
+use Rattle.hcc_cache.specs.Known.{IsKeptAs, IsPin, IsStand, Knows}
 use Rattle.hcc_cache.proofs.At.{ChangesAt, IsAt, works_at}
 
 module _ {T : Type 0} (cache : Cache T) (client : Client T) (hold : Hold) where
@@ -32,6 +32,15 @@ module _ {T : Type 0} (cache : Cache T) (client : Client T) (hold : Hold) where
       let count = knows.seated.count in
       (within, omega arith)
 
+  -- the standalone entry that a handle is on is there
+  pub stand_there : (index at : ℕ) → Knows cache client → get client.handles at ≡ Some hold
+      → hold.kept ≡ Standing index → IsSome (get client.alone index)
+  stand_there index at knows there kept =
+      let stand : IsStand cache.seed client.seats.items client.alone hold index =
+      subst (λ k. IsKeptAs cache.seed client.seats.items client.alone hold k) kept
+      (knows.holds.each at hold there).0.stands in
+      rw (stand.there) refl
+
   -- the record that a handle on an entry of the table stands for, in the view of its shard
   pub record IsPinAt (slot : ℕ) (counting : Bool) (slots : ℕ) (was : ShardSeat (Seeded T))
       : Type 0 where
@@ -40,6 +49,7 @@ module _ {T : Type 0} (cache : Cache T) (client : Client T) (hold : Hold) where
     pub known : record_in hold.serial (records_in client.seats.items hold.shard) ≡ Some handled
     pub of : IsOf (pin_of hold.serial slot counting) handled
     pub key : key_of handled.entry ≡ key_to cache.seed hold.key
+    pub small : handled.entry.charge < 2 ^ 32
     pub within : slot < slots
 
   module _ (slot : ℕ) (counting : Bool) (index : ℕ) (shard : Shard (Seeded T) _)
@@ -63,6 +73,9 @@ module _ {T : Type 0} (cache : Cache T) (client : Client T) (hold : Hold) where
           known = pin.there;
           of = pin.of;
           key = pin.key;
+          small =
+              find_each (is_called hold.serial) (λ (r : Record). r.entry.charge < 2 ^ 32)
+              (view_of was).records pin.handled seated.charged.records here;
           within = omega arith;
         }
 

@@ -15,6 +15,7 @@ use Rattle.hcc_cache.specs.declared.holding.Hold.{Hold}
 use Rattle.hcc_cache.specs.declared.holding.Kept.{Kept}
 use Rattle.hcc_cache.specs.declared.holding.Kept.TheVariants.{Pinned, Standing}
 use Rattle.hcc_cache.specs.Clients.{records_in, standalones_in, view_by}
+use Rattle.hcc_cache.specs.Keys.{key_to, shard_of}
 use Rattle.hcc_cache.specs.Known.{AreHeld, IsKept, IsKeptAs, count_of, is_pinned, is_standing_at, records_at, references_of, standalones_at}
 use Rattle.hcc_cache.proofs.Framing.{same_alone, Stands, stands_if, stands_there, stood_there, written_is}
 use Rattle.hcc_cache.proofs.Held.{apart_more}
@@ -136,9 +137,11 @@ module _ {T : Type 0} (seed used : ℕ) (seats : List (ShardSeat T)) (handles : 
         (find_last (is_standing a.name) (view_of was).work.standalones (known_of a) free
         (eq-eqb a.name a.name refl))
 
-    kept_joined : IsKept seed (slice_set seats i is) new hold
-    kept_joined = record {
+    kept_joined : i ≡ shard_of (key_to seed hold.key) (length seats)
+        → IsKept seed (slice_set seats i is) new hold
+    kept_joined home = record {
       within = rw (shard, length-set seats i is) inside;
+      home = shard ∙ rw (length-set seats i is) home;
       stands = rw kept (record {
         entry = a;
         there = joined.updates.changed;
@@ -210,11 +213,12 @@ module _ {T : Type 0} (seed used : ℕ) (seats : List (ShardSeat T)) (handles : 
         ]
       ]
 
-      pub held_joined : slab_len gained ≡ slab_len handles + 1
+      pub held_joined : i ≡ shard_of (key_to seed hold.key) (length seats)
+          → slab_len gained ≡ slab_len handles + 1
           → AreHeld seed (used + 1) (slice_set seats i is) gained new
-      held_joined count =
+      held_joined home count =
           let apart = apart_more seed used seats (slice_set seats i is) handles old all at_handle
-          hold gained new (length-set seats i is) serial kept_joined updates stands_joined in
+          hold gained new (length-set seats i is) serial (kept_joined home) updates stands_joined in
           let pinned : is_pinned (Some hold) ≡ false = rw kept refl in
           let pins : count_of is_pinned gained ≡ count_of is_pinned handles + 0 =
           counted_more is_pinned handles gained at_handle hold refl free updates

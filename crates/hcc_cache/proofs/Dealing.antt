@@ -83,6 +83,10 @@ module _ {T A : Type 0} where
     made =
         let none : length (view_of seat).made ≡ 0 = ap (λ (v : View T). length v.made) new.fresh in
         omega arith;
+    charged = record {
+      records = rw (new_records shard k seat new) tt;
+      standalones = rw (new_standalones shard k seat new) tt;
+    };
   }
 
 -- The seats of one shard are dealt, from the last client's on.

@@ -7,7 +7,7 @@ use Rattle.hcc_rule.specs.declared.geometry.Geometry.{Geometry}
 use Rattle.hcc_rule.specs.declared.key.Key.{Key}
 use Rattle.hcc_rule.specs.declared.view.View.{View}
 use Rattle.hcc_rule.specs.Closing.{Closes, words_of}
-use Rattle.hcc_rule.specs.Views.{named_by}
+use Rattle.hcc_rule.specs.Views.{named_by, weight_on}
 use Rattle.hcc_rule.proofs.Basics.Lists.{there, within}
 use Rattle.hcc_rule.proofs.Entries.ShowParts.{get_front}
 use Rattle.hcc_shard.specs.declared.entries.ClosedShard.{ClosedShard}
@@ -27,7 +27,7 @@ use Rattle.hcc_cache.specs.Left.{AreWhole}
 use Rattle.hcc_cache.proofs.Emptied.{holds_nothing}
 use Rattle.hcc_cache.proofs.Joining.{all_named, from_view, views_count, views_same}
 use Rattle.hcc_cache.proofs.Lists.{get_in_take, get_push, get_reverse, get_take}
-use Rattle.hcc_cache.proofs.MadeLists.{made_count, made_joined, takings_joined}
+use Rattle.hcc_cache.proofs.MadeLists.{made_count, made_joined, records_joined, takings_joined}
 
 -- the number of the shard that was closed as number j
 abbrev index_of : {T : Type 0} → Cache T → (j : ℕ) → ℕ
@@ -120,6 +120,21 @@ module _ {T : Type 0} (fits : T → Key → List ℕ → Type 0) (cache : Cache 
       let is : w ≡ view_of seat.0 = sym from.2 ∙ ap view_by seat.1 in
       rw is (ap is_some seat.2.rests.at.tagged, seat.2.single))
       ∙ counted
+
+  -- It has no record.
+  joined_nothing : (s : ℕ) (shard : Shard (Seeded T) Global)
+      → slice_get cache.shards.items s ≡ Some shard → 1 ≤ length old
+      → (all_joined (views_at s old)).records ≡ []
+  joined_nothing s shard stands some =
+      let views = views_count s old in
+      let first = there (views_at s old) 0 (omega arith) in
+      let from = from_view s old 0 first.0 first.1 in
+      let seat = seat_there s shard stands 0 from.0 from.1 in
+      let is : first.0 ≡ view_of seat.0 = sym from.2 ∙ ap view_by seat.1 in
+      let nothing = holds_nothing cache from.0 (back.known 0 from.0 from.1)
+      (back.none 0 from.0 from.1) s seat.0 seat.1 in
+      records_joined (views_at s old) first.0 first.1
+      ∙ (ap (λ (v : View (Seeded T)). v.records) is ∙ nothing.0)
 
   -- Of the last shard that stands.
   module _ (shards : List (Shard (Seeded T) Global)) (shard : Shard (Seeded T) Global)
@@ -293,6 +308,12 @@ module _ {T : Type 0} (fits : T → Key → List ℕ → Type 0) (cache : Cache 
       count = ap length same ∙ items_count;
       size = λ s left h. (left_of s left (rw same at h)).size;
       closes = λ s left h. (left_of s left (rw same at h)).closes;
+      unheld = λ s slot left h inside has.
+          let n = items_count in
+          let low = within items s (Some left) (rw same at h) in
+          let shard = there cache.shards.items s (omega arith) in
+          (left_of s left (rw same at h)).closes.held slot inside has
+          ∙ ap (weight_on slot) (joined_nothing s shard.0 shard.1 some);
       values = λ s left h. value_kept (fits_seeded fits)
           (record { tag = cache.tag; seed = cache.seed }) cache.geometry.room
           (words_of left.table) (all_joined (views_at s old));

@@ -1,5 +1,5 @@
 -- What a client knows once a look-up found an entry, or none.
-use Rattle.std.proofs.Common.{◌≡◌, ℕ, ◌+◌, ◌*◌, ◌<◌, ◌≤◌, Bool, List, [], ◌∷◌, ◌++◌, Some, length, option_map, sym, ap, subst, ◌∙◌, arith}
+use Rattle.std.proofs.Common.{◌≡◌, ℕ, ◌+◌, ◌*◌, ◌^◌, ◌<◌, ◌≤◌, Bool, List, [], ◌∷◌, ◌++◌, Some, length, option_map, sym, ap, subst, ◌∙◌, arith}
 use Rattle.hcc_rule.specs.declared.geometry.Geometry.{Geometry}
 use Rattle.hcc_rule.specs.declared.key.Key.{Key}
 use Rattle.hcc_rule.specs.declared.view.Record.{Record}
@@ -21,9 +21,9 @@ use Rattle.hcc_cache.specs.declared.handle.Handle.{Handle}
 use Rattle.hcc_cache.specs.declared.holding.Hold.{Hold}
 use Rattle.hcc_cache.specs.declared.holding.Kept.TheVariants.{Pinned}
 use Rattle.hcc_cache.specs.declared.seeded.Seeded.{Seeded}
-use Rattle.hcc_cache.specs.Calls.{Finds, Gains, KeepsAll, Misses, TakesAtMost, UsesNone, shard_in}
+use Rattle.hcc_cache.specs.Calls.{Finds, Gains, KeepsAll, Misses, TakesAtMost, UsesNone, Works, shard_in}
 use Rattle.hcc_cache.specs.Clients.{held_entry, pin_of}
-use Rattle.hcc_cache.specs.Keys.{fits_seeded, key_from, key_to}
+use Rattle.hcc_cache.specs.Keys.{fits_seeded, key_from, key_to, shard_of}
 use Rattle.hcc_cache.specs.Known.{IsSeated, Knows}
 use Rattle.hcc_cache.proofs.At.{ChangesAt, IsAt, knows_at, seated_at, takes_at, works_at}
 use Rattle.hcc_cache.proofs.Framing.{keeps_all}
@@ -31,6 +31,7 @@ use Rattle.hcc_cache.proofs.Gained.{gains, IsGiven}
 use Rattle.hcc_cache.proofs.Held.{held_rest, stands_rest}
 use Rattle.hcc_cache.proofs.More.{held_pinned, stands_pinned, there_pinned}
 use Rattle.hcc_cache.proofs.Names.{names_later, standings_later}
+use Rattle.hcc_cache.proofs.Dead.{all_held_dead}
 use Rattle.hcc_cache.proofs.Seats.{seated_by}
 
 -- Of a seat.
@@ -40,8 +41,10 @@ module _ {T A : Type 0} (shard : Shard T A) (number used : ℕ) (was is : ShardS
     (searched : Searched (view_of was) (view_of is)) where
   -- it is one of its client still, where these are the records, and so many serials are used
   seated_searched : (more : ℕ) → used ≤ more
-      → Each (λ (r : Record). r.name < more) (view_of is).records → IsSeated shard number more is
-  seated_searched more le records =
+      → Each (λ (r : Record). r.name < more) (view_of is).records
+      → Each (λ (r : Record). r.entry.charge < 2 ^ 32) (view_of is).records
+      → IsSeated shard number more is
+  seated_searched more le records charged =
       let made_same : length (view_of is).made ≡ length (view_of was).made =
       ap (λ (v : View T). length v.made) searched.same in
       let made = seated.made in
@@ -51,20 +54,29 @@ module _ {T A : Type 0} (shard : Shard T A) (number used : ℕ) (was is : ShardS
       (rw (ap (λ (v : View T). v.work.standalones) searched.same)
       (standings_later used more (view_of was).work.standalones le seated.standalones))
       (omega arith)
+      (record {
+        records = charged;
+        standalones =
+            rw (ap (λ (v : View T). v.work.standalones) searched.same) seated.charged.standalones;
+      })
 
   -- where it holds what it held
   pub seated_sought : (view_of is).records ≡ (view_of was).records → IsSeated shard number used is
-  seated_sought same = seated_searched used (omega arith) (rw same seated.records)
+  seated_sought same =
+      seated_searched used (omega arith) (rw same seated.records) (rw same seated.charged.records)
 
   -- where it has one record more, which has the next serial for its name
   pub seated_more : (r : Record) → (view_of is).records ≡ (view_of was).records ++ r ∷ []
-      → r.name ≡ used → IsSeated shard number (used + 1) is
-  seated_more r joins called =
+      → r.name ≡ used → r.entry.charge < 2 ^ 32 → IsSeated shard number (used + 1) is
+  seated_more r joins called small =
       seated_searched (used + 1) (omega arith)
       (rw joins
       (each_append (λ (q : Record). q.name < used + 1) (view_of was).records (r ∷ [])
       (names_later used (used + 1) (view_of was).records (omega arith) seated.records)
       (omega arith, tt)))
+      (rw joins
+      (each_append (λ (q : Record). q.entry.charge < 2 ^ 32) (view_of was).records (r ∷ [])
+      seated.charged.records (small, tt)))
 
 -- Of a client.
 
@@ -132,15 +144,20 @@ module _ {T : Type 0} where
     pub misses : (key : Key) → IsLeft old new → i ≡ shard_in cache key
         → IsMissed (key_to cache.seed key) (view_of was) (view_of is)
         → Misses cache key old new
-    misses key left there missed = record {
-      v = view_of was;
-      w = view_of is;
-      works = rw (← there) (works_at cache old new i shard was is at change);
-      misses = missed;
-      keeps =
-          keeps_left left missed.sought.records
-          (ap (λ (v : View (Seeded T)). v.work.standalones) missed.sought.searched.same);
-    }
+    misses key left there missed =
+        let works : Works (shard_in cache key) old new (view_of was) (view_of is) =
+        rw (← there) (works_at cache old new i shard was is at change) in
+        record {
+          v = view_of was;
+          w = view_of is;
+          works = works;
+          misses = missed;
+          held_dead =
+              all_held_dead cache old new key (view_of was) (view_of is) at.knows works missed.dead;
+          keeps =
+              keeps_left left missed.sought.records
+              (ap (λ (v : View (Seeded T)). v.work.standalones) missed.sought.searched.same);
+        }
 
     -- One record more was found, and a handle on it is kept.
     module _ (handle : Handle) (hold : Hold) (slot : ℕ) (counting : Bool) (r : Record)
@@ -154,8 +171,9 @@ module _ {T : Type 0} where
       standalones_same = ap (λ (v : View (Seeded T)). v.work.standalones) searched.same
 
       -- it is known still
-      pub knows_more : Rests shard is → old.held < old.most → Knows cache new
-      knows_more rests few =
+      pub knows_more : hold.shard ≡ shard_of (key_to cache.seed hold.key) (length old.seats.items)
+          → r.entry.charge < 2 ^ 32 → Rests shard is → old.held < old.most → Knows cache new
+      knows_more home small rests few =
           let seated = seated_at cache old new i shard was is at in
           let left = given.uses.1 in
           let held = given.held in
@@ -165,12 +183,12 @@ module _ {T : Type 0} where
           let used = given.uses.0 in
           knows_at cache old new i shard was is at change (omega arith)
           (rw used (seated_more shard old.number old.used was is seated rests searched r joins
-          called))
+          called small))
           (rw (change.seats, alone, used)
           (held_pinned cache.seed old.used old.seats.items old.handles old.alone at.knows.holds i
           was is r at.seat_is joins standalones_same hold slot counting handle.index new.handles
           seated.records given.named shard_is kept (within old.seats.items i was at.seat_is)
-          called of key_is given.free given.updates given.count))
+          called of key_is (sym shard_is ∙ home) given.free given.updates given.count))
           (omega arith) (omega arith) (omega arith)
 
       -- the handle stands for the record's entry

@@ -181,6 +181,7 @@ module _ {T : Type 0} (seats more : List (ShardSeat T)) (old new : Slab Alone) w
       → IsKept seed seats old hold → IsKept seed more new hold
   kept_still seed hold count same kept = record {
     within = rw count kept.within;
+    home = rw count kept.home;
     stands = by hold.kept same kept.stands;
   }
     where

@@ -39,6 +39,8 @@ module _ {T : Type 0} where
         → kept_as cache.seed new.seats.items new.alone hold hold.kept ≡ Some held
         → StandBut cache old new handle.index → Gains cache handle held old new
     gains held kept stand = record {
+      client = given.client;
+      serial = given.serial;
       free = rw (given.free) refl;
       stands = stands_for held kept;
       others =

@@ -1,5 +1,5 @@
 -- A client that was handed a handle on what it inserted.
-use Rattle.std.proofs.Common.{◌≡◌, ℕ, ◌+◌, ◌<◌, ◌≤◌, Bool, List, [], ◌∷◌, ◌++◌, Some, None, Ok, length, option_map, sym, refl, ap, subst, arith}
+use Rattle.std.proofs.Common.{◌≡◌, ℕ, ◌+◌, ◌^◌, ◌<◌, ◌≤◌, Bool, List, [], ◌∷◌, ◌++◌, Some, None, Ok, length, option_map, sym, refl, ap, subst, arith}
 use Rattle.slab.specs.Slab.{slab_len}
 use Rattle.hcc_core.specs.declared.client.Standalone.{Standalone}
 use Rattle.hcc_core.specs.declared.limits.TheConstants.{MOST_HANDLES}
@@ -32,7 +32,7 @@ use Rattle.hcc_cache.specs.Calls.{Gains, shard_in}
 use Rattle.hcc_cache.specs.Clients.{held_alone, held_entry}
 use Rattle.hcc_cache.specs.Inserts.{Pins, Stands, pinned_draft}
 use Rattle.hcc_cache.specs.Keys.{key_from, key_to}
-use Rattle.hcc_cache.specs.Known.{AreHeld, Knows, references_of, standalones_at}
+use Rattle.hcc_cache.specs.Known.{AreCharged, AreHeld, Knows, references_of, standalones_at}
 use Rattle.hcc_cache.proofs.Alone.{IsJoined, held_joined, known_of, stands_joined}
 use Rattle.hcc_cache.proofs.At.{ChangesAt, IsAt, knows_at, seated_at, works_at}
 use Rattle.hcc_cache.proofs.Gained.{IsGiven, gains}
@@ -104,9 +104,10 @@ module _ {T : Type 0} (cache : Cache T) (old new : Client T) (i : ℕ) (shard : 
     knows_given : IsTried (view_of was) (view_of is)
         → Each (λ (r : Record). r.name < old.used + 1) (view_of is).records
         → Each (λ (s : Standalone). s.name < old.used + 1) (view_of is).work.standalones
+        → AreCharged (view_of is)
         → AreHeld cache.seed (old.used + 1) new.seats.items new.handles new.alone
         → Knows cache new
-    knows_given tried records standalones holds =
+    knows_given tried records standalones charged holds =
         let seated = seated_at cache old new i shard was is at in
         let used = given.uses.0 in
         let left = given.uses.1 in
@@ -116,7 +117,8 @@ module _ {T : Type 0} (cache : Cache T) (old new : Client T) (i : ℕ) (shard : 
         let serials = at.knows.serials in
         knows_at cache old new i shard was is at change (omega arith)
         (rw used
-        (seated_tried shard old.number old.used was is seated rests tried records standalones))
+        (seated_tried shard old.number old.used was is seated rests tried records standalones
+        charged))
         (rw used holds) (omega arith) (omega arith) (omega arith)
 
     -- Of an entry of the table.
@@ -127,8 +129,8 @@ module _ {T : Type 0} (cache : Cache T) (old new : Client T) (i : ℕ) (shard : 
         (called : r.name ≡ old.used)
         (of : (r.slot ≡ slot) × (r.weight ≡ 1) × (r.counting ≡ counting))
         (key_is : key_of r.entry ≡ key_to cache.seed key) where
-      knows_placed : Knows cache new
-      knows_placed =
+      knows_placed : i ≡ shard_in cache key → r.entry.charge < 2 ^ 32 → Knows cache new
+      knows_placed here small =
           let seated = seated_at cache old new i shard was is at in
           knows_given left.tried
           (rw (left.records_are)
@@ -138,12 +140,19 @@ module _ {T : Type 0} (cache : Cache T) (old new : Client T) (i : ℕ) (shard : 
           (rw (left.standalones_are)
           (standings_later old.used (old.used + 1) (view_of was).work.standalones (omega arith)
           seated.standalones))
+          (record {
+            records =
+                rw (left.records_are)
+                (each_more (λ (q : Record). q.entry.charge < 2 ^ 32) (view_of was).records r
+                seated.charged.records small);
+            standalones = rw (left.standalones_are) seated.charged.standalones;
+          })
           (rw (change.seats, alone)
           (held_pinned cache.seed old.used old.seats.items old.handles old.alone at.knows.holds i
           was is r at.seat_is left.records_are left.standalones_are
           (hold_with old.used key i kept) slot counting handle.index new.handles seated.records
-          refl refl kept_is (within old.seats.items i was at.seat_is) called of key_is given.free
-          given.updates given.count))
+          refl refl kept_is (within old.seats.items i was at.seat_is) called of key_is
+          (rw (at.knows.seated.count) here) given.free given.updates given.count))
 
       gains_placed : Gains cache handle (held_entry cache.seed r.entry) old new
       gains_placed =
@@ -165,8 +174,8 @@ module _ {T : Type 0} (cache : Cache T) (old new : Client T) (i : ℕ) (shard : 
     module _ (index : ℕ) (a : Alone) (kept_is : kept ≡ Standing index)
         (tried : IsTried (view_of was) (view_of is))
         (joined : IsJoined old.used was is old.alone new.alone index a) where
-      pub knows_alone : Knows cache new
-      knows_alone =
+      pub knows_alone : i ≡ shard_in cache key → a.charge < 2 ^ 32 → Knows cache new
+      knows_alone here small =
           let seated = seated_at cache old new i shard was is at in
           let called = joined.called in
           knows_given tried
@@ -179,11 +188,19 @@ module _ {T : Type 0} (cache : Cache T) (old new : Client T) (i : ℕ) (shard : 
           (standings_later old.used (old.used + 1) (view_of was).work.standalones (omega arith)
           seated.standalones)
           (omega arith)))
+          (record {
+            records = rw (joined.records) seated.charged.records;
+            standalones =
+                rw (joined.standalones)
+                (each_more (λ (s : Standalone). s.charge < 2 ^ 32) (view_of was).work.standalones
+                (known_of a) seated.charged.standalones small);
+          })
           (rw (change.seats)
           (held_joined cache.seed old.used old.seats.items old.handles old.alone new.alone
           at.knows.holds i was is index a at.seat_is joined (hold_with old.used key i kept)
           handle.index new.handles seated.standalones refl refl kept_is
-          (within old.seats.items i was at.seat_is) given.free given.updates given.count))
+          (within old.seats.items i was at.seat_is) given.free given.updates
+          (rw (at.knows.seated.count) here) given.count))
 
       gains_alone : Gains cache handle (held_alone key a) old new
       gains_alone =
@@ -215,10 +232,10 @@ module _ {T : Type 0} (cache : Cache T) (old new : Client T) (i : ℕ) (shard : 
               (pinned_draft cache key charge priority value old) value (view_of was) (view_of is)
               pin.slot old.used refl told.0
 
-          pub knows_pins : Knows cache new
-          knows_pins =
+          pub knows_pins : charge < 2 ^ 32 → Knows cache new
+          knows_pins small =
               knows_placed pin.slot pin.counting handled alone kept_is left_placed refl
-              (refl, refl, sym told.2) refl
+              (refl, refl, sym told.2) refl here small
 
           pub pins_at : Pins cache key charge priority value handle old new
           pins_at = record {

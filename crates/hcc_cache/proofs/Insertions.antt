@@ -27,7 +27,7 @@ use Rattle.hcc_cache.specs.declared.seeded.Seeded.{Seeded}
 use Rattle.hcc_cache.specs.Calls.{TakesAtMost, UsesOne, shard_in}
 use Rattle.hcc_cache.specs.Inserts.{Fails, KeepsHandles, Stores, draft_of, pinned_draft}
 use Rattle.hcc_cache.specs.Keys.{fits_seeded, key_from}
-use Rattle.hcc_cache.specs.Known.{IsSeated, Knows}
+use Rattle.hcc_cache.specs.Known.{AreCharged, IsSeated, Knows}
 use Rattle.hcc_cache.proofs.At.{ChangesAt, IsAt, knows_at, next_at, seated_at, takes_at, works_at}
 use Rattle.hcc_cache.proofs.Framing.{keeps_all}
 use Rattle.hcc_cache.proofs.Held.{held_rest, stands_rest}
@@ -148,12 +148,12 @@ pub seated_tried : {T A : Type 0} (shard : Shard T A) (number used : ℕ) (was i
     → IsSeated shard number used was → Rests shard is → IsTried (view_of was) (view_of is)
     → Each (λ (r : Record). r.name < used + 1) (view_of is).records
     → Each (λ (s : Standalone). s.name < used + 1) (view_of is).work.standalones
-    → IsSeated shard number (used + 1) is
-seated_tried shard number used was is seated rests tried records standalones =
+    → AreCharged (view_of is) → IsSeated shard number (used + 1) is
+seated_tried shard number used was is seated rests tried records standalones charged =
     let before = seated.made in
     let more = tried.made in
     seated_by shard number used (used + 1) was is seated rests tried.client tried.others records
-    standalones (omega arith)
+    standalones (omega arith) charged
 
 -- Of a client.
 
@@ -238,7 +238,11 @@ module _ {T : Type 0} where
             seated.records))
             (rw (left.standalones_are)
             (standings_later old.used (old.used + 1) (view_of was).work.standalones (omega arith)
-            seated.standalones))))
+            seated.standalones))
+            (record {
+              records = rw (left.records_are) seated.charged.records;
+              standalones = rw (left.standalones_are) seated.charged.standalones;
+            })))
             (rw (change.seats, asked.handles, asked.alone, used)
             (held_rest cache.seed old.used old.seats.items old.handles old.alone at.knows.holds i
             was is at.seat_is left.records_are left.standalones_are (old.used + 1) (omega arith)))

@@ -12,6 +12,7 @@ pub mod Through
 pub mod Less
 pub mod More
 pub mod Gained
+pub mod Dead
 pub mod Found
 pub mod Again
 pub mod StandsAgain
@@ -24,6 +25,7 @@ pub mod Insertions
 pub mod Refusals
 pub mod Alone
 pub mod Handing
+pub mod Charged
 pub mod Lists
 pub mod Holders
 pub mod Joining

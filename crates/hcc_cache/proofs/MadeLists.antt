@@ -79,6 +79,17 @@ module _ {T : Type 0} where
       by true is h = (0, v, refl, eqb-true v.client c is, h)
       by false is h = let r = find_made c n m vs h in (suc r.0, r.1, r.2, r.3, r.4)
 
+  joined_records : (v : View T) (vs : List (View T)) → (joined_views v vs).records ≡ v.records
+  joined_records v [] = refl
+  joined_records v (w ∷ ws) = joined_records (joined_view v w) ws
+
+  -- The joined view has the records of the first.
+  pub records_joined : (vs : List (View T)) (v : View T) → slice_get vs 0 ≡ Some v
+      → (all_joined vs).records ≡ v.records
+  records_joined [] v h = absurd (let no : ⊥ = cc in no)
+  records_joined (w ∷ ws) v h =
+      let same : w ≡ v = cc in joined_records w ws ∙ ap (λ (x : View T). x.records) same
+
   joined_takings : (v : View T) (vs : List (View T))
       → (joined_views v vs).takings ≡ v.takings + total (λ (w : View T). w.takings) vs
   joined_takings v [] = omega arith

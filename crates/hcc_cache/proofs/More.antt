@@ -16,7 +16,7 @@ use Rattle.hcc_cache.specs.declared.holding.Alone.{Alone}
 use Rattle.hcc_cache.specs.declared.holding.Hold.{Hold}
 use Rattle.hcc_cache.specs.declared.holding.Kept.TheVariants.{Pinned}
 use Rattle.hcc_cache.specs.Clients.{pin_of, records_in, standalones_in, view_by}
-use Rattle.hcc_cache.specs.Keys.{key_to}
+use Rattle.hcc_cache.specs.Keys.{key_to, shard_of}
 use Rattle.hcc_cache.specs.Known.{AreHeld, count_of, is_pinned, is_standing_at, IsKept, records_at, standalones_at}
 use Rattle.hcc_cache.proofs.Framing.{same_alone, Stands, stands_if}
 use Rattle.hcc_cache.proofs.Held.{apart_more}
@@ -96,18 +96,21 @@ module _ {T : Type 0} (seed used : ℕ) (seats : List (ShardSeat T)) (handles : 
         (find_last (is_called hold.serial) (view_of was).records r free
         (eq-eqb r.name hold.serial (called ∙ sym serial)))
 
-    kept_pinned : IsKept seed (slice_set seats i is) alone hold
-    kept_pinned = record {
+    kept_pinned : i ≡ shard_of (key_to seed hold.key) (length seats)
+        → IsKept seed (slice_set seats i is) alone hold
+    kept_pinned home = record {
       within = rw (shard, length-set seats i is) inside;
+      home = shard ∙ rw (length-set seats i is) home;
       stands = rw kept (record { handled = r; there = there_pinned; of = of; key = key });
     }
 
-    pub held_pinned : get handles index ≡ None → Updates handles gained index (Some hold)
+    pub held_pinned : i ≡ shard_of (key_to seed hold.key) (length seats)
+        → get handles index ≡ None → Updates handles gained index (Some hold)
         → slab_len gained ≡ slab_len handles + 1
         → AreHeld seed (used + 1) (slice_set seats i is) gained alone
-    held_pinned free updates count =
+    held_pinned home free updates count =
         let apart = apart_more seed used seats (slice_set seats i is) handles alone all index hold
-        gained alone (length-set seats i is) serial kept_pinned updates stands_pinned in
+        gained alone (length-set seats i is) serial (kept_pinned home) updates stands_pinned in
         let pinned : is_pinned (Some hold) ≡ true = rw kept refl in
         let pins : count_of is_pinned gained ≡ count_of is_pinned handles + 1 =
         counted_more is_pinned handles gained index hold refl free updates

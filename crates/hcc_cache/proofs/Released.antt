@@ -1,6 +1,6 @@
 -- What a client knows once it gave a handle back.
-use Rattle.std.proofs.Common.{◌≡◌, ℕ, ◌+◌, ◌-◌, ◌<◌, ◌≤◌, Bool, true, false}
-use Rattle.std.proofs.Common.{Some, None, length}
+use Rattle.std.proofs.Common.{◌≡◌, ℕ, ◌+◌, ◌-◌, ◌^◌, ◌<◌, ◌≤◌, Bool, true, false}
+use Rattle.std.proofs.Common.{Some, None, find, length}
 use Rattle.std.proofs.Common.{sym, refl, ap, subst, ◌∙◌, arith}
 use Rattle.slab.specs.Slab.{get, Updates}
 use Rattle.hcc_core.specs.declared.client.Standalone.{Standalone}
@@ -31,7 +31,7 @@ use Rattle.hcc_cache.proofs.At.{ChangesAt, IsAt, knows_at, seated_at, works_at}
 use Rattle.hcc_cache.proofs.Framing.{IsSameAlone, StandBut, keeps_less, own_parts}
 use Rattle.hcc_cache.proofs.Less.{IsLess, IsWithout, held_unpinned, stand_unpinned}
 use Rattle.hcc_cache.proofs.Seats.{seated_by}
-use Rattle.hcc_cache.proofs.Standing.{held_fallen, held_fewer, stand_fallen, stand_fewer}
+use Rattle.hcc_cache.proofs.Standing.{held_fallen, held_fewer, known_there, stand_fallen, stand_fewer}
 
 -- Of a seat.
 
@@ -51,6 +51,14 @@ module _ {T A : Type 0} (shard : Shard T A) (number used : ℕ) (was is : ShardS
       seated.records))
       (rw (ap (λ (v : View T). v.work.standalones) same) seated.standalones)
       (omega arith)
+      (record {
+        records =
+            rw (ap (λ (v : View T). v.records) same)
+            (dropped_each (is_called name) (λ (r : Record). r.entry.charge < 2 ^ 32)
+            (view_of was).records seated.charged.records);
+        standalones =
+            rw (ap (λ (v : View T). v.work.standalones) same) seated.charged.standalones;
+      })
 
   -- or a standalone entry was let go
   pub seated_fallen : (name : ℕ) → view_of is ≡ fallen name (view_of was)
@@ -65,6 +73,13 @@ module _ {T A : Type 0} (shard : Shard T A) (number used : ℕ) (was is : ShardS
       (dropped_each (is_standing name) (λ (s : Standalone). s.name < used)
       (view_of was).work.standalones seated.standalones))
       (omega arith)
+      (record {
+        records = rw (ap (λ (v : View T). v.records) fell) seated.charged.records;
+        standalones =
+            rw (ap (λ (v : View T). v.work.standalones) fell)
+            (dropped_each (is_standing name) (λ (s : Standalone). s.charge < 2 ^ 32)
+            (view_of was).work.standalones seated.charged.standalones);
+      })
 
 -- what a release leaves of a seat
 pub without_released : {T : Type 0} (name : ℕ) (erase freed : Bool) (was is : ShardSeat T)
@@ -244,6 +259,13 @@ module _ {T : Type 0} (cache : Cache T) (old new : Client T) (handle : Handle) (
             ≡ dropped (is_standing a.name) (view_of was).work.standalones
         standalones = ap (λ (v : View (Seeded T)). v.work.standalones) fell
 
+        -- its shard knew it
+        stood : find (is_standing a.name) (view_of was).work.standalones
+            ≡ Some (record { name = a.name; charge = a.charge })
+        stood =
+            known_there cache.seed old.used old.seats.items old.handles new.handles old.alone
+            handle.index index hold a lets.gone kept there at.knows.holds was at.seat_is
+
         pub knows_fallen : Rests shard is → Knows cache new
         knows_fallen rests =
             let count = at.knows.count in
@@ -270,7 +292,7 @@ module _ {T : Type 0} (cache : Cache T) (old new : Client T) (handle : Handle) (
           v = view_of was;
           w = view_of is;
           works = works_at cache old new hold.shard shard was is at change;
-          released = fell;
+          released = (rw stood refl, fell);
           loses =
               loses
               (λ p k ne stands. rw (change.seats)

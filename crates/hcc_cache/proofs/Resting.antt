@@ -43,6 +43,10 @@ module _ {T : Type 0} (cache : Cache T) (old new : Client T) (i : ℕ) (shard : 
       seated_by shard old.number old.used old.used was is s rests same.client same.others
       (rw (same.records) s.records) (rw (same.standalones) s.standalones)
       (rw (same.made) s.made)
+      (record {
+        records = rw (same.records) s.charged.records;
+        standalones = rw (same.standalones) s.charged.standalones;
+      })
 
   module _ (seats : new.seats.items ≡ slice_set old.seats.items i is) (only : OnlySeats old new)
     where

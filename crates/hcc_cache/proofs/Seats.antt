@@ -13,7 +13,7 @@ use Rattle.hcc_shard.specs.declared.shard.Shard.{Shard}
 use Rattle.hcc_shard.specs.Callers.{steps_of, view_of}
 use Rattle.hcc_shard.specs.Seated.{Rests}
 use Rattle.hcc_cache.specs.Clients.{view_by, view_in}
-use Rattle.hcc_cache.specs.Known.{AreSeated, IsSeated}
+use Rattle.hcc_cache.specs.Known.{AreCharged, AreSeated, IsSeated}
 use Rattle.hcc_cache.proofs.Names.{names_later, standings_later}
 
 -- Of views.
@@ -53,8 +53,9 @@ module _ {T A : Type 0} where
       → (view_of is).client ≡ (view_of was).client → (view_of is).others ≡ (view_of was).others
       → Each (λ (r : Record). r.name < more) (view_of is).records
       → Each (λ (s : Standalone). s.name < more) (view_of is).work.standalones
-      → length (view_of is).made ≤ more → IsSeated shard number more is
-  seated_by shard number used more was is seated rests client others records standalones made =
+      → length (view_of is).made ≤ more → AreCharged (view_of is) → IsSeated shard number more is
+  seated_by shard number used more was is seated rests client others records standalones made
+      charged =
       record {
         rests = rests;
         number_is = sym rests.own ∙ (client ∙ (seated.rests.own ∙ seated.number_is));
@@ -62,6 +63,7 @@ module _ {T A : Type 0} where
         records = records;
         standalones = standalones;
         made = made;
+        charged = charged;
       }
 
   -- more serials were used
@@ -76,6 +78,7 @@ module _ {T A : Type 0} where
         records = names_later used more (view_of seat).records le h.records;
         standalones = standings_later used more (view_of seat).work.standalones le h.standalones;
         made = omega arith;
+        charged = h.charged;
       }
 
   -- all seats, where one was worked with

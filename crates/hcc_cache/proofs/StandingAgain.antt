@@ -93,7 +93,7 @@ module _ {T : Type 0} (cache : Cache T) (old : Client T) (first : Hold) (from : 
         (rw (seats, used)
         (held_again cache.seed old.used old.seats.items old.handles old.alone new.alone knows.holds
         index a b stands same updates first hold from more.index new.handles held first_kept kept
-        shard given.named references given.free given.updates given.count))
+        shard given.named key references given.free given.updates given.count))
         (omega arith) (omega arith) (omega arith)
 
     pub rerefs_standing : Rerefs cache handle more old new

@@ -76,7 +76,7 @@ module _ {T : Type 0} (seed used : ℕ) (seats : List (ShardSeat T)) (handles : 
   module _ (first hold : Hold) (from at : ℕ) (gained : Slab Hold)
       (held : get handles from ≡ Some first) (first_kept : first.kept ≡ Standing index)
       (kept : hold.kept ≡ Standing index) (shard : hold.shard ≡ first.shard)
-      (serial : hold.serial ≡ used) where
+      (serial : hold.serial ≡ used) (key : hold.key ≡ first.key) where
     -- the new handle is kept on the entry of the first
     kept_again : IsKept seed seats new hold
     kept_again =
@@ -91,6 +91,7 @@ module _ {T : Type 0} (seed used : ℕ) (seats : List (ShardSeat T)) (handles : 
         ≡ Some (record { name = x.name; charge = x.charge })) is stand.known in
         record {
           within = rw shard was.within;
+          home = rw (shard, key) was.home;
           stands =
               rw kept (record {
                 entry = b;

@@ -1,6 +1,8 @@
 -- What each call leaves of a client.
-use Rattle.std.specs.Prelude.{◌≡◌, ℕ, ◌+◌, ◌≤◌, ◌++◌, Bool, true, false, List, [], ◌∷◌, Option, Some, None, length}
+use Rattle.std.specs.Prelude.{◌≡◌, ℕ, ◌+◌, ◌≤◌, ◌++◌, Bool, true, false, List, [], ◌∷◌, Option, Some, None, IsSome, find, length}
 use Rattle.hcc_core.specs.declared.slot.Entry.{Entry}
+use Rattle.hcc_core.specs.Lawful.{is_in}
+use Rattle.hcc_core.specs.Ledgers.{is_standing}
 use Rattle.hcc_core.specs.Sums.{total}
 use Rattle.hcc_rule.specs.declared.key.Key.{Key}
 use Rattle.hcc_rule.specs.declared.view.Record.{Record}
@@ -66,8 +68,11 @@ module _ {T : Type 0} (cache : Cache T) where
     pub count : held_by new ≡ held_by old
     pub serials : UsesNone old new
 
-  -- There is one handle more, which was none before. It stands for this, and uses a serial.
+  -- There is one handle more, which was none before: it has the client's number and its next
+  -- serial, which no handle had. It stands for this, and uses that serial.
   pub record Gains (handle : Handle) (held : Held) (old new : Client T) : Type 0 where
+    pub client : handle.client ≡ old.number
+    pub serial : handle.serial ≡ old.used
     pub free : hold_of old handle ≡ None
     pub stands : held_of cache new handle ≡ Some held
     pub others : KeepsBut handle old new
@@ -95,6 +100,13 @@ module _ {T : Type 0} (cache : Cache T) where
     pub right : fits cache.tag key found.entry.value
     pub gains : Gains handle (held_entry cache.seed found.entry) old new
 
+  -- Each entry of this key in the table that a handle stood for is dead to the client.
+  abbrev pub AllHeldDead : Key → (old new : Client T) → Type 0
+  AllHeldDead key old new =
+      (h : Handle) (held : Held) (e : Entry) → held_of cache old h ≡ Some held
+      → held.insertion.key ≡ key → held.entry ≡ Some e
+      → is_in e.stamp (view_at (shard_in key) new).work.dead ≡ true
+
   -- It found none: the client holds what it held, and each entry of the key that it holds is dead
   -- to it.
   pub record Misses (key : Key) (old new : Client T) : Type 0 where
@@ -102,6 +114,7 @@ module _ {T : Type 0} (cache : Cache T) where
     pub w : View (Seeded T)
     pub works : Works (shard_in key) old new v w
     pub misses : IsMissed (key_to cache.seed key) v w
+    pub held_dead : AllHeldDead key old new
     pub keeps : KeepsAll old new
 
   -- The record that another handle on the same adds: one on that entry of the table, or none where
@@ -126,11 +139,12 @@ module _ {T : Type 0} (cache : Cache T) where
     pub gains : Gains more held old new
 
   -- what a release leaves of a view: of an entry of the table, or of a standalone one of this name,
-  -- which goes with its last handle
+  -- which goes with its last handle: it stood there, and stands no more
   abbrev pub ReleasedOf : (serial : ℕ) → (erase freed : Bool) → (standing : Option ℕ)
       → View (Seeded T) → View (Seeded T) → Type 0
   ReleasedOf serial erase freed None v w = IsReleased serial erase freed v w
-  ReleasedOf serial erase true (Some name) v w = w ≡ fallen name v
+  ReleasedOf serial erase true (Some name) v w =
+      IsSome (find (is_standing name) v.work.standalones) × (w ≡ fallen name v)
   ReleasedOf serial erase false (Some name) v w = w ≡ v
 
   -- The handle was given back.
@@ -156,4 +170,5 @@ module _ {T : Type 0} (cache : Cache T) where
     pub works : Works (shard_in key) old new v w
     pub erases : IsErasedAll (key_to cache.seed key) hidden v w
     pub dead : AllDead (key_to cache.seed key) v w
+    pub held_dead : AllHeldDead key old new
     pub keeps : KeepsAll old new

@@ -1,11 +1,12 @@
 -- What is left of a cache once all its clients are back.
-use Rattle.std.specs.Prelude.{◌≡◌, ℕ, ◌+◌, ◌<◌, ◌≤◌, zero, suc, min, List, [], ◌∷◌, Option, Some, None, length, map, slice_get, take}
+use Rattle.std.specs.Prelude.{◌≡◌, ℕ, ◌+◌, ◌<◌, ◌≤◌, zero, suc, min, true, List, [], ◌∷◌, Option, Some, None, length, map, slice_get, take}
+use Rattle.hcc_word.specs.Word.{refs_of}
 use Rattle.hcc_core.specs.declared.slot.Stamp.{Stamp}
 use Rattle.hcc_core.specs.Sums.{total}
 use Rattle.hcc_rule.specs.declared.key.Key.{Key}
 use Rattle.hcc_rule.specs.declared.view.Made.{Made}
 use Rattle.hcc_rule.specs.declared.view.View.{View}
-use Rattle.hcc_rule.specs.Closing.{Closes, list_by, over_entries, words_of}
+use Rattle.hcc_rule.specs.Closing.{Closes, has_entry, list_by, meta_at, over_entries, words_of}
 use Rattle.hcc_rule.specs.Opening.{joined_view, spent_view}
 use Rattle.hcc_shard.specs.declared.entries.ClosedShard.{ClosedShard}
 use Rattle.hcc_shard.specs.declared.seat.ShardSeat.{ShardSeat}
@@ -100,6 +101,11 @@ pub record IsClosed {T : Type 0} (fits : T → Key → List ℕ → Type 0) (cac
       → slice_get closed.shards.items s ≡ Some (Some left)
       → Closes (fits_seeded fits) (record { tag = cache.tag; seed = cache.seed }) cache.geometry
       (words_of left.table) (all_joined (views_at s clients))
+  -- nobody holds an entry that is left
+  pub unheld : (s slot : ℕ) (left : ClosedShard _)
+      → slice_get closed.shards.items s ≡ Some (Some left) → slot < cache.geometry.slots
+      → has_entry cache.geometry.room (words_of left.table) slot ≡ true
+      → refs_of (meta_at cache.geometry.room (words_of left.table) slot) ≡ 0
   -- the value that is left of an entry is the one that it was made with
   pub values : (s : ℕ) (left : ClosedShard _)
       → slice_get closed.shards.items s ≡ Some (Some left)

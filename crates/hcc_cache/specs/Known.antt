@@ -1,11 +1,12 @@
 -- Which clients a cache knows: what holds of a client between any two of its calls.
-use Rattle.std.specs.Prelude.{◌≡◌, ℕ, ◌+◌, ◌%◌, ◌<◌, ◌≤◌, ◌==◌, Bool, true, false, List, [], Option, Some, None, find, length, slice_get}
+use Rattle.std.specs.Prelude.{◌≡◌, ℕ, ◌+◌, ◌%◌, ◌^◌, ◌<◌, ◌≤◌, ◌==◌, Bool, true, false, List, [], Option, Some, None, find, length, slice_get}
 use Rattle.slab.specs.Slab.{Slab, get, slab_len}
 use Rattle.hcc_core.specs.declared.client.Standalone.{Standalone}
 use Rattle.hcc_core.specs.declared.limits.TheConstants.{MOST_HANDLES, STAMPS_PER_CLIENT}
 use Rattle.hcc_core.specs.Ledgers.{is_standing}
 use Rattle.hcc_core.specs.Sums.{total, when}
 use Rattle.hcc_rule.specs.declared.view.Record.{Record}
+use Rattle.hcc_rule.specs.declared.view.View.{View}
 use Rattle.hcc_rule.specs.Views.{Each, record_in}
 use Rattle.hcc_rule.specs.Words.{key_of}
 use Rattle.hcc_table.specs.Pins.{IsOf}
@@ -22,9 +23,15 @@ use Rattle.hcc_cache.specs.declared.holding.Kept.TheVariants.{Pinned, Standing}
 use Rattle.hcc_cache.specs.declared.limits.TheConstants.{MOST_SHARDS}
 use Rattle.hcc_cache.specs.declared.seeded.Seeded.{Seeded}
 use Rattle.hcc_cache.specs.Clients.{pin_of, records_in, standalones_in}
-use Rattle.hcc_cache.specs.Keys.{key_to}
+use Rattle.hcc_cache.specs.Keys.{key_to, shard_of}
 
 -- Of a client's seats.
+
+-- Charges are below 2^32, as callers give them: those of the entries that a client holds in a shard,
+-- and those of its standalone entries there.
+pub record AreCharged {T : Type 0} (v : View T) : Type 0 where
+  pub records : Each (λ (r : Record). r.entry.charge < 2 ^ 32) v.records
+  pub standalones : Each (λ (s : Standalone). s.charge < 2 ^ 32) v.work.standalones
 
 module _ {T A : Type 0} where
   -- A seat of this shard between two calls of its client, which has this number and used so many
@@ -36,6 +43,7 @@ module _ {T A : Type 0} where
     pub records : Each (λ (r : Record). r.name < used) (view_of seat).records
     pub standalones : Each (λ (s : Standalone). s.name < used) (view_of seat).work.standalones
     pub made : length (view_of seat).made ≤ used
+    pub charged : AreCharged (view_of seat)
 
   -- a seat at each shard
   pub record AreSeated (shards : List (Shard T A)) (number used : ℕ) (seats : List (ShardSeat T))
@@ -94,9 +102,10 @@ module _ {T : Type 0} (seed : ℕ) (seats : List (ShardSeat T)) (alone : Slab Al
   IsKeptAs hold (Pinned slot counting) = IsPin hold slot counting
   IsKeptAs hold (Standing index) = IsStand hold index
 
-  -- what is kept of a handle is on one of the shards, and stands for something
+  -- what is kept of a handle is on one of the shards, that of its key, and stands for something
   pub record IsKept (hold : Hold) : Type 0 where
     pub within : hold.shard < length seats
+    pub home : hold.shard ≡ shard_of (key_to seed hold.key) (length seats)
     pub stands : IsKeptAs hold hold.kept
 
 -- how many references the client of a seat holds, and how many standalone entries

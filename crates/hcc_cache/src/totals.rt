@@ -1,5 +1,5 @@
 //! Totals of a cache, and words of its shards.
-ghost use Rattle.std.specs.Prelude.{◌≡◌, ◌+◌, ◌-◌, ◌*◌, ◌^◌, ◌<◌, ◌≤◌, min, true, ℕ, length};
+ghost use Rattle.std.specs.Prelude.{◌≡◌, ◌+◌, ◌-◌, ◌*◌, ◌^◌, ◌<◌, ◌≤◌, true, ℕ, length};
 ghost use Rattle.hcc_rule.specs.Told.{after_look, Backs};
 ghost use Rattle.hcc_rule.specs.ToldTrails.{passed_held};
 ghost use Rattle.hcc_cache.specs.Calls.{KeepsAll, Reads, TakesAtMost, Works};
@@ -26,7 +26,7 @@ impl<T: Tag> Cache<T> {
         ensures known { Knows self.now client.new }
         ensures keeps { KeepsAll self.now client.old client.new }
         ensures views { LoadsUsages client.old client.new }
-        ensures entries { min (charge_by client.old) (2 ^ 64 - 1) ≤ result }
+        ensures entries { charge_by client.old ≤ result }
         ensures strict { self.now.strict ≡ true
             → result ≤ length self.now.shards.items * self.now.capacity }
         ensures steps { TakesAtMost (length self.now.shards.items) client.old client.new }
@@ -65,9 +65,9 @@ impl<T: Tag> Cache<T> {
         ensures known { Knows self.now client.new }
         ensures keeps { KeepsAll self.now client.old client.new }
         ensures views { SearchesAll client.old client.new }
-        ensures entries { min (charge_by client.old) (2 ^ 64 - 1) ≤ result }
+        ensures entries { charge_by client.old ≤ result }
         ensures alone { self.now.geometry.clients ≡ 1
-            → result ≡ min (charge_by client.old) (2 ^ 64 - 1) }
+            → result ≡ charge_by client.old }
         ensures steps { TakesAtMost
             (length self.now.shards.items * (5 * self.now.geometry.slots + 1))
             client.old client.new }

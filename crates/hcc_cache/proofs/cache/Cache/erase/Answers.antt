@@ -1,9 +1,14 @@
 use Rattle.std.proofs.Common.{◌≡◌, ◌+◌, ◌*◌, refl, ap, ◌∙◌, length, mul-le-mul_left, arith}
+use Rattle.std.specs.Vec.{with_item}
 use Rattle.hcc_rule.specs.declared.geometry.Geometry.{Geometry}
+use Rattle.hcc_table.specs.Searched.{AllDead}
 use Rattle.hcc_table.specs.Steps.{freeing}
 use Rattle.hcc_shard.specs.Callers.{view_of}
-use Rattle.hcc_cache.specs.Keys.{shard_of}
+use Rattle.hcc_cache.specs.declared.client.Client.{Client}
+use Rattle.hcc_cache.specs.Calls.{Works, shard_in}
+use Rattle.hcc_cache.specs.Keys.{key_to, shard_of}
 use Rattle.hcc_cache.proofs.At.{is_at, seated_at, works_at}
+use Rattle.hcc_cache.proofs.Dead.{all_held_dead}
 use Rattle.hcc_cache.proofs.Resting.{keeps_same, knows_same, same_erased}
 use Rattle.hcc_cache.proofs.Seats.{steps_set}
 use Rattle.hcc_cache.proofs.cache.Cache.erase.Goals as goal
@@ -41,15 +46,22 @@ returns-clause-erased g c =
     let words = c.key_to-under.ensures.words in
     let there = c.shard_number-shard.ensures.value
     ∙ ap (λ k. shard_of k (length cache.shards.items)) words in
+    let is = c.erase.new.seat in
+    let new : Client g.row.T.Denot = record old { seats = with_item old.seats i is } in
+    let works : Works (shard_in cache c.args.key) old new (view_of was) (view_of is) =
+    rw (← there)
+    (works_at cache old new i c.index.result.now was is at
+    (record { seats = refl; number = refl; most = refl; capacity = (refl, refl) })) in
+    let dead : AllDead (key_to cache.seed c.args.key) (view_of was) (view_of is) =
+    rw (← words) c.erase.ensures.dead in
     record {
       v = view_of was;
-      w = view_of c.erase.new.seat;
-      works =
-          rw (← there)
-          (works_at cache old _ i c.index.result.now was c.erase.new.seat at
-          (record { seats = refl; number = refl; most = refl; capacity = (refl, refl) }));
+      w = view_of is;
+      works = works;
       erases = rw (← words) c.erase.ensures.view;
-      dead = rw (← words) c.erase.ensures.dead;
+      dead = dead;
+      held_dead =
+          all_held_dead cache old new c.args.key (view_of was) (view_of is) at.knows works dead;
       keeps =
           keeps_same cache old _ i c.index.result.now was c.erase.new.seat at c.erase.ensures.seat
           (same_erased (view_of was) (view_of c.erase.new.seat) c.key_to-under.result

@@ -139,7 +139,10 @@ returns g c =
       known =
           knows_more cache old new i shard was is at change c.keep.result hold pin.slot
           pin.counting told.0 given alone refl c.pinned.ensures told.1.searched told.1.records
-          told.1.called told.2 (told.1.asked ∙ words) c.lookup.ensures.seat c.requires.free.0;
+          told.1.called told.2 (told.1.asked ∙ words)
+          (rw (c.requires.known.seated.count)
+          (c.shard_number-shard.ensures.value ∙ ap (λ k. shard_of k shards) words))
+          told.1.small c.lookup.ensures.seat c.requires.free.0;
       found =
           finds cache old new i shard was is at change c.keep.result hold pin.slot pin.counting
           told.0 given alone refl c.pinned.ensures told.1.searched told.1.records told.1.called

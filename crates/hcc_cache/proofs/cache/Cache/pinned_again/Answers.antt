@@ -162,6 +162,7 @@ returns g c =
       known =
           knows_more cache old new first.shard shard was is at change c.keep.result hold slot
           counting r given alone refl c.pinned.ensures searched told.1 told.3 told.2 key
+          (c.requires.known.holds.each index first there).0.home (rw same pin.small)
           c.reref-pin.ensures.seat c.requires.free.0;
       again =
           rerefs_pinned cache old new first.shard shard was is at change c.args.handle

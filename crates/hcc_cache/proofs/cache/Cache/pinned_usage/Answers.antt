@@ -1,7 +1,8 @@
-use Rattle.std.proofs.Common.{◌≡◌, ◌+◌, ◌*◌, ap, length, ◌∙◌, arith}
+use Rattle.std.proofs.Common.{◌≡◌, ◌+◌, ◌-◌, ◌*◌, ◌^◌, ◌≤◌, min, ap, length, ◌∙◌, arith}
 use Rattle.hcc_table.specs.Searched.{Sought}
 use Rattle.hcc_cache.specs.Clients.{view_at}
-use Rattle.hcc_cache.specs.Totals.{charge_in}
+use Rattle.hcc_cache.specs.Totals.{charge_by, charge_in}
+use Rattle.hcc_cache.proofs.Charged.{charge_counts}
 use Rattle.hcc_cache.proofs.Through.{goes_first, goes_on, most_counted, same_counted, sought_all, sum_all, sum_next, sum_to}
 use Rattle.hcc_cache.proofs.cache.Cache.pinned_usage.Goals as goal
 
@@ -44,7 +45,10 @@ returns-clause-entries g c =
     let count = c.requires.seated.count in
     let size = c.len-shard-end.ensures in
     let end : c.loop-shard.shard ≡ length old.seats.items = omega arith in
-    rw (sum_all charge_in old.seats.items, ← end) c.loop-shard.invariant.1
+    let low : min (charge_by old) (2 ^ 64 - 1) ≤ c.loop-shard.sum =
+    rw (sum_all charge_in old.seats.items, ← end) c.loop-shard.invariant.1 in
+    let counts = charge_counts c.args.self.now old c.requires in
+    omega arith
 
 pub returns-clause-alone : goal.returns-clause-alone
 returns-clause-alone g c one =
@@ -54,7 +58,10 @@ returns-clause-alone g c one =
     let count = c.requires.seated.count in
     let size = c.len-shard-end.ensures in
     let end : c.loop-shard.shard ≡ length old.seats.items = omega arith in
-    rw (sum_all charge_in old.seats.items, ← end) (c.loop-shard.invariant.2 one)
+    let is : c.loop-shard.sum ≡ min (charge_by old) (2 ^ 64 - 1) =
+    rw (sum_all charge_in old.seats.items, ← end) (c.loop-shard.invariant.2 one) in
+    let counts = charge_counts c.args.self.now old c.requires in
+    omega arith
 
 pub returns-clause-views : goal.returns-clause-views
 returns-clause-views g c = record {

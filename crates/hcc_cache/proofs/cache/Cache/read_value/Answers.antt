@@ -1,12 +1,33 @@
-use Rattle.std.proofs.Common.{◌≡◌, ◌+◌, ◌≤◌, ◌++◌, List, ℕ, drop, length, refl}
+use Rattle.std.proofs.Common.{◌≡◌, ◌+◌, ◌≤◌, ◌++◌, List, ℕ, drop, length, refl, arith}
 use Rattle.std.specs.Vec.{with_item}
 use Rattle.hcc_rule.specs.Words.{words_for}
 use Rattle.hcc_cache.specs.declared.client.Client.{Client}
-use Rattle.hcc_cache.proofs.Again.{hold_within, pin_at, pinned_at}
+use Rattle.hcc_cache.proofs.Again.{hold_within, pin_at, pinned_at, stand_there}
 use Rattle.hcc_cache.proofs.At.{ChangesAt, is_at, seated_at, takes_at}
 use Rattle.hcc_cache.proofs.Found.{IsLeft}
 use Rattle.hcc_cache.proofs.Readings.{knows_read, reads_at, told_back, told_of}
 use Rattle.hcc_cache.proofs.cache.Cache.read_value.Goals as goal
+
+pub index_mut-seat-requires : goal.index_mut-seat-requires
+index_mut-seat-requires g c =
+    let old = c.args.client.now in
+    let within = hold_within c.args.self.now old c.hold-hold.result c.args.handle.index
+    c.requires.known c.hold-hold.ensures.there in
+    let length_is = old.seats.ok.0 in
+    omega arith
+
+pub index-requires : goal.index-requires
+index-requires g c =
+    let cache = c.args.self.now in
+    let within = hold_within cache c.args.client.now c.hold-hold.result c.args.handle.index
+    c.requires.known c.hold-hold.ensures.there in
+    let length_is = cache.shards.ok.0 in
+    omega arith
+
+pub index-requires-in-Standing : goal.index-requires-in-Standing
+index-requires-in-Standing g c =
+    stand_there c.args.self.now c.args.client.now c.hold-hold.result c.in-Standing.index
+    c.args.handle.index c.requires.known c.hold-hold.ensures.there c.in-Standing.is
 
 pub read_value-requires : goal.read_value-requires
 read_value-requires g c =

@@ -13,6 +13,30 @@ use Rattle.hcc_cache.proofs.Released.{knows_unpinned, lets_go, releases_unpinned
 use Rattle.hcc_cache.proofs.cache.Cache.release_pin.Goals.{then-erase_if_last, else-erase_if_last}
 use Rattle.hcc_cache.proofs.cache.Cache.release_pin.Goals as goal
 
+pub index_mut-seat-requires : goal.index_mut-seat-requires
+index_mut-seat-requires g c =
+    let cache = c.args.self.now in
+    let old = c.args.client.now in
+    let hold = c.args.hold in
+    let index = c.args.handle.index in
+    let there = hold_there old.number c.args.handle (get old.handles index) hold c.requires.held in
+    let within = hold_within cache old hold index c.requires.known there in
+    let seats : c.let_go.new.self.seats ≡ old.seats =
+    ap (λ (x : Client g.row.T.Denot). x.seats) c.let_go.ensures.rest in
+    let length_is = old.seats.ok.0 in
+    rw seats (omega arith)
+
+pub index-requires : goal.index-requires
+index-requires g c =
+    let cache = c.args.self.now in
+    let old = c.args.client.now in
+    let hold = c.args.hold in
+    let index = c.args.handle.index in
+    let there = hold_there old.number c.args.handle (get old.handles index) hold c.requires.held in
+    let within = hold_within cache old hold index c.requires.known there in
+    let length_is = cache.shards.ok.0 in
+    omega arith
+
 pub release-requires : goal.release-requires
 release-requires g c =
     let cache = c.args.self.now in

@@ -4,7 +4,7 @@ use Rattle.slab.specs.Slab.{Updates, get, with_value}
 use Rattle.hcc_cache.specs.declared.client.Client.{Client}
 use Rattle.hcc_cache.specs.declared.holding.Alone.{Alone}
 use Rattle.hcc_cache.specs.Calls.{steps_by}
-use Rattle.hcc_cache.proofs.Again.{hold_within}
+use Rattle.hcc_cache.proofs.Again.{hold_within, stand_there}
 use Rattle.hcc_cache.proofs.At.{ChangesAt, is_at, seated_at, takes_at}
 use Rattle.hcc_cache.proofs.Framing.{IsSameAlone, hold_there}
 use Rattle.hcc_cache.proofs.Less.{IsLess}
@@ -12,6 +12,41 @@ use Rattle.hcc_cache.proofs.Released.{knows_fallen, knows_fewer, lets_go, releas
 use Rattle.hcc_cache.proofs.Slots.{updates_set}
 use Rattle.hcc_cache.proofs.Standing.{known_there}
 use Rattle.hcc_cache.proofs.cache.Cache.release_standing.Goals as goal
+
+pub index-requires : goal.index-requires
+index-requires g c =
+    let cache = c.args.self.now in
+    let old = c.args.client.now in
+    let hold = c.args.hold in
+    let from = c.args.handle.index in
+    let there = hold_there old.number c.args.handle (get old.handles from) hold c.requires.held in
+    let alone : c.let_go.new.self.alone ≡ old.alone =
+    ap (λ (x : Client g.row.T.Denot). x.alone) c.let_go.ensures.rest in
+    rw alone (stand_there cache old hold c.args.index from c.requires.known there c.requires.kept)
+
+pub index_mut-seat-requires : goal.index_mut-seat-requires
+index_mut-seat-requires g c =
+    let cache = c.args.self.now in
+    let old = c.args.client.now in
+    let hold = c.args.hold in
+    let from = c.args.handle.index in
+    let there = hold_there old.number c.args.handle (get old.handles from) hold c.requires.held in
+    let within = hold_within cache old hold from c.requires.known there in
+    let seats : c.let_go.new.self.seats ≡ old.seats =
+    ap (λ (x : Client g.row.T.Denot). x.seats) c.let_go.ensures.rest in
+    let length_is = old.seats.ok.0 in
+    rw seats (omega arith)
+
+pub index-requires-2 : goal.index-requires-2
+index-requires-2 g c =
+    let cache = c.args.self.now in
+    let old = c.args.client.now in
+    let hold = c.args.hold in
+    let from = c.args.handle.index in
+    let there = hold_there old.number c.args.handle (get old.handles from) hold c.requires.held in
+    let within = hold_within cache old hold from c.requires.known there in
+    let length_is = cache.shards.ok.0 in
+    omega arith
 
 pub returns-then-index-gt1 : goal.returns-then-index-gt1
 returns-then-index-gt1 g c =

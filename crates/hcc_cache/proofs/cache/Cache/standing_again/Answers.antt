@@ -3,11 +3,21 @@ use Rattle.slab.specs.Slab.{get, Updates}
 use Rattle.hcc_cache.specs.declared.client.Client.{Client}
 use Rattle.hcc_cache.specs.declared.holding.Alone.{Alone}
 use Rattle.hcc_cache.specs.declared.holding.Hold.{Hold}
+use Rattle.hcc_cache.proofs.Again.{stand_there}
 use Rattle.hcc_cache.proofs.Framing.{hold_there, IsSameAlone}
 use Rattle.hcc_cache.proofs.Gained.{IsGiven}
 use Rattle.hcc_cache.proofs.Slots.{updates_set}
 use Rattle.hcc_cache.proofs.StandingAgain.{few_references, knows_standing, rerefs_standing, takes_standing}
 use Rattle.hcc_cache.proofs.cache.Cache.standing_again.Goals as goal
+
+pub index_mut-requires : goal.index_mut-requires
+index_mut-requires g c =
+    let cache = c.args.self.now in
+    let old = c.args.client.now in
+    let first = c.args.hold in
+    let from = c.args.handle.index in
+    let there = hold_there old.number c.args.handle (get old.handles from) first c.requires.held in
+    stand_there cache old first c.args.index from c.requires.known there c.requires.kept
 
 pub overflow_add-index_mut : goal.overflow_add-index_mut
 overflow_add-index_mut g c =

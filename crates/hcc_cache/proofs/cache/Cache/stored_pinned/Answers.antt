@@ -130,7 +130,8 @@ returns-in-Ok-Placed g c =
       known =
           knows_pins cache old new i shard was is at change c.insert_pinned.ensures.seat
           c.keep-handle.result c.args.key c.pinned.result given c.requires.free.0 c.args.charge
-          c.args.priority value here pin undone alone c.pinned.ensures told;
+          c.args.priority value here pin undone alone c.pinned.ensures told
+          c.ranges.charge.fits;
       back = tt;
       late = tt;
       inserted =
@@ -216,7 +217,7 @@ returns-in-Ok-Standalone g c =
       known =
           knows_alone cache old new i shard was is at change c.insert_pinned.ensures.seat
           c.keep_alone-handle.result c.args.key (Standing kept.0) given c.requires.free.0 kept.0
-          alone refl left.tried joined;
+          alone refl left.tried joined here c.ranges.charge.fits;
       back = tt;
       late = tt;
       inserted =
