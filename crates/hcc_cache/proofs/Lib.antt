@@ -20,3 +20,10 @@ pub mod Standing
 pub mod Released
 pub mod Readings
 pub mod Dealing
+pub mod Lists
+pub mod Holders
+pub mod Joining
+pub mod MadeLists
+pub mod Emptied
+pub mod Ended
+pub mod Lefts

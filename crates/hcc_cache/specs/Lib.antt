@@ -5,6 +5,7 @@ pub mod Clients
 pub mod Known
 pub mod Opened
 pub mod Calls
+pub mod Left
 pub mod Closings
 pub mod Inserts
 pub mod Totals

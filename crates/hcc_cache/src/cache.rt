@@ -1,5 +1,6 @@
 //! The cache that threads share.
 ghost use Rattle.std.specs.Prelude.{◌≡◌, ◌*◌};
+ghost use Rattle.hcc_rule.specs.Seats.{IsPlanned};
 
 use crate::seeded::Seeded;
 use hcc_rule::{Geometry, Tag};
@@ -16,6 +17,7 @@ pub struct Cache<T: Tag> {
     pub(crate) capacity: u64,
     pub(crate) strict: bool,
     pub(crate) shards: Vec<Shard<Seeded<T>, Global>>,
+    ghost limits: { IsPlanned geometry capacity },
 }
 
 impl<T: Tag> Cache<T> {

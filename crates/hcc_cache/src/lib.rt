@@ -30,7 +30,8 @@ pub use config::Config;
 pub use errors::{CloseError, InsertError, LookupError, NewError};
 pub use handle::Handle;
 pub use hcc_rule::{Key, Tag};
-pub use hcc_shard::Stats;
+
 pub use inserting::Inserted;
+pub use hcc_shard::{ClosedEntry, Stats};
 pub use priority::Priority;
 pub use tags::AnyBytes;

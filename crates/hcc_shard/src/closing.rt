@@ -1,5 +1,5 @@
 //! Closing a shard.
-ghost use Rattle.std.specs.Prelude.{◌≡◌};
+ghost use Rattle.std.specs.Prelude.{◌≡◌, ◌≤◌};
 ghost use Rattle.hcc_rule.specs.Callers.{clients_of, geometry_of, plan_of};
 ghost use Rattle.hcc_rule.specs.Closing.{Closes, words_of};
 ghost use Rattle.hcc_rule.specs.Opening.{joined_view};
@@ -56,7 +56,7 @@ impl<T: Tag, A: Allocator> Shard<T, A> {
     /// It refuses nothing and takes no memory. It costs nothing.
     pub fn close_joined(self, last: ShardSeat<T>) -> ClosedShard<A>
         requires back { HoldsNothing self last }
-        requires all { named_by (view last.seat) ≡ clients_of self.table }
+        requires all { clients_of self.table ≤ named_by (view last.seat) }
         ensures size { result.table.geometry ≡ geometry_of self.table }
         ensures closes { Closes T.fits (plan_of self.table).tag (geometry_of self.table)
             (words_of result.table) (view last.seat) }

@@ -1,0 +1,5 @@
+use Rattle.hcc_cache.proofs.Joining.{Joins}
+use Rattle.hcc_cache.proofs.closing.joined.Given as goal
+
+abbrev pub invariant-loop-k : goal.invariant-loop-k
+invariant-loop-k g l = Joins l.shard l.at l.fn.clients.items l.k l.clients.items l.seat

@@ -1,0 +1,10 @@
+use Rattle.std.proofs.Common.{take, IfSome, IfNone}
+use Rattle.hcc_cache.specs.Closings.{IsLeastHolder}
+use Rattle.hcc_cache.proofs.Holders.{NoneHolds}
+use Rattle.hcc_cache.proofs.closing.least_holder.Given as goal
+
+abbrev pub invariant-loop-client : goal.invariant-loop-client
+invariant-loop-client g l = record {
+  found : IfSome l.least (IsLeastHolder (take l.client-index l.clients));
+  none : IfNone l.least (NoneHolds (take l.client-index l.clients));
+}
