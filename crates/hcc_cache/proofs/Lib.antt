@@ -27,3 +27,6 @@ pub mod MadeLists
 pub mod Emptied
 pub mod Ended
 pub mod Lefts
+pub mod Insertions
+pub mod Alone
+pub mod Handing

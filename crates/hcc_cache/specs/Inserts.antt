@@ -26,6 +26,18 @@ use Rattle.hcc_cache.specs.Clients.{held_by, held_of}
 use Rattle.hcc_cache.specs.Keys.{key_to}
 use Rattle.hcc_cache.specs.Priorities.{countdown_of}
 
+-- why a shard refuses, as the caller is told it
+abbrev pub error_of : Refused → InsertError
+error_of refused.TooLarge = TooLarge
+error_of refused.CapacityFull = CapacityFull
+error_of refused.OccupancyFull = OccupancyFull
+
+-- and what it answers
+abbrev pub answer_of : Result Stored Refused → Result Inserted InsertError
+answer_of (Ok stored.Placed) = Ok Placed
+answer_of (Ok stored.Dropped) = Ok Dropped
+answer_of (Err why) = Err (error_of why)
+
 module _ {T : Type 0} (cache : Cache T) where
   -- All handles stand for what they stood for, and are as many. A serial was used.
   pub record KeepsHandles (old new : Client T) : Type 0 where

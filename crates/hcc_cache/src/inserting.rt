@@ -5,7 +5,7 @@ ghost use Rattle.hcc_cache.specs.declared.holding.Kept.TheVariants.{Standing};
 ghost use Rattle.hcc_shard.specs.Inserted.{inserting};
 ghost use Rattle.hcc_cache.specs.Calls.{TakesAtMost};
 ghost use Rattle.hcc_cache.specs.Clients.{held_by};
-ghost use Rattle.hcc_cache.specs.Inserts.{Inserts, InsertsWith, RefusesWith};
+ghost use Rattle.hcc_cache.specs.Inserts.{Inserts, InsertsWith, RefusesWith, answer_of};
 ghost use Rattle.hcc_cache.specs.Known.{Knows};
 
 use crate::cache::Cache;
@@ -33,6 +33,10 @@ pub enum Inserted {
 }
 
 impl From<Refused> for InsertError {
+    ghost use Rattle.hcc_cache.specs.Inserts.{error_of};
+
+    ghost from_gives = { λ why e. e ≡ error_of why };
+
     fn from(why: Refused) -> InsertError {
         match why {
             Refused::TooLarge => InsertError::TooLarge,
@@ -121,10 +125,7 @@ impl<T: Tag> Cache<T> {
             name: None,
         };
         let seat = &mut client.seats[shard];
-        match self.shards[shard].insert(seat, draft, value)? {
-            hcc_shard::Inserted::Placed => Ok(Inserted::Placed),
-            hcc_shard::Inserted::Dropped => Ok(Inserted::Dropped),
-        }
+        answered(self.shards[shard].insert(seat, draft, value))
     }
 
     /// Whether a charge is above the capacity of a shard, which is strict.
@@ -133,6 +134,17 @@ impl<T: Tag> Cache<T> {
         ensures no { (self.now.strict ≡ true) × (self.now.capacity < charge) → result ≡ true }
     {
         self.strict && self.capacity < charge as u64
+    }
+}
+
+/// What a shard answered, as the caller is told it.
+fn answered(told: Result<hcc_shard::Inserted, Refused>) -> Result<Inserted, InsertError>
+    ensures { result ≡ answer_of told }
+{
+    match told {
+        Ok(hcc_shard::Inserted::Placed) => Ok(Inserted::Placed),
+        Ok(hcc_shard::Inserted::Dropped) => Ok(Inserted::Dropped),
+        Err(why) => Err(InsertError::from(why)),
     }
 }
 
@@ -246,7 +258,8 @@ impl<T: Tag> Cache<T> {
             name: Some(client.used),
         };
         let seat = &mut client.seats[shard];
-        match self.shards[shard].insert_pinned(seat, draft, &value) {
+        let bytes: &[u8] = &value;
+        match self.shards[shard].insert_pinned(seat, draft, bytes) {
             Ok(Pinned::Placed { pin }) => {
                 let handle = client.keep(key, shard, pinned(pin));
                 Ok((handle, Inserted::Placed))

@@ -30,8 +30,7 @@ pub use config::Config;
 pub use errors::{CloseError, InsertError, LookupError, NewError};
 pub use handle::Handle;
 pub use hcc_rule::{Key, Tag};
-
-pub use inserting::Inserted;
 pub use hcc_shard::{ClosedEntry, Stats};
+pub use inserting::Inserted;
 pub use priority::Priority;
 pub use tags::AnyBytes;

@@ -1,0 +1,296 @@
+use Rattle.std.proofs.Common.{rules, ◌≡◌, ◌∙◌, ◌+◌, ◌-◌, ◌<◌, ◌≤◌, ◌^◌, Some, Err, Ok, length, get_or, slice_set, sym, ap, refl, arith}
+use Rattle.hcc_rule.specs.declared.steps.shows.Draft.{Draft}
+use Rattle.hcc_shard.specs.declared.inserting.Pinned.TheVariants.{Placed, Standalone}
+use Rattle.hcc_shard.specs.Callers.{view_of}
+use Rattle.hcc_shard.specs.Inserted.{RefusedBy, with_draft}
+use Rattle.hcc_cache.specs.declared.client.Client.{Client}
+use Rattle.hcc_cache.specs.declared.holding.Alone.{Alone}
+use Rattle.hcc_cache.specs.declared.holding.Kept.TheVariants.{Standing}
+use Rattle.hcc_cache.specs.Inserts.{pinned_draft}
+use Rattle.hcc_cache.specs.Keys.{shard_of}
+use Rattle.hcc_cache.proofs.Alone.{IsJoined}
+use Rattle.hcc_cache.proofs.At.{ChangesAt, few_at, is_at, seated_at}
+use Rattle.hcc_cache.proofs.Gained.{IsGiven}
+use Rattle.hcc_cache.proofs.Handing.{few_alone, has_room, hold_with, knows_alone, knows_pins, pinned_told, pins_at, stands_at}
+use Rattle.hcc_cache.proofs.Insertions.{IsAsked, fails_at, insertable_at, inserts_at, knows_asked, leaves_refused, leaves_unshown, not_full, not_large, not_spent, refuses_told, told_as}
+use Rattle.hcc_cache.proofs.cache.Cache.stored_pinned.Goals as goal
+
+pub insert_pinned-requires-clause-seat : goal.insert_pinned-requires-clause-seat
+insert_pinned-requires-clause-seat g c =
+    let cache = c.args.self.now in
+    let old = c.args.client.now in
+    let i = c.shard_number-shard.result in
+    let shard = c.index.result.now in
+    let was = c.index_mut-seat.result.now in
+    let at = is_at cache old i shard was c.requires.known c.shard_number-shard.ensures.inside
+        c.index.ensures c.index_mut-seat.ensures.value in
+    (seated_at cache old old i shard was was at).rests
+
+pub insert_pinned-requires-clause-may : goal.insert_pinned-requires-clause-may
+insert_pinned-requires-clause-may g c =
+    let cache = c.args.self.now in
+    let old = c.args.client.now in
+    let i = c.shard_number-shard.result in
+    let shard = c.index.result.now in
+    let was = c.index_mut-seat.result.now in
+    let at = is_at cache old i shard was c.requires.known c.shard_number-shard.ensures.inside
+        c.index.ensures c.index_mut-seat.ensures.value in
+    insertable_at cache old old i shard was was at g.T.Tag.fits c.args.key c.deref-bytes.result.now _
+    (rw c.deref-bytes.ensures.value c.requires.fits) (rw c.deref-bytes.ensures.value c.requires.short)
+    (λ k inside. omega (arith, c.type_inv.bytes k))
+    (c.requires.paid, c.ranges.charge.fits) c.countdown.ensures.within refl
+    c.key_to-under.ensures.undone c.requires.free.1
+
+pub insert_pinned-requires-clause-few : goal.insert_pinned-requires-clause-few
+insert_pinned-requires-clause-few g c =
+    let cache = c.args.self.now in
+    let old = c.args.client.now in
+    let i = c.shard_number-shard.result in
+    let shard = c.index.result.now in
+    let was = c.index_mut-seat.result.now in
+    let at = is_at cache old i shard was c.requires.known c.shard_number-shard.ensures.inside
+        c.index.ensures c.index_mut-seat.ensures.value in
+    few_at cache old old i shard was was at c.requires.free.0
+
+pub insert_pinned-requires-clause-alone : goal.insert_pinned-requires-clause-alone
+insert_pinned-requires-clause-alone g c =
+    let cache = c.args.self.now in
+    let old = c.args.client.now in
+    let i = c.shard_number-shard.result in
+    let shard = c.index.result.now in
+    let was = c.index_mut-seat.result.now in
+    let at = is_at cache old i shard was c.requires.known c.shard_number-shard.ensures.inside
+        c.index.ensures c.index_mut-seat.ensures.value in
+    few_alone cache old old i shard was was at c.requires.free.0
+
+pub keep_alone-handle-requires-clause-room : goal.keep_alone-handle-requires-clause-room
+keep_alone-handle-requires-clause-room g c =
+    has_room c.args.self.now c.args.client.now c.requires.known c.requires.free.0
+
+pub returns-in-Ok-Placed : goal.returns-in-Ok-Placed
+returns-in-Ok-Placed g c =
+    let cache = c.args.self.now in
+    let old = c.args.client.now in
+    let i = c.shard_number-shard.result in
+    let shard = c.index.result.now in
+    let was = c.index_mut-seat.result.now in
+    let at = is_at cache old i shard was c.requires.known c.shard_number-shard.ensures.inside
+        c.index.ensures c.index_mut-seat.ensures.value in
+    let is = c.insert_pinned.new.seat in
+    let words = c.key_to-under.ensures.words in
+    let shards = length cache.shards.items in
+    let here = c.shard_number-shard.ensures.value ∙ ap (λ k. shard_of k shards) words in
+    let value = c.args.value.items in
+    let asked = pinned_draft cache c.args.key c.args.charge c.args.priority value old in
+    let draft : Draft = record {
+      key = c.key_to-under.result;
+      charge = c.args.charge;
+      serial = old.used;
+      countdown = c.countdown.result;
+      name = Some old.used;
+    } in
+    let same : draft ≡ asked = λ j. record {
+      key = words j;
+      charge = c.args.charge;
+      serial = old.used;
+      countdown = c.countdown.ensures.exact j;
+      name = Some old.used;
+    } in
+    let pin = c.in-Ok-Placed.pin in
+    let told = pinned_told cache old old i shard was is at draft asked same c.deref-bytes.result.now
+        value c.deref-bytes.ensures.value c.in-Ok-Placed.field-0 (Placed pin) c.in-Ok-Placed.field-0-is
+        c.in-Ok-Placed.ensures.view in
+    let new = c.keep-handle.new.self in
+    let rest = c.keep-handle.ensures.rest in
+    let some = c.requires.free.1 in
+    let less : new.left ≡ old.left - 1 = ap (λ (x : Client g.row.T.Denot). x.left) rest in
+    let alone = ap (λ (x : Client g.row.T.Denot). x.alone) rest in
+    let change : ChangesAt old new i is = record {
+      seats = ap (λ (x : Client g.row.T.Denot). x.seats.items) rest;
+      number = ap (λ (x : Client g.row.T.Denot). x.number) rest;
+      most = ap (λ (x : Client g.row.T.Denot). x.most) rest;
+      capacity = (c.keep-handle.ensures.capacity, ap (λ a. a.capacity) alone);
+    } in
+    let given : IsGiven old new c.keep-handle.result
+        (hold_with old.used c.args.key i c.pinned.result) = record {
+      client = c.keep-handle.ensures.client;
+      serial = c.keep-handle.ensures.serial;
+      named = refl;
+      number = change.number;
+      free = c.keep-handle.ensures.was_free;
+      updates = c.keep-handle.ensures.kept;
+      count = c.keep-handle.ensures.count;
+      held = ap (λ (x : Client g.row.T.Denot). x.held) rest;
+      uses = (ap (λ (x : Client g.row.T.Denot). x.used) rest, omega arith);
+    } in
+    let undone = rw words at c.key_to-under.ensures.undone in
+    record {
+      known =
+          knows_pins cache old new i shard was is at change c.insert_pinned.ensures.seat
+          c.keep-handle.result c.args.key c.pinned.result given c.requires.free.0 c.args.charge
+          c.args.priority value here pin undone alone c.pinned.ensures told;
+      back = tt;
+      late = tt;
+      inserted =
+          pins_at cache old new i shard was is at change c.insert_pinned.ensures.seat
+          c.keep-handle.result c.args.key c.pinned.result given c.requires.free.0 c.args.charge
+          c.args.priority value here pin undone alone c.pinned.ensures told;
+      steps = inserts_at cache old new i shard was is at change c.insert_pinned.ensures.steps;
+    }
+
+pub returns-in-Ok-Standalone : goal.returns-in-Ok-Standalone
+returns-in-Ok-Standalone g c =
+    let cache = c.args.self.now in
+    let old = c.args.client.now in
+    let i = c.shard_number-shard.result in
+    let shard = c.index.result.now in
+    let was = c.index_mut-seat.result.now in
+    let at = is_at cache old i shard was c.requires.known c.shard_number-shard.ensures.inside
+        c.index.ensures c.index_mut-seat.ensures.value in
+    let is = c.insert_pinned.new.seat in
+    let words = c.key_to-under.ensures.words in
+    let shards = length cache.shards.items in
+    let here = c.shard_number-shard.ensures.value ∙ ap (λ k. shard_of k shards) words in
+    let value = c.args.value.items in
+    let asked = pinned_draft cache c.args.key c.args.charge c.args.priority value old in
+    let draft : Draft = record {
+      key = c.key_to-under.result;
+      charge = c.args.charge;
+      serial = old.used;
+      countdown = c.countdown.result;
+      name = Some old.used;
+    } in
+    let same : draft ≡ asked = λ j. record {
+      key = words j;
+      charge = c.args.charge;
+      serial = old.used;
+      countdown = c.countdown.ensures.exact j;
+      name = Some old.used;
+    } in
+    let told = pinned_told cache old old i shard was is at draft asked same c.deref-bytes.result.now
+        value c.deref-bytes.ensures.value c.in-Ok-Standalone.field-0 Standalone c.in-Ok-Standalone.field-0-is
+        c.in-Ok-Standalone.ensures.view in
+    let new = c.keep_alone-handle.new.self in
+    let rest = c.keep_alone-handle.ensures.rest in
+    let some = c.requires.free.1 in
+    let less : new.left ≡ old.left - 1 = ap (λ (x : Client g.row.T.Denot). x.left) rest in
+    let change : ChangesAt old new i is = record {
+      seats = ap (λ (x : Client g.row.T.Denot). x.seats.items) rest;
+      number = ap (λ (x : Client g.row.T.Denot). x.number) rest;
+      most = ap (λ (x : Client g.row.T.Denot). x.most) rest;
+      capacity = c.keep_alone-handle.ensures.capacity;
+    } in
+    let kept = c.keep_alone-handle.ensures.kept in
+    let alone : Alone = record {
+      name = old.used;
+      charge = c.args.charge;
+      references = 1;
+      value = c.args.value;
+    } in
+    let given : IsGiven old new c.keep_alone-handle.result
+        (hold_with old.used c.args.key i (Standing kept.0)) = record {
+      client = c.keep_alone-handle.ensures.client;
+      serial = c.keep_alone-handle.ensures.serial;
+      named = refl;
+      number = change.number;
+      free = kept.3;
+      updates = kept.4;
+      count = c.keep_alone-handle.ensures.count.0;
+      held = ap (λ (x : Client g.row.T.Denot). x.held) rest;
+      uses = (ap (λ (x : Client g.row.T.Denot). x.used) rest, omega arith);
+    } in
+    let left = leaves_unshown cache.geometry.slots cache.capacity cache.strict asked value
+        (view_of was) (view_of is) (with_draft asked (view_of was).work.standalones) told in
+    let joined : IsJoined old.used was is old.alone new.alone kept.0 alone = record {
+      records = left.records_are;
+      standalones = left.standalones_are;
+      called = refl;
+      single = refl;
+      free = kept.1;
+      updates = kept.2;
+      count = c.keep_alone-handle.ensures.count.1;
+    } in
+    record {
+      known =
+          knows_alone cache old new i shard was is at change c.insert_pinned.ensures.seat
+          c.keep_alone-handle.result c.args.key (Standing kept.0) given c.requires.free.0 kept.0
+          alone refl left.tried joined;
+      back = tt;
+      late = tt;
+      inserted =
+          stands_at cache old new i shard was is at change c.insert_pinned.ensures.seat
+          c.keep_alone-handle.result c.args.key (Standing kept.0) given c.requires.free.0
+          c.args.charge c.args.priority value here kept.0 alone refl refl refl left.tried joined
+          told;
+      steps = inserts_at cache old new i shard was is at change c.insert_pinned.ensures.steps;
+    }
+
+pub returns-in-Err : goal.returns-in-Err
+returns-in-Err g c =
+    let cache = c.args.self.now in
+    let old = c.args.client.now in
+    let i = c.shard_number-shard.result in
+    let shard = c.index.result.now in
+    let was = c.index_mut-seat.result.now in
+    let at = is_at cache old i shard was c.requires.known c.shard_number-shard.ensures.inside
+        c.index.ensures c.index_mut-seat.ensures.value in
+    let is = c.insert_pinned.new.seat in
+    let words = c.key_to-under.ensures.words in
+    let shards = length cache.shards.items in
+    let here = c.shard_number-shard.ensures.value ∙ ap (λ k. shard_of k shards) words in
+    let value = c.args.value.items in
+    let asked = pinned_draft cache c.args.key c.args.charge c.args.priority value old in
+    let draft : Draft = record {
+      key = c.key_to-under.result;
+      charge = c.args.charge;
+      serial = old.used;
+      countdown = c.countdown.result;
+      name = Some old.used;
+    } in
+    let same : draft ≡ asked = λ j. record {
+      key = words j;
+      charge = c.args.charge;
+      serial = old.used;
+      countdown = c.countdown.ensures.exact j;
+      name = Some old.used;
+    } in
+    let why = c.in-Err.why in
+    let told = told_as cache old old i shard was is at
+        (λ s b p d. RefusedBy s b p d why (view_of was) (view_of is)) draft asked same
+        c.in-Err.ensures.view in
+    let new = c.next_serial.new.self in
+    let rest = c.next_serial.ensures.rest in
+    let some = c.requires.free.1 in
+    let less : new.left ≡ old.left - 1 = ap (λ (x : Client g.row.T.Denot). x.left) rest in
+    let change : ChangesAt old new i is = record {
+      seats = ap (λ (x : Client g.row.T.Denot). x.seats.items) rest;
+      number = ap (λ (x : Client g.row.T.Denot). x.number) rest;
+      most = ap (λ (x : Client g.row.T.Denot). x.most) rest;
+      capacity = (
+        ap (λ (x : Client g.row.T.Denot). x.handles.capacity) rest,
+        ap (λ (x : Client g.row.T.Denot). x.alone.capacity) rest,
+      );
+    } in
+    let changed : IsAsked old new = record {
+      handles = ap (λ (x : Client g.row.T.Denot). x.handles) rest;
+      alone = ap (λ (x : Client g.row.T.Denot). x.alone) rest;
+      held = ap (λ (x : Client g.row.T.Denot). x.held) rest;
+      uses = (ap (λ (x : Client g.row.T.Denot). x.used) rest, omega arith);
+    } in
+    let left = leaves_refused cache.geometry.slots cache.capacity cache.strict asked value
+        (view_of was) (view_of is) why told in
+    let small = not_large cache.geometry.slots cache.capacity cache.strict asked (view_of was)
+        (view_of is) why told c.requires.small in
+    record {
+      known =
+          knows_asked cache old new i shard was is at change c.insert_pinned.ensures.seat left
+          changed;
+      back = refl;
+      late = rw c.from.ensures (not_full why, not_spent why, small);
+      inserted =
+          rw c.from.ensures
+          (refuses_told cache c.args.key c.args.charge c.args.priority value old new why small
+          (fails_at cache old new i shard was is at change c.insert_pinned.ensures.seat left changed
+          c.args.key c.args.charge c.args.priority value here why told));
+      steps = inserts_at cache old new i shard was is at change c.insert_pinned.ensures.steps;
+    }
