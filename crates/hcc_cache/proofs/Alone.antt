@@ -75,7 +75,7 @@ module _ {T : Type 0} (seed used : ℕ) (seats : List (ShardSeat T)) (handles : 
   standing_still j n s found = elim (cases_eq j i) [
     | inl same ↦
         let now : standalones_in (slice_set seats i is) j
-        ≡ (view_of was).work.standalones ++ known_of a ∷ [] =
+            ≡ (view_of was).work.standalones ++ known_of a ∷ [] =
         ap (standalones_in (slice_set seats i is)) same
         ∙ (ap (λ v. v.work.standalones) (view_here seats i was is at) ∙ joined.standalones) in
         let before : standalones_in seats j ≡ (view_of was).work.standalones =
@@ -127,7 +127,7 @@ module _ {T : Type 0} (seed used : ℕ) (seats : List (ShardSeat T)) (handles : 
         ≡ Some (known_of a)
     known_joined =
         let now : standalones_in (slice_set seats i is) hold.shard
-        ≡ (view_of was).work.standalones ++ known_of a ∷ [] =
+            ≡ (view_of was).work.standalones ++ known_of a ∷ [] =
         ap (standalones_in (slice_set seats i is)) shard
         ∙ (ap (λ v. v.work.standalones) (view_here seats i was is at) ∙ joined.standalones) in
         let free : find (is_standing a.name) (view_of was).work.standalones ≡ None =
@@ -212,7 +212,7 @@ module _ {T : Type 0} (seed used : ℕ) (seats : List (ShardSeat T)) (handles : 
           → AreHeld seed (used + 1) (slice_set seats i is) gained new
       held_joined count =
           let apart = apart_more seed used seats (slice_set seats i is) handles old all at_handle
-          hold gained new (length-set seats i is) serial kept_joined updates stands_joined in
+              hold gained new (length-set seats i is) serial kept_joined updates stands_joined in
           let pinned : is_pinned (Some hold) ≡ false = rw kept refl in
           let pins : count_of is_pinned gained ≡ count_of is_pinned handles + 0 =
           counted_more is_pinned handles gained at_handle hold refl free updates
@@ -237,7 +237,7 @@ module _ {T : Type 0} (seed used : ℕ) (seats : List (ShardSeat T)) (handles : 
             some = some_joined;
             references =
                 let change = total_updated references_of refl old new place (Some a)
-                joined.updates in
+                    joined.updates in
                 let nothing : references_of (get old place) ≡ 0 =
                 ap references_of joined.free in
                 let single = joined.single in

@@ -149,10 +149,10 @@ module _ {T : Type 0} (cache : Cache T) (old new : Client T) (i : ℕ) (shard : 
       gains_placed =
           let seated = seated_at cache old new i shard was is at in
           let there = there_pinned cache.seed old.used old.seats.items old.handles old.alone
-          at.knows.holds i was is r at.seat_is left.records_are left.standalones_are
-          (hold_with old.used key i kept) slot counting handle.place new.handles
-          seated.records refl refl kept_is (within old.seats.items i was at.seat_is) called of
-          key_is in
+              at.knows.holds i was is r at.seat_is left.records_are left.standalones_are
+              (hold_with old.used key i kept) slot counting handle.place new.handles
+              seated.records refl refl kept_is (within old.seats.items i was at.seat_is) called of
+              key_is in
           gains cache old new handle (hold_with old.used key i kept) given
           (held_entry cache.seed r.entry)
           (rw (kept_is, change.seats)
@@ -196,59 +196,33 @@ module _ {T : Type 0} (cache : Cache T) (old new : Client T) (i : ℕ) (shard : 
     -- What the shard was asked for, and answered.
     module _ (charge : ℕ) (priority : Priority) (value : List ℕ) (here : i ≡ shard_in cache key)
       where
-        -- The entry was placed, and the handle is on it:
-        module _ (pin : Pin) (undone : key_from cache.seed (key_to cache.seed key) ≡ key)
-            (alone : new.alone ≡ old.alone) (kept_is : kept ≡ Pinned pin.slot pin.counting)
-            (told : PinnedBy cache.geometry.slots cache.capacity cache.strict
-            (pinned_draft cache key charge priority value old) value (Ok (pinned.Placed pin))
-            (view_of was) (view_of is)) where
-          abbrev handled : Record
-          handled =
-              first_record pin.slot old.used
-              (shown_entry (view_of was)
-              (made_of (pinned_draft cache key charge priority value old) value))
+      -- The entry was placed, and the handle is on it:
+      module _ (pin : Pin) (undone : key_from cache.seed (key_to cache.seed key) ≡ key)
+          (alone : new.alone ≡ old.alone) (kept_is : kept ≡ Pinned pin.slot pin.counting)
+          (told : PinnedBy cache.geometry.slots cache.capacity cache.strict
+          (pinned_draft cache key charge priority value old) value (Ok (pinned.Placed pin))
+          (view_of was) (view_of is)) where
+        abbrev handled : Record
+        handled =
+            first_record pin.slot old.used
+            (shown_entry (view_of was)
+            (made_of (pinned_draft cache key charge priority value old) value))
 
-          left_placed : Leaves ((view_of was).records ++ handled ∷ [])
-              (view_of was).work.standalones (view_of was) (view_of is)
-          left_placed =
-              leaves_pinned cache.geometry.slots cache.capacity cache.strict
-              (pinned_draft cache key charge priority value old) value (view_of was) (view_of is)
-              pin.slot old.used refl told.0
+        left_placed : Leaves ((view_of was).records ++ handled ∷ [])
+            (view_of was).work.standalones (view_of was) (view_of is)
+        left_placed =
+            leaves_pinned cache.geometry.slots cache.capacity cache.strict
+            (pinned_draft cache key charge priority value old) value (view_of was) (view_of is)
+            pin.slot old.used refl told.0
 
-          pub knows_pins : Knows cache new
-          knows_pins =
-              knows_placed pin.slot pin.counting handled alone kept_is left_placed refl
-              (refl, refl, sym told.2) refl
+        pub knows_pins : Knows cache new
+        knows_pins =
+            knows_placed pin.slot pin.counting handled alone kept_is left_placed refl
+            (refl, refl, sym told.2) refl
 
-          pub pins_at : Pins cache key charge priority value handle old new
-          pins_at = record {
-            pin = pin;
-            asks = record {
-              v = view_of was;
-              w = view_of is;
-              works = rw (← here) (works_at cache old new i shard was is at change);
-              told = told;
-            };
-            gains =
-                subst (λ h. Gains cache handle h old new)
-                (λ j. record {
-                  insertion = record { key = undone j; value = value; charge = charge };
-                  entry = Some handled.entry;
-                  standing = None;
-                })
-                (gains_placed pin.slot pin.counting handled alone kept_is left_placed refl
-                (refl, refl, sym told.2) refl);
-          }
-
-        -- or it stands alone.
-        pub stands_at : (place : ℕ) (a : Alone) → kept ≡ Standing place → a.charge ≡ charge
-            → a.value.items ≡ value → IsTried (view_of was) (view_of is)
-            → IsJoined old.used was is old.alone new.alone place a
-            → PinnedBy cache.geometry.slots cache.capacity cache.strict
-            (pinned_draft cache key charge priority value old) value (Ok pinned.Standalone)
-            (view_of was) (view_of is)
-            → Stands cache key charge priority value handle old new
-        stands_at place a kept_is paid bytes tried joined told = record {
+        pub pins_at : Pins cache key charge priority value handle old new
+        pins_at = record {
+          pin = pin;
           asks = record {
             v = view_of was;
             w = view_of is;
@@ -258,9 +232,35 @@ module _ {T : Type 0} (cache : Cache T) (old new : Client T) (i : ℕ) (shard : 
           gains =
               subst (λ h. Gains cache handle h old new)
               (λ j. record {
-                insertion = record { key = key; value = bytes j; charge = paid j };
-                entry = None;
-                standing = Some (joined.called j);
+                insertion = record { key = undone j; value = value; charge = charge };
+                entry = Some handled.entry;
+                standing = None;
               })
-              (gains_alone place a kept_is tried joined);
+              (gains_placed pin.slot pin.counting handled alone kept_is left_placed refl
+              (refl, refl, sym told.2) refl);
         }
+
+      -- or it stands alone.
+      pub stands_at : (place : ℕ) (a : Alone) → kept ≡ Standing place → a.charge ≡ charge
+          → a.value.items ≡ value → IsTried (view_of was) (view_of is)
+          → IsJoined old.used was is old.alone new.alone place a
+          → PinnedBy cache.geometry.slots cache.capacity cache.strict
+          (pinned_draft cache key charge priority value old) value (Ok pinned.Standalone)
+          (view_of was) (view_of is)
+          → Stands cache key charge priority value handle old new
+      stands_at place a kept_is paid bytes tried joined told = record {
+        asks = record {
+          v = view_of was;
+          w = view_of is;
+          works = rw (← here) (works_at cache old new i shard was is at change);
+          told = told;
+        };
+        gains =
+            subst (λ h. Gains cache handle h old new)
+            (λ j. record {
+              insertion = record { key = key; value = bytes j; charge = paid j };
+              entry = None;
+              standing = Some (joined.called j);
+            })
+            (gains_alone place a kept_is tried joined);
+      }
