@@ -5,7 +5,9 @@
 mod calls;
 mod configs;
 mod errors;
+mod full;
 mod keys;
 mod opening;
 mod rows;
+mod shared;
 mod stage;

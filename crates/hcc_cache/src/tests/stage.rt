@@ -10,6 +10,20 @@ use std::process::Abort;
 /// A cache for tests.
 pub(super) type Store = Cache<AnyBytes>;
 
+/// A cache of one shard with 8 slots, and one client.
+pub(super) const SMALL: Config = Config {
+    slots: 8,
+    room: 2,
+    clients: 1,
+    handles: 8,
+    shards: 1,
+    capacity: 600,
+    strict: false,
+    marks: false,
+    serials: 18_014_398_509_481_984,
+    seed: 0,
+};
+
 /// How many handles have a number.
 const MOST: usize = 64;
 
