@@ -1,5 +1,5 @@
 -- One handle more on an entry of the table that is held.
-use Rattle.std.proofs.Common.{◌≡◌, ℕ, ◌+◌, ◌<◌, Bool, [], ◌∷◌, ◌++◌, Some, IfSome, IsSomeAnd, length, option_map, sym, refl, ap, subst, ◌∙◌, arith}
+use Rattle.std.proofs.Common.{◌≡◌, ℕ, ◌<◌, Bool, [], ◌∷◌, ◌++◌, Some, IfSome, IsSomeAnd, length, option_map, sym, refl, ap, subst, ◌∙◌, arith}
 use Rattle.slab.specs.Slab.{get}
 use Rattle.hcc_rule.specs.declared.view.Record.{Record}
 use Rattle.hcc_rule.specs.Views.{is_called, record_in}
@@ -25,10 +25,10 @@ use Rattle.hcc_cache.proofs.At.{ChangesAt, IsAt, works_at}
 
 module _ {T : Type 0} (cache : Cache T) (client : Client T) (hold : Hold) where
   -- what is kept of a handle is at one of the shards
-  pub hold_within : (place : ℕ) → Knows cache client → get client.handles place ≡ Some hold
+  pub hold_within : (index : ℕ) → Knows cache client → get client.handles index ≡ Some hold
       → (hold.shard < length client.seats.items) × (hold.shard < length cache.shards.items)
-  hold_within place knows there =
-      let within = (knows.holds.each place hold there).0.within in
+  hold_within index knows there =
+      let within = (knows.holds.each index hold there).0.within in
       let count = knows.seated.count in
       (within, omega arith)
 
@@ -42,14 +42,14 @@ module _ {T : Type 0} (cache : Cache T) (client : Client T) (hold : Hold) where
     pub key : key_of handled.entry ≡ key_to cache.seed hold.key
     pub within : slot < slots
 
-  module _ (slot : ℕ) (counting : Bool) (place : ℕ) (shard : Shard (Seeded T) _)
+  module _ (slot : ℕ) (counting : Bool) (index : ℕ) (shard : Shard (Seeded T) _)
       (was : ShardSeat (Seeded T)) (at : IsAt cache client hold.shard shard was)
-      (held : get client.handles place ≡ Some hold) (kept : hold.kept ≡ Pinned slot counting) where
+      (held : get client.handles index ≡ Some hold) (kept : hold.kept ≡ Pinned slot counting) where
     pub pin_at : IsPinAt slot counting (geometry_of shard).slots was
     pin_at =
         let pin : IsPin cache.seed client.seats.items client.alone hold slot counting =
         subst (λ k. IsKeptAs cache.seed client.seats.items client.alone hold k) kept
-        (at.knows.holds.each place hold held).0.stands in
+        (at.knows.holds.each index hold held).0.stands in
         let here : record_in hold.serial (view_of was).records ≡ Some pin.handled =
         ap (λ o. record_in hold.serial (view_by o).records) (sym at.seat_is) ∙ pin.there in
         let seated = at.knows.seated.each hold.shard shard was at.shard_is at.seat_is in

@@ -1,12 +1,11 @@
 -- One standalone entry more, and a handle on it.
-use Rattle.std.proofs.Common.{◌≡◌, ◌≢◌, ◌⊎◌, inl, inr, ℕ, zero, suc, ◌+◌, ◌<◌, ◌≤◌, ◌==◌, Bool, true, false, List, [], ◌∷◌, ◌++◌, Option, Some, None, find, get_or, length, slice_get, slice_set, sym, refl, ap, ◌∙◌, length-set, arith}
+use Rattle.std.proofs.Common.{◌≡◌, ◌≢◌, inl, inr, ℕ, suc, ◌+◌, ◌<◌, ◌≤◌, ◌==◌, Bool, true, false, List, [], ◌∷◌, ◌++◌, Option, Some, None, find, get_or, length, slice_get, slice_set, sym, refl, ap, ◌∙◌, length-set, arith}
 use Rattle.std.proofs.lemmas.Bool.{cases_eq, eq-eqb, ne_eqb}
 use Rattle.slab.specs.Slab.{Slab, get, slab_len, Updates}
 use Rattle.hcc_core.specs.declared.client.Standalone.{Standalone}
 use Rattle.hcc_core.specs.Ledgers.{is_standing}
 use Rattle.hcc_core.specs.Sums.{total, when}
 use Rattle.hcc_core.proofs.SumLemmas.{total-set}
-use Rattle.hcc_rule.specs.declared.view.View.{View}
 use Rattle.hcc_rule.specs.Views.{Each, record_in}
 use Rattle.hcc_shard.specs.declared.seat.ShardSeat.{ShardSeat}
 use Rattle.hcc_shard.specs.Callers.{view_of}
@@ -26,7 +25,7 @@ use Rattle.hcc_cache.proofs.Slots.{total_updated}
 
 -- where no value passes, none is counted
 count_zero : {V : Type 0} (test : Option V → Bool) → test None ≡ false → (slab : Slab V)
-    → ((place : ℕ) (value : V) → get slab place ≡ Some value → test (Some value) ≡ false)
+    → ((index : ℕ) (value : V) → get slab index ≡ Some value → test (Some value) ≡ false)
     → count_of test slab ≡ 0
 count_zero test none slab fails = all slab.slots (λ k. by k (get slab k) refl)
   where
@@ -46,36 +45,37 @@ count_zero test none slab fails = all slab.slots (λ k. by k (get slab k) refl)
 abbrev pub known_of : Alone → Standalone
 known_of a = record { name = a.name; charge = a.charge }
 
--- A standalone entry joined: the client keeps it at this place, and its shard knows it.
+-- A standalone entry joined: the client keeps it at this index, and its shard knows it.
 pub record IsJoined {T : Type 0} (used : ℕ) (was is : ShardSeat T) (old new : Slab Alone)
-    (place : ℕ) (a : Alone) : Type 0 where
+    (index : ℕ) (a : Alone) : Type 0 where
   pub records : (view_of is).records ≡ (view_of was).records
   pub standalones : (view_of is).work.standalones
       ≡ (view_of was).work.standalones ++ known_of a ∷ []
   pub called : a.name ≡ used
   pub single : a.references ≡ 1
-  pub free : get old place ≡ None
-  pub updates : Updates old new place (Some a)
+  pub free : get old index ≡ None
+  pub updates : Updates old new index (Some a)
   pub count : slab_len new ≡ slab_len old + 1
 
 module _ {T : Type 0} (seed used : ℕ) (seats : List (ShardSeat T)) (handles : Slab Hold)
     (old new : Slab Alone) (all : AreHeld seed used seats handles old) (i : ℕ)
-    (was is : ShardSeat T) (place : ℕ) (a : Alone) (at : slice_get seats i ≡ Some was)
-    (joined : IsJoined used was is old new place a) where
-  -- those that there were stand at other places,
-  place_else : (q : ℕ) (b : Alone) → get old q ≡ Some b → q ≢ place
-  place_else q b held same =
+    (was is : ShardSeat T) (index : ℕ) (a : Alone) (at : slice_get seats i ≡ Some was)
+    (joined : IsJoined used was is old new index a) where
+  -- those that there were stand at other indices,
+  index_else : (q : ℕ) (b : Alone) → get old q ≡ Some b → q ≢ index
+  index_else q b held same =
       let both : Some b ≡ None = sym held ∙ (ap (get old) same ∙ joined.free) in
       let no : ⊥ = cc in
       no
 
   -- and their shards know them still
-  standing_still : (j n : ℕ) (s : Standalone) → find (is_standing n) (standalones_in seats j) ≡ Some s
+  standing_still : (j n : ℕ) (s : Standalone) → find (is_standing n) (standalones_in seats j) ≡
+      Some s
       → find (is_standing n) (standalones_in (slice_set seats i is) j) ≡ Some s
   standing_still j n s found = elim (cases_eq j i) [
     | inl same ↦
         let now : standalones_in (slice_set seats i is) j
-            ≡ (view_of was).work.standalones ++ known_of a ∷ [] =
+        ≡ (view_of was).work.standalones ++ known_of a ∷ [] =
         ap (standalones_in (slice_set seats i is)) same
         ∙ (ap (λ v. v.work.standalones) (view_here seats i was is at) ∙ joined.standalones) in
         let before : standalones_in seats j ≡ (view_of was).work.standalones =
@@ -99,35 +99,35 @@ module _ {T : Type 0} (seed used : ℕ) (seats : List (ShardSeat T)) (handles : 
       (λ q b s kept held found. record {
         entry = b;
         there =
-            stands_there old new place (Some a) b q joined.updates (place_else q b held) held;
+            stands_there old new index (Some a) b q joined.updates (index_else q b held) held;
         same = same_alone b;
         known = standing_still k.shard b.name s found;
       })
 
-  -- none was on the place that was free
-  none_there : count_of (is_standing_at place) handles ≡ 0
-  none_there = count_zero (is_standing_at place) refl handles
+  -- none was on the index that was free
+  none_there : count_of (is_standing_at index) handles ≡ 0
+  none_there = count_zero (is_standing_at index) refl handles
       (λ p k there. by p k k.kept refl (all.each p k there).0.stands)
     where
-      not_here : (q : ℕ) → q ≢ place → (q == place) ≡ false
-      not_here q ne = ne_eqb q place ne
+      not_here : (q : ℕ) → q ≢ index → (q == index) ≡ false
+      not_here q ne = ne_eqb q index ne
 
       by : (p : ℕ) (k : Hold) (o : Kept) → k.kept ≡ o → IsKeptAs seed seats old k o
-          → is_standing_at place (Some k) ≡ false
+          → is_standing_at index (Some k) ≡ false
       by p k (Pinned slot counting) is pin = rw is refl
       by p k (Standing q) is stand =
-          rw is (not_here q (place_else q stand.entry stand.there))
+          rw is (not_here q (index_else q stand.entry stand.there))
 
   module _ (hold : Hold) (at_handle : ℕ) (gained : Slab Hold)
       (names : Each (λ (s : Standalone). s.name < used) (view_of was).work.standalones)
-      (serial : hold.serial ≡ used) (shard : hold.shard ≡ i) (kept : hold.kept ≡ Standing place)
+      (serial : hold.serial ≡ used) (shard : hold.shard ≡ i) (kept : hold.kept ≡ Standing index)
       (inside : i < length seats) where
     -- the new handle stands for the entry that joined
     known_joined : find (is_standing a.name) (standalones_in (slice_set seats i is) hold.shard)
         ≡ Some (known_of a)
     known_joined =
         let now : standalones_in (slice_set seats i is) hold.shard
-            ≡ (view_of was).work.standalones ++ known_of a ∷ [] =
+        ≡ (view_of was).work.standalones ++ known_of a ∷ [] =
         ap (standalones_in (slice_set seats i is)) shard
         ∙ (ap (λ v. v.work.standalones) (view_here seats i was is at) ∙ joined.standalones) in
         let free : find (is_standing a.name) (view_of was).work.standalones ≡ None =
@@ -149,35 +149,37 @@ module _ {T : Type 0} (seed used : ℕ) (seats : List (ShardSeat T)) (handles : 
     module _ (free : get handles at_handle ≡ None)
         (updates : Updates handles gained at_handle (Some hold)) where
       -- how many handles each standalone entry has
-      one_here : count_of (is_standing_at place) gained ≡ 1
+      one_here : count_of (is_standing_at index) gained ≡ 1
       one_here =
-          let test : is_standing_at place (Some hold) ≡ true =
-          rw kept (eq-eqb place place refl) in
-          let more = counted_more (is_standing_at place) handles gained at_handle hold refl free updates in
-          let one : when (is_standing_at place (Some hold)) 1 ≡ 1 = ap (λ b. when b 1) test in
+          let test : is_standing_at index (Some hold) ≡ true =
+          rw kept (eq-eqb index index refl) in
+          let more = counted_more (is_standing_at index) handles gained at_handle hold refl free
+          updates in
+          let one : when (is_standing_at index (Some hold)) 1 ≡ 1 = ap (λ b. when b 1) test in
           let before = none_there in
           omega arith
 
-      as_many : (q : ℕ) → q ≢ place
+      as_many : (q : ℕ) → q ≢ index
           → count_of (is_standing_at q) gained ≡ count_of (is_standing_at q) handles
       as_many q ne =
           let test : is_standing_at q (Some hold) ≡ false =
-          rw kept (ne_eqb place q (λ e. ne (sym e))) in
-          let more = counted_more (is_standing_at q) handles gained at_handle hold refl free updates in
+          rw kept (ne_eqb index q (λ e. ne (sym e))) in
+          let more = counted_more (is_standing_at q) handles gained at_handle hold refl free
+          updates in
           let none : when (is_standing_at q (Some hold)) 1 ≡ 0 = ap (λ b. when b 1) test in
           omega arith
 
       some_joined : (q : ℕ) (b : Alone) → get new q ≡ Some b
           → (1 ≤ b.references) × (b.references ≡ count_of (is_standing_at q) gained)
           × (b.name < used + 1)
-      some_joined q b there = elim (cases_eq q place) [
+      some_joined q b there = elim (cases_eq q index) [
         | inl same ↦
-            let is = written_is old new place a b q joined.updates same there in
+            let is = written_is old new index a b q joined.updates same there in
             let single : b.references ≡ 1 = ap (λ (x : Alone). x.references) is ∙ joined.single in
             let called : b.name ≡ used = ap (λ (x : Alone). x.name) is ∙ joined.called in
             (omega arith, single ∙ sym (rw same one_here), omega arith)
         | inr ne ↦
-            let before = stood_there old new place (Some a) b q joined.updates ne there in
+            let before = stood_there old new index (Some a) b q joined.updates ne there in
             let some = all.some q b before in
             let below = some.2 in
             (some.0, some.1 ∙ sym (as_many q ne), omega arith)
@@ -185,26 +187,26 @@ module _ {T : Type 0} (seed used : ℕ) (seats : List (ShardSeat T)) (handles : 
 
       -- its name is of no other
       newer : (p q : ℕ) (x y : Alone) → get new p ≡ Some x → get new q ≡ Some y
-          → x.name ≡ y.name → p ≡ place → q ≢ place → ⊥
+          → x.name ≡ y.name → p ≡ index → q ≢ index → ⊥
       newer p q x y hp hq e same ne =
-          let is = written_is old new place a x p joined.updates same hp in
+          let is = written_is old new index a x p joined.updates same hp in
           let called : x.name ≡ used = ap (λ (z : Alone). z.name) is ∙ joined.called in
-          let before = stood_there old new place (Some a) y q joined.updates ne hq in
+          let before = stood_there old new index (Some a) y q joined.updates ne hq in
           let below = (all.some q y before).2 in
           omega arith
 
       names_apart : (p q : ℕ) (x y : Alone) → get new p ≡ Some x → get new q ≡ Some y
           → x.name ≡ y.name → p ≡ q
-      names_apart p q x y hp hq e = elim (cases_eq p place) [
-        | inl same ↦ elim (cases_eq q place) [
+      names_apart p q x y hp hq e = elim (cases_eq p index) [
+        | inl same ↦ elim (cases_eq q index) [
           | inl other ↦ same ∙ sym other
           | inr ne ↦ absurd (newer p q x y hp hq e same ne)
         ]
-        | inr ne ↦ elim (cases_eq q place) [
+        | inr ne ↦ elim (cases_eq q index) [
           | inl same ↦ absurd (newer q p y x hq hp (sym e) same ne)
           | inr other ↦
-              all.names_apart p q x y (stood_there old new place (Some a) x p joined.updates ne hp)
-              (stood_there old new place (Some a) y q joined.updates other hq) e
+              all.names_apart p q x y (stood_there old new index (Some a) x p joined.updates ne hp)
+              (stood_there old new index (Some a) y q joined.updates other hq) e
         ]
       ]
 
@@ -212,7 +214,7 @@ module _ {T : Type 0} (seed used : ℕ) (seats : List (ShardSeat T)) (handles : 
           → AreHeld seed (used + 1) (slice_set seats i is) gained new
       held_joined count =
           let apart = apart_more seed used seats (slice_set seats i is) handles old all at_handle
-              hold gained new (length-set seats i is) serial kept_joined updates stands_joined in
+          hold gained new (length-set seats i is) serial kept_joined updates stands_joined in
           let pinned : is_pinned (Some hold) ≡ false = rw kept refl in
           let pins : count_of is_pinned gained ≡ count_of is_pinned handles + 0 =
           counted_more is_pinned handles gained at_handle hold refl free updates
@@ -236,9 +238,9 @@ module _ {T : Type 0} (seed used : ℕ) (seats : List (ShardSeat T)) (handles : 
             names_apart = names_apart;
             some = some_joined;
             references =
-                let change = total_updated references_of refl old new place (Some a)
-                    joined.updates in
-                let nothing : references_of (get old place) ≡ 0 =
+                let change = total_updated references_of refl old new index (Some a)
+                joined.updates in
+                let nothing : references_of (get old index) ≡ 0 =
                 ap references_of joined.free in
                 let single = joined.single in
                 let before = all.references in

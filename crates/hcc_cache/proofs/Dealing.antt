@@ -229,12 +229,12 @@ module _ {T A : Type 0} where
       let new = new_of config shards k client s seat dealt at in
       ap length (new_standalones new.0 k seat new.1)) in
       record {
-        each = λ place hold h. absurd (nothing_kept client.handles place hold handles h);
+        each = λ index hold h. absurd (nothing_kept client.handles index hold handles h);
         apart = λ p q h j hp hq e. absurd (nothing_kept client.handles p h handles hp);
         pins = no_records ∙ rw handles refl;
         entries = no_standalones ∙ rw alone refl;
         names_apart = λ p q a b hp hq e. absurd (nothing_kept client.alone p a alone hp);
-        some = λ place a h. absurd (nothing_kept client.alone place a alone h);
+        some = λ index a h. absurd (nothing_kept client.alone index a alone h);
         references = rw (handles, alone) refl;
       }
 

@@ -1,12 +1,11 @@
 -- What a client without handles knows: no references, and no standalone entries.
-use Rattle.std.proofs.Common.{◌≡◌, ℕ, zero, suc, ◌+◌, ◌≤◌, List, [], ◌∷◌, Option, Some, None, is_some, count_by, length, slice_get, slice_index_or, refl, arith}
+use Rattle.std.proofs.Common.{◌≡◌, ℕ, suc, ◌≤◌, List, [], ◌∷◌, Option, Some, None, is_some, count_by, slice_get, slice_index_or, refl, arith}
 use Rattle.std.proofs.lemmas.List.{nil_from_length}
-use Rattle.slab.specs.Slab.{get, slab_len}
+use Rattle.slab.specs.Slab.{slab_len}
 use Rattle.hcc_core.specs.Sums.{total}
 use Rattle.hcc_core.proofs.SumLemmas.{total-member}
 use Rattle.hcc_shard.specs.declared.seat.ShardSeat.{ShardSeat}
 use Rattle.hcc_shard.specs.Callers.{view_of}
-use Rattle.hcc_shard.specs.Closed.{HoldsNothing}
 use Rattle.hcc_cache.specs.declared.cache.Cache.{Cache}
 use Rattle.hcc_cache.specs.declared.client.Client.{Client}
 use Rattle.hcc_cache.specs.declared.holding.Alone.{Alone}
@@ -16,11 +15,11 @@ use Rattle.hcc_cache.specs.Known.{records_at, references_of, standalones_at, Kno
 
 -- Where each standalone entry has a reference and there are no references, there is no entry.
 none_alone : (slots : List (Option Alone))
-    → ((place : ℕ) (a : Alone) → slice_index_or slots place None ≡ Some a → 1 ≤ a.references)
+    → ((index : ℕ) (a : Alone) → slice_index_or slots index None ≡ Some a → 1 ≤ a.references)
     → total references_of slots ≡ 0 → count_by is_some slots ≡ 0
 none_alone [] some none = refl
 none_alone (None ∷ rest) some none =
-    let later = none_alone rest (λ place a h. some (suc place) a h) (omega arith) in
+    let later = none_alone rest (λ index a h. some (suc index) a h) (omega arith) in
     omega arith
 none_alone (Some a ∷ rest) some none =
     let first = some 0 a refl in
@@ -35,7 +34,7 @@ module _ {T : Type 0} (cache : Cache T) (client : Client T) (knows : Knows cache
   no_alone =
       let all = knows.holds.references in
       let empty = no_handles in
-      none_alone client.alone.slots (λ place a h. (knows.holds.some place a h).0) (omega arith)
+      none_alone client.alone.slots (λ index a h. (knows.holds.some index a h).0) (omega arith)
 
   -- It holds nothing at any of its seats.
   pub holds_nothing : (s : ℕ) (seat : ShardSeat (Seeded T))

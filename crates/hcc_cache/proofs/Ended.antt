@@ -1,5 +1,5 @@
 -- The shards of a cache, as they are closed from the last on.
-use Rattle.std.proofs.Common.{◌≡◌, ◌⊎◌, inl, inr, ℕ, ◌+◌, ◌-◌, ◌<◌, ◌≤◌, List, [], ◌∷◌, ◌++◌, Option, Some, None, is_some, length, reverse, take, slice_get, sym, refl, ap, ◌∙◌, length-append, arith}
+use Rattle.std.proofs.Common.{◌≡◌, inl, inr, ℕ, ◌+◌, ◌-◌, ◌<◌, ◌≤◌, List, [], ◌∷◌, ◌++◌, Option, Some, None, is_some, length, reverse, take, slice_get, sym, refl, ap, ◌∙◌, length-append, arith}
 use Rattle.std.proofs.lemmas.List.{length-take-le, take_all, take-take, length-reverse}
 use Rattle.std.specs.declared.alloc.Global.{Global}
 use Rattle.hcc_core.proofs.ListLemmas.{read_last}
@@ -14,6 +14,7 @@ use Rattle.hcc_shard.specs.declared.entries.ClosedShard.{ClosedShard}
 use Rattle.hcc_shard.specs.declared.seat.ShardSeat.{ShardSeat}
 use Rattle.hcc_shard.specs.declared.shard.Shard.{Shard}
 use Rattle.hcc_shard.specs.Callers.{geometry_of, plan_of, view_of}
+use Rattle.hcc_shard.proofs.Values.{value_kept}
 use Rattle.hcc_cache.specs.declared.cache.Cache.{Cache}
 use Rattle.hcc_cache.specs.declared.client.Client.{Client}
 use Rattle.hcc_cache.specs.declared.closed.Closed.{Closed}
@@ -29,8 +30,8 @@ use Rattle.hcc_cache.proofs.Lists.{get_in_take, get_push, get_reverse, get_take}
 use Rattle.hcc_cache.proofs.MadeLists.{made_count, made_joined, takings_joined}
 
 -- the number of the shard that was closed as number j
-abbrev place_of : {T : Type 0} → Cache T → (j : ℕ) → ℕ
-place_of cache j = length cache.shards.items - 1 - j
+abbrev index_of : {T : Type 0} → Cache T → (j : ℕ) → ℕ
+index_of cache j = length cache.shards.items - 1 - j
 
 -- what a tag, a size and a view tell, the same ones tell
 closes_same : {T : Type 0} (fits : T → Key → List ℕ → Type 0) (tag same_tag : Seeded T)
@@ -60,7 +61,7 @@ module _ {T : Type 0} (fits : T → Key → List ℕ → Type 0) (cache : Cache 
     pub left : (k : ℕ) (client : Client T) → slice_get now k ≡ Some client
         → (was : Client T) × (slice_get old k ≡ Some was) × KeepsFront (length shards) was client
     pub each : (j : ℕ) (one : Option (ClosedShard Global)) → slice_get closed j ≡ Some one
-        → (left : ClosedShard Global) × (one ≡ Some left) × IsLeft (place_of cache j) left
+        → (left : ClosedShard Global) × (one ≡ Some left) × IsLeft (index_of cache j) left
 
 module _ {T : Type 0} (fits : T → Key → List ℕ → Type 0) (cache : Cache T)
     (old : List (Client T)) (back : AreBack cache old) where
@@ -235,9 +236,9 @@ module _ {T : Type 0} (fits : T → Key → List ℕ → Type 0) (cache : Cache 
             each = λ j one h. elim (get_push closed (Some left) one j h) [
               | inl old_one ↦ closing.each j one old_one
               | inr last ↦
-                  let place : length shards ≡ place_of cache j =
+                  let index : length shards ≡ index_of cache j =
                   let e = last.0 in omega arith in
-                  (left, sym last.1, rw place at (left_is left size closes))
+                  (left, sym last.1, rw index at (left_is left size closes))
             ];
           }
 
@@ -261,8 +262,8 @@ module _ {T : Type 0} (fits : T → Key → List ℕ → Type 0) (cache : Cache 
         let at = get_reverse closed s one (omega arith)
         (ap (λ xs. slice_get xs s) (sym turned) ∙ h) in
         let is = closing.each (length closed - 1 - s) one at in
-        let place : place_of cache (length closed - 1 - s) ≡ s = omega arith in
-        (is.0, is.1, rw place at is.2)
+        let index : index_of cache (length closed - 1 - s) ≡ s = omega arith in
+        (is.0, is.1, rw index at is.2)
 
     left_of : (s : ℕ) (left : ClosedShard Global) → slice_get items s ≡ Some (Some left)
         → IsLeft fits cache old s left
@@ -292,6 +293,9 @@ module _ {T : Type 0} (fits : T → Key → List ℕ → Type 0) (cache : Cache 
       count = ap length same ∙ items_count;
       size = λ s left h. (left_of s left (rw same at h)).size;
       closes = λ s left h. (left_of s left (rw same at h)).closes;
+      values = λ s left h. value_kept (fits_seeded fits)
+          (record { tag = cache.tag; seed = cache.seed }) cache.geometry.room
+          (words_of left.table) (all_joined (views_at s old));
       full = λ s inside.
           let n = items_count in
           let one = there items s (omega arith) in
@@ -303,7 +307,7 @@ module _ {T : Type 0} (fits : T → Key → List ℕ → Type 0) (cache : Cache 
           (λ k w hw. (views_single s shard.0 shard.1 k w hw).3) h in
           let one = views_single s shard.0 shard.1 joined.0 joined.1 joined.2 in
           record {
-            place = joined.0;
+            index = joined.0;
             client = one.0;
             there = one.1;
             number = sym one.4 ∙ joined.3;

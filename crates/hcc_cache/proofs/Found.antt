@@ -9,7 +9,7 @@ use Rattle.hcc_rule.specs.Words.{key_of}
 use Rattle.hcc_rule.proofs.Basics.Lists.{each_append, within}
 use Rattle.hcc_table.specs.declared.efforts.Effort.{Effort}
 use Rattle.hcc_table.specs.Pins.{IsOf}
-use Rattle.hcc_table.specs.Searched.{IsFound, IsMissed, Searched}
+use Rattle.hcc_table.specs.Searched.{IsFound, IsMissed, Searched, Sought}
 use Rattle.hcc_table.specs.Steps.{MakesFor}
 use Rattle.hcc_shard.specs.declared.seat.ShardSeat.{ShardSeat}
 use Rattle.hcc_shard.specs.declared.shard.Shard.{Shard}
@@ -107,6 +107,15 @@ module _ {T : Type 0} where
         serials = left.uses;
       }
 
+    -- It is known still, where nothing was found.
+    pub knows_sought : IsLeft old new → Rests shard is → Sought (view_of was) (view_of is)
+        → Knows cache new
+    knows_sought left rests sought =
+        knows_left left sought.records
+        (ap (λ (v : View (Seeded T)). v.work.standalones) sought.searched.same)
+        (seated_sought shard old.number old.used was is
+        (seated_at cache old new i shard was is at) rests sought.searched sought.records)
+
     -- A look-up makes seven steps at most for each slot that it visits.
     pub looks_at : (before after : Effort)
         → MakesFor 7 0 (geometry_of shard).slots before after was.seat is.seat
@@ -159,7 +168,7 @@ module _ {T : Type 0} where
           called))
           (rw (change.seats, alone, used)
           (held_pinned cache.seed old.used old.seats.items old.handles old.alone at.knows.holds i
-          was is r at.seat_is joins standalones_same hold slot counting handle.place new.handles
+          was is r at.seat_is joins standalones_same hold slot counting handle.index new.handles
           seated.records given.named shard_is kept (within old.seats.items i was at.seat_is)
           called of key_is given.free given.updates given.count))
           (omega arith) (omega arith) (omega arith)
@@ -170,7 +179,7 @@ module _ {T : Type 0} where
           let seated = seated_at cache old new i shard was is at in
           let there = there_pinned cache.seed old.used old.seats.items old.handles old.alone
           at.knows.holds i was is r at.seat_is joins standalones_same hold slot counting
-          handle.place new.handles seated.records given.named shard_is kept
+          handle.index new.handles seated.records given.named shard_is kept
           (within old.seats.items i was at.seat_is) called of key_is in
           gains cache old new handle hold given (held_entry cache.seed r.entry)
           (rw (kept, change.seats)

@@ -25,13 +25,13 @@ and_both false b h = cc
 
 -- The handle of a hold is one.
 pub same_handle : (number : ℕ) (h handle : Handle) (hold : Hold) → is_of number h hold ≡ true
-    → handle.client ≡ number → h.place ≡ handle.place → handle.serial ≡ hold.serial → h ≡ handle
-same_handle number h handle hold is client place serial =
+    → handle.client ≡ number → h.index ≡ handle.index → handle.serial ≡ hold.serial → h ≡ handle
+same_handle number h handle hold is client index serial =
     let both = and_both (h.client == number) (hold.serial == h.serial) is in
     let c : h.client ≡ handle.client = eqb-true h.client number both.0 ∙ sym client in
     let s : h.serial ≡ handle.serial = sym (eqb-true hold.serial h.serial both.1) ∙ sym serial in
     ap (λ x. record h { client = x }) c
-    ∙ ap (λ x. record h { client = handle.client; place = x }) place
+    ∙ ap (λ x. record h { client = handle.client; index = x }) index
     ∙ ap (λ x. record handle { serial = x }) s
 
 -- A handle is that of its hold.
@@ -49,7 +49,7 @@ not_its_own number h hold other = by (is_of number h hold) refl
     by true is = absurd (other is)
     by false is = refl
 
--- what a client keeps of a handle stands at its place,
+-- what a client keeps of a handle stands at its index,
 pub hold_there : (number : ℕ) (h : Handle) (o : Option Hold) (hold : Hold)
     → if_of number h o ≡ Some hold → o ≡ Some hold
 hold_there number h None hold e = cc
@@ -80,9 +80,9 @@ own_parts number h o hold e =
 
 -- Of slabs.
 
-module _ {V : Type 0} (old new : Slab V) (place : ℕ) where
-  -- what stands at the place that was written,
-  pub written_is : (value v : V) (p : ℕ) → Updates old new place (Some value) → p ≡ place
+module _ {V : Type 0} (old new : Slab V) (index : ℕ) where
+  -- what stands at the index that was written,
+  pub written_is : (value v : V) (p : ℕ) → Updates old new index (Some value) → p ≡ index
       → get new p ≡ Some v → v ≡ value
   written_is value v p updates same there =
       let both : Some v ≡ Some value = sym there ∙ (ap (get new) same ∙ updates.changed) in
@@ -90,18 +90,18 @@ module _ {V : Type 0} (old new : Slab V) (place : ℕ) where
       is
 
   -- nothing at one that was freed,
-  pub freed_is : (v : V) (p : ℕ) → Updates old new place None → p ≡ place → get new p ≡ Some v → ⊥
+  pub freed_is : (v : V) (p : ℕ) → Updates old new index None → p ≡ index → get new p ≡ Some v → ⊥
   freed_is v p updates same there =
       let both : Some v ≡ None = sym there ∙ (ap (get new) same ∙ updates.changed) in
       let no : ⊥ = cc in
       no
 
   -- and what stood there at the others
-  pub stood_there : (slot : Option V) (v : V) (p : ℕ) → Updates old new place slot → p ≢ place
+  pub stood_there : (slot : Option V) (v : V) (p : ℕ) → Updates old new index slot → p ≢ index
       → get new p ≡ Some v → get old p ≡ Some v
   stood_there slot v p updates ne there = sym (updates.others p ne) ∙ there
 
-  pub stands_there : (slot : Option V) (v : V) (p : ℕ) → Updates old new place slot → p ≢ place
+  pub stands_there : (slot : Option V) (v : V) (p : ℕ) → Updates old new index slot → p ≢ index
       → get old p ≡ Some v → get new p ≡ Some v
   stands_there slot v p updates ne there = updates.others p ne ∙ there
 
@@ -129,8 +129,8 @@ module _ {T : Type 0} (seats more : List (ShardSeat T)) (old new : Slab Alone) w
   StandsAs hold (Pinned slot counting) =
       record_in hold.serial (records_in more hold.shard)
       ≡ record_in hold.serial (records_in seats hold.shard)
-  StandsAs hold (Standing place) =
-      (a : Alone) × (b : Alone) × (get old place ≡ Some a) × (get new place ≡ Some b)
+  StandsAs hold (Standing index) =
+      (a : Alone) × (b : Alone) × (get old index ≡ Some a) × (get new index ≡ Some b)
       × IsSameAlone a b
       × (find (is_standing a.name) (standalones_in more hold.shard)
       ≡ find (is_standing a.name) (standalones_in seats hold.shard))
@@ -139,9 +139,9 @@ module _ {T : Type 0} (seats more : List (ShardSeat T)) (old new : Slab Alone) w
   Stands hold = StandsAs hold hold.kept
 
   -- a standalone entry is there still, and the shard knows it as it did
-  pub record IsAgain (hold : Hold) (place : ℕ) (a : Alone) (s : Standalone) : Type 0 where
+  pub record IsAgain (hold : Hold) (index : ℕ) (a : Alone) (s : Standalone) : Type 0 where
     pub entry : Alone
-    pub there : get new place ≡ Some entry
+    pub there : get new index ≡ Some entry
     pub same : IsSameAlone a entry
     pub known : find (is_standing a.name) (standalones_in more hold.shard) ≡ Some s
 
@@ -149,17 +149,17 @@ module _ {T : Type 0} (seats more : List (ShardSeat T)) (old new : Slab Alone) w
   pub stands_if : (seed : ℕ) (hold : Hold) → IsKept seed seats old hold
       → ((r : Record) → record_in hold.serial (records_in seats hold.shard) ≡ Some r
       → record_in hold.serial (records_in more hold.shard) ≡ Some r)
-      → ((place : ℕ) (a : Alone) (s : Standalone) → hold.kept ≡ Standing place
-      → get old place ≡ Some a
+      → ((index : ℕ) (a : Alone) (s : Standalone) → hold.kept ≡ Standing index
+      → get old index ≡ Some a
       → find (is_standing a.name) (standalones_in seats hold.shard) ≡ Some s
-      → IsAgain hold place a s)
+      → IsAgain hold index a s)
       → Stands hold
   stands_if seed hold kept records standalones = by hold.kept refl kept.stands
     where
       by : (k : Kept) → hold.kept ≡ k → IsKeptAs seed seats old hold k → StandsAs hold k
       by (Pinned slot counting) is pin = records pin.handled pin.there ∙ sym pin.there
-      by (Standing place) is stand =
-          let again = standalones place stand.entry _ is stand.there stand.known in (
+      by (Standing index) is stand =
+          let again = standalones index stand.entry _ is stand.there stand.known in (
             stand.entry,
             again.entry,
             stand.there,
@@ -173,7 +173,7 @@ module _ {T : Type 0} (seats more : List (ShardSeat T)) (old new : Slab Alone) w
       → kept_as seed more new hold kept ≡ kept_as seed seats old hold kept
   kept_same seed hold (Pinned slot counting) same =
       ap (option_map (λ (r : Record). held_entry seed r.entry)) same
-  kept_same seed hold (Standing place) same =
+  kept_same seed hold (Standing index) same =
       rw (same.2, same.3) (ap Some (held_same hold.key same.0 same.1 same.4))
 
   -- and is kept still
@@ -192,7 +192,7 @@ module _ {T : Type 0} (seats more : List (ShardSeat T)) (old new : Slab Alone) w
         of = pin.of;
         key = pin.key;
       }
-      by (Standing place) same stand =
+      by (Standing index) same stand =
           let both : Some same.0 ≡ Some stand.entry = sym same.2 ∙ stand.there in
           let is : same.0 ≡ stand.entry = cc in
           record {
@@ -201,7 +201,7 @@ module _ {T : Type 0} (seats more : List (ShardSeat T)) (old new : Slab Alone) w
             known = rw (same.4.name, same.4.charge, same.5, is) stand.known;
           }
 
-  -- where the slot at its place stands as it stood, a handle stands for what it stood for
+  -- where the slot at its index stands as it stood, a handle stands for what it stood for
   pub stands_by : (seed number : ℕ) (h : Handle) (o : Option Hold)
       → ((k : Hold) → o ≡ Some k → Stands k)
       → held_as seed more new (if_of number h o) ≡ held_as seed seats old (if_of number h o)
@@ -216,10 +216,10 @@ module _ {T : Type 0} (seats more : List (ShardSeat T)) (old new : Slab Alone) w
 -- Of clients.
 
 module _ {T : Type 0} (cache : Cache T) (old new : Client T) where
-  -- what each hold of the client stands for stays, but for the one of this place
-  abbrev pub StandBut : (place : ℕ) → Type 0
-  StandBut place =
-      (p : ℕ) (k : Hold) → p ≢ place → get old.handles p ≡ Some k
+  -- what each hold of the client stands for stays, but for the one of this index
+  abbrev pub StandBut : (index : ℕ) → Type 0
+  StandBut index =
+      (p : ℕ) (k : Hold) → p ≢ index → get old.handles p ≡ Some k
       → Stands old.seats.items new.seats.items old.alone new.alone k
 
   -- all of them
@@ -233,52 +233,52 @@ module _ {T : Type 0} (cache : Cache T) (old new : Client T) where
   keeps_all number handles stand h =
       rw (number, handles)
       (stands_by old.seats.items new.seats.items old.alone new.alone cache.seed old.number h
-      (get old.handles h.place) (λ k there. stand h.place k there))
+      (get old.handles h.index) (λ k there. stand h.index k there))
 
-  -- a handle at another place stands for what it stood for
-  pub keeps_else : (place : ℕ) (slot : Option Hold) (h : Handle) → new.number ≡ old.number
-      → Updates old.handles new.handles place slot → h.place ≢ place → StandBut place
+  -- a handle at another index stands for what it stood for
+  pub keeps_else : (index : ℕ) (slot : Option Hold) (h : Handle) → new.number ≡ old.number
+      → Updates old.handles new.handles index slot → h.index ≢ index → StandBut index
       → held_of cache new h ≡ held_of cache old h
-  keeps_else place slot h number updates ne stand =
-      rw (number, updates.others h.place ne)
+  keeps_else index slot h number updates ne stand =
+      rw (number, updates.others h.index ne)
       (stands_by old.seats.items new.seats.items old.alone new.alone cache.seed old.number h
-      (get old.handles h.place) (λ k there. stand h.place k ne there))
+      (get old.handles h.index) (λ k there. stand h.index k ne there))
 
   -- Others than the new handle stand for what they stood for.
   pub keeps_more : (handle : Handle) (hold : Hold) → new.number ≡ old.number
       → handle.client ≡ old.number → handle.serial ≡ hold.serial
-      → get old.handles handle.place ≡ None
-      → Updates old.handles new.handles handle.place (Some hold) → StandBut handle.place
+      → get old.handles handle.index ≡ None
+      → Updates old.handles new.handles handle.index (Some hold) → StandBut handle.index
       → (h : Handle) → ¬ (h ≡ handle) → held_of cache new h ≡ held_of cache old h
   keeps_more handle hold number client serial free updates stand h ne =
-      elim (cases_eq h.place handle.place) [
+      elim (cases_eq h.index handle.index) [
         | inl same ↦
-            let now : get new.handles h.place ≡ Some hold =
+            let now : get new.handles h.index ≡ Some hold =
             ap (get new.handles) same ∙ updates.changed in
-            let was : get old.handles h.place ≡ None = ap (get old.handles) same ∙ free in
+            let was : get old.handles h.index ≡ None = ap (get old.handles) same ∙ free in
             rw (number, now, was)
             (ap (held_as cache.seed new.seats.items new.alone)
             (not_its_own old.number h hold
             (λ is. ne (same_handle old.number h handle hold is client same serial))))
         | inr other ↦
-            keeps_else handle.place (Some hold) h number updates other stand
+            keeps_else handle.index (Some hold) h number updates other stand
       ]
 
   -- Others than the one that is gone stand for what they stood for.
   pub keeps_less : (handle : Handle) (hold : Hold) → new.number ≡ old.number
       → handle.client ≡ old.number → handle.serial ≡ hold.serial
-      → get old.handles handle.place ≡ Some hold
-      → Updates old.handles new.handles handle.place None → StandBut handle.place
+      → get old.handles handle.index ≡ Some hold
+      → Updates old.handles new.handles handle.index None → StandBut handle.index
       → (h : Handle) → ¬ (h ≡ handle) → held_of cache new h ≡ held_of cache old h
   keeps_less handle hold number client serial there updates stand h ne =
-      elim (cases_eq h.place handle.place) [
+      elim (cases_eq h.index handle.index) [
         | inl same ↦
-            let now : get new.handles h.place ≡ None =
+            let now : get new.handles h.index ≡ None =
             ap (get new.handles) same ∙ updates.changed in
-            let was : get old.handles h.place ≡ Some hold = ap (get old.handles) same ∙ there in
+            let was : get old.handles h.index ≡ Some hold = ap (get old.handles) same ∙ there in
             rw (number, now, was)
             (sym (ap (held_as cache.seed old.seats.items old.alone)
             (not_its_own old.number h hold
             (λ is. ne (same_handle old.number h handle hold is client same serial)))))
-        | inr other ↦ keeps_else handle.place None h number updates other stand
+        | inr other ↦ keeps_else handle.index None h number updates other stand
       ]

@@ -1,5 +1,5 @@
 -- A client that keeps one handle more.
-use Rattle.std.proofs.Common.{◌≡◌, ◌+◌, ◌-◌, true, Some, None, sym, refl, ◌∙◌}
+use Rattle.std.proofs.Common.{◌≡◌, ◌+◌, true, Some, None, sym, refl, ◌∙◌}
 use Rattle.slab.specs.Slab.{get, slab_len, Updates}
 use Rattle.hcc_cache.specs.declared.cache.Cache.{Cache}
 use Rattle.hcc_cache.specs.declared.client.Client.{Client}
@@ -16,8 +16,8 @@ module _ {T : Type 0} where
     pub serial : handle.serial ≡ old.used
     pub named : hold.serial ≡ old.used
     pub number : new.number ≡ old.number
-    pub free : get old.handles handle.place ≡ None
-    pub updates : Updates old.handles new.handles handle.place (Some hold)
+    pub free : get old.handles handle.index ≡ None
+    pub updates : Updates old.handles new.handles handle.index (Some hold)
     pub count : slab_len new.handles ≡ slab_len old.handles + 1
     pub held : new.held ≡ old.held + 1
     pub uses : UsesOne old new
@@ -31,13 +31,13 @@ module _ {T : Type 0} where
     stands_for : (held : Held)
         → kept_as cache.seed new.seats.items new.alone hold hold.kept ≡ Some held
         → held_as cache.seed new.seats.items new.alone
-        (if_of new.number handle (get new.handles handle.place)) ≡ Some held
+        (if_of new.number handle (get new.handles handle.index)) ≡ Some held
     stands_for held kept = rw (given.updates.changed, given.number, own) kept
 
     -- it stands for what is kept of it, and the others for what they stood for
     pub gains : (held : Held)
         → kept_as cache.seed new.seats.items new.alone hold hold.kept ≡ Some held
-        → StandBut cache old new handle.place → Gains cache handle held old new
+        → StandBut cache old new handle.index → Gains cache handle held old new
     gains held kept stand = record {
       free = rw (given.free) refl;
       stands = stands_for held kept;

@@ -1,12 +1,11 @@
 -- A client that was handed a handle on what it inserted.
-use Rattle.std.proofs.Common.{◌≡◌, ℕ, ◌+◌, ◌<◌, ◌≤◌, Bool, List, [], ◌∷◌, ◌++◌, Option, Some, None, Ok, length, option_map, sym, refl, ap, subst, ◌∙◌, arith}
-use Rattle.slab.specs.Slab.{get, slab_len}
+use Rattle.std.proofs.Common.{◌≡◌, ℕ, ◌+◌, ◌<◌, ◌≤◌, Bool, List, [], ◌∷◌, ◌++◌, Some, None, Ok, length, option_map, sym, refl, ap, subst, arith}
+use Rattle.slab.specs.Slab.{slab_len}
 use Rattle.hcc_core.specs.declared.client.Standalone.{Standalone}
 use Rattle.hcc_core.specs.declared.limits.TheConstants.{MOST_HANDLES}
 use Rattle.hcc_rule.specs.declared.key.Key.{Key}
 use Rattle.hcc_rule.specs.declared.steps.shows.Draft.{Draft}
 use Rattle.hcc_rule.specs.declared.view.Record.{Record}
-use Rattle.hcc_rule.specs.declared.view.View.{View}
 use Rattle.hcc_rule.specs.ToldOwners.{made_of, shown_entry}
 use Rattle.hcc_rule.specs.Views.{Each}
 use Rattle.hcc_rule.specs.Words.{key_of}
@@ -30,10 +29,10 @@ use Rattle.hcc_cache.specs.declared.holding.Kept.TheVariants.{Pinned, Standing}
 use Rattle.hcc_cache.specs.declared.priority.Priority.{Priority}
 use Rattle.hcc_cache.specs.declared.seeded.Seeded.{Seeded}
 use Rattle.hcc_cache.specs.Calls.{Gains, shard_in}
-use Rattle.hcc_cache.specs.Clients.{Held, held_alone, held_entry}
+use Rattle.hcc_cache.specs.Clients.{held_alone, held_entry}
 use Rattle.hcc_cache.specs.Inserts.{Pins, Stands, pinned_draft}
 use Rattle.hcc_cache.specs.Keys.{key_from, key_to}
-use Rattle.hcc_cache.specs.Known.{AreHeld, IsSeated, Knows, references_of, standalones_at}
+use Rattle.hcc_cache.specs.Known.{AreHeld, Knows, references_of, standalones_at}
 use Rattle.hcc_cache.proofs.Alone.{IsJoined, held_joined, known_of, stands_joined}
 use Rattle.hcc_cache.proofs.At.{ChangesAt, IsAt, knows_at, seated_at, works_at}
 use Rattle.hcc_cache.proofs.Gained.{IsGiven, gains}
@@ -52,7 +51,8 @@ hold_with serial key shard kept =
 pub alone_within : {T : Type 0} (cache : Cache T) (client : Client T) → Knows cache client
     → slab_len client.alone ≤ client.held
 alone_within cache client knows =
-    let each = len_within references_of client.alone (λ p a there. (knows.holds.some p a there).0) in
+    let each = len_within references_of client.alone (λ p a there. (knows.holds.some p a
+    there).0) in
     let references = knows.holds.references in
     let count = knows.count in
     omega arith
@@ -141,7 +141,7 @@ module _ {T : Type 0} (cache : Cache T) (old new : Client T) (i : ℕ) (shard : 
           (rw (change.seats, alone)
           (held_pinned cache.seed old.used old.seats.items old.handles old.alone at.knows.holds i
           was is r at.seat_is left.records_are left.standalones_are
-          (hold_with old.used key i kept) slot counting handle.place new.handles seated.records
+          (hold_with old.used key i kept) slot counting handle.index new.handles seated.records
           refl refl kept_is (within old.seats.items i was at.seat_is) called of key_is given.free
           given.updates given.count))
 
@@ -149,10 +149,10 @@ module _ {T : Type 0} (cache : Cache T) (old new : Client T) (i : ℕ) (shard : 
       gains_placed =
           let seated = seated_at cache old new i shard was is at in
           let there = there_pinned cache.seed old.used old.seats.items old.handles old.alone
-              at.knows.holds i was is r at.seat_is left.records_are left.standalones_are
-              (hold_with old.used key i kept) slot counting handle.place new.handles
-              seated.records refl refl kept_is (within old.seats.items i was at.seat_is) called of
-              key_is in
+          at.knows.holds i was is r at.seat_is left.records_are left.standalones_are
+          (hold_with old.used key i kept) slot counting handle.index new.handles
+          seated.records refl refl kept_is (within old.seats.items i was at.seat_is) called of
+          key_is in
           gains cache old new handle (hold_with old.used key i kept) given
           (held_entry cache.seed r.entry)
           (rw (kept_is, change.seats)
@@ -162,9 +162,9 @@ module _ {T : Type 0} (cache : Cache T) (old new : Client T) (i : ℕ) (shard : 
           was is r at.seat_is left.records_are left.standalones_are p k at_p))
 
     -- Of a standalone entry.
-    module _ (place : ℕ) (a : Alone) (kept_is : kept ≡ Standing place)
+    module _ (index : ℕ) (a : Alone) (kept_is : kept ≡ Standing index)
         (tried : IsTried (view_of was) (view_of is))
-        (joined : IsJoined old.used was is old.alone new.alone place a) where
+        (joined : IsJoined old.used was is old.alone new.alone index a) where
       pub knows_alone : Knows cache new
       knows_alone =
           let seated = seated_at cache old new i shard was is at in
@@ -181,8 +181,8 @@ module _ {T : Type 0} (cache : Cache T) (old new : Client T) (i : ℕ) (shard : 
           (omega arith)))
           (rw (change.seats)
           (held_joined cache.seed old.used old.seats.items old.handles old.alone new.alone
-          at.knows.holds i was is place a at.seat_is joined (hold_with old.used key i kept)
-          handle.place new.handles seated.standalones refl refl kept_is
+          at.knows.holds i was is index a at.seat_is joined (hold_with old.used key i kept)
+          handle.index new.handles seated.standalones refl refl kept_is
           (within old.seats.items i was at.seat_is) given.free given.updates given.count))
 
       gains_alone : Gains cache handle (held_alone key a) old new
@@ -191,38 +191,64 @@ module _ {T : Type 0} (cache : Cache T) (old new : Client T) (i : ℕ) (shard : 
           (rw (kept_is, joined.updates.changed) refl)
           (λ p k ne at_p. rw (change.seats)
           (stands_joined cache.seed old.used old.seats.items old.handles old.alone new.alone
-          at.knows.holds i was is place a at.seat_is joined p k at_p))
+          at.knows.holds i was is index a at.seat_is joined p k at_p))
 
     -- What the shard was asked for, and answered.
     module _ (charge : ℕ) (priority : Priority) (value : List ℕ) (here : i ≡ shard_in cache key)
       where
-      -- The entry was placed, and the handle is on it:
-      module _ (pin : Pin) (undone : key_from cache.seed (key_to cache.seed key) ≡ key)
-          (alone : new.alone ≡ old.alone) (kept_is : kept ≡ Pinned pin.slot pin.counting)
-          (told : PinnedBy cache.geometry.slots cache.capacity cache.strict
-          (pinned_draft cache key charge priority value old) value (Ok (pinned.Placed pin))
-          (view_of was) (view_of is)) where
-        abbrev handled : Record
-        handled =
-            first_record pin.slot old.used
-            (shown_entry (view_of was)
-            (made_of (pinned_draft cache key charge priority value old) value))
+        -- The entry was placed, and the handle is on it:
+        module _ (pin : Pin) (undone : key_from cache.seed (key_to cache.seed key) ≡ key)
+            (alone : new.alone ≡ old.alone) (kept_is : kept ≡ Pinned pin.slot pin.counting)
+            (told : PinnedBy cache.geometry.slots cache.capacity cache.strict
+            (pinned_draft cache key charge priority value old) value (Ok (pinned.Placed pin))
+            (view_of was) (view_of is)) where
+          abbrev handled : Record
+          handled =
+              first_record pin.slot old.used
+              (shown_entry (view_of was)
+              (made_of (pinned_draft cache key charge priority value old) value))
 
-        left_placed : Leaves ((view_of was).records ++ handled ∷ [])
-            (view_of was).work.standalones (view_of was) (view_of is)
-        left_placed =
-            leaves_pinned cache.geometry.slots cache.capacity cache.strict
-            (pinned_draft cache key charge priority value old) value (view_of was) (view_of is)
-            pin.slot old.used refl told.0
+          left_placed : Leaves ((view_of was).records ++ handled ∷ [])
+              (view_of was).work.standalones (view_of was) (view_of is)
+          left_placed =
+              leaves_pinned cache.geometry.slots cache.capacity cache.strict
+              (pinned_draft cache key charge priority value old) value (view_of was) (view_of is)
+              pin.slot old.used refl told.0
 
-        pub knows_pins : Knows cache new
-        knows_pins =
-            knows_placed pin.slot pin.counting handled alone kept_is left_placed refl
-            (refl, refl, sym told.2) refl
+          pub knows_pins : Knows cache new
+          knows_pins =
+              knows_placed pin.slot pin.counting handled alone kept_is left_placed refl
+              (refl, refl, sym told.2) refl
 
-        pub pins_at : Pins cache key charge priority value handle old new
-        pins_at = record {
-          pin = pin;
+          pub pins_at : Pins cache key charge priority value handle old new
+          pins_at = record {
+            pin = pin;
+            asks = record {
+              v = view_of was;
+              w = view_of is;
+              works = rw (← here) (works_at cache old new i shard was is at change);
+              told = told;
+            };
+            gains =
+                subst (λ h. Gains cache handle h old new)
+                (λ j. record {
+                  insertion = record { key = undone j; value = value; charge = charge };
+                  entry = Some handled.entry;
+                  standing = None;
+                })
+                (gains_placed pin.slot pin.counting handled alone kept_is left_placed refl
+                (refl, refl, sym told.2) refl);
+          }
+
+        -- or it stands alone.
+        pub stands_at : (index : ℕ) (a : Alone) → kept ≡ Standing index → a.charge ≡ charge
+            → a.value.items ≡ value → IsTried (view_of was) (view_of is)
+            → IsJoined old.used was is old.alone new.alone index a
+            → PinnedBy cache.geometry.slots cache.capacity cache.strict
+            (pinned_draft cache key charge priority value old) value (Ok pinned.Standalone)
+            (view_of was) (view_of is)
+            → Stands cache key charge priority value handle old new
+        stands_at index a kept_is paid bytes tried joined told = record {
           asks = record {
             v = view_of was;
             w = view_of is;
@@ -232,35 +258,9 @@ module _ {T : Type 0} (cache : Cache T) (old new : Client T) (i : ℕ) (shard : 
           gains =
               subst (λ h. Gains cache handle h old new)
               (λ j. record {
-                insertion = record { key = undone j; value = value; charge = charge };
-                entry = Some handled.entry;
-                standing = None;
+                insertion = record { key = key; value = bytes j; charge = paid j };
+                entry = None;
+                standing = Some (joined.called j);
               })
-              (gains_placed pin.slot pin.counting handled alone kept_is left_placed refl
-              (refl, refl, sym told.2) refl);
+              (gains_alone index a kept_is tried joined);
         }
-
-      -- or it stands alone.
-      pub stands_at : (place : ℕ) (a : Alone) → kept ≡ Standing place → a.charge ≡ charge
-          → a.value.items ≡ value → IsTried (view_of was) (view_of is)
-          → IsJoined old.used was is old.alone new.alone place a
-          → PinnedBy cache.geometry.slots cache.capacity cache.strict
-          (pinned_draft cache key charge priority value old) value (Ok pinned.Standalone)
-          (view_of was) (view_of is)
-          → Stands cache key charge priority value handle old new
-      stands_at place a kept_is paid bytes tried joined told = record {
-        asks = record {
-          v = view_of was;
-          w = view_of is;
-          works = rw (← here) (works_at cache old new i shard was is at change);
-          told = told;
-        };
-        gains =
-            subst (λ h. Gains cache handle h old new)
-            (λ j. record {
-              insertion = record { key = key; value = bytes j; charge = paid j };
-              entry = None;
-              standing = Some (joined.called j);
-            })
-            (gains_alone place a kept_is tried joined);
-      }

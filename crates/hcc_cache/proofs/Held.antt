@@ -17,7 +17,7 @@ use Rattle.hcc_cache.proofs.Seats.{part_same}
 -- Each handle stands for something of its own.
 pub record AreApart {T : Type 0} (seed used : ℕ) (seats : List (ShardSeat T)) (handles : Slab Hold)
     (alone : Slab Alone) : Type 0 where
-  pub each : (place : ℕ) (hold : Hold) → get handles place ≡ Some hold
+  pub each : (index : ℕ) (hold : Hold) → get handles index ≡ Some hold
       → IsKept seed seats alone hold × (hold.serial < used)
   pub apart : (p q : ℕ) (h k : Hold) → get handles p ≡ Some h → get handles q ≡ Some k
       → h.serial ≡ k.serial → p ≡ q
@@ -37,43 +37,43 @@ module _ {T : Type 0} (seed used : ℕ) (seats more : List (ShardSeat T)) (handl
   }
 
   -- One handle more has the next serial, and is kept.
-  pub apart_more : (place : ℕ) (hold : Hold) (gained : Slab Hold) (new : Slab Alone)
+  pub apart_more : (index : ℕ) (hold : Hold) (gained : Slab Hold) (new : Slab Alone)
       → length more ≡ length seats → hold.serial ≡ used → IsKept seed more new hold
-      → Updates handles gained place (Some hold)
+      → Updates handles gained index (Some hold)
       → ((p : ℕ) (k : Hold) → get handles p ≡ Some k → Stands seats more old new k)
       → AreApart seed (used + 1) more gained new
-  apart_more place hold gained new count serial mine updates stand = record {
-    each = λ p k there. elim (cases_eq p place) [
+  apart_more index hold gained new count serial mine updates stand = record {
+    each = λ p k there. elim (cases_eq p index) [
       | inl same ↦
-          let is = written_is handles gained place hold k p updates same there in
+          let is = written_is handles gained index hold k p updates same there in
           let next : k.serial ≡ used = ap (λ (x : Hold). x.serial) is ∙ serial in
           (rw is mine, omega arith)
       | inr ne ↦
-          let before = stood_there handles gained place (Some hold) k p updates ne there in
+          let before = stood_there handles gained index (Some hold) k p updates ne there in
           let was = all.each p k before in
           let below = was.1 in
           (kept_still seats more old new seed k count (stand p k before) was.0, omega arith)
     ];
-    apart = λ p q h k hp hq e. elim (cases_eq p place) [
-      | inl same ↦ elim (cases_eq q place) [
+    apart = λ p q h k hp hq e. elim (cases_eq p index) [
+      | inl same ↦ elim (cases_eq q index) [
         | inl other ↦ same ∙ sym other
         | inr ne ↦ absurd (newer p q h k hp hq e same ne)
       ]
-      | inr ne ↦ elim (cases_eq q place) [
+      | inr ne ↦ elim (cases_eq q index) [
         | inl same ↦ absurd (newer q p k h hq hp (sym e) same ne)
         | inr other ↦
-            all.apart p q h k (stood_there handles gained place (Some hold) h p updates ne hp)
-            (stood_there handles gained place (Some hold) k q updates other hq) e
+            all.apart p q h k (stood_there handles gained index (Some hold) h p updates ne hp)
+            (stood_there handles gained index (Some hold) k q updates other hq) e
       ]
     ];
   }
     where
       newer : (p q : ℕ) (h k : Hold) → get gained p ≡ Some h → get gained q ≡ Some k
-          → h.serial ≡ k.serial → p ≡ place → q ≢ place → ⊥
+          → h.serial ≡ k.serial → p ≡ index → q ≢ index → ⊥
       newer p q h k hp hq e same ne =
-          let is = written_is handles gained place hold h p updates same hp in
+          let is = written_is handles gained index hold h p updates same hp in
           let next : h.serial ≡ used = ap (λ (x : Hold). x.serial) is ∙ serial in
-          let before = stood_there handles gained place (Some hold) k q updates ne hq in
+          let before = stood_there handles gained index (Some hold) k q updates ne hq in
           let below = (all.each q k before).1 in
           omega arith
 
@@ -94,7 +94,7 @@ module _ {T : Type 0} (seed used : ℕ) (seats : List (ShardSeat T)) (handles : 
       part_same (λ v. v.work.standalones) seats i k.shard was is at standalones in
       stands_if seats more alone alone seed k (all.each p k there).0
       (λ r found. ap (record_in k.serial) records_same ∙ found)
-      (λ place a s kept held found. record {
+      (λ index a s kept held found. record {
         entry = a;
         there = held;
         same = same_alone a;
@@ -121,8 +121,8 @@ module _ {T : Type 0} (seed used : ℕ) (seats : List (ShardSeat T)) (handles : 
             let before = all.entries in
             omega arith;
         names_apart = all.names_apart;
-        some = λ place a there.
-            let some = all.some place a there in
+        some = λ index a there.
+            let some = all.some index a there in
             let below = some.2 in
             (some.0, some.1, omega arith);
         references = all.references;

@@ -1,5 +1,5 @@
 -- The least number of a client that holds a handle, once one more client is looked at.
-use Rattle.std.proofs.Common.{◌≡◌, ◌⊎◌, inl, inr, ℕ, zero, suc, ◌<◌, ◌≤◌, min, List, [], ◌∷◌, ◌++◌, Option, Some, None, IfSome, IfNone, length, slice_get, sym, refl, ap, ◌∙◌, arith}
+use Rattle.std.proofs.Common.{◌≡◌, inl, inr, ℕ, zero, suc, ◌<◌, ◌≤◌, min, List, [], ◌∷◌, ◌++◌, Option, Some, None, IfSome, IfNone, length, slice_get, sym, refl, ap, ◌∙◌, arith}
 use Rattle.std.proofs.lemmas.Bool.{cases_lt}
 use Rattle.hcc_core.proofs.ListLemmas.{read_last}
 use Rattle.hcc_rule.proofs.Entries.ShowParts.{get_front}
@@ -18,9 +18,9 @@ module _ {T : Type 0} where
   still_least : (xs : List (Client T)) (c : Client T) (m : ℕ) → IsLeastHolder xs m
       → (0 < held_by c → m ≤ c.number) → IsLeastHolder (xs ++ c ∷ []) m
   still_least xs c m h other = record {
-    place = h.place;
+    index = h.index;
     holder = h.holder;
-    there = get_front xs (c ∷ []) h.place h.holder h.there;
+    there = get_front xs (c ∷ []) h.index h.holder h.there;
     holds = h.holds;
     called = h.called;
     least = λ k client at holds. elim (get_push xs c client k at) [
@@ -39,7 +39,7 @@ module _ {T : Type 0} where
       → c.number ≤ client.number)
       → IsLeastHolder (xs ++ c ∷ []) c.number
   now_least xs c holds all = record {
-    place = length xs;
+    index = length xs;
     holder = c;
     there = read_last xs c;
     holds = holds;

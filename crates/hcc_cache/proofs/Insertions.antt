@@ -1,5 +1,5 @@
 -- A client that asked one shard for an entry: what it needs, and what it knows afterwards.
-use Rattle.std.proofs.Common.{◌≡◌, ℕ, suc, ◌+◌, ◌*◌, ◌^◌, ◌<◌, ◌≤◌, Bool, true, false, List, [], ◌∷◌, ◌++◌, Option, Some, None, Result, Ok, Err, length, get_or, slice_set, sym, refl, ap, ◌∙◌, append-nil, arith}
+use Rattle.std.proofs.Common.{◌≡◌, ℕ, suc, ◌+◌, ◌*◌, ◌^◌, ◌<◌, ◌≤◌, Bool, true, false, List, [], ◌∷◌, ◌++◌, Some, None, Result, Ok, Err, length, get_or, refl, ap, ◌∙◌, append-nil, arith}
 use Rattle.hcc_core.specs.declared.client.Standalone.{Standalone}
 use Rattle.hcc_core.specs.declared.limits.TheConstants.{MOST_COUNTDOWN}
 use Rattle.hcc_core.specs.declared.slot.Entry.{Entry}
@@ -18,7 +18,7 @@ use Rattle.hcc_shard.specs.declared.inserting.Inserted.TheVariants.{Dropped, Pla
 use Rattle.hcc_shard.specs.declared.seat.ShardSeat.{ShardSeat}
 use Rattle.hcc_shard.specs.declared.shard.Shard.{Shard}
 use Rattle.hcc_shard.specs.Callers.{capacity_of, geometry_of, is_strict, plan_of, steps_of, view_of}
-use Rattle.hcc_shard.specs.Inserted.{InsertedBy, IsInsertable, IsUnshown, MakesNoEntry, RefusedBy, Shows, Tries, inserting, with_draft}
+use Rattle.hcc_shard.specs.Inserted.{InsertedBy, IsInsertable, IsUnshown, MakesNoEntry, RefusedBy, Shows, Tries, inserting}
 use Rattle.hcc_shard.specs.Seated.{Rests}
 use Rattle.hcc_shard.proofs.Names.{length_more}
 use Rattle.hcc_cache.specs.declared.cache.Cache.{Cache}
@@ -63,11 +63,11 @@ module _ {T : Type 0} where
     pub records_are : w.records ≡ records
     pub standalones_are : w.work.standalones ≡ standalones
 
-  leaves_by : (slots capacity charge stamps : ℕ) (standalones : List Standalone)
-      (records : List Record) (made : List Made) (v w : View T)
-      → Tries slots capacity charge stamps standalones records made v w
+  leaves_by : (slots capacity : ℕ) (strict : Bool) (charge stamps : ℕ)
+      (standalones : List Standalone) (records : List Record) (made : List Made) (v w : View T)
+      → Tries slots capacity strict charge stamps standalones records made v w
       → length made ≤ length v.made + 1 → Leaves records standalones v w
-  leaves_by slots capacity charge stamps standalones records made v w tries few =
+  leaves_by slots capacity strict charge stamps standalones records made v w tries few =
       let is : length w.made ≡ length made = ap (λ (z : View T). length z.made) tries.same in
       record {
         tried = record {
@@ -81,82 +81,84 @@ module _ {T : Type 0} where
 
   module _ (slots capacity : ℕ) (strict : Bool) (draft : Draft) (value : List ℕ) (v w : View T)
     where
-    -- no entry was made
-    leaves_none : (standalones : List Standalone)
-        → MakesNoEntry slots capacity strict draft standalones v w
-        → Leaves v.records standalones v w
-    leaves_none standalones tries =
-        leaves_by slots capacity draft.charge v.work.stamps standalones v.records v.made v w tries
-        (omega arith)
+      -- no entry was made
+      leaves_none : (standalones : List Standalone)
+          → MakesNoEntry slots capacity strict draft standalones v w
+          → Leaves v.records standalones v w
+      leaves_none standalones tries =
+          leaves_by slots capacity strict draft.charge v.work.stamps standalones v.records v.made
+          v w
+          tries (omega arith)
 
-    -- an entry was shown
-    pub leaves_shown : (slot : ℕ) → Shows slots capacity strict draft value slot v w
-        → Leaves (v.records ++ first_records slot draft.name (shown_entry v (made_of draft value)))
-        v.work.standalones v w
-    leaves_shown slot shows =
-        let more = length_more v.made (made_of draft value) in
-        leaves_by slots capacity draft.charge (v.work.stamps + 1) v.work.standalones
-        (v.records ++ first_records slot draft.name (shown_entry v (made_of draft value)))
-        (v.made ++ made_of draft value ∷ []) v w (shows.tries) (omega arith)
+      -- an entry was shown
+      pub leaves_shown : (slot : ℕ) → Shows slots capacity strict draft value slot v w
+          → Leaves (v.records ++ first_records slot draft.name (shown_entry v (made_of draft
+          value)))
+          v.work.standalones v w
+      leaves_shown slot shows =
+          let more = length_more v.made (made_of draft value) in
+          leaves_by slots capacity strict draft.charge (v.work.stamps + 1) v.work.standalones
+          (v.records ++ first_records slot draft.name (shown_entry v (made_of draft value)))
+          (v.made ++ made_of draft value ∷ []) v w (shows.tries) (omega arith)
 
-    -- one was kept out of the table
-    pub leaves_unshown : (standalones : List Standalone)
-        → IsUnshown slots capacity strict draft standalones v w
-        → Leaves v.records standalones v w
-    leaves_unshown standalones unshown = leaves_none standalones (unshown.tries)
+      -- one was kept out of the table
+      pub leaves_unshown : (standalones : List Standalone)
+          → IsUnshown slots capacity strict draft standalones v w
+          → Leaves v.records standalones v w
+      leaves_unshown standalones unshown = leaves_none standalones (unshown.tries)
 
-    -- the shard refused it
-    pub leaves_refused : (why : Refused) → RefusedBy slots capacity strict draft why v w
-        → Leaves v.records v.work.standalones v w
-    leaves_refused TooLarge told =
-        let same : w ≡ v = told.2 in
-        let is : length w.made ≡ length v.made = ap (λ (z : View T). length z.made) same in
-        record {
-          tried = record {
-            client = ap (λ (z : View T). z.client) same;
-            others = ap (λ (z : View T). z.others) same;
-            made = omega arith;
-          };
-          records_are = ap (λ (z : View T). z.records) same;
-          standalones_are = ap (λ (z : View T). z.work.standalones) same;
-        }
-    leaves_refused CapacityFull told = leaves_none v.work.standalones (told.0)
-    leaves_refused OccupancyFull told = leaves_none v.work.standalones (told.0)
+      -- the shard refused it
+      pub leaves_refused : (why : Refused) → RefusedBy slots capacity strict draft why v w
+          → Leaves v.records v.work.standalones v w
+      leaves_refused TooLarge told =
+          let same : w ≡ v = told.2 in
+          let is : length w.made ≡ length v.made = ap (λ (z : View T). length z.made) same in
+          record {
+            tried = record {
+              client = ap (λ (z : View T). z.client) same;
+              others = ap (λ (z : View T). z.others) same;
+              made = omega arith;
+            };
+            records_are = ap (λ (z : View T). z.records) same;
+            standalones_are = ap (λ (z : View T). z.work.standalones) same;
+          }
+      leaves_refused CapacityFull told = leaves_none v.work.standalones (told.0)
+      leaves_refused OccupancyFull told = leaves_none v.work.standalones (told.0)
 
-    -- An insertion that keeps no reference leaves those that there were.
-    pub leaves_stored : (answer : Result Inserted Refused) → draft.name ≡ None
-        → InsertedBy slots capacity strict draft value answer v w
-        → Leaves v.records v.work.standalones v w
-    leaves_stored (Ok Placed) unnamed told =
-        let shown = leaves_shown (told.0) (told.1) in
-        record {
-          tried = shown.tried;
-          records_are =
-              shown.records_are
-              ∙ (ap
-              (λ o. v.records ++ first_records (told.0) o (shown_entry v (made_of draft value)))
-              unnamed ∙ append-nil v.records);
-          standalones_are = shown.standalones_are;
-        }
-    leaves_stored (Ok Dropped) unnamed told = leaves_unshown v.work.standalones told
-    leaves_stored (Err why) unnamed told = leaves_refused why told
+      -- An insertion that keeps no reference leaves those that there were.
+      pub leaves_stored : (answer : Result Inserted Refused) → draft.name ≡ None
+          → InsertedBy slots capacity strict draft value answer v w
+          → Leaves v.records v.work.standalones v w
+      leaves_stored (Ok Placed) unnamed told =
+          let shown = leaves_shown (told.0) (told.1) in
+          record {
+            tried = shown.tried;
+            records_are =
+                shown.records_are
+                ∙ (ap
+                (λ o. v.records ++ first_records (told.0) o (shown_entry v (made_of draft value)))
+                unnamed ∙ append-nil v.records);
+            standalones_are = shown.standalones_are;
+          }
+      leaves_stored (Ok Dropped) unnamed told = leaves_unshown v.work.standalones told
+      leaves_stored (Err why) unnamed told = leaves_refused why told
 
-    -- One that keeps a reference joins it.
-    pub leaves_pinned : (slot name : ℕ) → draft.name ≡ Some name
-        → Shows slots capacity strict draft value slot v w
-        → Leaves
-        (v.records ++ first_record slot name (shown_entry v (made_of draft value)) ∷ [])
-        v.work.standalones v w
-    leaves_pinned slot name named shows =
-        let shown = leaves_shown slot shows in
-        record {
-          tried = shown.tried;
-          records_are =
-              shown.records_are
-              ∙ ap (λ o. v.records ++ first_records slot o (shown_entry v (made_of draft value)))
-              named;
-          standalones_are = shown.standalones_are;
-        }
+      -- One that keeps a reference joins it.
+      pub leaves_pinned : (slot name : ℕ) → draft.name ≡ Some name
+          → Shows slots capacity strict draft value slot v w
+          → Leaves
+          (v.records ++ first_record slot name (shown_entry v (made_of draft value)) ∷ [])
+          v.work.standalones v w
+      leaves_pinned slot name named shows =
+          let shown = leaves_shown slot shows in
+          record {
+            tried = shown.tried;
+            records_are =
+                shown.records_are
+                ∙ ap (λ o. v.records ++ first_records slot o (shown_entry v (made_of draft value)))
+                named;
+            standalones_are = shown.standalones_are;
+          }
 
 -- Of a seat.
 

@@ -1,16 +1,15 @@
 -- Sums over the shards of a closed cache.
-use Rattle.std.proofs.Common.{◌≡◌, ℕ, zero, suc, ◌+◌, ◌*◌, ◌^◌, ◌<◌, ◌≤◌, Bool, true, false, List, [], ◌∷◌, ◌++◌, Option, Some, length, take, slice_get, sym, refl, ap, ◌∙◌, add-one, arith}
+use Rattle.std.proofs.Common.{◌≡◌, ℕ, zero, suc, ◌+◌, ◌*◌, ◌^◌, ◌<◌, ◌≤◌, Bool, true, false, List, [], ◌∷◌, ◌++◌, Option, Some, take, slice_get, refl, ap, add-one, arith}
 use Rattle.std.specs.List.{range_with_len}
 use Rattle.std.specs.declared.alloc.Global.{Global}
-use Rattle.std.proofs.lemmas.List.{take_all}
 use Rattle.hcc_core.specs.declared.limits.TheConstants.{MOST_SLOTS}
 use Rattle.hcc_core.specs.Sums.{when, total}
 use Rattle.hcc_core.proofs.SumLemmas.{total-append}
-use Rattle.hcc_rule.specs.Closing.{has_entry, over_entries, words_of}
+use Rattle.hcc_rule.specs.Closing.{has_entry, words_of}
 use Rattle.hcc_rule.proofs.Basics.Lists.{within}
 use Rattle.hcc_shard.specs.declared.entries.ClosedShard.{ClosedShard}
 use Rattle.hcc_shard.specs.Left.{charges_left, over_slots, slots_left}
-use Rattle.hcc_cache.specs.Left.{AreWhole, at_shard, given, over_shards, slots_at}
+use Rattle.hcc_cache.specs.Left.{AreWhole, given, over_shards}
 use Rattle.hcc_cache.proofs.Lists.{take_snoc}
 
 module _ (slots room : ℕ) (words : List ℕ) (f : ℕ → ℕ) where

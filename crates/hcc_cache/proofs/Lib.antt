@@ -20,6 +20,9 @@ pub mod Standing
 pub mod Released
 pub mod Readings
 pub mod Dealing
+pub mod Insertions
+pub mod Alone
+pub mod Handing
 pub mod Lists
 pub mod Holders
 pub mod Joining
@@ -27,6 +30,3 @@ pub mod MadeLists
 pub mod Emptied
 pub mod Ended
 pub mod Lefts
-pub mod Insertions
-pub mod Alone
-pub mod Handing

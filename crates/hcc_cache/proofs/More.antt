@@ -27,19 +27,19 @@ use Rattle.hcc_cache.proofs.Slots.{count_updated}
 -- Of what is counted, where a handle joined.
 
 -- one more where it passes
-pub counted_more : {V : Type 0} (test : Option V → Bool) (old new : Slab V) (place : ℕ) (value : V)
-    → test None ≡ false → get old place ≡ None → Updates old new place (Some value)
+pub counted_more : {V : Type 0} (test : Option V → Bool) (old new : Slab V) (index : ℕ) (value : V)
+    → test None ≡ false → get old index ≡ None → Updates old new index (Some value)
     → count_of test new ≡ count_of test old + when (test (Some value)) 1
-counted_more test old new place value none free updates =
-    let was : when (test (get old place)) 1 ≡ 0 =
+counted_more test old new index value none free updates =
+    let was : when (test (get old index)) 1 ≡ 0 =
     ap (λ o. when (test o) 1) free ∙ ap (λ b. when b 1) none in
-    let change = count_updated test none old new place (Some value) updates in
+    let change = count_updated test none old new index (Some value) updates in
     omega arith
 
 -- a handle on an entry of the table is none on a standalone one
-not_standing_at : (place : ℕ) (hold : Hold) (slot : ℕ) (counting : Bool)
-    → hold.kept ≡ Pinned slot counting → is_standing_at place (Some hold) ≡ false
-not_standing_at place hold slot counting kept = rw kept refl
+not_standing_at : (index : ℕ) (hold : Hold) (slot : ℕ) (counting : Bool)
+    → hold.kept ≡ Pinned slot counting → is_standing_at index (Some hold) ≡ false
+not_standing_at index hold slot counting kept = rw kept refl
 
 -- What the client has, where a record joined at one shard, and a handle on it.
 module _ {T : Type 0} (seed used : ℕ) (seats : List (ShardSeat T)) (handles : Slab Hold)
@@ -70,14 +70,14 @@ module _ {T : Type 0} (seed used : ℕ) (seats : List (ShardSeat T)) (handles : 
       part_same (λ v. v.work.standalones) seats i k.shard was is at standalones in
       stands_if seats more alone alone seed k (all.each p k there).0
       (record_still k.shard k.serial)
-      (λ place a s kept held found. record {
+      (λ index a s kept held found. record {
         entry = a;
         there = held;
         same = same_alone a;
         known = ap (find (is_standing a.name)) standalones_same ∙ found;
       })
 
-  module _ (hold : Hold) (slot : ℕ) (counting : Bool) (place : ℕ) (gained : Slab Hold)
+  module _ (hold : Hold) (slot : ℕ) (counting : Bool) (index : ℕ) (gained : Slab Hold)
       (names : Each (λ (q : Record). q.name < used) (view_of was).records)
       (serial : hold.serial ≡ used) (shard : hold.shard ≡ i)
       (kept : hold.kept ≡ Pinned slot counting) (inside : i < length seats)
@@ -102,21 +102,21 @@ module _ {T : Type 0} (seed used : ℕ) (seats : List (ShardSeat T)) (handles : 
       stands = rw kept (record { handled = r; there = there_pinned; of = of; key = key });
     }
 
-    pub held_pinned : get handles place ≡ None → Updates handles gained place (Some hold)
+    pub held_pinned : get handles index ≡ None → Updates handles gained index (Some hold)
         → slab_len gained ≡ slab_len handles + 1
         → AreHeld seed (used + 1) (slice_set seats i is) gained alone
     held_pinned free updates count =
-        let apart = apart_more seed used seats (slice_set seats i is) handles alone all place hold
+        let apart = apart_more seed used seats (slice_set seats i is) handles alone all index hold
         gained alone (length-set seats i is) serial kept_pinned updates stands_pinned in
         let pinned : is_pinned (Some hold) ≡ true = rw kept refl in
         let pins : count_of is_pinned gained ≡ count_of is_pinned handles + 1 =
-        counted_more is_pinned handles gained place hold refl free updates
+        counted_more is_pinned handles gained index hold refl free updates
         ∙ ap (λ b. count_of is_pinned handles + when b 1) pinned in
         let stands : (p : ℕ)
         → count_of (is_standing_at p) gained ≡ count_of (is_standing_at p) handles =
         λ p. (
         let none = not_standing_at p hold slot counting kept in
-        let more = counted_more (is_standing_at p) handles gained place hold refl free updates in
+        let more = counted_more (is_standing_at p) handles gained index hold refl free updates in
         let zero : when (is_standing_at p (Some hold)) 1 ≡ 0 = ap (λ b. when b 1) none in
         omega arith
         ) in

@@ -6,8 +6,7 @@ use Rattle.hcc_core.specs.declared.client.Standalone.{Standalone}
 use Rattle.hcc_core.specs.Ledgers.{is_standing}
 use Rattle.hcc_core.specs.Outcomes.{dropped}
 use Rattle.hcc_rule.specs.declared.view.Record.{Record}
-use Rattle.hcc_rule.specs.Views.{Each, is_called, record_in}
-use Rattle.hcc_rule.proofs.Basics.Findings.{find_passes}
+use Rattle.hcc_rule.specs.Views.{Each}
 use Rattle.hcc_rule.proofs.Basics.Lists.{each_map}
 
 module _ {X : Type 0} (p : X → Bool) where
@@ -73,10 +72,6 @@ unused_standing n (s ∷ ss) all =
     let below = all.0 in
     let other : is_standing n s ≡ false = ne_eqb s.name n (λ e. absurd (omega arith)) in
     rw other (unused_standing n ss all.1)
-
--- the name of the record that is found
-pub name_found : (n : ℕ) (rs : List Record) (r : Record) → record_in n rs ≡ Some r → r.name ≡ n
-name_found n rs r h = eqb-true r.name n (find_passes (is_called n) rs r h)
 
 -- names below a serial are below a later one
 pub names_later : (used more : ℕ) (rs : List Record) → used ≤ more

@@ -1,11 +1,9 @@
 -- What a client reads by a handle.
-use Rattle.std.proofs.Common.{◌≡◌, ℕ, ◌+◌, ◌^◌, ◌<◌, ◌≤◌, Bool, List, Some, IfSome, length}
-use Rattle.std.proofs.Common.{slice_get, slice_set, sym, refl, ap, ◌∙◌, arith}
+use Rattle.std.proofs.Common.{◌≡◌, ℕ, ◌^◌, ◌<◌, Bool, List, Some, IfSome, length}
+use Rattle.std.proofs.Common.{sym, refl, ap, ◌∙◌, arith}
 use Rattle.slab.specs.Slab.{get}
 use Rattle.hcc_word.proofs.SeedLaws.{unseeded_key-seeded_key}
-use Rattle.hcc_core.specs.declared.slot.Entry.{Entry}
 use Rattle.hcc_rule.specs.declared.key.Key.{Key}
-use Rattle.hcc_rule.specs.declared.view.Record.{Record}
 use Rattle.hcc_rule.specs.declared.view.View.{View}
 use Rattle.hcc_rule.specs.Views.{record_in}
 use Rattle.hcc_shard.specs.declared.seat.ShardSeat.{ShardSeat}
@@ -15,13 +13,12 @@ use Rattle.hcc_shard.specs.Seated.{Rests}
 use Rattle.hcc_cache.specs.declared.cache.Cache.{Cache}
 use Rattle.hcc_cache.specs.declared.client.Client.{Client}
 use Rattle.hcc_cache.specs.declared.handle.Handle.{Handle}
-use Rattle.hcc_cache.specs.declared.holding.Alone.{Alone}
 use Rattle.hcc_cache.specs.declared.holding.Hold.{Hold}
 use Rattle.hcc_cache.specs.declared.holding.Kept.{Kept}
 use Rattle.hcc_cache.specs.declared.holding.Kept.TheVariants.{Pinned, Standing}
 use Rattle.hcc_cache.specs.declared.seeded.Seeded.{Seeded}
 use Rattle.hcc_cache.specs.Calls.{Reads}
-use Rattle.hcc_cache.specs.Clients.{Held, held_entry, held_of, hold_of, kept_as}
+use Rattle.hcc_cache.specs.Clients.{held_entry, held_of, hold_of, kept_as}
 use Rattle.hcc_cache.specs.Keys.{key_from, key_of_words, key_to}
 use Rattle.hcc_cache.specs.Known.{IsKeptAs, IsSeated, Knows}
 use Rattle.hcc_cache.proofs.Again.{IsPinAt, held_at, pin_at}
@@ -74,14 +71,14 @@ module _ {T : Type 0} (cache : Cache T) (old new : Client T) (i : ℕ) (shard : 
 module _ {T : Type 0} (cache : Cache T) (client : Client T) (handle : Handle) (hold : Hold)
     (slot : ℕ) (counting : Bool) (shard : Shard (Seeded T) _) (was : ShardSeat (Seeded T))
     (at : IsAt cache client hold.shard shard was) (held : hold_of client handle ≡ Some hold)
-    (there : get client.handles handle.place ≡ Some hold) (kept : hold.kept ≡ Pinned slot counting)
+    (there : get client.handles handle.index ≡ Some hold) (kept : hold.kept ≡ Pinned slot counting)
     (P : List ℕ → Type 0) where
   abbrev pin : IsPinAt cache client hold slot counting (geometry_of shard).slots was
-  pin = pin_at cache client hold slot counting handle.place shard was at there kept
+  pin = pin_at cache client hold slot counting handle.index shard was at there kept
 
   stands : held_of cache client handle ≡ Some (held_entry cache.seed pin.handled.entry)
   stands =
-      held_at cache client hold slot counting handle.place shard was at there kept pin.handled
+      held_at cache client hold slot counting handle.index shard was at there kept pin.handled
       handle held refl
 
   -- of its value
@@ -107,10 +104,10 @@ key_back seed key first second =
 -- what a handle stands for has the key that is kept of it
 pub key_kept : {T : Type 0} (cache : Cache T) (client : Client T) (handle : Handle) (hold : Hold)
     → Knows cache client → hold_of client handle ≡ Some hold
-    → get client.handles handle.place ≡ Some hold → hold.key.w0 < 2 ^ 64 → hold.key.w1 < 2 ^ 64
+    → get client.handles handle.index ≡ Some hold → hold.key.w0 < 2 ^ 64 → hold.key.w1 < 2 ^ 64
     → IfSome (held_of cache client handle) (λ h. hold.key ≡ h.insertion.key)
 key_kept {T} cache client handle hold knows held there first second =
-    rw held (by hold.kept (knows.holds.each handle.place hold there).0.stands)
+    rw held (by hold.kept (knows.holds.each handle.index hold there).0.stands)
   where
     by : (k : Kept) → IsKeptAs cache.seed client.seats.items client.alone hold k
         → IfSome (kept_as cache.seed client.seats.items client.alone hold k)
@@ -119,4 +116,4 @@ key_kept {T} cache client handle hold knows held there first second =
         let back : key_from cache.seed (key_to cache.seed hold.key) ≡ hold.key =
         key_back cache.seed hold.key first second in
         rw (pin.there) (sym (ap (key_from cache.seed) pin.key ∙ back))
-    by (Standing place) stand = rw (stand.there) refl
+    by (Standing index) stand = rw (stand.there) refl

@@ -1,14 +1,14 @@
 -- What a client knows once it gave a handle back.
-use Rattle.std.proofs.Common.{◌≡◌, ◌≢◌, ℕ, ◌+◌, ◌-◌, ◌<◌, ◌≤◌, Bool, true, false, List, Option}
-use Rattle.std.proofs.Common.{Some, None, length, option_map, slice_get, slice_set}
+use Rattle.std.proofs.Common.{◌≡◌, ℕ, ◌+◌, ◌-◌, ◌<◌, ◌≤◌, Bool, true, false}
+use Rattle.std.proofs.Common.{Some, None, length}
 use Rattle.std.proofs.Common.{sym, refl, ap, subst, ◌∙◌, arith}
-use Rattle.slab.specs.Slab.{Slab, get, slab_len, Updates}
+use Rattle.slab.specs.Slab.{get, Updates}
 use Rattle.hcc_core.specs.declared.client.Standalone.{Standalone}
 use Rattle.hcc_core.specs.Ledgers.{is_standing}
 use Rattle.hcc_core.specs.Outcomes.{dropped}
 use Rattle.hcc_rule.specs.declared.view.Record.{Record}
 use Rattle.hcc_rule.specs.declared.view.View.{View}
-use Rattle.hcc_rule.specs.Views.{is_called, record_in}
+use Rattle.hcc_rule.specs.Views.{is_called}
 use Rattle.hcc_rule.proofs.Basics.Findings.{dropped_each}
 use Rattle.hcc_charge.specs.Settled.{fallen}
 use Rattle.hcc_shard.specs.declared.seat.ShardSeat.{ShardSeat}
@@ -79,7 +79,7 @@ without_released name erase freed was is released = record {
 -- It let go of this handle.
 pub record LetsGo {T : Type 0} (old new : Client T) (handle : Handle) (hold : Hold) : Type 0 where
   pub was : hold_of old handle ≡ Some hold
-  pub gone : IsLess old.handles new.handles handle.place hold
+  pub gone : IsLess old.handles new.handles handle.index hold
   pub number : new.number ≡ old.number
   pub most : new.most ≡ old.most
   pub held : new.held + 1 ≡ old.held
@@ -88,7 +88,7 @@ pub record LetsGo {T : Type 0} (old new : Client T) (handle : Handle) (hold : Ho
 module _ {T : Type 0} (cache : Cache T) (old new : Client T) (handle : Handle) (hold : Hold) where
   -- by what was left between, where its seats and standalone entries may have changed since
   pub lets_go : (mid : Client T) → Knows cache old → hold_of old handle ≡ Some hold
-      → IsLess old.handles mid.handles handle.place hold
+      → IsLess old.handles mid.handles handle.index hold
       → mid ≡ record old { handles = mid.handles; held = old.held - 1 }
       → mid ≡ record new { seats = mid.seats; alone = mid.alone }
       → LetsGo old new handle hold
@@ -100,7 +100,7 @@ module _ {T : Type 0} (cache : Cache T) (old new : Client T) (handle : Handle) (
       record {
         was = was;
         gone =
-            subst (λ hs. IsLess old.handles hs handle.place hold)
+            subst (λ hs. IsLess old.handles hs handle.index hold)
             (ap (λ (x : Client T). x.handles) same) gone;
         number = ap (λ (x : Client T). x.number) whole;
         most = ap (λ (x : Client T). x.most) whole;
@@ -110,9 +110,9 @@ module _ {T : Type 0} (cache : Cache T) (old new : Client T) (handle : Handle) (
 
   module _ (lets : LetsGo old new handle hold) where
     -- so it has that handle less
-    pub loses : StandBut cache old new handle.place → Loses cache handle old new
+    pub loses : StandBut cache old new handle.index → Loses cache handle old new
     loses stand =
-        let own = own_parts old.number handle (get old.handles handle.place) hold lets.was in
+        let own = own_parts old.number handle (get old.handles handle.index) hold lets.was in
         record {
           gone = rw (lets.gone.updates.changed) refl;
           others =
@@ -132,7 +132,7 @@ module _ {T : Type 0} (cache : Cache T) (old new : Client T) (handle : Handle) (
       without = without_released hold.serial erase freed was is released
 
       abbrev pin : IsPinAt cache old hold slot counting (geometry_of shard).slots was
-      pin = pin_at cache old hold slot counting handle.place shard was at lets.gone.there kept
+      pin = pin_at cache old hold slot counting handle.index shard was at lets.gone.there kept
 
       -- the client is known still
       pub knows_unpinned : Rests shard is → Knows cache new
@@ -148,7 +148,7 @@ module _ {T : Type 0} (cache : Cache T) (old new : Client T) (handle : Handle) (
           released))
           (rw (change.seats, alone, lets.uses.0)
           (held_unpinned cache.seed old.used old.seats.items old.handles new.handles old.alone
-          handle.place slot counting hold was is lets.gone kept at.seat_is without at.knows.holds
+          handle.index slot counting hold was is lets.gone kept at.seat_is without at.knows.holds
           pin.handled pin.there))
           (omega arith) (omega arith)
           (rw (lets.uses.0, lets.uses.1) at.knows.serials)
@@ -156,11 +156,11 @@ module _ {T : Type 0} (cache : Cache T) (old new : Client T) (handle : Handle) (
       -- and released it
       pub releases_unpinned : Releases cache handle erase freed old new
       releases_unpinned =
-          let own = own_parts old.number handle (get old.handles handle.place) hold lets.was in
+          let own = own_parts old.number handle (get old.handles handle.index) hold lets.was in
           record {
             held = held_entry cache.seed pin.handled.entry;
             was =
-                held_at cache old hold slot counting handle.place shard was at lets.gone.there kept
+                held_at cache old hold slot counting handle.index shard was at lets.gone.there kept
                 pin.handled handle lets.was refl;
             shard = hold.shard;
             v = view_of was;
@@ -171,13 +171,13 @@ module _ {T : Type 0} (cache : Cache T) (old new : Client T) (handle : Handle) (
                 loses
                 (λ p k ne there. rw (change.seats, alone)
                 (stand_unpinned cache.seed old.used old.seats.items old.handles new.handles
-                old.alone handle.place slot counting hold was is lets.gone kept at.seat_is without
+                old.alone handle.index slot counting hold was is lets.gone kept at.seat_is without
                 at.knows.holds p k ne there));
           }
 
     -- The handle was on a standalone entry.
-    module _ (place : ℕ) (a : Alone) (kept : hold.kept ≡ Standing place)
-        (there : get old.alone place ≡ Some a) where
+    module _ (index : ℕ) (a : Alone) (kept : hold.kept ≡ Standing index)
+        (there : get old.alone index ≡ Some a) where
       -- what it stood for
       pub stood_for : held_of cache old handle ≡ Some (held_alone hold.key a)
       stood_for = rw (lets.was, kept, there) refl
@@ -185,7 +185,7 @@ module _ {T : Type 0} (cache : Cache T) (old new : Client T) (handle : Handle) (
       -- Others are on it: it has a reference less.
       module _ (knows : Knows cache old) (b : Alone) (same : IsSameAlone a b)
           (reference : b.references + 1 ≡ a.references) (some : 1 ≤ b.references)
-          (updates : Updates old.alone new.alone place (Some b))
+          (updates : Updates old.alone new.alone index (Some b))
           (seats : new.seats.items ≡ old.seats.items) where
         pub knows_fewer : (new.handles.capacity ≡ old.handles.capacity)
             × (new.alone.capacity ≡ old.alone.capacity) → Knows cache new
@@ -201,7 +201,7 @@ module _ {T : Type 0} (cache : Cache T) (old new : Client T) (handle : Handle) (
               holds =
                   rw (seats, lets.uses.0)
                   (held_fewer cache.seed old.used old.seats.items old.handles new.handles old.alone
-                  handle.place place hold a lets.gone kept there knows.holds new.alone b same
+                  handle.index index hold a lets.gone kept there knows.holds new.alone b same
                   reference some updates);
               count = omega arith;
               few = omega arith;
@@ -228,7 +228,7 @@ module _ {T : Type 0} (cache : Cache T) (old new : Client T) (handle : Handle) (
               loses
               (λ p k ne stands. rw seats
               (stand_fewer cache.seed old.used old.seats.items old.handles new.handles old.alone
-              handle.place place hold a lets.gone kept there knows.holds new.alone b same reference
+              handle.index index hold a lets.gone kept there knows.holds new.alone b same reference
               some updates p k ne stands));
         }
 
@@ -236,7 +236,7 @@ module _ {T : Type 0} (cache : Cache T) (old new : Client T) (handle : Handle) (
       module _ (shard : Shard (Seeded T) _) (was is : ShardSeat (Seeded T))
           (at : IsAt cache old hold.shard shard was) (change : ChangesAt old new hold.shard is)
           (fell : view_of is ≡ fallen a.name (view_of was)) (last : a.references ≡ 1)
-          (updates : Updates old.alone new.alone place None) where
+          (updates : Updates old.alone new.alone index None) where
         records : (view_of is).records ≡ (view_of was).records
         records = ap (λ (v : View (Seeded T)). v.records) fell
 
@@ -257,7 +257,7 @@ module _ {T : Type 0} (cache : Cache T) (old new : Client T) (handle : Handle) (
             (seated_at cache old new hold.shard shard was is at) rests a.name fell))
             (rw (change.seats, lets.uses.0)
             (held_fallen cache.seed old.used old.seats.items old.handles new.handles old.alone
-            handle.place place hold a lets.gone kept there at.knows.holds new.alone was is
+            handle.index index hold a lets.gone kept there at.knows.holds new.alone was is
             at.seat_is records standalones last updates))
             (omega arith) (omega arith)
             (rw (lets.uses.0, lets.uses.1) at.knows.serials)
@@ -275,6 +275,6 @@ module _ {T : Type 0} (cache : Cache T) (old new : Client T) (handle : Handle) (
               loses
               (λ p k ne stands. rw (change.seats)
               (stand_fallen cache.seed old.used old.seats.items old.handles new.handles old.alone
-              handle.place place hold a lets.gone kept there at.knows.holds new.alone was is
+              handle.index index hold a lets.gone kept there at.knows.holds new.alone was is
               at.seat_is records standalones last updates p k ne stands));
         }

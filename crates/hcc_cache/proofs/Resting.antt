@@ -1,6 +1,5 @@
 -- A client that worked at one shard, and holds what it held.
-use Rattle.std.proofs.Common.{◌≡◌, ℕ, ◌+◌, ◌<◌, ◌≤◌, Some, length, slice_get, slice_set, sym, refl, ap, ◌∙◌, arith}
-use Rattle.slab.specs.Slab.{get}
+use Rattle.std.proofs.Common.{◌≡◌, ℕ, slice_set, refl, ap, arith}
 use Rattle.hcc_rule.specs.declared.key.Key.{Key}
 use Rattle.hcc_rule.specs.declared.view.View.{View}
 use Rattle.hcc_rule.specs.Told.{after_look}
@@ -13,12 +12,11 @@ use Rattle.hcc_shard.specs.Referred.{IsErasedAll}
 use Rattle.hcc_shard.specs.Seated.{Rests}
 use Rattle.hcc_cache.specs.declared.cache.Cache.{Cache}
 use Rattle.hcc_cache.specs.declared.client.Client.{Client}
-use Rattle.hcc_cache.specs.declared.holding.Hold.{Hold}
 use Rattle.hcc_cache.specs.declared.seeded.Seeded.{Seeded}
 use Rattle.hcc_cache.specs.Calls.{KeepsAll}
 use Rattle.hcc_cache.specs.Known.{IsSeated, Knows}
 use Rattle.hcc_cache.proofs.At.{IsAt, ChangesAt, knows_at, seated_at}
-use Rattle.hcc_cache.proofs.Framing.{keeps_all, Stands}
+use Rattle.hcc_cache.proofs.Framing.{keeps_all}
 use Rattle.hcc_cache.proofs.Held.{held_rest, stands_rest}
 use Rattle.hcc_cache.proofs.Seats.{seated_by}
 
@@ -70,7 +68,8 @@ module _ {T : Type 0} (cache : Cache T) (old new : Client T) (i : ℕ) (shard : 
           knows_at cache old new i shard was is at changes_same (rw used (omega arith))
           (rw used seated_same)
           (rw (seats, handles, alone, used)
-          (held_rest cache.seed old.used old.seats.items old.handles old.alone at.knows.holds i was is
+          (held_rest cache.seed old.used old.seats.items old.handles old.alone at.knows.holds i
+          was is
           at.seat_is same.records same.standalones old.used (omega arith)))
           (rw (held, handles) at.knows.count) (rw held at.knows.few)
           (rw (used, left) at.knows.serials)
@@ -84,7 +83,8 @@ module _ {T : Type 0} (cache : Cache T) (old new : Client T) (i : ℕ) (shard : 
             all =
                 keeps_all cache old new (ap (λ (c : Client T). c.number) only.rest) handles
                 (λ p k there. rw (seats, alone)
-                (stands_rest cache.seed old.used old.seats.items old.handles old.alone at.knows.holds
+                (stands_rest cache.seed old.used old.seats.items old.handles old.alone
+                at.knows.holds
                 i was is at.seat_is same.records same.standalones p k there));
             count = ap (λ (c : Client T). c.held) only.rest;
             serials = (

@@ -93,11 +93,3 @@ module _ {T A : Type 0} where
         (λ j x ne h d hd. seated_later d number used more x le (all.each j d x hd h))
         s seat hs d hd;
   }
-
-  -- all seats, where serials were used alone
-  pub seated_more : (shards : List (Shard T A)) (number used more : ℕ) (seats : List (ShardSeat T))
-      → used ≤ more → AreSeated shards number used seats → AreSeated shards number more seats
-  seated_more shards number used more seats le all = record {
-    count = all.count;
-    each = λ s d seat hd hs. seated_later d number used more seat le (all.each s d seat hd hs);
-  }

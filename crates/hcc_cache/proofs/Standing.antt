@@ -1,13 +1,12 @@
 -- The handles of a client, once one on a standalone entry was given back.
-use Rattle.std.proofs.Common.{◌≡◌, ◌≢◌, ◌⊎◌, inl, inr, ℕ, ◌+◌, ◌<◌, ◌≤◌, ◌==◌, Bool, true, false}
+use Rattle.std.proofs.Common.{◌≡◌, ◌≢◌, inl, inr, ℕ, ◌+◌, ◌<◌, ◌≤◌, ◌==◌, true, false}
 use Rattle.std.proofs.Common.{List, Option, Some, None, find, length, slice_get, slice_set}
 use Rattle.std.proofs.Common.{sym, refl, ap, ◌∙◌, length-set, arith}
 use Rattle.std.proofs.lemmas.Bool.{cases_eq, eq-eqb, ne_eqb}
-use Rattle.slab.specs.Slab.{Slab, get, slab_len, Updates}
-use Rattle.hcc_core.specs.declared.client.Standalone.{Standalone}
+use Rattle.slab.specs.Slab.{Slab, get, Updates}
 use Rattle.hcc_core.specs.Ledgers.{is_standing}
 use Rattle.hcc_core.specs.Outcomes.{dropped}
-use Rattle.hcc_core.specs.Sums.{total, when}
+use Rattle.hcc_core.specs.Sums.{when}
 use Rattle.hcc_core.proofs.SumLemmas.{total-set}
 use Rattle.hcc_shard.specs.declared.seat.ShardSeat.{ShardSeat}
 use Rattle.hcc_shard.specs.Callers.{view_of}
@@ -24,14 +23,14 @@ use Rattle.hcc_cache.proofs.Seats.{part_same}
 use Rattle.hcc_cache.proofs.Slots.{count_nothing, len_updated, one_of, total_updated}
 
 -- which slots of the handles a hold on a standalone entry counts for
-pub standing_test : (o : Option Hold) (at place : ℕ) (hold : Hold) → o ≡ Some hold
+pub standing_test : (o : Option Hold) (at index : ℕ) (hold : Hold) → o ≡ Some hold
     → hold.kept ≡ Standing at
-    → (is_pinned o ≡ false) × (is_standing_at place o ≡ (at == place))
-standing_test o at place hold is kept = rw (is, kept) (refl, refl)
+    → (is_pinned o ≡ false) × (is_standing_at index o ≡ (at == index))
+standing_test o at index hold is kept = rw (is, kept) (refl, refl)
 
 module _ {T : Type 0} (seed used : ℕ) (seats : List (ShardSeat T)) (handles less : Slab Hold)
-    (alone : Slab Alone) (place at : ℕ) (hold : Hold) (a : Alone)
-    (gone : IsLess handles less place hold) (kept : hold.kept ≡ Standing at)
+    (alone : Slab Alone) (index at : ℕ) (hold : Hold) (a : Alone)
+    (gone : IsLess handles less index hold) (kept : hold.kept ≡ Standing at)
     (there : get alone at ≡ Some a) (all : AreHeld seed used seats handles alone) where
   -- the handles on its entry are one less,
   pub standing_less : count_of (is_standing_at at) less + 1 ≡ a.references
@@ -39,7 +38,7 @@ module _ {T : Type 0} (seed used : ℕ) (seats : List (ShardSeat T)) (handles le
       let test : is_standing_at at (Some hold) ≡ true =
       (standing_test (Some hold) at at hold refl kept).1 ∙ eq-eqb at at refl in
       let one : when (is_standing_at at (Some hold)) 1 ≡ 1 = ap (λ b. when b 1) test in
-      let left = count_less handles less place hold gone (is_standing_at at) refl in
+      let left = count_less handles less index hold gone (is_standing_at at) refl in
       let had = (all.some at a there).1 in
       omega arith
 
@@ -50,7 +49,7 @@ module _ {T : Type 0} (seed used : ℕ) (seats : List (ShardSeat T)) (handles le
       let test : is_standing_at p (Some hold) ≡ false =
       (standing_test (Some hold) at p hold refl kept).1 ∙ ne_eqb at p (λ e. ne (sym e)) in
       let none : when (is_standing_at p (Some hold)) 1 ≡ 0 = ap (λ b. when b 1) test in
-      let left = count_less handles less place hold gone (is_standing_at p) refl in
+      let left = count_less handles less index hold gone (is_standing_at p) refl in
       omega arith
 
   -- and those on entries of the table too
@@ -58,14 +57,14 @@ module _ {T : Type 0} (seed used : ℕ) (seats : List (ShardSeat T)) (handles le
   pinned_else =
       let test = (standing_test (Some hold) at at hold refl kept).0 in
       let none : when (is_pinned (Some hold)) 1 ≡ 0 = ap (λ b. when b 1) test in
-      let left = count_less handles less place hold gone is_pinned refl in
+      let left = count_less handles less index hold gone is_pinned refl in
       omega arith
 
   -- the shard knows its entry
   pub known_there : (was : ShardSeat T) → slice_get seats hold.shard ≡ Some was
       → find (is_standing a.name) (view_of was).work.standalones
       ≡ Some (record { name = a.name; charge = a.charge })
-  known_there was sits = by hold.kept kept (all.each place hold gone.there).0.stands
+  known_there was sits = by hold.kept kept (all.each index hold gone.there).0.stands
     where
       here : standalones_in seats hold.shard ≡ (view_of was).work.standalones
       here = ap (λ o. (view_by o).work.standalones) sits
@@ -75,9 +74,9 @@ module _ {T : Type 0} (seed used : ℕ) (seats : List (ShardSeat T)) (handles le
           ≡ Some (record { name = a.name; charge = a.charge })
       by (Pinned s c) e pin = absurd (let no : ⊥ = cc in no)
       by (Standing q) e stand =
-          let place_is : q ≡ at = cc in
+          let index_is : q ≡ at = cc in
           let both : Some stand.entry ≡ Some a =
-          sym stand.there ∙ (ap (get alone) place_is ∙ there) in
+          sym stand.there ∙ (ap (get alone) index_is ∙ there) in
           let it : stand.entry ≡ a = cc in
           rw (← here, ← it) stand.known
 
@@ -86,7 +85,7 @@ module _ {T : Type 0} (seed used : ℕ) (seats : List (ShardSeat T)) (handles le
       (reference : b.references + 1 ≡ a.references) (some : 1 ≤ b.references)
       (updates : Updates alone fewer at (Some b)) where
     -- the others stand for what they stood for
-    pub stand_fewer : (p : ℕ) (k : Hold) → p ≢ place → get handles p ≡ Some k
+    pub stand_fewer : (p : ℕ) (k : Hold) → p ≢ index → get handles p ≡ Some k
         → Stands seats seats alone fewer k
     stand_fewer p k ne is =
         stands_if seats seats alone fewer seed k (all.each p k is).0 (λ r found. found)
@@ -108,7 +107,7 @@ module _ {T : Type 0} (seed used : ℕ) (seats : List (ShardSeat T)) (handles le
           }
         ])
 
-    -- the entry of a place had that name before
+    -- the entry of a index had that name before
     name_was : (p : ℕ) (x : Alone) → get fewer p ≡ Some x
         → (y : Alone) × (get alone p ≡ Some y) × (x.name ≡ y.name)
     name_was p x is = elim (cases_eq p at) [
@@ -131,8 +130,8 @@ module _ {T : Type 0} (seed used : ℕ) (seats : List (ShardSeat T)) (handles le
 
     pub held_fewer : AreHeld seed used seats less fewer
     held_fewer =
-        let apart = apart_less handles less place hold gone seed used seats alone all seats fewer refl
-        stand_fewer in
+        let apart = apart_less handles less index hold gone seed used seats alone all seats fewer
+        refl stand_fewer in
         let pinned = pinned_else in
         let count = gone.count in
         let length = len_updated alone fewer at (Some b) updates in
@@ -154,20 +153,22 @@ module _ {T : Type 0} (seed used : ℕ) (seats : List (ShardSeat T)) (handles le
           some = λ p x is. elim (cases_eq p at) [
             | inl here ↦ some_at p x here (written_is alone fewer at b x p updates here is)
             | inr other ↦
-                let stood = all.some p x (stood_there alone fewer at (Some b) x p updates other is) in
+                let stood = all.some p x (stood_there alone fewer at (Some b) x p updates other is)
+                in
                 (stood.0, stood.1 ∙ sym (standing_else p other), stood.2)
           ];
           references = omega arith;
         }
 
   -- Where it was the last handle on the entry: the entry is gone, at its shard too.
-  module _ (fewer : Slab Alone) (was is : ShardSeat T) (sits : slice_get seats hold.shard ≡ Some was)
+  module _ (fewer : Slab Alone) (was is : ShardSeat T)
+      (sits : slice_get seats hold.shard ≡ Some was)
       (records : (view_of is).records ≡ (view_of was).records)
       (standalones : (view_of is).work.standalones
       ≡ dropped (is_standing a.name) (view_of was).work.standalones)
       (last : a.references ≡ 1) (updates : Updates alone fewer at None) where
     -- no other handle is on it
-    none_there : (p : ℕ) (k : Hold) → p ≢ place → get handles p ≡ Some k
+    none_there : (p : ℕ) (k : Hold) → p ≢ index → get handles p ≡ Some k
         → k.kept ≡ Standing at → ⊥
     none_there p k ne stands on =
         let left = standing_less in
@@ -179,7 +180,7 @@ module _ {T : Type 0} (seed used : ℕ) (seats : List (ShardSeat T)) (handles le
         no
 
     -- the others stand for what they stood for
-    pub stand_fallen : (p : ℕ) (k : Hold) → p ≢ place → get handles p ≡ Some k
+    pub stand_fallen : (p : ℕ) (k : Hold) → p ≢ index → get handles p ≡ Some k
         → Stands seats (slice_set seats hold.shard is) alone fewer k
     stand_fallen p k ne stands =
         stands_if seats (slice_set seats hold.shard is) alone fewer seed k (all.each p k stands).0
@@ -202,7 +203,7 @@ module _ {T : Type 0} (seed used : ℕ) (seats : List (ShardSeat T)) (handles le
 
     pub held_fallen : AreHeld seed used (slice_set seats hold.shard is) less fewer
     held_fallen =
-        let apart = apart_less handles less place hold gone seed used seats alone all
+        let apart = apart_less handles less index hold gone seed used seats alone all
         (slice_set seats hold.shard is) fewer (length-set seats hold.shard is) stand_fallen in
         let pinned = pinned_else in
         let count = gone.count in
@@ -215,7 +216,8 @@ module _ {T : Type 0} (seed used : ℕ) (seats : List (ShardSeat T)) (handles le
         let same : records_at is ≡ records_at was = ap length records in
         let dropped_is : standalones_at is + 1 ≡ standalones_at was =
         ap (λ ss. length ss + 1) standalones
-        ∙ dropped_one (is_standing a.name) (view_of was).work.standalones _ (known_there was sits) in
+        ∙ dropped_one (is_standing a.name) (view_of was).work.standalones _
+        (known_there was sits) in
         let held_pins = all.pins in
         let held_entries = all.entries in
         let held_references = all.references in

@@ -47,22 +47,22 @@ module _ {T : Type 0} (cache : Cache T) (old : Client T) (first : Hold) (from : 
       }
 
   -- a standalone entry has fewer references than a client may hold handles, where one is free
-  pub few_references : (place : ℕ) (a : Alone) → get old.alone place ≡ Some a
+  pub few_references : (index : ℕ) (a : Alone) → get old.alone index ≡ Some a
       → old.held < old.most → a.references < MOST_HANDLES
-  few_references place a stands free =
-      let counted = (knows.holds.some place a stands).1 in
-      let within = count_within (is_standing_at place) refl old.handles in
+  few_references index a stands free =
+      let counted = (knows.holds.some index a stands).1 in
+      let within = count_within (is_standing_at index) refl old.handles in
       let count = knows.count in
       let most = knows.most in
       omega arith
 
   -- One handle more on a standalone entry.
-  module _ (new : Client T) (handle more : Handle) (hold : Hold) (place : ℕ) (a b : Alone)
-      (holds : hold_of old handle ≡ Some first) (first_kept : first.kept ≡ Standing place)
-      (kept : hold.kept ≡ Standing place) (shard : hold.shard ≡ first.shard)
-      (key : hold.key ≡ first.key) (stands : get old.alone place ≡ Some a)
+  module _ (new : Client T) (handle more : Handle) (hold : Hold) (index : ℕ) (a b : Alone)
+      (holds : hold_of old handle ≡ Some first) (first_kept : first.kept ≡ Standing index)
+      (kept : hold.kept ≡ Standing index) (shard : hold.shard ≡ first.shard)
+      (key : hold.key ≡ first.key) (stands : get old.alone index ≡ Some a)
       (same : IsSameAlone a b) (references : b.references ≡ a.references + 1)
-      (updates : Updates old.alone new.alone place (Some b))
+      (updates : Updates old.alone new.alone index (Some b))
       (given : IsGiven old new more hold) (seats : new.seats.items ≡ old.seats.items)
       (most : new.most ≡ old.most)
       (capacity : (new.handles.capacity ≡ old.handles.capacity)
@@ -92,7 +92,7 @@ module _ {T : Type 0} (cache : Cache T) (old : Client T) (first : Hold) (from : 
         (seated_at cache old new first.shard somewhere.shard seat seat at)))
         (rw (seats, used)
         (held_again cache.seed old.used old.seats.items old.handles old.alone new.alone knows.holds
-        place a b stands same updates first hold from more.place new.handles held first_kept kept
+        index a b stands same updates first hold from more.index new.handles held first_kept kept
         shard given.named references given.free given.updates given.count))
         (omega arith) (omega arith) (omega arith)
 
@@ -118,7 +118,7 @@ module _ {T : Type 0} (cache : Cache T) (old : Client T) (first : Hold) (from : 
               (rw (kept, updates.changed, key) (ap Some (held_same first.key a b same)))
               (λ p k ne at_p. rw seats
               (stands_again cache.seed old.used old.seats.items old.handles old.alone new.alone
-              knows.holds place a b stands same updates p k at_p));
+              knows.holds index a b stands same updates p k at_p));
         }
 
     pub takes_standing : TakesAtMost 0 old new

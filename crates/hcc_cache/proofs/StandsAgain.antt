@@ -16,21 +16,21 @@ use Rattle.hcc_cache.proofs.Held.{apart_more}
 use Rattle.hcc_cache.proofs.More.{counted_more}
 use Rattle.hcc_cache.proofs.Slots.{len_updated, one_of, total_updated}
 
--- which place of a standalone entry a handle is on
-standing_there : (place : ℕ) (hold : Hold) → hold.kept ≡ Standing place → (p : ℕ)
-    → is_standing_at p (Some hold) ≡ (place == p)
-standing_there place hold kept p = rw kept refl
+-- which index of a standalone entry a handle is on
+standing_there : (index : ℕ) (hold : Hold) → hold.kept ≡ Standing index → (p : ℕ)
+    → is_standing_at p (Some hold) ≡ (index == p)
+standing_there index hold kept p = rw kept refl
 
 -- where a standalone entry has one reference more
 module _ {T : Type 0} (seed used : ℕ) (seats : List (ShardSeat T)) (handles : Slab Hold)
-    (old new : Slab Alone) (all : AreHeld seed used seats handles old) (place : ℕ) (a b : Alone)
-    (there : get old place ≡ Some a) (same : IsSameAlone a b)
-    (updates : Updates old new place (Some b)) where
+    (old new : Slab Alone) (all : AreHeld seed used seats handles old) (index : ℕ) (a b : Alone)
+    (there : get old index ≡ Some a) (same : IsSameAlone a b)
+    (updates : Updates old new index (Some b)) where
   -- each entry is there still
   entry_again : (k : Hold) (q : ℕ) (x : Alone) (s : Standalone) → get old q ≡ Some x
       → find (is_standing x.name) (standalones_in seats k.shard) ≡ Some s
       → IsAgain seats seats old new k q x s
-  entry_again k q x s held known = elim (cases_eq q place) [
+  entry_again k q x s held known = elim (cases_eq q index) [
     | inl here ↦
         let both : Some a ≡ Some x = sym there ∙ (ap (get old) (sym here) ∙ held) in
         let is : a ≡ x = cc in
@@ -55,14 +55,14 @@ module _ {T : Type 0} (seed used : ℕ) (seats : List (ShardSeat T)) (handles : 
       stands_if seats seats old new seed k (all.each p k at).0 (λ r found. found)
       (λ q x s kept held known. entry_again k q x s held known)
 
-  -- an entry of this place was there under the same name
+  -- an entry of this index was there under the same name
   named_before : (p : ℕ) (x : Alone) → get new p ≡ Some x
       → (w : Alone) × (get old p ≡ Some w) × (w.name ≡ x.name)
-  named_before p x at = elim (cases_eq p place) [
+  named_before p x at = elim (cases_eq p index) [
     | inl here ↦
-        let is = written_is old new place b x p updates here at in
+        let is = written_is old new index b x p updates here at in
         (a, ap (get old) here ∙ there, sym same.name ∙ ap (λ (z : Alone). z.name) (sym is))
-    | inr ne ↦ (x, stood_there old new place (Some b) x p updates ne at, refl)
+    | inr ne ↦ (x, stood_there old new index (Some b) x p updates ne at, refl)
   ]
 
   -- no two have one name
@@ -74,14 +74,14 @@ module _ {T : Type 0} (seed used : ℕ) (seats : List (ShardSeat T)) (handles : 
       all.names_apart p q v.0 w.0 v.1 w.1 (v.2 ∙ (e ∙ sym w.2))
 
   module _ (first hold : Hold) (from at : ℕ) (gained : Slab Hold)
-      (held : get handles from ≡ Some first) (first_kept : first.kept ≡ Standing place)
-      (kept : hold.kept ≡ Standing place) (shard : hold.shard ≡ first.shard)
+      (held : get handles from ≡ Some first) (first_kept : first.kept ≡ Standing index)
+      (kept : hold.kept ≡ Standing index) (shard : hold.shard ≡ first.shard)
       (serial : hold.serial ≡ used) where
     -- the new handle is kept on the entry of the first
     kept_again : IsKept seed seats new hold
     kept_again =
         let was = (all.each from first held).0 in
-        let stand : IsStand seed seats old first place =
+        let stand : IsStand seed seats old first index =
         subst (λ k. IsKeptAs seed seats old first k) first_kept was.stands in
         let both : Some stand.entry ≡ Some a = sym stand.there ∙ there in
         let is : stand.entry ≡ a = cc in
@@ -107,10 +107,10 @@ module _ {T : Type 0} (seed used : ℕ) (seats : List (ShardSeat T)) (handles : 
         kept_again given stands_again in
         let unpinned : when (is_pinned (Some hold)) 1 ≡ 0 = rw kept refl in
         let pins = counted_more is_pinned handles gained at hold refl free given in
-        let size = len_updated old new place (Some b) updates in
-        let size_there : one_of (get old place) ≡ 1 = ap one_of there in
-        let sum = total_updated references_of refl old new place (Some b) updates in
-        let sum_there : references_of (get old place) ≡ a.references = ap references_of there in
+        let size = len_updated old new index (Some b) updates in
+        let size_there : one_of (get old index) ≡ 1 = ap one_of there in
+        let sum = total_updated references_of refl old new index (Some b) updates in
+        let sum_there : references_of (get old index) ≡ a.references = ap references_of there in
         let counts = λ (p : ℕ).
         counted_more (is_standing_at p) handles gained at hold refl free given in
         record {
@@ -119,16 +119,16 @@ module _ {T : Type 0} (seed used : ℕ) (seats : List (ShardSeat T)) (handles : 
           pins = let before = all.pins in omega arith;
           entries = let before = all.entries in omega arith;
           names_apart = names_again;
-          some = λ p x hp. elim (cases_eq p place) [
+          some = λ p x hp. elim (cases_eq p index) [
             | inl here ↦
-                let is = written_is old new place b x p updates here hp in
-                let before = all.some place a there in
+                let is = written_is old new index b x p updates here hp in
+                let before = all.some index a there in
                 let one : when (is_standing_at p (Some hold)) 1 ≡ 1 =
                 ap (λ t. when t 1)
-                (standing_there place hold kept p ∙ eq-eqb place p (sym here)) in
+                (standing_there index hold kept p ∙ eq-eqb index p (sym here)) in
                 let counted = counts p in
                 let counted_there : count_of (is_standing_at p) handles
-                ≡ count_of (is_standing_at place) handles =
+                ≡ count_of (is_standing_at index) handles =
                 ap (λ q. count_of (is_standing_at q) handles) here in
                 let had = before.1 in
                 let below = before.2 in
@@ -137,10 +137,10 @@ module _ {T : Type 0} (seed used : ℕ) (seats : List (ShardSeat T)) (handles : 
                 let xn : x.name ≡ b.name = ap (λ (z : Alone). z.name) is in
                 (omega arith, omega arith, omega arith)
             | inr ne ↦
-                let before = all.some p x (stood_there old new place (Some b) x p updates ne hp) in
+                let before = all.some p x (stood_there old new index (Some b) x p updates ne hp) in
                 let none : when (is_standing_at p (Some hold)) 1 ≡ 0 =
                 ap (λ t. when t 1)
-                (standing_there place hold kept p ∙ ne_eqb place p (λ e. ne (sym e))) in
+                (standing_there index hold kept p ∙ ne_eqb index p (λ e. ne (sym e))) in
                 let counted = counts p in
                 let had = before.1 in
                 let below = before.2 in

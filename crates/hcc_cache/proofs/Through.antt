@@ -1,5 +1,5 @@
 -- What a client does at all shards, one after the other.
-use Rattle.std.proofs.Common.{mul-suc, ◌≡◌, ◌⊎◌, inl, inr, ℕ, zero, suc, ◌+◌, ◌-◌, ◌*◌, ◌^◌, ◌<◌, ◌≤◌, min, nat_lt, Bool, true, false, List, [], ◌∷◌, length, subst, sym, refl, ap, ◌∙◌, arith}
+use Rattle.std.proofs.Common.{mul-suc, ◌≡◌, inl, inr, ℕ, zero, suc, ◌+◌, ◌-◌, ◌*◌, ◌^◌, ◌<◌, ◌≤◌, min, nat_lt, Bool, true, false, List, [], ◌∷◌, length, subst, refl, ap, ◌∙◌, arith}
 use Rattle.std.proofs.lemmas.Bool.{cases_eq, ltb-false, ltb-true}
 use Rattle.hcc_core.specs.Sums.{total}
 use Rattle.hcc_rule.specs.declared.view.View.{View}
@@ -77,7 +77,8 @@ module _ {T : Type 0} (cache : Cache T) (R : View (Seeded T) → View (Seeded T)
     };
     self = (works.self.0 ∙ g.self.0, works.self.1 ∙ g.self.1);
     done = λ s low. elim (cases_eq s k) [
-      | inl same ↦ rw (ap (λ j. view_at j old) same, ap (λ j. view_at j next) same, works.after) does
+      | inl same ↦ rw (ap (λ j. view_at j old) same, ap (λ j. view_at j next) same, works.after)
+          does
       | inr ne ↦ rw (works.others s ne) (g.done s (omega arith))
     ];
     left = λ s low.

@@ -1,5 +1,6 @@
--- What contracts see of a client: what it knows of each shard, its handles, and what they stand for.
-use Rattle.std.specs.Prelude.{◌≡◌, ℕ, ◌&&◌, ◌==◌, Bool, List, [], Option, Some, None, IsSome, find, length, map, option_map, slice_get, if◌then◌else◌}
+-- What contracts see of a client: what it knows of each shard, its handles, and what they stand
+-- for.
+use Rattle.std.specs.Prelude.{ℕ, ◌&&◌, ◌==◌, Bool, List, Option, Some, None, IsSome, option_map, slice_get, if◌then◌else◌}
 use Rattle.slab.specs.Slab.{Slab, get}
 use Rattle.hcc_core.specs.declared.client.Standalone.{Standalone}
 use Rattle.hcc_core.specs.declared.slot.Entry.{Entry}
@@ -89,7 +90,7 @@ module _ {T : Type 0} (seed : ℕ) (seats : List (ShardSeat T)) (alone : Slab Al
   kept_as hold (Pinned slot counting) =
       option_map (λ (r : Record). held_entry seed r.entry)
       (record_in hold.serial (records_in seats hold.shard))
-  kept_as hold (Standing place) = option_map (held_alone hold.key) (get alone place)
+  kept_as hold (Standing index) = option_map (held_alone hold.key) (get alone index)
 
   abbrev pub held_as : Option Hold → Option Held
   held_as None = None
@@ -98,7 +99,7 @@ module _ {T : Type 0} (seed : ℕ) (seats : List (ShardSeat T)) (alone : Slab Al
 module _ {T : Type 0} where
   -- what the client keeps of a handle that it holds
   abbrev pub hold_of : Client T → Handle → Option Hold
-  hold_of client handle = if_of client.number handle (get client.handles handle.place)
+  hold_of client handle = if_of client.number handle (get client.handles handle.index)
 
   -- the client holds this handle
   abbrev pub Holds : Client T → Handle → Type 0

@@ -1,5 +1,5 @@
 -- What is left of a cache once all its clients are back.
-use Rattle.std.specs.Prelude.{◌≡◌, ℕ, ◌+◌, ◌<◌, ◌≤◌, zero, suc, min, true, List, [], ◌∷◌, Option, Some, None, length, map, slice_get, take}
+use Rattle.std.specs.Prelude.{◌≡◌, ℕ, ◌+◌, ◌<◌, ◌≤◌, zero, suc, min, List, [], ◌∷◌, Option, Some, None, length, map, slice_get, take}
 use Rattle.hcc_core.specs.declared.slot.Stamp.{Stamp}
 use Rattle.hcc_core.specs.Sums.{total}
 use Rattle.hcc_rule.specs.declared.key.Key.{Key}
@@ -10,8 +10,8 @@ use Rattle.hcc_rule.specs.Opening.{joined_view, spent_view}
 use Rattle.hcc_shard.specs.declared.entries.ClosedShard.{ClosedShard}
 use Rattle.hcc_shard.specs.declared.seat.ShardSeat.{ShardSeat}
 use Rattle.hcc_shard.specs.declared.shard.Shard.{Shard}
-use Rattle.hcc_shard.specs.Callers.{geometry_of, plan_of, view_of}
 use Rattle.hcc_shard.specs.Closed.{HoldsNothing}
+use Rattle.hcc_shard.specs.Left.{GivesValues}
 use Rattle.hcc_cache.specs.declared.cache.Cache.{Cache}
 use Rattle.hcc_cache.specs.declared.client.Client.{Client}
 use Rattle.hcc_cache.specs.declared.closed.Closed.{Closed}
@@ -56,17 +56,17 @@ module _ {T : Type 0} where
   -- What was made under this stamp stands in the made list of the client of its number.
   pub record IsMadeBy (clients : List (Client T)) (shard : ℕ) (stamp : Stamp) (made : Made)
       : Type 0 where
-    pub place : ℕ
+    pub index : ℕ
     pub client : Client T
-    pub there : slice_get clients place ≡ Some client
+    pub there : slice_get clients index ≡ Some client
     pub number : client.number ≡ stamp.client
     pub listed : slice_get (view_at shard client).made stamp.number ≡ Some made
 
   -- the least number of a client that holds a handle
   pub record IsLeastHolder (clients : List (Client T)) (number : ℕ) : Type 0 where
-    pub place : ℕ
+    pub index : ℕ
     pub holder : Client T
-    pub there : slice_get clients place ≡ Some holder
+    pub there : slice_get clients index ≡ Some holder
     pub holds : 0 < held_by holder
     pub called : holder.number ≡ number
     pub least : (k : ℕ) (client : Client T) → slice_get clients k ≡ Some client
@@ -100,6 +100,11 @@ pub record IsClosed {T : Type 0} (fits : T → Key → List ℕ → Type 0) (cac
       → slice_get closed.shards.items s ≡ Some (Some left)
       → Closes (fits_seeded fits) (record { tag = cache.tag; seed = cache.seed }) cache.geometry
       (words_of left.table) (all_joined (views_at s clients))
+  -- the value that is left of an entry is the one that it was made with
+  pub values : (s : ℕ) (left : ClosedShard _)
+      → slice_get closed.shards.items s ≡ Some (Some left)
+      → GivesValues (fits_seeded fits) (record { tag = cache.tag; seed = cache.seed })
+      cache.geometry.room (words_of left.table) (all_joined (views_at s clients))
   -- there is none but these
   pub full : (s : ℕ) → s < length cache.shards.items
       → (left : ClosedShard _) × (slice_get closed.shards.items s ≡ Some (Some left))

@@ -54,16 +54,16 @@ is_pinned (Some hold) = by hold.kept
   where
     by : Kept → Bool
     by (Pinned slot counting) = true
-    by (Standing place) = false
+    by (Standing index) = false
 
--- whether it keeps one on the standalone entry of this place
-abbrev pub is_standing_at : (place : ℕ) → Option Hold → Bool
-is_standing_at place None = false
-is_standing_at place (Some hold) = by hold.kept
+-- whether it keeps one on the standalone entry of this index
+abbrev pub is_standing_at : (index : ℕ) → Option Hold → Bool
+is_standing_at index None = false
+is_standing_at index (Some hold) = by hold.kept
   where
     by : Kept → Bool
     by (Pinned slot counting) = false
-    by (Standing at) = at == place
+    by (Standing at) = at == index
 
 -- how many slots of a slab are so
 abbrev pub count_of : {V : Type 0} → (Option V → Bool) → Slab V → ℕ
@@ -84,15 +84,15 @@ module _ {T : Type 0} (seed : ℕ) (seats : List (ShardSeat T)) (alone : Slab Al
     pub key : key_of handled.entry ≡ key_to seed hold.key
 
   -- What is kept of a handle on a standalone entry stands for one that the client's shard knows.
-  pub record IsStand (hold : Hold) (place : ℕ) : Type 0 where
+  pub record IsStand (hold : Hold) (index : ℕ) : Type 0 where
     pub entry : Alone
-    pub there : get alone place ≡ Some entry
+    pub there : get alone index ≡ Some entry
     pub known : find (is_standing entry.name) (standalones_in seats hold.shard)
         ≡ Some (record { name = entry.name; charge = entry.charge })
 
   abbrev pub IsKeptAs : Hold → Kept → Type 0
   IsKeptAs hold (Pinned slot counting) = IsPin hold slot counting
-  IsKeptAs hold (Standing place) = IsStand hold place
+  IsKeptAs hold (Standing index) = IsStand hold index
 
   -- what is kept of a handle is on one of the shards, and stands for something
   pub record IsKept (hold : Hold) : Type 0 where
@@ -110,7 +110,7 @@ standalones_at seat = length (view_of seat).work.standalones
 -- entry as many as it has references.
 pub record AreHeld {T : Type 0} (seed used : ℕ) (seats : List (ShardSeat T)) (handles : Slab Hold)
     (alone : Slab Alone) : Type 0 where
-  pub each : (place : ℕ) (hold : Hold) → get handles place ≡ Some hold
+  pub each : (index : ℕ) (hold : Hold) → get handles index ≡ Some hold
       → IsKept seed seats alone hold × (hold.serial < used)
   pub apart : (p q : ℕ) (h k : Hold) → get handles p ≡ Some h → get handles q ≡ Some k
       → h.serial ≡ k.serial → p ≡ q
@@ -118,8 +118,8 @@ pub record AreHeld {T : Type 0} (seed used : ℕ) (seats : List (ShardSeat T)) (
   pub entries : total standalones_at seats ≡ slab_len alone
   pub names_apart : (p q : ℕ) (a b : Alone) → get alone p ≡ Some a → get alone q ≡ Some b
       → a.name ≡ b.name → p ≡ q
-  pub some : (place : ℕ) (a : Alone) → get alone place ≡ Some a
-      → (1 ≤ a.references) × (a.references ≡ count_of (is_standing_at place) handles)
+  pub some : (index : ℕ) (a : Alone) → get alone index ≡ Some a
+      → (1 ≤ a.references) × (a.references ≡ count_of (is_standing_at index) handles)
       × (a.name < used)
   pub references : total references_of alone.slots + count_of is_pinned handles
       ≡ slab_len handles

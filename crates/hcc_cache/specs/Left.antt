@@ -8,6 +8,7 @@ use Rattle.hcc_rule.specs.Closing.{data_at, has_entry, key_at, meta_at, words_of
 use Rattle.hcc_rule.specs.Words.{field_at, ledger_at}
 use Rattle.hcc_shard.specs.declared.entries.ClosedEntry.{ClosedEntry}
 use Rattle.hcc_shard.specs.declared.entries.ClosedShard.{ClosedShard}
+use Rattle.hcc_shard.specs.Left.{length_at, value_at}
 use Rattle.hcc_cache.specs.declared.limits.TheConstants.{MOST_SHARDS}
 use Rattle.hcc_cache.specs.Keys.{key_from}
 
@@ -22,6 +23,19 @@ ledger_of ledger left =
 abbrev pub field_of : (slot field : ℕ) → ClosedShard Global → ℕ
 field_of slot field left =
     slice_index (words_of left.table) (field_at left.table.geometry.room slot field)
+
+-- how many bytes the value of a slot's entry has, and which
+abbrev pub length_of : (slot : ℕ) → ClosedShard Global → ℕ
+length_of slot left = length_at left.table.geometry.room (words_of left.table) slot
+
+abbrev pub value_of : (slot : ℕ) → ClosedShard Global → List ℕ
+value_of slot left = value_at left.table.geometry.room (words_of left.table) slot
+
+-- the slot has an entry, and the buffer has room for its value
+abbrev pub HasRoomFor : (slot : ℕ) → (buffer : List ℕ) → ClosedShard Global → Type 0
+HasRoomFor slot buffer left =
+    (has_entry left.table.geometry.room (words_of left.table) slot ≡ true)
+    × (length_of slot left ≤ length buffer)
 
 -- what a slot of it tells of its entry, if it has one: the key is the caller's
 abbrev pub TellsEntry : (seed slot : ℕ) → Option ClosedEntry → ClosedShard Global → Type 0

@@ -20,7 +20,7 @@ pub struct Client<T> {
     pub(crate) left: u64,
     /// Its seat at each shard.
     pub(crate) seats: Vec<ShardSeat<Seeded<T>>>,
-    /// What it keeps of its handles, by their places.
+    /// What it keeps of its handles, by their indices.
     pub(crate) handles: Slab<Hold>,
     /// Its standalone entries.
     pub(crate) alone: Slab<Alone>,
@@ -48,11 +48,11 @@ impl<T> Client<T> {
         self.left
     }
 
-    /// Whether it holds this handle. It costs a look at the handle's place.
+    /// Whether it holds this handle. It costs a look at the handle's index.
     pub fn holds(&self, handle: Handle) -> bool
         ensures { IsTrue result ↔ Holds self.now handle }
     {
-        match self.handles.get(handle.place) {
+        match self.handles.get(handle.index) {
             Some(hold) => handle.client == self.number && hold.serial == handle.serial,
             None => false,
         }

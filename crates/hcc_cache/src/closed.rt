@@ -1,8 +1,8 @@
 //! What is left of a cache that all clients gave back.
-ghost use Rattle.std.specs.Prelude.{◌≡◌, ◌<◌, ◌≤◌, ◌^◌, Some, length, slice_get};
+ghost use Rattle.std.specs.Prelude.{◌≡◌, ◌<◌, ◌≤◌, ◌^◌, ◌++◌, Some, length, drop, slice_get};
 ghost use Rattle.hcc_rule.specs.declared.layout.TheConstants.{DISPLACEMENT, HAND, META, OCCUPANCY, USAGE};
 ghost use Rattle.hcc_shard.specs.Left.{charges_left, slots_left};
-ghost use Rattle.hcc_cache.specs.Left.{AreWhole, InShard, TellsEntry, at_shard, field_of, ledger_of, over_shards, slots_at};
+ghost use Rattle.hcc_cache.specs.Left.{AreWhole, HasRoomFor, InShard, TellsEntry, at_shard, field_of, ledger_of, length_of, over_shards, slots_at, value_of};
 
 use crate::seeded::key_from;
 use arrayvec::ArrayVec;
@@ -97,6 +97,20 @@ impl Closed {
             len: entry.len,
             word: entry.word,
         })
+    }
+
+    /// Copies the value of a slot's entry to the front of a buffer that has room for it. The answer
+    /// is how many bytes it has. The rest of the buffer stays.
+    ///
+    /// It costs a load for the length, and one for each eight bytes, the last ones too.
+    pub fn value(&self, shard: usize, slot: u32, buffer: &mut [u8]) -> usize
+        requires slot { slot < slots_at self.now.shards.items shard }
+        requires entry { InShard self.now.shards.items shard (HasRoomFor slot buffer.old) }
+        ensures { InShard self.now.shards.items shard (λ left.
+            (result ≡ length_of slot left)
+            × (buffer.new ≡ value_of slot left ++ drop result buffer.old)) }
+    {
+        self.shard(shard).value(slot, buffer)
     }
 
     /// A slot's meta word. It costs one load.

@@ -4,7 +4,7 @@
 /// released.
 ///
 /// Calls alone make handles. A handle is of use with the client that got it, and until that client
-/// releases it: the client knows its own by their places and their serials, and no serial comes
+/// releases it: the client knows its own by their indices and their serials, and no serial comes
 /// twice. A handle that was released, or that another client of this cache got, is none that the
 /// client holds, and stays so; `holds` tells in a few comparisons. Caches don't know each other's
 /// handles apart.
@@ -13,7 +13,7 @@ pub struct Handle {
     /// The number of its client.
     pub(crate) client: u32,
     /// Its index among what the client keeps of its handles.
-    pub(crate) place: usize,
+    pub(crate) index: usize,
     /// The serial that the call used which gave it.
     pub(crate) serial: u64,
 }

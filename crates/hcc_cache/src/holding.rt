@@ -25,8 +25,8 @@ pub(crate) struct Hold {
 pub(crate) enum Kept {
     /// In a slot of the shard. Its release may count as a use where it is counting.
     Pinned { slot: u32, counting: bool },
-    /// It is the standalone entry of this place.
-    Standing { place: usize },
+    /// It is the standalone entry of this index.
+    Standing { index: usize },
 }
 
 /// A standalone entry, which no table has.
@@ -64,8 +64,8 @@ impl<T> Client<T> {
         requires serial { (0 < self.old.left) × (self.old.used + self.old.left < 2 ^ 64) }
         ensures client { result.client ≡ self.old.number }
         ensures serial { result.serial ≡ self.old.used }
-        ensures was_free { get self.old.handles result.place ≡ None }
-        ensures kept { Updates self.old.handles self.new.handles result.place
+        ensures was_free { get self.old.handles result.index ≡ None }
+        ensures kept { Updates self.old.handles self.new.handles result.index
             (Some (record { serial = self.old.used; key = key; shard = shard; kept = kept })) }
         ensures count { slab_len self.new.handles ≡ slab_len self.old.handles + 1 }
         ensures capacity { self.new.handles.capacity ≡ self.old.handles.capacity }
@@ -77,7 +77,7 @@ impl<T> Client<T> {
         } }
     {
         let serial = self.used;
-        let place = self.handles.insert_reserved(Hold {
+        let index = self.handles.insert_reserved(Hold {
             serial,
             key,
             shard,
@@ -88,7 +88,7 @@ impl<T> Client<T> {
         self.left -= 1;
         Handle {
             client: self.number,
-            place,
+            index,
             serial,
         }
     }
@@ -97,9 +97,9 @@ impl<T> Client<T> {
     pub(crate) fn hold(&self, handle: Handle) -> Hold
         requires { Holds self.now handle }
         ensures held { hold_of self.now handle ≡ Some result }
-        ensures there { get self.now.handles handle.place ≡ Some result }
+        ensures there { get self.now.handles handle.index ≡ Some result }
     {
-        self.handles[handle.place]
+        self.handles[handle.index]
     }
 
     /// Lets go of a handle that it holds, and tells what it kept of it.
@@ -107,8 +107,8 @@ impl<T> Client<T> {
         requires holds { Holds self.old handle }
         requires some { 0 < self.old.held }
         ensures held { hold_of self.old handle ≡ Some result }
-        ensures there { get self.old.handles handle.place ≡ Some result }
-        ensures gone { Updates self.old.handles self.new.handles handle.place None }
+        ensures there { get self.old.handles handle.index ≡ Some result }
+        ensures gone { Updates self.old.handles self.new.handles handle.index None }
         ensures count { slab_len self.new.handles + 1 ≡ slab_len self.old.handles }
         ensures capacity { self.new.handles.capacity ≡ self.old.handles.capacity }
         ensures rest { self.new ≡ record self.old {
@@ -117,6 +117,6 @@ impl<T> Client<T> {
         } }
     {
         self.held -= 1;
-        self.handles.remove(handle.place)
+        self.handles.remove(handle.index)
     }
 }

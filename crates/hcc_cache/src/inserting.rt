@@ -284,19 +284,19 @@ impl<T> Client<T> {
         requires serial { (0 < self.old.left) × (self.old.used + self.old.left < 2 ^ 64) }
         ensures client { result.client ≡ self.old.number }
         ensures serial { result.serial ≡ self.old.used }
-        ensures kept { (place : ℕ) × (get self.old.alone place ≡ None)
-            × Updates self.old.alone self.new.alone place (Some (record {
+        ensures kept { (index : ℕ) × (get self.old.alone index ≡ None)
+            × Updates self.old.alone self.new.alone index (Some (record {
               name = self.old.used;
               charge = charge;
               references = 1;
               value = value;
             }))
-            × (get self.old.handles result.place ≡ None)
-            × Updates self.old.handles self.new.handles result.place (Some (record {
+            × (get self.old.handles result.index ≡ None)
+            × Updates self.old.handles self.new.handles result.index (Some (record {
               serial = self.old.used;
               key = key;
               shard = shard;
-              kept = Standing place;
+              kept = Standing index;
             })) }
         ensures count { (slab_len self.new.handles ≡ slab_len self.old.handles + 1)
             × (slab_len self.new.alone ≡ slab_len self.old.alone + 1) }
@@ -310,12 +310,12 @@ impl<T> Client<T> {
           left = self.old.left - 1;
         } }
     {
-        let place = self.alone.insert_reserved(Alone {
+        let index = self.alone.insert_reserved(Alone {
             name: self.used,
             charge,
             references: 1,
             value,
         });
-        self.keep(key, shard, Kept::Standing { place })
+        self.keep(key, shard, Kept::Standing { index })
     }
 }

@@ -84,13 +84,13 @@ impl<T: Tag> Cache<T> {
         ensures again { IfOk result (λ more. Rerefs self.now handle more client.old client.new) }
         ensures steps { TakesAtMost 2 client.old client.new }
     {
-        client.may_hold()?;
         let hold = client.hold(handle);
+        client.may_hold()?;
         match hold.kept {
             Kept::Pinned { slot, counting } => {
                 Ok(self.pinned_again(client, handle, hold, slot, counting))
             }
-            Kept::Standing { place } => Ok(self.standing_again(client, handle, hold, place)),
+            Kept::Standing { index } => Ok(self.standing_again(client, handle, hold, index)),
         }
     }
 
@@ -128,17 +128,17 @@ impl<T: Tag> Cache<T> {
         client: &mut Client<T>,
         handle: Handle,
         hold: Hold,
-        place: usize,
+        index: usize,
     ) -> Handle
         requires known { Knows self.now client.old }
         requires held { hold_of client.old handle ≡ Some hold }
-        requires kept { hold.kept ≡ Standing place }
+        requires kept { hold.kept ≡ Standing index }
         requires free { (held_by client.old < client.old.most) × (0 < client.old.left) }
         ensures known { Knows self.now client.new }
         ensures again { Rerefs self.now handle result client.old client.new }
         ensures steps { TakesAtMost 0 client.old client.new }
     {
-        client.alone[place].references += 1;
+        client.alone[index].references += 1;
         client.keep(hold.key, hold.shard, hold.kept)
     }
 }

@@ -17,7 +17,7 @@ impl<T: Tag> Cache<T> {
     /// The key of the entry that a handle is on, as its insertion gave it.
     ///
     /// It refuses nothing, takes no memory and makes no atomic step. It costs a look at the
-    /// handle's place.
+    /// handle's index.
     pub fn key(&self, client: &mut Client<T>, handle: Handle) -> Key
         requires known { Knows self.now client.old }
         requires holds { Holds client.old handle }
@@ -51,7 +51,7 @@ impl<T: Tag> Cache<T> {
                 let seat = &mut client.seats[hold.shard];
                 self.shards[hold.shard].value_len(seat, pin)
             }
-            Kept::Standing { place } => client.alone[place].value.len(),
+            Kept::Standing { index } => client.alone[index].value.len(),
         }
     }
 
@@ -85,8 +85,8 @@ impl<T: Tag> Cache<T> {
                 let seat = &mut client.seats[hold.shard];
                 self.shards[hold.shard].read_value(seat, pin, buffer)
             }
-            Kept::Standing { place } => {
-                let value = &client.alone[place].value;
+            Kept::Standing { index } => {
+                let value = &client.alone[index].value;
                 buffer[..value.len()].copy_from_slice(value);
                 value.len()
             }

@@ -45,7 +45,7 @@ impl<T: Tag> Cache<T> {
                 };
                 self.release_pin(client, handle, hold, pin, useful, erase_if_last)
             }
-            Kept::Standing { place } => self.release_standing(client, handle, hold, place),
+            Kept::Standing { index } => self.release_standing(client, handle, hold, index),
         }
     }
 
@@ -84,22 +84,22 @@ impl<T: Tag> Cache<T> {
         client: &mut Client<T>,
         handle: Handle,
         hold: Hold,
-        place: usize,
+        index: usize,
     ) -> bool
         requires known { Knows self.now client.old }
         requires held { hold_of client.old handle ≡ Some hold }
-        requires kept { hold.kept ≡ Standing place }
+        requires kept { hold.kept ≡ Standing index }
         ensures known { Knows self.now client.new }
         ensures released { (erase : _) → Releases self.now handle erase result
             client.old client.new }
         ensures steps { TakesAtMost 2 client.old client.new }
     {
         client.let_go(handle);
-        if client.alone[place].references > 1 {
-            client.alone[place].references -= 1;
+        if client.alone[index].references > 1 {
+            client.alone[index].references -= 1;
             return false;
         }
-        let gone = client.alone.remove(place);
+        let gone = client.alone.remove(index);
         let seat = &mut client.seats[hold.shard];
         self.shards[hold.shard].release_standalone(seat, gone.name, gone.charge);
         true

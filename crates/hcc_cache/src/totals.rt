@@ -17,8 +17,8 @@ use hcc_shard::Stats;
 
 impl<T: Tag> Cache<T> {
     /// What is charged in all shards, one after the other: at most their capacities, where they are
-    /// strict. It is at least the charges of the different entries that the client holds, standalone
-    /// ones too. Above 2^64 - 1 it says that.
+    /// strict. It is at least the charges of the different entries that the client holds, with its
+    /// standalone ones. Above 2^64 - 1 it says that.
     ///
     /// It refuses nothing and takes no memory. It costs a load for each shard.
     pub fn usage(&self, client: &mut Client<T>) -> u64

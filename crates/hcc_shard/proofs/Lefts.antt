@@ -1,12 +1,12 @@
 -- Sums over the slots of a closed shard, slot by slot.
-use Rattle.std.proofs.Common.{◌≡◌, ℕ, ◌+◌, ◌*◌, ◌≤◌, List, [], ◌∷◌, map, sym, refl, ap, ◌∙◌, arith}
+use Rattle.std.proofs.Common.{◌≡◌, ℕ, ◌+◌, ◌*◌, ◌≤◌, List, [], ◌∷◌, length, map, sym, refl, ap, ◌∙◌, arith}
 use Rattle.std.specs.List.{range_with_len}
 use Rattle.std.proofs.lemmas.List.FromFn.{sum_by-map-range_with_len_more}
 use Rattle.hcc_core.specs.Sums.{when, total}
 use Rattle.hcc_core.proofs.SumLemmas.{sum_by_total}
 use Rattle.hcc_rule.specs.declared.geometry.Geometry.{Geometry}
 use Rattle.hcc_rule.specs.declared.key.Key.{Key}
-use Rattle.hcc_rule.specs.declared.layout.TheConstants.{CHARGE}
+use Rattle.hcc_rule.specs.declared.layout.TheConstants.{CHARGE, LENGTH}
 use Rattle.hcc_rule.specs.declared.view.View.{View}
 use Rattle.hcc_rule.specs.Closing.{Closes, data_at, has_entry, over_entries}
 use Rattle.hcc_shard.specs.Left.{AreLeft}
@@ -56,5 +56,11 @@ left_of fits tag geometry words v c = record {
       let charge : data_at geometry.room words s CHARGE ≡ kept.made.charge =
       kept.says CHARGE (omega arith) in
       let small = kept.right.small in
+      omega arith);
+  short = λ s low entry.
+      (let kept = c.kept s low entry in
+      let bytes : data_at geometry.room words s LENGTH ≡ length kept.made.value =
+      kept.says LENGTH (omega arith) in
+      let short = kept.right.short in
       omega arith);
 }

@@ -6,3 +6,5 @@ pub mod Pins
 pub mod Insertions
 pub mod Joinings
 pub mod Lefts
+pub mod Values
+pub mod Guests

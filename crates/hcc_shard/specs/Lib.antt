@@ -5,3 +5,4 @@ pub mod Inserted
 pub mod Left
 pub mod Closed
 pub mod Callers
+pub mod Guests

@@ -5,8 +5,8 @@ ghost use Rattle.hcc_rule.specs.Closing.{Closes, words_of};
 ghost use Rattle.hcc_rule.specs.Opening.{joined_view};
 ghost use Rattle.hcc_rule.specs.Seats.{view};
 ghost use Rattle.hcc_rule.specs.Views.{named_by};
-ghost use Rattle.hcc_table.specs.Steps.{MakesAtMost};
 ghost use Rattle.hcc_shard.specs.Closed.{AreBack, HoldsNothing, together};
+ghost use Rattle.hcc_shard.specs.Left.{GivesValues};
 
 use crate::entries::ClosedShard;
 use crate::seat::ShardSeat;
@@ -18,13 +18,16 @@ impl<T: Tag, A: Allocator> Shard<T, A> {
     /// Ends the shard, once the seats of all its clients are back, each at rest and with nothing
     /// held. The words that are left are those of the entries alone: the usage, the occupancy and
     /// the displacements are sums over them. Each entry is one that its maker made, in no two
-    /// slots, and nobody holds it; they are as many as were made less those that were taken.
+    /// slots, and nobody holds it; they are as many as were made less those that were taken. The
+    /// value that is left of it is the one that it was made with.
     ///
     /// It refuses nothing and takes no memory. It costs a load for each seat.
     pub fn close<B: Allocator>(self, seats: Vec<ShardSeat<T>, B>) -> ClosedShard<A>
         requires back { AreBack self seats.items }
         ensures size { result.table.geometry ≡ geometry_of self.table }
         ensures closes { Closes T.fits (plan_of self.table).tag (geometry_of self.table)
+            (words_of result.table) (together seats.items) }
+        ensures values { GivesValues T.fits (plan_of self.table).tag (geometry_of self.table).room
             (words_of result.table) (together seats.items) }
     {
         let mut seats = seats;
@@ -59,6 +62,8 @@ impl<T: Tag, A: Allocator> Shard<T, A> {
         requires all { clients_of self.table ≤ named_by (view last.seat) }
         ensures size { result.table.geometry ≡ geometry_of self.table }
         ensures closes { Closes T.fits (plan_of self.table).tag (geometry_of self.table)
+            (words_of result.table) (view last.seat) }
+        ensures values { GivesValues T.fits (plan_of self.table).tag (geometry_of self.table).room
             (words_of result.table) (view last.seat) }
     {
         ClosedShard {

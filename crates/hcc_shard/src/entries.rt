@@ -1,13 +1,15 @@
 //! What is left of a shard that was closed.
-ghost use Rattle.std.specs.Prelude.{◌≡◌, ◌^◌, ◌<◌, ◌≤◌, slice_index};
-ghost use Rattle.hcc_rule.specs.declared.layout.TheConstants.{CHARGE, DISPLACEMENT, HAND, OCCUPANCY, USAGE};
+ghost use Rattle.std.specs.Prelude.{◌≡◌, ◌+◌, ◌*◌, ◌^◌, ◌<◌, ◌≤◌, ◌++◌, true, length, take, drop, slice_index};
+ghost use Rattle.std.specs.Int.{to_le_bytes};
+ghost use mir.Syntax.{w64};
+ghost use Rattle.hcc_rule.specs.declared.layout.TheConstants.{CHARGE, DISPLACEMENT, HAND, OCCUPANCY, PAYLOAD, USAGE};
 ghost use Rattle.hcc_core.specs.Sums.{when};
 ghost use Rattle.hcc_rule.specs.Closing.{data_at, has_entry, meta_at, words_of};
 ghost use Rattle.hcc_rule.specs.Words.{field_at, ledger_at};
 ghost use Rattle.hcc_word.specs.Word.{is_shareable};
-ghost use Rattle.hcc_shard.specs.Left.{AreLeft, EntryAt, charges_left, slots_left};
+ghost use Rattle.hcc_shard.specs.Left.{AreLeft, EntryAt, charges_left, length_at, slots_left, value_at};
 
-use hcc_rule::layout::{CHARGE, KEY0, KEY1, LENGTH};
+use hcc_rule::layout::{CHARGE, KEY0, KEY1, LENGTH, PAYLOAD};
 use hcc_rule::{ClosedTable, Geometry, Key};
 use hcc_word::layout::INVISIBLE;
 use hcc_word::state;
@@ -105,6 +107,35 @@ impl<A: Allocator> ClosedShard<A> {
         })
     }
 
+    /// Copies the value of a slot's entry to the front of a buffer that has room for it. The answer
+    /// is how many bytes it has. The rest of the buffer stays.
+    ///
+    /// It refuses nothing and takes no memory. It costs a load for the length, and one for each
+    /// eight bytes, the last ones too.
+    pub fn value(&self, slot: u32, buffer: &mut [u8]) -> usize
+        requires slot { slot < self.now.table.geometry.slots }
+        requires entry { has_entry self.now.table.geometry.room (words_of self.now.table) slot
+            ≡ true }
+        requires space { length_at self.now.table.geometry.room (words_of self.now.table) slot
+            ≤ length buffer.old }
+        ensures length { result
+            ≡ length_at self.now.table.geometry.room (words_of self.now.table) slot }
+        ensures bytes { buffer.new
+            ≡ value_at self.now.table.geometry.room (words_of self.now.table) slot
+            ++ drop result buffer.old }
+    {
+        let length = self.table.data(slot, LENGTH) as usize;
+        let whole = length / 8;
+        for index in 0..whole {
+            self.copy_word(slot, index, 8, buffer);
+        }
+        let rest = length % 8;
+        if rest > 0 {
+            self.copy_word(slot, whole, rest, buffer);
+        }
+        length
+    }
+
     /// How many entries there are, slot by slot. It costs a load for each slot.
     pub fn slot_count(&self) -> u64
         ensures { result ≡ slots_left self.now.table }
@@ -126,6 +157,21 @@ impl<A: Allocator> ClosedShard<A> {
             sum += self.charge_at(slot);
         }
         sum
+    }
+
+    /// Copies the first bytes of a word of a slot's value, by its index, to their place in a buffer.
+    fn copy_word(&self, slot: u32, index: usize, count: usize, buffer: &mut [u8])
+        requires slot { slot < self.now.table.geometry.slots }
+        requires within { index < self.now.table.geometry.room }
+        requires few { count ≤ 8 }
+        requires space { 8 * index + count ≤ length buffer.old }
+        ensures { buffer.new ≡ take (8 * index) buffer.old
+            ++ (take count (to_le_bytes w64 (data_at self.now.table.geometry.room
+            (words_of self.now.table) slot (PAYLOAD + index)))
+            ++ drop (8 * index + count) buffer.old) }
+    {
+        let bytes = self.table.data(slot, PAYLOAD + index).to_le_bytes();
+        buffer[8 * index..8 * index + count].copy_from_slice(&bytes[..count]);
     }
 
     /// 1 for a slot with an entry.

@@ -10,6 +10,8 @@ mod reading;
 mod referring;
 mod seat;
 mod shard;
+#[cfg(test)]
+mod tests;
 mod totals;
 
 pub use entries::{ClosedEntry, ClosedShard};

@@ -49,8 +49,8 @@ join-requires-clause-other g c =
     slice_get_read now (length now) c.loop-k.k was refl
     (omega arith) c.index_mut-in-loop-k.ensures.value in
     let has = c.requires.last c.loop-k.k was (joins.same c.loop-k.k was (omega arith) at) in
-    let place : length was.seats.items - 1 ≡ c.args.at = let n = has.count in omega arith in
-    has.last c.taken-other.result (rw place at c.taken-other.ensures.last)
+    let index : length was.seats.items - 1 ≡ c.args.at = let n = has.count in omega arith in
+    has.last c.taken-other.result (rw index at c.taken-other.ensures.last)
 
 pub loop-k-preserved : goal.loop-k-preserved
 loop-k-preserved g c =
@@ -64,13 +64,13 @@ loop-k-preserved g c =
     slice_get_read now (length now) c.loop-k.k was refl
     (omega arith) c.index_mut-in-loop-k.ensures.value in
     let has = c.requires.last c.loop-k.k was (joins.same c.loop-k.k was (omega arith) at) in
-    let place : length was.seats.items - 1 ≡ c.args.at = let n = has.count in omega arith in
+    let index : length was.seats.items - 1 ≡ c.args.at = let n = has.count in omega arith in
     joins_more c.args.shard.now c.args.at c.args.clients.now.items now c.loop-k.k was
     c.taken-other.new.client
     c.loop-k.seat c.join.new.seat c.taken-other.result joins at
     (record {
-      last = rw place at c.taken-other.ensures.last;
-      left = rw place at c.taken-other.ensures.left;
+      last = rw index at c.taken-other.ensures.last;
+      left = rw index at c.taken-other.ensures.left;
     })
     c.join.ensures.seat c.join.ensures.view
 

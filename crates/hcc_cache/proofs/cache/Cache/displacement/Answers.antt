@@ -1,10 +1,10 @@
-use Rattle.std.proofs.Common.{◌≡◌, ◌+◌, ◌*◌, ◌≤◌, ℕ, sym, refl, ap, true, ◌∙◌, arith}
+use Rattle.std.proofs.Common.{◌≡◌, refl, ap}
 use Rattle.hcc_shard.specs.Callers.{view_of}
 use Rattle.hcc_rule.specs.declared.geometry.Geometry.{Geometry}
 use Rattle.hcc_cache.specs.Clients.{view_by}
-use Rattle.hcc_cache.proofs.At.{is_at, seated_at, works_at}
-use Rattle.hcc_cache.proofs.Resting.{changes_same, keeps_same, knows_same, same_all}
-use Rattle.hcc_cache.proofs.Seats.{part_same, steps_set, view_here}
+use Rattle.hcc_cache.proofs.At.{is_at, seated_at}
+use Rattle.hcc_cache.proofs.Resting.{keeps_same, knows_same, same_all}
+use Rattle.hcc_cache.proofs.Seats.{part_same, steps_set}
 use Rattle.hcc_cache.proofs.cache.Cache.displacement.Goals as goal
 
 pub displacement-requires-clause-seat : goal.displacement-requires-clause-seat
@@ -20,8 +20,10 @@ returns-clause-known g c =
     let was = c.index_mut-seat.result.now in
     let at = is_at c.args.self.now c.args.client.now c.args.shard c.index.result.now was
     c.requires.known c.requires.shard c.index.ensures c.index_mut-seat.ensures.value in
-    knows_same c.args.self.now c.args.client.now _ c.args.shard c.index.result.now was c.displacement.new.seat at
-    c.displacement.ensures.seat (same_all (view_of was) (view_of c.displacement.new.seat) c.displacement.ensures.view) refl
+    knows_same c.args.self.now c.args.client.now _ c.args.shard c.index.result.now was
+    c.displacement.new.seat at
+    c.displacement.ensures.seat (same_all (view_of was) (view_of c.displacement.new.seat)
+    c.displacement.ensures.view) refl
     (record { rest = refl })
 
 pub returns-clause-reads : goal.returns-clause-reads
@@ -31,11 +33,14 @@ returns-clause-reads g c =
     c.requires.known c.requires.shard c.index.ensures c.index_mut-seat.ensures.value in
     record {
       rests = record {
-        all = λ s. part_same (λ v. v) c.args.client.now.seats.items c.args.shard s was c.displacement.new.seat at.seat_is c.displacement.ensures.view;
+        all = λ s. part_same (λ v. v) c.args.client.now.seats.items c.args.shard s was
+            c.displacement.new.seat at.seat_is c.displacement.ensures.view;
         self = (refl, refl);
       };
-      keeps = keeps_same c.args.self.now c.args.client.now _ c.args.shard c.index.result.now was c.displacement.new.seat at
-          c.displacement.ensures.seat (same_all (view_of was) (view_of c.displacement.new.seat) c.displacement.ensures.view) refl
+      keeps = keeps_same c.args.self.now c.args.client.now _ c.args.shard c.index.result.now was
+          c.displacement.new.seat at
+          c.displacement.ensures.seat (same_all (view_of was) (view_of c.displacement.new.seat)
+          c.displacement.ensures.view) refl
           (record { rest = refl });
     }
 
@@ -44,7 +49,9 @@ returns-clause-entries g c =
     let was = c.index_mut-seat.result.now in
     let at = is_at c.args.self.now c.args.client.now c.args.shard c.index.result.now was
     c.requires.known c.requires.shard c.index.ensures c.index_mut-seat.ensures.value in
-    let slots : c.index.result.now.table.geometry.slots ≡ c.args.self.now.geometry.slots = ap (λ (x : Geometry). x.slots) (at.knows.alike.plans c.args.shard c.index.result.now at.shard_is).0 in
+    let slots : c.index.result.now.table.geometry.slots ≡ c.args.self.now.geometry.slots = ap (λ
+    (x : Geometry). x.slots) (at.knows.alike.plans c.args.shard c.index.result.now
+    at.shard_is).0 in
     rw (ap view_by at.seat_is, ← slots) c.displacement.ensures.entries
 
 pub returns-clause-steps : goal.returns-clause-steps

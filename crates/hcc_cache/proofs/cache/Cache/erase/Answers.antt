@@ -1,8 +1,7 @@
-use Rattle.std.proofs.Common.{◌≡◌, ◌+◌, ◌*◌, ◌≤◌, ℕ, sym, refl, ap, ◌∙◌, length, mul-le-mul_left, arith}
+use Rattle.std.proofs.Common.{◌≡◌, ◌+◌, ◌*◌, refl, ap, ◌∙◌, length, mul-le-mul_left, arith}
 use Rattle.hcc_rule.specs.declared.geometry.Geometry.{Geometry}
 use Rattle.hcc_table.specs.Steps.{freeing}
 use Rattle.hcc_shard.specs.Callers.{view_of}
-use Rattle.hcc_cache.specs.Clients.{view_by}
 use Rattle.hcc_cache.specs.Keys.{shard_of}
 use Rattle.hcc_cache.proofs.At.{is_at, seated_at, works_at}
 use Rattle.hcc_cache.proofs.Resting.{keeps_same, knows_same, same_erased}

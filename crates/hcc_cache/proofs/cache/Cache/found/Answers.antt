@@ -4,7 +4,7 @@ use Rattle.hcc_cache.specs.declared.client.Client.{Client}
 use Rattle.hcc_cache.specs.declared.holding.Hold.{Hold}
 use Rattle.hcc_cache.specs.Keys.{shard_of}
 use Rattle.hcc_cache.proofs.At.{ChangesAt, few_at, is_at, next_at, seated_at}
-use Rattle.hcc_cache.proofs.Found.{finds, knows_left, knows_more, looks_at, misses, seated_sought}
+use Rattle.hcc_cache.proofs.Found.{finds, knows_more, knows_sought, looks_at, misses}
 use Rattle.hcc_cache.proofs.Gained.{IsGiven}
 use Rattle.hcc_cache.proofs.cache.Cache.found.Goals as goal
 
@@ -51,15 +51,10 @@ returns-in_err-pin-clause-known g c =
     let is = c.lookup.new.seat in
     let at = is_at cache old i shard was c.requires.known c.shard_number-shard.ensures.inside
     c.index.ensures c.index_mut-seat.ensures.value in
-    let missed = c.in_err-pin.ensures.missed in
-    let searched = missed.sought.searched in
-    knows_left cache old _ i shard was is at
+    knows_sought cache old _ i shard was is at
     (record { seats = refl; number = refl; most = refl; capacity = (refl, refl) })
     (record { handles = refl; alone = refl; held = refl; uses = (refl, refl) })
-    missed.sought.records (ap (λ v. v.work.standalones) searched.same)
-    (seated_sought shard old.number old.used was is
-    (seated_at cache old old i shard was was at) c.lookup.ensures.seat searched
-    missed.sought.records)
+    c.lookup.ensures.seat c.in_err-pin.ensures.missed.sought
 
 pub returns-in_err-pin-clause-missed : goal.returns-in_err-pin-clause-missed
 returns-in_err-pin-clause-missed g c =
@@ -124,7 +119,10 @@ returns g c =
       seats = ap (λ (x : Client g.row.T.Denot). x.seats.items) rest;
       number = ap (λ (x : Client g.row.T.Denot). x.number) rest;
       most = ap (λ (x : Client g.row.T.Denot). x.most) rest;
-      capacity = (c.keep.ensures.capacity, ap (λ a. a.capacity) alone);
+      capacity = (
+        c.keep.ensures.capacity,
+        ap (λ (x : Client g.row.T.Denot). x.alone.capacity) rest,
+      );
     } in
     let given : IsGiven old new c.keep.result hold = record {
       client = c.keep.ensures.client;

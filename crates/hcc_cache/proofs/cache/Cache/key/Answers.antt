@@ -1,4 +1,4 @@
-use Rattle.std.proofs.Common.{◌≡◌, ◌+◌, ◌<◌, ◌≤◌, ◌^◌, arith}
+use Rattle.std.proofs.Common.{arith}
 use Rattle.hcc_cache.proofs.Readings.{key_kept}
 use Rattle.hcc_cache.proofs.cache.Cache.key.Goals as goal
 

@@ -1,8 +1,7 @@
-use Rattle.std.proofs.Common.{mul-suc, ◌≡◌, ◌+◌, ◌*◌, ◌^◌, ◌≤◌, ◌<◌, ℕ, sym, refl, ap, length, ◌∙◌, arith}
+use Rattle.std.proofs.Common.{mul-suc, ◌≡◌, ◌^◌, refl, ap, length, arith}
 use Rattle.hcc_rule.specs.Views.{different}
 use Rattle.hcc_cache.specs.Clients.{view_at}
-use Rattle.hcc_cache.specs.Totals.{entries_by, made_by, taken_by}
-use Rattle.hcc_cache.proofs.Through.{goes_first, goes_on, sum_all, sum_next, sum_to}
+use Rattle.hcc_cache.proofs.Through.{goes_first, goes_on, sum_all, sum_next}
 use Rattle.hcc_cache.proofs.cache.Cache.occupancy.Goals as goal
 
 pub loop-shard-init : goal.loop-shard-init

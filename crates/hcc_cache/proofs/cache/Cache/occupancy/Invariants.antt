@@ -1,4 +1,4 @@
-use Rattle.std.proofs.Common.{◌≡◌, ◌+◌, ◌*◌, ◌^◌, ◌≤◌, ℕ, length}
+use Rattle.std.proofs.Common.{◌≡◌, ◌+◌, ◌*◌, ◌^◌, ◌≤◌, length}
 use Rattle.hcc_rule.specs.Views.{different}
 use Rattle.hcc_cache.specs.Clients.{view_at}
 use Rattle.hcc_cache.proofs.Through.{GoesThrough, sum_to}

@@ -1,10 +1,10 @@
-use Rattle.std.proofs.Common.{◌≡◌, ◌+◌, ◌*◌, ◌≤◌, ℕ, sym, refl, ap, true, ◌∙◌, arith}
+use Rattle.std.proofs.Common.{refl, ap, ◌∙◌}
 use Rattle.hcc_shard.specs.Callers.{view_of}
 use Rattle.hcc_rule.specs.declared.geometry.Geometry.{Geometry}
 use Rattle.hcc_cache.specs.Clients.{view_by}
-use Rattle.hcc_cache.proofs.At.{is_at, seated_at, works_at}
-use Rattle.hcc_cache.proofs.Resting.{changes_same, keeps_same, knows_same, same_all}
-use Rattle.hcc_cache.proofs.Seats.{part_same, steps_set, view_here}
+use Rattle.hcc_cache.proofs.At.{is_at, seated_at}
+use Rattle.hcc_cache.proofs.Resting.{keeps_same, knows_same, same_all}
+use Rattle.hcc_cache.proofs.Seats.{part_same, steps_set}
 use Rattle.hcc_cache.proofs.cache.Cache.occupancy_at.Goals as goal
 
 pub occupancy-requires : goal.occupancy-requires
@@ -13,7 +13,8 @@ occupancy-requires g c =
     let at = is_at c.args.self.now c.args.client.now c.args.shard c.index.result.now was
     c.requires.known c.requires.within c.index.ensures c.index_mut-seat.ensures.value in
     record {
-      seat = (seated_at c.args.self.now c.args.client.now c.args.client.now c.args.shard c.index.result.now
+      seat = (seated_at c.args.self.now c.args.client.now c.args.client.now c.args.shard
+          c.index.result.now
           was was at).rests;
     }
 
@@ -22,8 +23,10 @@ returns-clause-known g c =
     let was = c.index_mut-seat.result.now in
     let at = is_at c.args.self.now c.args.client.now c.args.shard c.index.result.now was
     c.requires.known c.requires.within c.index.ensures c.index_mut-seat.ensures.value in
-    knows_same c.args.self.now c.args.client.now _ c.args.shard c.index.result.now was c.occupancy.new.seat at
-    c.occupancy.ensures.seat (same_all (view_of was) (view_of c.occupancy.new.seat) c.occupancy.ensures.view) refl
+    knows_same c.args.self.now c.args.client.now _ c.args.shard c.index.result.now was
+    c.occupancy.new.seat at
+    c.occupancy.ensures.seat (same_all (view_of was) (view_of c.occupancy.new.seat)
+    c.occupancy.ensures.view) refl
     (record { rest = refl })
 
 pub returns-clause-reads : goal.returns-clause-reads
@@ -33,11 +36,14 @@ returns-clause-reads g c =
     c.requires.known c.requires.within c.index.ensures c.index_mut-seat.ensures.value in
     record {
       rests = record {
-        all = λ s. part_same (λ v. v) c.args.client.now.seats.items c.args.shard s was c.occupancy.new.seat at.seat_is c.occupancy.ensures.view;
+        all = λ s. part_same (λ v. v) c.args.client.now.seats.items c.args.shard s was
+            c.occupancy.new.seat at.seat_is c.occupancy.ensures.view;
         self = (refl, refl);
       };
-      keeps = keeps_same c.args.self.now c.args.client.now _ c.args.shard c.index.result.now was c.occupancy.new.seat at
-          c.occupancy.ensures.seat (same_all (view_of was) (view_of c.occupancy.new.seat) c.occupancy.ensures.view) refl
+      keeps = keeps_same c.args.self.now c.args.client.now _ c.args.shard c.index.result.now was
+          c.occupancy.new.seat at
+          c.occupancy.ensures.seat (same_all (view_of was) (view_of c.occupancy.new.seat)
+          c.occupancy.ensures.view) refl
           (record { rest = refl });
     }
 
@@ -53,7 +59,8 @@ returns-clause-alone g c =
     let was = c.index_mut-seat.result.now in
     let at = is_at c.args.self.now c.args.client.now c.args.shard c.index.result.now was
     c.requires.known c.requires.within c.index.ensures c.index_mut-seat.ensures.value in
-    λ one. rw (ap view_by at.seat_is) (c.occupancy.ensures.alone ((ap (λ (x : Geometry). x.clients) (at.knows.alike.plans c.args.shard c.index.result.now at.shard_is).0) ∙ one))
+    λ one. rw (ap view_by at.seat_is) (c.occupancy.ensures.alone ((ap (λ (x : Geometry).
+    x.clients) (at.knows.alike.plans c.args.shard c.index.result.now at.shard_is).0) ∙ one))
 
 pub returns-clause-steps : goal.returns-clause-steps
 returns-clause-steps g c =

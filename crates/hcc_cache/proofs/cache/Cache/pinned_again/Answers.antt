@@ -15,9 +15,9 @@ index_mut-seat-requires g c =
     let cache = c.args.self.now in
     let old = c.args.client.now in
     let first = c.args.hold in
-    let place = c.args.handle.place in
-    let there = hold_there old.number c.args.handle (get old.handles place) first c.requires.held in
-    let within = hold_within cache old first place c.requires.known there in
+    let index = c.args.handle.index in
+    let there = hold_there old.number c.args.handle (get old.handles index) first c.requires.held in
+    let within = hold_within cache old first index c.requires.known there in
     let length_is = old.seats.ok.0 in
     omega arith
 
@@ -26,9 +26,9 @@ index-requires g c =
     let cache = c.args.self.now in
     let old = c.args.client.now in
     let first = c.args.hold in
-    let place = c.args.handle.place in
-    let there = hold_there old.number c.args.handle (get old.handles place) first c.requires.held in
-    let within = hold_within cache old first place c.requires.known there in
+    let index = c.args.handle.index in
+    let there = hold_there old.number c.args.handle (get old.handles index) first c.requires.held in
+    let within = hold_within cache old first index c.requires.known there in
     let length_is = cache.shards.ok.0 in
     omega arith
 
@@ -37,9 +37,9 @@ reref-pin-requires-clause-seat g c =
     let cache = c.args.self.now in
     let old = c.args.client.now in
     let first = c.args.hold in
-    let place = c.args.handle.place in
-    let there = hold_there old.number c.args.handle (get old.handles place) first c.requires.held in
-    let within = hold_within cache old first place c.requires.known there in
+    let index = c.args.handle.index in
+    let there = hold_there old.number c.args.handle (get old.handles index) first c.requires.held in
+    let within = hold_within cache old first index c.requires.known there in
     let shard = c.index.result.now in
     let was = c.index_mut-seat.result.now in
     let at = is_at cache old first.shard shard was c.requires.known within.1 c.index.ensures
@@ -51,14 +51,14 @@ reref-pin-requires-clause-slot g c =
     let cache = c.args.self.now in
     let old = c.args.client.now in
     let first = c.args.hold in
-    let place = c.args.handle.place in
-    let there = hold_there old.number c.args.handle (get old.handles place) first c.requires.held in
-    let within = hold_within cache old first place c.requires.known there in
+    let index = c.args.handle.index in
+    let there = hold_there old.number c.args.handle (get old.handles index) first c.requires.held in
+    let within = hold_within cache old first index c.requires.known there in
     let shard = c.index.result.now in
     let was = c.index_mut-seat.result.now in
     let at = is_at cache old first.shard shard was c.requires.known within.1 c.index.ensures
     c.index_mut-seat.ensures.value in
-    (pin_at cache old first c.args.slot c.args.counting place shard was at there
+    (pin_at cache old first c.args.slot c.args.counting index shard was at there
     c.requires.kept).within
 
 pub reref-pin-requires-clause-holds : goal.reref-pin-requires-clause-holds
@@ -66,14 +66,14 @@ reref-pin-requires-clause-holds g c =
     let cache = c.args.self.now in
     let old = c.args.client.now in
     let first = c.args.hold in
-    let place = c.args.handle.place in
-    let there = hold_there old.number c.args.handle (get old.handles place) first c.requires.held in
-    let within = hold_within cache old first place c.requires.known there in
+    let index = c.args.handle.index in
+    let there = hold_there old.number c.args.handle (get old.handles index) first c.requires.held in
+    let within = hold_within cache old first index c.requires.known there in
     let shard = c.index.result.now in
     let was = c.index_mut-seat.result.now in
     let at = is_at cache old first.shard shard was c.requires.known within.1 c.index.ensures
     c.index_mut-seat.ensures.value in
-    pinned_at cache old first c.args.slot c.args.counting place shard was at there
+    pinned_at cache old first c.args.slot c.args.counting index shard was at there
     c.requires.kept
 
 pub reref-pin-requires-clause-serial : goal.reref-pin-requires-clause-serial
@@ -81,9 +81,9 @@ reref-pin-requires-clause-serial g c =
     let cache = c.args.self.now in
     let old = c.args.client.now in
     let first = c.args.hold in
-    let place = c.args.handle.place in
-    let there = hold_there old.number c.args.handle (get old.handles place) first c.requires.held in
-    let within = hold_within cache old first place c.requires.known there in
+    let index = c.args.handle.index in
+    let there = hold_there old.number c.args.handle (get old.handles index) first c.requires.held in
+    let within = hold_within cache old first index c.requires.known there in
     let shard = c.index.result.now in
     let was = c.index_mut-seat.result.now in
     let at = is_at cache old first.shard shard was c.requires.known within.1 c.index.ensures
@@ -95,9 +95,9 @@ reref-pin-requires-clause-few g c =
     let cache = c.args.self.now in
     let old = c.args.client.now in
     let first = c.args.hold in
-    let place = c.args.handle.place in
-    let there = hold_there old.number c.args.handle (get old.handles place) first c.requires.held in
-    let within = hold_within cache old first place c.requires.known there in
+    let index = c.args.handle.index in
+    let there = hold_there old.number c.args.handle (get old.handles index) first c.requires.held in
+    let within = hold_within cache old first index c.requires.known there in
     let shard = c.index.result.now in
     let was = c.index_mut-seat.result.now in
     let at = is_at cache old first.shard shard was c.requires.known within.1 c.index.ensures
@@ -109,9 +109,9 @@ returns g c =
     let cache = c.args.self.now in
     let old = c.args.client.now in
     let first = c.args.hold in
-    let place = c.args.handle.place in
-    let there = hold_there old.number c.args.handle (get old.handles place) first c.requires.held in
-    let within = hold_within cache old first place c.requires.known there in
+    let index = c.args.handle.index in
+    let there = hold_there old.number c.args.handle (get old.handles index) first c.requires.held in
+    let within = hold_within cache old first index c.requires.known there in
     let shard = c.index.result.now in
     let was = c.index_mut-seat.result.now in
     let at = is_at cache old first.shard shard was c.requires.known within.1 c.index.ensures
@@ -120,9 +120,9 @@ returns g c =
     let new = c.keep.new.self in
     let told = c.reref-pin.ensures.record in
     let r = told.0 in
-    let pin = pin_at cache old first c.args.slot c.args.counting place shard was at there
+    let pin = pin_at cache old first c.args.slot c.args.counting index shard was at there
     c.requires.kept in
-    let same = entry_at cache old first c.args.slot c.args.counting place shard was at there
+    let same = entry_at cache old first c.args.slot c.args.counting index shard was at there
     c.requires.kept r told.4 in
     let searched = c.reref-pin.ensures.view in
     let rest = c.keep.ensures.rest in
@@ -139,7 +139,10 @@ returns g c =
       seats = ap (λ (x : Client g.row.T.Denot). x.seats.items) rest;
       number = ap (λ (x : Client g.row.T.Denot). x.number) rest;
       most = ap (λ (x : Client g.row.T.Denot). x.most) rest;
-      capacity = (c.keep.ensures.capacity, ap (λ a. a.capacity) alone);
+      capacity = (
+        c.keep.ensures.capacity,
+        ap (λ (x : Client g.row.T.Denot). x.alone.capacity) rest,
+      );
     } in
     let given : IsGiven old new c.keep.result hold = record {
       client = c.keep.ensures.client;
@@ -163,7 +166,7 @@ returns g c =
       again =
           rerefs_pinned cache old new first.shard shard was is at change c.args.handle
           c.keep.result r searched told.1 (told.3 ∙ sym c.keep.ensures.serial) told.2.1
-          (held_at cache old first c.args.slot c.args.counting place shard was at there
+          (held_at cache old first c.args.slot c.args.counting index shard was at there
           c.requires.kept r c.args.handle c.requires.held same)
           (gains_pinned cache old new first.shard shard was is at change c.keep.result hold slot
           counting r given alone refl c.pinned.ensures searched told.1 told.3 told.2 key);

@@ -1,10 +1,10 @@
-use Rattle.std.proofs.Common.{◌≡◌, ◌+◌, ◌*◌, ◌≤◌, ℕ, sym, refl, ap, true, ◌∙◌, arith}
+use Rattle.std.proofs.Common.{◌≡◌, ◌+◌, ◌*◌, refl, ap, ◌∙◌}
 use Rattle.hcc_shard.specs.Callers.{view_of}
 use Rattle.hcc_rule.specs.declared.geometry.Geometry.{Geometry}
 use Rattle.hcc_cache.specs.Clients.{view_by}
 use Rattle.hcc_cache.proofs.At.{is_at, seated_at, works_at}
-use Rattle.hcc_cache.proofs.Resting.{changes_same, keeps_same, knows_same, same_sought}
-use Rattle.hcc_cache.proofs.Seats.{part_same, steps_set, view_here}
+use Rattle.hcc_cache.proofs.Resting.{keeps_same, knows_same, same_sought}
+use Rattle.hcc_cache.proofs.Seats.{steps_set, view_here}
 use Rattle.hcc_cache.proofs.cache.Cache.pinned_at.Goals as goal
 
 pub pinned_usage-requires : goal.pinned_usage-requires
@@ -13,7 +13,8 @@ pinned_usage-requires g c =
     let at = is_at c.args.self.now c.args.client.now c.args.shard c.index.result.now was
     c.requires.known c.requires.within c.index.ensures c.index_mut-seat.ensures.value in
     record {
-      seat = (seated_at c.args.self.now c.args.client.now c.args.client.now c.args.shard c.index.result.now
+      seat = (seated_at c.args.self.now c.args.client.now c.args.client.now c.args.shard
+          c.index.result.now
           was was at).rests;
     }
 
@@ -22,8 +23,10 @@ returns-clause-known g c =
     let was = c.index_mut-seat.result.now in
     let at = is_at c.args.self.now c.args.client.now c.args.shard c.index.result.now was
     c.requires.known c.requires.within c.index.ensures c.index_mut-seat.ensures.value in
-    knows_same c.args.self.now c.args.client.now _ c.args.shard c.index.result.now was c.pinned_usage.new.seat at
-    c.pinned_usage.ensures.seat (same_sought (view_of was) (view_of c.pinned_usage.new.seat) c.pinned_usage.ensures.view) refl
+    knows_same c.args.self.now c.args.client.now _ c.args.shard c.index.result.now was
+    c.pinned_usage.new.seat at
+    c.pinned_usage.ensures.seat (same_sought (view_of was) (view_of c.pinned_usage.new.seat)
+    c.pinned_usage.ensures.view) refl
     (record { rest = refl })
 
 pub returns-clause-keeps : goal.returns-clause-keeps
@@ -31,8 +34,10 @@ returns-clause-keeps g c =
     let was = c.index_mut-seat.result.now in
     let at = is_at c.args.self.now c.args.client.now c.args.shard c.index.result.now was
     c.requires.known c.requires.within c.index.ensures c.index_mut-seat.ensures.value in
-    keeps_same c.args.self.now c.args.client.now _ c.args.shard c.index.result.now was c.pinned_usage.new.seat at
-    c.pinned_usage.ensures.seat (same_sought (view_of was) (view_of c.pinned_usage.new.seat) c.pinned_usage.ensures.view) refl
+    keeps_same c.args.self.now c.args.client.now _ c.args.shard c.index.result.now was
+    c.pinned_usage.new.seat at
+    c.pinned_usage.ensures.seat (same_sought (view_of was) (view_of c.pinned_usage.new.seat)
+    c.pinned_usage.ensures.view) refl
     (record { rest = refl })
 
 pub returns-clause-view : goal.returns-clause-view
@@ -40,8 +45,13 @@ returns-clause-view g c =
     let was = c.index_mut-seat.result.now in
     let at = is_at c.args.self.now c.args.client.now c.args.shard c.index.result.now was
     c.requires.known c.requires.within c.index.ensures c.index_mut-seat.ensures.value in
-    rw (view_here c.args.client.now.seats.items c.args.shard was c.pinned_usage.new.seat at.seat_is, ap view_by at.seat_is)
-    (works_at c.args.self.now c.args.client.now _ c.args.shard c.index.result.now was c.pinned_usage.new.seat at
+    rw (
+      view_here c.args.client.now.seats.items c.args.shard was c.pinned_usage.new.seat
+          at.seat_is,
+      ap view_by at.seat_is,
+    )
+    (works_at c.args.self.now c.args.client.now _ c.args.shard c.index.result.now was
+    c.pinned_usage.new.seat at
     (record { seats = refl; number = refl; most = refl; capacity = (refl, refl) }))
 
 pub returns-clause-sought : goal.returns-clause-sought
@@ -49,7 +59,11 @@ returns-clause-sought g c =
     let was = c.index_mut-seat.result.now in
     let at = is_at c.args.self.now c.args.client.now c.args.shard c.index.result.now was
     c.requires.known c.requires.within c.index.ensures c.index_mut-seat.ensures.value in
-    rw (view_here c.args.client.now.seats.items c.args.shard was c.pinned_usage.new.seat at.seat_is, ap view_by at.seat_is)
+    rw (
+      view_here c.args.client.now.seats.items c.args.shard was c.pinned_usage.new.seat
+          at.seat_is,
+      ap view_by at.seat_is,
+    )
     c.pinned_usage.ensures.view
 
 pub returns-clause-entries : goal.returns-clause-entries
@@ -64,13 +78,17 @@ returns-clause-alone g c =
     let was = c.index_mut-seat.result.now in
     let at = is_at c.args.self.now c.args.client.now c.args.shard c.index.result.now was
     c.requires.known c.requires.within c.index.ensures c.index_mut-seat.ensures.value in
-    λ one. rw (ap view_by at.seat_is) (c.pinned_usage.ensures.alone ((ap (λ (x : Geometry). x.clients) (at.knows.alike.plans c.args.shard c.index.result.now at.shard_is).0) ∙ one))
+    λ one. rw (ap view_by at.seat_is) (c.pinned_usage.ensures.alone ((ap (λ (x : Geometry).
+    x.clients) (at.knows.alike.plans c.args.shard c.index.result.now at.shard_is).0) ∙ one))
 
 pub returns-clause-steps : goal.returns-clause-steps
 returns-clause-steps g c =
     let was = c.index_mut-seat.result.now in
     let at = is_at c.args.self.now c.args.client.now c.args.shard c.index.result.now was
     c.requires.known c.requires.within c.index.ensures c.index_mut-seat.ensures.value in
-    let slots : c.index.result.now.table.geometry.slots ≡ c.args.self.now.geometry.slots = ap (λ (x : Geometry). x.slots) (at.knows.alike.plans c.args.shard c.index.result.now at.shard_is).0 in
-    steps_set c.args.client.now.seats.items c.args.shard (5 * c.args.self.now.geometry.slots + 1) was c.pinned_usage.new.seat at.seat_is
+    let slots : c.index.result.now.table.geometry.slots ≡ c.args.self.now.geometry.slots = ap (λ
+    (x : Geometry). x.slots) (at.knows.alike.plans c.args.shard c.index.result.now
+    at.shard_is).0 in
+    steps_set c.args.client.now.seats.items c.args.shard (5 * c.args.self.now.geometry.slots + 1)
+    was c.pinned_usage.new.seat at.seat_is
     (rw (← slots) c.pinned_usage.ensures.steps)

@@ -1,7 +1,7 @@
-use Rattle.std.proofs.Common.{◌≡◌, ◌+◌, ◌*◌, ◌-◌, ◌^◌, ◌≤◌, min, ℕ, sym, refl, ap, length, ◌∙◌, arith}
+use Rattle.std.proofs.Common.{◌≡◌, ◌+◌, ◌*◌, ap, length, ◌∙◌, arith}
 use Rattle.hcc_table.specs.Searched.{Sought}
 use Rattle.hcc_cache.specs.Clients.{view_at}
-use Rattle.hcc_cache.specs.Totals.{charge_by, charge_in}
+use Rattle.hcc_cache.specs.Totals.{charge_in}
 use Rattle.hcc_cache.proofs.Through.{goes_first, goes_on, most_counted, same_counted, sought_all, sum_all, sum_next, sum_to}
 use Rattle.hcc_cache.proofs.cache.Cache.pinned_usage.Goals as goal
 

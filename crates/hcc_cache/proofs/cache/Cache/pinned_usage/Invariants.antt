@@ -1,4 +1,4 @@
-use Rattle.std.proofs.Common.{◌≡◌, ◌+◌, ◌*◌, ◌-◌, ◌^◌, ◌≤◌, min, ℕ}
+use Rattle.std.proofs.Common.{◌≡◌, ◌+◌, ◌*◌, ◌-◌, ◌^◌, ◌≤◌, min}
 use Rattle.hcc_table.specs.Searched.{Sought}
 use Rattle.hcc_cache.specs.Clients.{view_at}
 use Rattle.hcc_cache.specs.Totals.{charge_in}

@@ -13,9 +13,9 @@ read_value-requires g c =
     let cache = c.args.self.now in
     let old = c.args.client.now in
     let hold = c.hold-hold.result in
-    let place = c.args.handle.place in
+    let index = c.args.handle.index in
     let there = c.hold-hold.ensures.there in
-    let within = hold_within cache old hold place c.requires.known there in
+    let within = hold_within cache old hold index c.requires.known there in
     let shard = c.index.result.now in
     let was = c.index_mut-seat.result.now in
     let at = is_at cache old hold.shard shard was c.requires.known within.1 c.index.ensures
@@ -24,8 +24,8 @@ read_value-requires g c =
     let counting = c.in-Pinned.counting in
     record {
       seat = (seated_at cache old old hold.shard shard was was at).rests;
-      slot = (pin_at cache old hold slot counting place shard was at there c.in-Pinned.is).within;
-      holds = pinned_at cache old hold slot counting place shard was at there c.in-Pinned.is;
+      slot = (pin_at cache old hold slot counting index shard was at there c.in-Pinned.is).within;
+      holds = pinned_at cache old hold slot counting index shard was at there c.in-Pinned.is;
       space =
           told_back cache old c.args.handle hold slot counting shard was at c.hold-hold.ensures.held
           there c.in-Pinned.is
@@ -37,9 +37,9 @@ returns-in-Pinned g c =
     let cache = c.args.self.now in
     let old = c.args.client.now in
     let hold = c.hold-hold.result in
-    let place = c.args.handle.place in
+    let index = c.args.handle.index in
     let there = c.hold-hold.ensures.there in
-    let within = hold_within cache old hold place c.requires.known there in
+    let within = hold_within cache old hold index c.requires.known there in
     let shard = c.index.result.now in
     let was = c.index_mut-seat.result.now in
     let at = is_at cache old hold.shard shard was c.requires.known within.1 c.index.ensures
@@ -56,7 +56,8 @@ returns-in-Pinned g c =
       known =
           knows_read cache old new hold.shard shard was is at change left c.read_value.ensures.view
           c.read_value.ensures.seat;
-      reads = reads_at cache old new hold.shard shard was is at change left c.read_value.ensures.view;
+      reads =
+          reads_at cache old new hold.shard shard was is at change left c.read_value.ensures.view;
       length =
           told_of cache old c.args.handle hold slot counting shard was at c.hold-hold.ensures.held
           there c.in-Pinned.is
@@ -64,9 +65,10 @@ returns-in-Pinned g c =
       bytes =
           told_of cache old c.args.handle hold slot counting shard was at c.hold-hold.ensures.held
           there c.in-Pinned.is
-          (λ (bytes : List ℕ). c.read_value.new.buffer ≡ bytes ++ drop (length bytes) c.args.buffer.now)
+          (λ (bytes : List ℕ).
+          c.read_value.new.buffer ≡ bytes ++ drop (length bytes) c.args.buffer.now)
           c.read_value.ensures.bytes;
       steps =
-          takes_at cache old new hold.shard shard was is at change (words_for c.read_value.result + 1)
-          c.read_value.ensures.steps;
+          takes_at cache old new hold.shard shard was is at change
+          (words_for c.read_value.result + 1) c.read_value.ensures.steps;
     }

@@ -1,4 +1,4 @@
-use Rattle.std.proofs.Common.{◌≡◌, ◌∙◌, ◌+◌, ◌-◌, ◌<◌, ◌≤◌, get_or, slice_set, ap, refl, sym, arith}
+use Rattle.std.proofs.Common.{◌≡◌, ◌∙◌, ◌+◌, get_or, slice_set, ap, refl, sym, arith}
 use Rattle.std.specs.Vec.{with_item}
 use Rattle.slab.specs.Slab.{get}
 use Rattle.hcc_rule.specs.declared.geometry.Geometry.{Geometry}
@@ -18,9 +18,9 @@ release-requires g c =
     let cache = c.args.self.now in
     let old = c.args.client.now in
     let hold = c.args.hold in
-    let place = c.args.handle.place in
-    let there = hold_there old.number c.args.handle (get old.handles place) hold c.requires.held in
-    let within = hold_within cache old hold place c.requires.known there in
+    let index = c.args.handle.index in
+    let there = hold_there old.number c.args.handle (get old.handles index) hold c.requires.held in
+    let within = hold_within cache old hold index c.requires.known there in
     let rest = c.let_go.ensures.rest in
     let shard = c.index.result.now in
     let was = c.index_mut-seat.result.now in
@@ -30,11 +30,11 @@ release-requires g c =
     record {
       seat = (seated_at cache old old hold.shard shard was was at).rests;
       slot =
-          (pin_at cache old hold c.args.pin.slot c.args.pin.counting place shard was at there
+          (pin_at cache old hold c.args.pin.slot c.args.pin.counting index shard was at there
           c.requires.kept).within;
       holds =
           rw (c.requires.name)
-          (pinned_at cache old hold c.args.pin.slot c.args.pin.counting place shard was at there
+          (pinned_at cache old hold c.args.pin.slot c.args.pin.counting index shard was at there
           c.requires.kept);
     }
 
@@ -43,9 +43,9 @@ returns g c =
     let cache = c.args.self.now in
     let old = c.args.client.now in
     let hold = c.args.hold in
-    let place = c.args.handle.place in
-    let there = hold_there old.number c.args.handle (get old.handles place) hold c.requires.held in
-    let within = hold_within cache old hold place c.requires.known there in
+    let index = c.args.handle.index in
+    let there = hold_there old.number c.args.handle (get old.handles index) hold c.requires.held in
+    let within = hold_within cache old hold index c.requires.known there in
     let rest = c.let_go.ensures.rest in
     let shard = c.index.result.now in
     let was = c.index_mut-seat.result.now in
@@ -65,7 +65,7 @@ returns g c =
       );
     } in
     let alone = ap (λ (x : Client g.row.T.Denot). x.alone) rest in
-    let gone : IsLess old.handles mid.handles place hold =
+    let gone : IsLess old.handles mid.handles index hold =
     record { there = there; updates = c.let_go.ensures.gone; count = c.let_go.ensures.count } in
     let lets = lets_go cache old new c.args.handle hold mid c.requires.known c.requires.held gone
     rest refl in

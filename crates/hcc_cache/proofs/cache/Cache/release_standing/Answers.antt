@@ -1,4 +1,4 @@
-use Rattle.std.proofs.Common.{◌≡◌, ◌∙◌, ◌+◌, ◌-◌, ◌<◌, ◌≤◌, Some, None, get_or, slice_set, ap, refl, subst, sym, arith}
+use Rattle.std.proofs.Common.{◌≡◌, ◌∙◌, ◌+◌, ◌-◌, ◌≤◌, Some, None, get_or, slice_set, ap, refl, subst, sym, arith}
 use Rattle.std.specs.Vec.{with_item}
 use Rattle.slab.specs.Slab.{Updates, get, with_value}
 use Rattle.hcc_cache.specs.declared.client.Client.{Client}
@@ -19,15 +19,15 @@ returns-then-index-gt1 g c =
     let old = c.args.client.now in
     let mid = c.let_go.new.self in
     let hold = c.args.hold in
-    let held = hold_there old.number c.args.handle (get old.handles c.args.handle.place) hold
+    let held = hold_there old.number c.args.handle (get old.handles c.args.handle.index) hold
     c.requires.held in
-    let gone : IsLess old.handles mid.handles c.args.handle.place hold =
+    let gone : IsLess old.handles mid.handles c.args.handle.index hold =
     record { there = held; updates = c.let_go.ensures.gone; count = c.let_go.ensures.count } in
     let rest = c.let_go.ensures.rest in
     let alone_is = ap (λ (x : Client g.row.T.Denot). x.alone) rest in
     let a = c.index_mut.result.now in
-    let there : get old.alone c.args.place ≡ Some a =
-    ap (λ s. get s c.args.place) (sym alone_is) ∙ c.index_mut.ensures.value in
+    let there : get old.alone c.args.index ≡ Some a =
+    ap (λ s. get s c.args.index) (sym alone_is) ∙ c.index_mut.ensures.value in
     let read : Some c.index.result.now ≡ Some a =
     sym c.index.ensures ∙ c.index_mut.ensures.value in
     let it : c.index.result.now ≡ a = cc in
@@ -38,20 +38,20 @@ returns-then-index-gt1 g c =
     let reference : b.references + 1 ≡ a.references = omega arith in
     let some : 1 ≤ b.references = omega arith in
     let updates =
-    subst (λ s. Updates s (with_value mid.alone c.args.place b) c.args.place (Some b)) alone_is
-    (updates_set mid.alone c.args.place a (Some b) c.index_mut.ensures.value) in
-    let new : Client g.row.T.Denot = record mid { alone = with_value mid.alone c.args.place b } in
+    subst (λ s. Updates s (with_value mid.alone c.args.index b) c.args.index (Some b)) alone_is
+    (updates_set mid.alone c.args.index a (Some b) c.index_mut.ensures.value) in
+    let new : Client g.row.T.Denot = record mid { alone = with_value mid.alone c.args.index b } in
     let lets = lets_go cache old new c.args.handle hold mid c.requires.known c.requires.held gone
     rest refl in
     let seats = ap (λ (x : Client g.row.T.Denot). x.seats.items) rest in
     let steps = ap (λ (x : Client g.row.T.Denot). steps_by x) rest in
     record {
       known =
-          knows_fewer cache old new c.args.handle hold lets c.args.place a c.requires.kept there
+          knows_fewer cache old new c.args.handle hold lets c.args.index a c.requires.kept there
           c.requires.known b same reference some updates seats
           (c.let_go.ensures.capacity, ap (λ (x : Client g.row.T.Denot). x.alone.capacity) rest);
       released =
-          releases_fewer cache old new c.args.handle hold lets c.args.place a c.requires.kept there
+          releases_fewer cache old new c.args.handle hold lets c.args.index a c.requires.kept there
           c.requires.known b same reference some updates seats;
       steps = omega arith;
     }
@@ -62,13 +62,13 @@ release_standalone-requires g c =
     let old = c.args.client.now in
     let mid = c.let_go.new.self in
     let hold = c.args.hold in
-    let held = hold_there old.number c.args.handle (get old.handles c.args.handle.place) hold
+    let held = hold_there old.number c.args.handle (get old.handles c.args.handle.index) hold
     c.requires.held in
-    let gone : IsLess old.handles mid.handles c.args.handle.place hold =
+    let gone : IsLess old.handles mid.handles c.args.handle.index hold =
     record { there = held; updates = c.let_go.ensures.gone; count = c.let_go.ensures.count } in
     let rest = c.let_go.ensures.rest in
     let alone_is = ap (λ (x : Client g.row.T.Denot). x.alone) rest in
-    let within = hold_within cache old hold c.args.handle.place c.requires.known held in
+    let within = hold_within cache old hold c.args.handle.index c.requires.known held in
     let shard = c.index-2.result.now in
     let was = c.index_mut-seat.result.now in
     let sits = c.index_mut-seat.ensures.value
@@ -76,13 +76,13 @@ release_standalone-requires g c =
     let at = is_at cache old hold.shard shard was c.requires.known within.1 c.index-2.ensures sits
     in
     let a = c.remove-gone.result in
-    let there : get old.alone c.args.place ≡ Some a =
-    ap (λ s. get s c.args.place) (sym alone_is) ∙ c.remove-gone.ensures.value in
+    let there : get old.alone c.args.index ≡ Some a =
+    ap (λ s. get s c.args.index) (sym alone_is) ∙ c.remove-gone.ensures.value in
     record {
       seat = (seated_at cache old old hold.shard shard was was at).rests;
       stands =
           known_there cache.seed old.used old.seats.items old.handles mid.handles old.alone
-          c.args.handle.place c.args.place hold a gone c.requires.kept there
+          c.args.handle.index c.args.index hold a gone c.requires.kept there
           c.requires.known.holds was at.seat_is;
     }
 
@@ -92,13 +92,13 @@ returns g c =
     let old = c.args.client.now in
     let mid = c.let_go.new.self in
     let hold = c.args.hold in
-    let held = hold_there old.number c.args.handle (get old.handles c.args.handle.place) hold
+    let held = hold_there old.number c.args.handle (get old.handles c.args.handle.index) hold
     c.requires.held in
-    let gone : IsLess old.handles mid.handles c.args.handle.place hold =
+    let gone : IsLess old.handles mid.handles c.args.handle.index hold =
     record { there = held; updates = c.let_go.ensures.gone; count = c.let_go.ensures.count } in
     let rest = c.let_go.ensures.rest in
     let alone_is = ap (λ (x : Client g.row.T.Denot). x.alone) rest in
-    let within = hold_within cache old hold c.args.handle.place c.requires.known held in
+    let within = hold_within cache old hold c.args.handle.index c.requires.known held in
     let shard = c.index-2.result.now in
     let was = c.index_mut-seat.result.now in
     let sits = c.index_mut-seat.ensures.value
@@ -106,17 +106,17 @@ returns g c =
     let at = is_at cache old hold.shard shard was c.requires.known within.1 c.index-2.ensures sits
     in
     let a = c.remove-gone.result in
-    let there : get old.alone c.args.place ≡ Some a =
-    ap (λ s. get s c.args.place) (sym alone_is) ∙ c.remove-gone.ensures.value in
+    let there : get old.alone c.args.index ≡ Some a =
+    ap (λ s. get s c.args.index) (sym alone_is) ∙ c.remove-gone.ensures.value in
     let read : Some c.index.result.now ≡ Some a =
     sym c.index.ensures ∙ c.remove-gone.ensures.value in
     let it : c.index.result.now ≡ a = cc in
     let references = ap (λ (x : Alone). x.references) it in
     let few = c.if-index-gt1.false in
-    let some = (c.requires.known.holds.some c.args.place a there).0 in
+    let some = (c.requires.known.holds.some c.args.index a there).0 in
     let one : a.references ≡ 1 = omega arith in
     let updates =
-    subst (λ s. Updates s c.remove-gone.new.self c.args.place None) alone_is
+    subst (λ s. Updates s c.remove-gone.new.self c.args.index None) alone_is
     c.remove-gone.ensures.updates in
     let is = c.release_standalone.new.seat in
     let new : Client g.row.T.Denot = record mid {
@@ -136,11 +136,11 @@ returns g c =
     } in
     record {
       known =
-          knows_fallen cache old new c.args.handle hold lets c.args.place a c.requires.kept there
+          knows_fallen cache old new c.args.handle hold lets c.args.index a c.requires.kept there
           shard was is at change c.release_standalone.ensures.view one updates
           c.release_standalone.ensures.seat;
       released =
-          releases_fallen cache old new c.args.handle hold lets c.args.place a c.requires.kept there
+          releases_fallen cache old new c.args.handle hold lets c.args.index a c.requires.kept there
           shard was is at change c.release_standalone.ensures.view one updates;
       steps =
           takes_at cache old new hold.shard shard was is at change 2

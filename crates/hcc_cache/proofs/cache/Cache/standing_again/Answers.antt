@@ -14,9 +14,9 @@ overflow_add-index_mut g c =
     let cache = c.args.self.now in
     let old = c.args.client.now in
     let first = c.args.hold in
-    let from = c.args.handle.place in
+    let from = c.args.handle.index in
     let there = hold_there old.number c.args.handle (get old.handles from) first c.requires.held in
-    let few = few_references cache old first from c.requires.known there c.args.place
+    let few = few_references cache old first from c.requires.known there c.args.index
     c.index_mut.result.now c.index_mut.ensures.value c.requires.free.0 in
     omega arith
 
@@ -26,8 +26,8 @@ returns g c =
     let old = c.args.client.now in
     let new = c.keep.new.self in
     let first = c.args.hold in
-    let from = c.args.handle.place in
-    let place = c.args.place in
+    let from = c.args.handle.index in
+    let index = c.args.index in
     let knows = c.requires.known in
     let there = hold_there old.number c.args.handle (get old.handles from) first c.requires.held in
     let a = c.index_mut.result.now in
@@ -35,9 +35,9 @@ returns g c =
     let same : IsSameAlone a b = record { name = refl; charge = refl; value = refl } in
     let rest = c.keep.ensures.rest in
     let alone = ap (λ (x : Client g.row.T.Denot). x.alone) rest in
-    let updates : Updates old.alone new.alone place (Some b) =
-    subst (λ s. Updates old.alone s place (Some b)) (sym alone)
-    (updates_set old.alone place a (Some b) c.index_mut.ensures.value) in
+    let updates : Updates old.alone new.alone index (Some b) =
+    subst (λ s. Updates old.alone s index (Some b)) (sym alone)
+    (updates_set old.alone index a (Some b) c.index_mut.ensures.value) in
     let left : new.left ≡ old.left - 1 = ap (λ (x : Client g.row.T.Denot). x.left) rest in
     let some = c.requires.free.1 in
     let hold : Hold = record {
@@ -63,17 +63,17 @@ returns g c =
     record {
       known =
           knows_standing cache old first from knows there new c.args.handle c.keep.result hold
-          place a b c.requires.held c.requires.kept c.requires.kept refl refl
+          index a b c.requires.held c.requires.kept c.requires.kept refl refl
           c.index_mut.ensures.value same refl updates given seats most
           (c.keep.ensures.capacity, alone_capacity) c.requires.free.0;
       again =
           rerefs_standing cache old first from knows there new c.args.handle c.keep.result hold
-          place a b c.requires.held c.requires.kept c.requires.kept refl refl
+          index a b c.requires.held c.requires.kept c.requires.kept refl refl
           c.index_mut.ensures.value same refl updates given seats most
           (c.keep.ensures.capacity, alone_capacity);
       steps =
           takes_standing cache old first from knows there new c.args.handle c.keep.result hold
-          place a b c.requires.held c.requires.kept c.requires.kept refl refl
+          index a b c.requires.held c.requires.kept c.requires.kept refl refl
           c.index_mut.ensures.value same refl updates given seats most
           (c.keep.ensures.capacity, alone_capacity);
     }

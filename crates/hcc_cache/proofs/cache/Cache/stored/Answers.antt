@@ -1,11 +1,11 @@
-use Rattle.std.proofs.Common.{rules, ◌≡◌, ◌∙◌, ◌+◌, ◌-◌, ◌<◌, ◌≤◌, ◌^◌, None, Err, Ok, length, get_or, slice_set, sym, ap, refl, arith}
+use Rattle.std.proofs.Common.{◌≡◌, ◌∙◌, ◌-◌, None, length, get_or, slice_set, ap, refl, arith}
 use Rattle.hcc_rule.specs.declared.steps.shows.Draft.{Draft}
-use Rattle.hcc_shard.specs.Callers.{capacity_of, geometry_of, is_strict, view_of}
+use Rattle.hcc_shard.specs.Callers.{view_of}
 use Rattle.hcc_shard.specs.Inserted.{InsertedBy}
 use Rattle.hcc_cache.specs.declared.client.Client.{Client}
 use Rattle.hcc_cache.specs.Inserts.{draft_of}
 use Rattle.hcc_cache.specs.Keys.{shard_of}
-use Rattle.hcc_cache.proofs.At.{ChangesAt, IsAt, is_at, seated_at}
+use Rattle.hcc_cache.proofs.At.{ChangesAt, is_at, seated_at}
 use Rattle.hcc_cache.proofs.Insertions.{IsAsked, answers_small, answers_unspent, insertable_at, inserts_at, inserts_told, knows_asked, leaves_stored, stores_at, told_as}
 use Rattle.hcc_cache.proofs.cache.Cache.stored.Goals as goal
 
@@ -18,9 +18,9 @@ insert-requires-clause-seat g c =
     let was = c.index_mut-seat.result.now in
     let rest = c.next_serial.ensures.rest in
     let at = is_at cache old i shard was c.requires.known c.shard_number-shard.ensures.inside
-        c.index.ensures
-        (c.index_mut-seat.ensures.value
-        ∙ ap (λ (x : Client g.row.T.Denot). get_or x.seats.items i was) rest) in
+    c.index.ensures
+    (c.index_mut-seat.ensures.value
+    ∙ ap (λ (x : Client g.row.T.Denot). get_or x.seats.items i was) rest) in
     (seated_at cache old old i shard was was at).rests
 
 pub insert-requires-clause-may : goal.insert-requires-clause-may
@@ -32,9 +32,9 @@ insert-requires-clause-may g c =
     let was = c.index_mut-seat.result.now in
     let rest = c.next_serial.ensures.rest in
     let at = is_at cache old i shard was c.requires.known c.shard_number-shard.ensures.inside
-        c.index.ensures
-        (c.index_mut-seat.ensures.value
-        ∙ ap (λ (x : Client g.row.T.Denot). get_or x.seats.items i was) rest) in
+    c.index.ensures
+    (c.index_mut-seat.ensures.value
+    ∙ ap (λ (x : Client g.row.T.Denot). get_or x.seats.items i was) rest) in
     insertable_at cache old old i shard was was at g.T.Tag.fits c.args.key c.args.value.now _
     c.requires.fits c.requires.short (λ k inside. omega (arith, c.type_inv.value k))
     (c.requires.paid, c.ranges.charge.fits) c.countdown.ensures.within
@@ -51,9 +51,9 @@ returns g c =
     let rest = c.next_serial.ensures.rest in
     let answer = c.insert.result in
     let at = is_at cache old i shard was c.requires.known c.shard_number-shard.ensures.inside
-        c.index.ensures
-        (c.index_mut-seat.ensures.value
-        ∙ ap (λ (x : Client g.row.T.Denot). get_or x.seats.items i was) rest) in
+    c.index.ensures
+    (c.index_mut-seat.ensures.value
+    ∙ ap (λ (x : Client g.row.T.Denot). get_or x.seats.items i was) rest) in
     let words = c.key_to-under.ensures.words in
     let shards = length cache.shards.items in
     let here = c.shard_number-shard.ensures.value ∙ ap (λ k. shard_of k shards) words in
@@ -73,8 +73,8 @@ returns g c =
       name = None;
     } in
     let told = told_as cache old old i shard was is at
-        (λ s b p d. InsertedBy s b p d c.args.value.now answer (view_of was) (view_of is)) draft
-        asked same c.insert.ensures.view in
+    (λ s b p d. InsertedBy s b p d c.args.value.now answer (view_of was) (view_of is)) draft
+    asked same c.insert.ensures.view in
     let change : ChangesAt old _ i is = record {
       seats = ap (λ (x : Client g.row.T.Denot). slice_set x.seats.items i is) rest;
       number = ap (λ (x : Client g.row.T.Denot). x.number) rest;
@@ -94,9 +94,9 @@ returns g c =
       uses = (ap (λ (x : Client g.row.T.Denot). x.used) rest, omega arith);
     } in
     let left = leaves_stored cache.geometry.slots cache.capacity cache.strict asked
-        c.args.value.now (view_of was) (view_of is) answer refl told in
+    c.args.value.now (view_of was) (view_of is) answer refl told in
     let small = answers_small cache.geometry.slots cache.capacity cache.strict asked
-        c.args.value.now (view_of was) (view_of is) answer told c.requires.small in
+    c.args.value.now (view_of was) (view_of is) answer told c.requires.small in
     record {
       known =
           knows_asked cache old _ i shard was is at change c.insert.ensures.seat left changed;

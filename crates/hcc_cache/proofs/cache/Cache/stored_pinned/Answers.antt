@@ -1,4 +1,4 @@
-use Rattle.std.proofs.Common.{rules, ◌≡◌, ◌∙◌, ◌+◌, ◌-◌, ◌<◌, ◌≤◌, ◌^◌, Some, Err, Ok, length, get_or, slice_set, sym, ap, refl, arith}
+use Rattle.std.proofs.Common.{◌≡◌, ◌∙◌, ◌-◌, Some, length, ap, refl, arith}
 use Rattle.hcc_rule.specs.declared.steps.shows.Draft.{Draft}
 use Rattle.hcc_shard.specs.declared.inserting.Pinned.TheVariants.{Placed, Standalone}
 use Rattle.hcc_shard.specs.Callers.{view_of}
@@ -23,7 +23,7 @@ insert_pinned-requires-clause-seat g c =
     let shard = c.index.result.now in
     let was = c.index_mut-seat.result.now in
     let at = is_at cache old i shard was c.requires.known c.shard_number-shard.ensures.inside
-        c.index.ensures c.index_mut-seat.ensures.value in
+    c.index.ensures c.index_mut-seat.ensures.value in
     (seated_at cache old old i shard was was at).rests
 
 pub insert_pinned-requires-clause-may : goal.insert_pinned-requires-clause-may
@@ -34,9 +34,11 @@ insert_pinned-requires-clause-may g c =
     let shard = c.index.result.now in
     let was = c.index_mut-seat.result.now in
     let at = is_at cache old i shard was c.requires.known c.shard_number-shard.ensures.inside
-        c.index.ensures c.index_mut-seat.ensures.value in
-    insertable_at cache old old i shard was was at g.T.Tag.fits c.args.key c.deref-bytes.result.now _
-    (rw c.deref-bytes.ensures.value c.requires.fits) (rw c.deref-bytes.ensures.value c.requires.short)
+    c.index.ensures c.index_mut-seat.ensures.value in
+    insertable_at cache old old i shard was was at g.T.Tag.fits c.args.key
+    c.deref-bytes.result.now _
+    (rw c.deref-bytes.ensures.value c.requires.fits) (rw c.deref-bytes.ensures.value
+    c.requires.short)
     (λ k inside. omega (arith, c.type_inv.bytes k))
     (c.requires.paid, c.ranges.charge.fits) c.countdown.ensures.within refl
     c.key_to-under.ensures.undone c.requires.free.1
@@ -49,7 +51,7 @@ insert_pinned-requires-clause-few g c =
     let shard = c.index.result.now in
     let was = c.index_mut-seat.result.now in
     let at = is_at cache old i shard was c.requires.known c.shard_number-shard.ensures.inside
-        c.index.ensures c.index_mut-seat.ensures.value in
+    c.index.ensures c.index_mut-seat.ensures.value in
     few_at cache old old i shard was was at c.requires.free.0
 
 pub insert_pinned-requires-clause-alone : goal.insert_pinned-requires-clause-alone
@@ -60,7 +62,7 @@ insert_pinned-requires-clause-alone g c =
     let shard = c.index.result.now in
     let was = c.index_mut-seat.result.now in
     let at = is_at cache old i shard was c.requires.known c.shard_number-shard.ensures.inside
-        c.index.ensures c.index_mut-seat.ensures.value in
+    c.index.ensures c.index_mut-seat.ensures.value in
     few_alone cache old old i shard was was at c.requires.free.0
 
 pub keep_alone-handle-requires-clause-room : goal.keep_alone-handle-requires-clause-room
@@ -75,7 +77,7 @@ returns-in-Ok-Placed g c =
     let shard = c.index.result.now in
     let was = c.index_mut-seat.result.now in
     let at = is_at cache old i shard was c.requires.known c.shard_number-shard.ensures.inside
-        c.index.ensures c.index_mut-seat.ensures.value in
+    c.index.ensures c.index_mut-seat.ensures.value in
     let is = c.insert_pinned.new.seat in
     let words = c.key_to-under.ensures.words in
     let shards = length cache.shards.items in
@@ -98,8 +100,8 @@ returns-in-Ok-Placed g c =
     } in
     let pin = c.in-Ok-Placed.pin in
     let told = pinned_told cache old old i shard was is at draft asked same c.deref-bytes.result.now
-        value c.deref-bytes.ensures.value c.in-Ok-Placed.field-0 (Placed pin) c.in-Ok-Placed.field-0-is
-        c.in-Ok-Placed.ensures.view in
+    value c.deref-bytes.ensures.value c.in-Ok-Placed.field-0 (Placed pin) c.in-Ok-Placed.field-0-is
+    c.in-Ok-Placed.ensures.view in
     let new = c.keep-handle.new.self in
     let rest = c.keep-handle.ensures.rest in
     let some = c.requires.free.1 in
@@ -112,7 +114,7 @@ returns-in-Ok-Placed g c =
       capacity = (c.keep-handle.ensures.capacity, ap (λ a. a.capacity) alone);
     } in
     let given : IsGiven old new c.keep-handle.result
-        (hold_with old.used c.args.key i c.pinned.result) = record {
+    (hold_with old.used c.args.key i c.pinned.result) = record {
       client = c.keep-handle.ensures.client;
       serial = c.keep-handle.ensures.serial;
       named = refl;
@@ -146,7 +148,7 @@ returns-in-Ok-Standalone g c =
     let shard = c.index.result.now in
     let was = c.index_mut-seat.result.now in
     let at = is_at cache old i shard was c.requires.known c.shard_number-shard.ensures.inside
-        c.index.ensures c.index_mut-seat.ensures.value in
+    c.index.ensures c.index_mut-seat.ensures.value in
     let is = c.insert_pinned.new.seat in
     let words = c.key_to-under.ensures.words in
     let shards = length cache.shards.items in
@@ -168,8 +170,9 @@ returns-in-Ok-Standalone g c =
       name = Some old.used;
     } in
     let told = pinned_told cache old old i shard was is at draft asked same c.deref-bytes.result.now
-        value c.deref-bytes.ensures.value c.in-Ok-Standalone.field-0 Standalone c.in-Ok-Standalone.field-0-is
-        c.in-Ok-Standalone.ensures.view in
+    value c.deref-bytes.ensures.value c.in-Ok-Standalone.field-0 Standalone
+    c.in-Ok-Standalone.field-0-is
+    c.in-Ok-Standalone.ensures.view in
     let new = c.keep_alone-handle.new.self in
     let rest = c.keep_alone-handle.ensures.rest in
     let some = c.requires.free.1 in
@@ -188,7 +191,7 @@ returns-in-Ok-Standalone g c =
       value = c.args.value;
     } in
     let given : IsGiven old new c.keep_alone-handle.result
-        (hold_with old.used c.args.key i (Standing kept.0)) = record {
+    (hold_with old.used c.args.key i (Standing kept.0)) = record {
       client = c.keep_alone-handle.ensures.client;
       serial = c.keep_alone-handle.ensures.serial;
       named = refl;
@@ -200,7 +203,7 @@ returns-in-Ok-Standalone g c =
       uses = (ap (λ (x : Client g.row.T.Denot). x.used) rest, omega arith);
     } in
     let left = leaves_unshown cache.geometry.slots cache.capacity cache.strict asked value
-        (view_of was) (view_of is) (with_draft asked (view_of was).work.standalones) told in
+    (view_of was) (view_of is) (with_draft asked (view_of was).work.standalones) told in
     let joined : IsJoined old.used was is old.alone new.alone kept.0 alone = record {
       records = left.records_are;
       standalones = left.standalones_are;
@@ -233,7 +236,7 @@ returns-in-Err g c =
     let shard = c.index.result.now in
     let was = c.index_mut-seat.result.now in
     let at = is_at cache old i shard was c.requires.known c.shard_number-shard.ensures.inside
-        c.index.ensures c.index_mut-seat.ensures.value in
+    c.index.ensures c.index_mut-seat.ensures.value in
     let is = c.insert_pinned.new.seat in
     let words = c.key_to-under.ensures.words in
     let shards = length cache.shards.items in
@@ -256,8 +259,8 @@ returns-in-Err g c =
     } in
     let why = c.in-Err.why in
     let told = told_as cache old old i shard was is at
-        (λ s b p d. RefusedBy s b p d why (view_of was) (view_of is)) draft asked same
-        c.in-Err.ensures.view in
+    (λ s b p d. RefusedBy s b p d why (view_of was) (view_of is)) draft asked same
+    c.in-Err.ensures.view in
     let new = c.next_serial.new.self in
     let rest = c.next_serial.ensures.rest in
     let some = c.requires.free.1 in
@@ -278,9 +281,9 @@ returns-in-Err g c =
       uses = (ap (λ (x : Client g.row.T.Denot). x.used) rest, omega arith);
     } in
     let left = leaves_refused cache.geometry.slots cache.capacity cache.strict asked value
-        (view_of was) (view_of is) why told in
+    (view_of was) (view_of is) why told in
     let small = not_large cache.geometry.slots cache.capacity cache.strict asked (view_of was)
-        (view_of is) why told c.requires.small in
+    (view_of is) why told c.requires.small in
     record {
       known =
           knows_asked cache old new i shard was is at change c.insert_pinned.ensures.seat left

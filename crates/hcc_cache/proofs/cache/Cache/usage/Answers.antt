@@ -1,7 +1,7 @@
-use Rattle.std.proofs.Common.{mul-suc, ◌≡◌, ◌+◌, ◌*◌, ◌-◌, ◌^◌, ◌≤◌, min, true, ℕ, sym, refl, ap, length, ◌∙◌, arith}
+use Rattle.std.proofs.Common.{mul-suc, ◌≡◌, ap, length, arith}
 use Rattle.hcc_rule.specs.ToldLedgers.{after_usage}
 use Rattle.hcc_cache.specs.Clients.{view_at}
-use Rattle.hcc_cache.specs.Totals.{charge_by, charge_in}
+use Rattle.hcc_cache.specs.Totals.{charge_in}
 use Rattle.hcc_cache.proofs.Through.{goes_first, goes_on, most_counted, sum_all, sum_next, sum_to}
 use Rattle.hcc_cache.proofs.cache.Cache.usage.Goals as goal
 

@@ -1,9 +1,8 @@
-use Rattle.std.proofs.Common.{◌≡◌, ◌+◌, ◌≤◌, ℕ, sym, refl, ap, true, ◌∙◌, arith}
+use Rattle.std.proofs.Common.{refl, ap, ◌∙◌}
 use Rattle.hcc_shard.specs.Callers.{view_of}
 use Rattle.hcc_cache.specs.Clients.{view_by}
-use Rattle.hcc_cache.specs.Totals.{charge_in}
 use Rattle.hcc_cache.proofs.At.{is_at, seated_at, works_at}
-use Rattle.hcc_cache.proofs.Resting.{changes_same, keeps_same, knows_same, same_usage}
+use Rattle.hcc_cache.proofs.Resting.{keeps_same, knows_same, same_usage}
 use Rattle.hcc_cache.proofs.Seats.{steps_set}
 use Rattle.hcc_cache.proofs.cache.Cache.usage_at.Goals as goal
 

@@ -12,9 +12,9 @@ value_len-requires g c =
     let cache = c.args.self.now in
     let old = c.args.client.now in
     let hold = c.hold-hold.result in
-    let place = c.args.handle.place in
+    let index = c.args.handle.index in
     let there = c.hold-hold.ensures.there in
-    let within = hold_within cache old hold place c.requires.known there in
+    let within = hold_within cache old hold index c.requires.known there in
     let shard = c.index.result.now in
     let was = c.index_mut-seat.result.now in
     let at = is_at cache old hold.shard shard was c.requires.known within.1 c.index.ensures
@@ -23,8 +23,8 @@ value_len-requires g c =
     let counting = c.in-Pinned.counting in
     record {
       seat = (seated_at cache old old hold.shard shard was was at).rests;
-      slot = (pin_at cache old hold slot counting place shard was at there c.in-Pinned.is).within;
-      holds = pinned_at cache old hold slot counting place shard was at there c.in-Pinned.is;
+      slot = (pin_at cache old hold slot counting index shard was at there c.in-Pinned.is).within;
+      holds = pinned_at cache old hold slot counting index shard was at there c.in-Pinned.is;
     }
 
 pub returns-in-Pinned : goal.returns-in-Pinned
@@ -32,9 +32,9 @@ returns-in-Pinned g c =
     let cache = c.args.self.now in
     let old = c.args.client.now in
     let hold = c.hold-hold.result in
-    let place = c.args.handle.place in
+    let index = c.args.handle.index in
     let there = c.hold-hold.ensures.there in
-    let within = hold_within cache old hold place c.requires.known there in
+    let within = hold_within cache old hold index c.requires.known there in
     let shard = c.index.result.now in
     let was = c.index_mut-seat.result.now in
     let at = is_at cache old hold.shard shard was c.requires.known within.1 c.index.ensures
@@ -51,7 +51,8 @@ returns-in-Pinned g c =
       known =
           knows_read cache old new hold.shard shard was is at change left c.value_len.ensures.view
           c.value_len.ensures.seat;
-      reads = reads_at cache old new hold.shard shard was is at change left c.value_len.ensures.view;
+      reads =
+          reads_at cache old new hold.shard shard was is at change left c.value_len.ensures.view;
       exact =
           told_of cache old c.args.handle hold slot counting shard was at c.hold-hold.ensures.held
           there c.in-Pinned.is

@@ -1,10 +1,9 @@
-use Rattle.std.proofs.Common.{◌≡◌, ◌+◌, ◌*◌, ◌≤◌, ℕ, sym, refl, ap, true, ◌∙◌, arith}
+use Rattle.std.proofs.Common.{refl, ap}
 use Rattle.hcc_shard.specs.Callers.{view_of}
-use Rattle.hcc_rule.specs.declared.geometry.Geometry.{Geometry}
 use Rattle.hcc_cache.specs.Clients.{view_by}
 use Rattle.hcc_cache.proofs.At.{is_at, seated_at, works_at}
-use Rattle.hcc_cache.proofs.Resting.{changes_same, keeps_same, knows_same, same_look}
-use Rattle.hcc_cache.proofs.Seats.{part_same, steps_set, view_here}
+use Rattle.hcc_cache.proofs.Resting.{keeps_same, knows_same, same_look}
+use Rattle.hcc_cache.proofs.Seats.{steps_set}
 use Rattle.hcc_cache.proofs.cache.Cache.word.Goals as goal
 
 pub word-requires-clause-seat : goal.word-requires-clause-seat
@@ -20,8 +19,10 @@ returns-clause-known g c =
     let was = c.index_mut-seat.result.now in
     let at = is_at c.args.self.now c.args.client.now c.args.shard c.index.result.now was
     c.requires.known c.requires.shard c.index.ensures c.index_mut-seat.ensures.value in
-    knows_same c.args.self.now c.args.client.now _ c.args.shard c.index.result.now was c.word.new.seat at
-    c.word.ensures.seat (same_look (view_of was) (view_of c.word.new.seat) c.args.slot c.word.result c.word.ensures.view) refl
+    knows_same c.args.self.now c.args.client.now _ c.args.shard c.index.result.now was
+    c.word.new.seat at
+    c.word.ensures.seat (same_look (view_of was) (view_of c.word.new.seat) c.args.slot
+    c.word.result c.word.ensures.view) refl
     (record { rest = refl })
 
 pub returns-clause-keeps : goal.returns-clause-keeps
@@ -29,8 +30,10 @@ returns-clause-keeps g c =
     let was = c.index_mut-seat.result.now in
     let at = is_at c.args.self.now c.args.client.now c.args.shard c.index.result.now was
     c.requires.known c.requires.shard c.index.ensures c.index_mut-seat.ensures.value in
-    keeps_same c.args.self.now c.args.client.now _ c.args.shard c.index.result.now was c.word.new.seat at
-    c.word.ensures.seat (same_look (view_of was) (view_of c.word.new.seat) c.args.slot c.word.result c.word.ensures.view) refl
+    keeps_same c.args.self.now c.args.client.now _ c.args.shard c.index.result.now was
+    c.word.new.seat at
+    c.word.ensures.seat (same_look (view_of was) (view_of c.word.new.seat) c.args.slot
+    c.word.result c.word.ensures.view) refl
     (record { rest = refl })
 
 pub returns-clause-view : goal.returns-clause-view
@@ -39,7 +42,8 @@ returns-clause-view g c =
     let at = is_at c.args.self.now c.args.client.now c.args.shard c.index.result.now was
     c.requires.known c.requires.shard c.index.ensures c.index_mut-seat.ensures.value in
     rw (ap view_by at.seat_is, ← c.word.ensures.view)
-    (works_at c.args.self.now c.args.client.now _ c.args.shard c.index.result.now was c.word.new.seat at
+    (works_at c.args.self.now c.args.client.now _ c.args.shard c.index.result.now was
+    c.word.new.seat at
     (record { seats = refl; number = refl; most = refl; capacity = (refl, refl) }))
 
 pub returns-clause-backs : goal.returns-clause-backs

@@ -1,4 +1,4 @@
-use Rattle.std.proofs.Common.{◌≡◌, ap, ◌∙◌}
+use Rattle.std.proofs.Common.{ap, ◌∙◌}
 use Rattle.hcc_cache.specs.Keys.{key_from}
 use Rattle.hcc_cache.proofs.closed.Closed.entry.Goals as goal
 

@@ -2,8 +2,10 @@ use Rattle.std.proofs.Common.{◌≡◌, length, arith}
 use Rattle.hcc_rule.specs.Callers.{geometry_of, plan_of}
 use Rattle.hcc_rule.specs.Closing.{words_of}
 use Rattle.hcc_rule.specs.Seats.{view}
+use Rattle.hcc_shard.specs.Closed.{together}
 use Rattle.hcc_shard.proofs.Joinings.{joins_all}
 use Rattle.hcc_shard.proofs.Lefts.{left_of}
+use Rattle.hcc_shard.proofs.Values.{value_kept}
 use Rattle.hcc_shard.proofs.shard.Shard.close.Goals as goal
 
 pub invariant_of-result : goal.invariant_of-result
@@ -18,3 +20,8 @@ invariant_of-result g c =
     (joins_all c.args.self c.loop-seat.last c.args.seats.items rest.items none
     c.loop-seat.invariant)) in
     record { left = rw c.close.ensures.size told }
+
+pub returns-clause-values : goal.returns-clause-values
+returns-clause-values g c =
+    value_kept g.T.Tag.fits (plan_of c.args.self.table).tag (geometry_of c.args.self.table).room
+    (words_of c.close.result) (together c.args.seats.items)

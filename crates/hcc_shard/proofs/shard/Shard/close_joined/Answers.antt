@@ -4,6 +4,7 @@ use Rattle.hcc_rule.specs.Closing.{Closes, IsBack, words_of}
 use Rattle.hcc_rule.specs.Seats.{view}
 use Rattle.hcc_shard.proofs.Joinings.{idle_held}
 use Rattle.hcc_shard.proofs.Lefts.{left_of}
+use Rattle.hcc_shard.proofs.Values.{value_kept}
 use Rattle.hcc_shard.proofs.shard.Shard.close_joined.Goals as goal
 
 pub invariant_of-result : goal.invariant_of-result
@@ -29,3 +30,8 @@ returns-clause-closes g c =
       idle = (idle_held shard c.args.last c.requires.back).0;
       all = omega arith;
     })
+
+pub returns-clause-values : goal.returns-clause-values
+returns-clause-values g c =
+    value_kept g.T.Tag.fits (plan_of c.args.self.table).tag (geometry_of c.args.self.table).room
+    (words_of c.close.result) (view c.args.last.seat)
