@@ -11,3 +11,4 @@ mod opening;
 mod rows;
 mod shared;
 mod stage;
+mod threads;
