@@ -1,12 +1,15 @@
 //! Caches of several clients, one after another, and when they are closed.
 
+ghost use Rattle.std.specs.Prelude.{◌≡◌, IfOk};
 ghost use Rattle.hcc_cache.specs.Known.{Knows};
+ghost use Rattle.hcc_cache.specs.Staged.{AllKnown};
 
-use super::calls::{Answer, Call, plays};
-use super::stage::{SMALL, Store, closes, opened};
+use super::calls::{Answer, Call, plays, values_of};
+use super::stage::{SMALL, Stage, Store, closes, opened};
 use crate::Inserted::Placed;
 use crate::Priority::Low;
-use crate::{AnyBytes, Cache, Client, CloseError, Config, Handle, Key};
+use crate::{AnyBytes, Client, CloseError, Config, Handle, Key};
+use std::alloc::AllocError;
 use std::process::Abort;
 use std::test::Fail;
 
@@ -79,6 +82,14 @@ fn clients_share_entries(rt: HostRuntime) -> Result<(), Fail> {
     Ok(())
 }
 
+/// The second client keeps a handle, and gives it back.
+const KEEPS: [Step; 1] = [(Call::Pin(0, 1, 200, Low, &[], 0), Answer::Stored(Placed))];
+
+const GIVES: [Step; 2] = [
+    (Call::Release(0, false, false), Answer::Freed(false)),
+    (Call::Has, Answer::Has(0, 18_014_398_509_481_983)),
+];
+
 /// A cache is closed once all its clients are back, and hold nothing. A refusal gives all back.
 #[test]
 fn closing_is_refused(rt: HostRuntime) -> Result<(), Fail> {
@@ -86,32 +97,45 @@ fn closing_is_refused(rt: HostRuntime) -> Result<(), Fail> {
         clients: 2,
         ..SMALL
     };
-    let (cache, mut clients) = Cache::new(rt.alloc(), two, AnyBytes)?;
-    assert!(rt; clients.len() == 2, "a client is missing");
-    let key = Key { w0: 0, w1: 1 };
-    let value = Vec::new(rt.alloc());
-    let client = &mut clients[1];
-    let Ok((handle, _)) = cache.insert_pinned(client, key, value, 200, Low) else {
-        panic!(rt; "the entry isn't inserted");
-    };
-    let Err((why, cache, mut clients)) = cache.close(clients) else {
-        panic!(rt; "a cache was closed where a handle was out");
-    };
-    assert_eq!(rt; why, CloseError::HandlesOut { client: 1 });
-    assert!(rt; clients.len() == 2, "a client is missing");
-    assert!(rt; clients[1].holds(handle), "the handle isn't held");
-    cache.release(&mut clients[1], handle, false, false);
-    let first = clients.remove(0);
-    let Err((why, cache, mut clients)) = cache.close(clients) else {
-        panic!(rt; "a cache was closed without a client");
-    };
-    assert_eq!(rt; why, CloseError::Missing { have: 1, want: 2 });
-    clients.push(first)?;
-    match cache.close(clients) {
-        Ok(closed) => assert_eq!(rt; [closed.usage(), closed.occupied()], [200, 1]),
-        Err((why, _, _)) => panic!(rt; "the cache isn't closed: {why:?}"),
-    }
+    let values = values_of(rt.alloc(), &KEEPS)?;
+    let mut stage = opened(rt.alloc(), two, values)?;
+    plays(&rt, &mut stage, 1, &KEEPS);
+    let stage = refused(&rt, stage, CloseError::HandlesOut { client: 1 });
+    let mut stage = without_last(&rt, stage)?;
+    plays(&rt, &mut stage, 1, &GIVES);
+    let closed = closes(&rt, without_last(&rt, stage)?);
+    assert_eq!(rt; [closed.usage(), closed.occupied()], [200, 1]);
     Ok(())
+}
+
+/// The cache isn't closed, for this reason. It comes back with its clients.
+fn refused(rt: &impl Abort, stage: Stage, why: CloseError) -> Stage
+    requires { AllKnown stage.cache stage.clients.items }
+    ensures cache { result.cache ≡ stage.cache }
+    ensures clients { result.clients ≡ stage.clients }
+{
+    match stage.cache.close(stage.clients) {
+        Ok(_) => panic!(rt; "the cache was closed"),
+        Err((told, cache, clients)) => {
+            assert_eq!(rt; told, why);
+            Stage {
+                cache,
+                clients,
+                hand: stage.hand,
+            }
+        }
+    }
+}
+
+/// Without its last client, of two, it isn't closed, whether or not that one holds a handle.
+fn without_last(rt: &impl Abort, mut stage: Stage) -> Result<Stage, AllocError>
+    requires { AllKnown stage.cache stage.clients.items }
+    ensures { IfOk result (λ stage. AllKnown stage.cache stage.clients.items) }
+{
+    let last = stage.clients.pop().expect(rt, "no client is left");
+    let mut stage = refused(rt, stage, CloseError::Missing { have: 1, want: 2 });
+    stage.clients.push(last)?;
+    Ok(stage)
 }
 
 /// As many clients as there can be hold one entry, each by its one handle.
