@@ -167,7 +167,8 @@ fn looks(rt: &impl Abort, cache: &Store, client: &mut Client<AnyBytes>)
 {
     let mut last = 0;
     for time in 0..10_000 {
-        if let Some((length, bytes)) = finds(rt, cache, client, KEY) {
+        if let Some(handle) = finds(rt, cache, client, KEY) {
+            let (_, length, bytes) = takes(rt, cache, client, handle);
             assert_eq!(rt; length, 16);
             let [a, b, c, d, e, f, g, h, i, j, k, l, m, n, o, p] = bytes;
             let round = u64::from_be_bytes([a, b, c, d, e, f, g, h]);
@@ -178,22 +179,28 @@ fn looks(rt: &impl Abort, cache: &Store, client: &mut Client<AnyBytes>)
     }
 }
 
-/// The value that a look-up finds. Its handle is given back.
-fn finds(
-    rt: &impl Abort,
-    cache: &Store,
-    client: &mut Client<AnyBytes>,
-    key: Key,
-) -> Option<(usize, [u8; 16])>
+/// The handle that a look-up gives.
+fn finds(rt: &impl Abort, cache: &Store, client: &mut Client<AnyBytes>, key: Key) -> Option<Handle>
     requires { Knows cache.now client.old }
     ensures { Knows cache.now client.new }
 {
-    let handle = cache.lookup(client, key).expect(rt, "no handle is given")?;
-    let (found, length, bytes) = reads(rt, cache, client, handle);
-    assert_eq!(rt; found, key);
+    cache.lookup(client, key).expect(rt, "no handle is given")
+}
+
+/// What a handle reads, once it is given back.
+fn takes(
+    rt: &impl Abort,
+    cache: &Store,
+    client: &mut Client<AnyBytes>,
+    handle: Handle,
+) -> (Key, usize, [u8; 16])
+    requires { Knows cache.now client.old }
+    ensures { Knows cache.now client.new }
+{
+    let (key, length, bytes) = reads(rt, cache, client, handle);
     assert!(rt; client.holds(handle), "the handle isn't held");
     cache.release(client, handle, true, false);
-    Some((length, bytes))
+    (key, length, bytes)
 }
 
 /// Inserts and erases four keys in turn, 1,000 times each.
@@ -224,17 +231,19 @@ fn blocks(rt: &impl Abort, cache: &Store, client: &mut Client<AnyBytes>)
             w0: index << 32,
             w1: index,
         };
-        let bytes = match finds(rt, cache, client, key) {
-            Some((length, bytes)) => {
-                assert_eq!(rt; (length, bytes), (16, block(index)));
-                bytes
+        let mut bytes = block(index);
+        match finds(rt, cache, client, key) {
+            Some(handle) => {
+                let (found, length, read) = takes(rt, cache, client, handle);
+                assert_eq!(rt; found, key);
+                assert_eq!(rt; length, 16);
+                assert_eq!(rt; read, bytes);
+                bytes = read;
             }
             None => {
-                let bytes = block(index);
                 stores(rt, cache, client, key, &bytes, 16, Low);
-                bytes
             }
-        };
+        }
         for byte in bytes {
             sum = sum.saturating_add(byte as u64);
         }
@@ -354,7 +363,7 @@ fn is_before(key: Key, slot: u32, at: u32) -> bool {
         if place == slot as u64 {
             return true;
         }
-        place = (place + (key.w0 | 1) % 8) % 8;
+        place = place.wrapping_add(key.w0 | 1) % 8;
     }
     false
 }

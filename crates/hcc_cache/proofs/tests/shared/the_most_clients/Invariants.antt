@@ -6,7 +6,7 @@ invariant-loop-number g l = record {
   known : AllKnown l.stage.cache l.stage.clients.items;
 }
 
-abbrev pub invariant-loop-number-2 : goal.invariant-loop-handle
+abbrev pub invariant-loop-number-2 : goal.invariant-loop-number-2
 invariant-loop-number-2 g l = record {
   known : AllKnown l.stage.cache l.stage.clients.items;
 }
