@@ -1,6 +1,8 @@
 -- What the tests' lists of clients are known to have.
 use Rattle.std.proofs.Common.{◌≡◌, ℕ, zero, suc, inl, inr, List, [], ◌∷◌, ◌++◌, Some, slice_get, refl}
+use Rattle.std.specs.Prelude.{slice_set}
 use Rattle.hcc_rule.specs.Views.{Each}
+use Rattle.hcc_rule.proofs.Basics.Lists.{each_set}
 use Rattle.hcc_cache.specs.declared.cache.Cache.{Cache}
 use Rattle.hcc_cache.specs.declared.client.Client.{Client}
 use Rattle.hcc_cache.specs.Known.{Knows}
@@ -22,3 +24,10 @@ module _ {T : Type 0} (cache : Cache T) where
     | inl old ↦ known k client old
     | inr new ↦ rw ← new.1 at last
   ]
+
+  -- and so is one in the place of another
+  pub known_set : (clients : List (Client T)) (place : ℕ) (one : Client T)
+      → AllKnown cache clients → Knows cache one → AllKnown cache (slice_set clients place one)
+  known_set clients place one known is =
+      each_set (λ (k : ℕ) (client : Client T). Knows cache client) clients place one is
+      (λ k client other at. known k client at)

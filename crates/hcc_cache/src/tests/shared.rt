@@ -150,6 +150,7 @@ fn the_most_clients(rt: HostRuntime) -> Result<(), Fail> {
     plays(&rt, &mut stage, 0, &SHOWS);
     let mut handles = Vec::with_capacity(rt.alloc(), 1_024)?;
     for number in 0..stage.clients.len() {
+        assert!(rt; number < stage.clients.len(), "a client is missing");
         let handle = holds(&rt, &stage.cache, &mut stage.clients[number]);
         handles.push(handle)?;
     }

@@ -90,6 +90,7 @@ pub(super) fn closes(rt: &impl Abort, mut stage: Stage) -> Closed
     requires { AllKnown stage.cache stage.clients.items }
 {
     for number in 0..stage.clients.len() {
+        assert!(rt; number < stage.clients.len(), "a client is missing");
         lets_go(rt, &stage.cache, &mut stage.clients[number], &stage.hand);
     }
     match stage.cache.close(stage.clients) {
