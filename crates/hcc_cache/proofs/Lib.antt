@@ -33,3 +33,4 @@ pub mod MadeLists
 pub mod Emptied
 pub mod Ended
 pub mod Lefts
+pub mod Staged

@@ -1,8 +1,15 @@
-//! What no clause says: the limits as numbers, the texts of errors, keys from outside, and that a
-//! cache is made where there is memory.
+//! What no clause says: the limits as numbers, the texts of errors, keys from outside, that a cache
+//! is made where there is memory, that entries are placed and found where they can be, and the very
+//! words, turns and totals that stand after each call.
 
+mod calls;
 mod configs;
 mod errors;
 mod example;
+mod full;
 mod keys;
 mod opening;
+mod rows;
+mod shared;
+mod stage;
+mod threads;
