@@ -37,7 +37,7 @@ impl<T: Tag> Cache<T> {
             (Misses self.now key client.old client.new)) }
         ensures steps { TakesAtMost (7 * self.now.geometry.slots) client.old client.new }
     {
-        client.may_hold()?;
+        client.may_hold()?; // Before anything is changed.
         Ok(self.found(client, key))
     }
 
