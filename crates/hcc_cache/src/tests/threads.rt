@@ -218,8 +218,8 @@ fn passes(rt: &impl Abort, cache: &Store, client: &mut Client<AnyBytes>)
     }
 }
 
-/// Reads 2,000 blocks, each from the cache or, where it isn't there, from its file: the byte at p is
-/// p modulo 251. The sum of all bytes is the same in every order.
+/// Reads 2,000 blocks, each from the cache or, where it isn't there, from its file: the byte at p
+/// is p modulo 251. The sum of all bytes is the same in every order.
 fn blocks(rt: &impl Abort, cache: &Store, client: &mut Client<AnyBytes>)
     requires { Knows cache.now client.old }
     ensures { Knows cache.now client.new }
