@@ -27,8 +27,8 @@ use Rattle.hcc_cache.specs.Keys.{key_to, shard_of}
 
 -- Of a client's seats.
 
--- Charges are below 2^32, as callers give them: those of the entries that a client holds in a shard,
--- and those of its standalone entries there.
+-- Charges are below 2^32, as callers give them: those of the entries that a client holds there,
+-- and those of its standalone entries.
 pub record AreCharged {T : Type 0} (v : View T) : Type 0 where
   pub records : Each (λ (r : Record). r.entry.charge < 2 ^ 32) v.records
   pub standalones : Each (λ (s : Standalone). s.charge < 2 ^ 32) v.work.standalones
