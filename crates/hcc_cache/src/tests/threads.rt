@@ -226,29 +226,45 @@ fn blocks(rt: &impl Abort, cache: &Store, client: &mut Client<AnyBytes>)
 {
     let mut sum = 0u64;
     for time in 0..2_000u64 {
-        let index = time % 1_000 * 7 % 40;
-        let key = Key {
-            w0: index << 32,
-            w1: index,
-        };
-        let mut bytes = block(index);
-        match finds(rt, cache, client, key) {
-            Some(handle) => {
-                let (found, length, read) = takes(rt, cache, client, handle);
-                assert_eq!(rt; found, key);
-                assert_eq!(rt; length, 16);
-                assert_eq!(rt; read, bytes);
-                bytes = read;
-            }
-            None => {
-                stores(rt, cache, client, key, &bytes, 16, Low);
-            }
-        }
-        for byte in bytes {
-            sum = sum.saturating_add(byte as u64);
-        }
+        let bytes = block_through(rt, cache, client, time % 1_000 * 7 % 40);
+        sum = sum.saturating_add(sum_of(&bytes));
     }
     assert_eq!(rt; sum, 3_610_150);
+}
+
+/// A block, from the cache or from the file.
+fn block_through(
+    rt: &impl Abort,
+    cache: &Store,
+    client: &mut Client<AnyBytes>,
+    index: u64,
+) -> [u8; 16]
+    requires { Knows cache.now client.old }
+    ensures { Knows cache.now client.new }
+{
+    let key = Key {
+        w0: index << 32,
+        w1: index,
+    };
+    let bytes = block(index);
+    if let Some(handle) = finds(rt, cache, client, key) {
+        let (found, length, read) = takes(rt, cache, client, handle);
+        assert_eq!(rt; found, key);
+        assert_eq!(rt; length, 16);
+        assert_eq!(rt; read, bytes);
+        return read;
+    }
+    stores(rt, cache, client, key, &bytes, 16, Low);
+    bytes
+}
+
+/// The sum of a block's bytes.
+fn sum_of(bytes: &[u8; 16]) -> u64 {
+    let mut sum = 0u64;
+    for byte in bytes {
+        sum = sum.saturating_add(*byte as u64);
+    }
+    sum
 }
 
 /// A block of the file.
