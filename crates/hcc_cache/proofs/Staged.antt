@@ -22,7 +22,7 @@ module _ {T : Type 0} (cache : Cache T) where
       → Knows cache more → AllKnown cache (clients ++ more ∷ [])
   known_push clients more known last k client at = elim (get_push clients more client k at) [
     | inl old ↦ known k client old
-    | inr new ↦ rw ← new.1 at last
+    | inr new ↦ rw (← new.1) last
   ]
 
   -- and so is one in the place of another
