@@ -9,7 +9,7 @@ use super::calls::{Answer, pins, reads, stores};
 use super::stage::{SMALL, Store};
 use crate::Inserted::Placed;
 use crate::Priority::{Bottom, Low};
-use crate::{AnyBytes, Cache, Client, Closed, Config, Handle, Key};
+use crate::{AnyBytes, Cache, Client, Closed, Config, Handle, Inserted, Key, NewError};
 use std::alloc::{AllocError, Global};
 use std::process::Abort;
 use std::test::Fail;
@@ -31,13 +31,6 @@ enum Work {
 /// The one key that clients share.
 const KEY: Key = Key { w0: 0, w1: 1 };
 
-/// A client before its work, and a value that it may insert.
-#[derive(Drop)]
-struct Worker {
-    client: Client<AnyBytes>,
-    value: Vec<u8>,
-}
-
 /// A client after its work.
 #[derive(Drop)]
 struct Done {
@@ -55,11 +48,10 @@ fn at_once<R: Abort + Threads + Sync>(
     config: Config,
     work: Work,
 ) -> Result<([u64; 4], Closed), Fail> {
-    let (cache, clients) = Cache::new(alloc, config, AnyBytes)?;
+    let (cache, clients) = opened(alloc, config)?;
     let mut back = Vec::with_capacity(alloc, clients.len())?;
-    let workers = all_come(alloc, &cache, clients)?;
     let mut after = [0, 0, 0, 0];
-    for done in all_work(rt, &cache, workers, work)? {
+    for done in all_work(rt, alloc, &cache, clients, work)? {
         after = ends(rt, &cache, done, work, after, &mut back)?;
     }
     match cache.close(back) {
@@ -72,60 +64,53 @@ fn at_once<R: Abort + Threads + Sync>(
     }
 }
 
-/// The clients, each with its number as a value.
-fn all_come(
-    alloc: Global,
-    cache: &Store,
-    clients: Vec<Client<AnyBytes>>,
-) -> Result<Vec<Worker>, AllocError>
-    requires each { Each (λ c. Knows cache.now c) clients.items }
-    ensures each { IfOk result (λ all. Each (λ w. Knows cache.now w.client) all.items) }
+/// A new cache and its clients.
+#[tactic(auto, using(crate::proofs::Staged::each_known))]
+fn opened(alloc: Global, config: Config) -> Result<(Store, Vec<Client<AnyBytes>>), NewError>
+    ensures { IfOk result (λ made. Each (λ c. Knows made.0 c) made.1.items) }
 {
-    let mut all = Vec::with_capacity(alloc, clients.len())?;
-    for client in clients {
-        let value = Vec::from_slice(alloc, &client.number().to_le_bytes()[..1])?;
-        all.push(Worker { client, value })?;
-    }
-    Ok(all)
+    Cache::new(alloc, config, AnyBytes)
 }
 
 /// All clients work, each on a thread.
 fn all_work<R: Abort + Threads + Sync>(
     rt: &R,
+    alloc: Global,
     cache: &Store,
-    workers: Vec<Worker>,
+    clients: Vec<Client<AnyBytes>>,
     work: Work,
-) -> Result<Vec<Done>, AllocError>
-    requires each { Each (λ w. Knows cache.now w.client) workers.items }
-    ensures each { IfOk result (λ all. Each (λ d. Knows cache.now d.client) all.items) }
+) -> Result<Vec<Result<Done, AllocError>>, AllocError>
+    requires each { Each (λ c. Knows cache.now c) clients.items }
+    ensures each { IfOk result (λ all.
+        Each (λ r. IfOk r (λ d. Knows cache.now d.client)) all.items) }
 {
     map_vec(
         rt,
-        workers,
-        &move |worker|
-            requires { IsSync R.row × Knows cache.now worker.client }
-            ensures { Knows cache.entry.now result.client }
-        { works(rt, cache, worker, work) },
+        clients,
+        &move |client|
+            requires { IsSync R.row × Knows cache.now client }
+            ensures { IfOk result (λ d. Knows cache.entry.now d.client) }
+        { works(rt, alloc, cache, client, work) },
     )
 }
 
 /// A client does its work.
-fn works(rt: &impl Abort, cache: &Store, worker: Worker, work: Work) -> Done
-    requires { Knows cache.now worker.client }
-    ensures { Knows cache.now result.client }
+fn works(
+    rt: &impl Abort,
+    alloc: Global,
+    cache: &Store,
+    mut client: Client<AnyBytes>,
+    work: Work,
+) -> Result<Done, AllocError>
+    requires { Knows cache.now client }
+    ensures { IfOk result (λ d. Knows cache.now d.client) }
 {
-    let Worker { mut client, value } = worker;
     let mut handle = None;
     let mut placed = false;
     match work {
         Work::Pins => {
-            let number = client.number().to_le_bytes()[0];
-            let made = pins(rt, cache, &mut client, KEY, value, 1, Low);
-            let Ok((made, inserted)) = made else {
-                panic!(rt; "the entry isn't inserted");
-            };
-            let (key, length, bytes) = reads(rt, cache, &mut client, made);
-            assert_eq!(rt; (key, length, bytes[0]), (KEY, 1, number));
+            let value = Vec::from_slice(alloc, &client.number().to_le_bytes()[..1])?;
+            let (made, inserted) = pins_own(rt, cache, &mut client, value);
             handle = Some(made);
             placed = inserted == Placed;
         }
@@ -139,11 +124,30 @@ fn works(rt: &impl Abort, cache: &Store, worker: Worker, work: Work) -> Done
         Work::Passes => passes(rt, cache, &mut client),
         Work::Blocks => blocks(rt, cache, &mut client),
     }
-    Done {
+    Ok(Done {
         client,
         handle,
         placed,
-    }
+    })
+}
+
+/// Inserts the key with a handle, by the client's number as the value, and reads it.
+fn pins_own(
+    rt: &impl Abort,
+    cache: &Store,
+    client: &mut Client<AnyBytes>,
+    value: Vec<u8>,
+) -> (Handle, Inserted)
+    requires { Knows cache.now client.old }
+    ensures { Knows cache.now client.new }
+{
+    let number = client.number().to_le_bytes()[0];
+    let Ok((handle, inserted)) = pins(rt, cache, client, KEY, value, 1, Low) else {
+        panic!(rt; "the entry isn't inserted");
+    };
+    let (key, length, bytes) = reads(rt, cache, client, handle);
+    assert_eq!(rt; (key, length, bytes[0]), (KEY, 1, number));
+    (handle, inserted)
 }
 
 /// Inserts and erases the key 10,000 times. The value is the round twice.
@@ -167,16 +171,25 @@ fn looks(rt: &impl Abort, cache: &Store, client: &mut Client<AnyBytes>)
 {
     let mut last = 0;
     for time in 0..10_000 {
-        if let Some(handle) = finds(rt, cache, client, KEY) {
-            let (_, length, bytes) = takes(rt, cache, client, handle);
-            assert_eq!(rt; length, 16);
-            let [a, b, c, d, e, f, g, h, i, j, k, l, m, n, o, p] = bytes;
-            let round = u64::from_be_bytes([a, b, c, d, e, f, g, h]);
-            assert_eq!(rt; round, u64::from_be_bytes([i, j, k, l, m, n, o, p]));
-            assert!(rt; last <= round, "an old entry was found after a new one");
-            last = round;
-        }
+        last = look_once(rt, cache, client, last);
     }
+}
+
+/// Looks for the key once, after this round was seen: the round that has been seen then.
+fn look_once(rt: &impl Abort, cache: &Store, client: &mut Client<AnyBytes>, last: u64) -> u64
+    requires { Knows cache.now client.old }
+    ensures { Knows cache.now client.new }
+{
+    let Some(handle) = finds(rt, cache, client, KEY) else {
+        return last;
+    };
+    let (_, length, bytes) = takes(rt, cache, client, handle);
+    assert_eq!(rt; length, 16);
+    let [a, b, c, d, e, f, g, h, i, j, k, l, m, n, o, p] = bytes;
+    let round = u64::from_be_bytes([a, b, c, d, e, f, g, h]);
+    assert_eq!(rt; round, u64::from_be_bytes([i, j, k, l, m, n, o, p]));
+    assert!(rt; last <= round, "an old entry was found after a new one");
+    round
 }
 
 /// The handle that a look-up gives.
@@ -226,29 +239,45 @@ fn blocks(rt: &impl Abort, cache: &Store, client: &mut Client<AnyBytes>)
 {
     let mut sum = 0u64;
     for time in 0..2_000u64 {
-        let index = time % 1_000 * 7 % 40;
-        let key = Key {
-            w0: index << 32,
-            w1: index,
-        };
-        let mut bytes = block(index);
-        match finds(rt, cache, client, key) {
-            Some(handle) => {
-                let (found, length, read) = takes(rt, cache, client, handle);
-                assert_eq!(rt; found, key);
-                assert_eq!(rt; length, 16);
-                assert_eq!(rt; read, bytes);
-                bytes = read;
-            }
-            None => {
-                stores(rt, cache, client, key, &bytes, 16, Low);
-            }
-        }
-        for byte in bytes {
-            sum = sum.saturating_add(byte as u64);
-        }
+        let bytes = block_through(rt, cache, client, time % 1_000 * 7 % 40);
+        sum = sum.saturating_add(sum_of(&bytes));
     }
     assert_eq!(rt; sum, 3_610_150);
+}
+
+/// A block, from the cache or from the file.
+fn block_through(
+    rt: &impl Abort,
+    cache: &Store,
+    client: &mut Client<AnyBytes>,
+    index: u64,
+) -> [u8; 16]
+    requires { Knows cache.now client.old }
+    ensures { Knows cache.now client.new }
+{
+    let key = Key {
+        w0: index << 32,
+        w1: index,
+    };
+    let bytes = block(index);
+    if let Some(handle) = finds(rt, cache, client, key) {
+        let (found, length, read) = takes(rt, cache, client, handle);
+        assert_eq!(rt; found, key);
+        assert_eq!(rt; length, 16);
+        assert_eq!(rt; read, bytes);
+        return read;
+    }
+    stores(rt, cache, client, key, &bytes, 16, Low);
+    bytes
+}
+
+/// The sum of a block's bytes.
+fn sum_of(bytes: &[u8; 16]) -> u64 {
+    let mut sum = 0u64;
+    for byte in bytes {
+        sum = sum.saturating_add(*byte as u64);
+    }
+    sum
 }
 
 /// A block of the file.
@@ -264,34 +293,60 @@ fn block(index: u64) -> [u8; 16] {
 fn ends(
     rt: &impl Abort,
     cache: &Store,
-    done: Done,
+    done: Result<Done, AllocError>,
     work: Work,
     before: [u64; 4],
     back: &mut Vec<Client<AnyBytes>>,
 ) -> Result<[u64; 4], AllocError>
-    requires done { Knows cache.now done.client }
+    requires done { IfOk done (λ d. Knows cache.now d.client) }
     requires back { AllKnown cache.now back.old.items }
     ensures back { IfOk result (λ _. AllKnown cache.now back.new.items) }
 {
-    let mut client = done.client;
+    let Done {
+        mut client,
+        handle,
+        placed,
+    } = done?;
     let mut after = before;
-    if work == Work::Passes {
-        for w0 in [0, 2, 4, 6] {
-            cache.erase(&mut client, Key { w0, w1: 1 });
-        }
-    }
     if back.is_empty() {
-        let usage = cache.usage(&mut client);
-        let occupancy = cache.occupancy(&mut client);
-        after = [usage, occupancy, cache.pinned_usage(&mut client), 0];
+        after = totals(cache, &mut client);
     }
-    after[3] = after[3].saturating_add(done.placed as u64);
-    if let Some(handle) = done.handle {
-        assert!(rt; client.holds(handle), "the handle isn't held");
-        cache.release(&mut client, handle, false, false);
-    }
+    after[3] = after[3].saturating_add(placed as u64);
+    leaves(rt, cache, &mut client, handle, work);
     back.push(client)?;
     Ok(after)
+}
+
+/// The usage, the occupancy and the pinned usage.
+fn totals(cache: &Store, client: &mut Client<AnyBytes>) -> [u64; 4]
+    requires { Knows cache.now client.old }
+    ensures { Knows cache.now client.new }
+{
+    let usage = cache.usage(client);
+    let occupancy = cache.occupancy(client);
+    [usage, occupancy, cache.pinned_usage(client), 0]
+}
+
+/// A client gives its handle back, or erases the keys that it erased once more.
+fn leaves(
+    rt: &impl Abort,
+    cache: &Store,
+    client: &mut Client<AnyBytes>,
+    handle: Option<Handle>,
+    work: Work,
+)
+    requires { Knows cache.now client.old }
+    ensures { Knows cache.now client.new }
+{
+    if work == Work::Passes {
+        for w0 in [0, 2, 4, 6] {
+            cache.erase(client, Key { w0, w1: 1 });
+        }
+    }
+    if let Some(handle) = handle {
+        assert!(rt; client.holds(handle), "the handle isn't held");
+        cache.release(client, handle, false, false);
+    }
 }
 
 /// A cache of so many clients.

@@ -1,5 +1,8 @@
+use Rattle.std.proofs.Common.{◌-◌, length}
 use Rattle.hcc_cache.proofs.Lists.{get_take}
 use Rattle.hcc_cache.proofs.tests.shared.without_last.Goals as goal
 
 pub refused-stage-requires : goal.refused-stage-requires
-refused-stage-requires g c = ?
+refused-stage-requires g c k client at =
+    let clients = c.args.stage.clients.items in
+    c.requires k client (get_take clients (length clients - 1) k client (rw c.pop.ensures.rest at at))

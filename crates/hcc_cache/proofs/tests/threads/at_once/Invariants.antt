@@ -1,3 +1,4 @@
+use Rattle.std.specs.Prelude.{IfOk}
 use Rattle.hcc_rule.specs.Views.{Each}
 use Rattle.hcc_cache.specs.Known.{Knows}
 use Rattle.hcc_cache.specs.Staged.{AllKnown}
@@ -5,6 +6,6 @@ use Rattle.hcc_cache.proofs.tests.threads.at_once.Given as goal
 
 abbrev pub invariant-loop-done : goal.invariant-loop-done
 invariant-loop-done g l = record {
-  each : Each (λ d. Knows l.cache d.client) l.done-iterator.rest.items;
+  each : Each (λ r. IfOk r (λ d. Knows l.cache d.client)) l.done-iterator.rest.items;
   back : AllKnown l.cache l.back.items;
 }
