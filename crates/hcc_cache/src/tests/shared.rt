@@ -1,14 +1,13 @@
 //! Caches of several clients, one after another, and when they are closed.
 
 ghost use Rattle.std.specs.Prelude.{◌≡◌, IfOk};
-ghost use Rattle.hcc_cache.specs.Known.{Knows};
 ghost use Rattle.hcc_cache.specs.Staged.{AllKnown};
 
 use super::calls::{Answer, Call, plays, values_of};
-use super::stage::{SMALL, Stage, Store, closes, opened};
+use super::stage::{SMALL, Stage, closes, opened};
 use crate::Inserted::Placed;
 use crate::Priority::Low;
-use crate::{AnyBytes, Client, CloseError, Config, Handle, Key};
+use crate::{CloseError, Config};
 use std::alloc::AllocError;
 use std::process::Abort;
 use std::test::Fail;
@@ -55,6 +54,8 @@ fn clients_share_the_hand(rt: HostRuntime) -> Result<(), Fail> {
 const SHOWS: [Step; 1] = [(Call::Insert(0, 1, 200, Low, &[7]), Answer::Stored(Placed))];
 
 const HOLDS: [Step; 1] = [(Call::Look(0, 1, 0), Answer::Found)];
+
+const LETS_GO: [Step; 1] = [(Call::Release(0, false, false), Answer::Freed(false))];
 
 const HIDES: [Step; 3] = [
     (Call::Erase(0, 1), Answer::Hidden(1)),
@@ -150,9 +151,8 @@ fn the_most_clients(rt: HostRuntime) -> Result<(), Fail> {
     plays(&rt, &mut stage, 0, &SHOWS);
     let mut handles = Vec::with_capacity(rt.alloc(), 1_024)?;
     for number in 0..stage.clients.len() {
-        assert!(rt; number < stage.clients.len(), "a client is missing");
-        let handle = holds(&rt, &stage.cache, &mut stage.clients[number]);
-        handles.push(handle)?;
+        plays(&rt, &mut stage, number, &HOLDS);
+        handles.push(stage.hand.handle(&rt, 0))?;
     }
     assert_eq!(rt; handles.len(), 1_024);
     let all = [
@@ -161,34 +161,12 @@ fn the_most_clients(rt: HostRuntime) -> Result<(), Fail> {
     ];
     plays(&rt, &mut stage, 0, &all);
     for (number, handle) in (0..).zip(handles) {
-        assert!(rt; number < stage.clients.len(), "a client is missing");
-        gives(&rt, &stage.cache, &mut stage.clients[number], handle);
+        stage.hand.keep(&rt, 0, handle);
+        plays(&rt, &mut stage, number, &LETS_GO);
     }
     let closed = closes(&rt, stage);
     assert_eq!(rt; [closed.usage(), closed.occupied()], [200, 1]);
     Ok(())
-}
-
-/// A client finds the entry.
-fn holds(rt: &impl Abort, cache: &Store, client: &mut Client<AnyBytes>) -> Handle
-    requires { Knows cache.now client.old }
-    ensures { Knows cache.now client.new }
-{
-    let found = cache.lookup(client, Key { w0: 0, w1: 1 });
-    let found = found.expect(rt, "no handle is given");
-    found.expect(rt, "the entry isn't found")
-}
-
-/// A client gives its handle back.
-fn gives(rt: &impl Abort, cache: &Store, client: &mut Client<AnyBytes>, handle: Handle)
-    requires { Knows cache.now client.old }
-    ensures { Knows cache.now client.new }
-{
-    assert!(rt; client.holds(handle), "the handle isn't held");
-    assert!(rt;
-        !cache.release(client, handle, false, false),
-        "the entry was freed"
-    );
 }
 
 /// A cache of as many shards as there can be: each gets a key of its own, and tells it.

@@ -69,7 +69,8 @@ fn at_once<R: Abort + Threads + Sync>(
 fn opened(alloc: Global, config: Config) -> Result<(Store, Vec<Client<AnyBytes>>), NewError>
     ensures { IfOk result (λ made. Each (λ c. Knows made.0 c) made.1.items) }
 {
-    Cache::new(alloc, config, AnyBytes)
+    let (cache, clients) = Cache::new(alloc, config, AnyBytes)?;
+    Ok((cache, clients))
 }
 
 /// All clients work, each on a thread.
@@ -105,30 +106,43 @@ fn works(
     requires { Knows cache.now client }
     ensures { IfOk result (λ d. Knows cache.now d.client) }
 {
-    let mut handle = None;
-    let mut placed = false;
-    match work {
-        Work::Pins => {
-            let value = Vec::from_slice(alloc, &client.number().to_le_bytes()[..1])?;
-            let (made, inserted) = pins_own(rt, cache, &mut client, value);
-            handle = Some(made);
-            placed = inserted == Placed;
-        }
-        Work::Meets => {
-            if client.number() == 0 {
-                shows(rt, cache, &mut client)
-            } else {
-                looks(rt, cache, &mut client)
-            }
-        }
-        Work::Passes => passes(rt, cache, &mut client),
-        Work::Blocks => blocks(rt, cache, &mut client),
-    }
+    let value = Vec::from_slice(alloc, &client.number().to_le_bytes()[..1])?;
+    let (handle, placed) = does(rt, cache, &mut client, value, work);
     Ok(Done {
         client,
         handle,
         placed,
     })
+}
+
+/// The same, with a value that it may insert: a handle that it keeps, and whether it placed an entry
+/// with it.
+fn does(
+    rt: &impl Abort,
+    cache: &Store,
+    client: &mut Client<AnyBytes>,
+    value: Vec<u8>,
+    work: Work,
+) -> (Option<Handle>, bool)
+    requires { Knows cache.now client.old }
+    ensures { Knows cache.now client.new }
+{
+    match work {
+        Work::Pins => {
+            let (handle, inserted) = pins_own(rt, cache, client, value);
+            return (Some(handle), inserted == Placed);
+        }
+        Work::Meets => {
+            if client.number() == 0 {
+                shows(rt, cache, client)
+            } else {
+                looks(rt, cache, client)
+            }
+        }
+        Work::Passes => passes(rt, cache, client),
+        Work::Blocks => blocks(rt, cache, client),
+    }
+    (None, false)
 }
 
 /// Inserts the key with a handle, by the client's number as the value, and reads it.
