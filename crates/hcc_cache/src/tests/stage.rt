@@ -84,8 +84,8 @@ pub(super) fn opened(alloc: Global, config: Config, values: Vec<Vec<u8>>) -> Res
     })
 }
 
-/// Closes the cache, once the clients let go of the handles that have numbers. The sums are those of
-/// the slots.
+/// Closes the cache, once the clients let go of the handles that have numbers. The sums are those
+/// of the slots.
 pub(super) fn closes(rt: &impl Abort, mut stage: Stage) -> Closed
     requires { AllKnown stage.cache stage.clients.items }
 {

@@ -115,8 +115,8 @@ fn works(
     })
 }
 
-/// The same, with a value that it may insert: a handle that it keeps, and whether it placed an entry
-/// with it.
+/// The same, with a value that it may insert: a handle that it keeps, and whether it placed an
+/// entry with it.
 fn does(
     rt: &impl Abort,
     cache: &Store,
@@ -245,8 +245,8 @@ fn passes(rt: &impl Abort, cache: &Store, client: &mut Client<AnyBytes>)
     }
 }
 
-/// Reads 2,000 blocks, each from the cache or, where it isn't there, from its file: the byte at p is
-/// p modulo 251. The sum of all bytes is the same in every order.
+/// Reads 2,000 blocks, each from the cache or, where it isn't there, from its file: the byte at p
+/// is p modulo 251. The sum of all bytes is the same in every order.
 fn blocks(rt: &impl Abort, cache: &Store, client: &mut Client<AnyBytes>)
     requires { Knows cache.now client.old }
     ensures { Knows cache.now client.new }
