@@ -115,8 +115,8 @@ fn works(
     })
 }
 
-/// The same, with a value that it may insert: a handle that it keeps, and whether it placed an entry
-/// with it.
+/// The same, with a value that it may insert: a handle that it keeps, and whether it placed an
+/// entry with it.
 fn does(
     rt: &impl Abort,
     cache: &Store,
