@@ -1,5 +1,5 @@
 -- Blocks, and where they lie in their files.
-use Rattle.std.proofs.Common.{◌≡◌, ◌≢◌, ℕ, ◌+◌, ◌-◌, ◌*◌, ◌<◌, ◌≤◌, min, List, [], Option, Some, None, length, take, drop, refl, arith, inl, inr, true, nat_lt, rules, tests, IfSome}
+use Rattle.std.proofs.Common.{◌≡◌, ◌≢◌, ℕ, ◌+◌, ◌-◌, ◌*◌, ◌<◌, ◌≤◌, min, List, [], Option, Some, None, length, take, drop, refl, arith, inl, inr, nat_lt}
 use Rattle.std.specs.Prelude.{slice_get}
 use Rattle.std.proofs.lemmas.Bool.{cases_Bool}
 use Rattle.std.proofs.lemmas.List.{length-take}
@@ -12,31 +12,6 @@ next : (index size : ℕ) → (index + 1) * size ≡ index * size + size
 next index size = omega arith
 
 module _ (files : List (List ℕ)) (size file index : ℕ) where
-  lies_in : (len : ℕ) (found : Option (List ℕ)) → 0 < size → slice_get files file ≡ found
-      → file < length files → IfSome found (λ bytes. len ≡ length bytes) → index * size < len
-      → IsAt files size file index (index * size) (min (len - index * size) size)
-  unfolding block_of
-  lies_in len (Some bytes) some here within long before =
-      let from : ℕ = index * size in
-      let start : nat_lt from (length bytes) ≡ true = search (rules, tests) in
-      let cut : min (length bytes) ((index + 1) * size) - from ≡ min (len - from) size =
-      rw (next index size) (omega arith) in
-      record {
-        some = omega arith;
-        few = omega arith;
-        within = rw here (omega arith);
-        bytes = rw (here, start, cut) refl;
-      }
-  lies_in len None some here within long before =
-      let there = slice_get-get_or files file [] within in cc
-
-  -- A block that begins before the file's end lies there.
-  pub block_lies : (len : ℕ) → 0 < size → file < length files
-      → IfSome (slice_get files file) (λ bytes. len ≡ length bytes) → index * size < len
-      → IsAt files size file index (index * size) (min (len - index * size) size)
-  block_lies len some within long before =
-      lies_in len (slice_get files file) some refl within long before
-
   there_in : (from count : ℕ) (found : Option (List ℕ)) → slice_get files file ≡ found
       → IsAt files size file index from count → file < length files
       → block_of files size file index ≢ None

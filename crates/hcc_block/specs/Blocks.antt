@@ -33,6 +33,6 @@ pub record IsBlock (files : List (List ℕ)) (size : ℕ) (key : Key) (value : L
 
 -- What fits a key is the block of these files that it names, and nothing else.
 pub record FitsBlocks (fits : Key → List ℕ → Type 0) (files : List (List ℕ)) (size : ℕ) : Type 0
-    where
-  pub only : (key : Key) (value : List ℕ) → fits key value → IsBlock files size key value
-  pub all : (key : Key) (value : List ℕ) → IsBlock files size key value → fits key value
+  where
+    pub only : (key : Key) (value : List ℕ) → fits key value → IsBlock files size key value
+    pub all : (key : Key) (value : List ℕ) → IsBlock files size key value → fits key value

@@ -1,0 +1,99 @@
+//! A cache of one client for blocks of files, on which reads are played.
+ghost use Rattle.std.specs.Prelude.{◌≡◌, ◌≤◌, ◌*◌, IfOk, length};
+ghost use Rattle.hcc_cache.specs.Known.{Knows};
+ghost use Rattle.hcc_block.specs.Benches.{Suits};
+
+use crate::{BlockReader, BlockSource, FilesTag, ReadError};
+use hcc_cache::{Cache, Client, Config};
+use hcc_rule::Tag;
+use std::alloc::{AllocError, Global};
+use std::process::Abort;
+
+/// A cache of one shard with 8 slots, and one client.
+pub(super) const SMALL: Config = Config {
+    slots: 8,
+    room: 2,
+    clients: 1,
+    handles: 8,
+    shards: 1,
+    capacity: 600,
+    strict: false,
+    marks: false,
+    serials: 18_014_398_509_481_984,
+    seed: 0,
+};
+
+/// How many bytes a block has.
+pub(super) const BLOCK: u32 = 16;
+
+/// What stands in a buffer before a read.
+const BEFORE: u8 = 0xee;
+
+/// A read of a block, and what is wanted of it.
+#[derive(Clone, Copy, Debug)]
+pub(super) struct Read<'a> {
+    pub(super) file: u32,
+    pub(super) index: u32,
+    pub(super) want: Result<&'a [u8], ReadError>,
+}
+
+/// Files of these bytes.
+pub(super) fn files_of(alloc: Global, all: &[&[u8]]) -> Result<Vec<Vec<u8>>, AllocError> {
+    let mut files = Vec::new(alloc);
+    for bytes in all {
+        let mut file = Vec::new(alloc);
+        file.extend_from_slice(bytes)?;
+        files.push(file)?;
+    }
+    Ok(files)
+}
+
+/// A new cache for blocks of these files, and its client.
+pub(super) fn opened<'a>(
+    alloc: Global,
+    rt: &impl Abort,
+    config: Config,
+    files: &'a [Vec<u8>],
+) -> Result<(Cache<FilesTag<'a>>, Client<FilesTag<'a>>), AllocError>
+    ensures known { IfOk result (λ made. Knows made.0 made.1) }
+    ensures files { IfOk result (λ made. made.0.tag.files ≡ files) }
+    ensures block { IfOk result (λ made. made.0.tag.block ≡ BLOCK) }
+    ensures room { IfOk result (λ made. BLOCK ≤ 8 * made.0.geometry.room) }
+{
+    let tag = FilesTag {
+        files,
+        block: BLOCK,
+    };
+    let Ok((cache, mut clients)) = Cache::new(alloc, config, tag) else {
+        return Err(AllocError);
+    };
+    assert!(rt; cache.room() >= 16, "a block has no room");
+    let client = clients.pop().expect(rt, "there is no client");
+    Ok((cache, client))
+}
+
+/// Reads blocks one after the other. Each answer is as wanted, and the rest of the buffer stays.
+pub(super) fn plays<T: Tag, S: BlockSource>(
+    rt: &impl Abort,
+    cache: &Cache<T>,
+    client: &mut Client<T>,
+    reader: &mut BlockReader<S>,
+    reads: &[Read],
+)
+    requires { Suits T.fits S.content cache.now client.old reader.old }
+    ensures { Suits T.fits S.content cache.now client.new reader.new }
+{
+    for read in reads {
+        let mut buffer = [BEFORE; 17];
+        let got = reader.read(cache, client, read.file, read.index, &mut buffer);
+        match read.want {
+            Ok(bytes) => {
+                assert_eq!(rt; got, Ok(bytes.len()), "at {read:?}");
+                assert!(rt; bytes.len() <= 16, "at {read:?}");
+                assert!(rt; &buffer[..bytes.len()] == bytes, "at {read:?}");
+                assert_eq!(rt; buffer[bytes.len()], BEFORE, "at {read:?}");
+            }
+            Err(error) => assert_eq!(rt; got, Err(error), "at {read:?}"),
+        }
+    }
+}
