@@ -1,7 +1,8 @@
 //! Blocks of files, read through the cache.
 //!
 //! A [`BlockSource`] is a list of files. A [`BlockReader`] reads their blocks, from the cache where
-//! it has them and else from the source. Whatever the cache keeps, what is read is the file's block.
+//! it has them and else from the source. Whatever the cache keeps, what is read is the file's
+//! block.
 #![tactic(auto)]
 
 mod failing;
@@ -10,6 +11,8 @@ mod reader;
 mod reading;
 mod source;
 mod tag;
+#[cfg(test)]
+mod tests;
 
 pub use failing::FailingSource;
 pub use memory::MemorySource;

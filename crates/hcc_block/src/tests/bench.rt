@@ -1,5 +1,6 @@
 //! A cache of one client for blocks of files, on which reads are played.
-ghost use Rattle.std.specs.Prelude.{◌≡◌, ◌≤◌, ◌*◌, IfOk, length};
+ghost use Rattle.std.specs.Prelude.{◌≡◌, ◌≤◌, ◌*◌, ℕ, Some, IfOk, length, slice_get};
+ghost use Rattle.hcc_block.specs.declared.tests.bench.TheConstants.{BLOCK};
 ghost use Rattle.hcc_cache.specs.Known.{Knows};
 ghost use Rattle.hcc_block.specs.Benches.{Suits};
 
@@ -48,15 +49,17 @@ pub(super) fn files_of(alloc: Global, all: &[&[u8]]) -> Result<Vec<Vec<u8>>, All
     Ok(files)
 }
 
-/// A new cache for blocks of these files, and its client.
+/// A new cache for blocks of these files, and its one client.
 pub(super) fn opened<'a>(
     alloc: Global,
     rt: &impl Abort,
     config: Config,
     files: &'a [Vec<u8>],
-) -> Result<(Cache<FilesTag<'a>>, Client<FilesTag<'a>>), AllocError>
-    ensures known { IfOk result (λ made. Knows made.0 made.1) }
-    ensures files { IfOk result (λ made. made.0.tag.files ≡ files) }
+) -> Result<(Cache<FilesTag<'a>>, Vec<Client<FilesTag<'a>>>), AllocError>
+    ensures known { IfOk result (λ made. (k : ℕ) (client : _)
+        → slice_get made.1.items k ≡ Some client → Knows made.0 client) }
+    ensures one { IfOk result (λ made. length made.1.items ≡ 1) }
+    ensures files { IfOk result (λ made. made.0.tag.files.now ≡ files.entry.now) }
     ensures block { IfOk result (λ made. made.0.tag.block ≡ BLOCK) }
     ensures room { IfOk result (λ made. BLOCK ≤ 8 * made.0.geometry.room) }
 {
@@ -64,12 +67,12 @@ pub(super) fn opened<'a>(
         files,
         block: BLOCK,
     };
-    let Ok((cache, mut clients)) = Cache::new(alloc, config, tag) else {
+    let Ok((cache, clients)) = Cache::new(alloc, config, tag) else {
         return Err(AllocError);
     };
     assert!(rt; cache.room() >= 16, "a block has no room");
-    let client = clients.pop().expect(rt, "there is no client");
-    Ok((cache, client))
+    assert!(rt; clients.len() == 1, "there is one client");
+    Ok((cache, clients))
 }
 
 /// Reads blocks one after the other. Each answer is as wanted, and the rest of the buffer stays.

@@ -31,14 +31,14 @@ fn a_file_is_read_in_blocks(rt: HostRuntime) -> Result<(), Fail> {
         block: BLOCK,
     };
     let (cache, mut clients) = Cache::new(rt.alloc(), CONFIG, tag)?;
-    let mut client = clients.pop().expect(&rt, "no client");
-    assert!(rt; files.len() == 1 && cache.room() >= 16);
+    assert!(rt; files.len() == 1 && clients.len() == 1 && cache.room() >= 16);
+    let client = &mut clients[0];
     let mut reader = BlockReader::new(MemorySource::new(&files), BLOCK);
     let mut buffer = [0; 16];
-    let first = reader.read(&cache, &mut client, 0, 3, &mut buffer);
+    let first = reader.read(&cache, client, 0, 3, &mut buffer);
     assert_eq!(rt; first, Ok(7));
-    assert!(rt; &buffer[..7] == b"horter.");
-    let again = reader.read(&cache, &mut client, 0, 3, &mut buffer);
+    assert!(rt; &buffer[..7] == b"horter.".as_slice());
+    let again = reader.read(&cache, client, 0, 3, &mut buffer);
     assert_eq!(rt; again, Ok(7));
     assert_eq!(rt; [reader.hits(), reader.misses()], [1, 1]);
     Ok(())

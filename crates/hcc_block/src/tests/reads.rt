@@ -40,9 +40,10 @@ fn fault<'a>(file: u32, index: u32) -> Read<'a> {
 
 #[test]
 fn a_block_is_read_and_kept(rt: HostRuntime) -> Result<(), Fail> {
-    let files = files_of(rt.alloc(), &[&BYTES])?;
+    let files = files_of(rt.alloc(), &[&BYTES[..]])?;
     assert!(rt; files.len() <= 1);
-    let (cache, mut client) = opened(rt.alloc(), &rt, SMALL, &files)?;
+    let (cache, mut clients) = opened(rt.alloc(), &rt, SMALL, &files)?;
+    let client = &mut clients[0];
     let mut reader = BlockReader::new(MemorySource::new(&files), BLOCK);
     let reads = [
         has(0, 0, &BYTES[..16]),
@@ -51,18 +52,19 @@ fn a_block_is_read_and_kept(rt: HostRuntime) -> Result<(), Fail> {
         none(0, 3),
         none(1, 0),
     ];
-    plays(&rt, &cache, &mut client, &mut reader, &reads);
+    plays(&rt, &cache, client, &mut reader, &reads);
     assert_eq!(rt; [reader.hits(), reader.misses()], [1, 2]);
-    assert_eq!(rt; cache.usage(&mut client), 24);
-    assert_eq!(rt; cache.occupancy(&mut client), 2);
+    assert_eq!(rt; cache.usage(client), 24);
+    assert_eq!(rt; cache.occupancy(client), 2);
     Ok(())
 }
 
 #[test]
 fn a_read_after_a_fault_is_right(rt: HostRuntime) -> Result<(), Fail> {
-    let files = files_of(rt.alloc(), &[&BYTES])?;
+    let files = files_of(rt.alloc(), &[&BYTES[..]])?;
     assert!(rt; files.len() <= 1);
-    let (cache, mut client) = opened(rt.alloc(), &rt, SMALL, &files)?;
+    let (cache, mut clients) = opened(rt.alloc(), &rt, SMALL, &files)?;
+    let client = &mut clients[0];
     let source = FailingSource::new(MemorySource::new(&files), 1);
     let mut reader = BlockReader::new(source, BLOCK);
     let reads = [
@@ -72,14 +74,14 @@ fn a_read_after_a_fault_is_right(rt: HostRuntime) -> Result<(), Fail> {
         none(0, 3),
         none(1, 0),
     ];
-    plays(&rt, &cache, &mut client, &mut reader, &reads);
+    plays(&rt, &cache, client, &mut reader, &reads);
     assert_eq!(rt; [reader.hits(), reader.misses()], [1, 2]);
-    assert_eq!(rt; cache.usage(&mut client), 16);
-    assert_eq!(rt; cache.occupancy(&mut client), 1);
+    assert_eq!(rt; cache.usage(client), 16);
+    assert_eq!(rt; cache.occupancy(client), 1);
     let reads = [has(0, 1, &BYTES[16..32]), has(0, 2, &BYTES[32..])];
-    plays(&rt, &cache, &mut client, &mut reader, &reads);
+    plays(&rt, &cache, client, &mut reader, &reads);
     assert_eq!(rt; [reader.hits(), reader.misses()], [1, 4]);
-    assert_eq!(rt; cache.usage(&mut client), 40);
+    assert_eq!(rt; cache.usage(client), 40);
     Ok(())
 }
 
@@ -90,7 +92,8 @@ fn blocks_at_the_end_of_files(rt: HostRuntime) -> Result<(), Fail> {
         &[&BYTES[..0], &BYTES[7..8], &BYTES[..16], &BYTES[..17]],
     )?;
     assert!(rt; files.len() <= 4);
-    let (cache, mut client) = opened(rt.alloc(), &rt, SMALL, &files)?;
+    let (cache, mut clients) = opened(rt.alloc(), &rt, SMALL, &files)?;
+    let client = &mut clients[0];
     let mut reader = BlockReader::new(MemorySource::new(&files), BLOCK);
     let reads = [
         none(0, 0),
@@ -106,31 +109,32 @@ fn blocks_at_the_end_of_files(rt: HostRuntime) -> Result<(), Fail> {
         none(4, 0),
         none(4_294_967_295, 0),
     ];
-    plays(&rt, &cache, &mut client, &mut reader, &reads);
+    plays(&rt, &cache, client, &mut reader, &reads);
     assert_eq!(rt; [reader.hits(), reader.misses()], [0, 3]);
-    plays(&rt, &cache, &mut client, &mut reader, &reads);
+    plays(&rt, &cache, client, &mut reader, &reads);
     assert_eq!(rt; [reader.hits(), reader.misses()], [3, 3]);
     Ok(())
 }
 
 #[test]
 fn a_refused_look_up_is_a_miss(rt: HostRuntime) -> Result<(), Fail> {
-    let files = files_of(rt.alloc(), &[&BYTES])?;
+    let files = files_of(rt.alloc(), &[&BYTES[..]])?;
     assert!(rt; files.len() <= 1);
     let config = Config {
         serials: 1,
         ..SMALL
     };
-    let (cache, mut client) = opened(rt.alloc(), &rt, config, &files)?;
+    let (cache, mut clients) = opened(rt.alloc(), &rt, config, &files)?;
+    let client = &mut clients[0];
     let mut reader = BlockReader::new(MemorySource::new(&files), BLOCK);
     let reads = [
         has(0, 0, &BYTES[..16]),
         has(0, 0, &BYTES[..16]),
         has(0, 1, &BYTES[16..32]),
     ];
-    plays(&rt, &cache, &mut client, &mut reader, &reads);
+    plays(&rt, &cache, client, &mut reader, &reads);
     assert_eq!(rt; [reader.hits(), reader.misses()], [0, 3]);
-    assert_eq!(rt; cache.usage(&mut client), 16);
+    assert_eq!(rt; cache.usage(client), 16);
     Ok(())
 }
 
