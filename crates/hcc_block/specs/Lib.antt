@@ -2,4 +2,3 @@ pub mod Blocks
 pub mod Sources
 pub mod Reads
 pub mod Tags
-pub mod Benches

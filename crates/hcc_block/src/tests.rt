@@ -1,7 +1,4 @@
-//! What no clause says: worked reads with their counts, what a reader inserts, and the texts of
-//! errors.
+//! What no clause says: the texts of errors, and a file that is read through a cache.
 
-mod bench;
 mod errors;
 mod example;
-mod reads;
