@@ -1,0 +1,4 @@
+pub mod Lying
+pub mod Named
+pub mod Held
+pub mod Steps

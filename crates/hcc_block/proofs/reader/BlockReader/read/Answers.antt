@@ -1,0 +1,51 @@
+use Rattle.std.proofs.Common.{arith, ◌≤◌, ◌*◌}
+use Rattle.hcc_cache.specs.Calls.{steps_by}
+use Rattle.hcc_block.proofs.Lying.{block_short, block_there}
+use Rattle.hcc_block.proofs.Named.{fits_only}
+use Rattle.hcc_block.proofs.Steps.{hit_within}
+use Rattle.hcc_block.proofs.reader.BlockReader.read.Goals as goal
+
+pub copied-requires-clause-room : goal.copied-requires-clause-room
+copied-requires-clause-room g c value fits =
+    let files = g.S.BlockSource.content c.args.self.now.source in
+    let size = c.args.self.now.block in
+    let block = fits_only (g.T.Tag.fits c.args.cache.now.tag) files size c.args.file c.args.index
+    c.key_of.result value c.requires.tag c.key_of.ensures c.ranges.file.fits c.ranges.index.fits
+    fits in
+    let short = block_short files size c.args.file c.args.index value block in
+    let room = c.requires.room in
+    omega arith
+
+pub returns-in-Some-copied-clause-answers : goal.returns-in-Some-copied-clause-answers
+returns-in-Some-copied-clause-answers g c =
+    let files = g.S.BlockSource.content c.args.self.now.source in
+    let size = c.args.self.now.block in
+    let found = c.in-Some-copied.ensures.some in
+    let block = fits_only (g.T.Tag.fits c.args.cache.now.tag) files size c.args.file c.args.index
+    c.key_of.result found.0 c.requires.tag c.key_of.ensures c.ranges.file.fits
+    c.ranges.index.fits found.1 in
+    (found.0, block, found.2, found.3)
+
+pub returns-in-Some-copied-clause-steps : goal.returns-in-Some-copied-clause-steps
+returns-in-Some-copied-clause-steps g c =
+    let files = g.S.BlockSource.content c.args.self.now.source in
+    let size = c.args.self.now.block in
+    let found = c.in-Some-copied.ensures.some in
+    let block = fits_only (g.T.Tag.fits c.args.cache.now.tag) files size c.args.file c.args.index
+    c.key_of.result found.0 c.requires.tag c.key_of.ensures c.ranges.file.fits
+    c.ranges.index.fits found.1 in
+    let short = block_short files size c.args.file c.args.index found.0 block in
+    let count = found.2 in
+    let small = c.requires.block in
+    let slots = c.args.cache.now.limits.some_slots in
+    hit_within c.args.cache.now.geometry.slots c.args.cache.now.geometry.room
+    c.in-Some-copied.count (steps_by c.args.client.now) (steps_by c.copied.new.client)
+    (omega arith) (omega arith) c.in-Some-copied.ensures.steps
+
+pub returns-in-Err-clause-answers : goal.returns-in-Err-clause-answers
+returns-in-Err-clause-answers g c =
+    let files = g.S.BlockSource.content c.args.self.now.source in
+    let place = c.in-Some.ensures.some in (
+      block_there files c.args.self.now.block c.args.file c.args.index _ _ place.1 place.0,
+      c.in-Err.ensures.failed,
+    )

@@ -1,0 +1,9 @@
+use Rattle.hcc_block.proofs.Held.{holds_same}
+use Rattle.hcc_block.proofs.reading.copied.Goals as goal
+
+pub returns-clause-same : goal.returns-clause-same
+returns-clause-same g c =
+    let finds = rw c.in-Ok-Some.field-0-is at c.in-Ok-Some.ensures.found in
+    holds_same c.args.cache.now c.in-Ok-Some.handle _ c.args.client.now c.lookup.new.client
+    c.read_value-count.new.client c.release.new.client finds.gains
+    c.read_value-count.ensures.reads.keeps c.release.ensures.released.loses

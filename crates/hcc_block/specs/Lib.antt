@@ -1,0 +1,4 @@
+pub mod Blocks
+pub mod Sources
+pub mod Reads
+pub mod Tags
