@@ -1,5 +1,5 @@
 -- What each call leaves of a client.
-use Rattle.std.specs.Prelude.{◌≡◌, ℕ, ◌+◌, ◌≤◌, ◌++◌, Bool, true, false, List, [], ◌∷◌, Option, Some, None, IsSome, find, length}
+use Rattle.std.specs.Prelude.{◌≡◌, ℕ, ◌+◌, ◌≤◌, ◌++◌, ◌&&◌, Bool, true, false, List, [], ◌∷◌, Option, Some, None, IsSome, find, length, slice_get}
 use Rattle.hcc_core.specs.declared.slot.Entry.{Entry}
 use Rattle.hcc_core.specs.Lawful.{is_in}
 use Rattle.hcc_core.specs.Ledgers.{is_standing}
@@ -10,11 +10,15 @@ use Rattle.hcc_rule.specs.declared.view.View.{View}
 use Rattle.hcc_rule.specs.Words.{key_of}
 use Rattle.hcc_table.specs.Searched.{AllDead, IsFound, IsMissed, Searched}
 use Rattle.hcc_charge.specs.Settled.{fallen}
-use Rattle.hcc_shard.specs.Callers.{steps_of}
+use Rattle.hcc_shard.specs.declared.seat.ShardSeat.{ShardSeat}
+use Rattle.hcc_shard.specs.declared.shard.Shard.{Shard}
+use Rattle.hcc_shard.specs.Callers.{GivesBackAt, steps_of}
 use Rattle.hcc_shard.specs.Referred.{IsErasedAll, IsReleased}
 use Rattle.hcc_cache.specs.declared.cache.Cache.{Cache}
 use Rattle.hcc_cache.specs.declared.client.Client.{Client}
 use Rattle.hcc_cache.specs.declared.handle.Handle.{Handle}
+use Rattle.hcc_cache.specs.declared.holding.Hold.{Hold}
+use Rattle.hcc_cache.specs.declared.holding.Kept.TheVariants.{Pinned}
 use Rattle.hcc_cache.specs.declared.seeded.Seeded.{Seeded}
 use Rattle.hcc_cache.specs.Clients.{Held, held_by, held_entry, held_of, hold_of, view_at}
 use Rattle.hcc_cache.specs.Keys.{fits_seeded, key_from, key_to, shard_of}
@@ -157,6 +161,25 @@ module _ {T : Type 0} (cache : Cache T) where
     pub works : Works shard old new v w
     pub released : ReleasedOf handle.serial erase freed held.standing v w
     pub loses : Loses handle old new
+
+  -- The client gave a reference at this slot of this shard back, as a use or not.
+  pub record GivesBackIn (shard slot : ℕ) (used erase freed : Bool) (old new : Client T)
+      : Type 0 where
+    pub there : Shard (Seeded T) _
+    pub was : ShardSeat (Seeded T)
+    pub is : ShardSeat (Seeded T)
+    pub shard_is : slice_get cache.shards.items shard ≡ Some there
+    pub before : slice_get old.seats.items shard ≡ Some was
+    pub later : slice_get new.seats.items shard ≡ Some is
+    pub gives : GivesBackAt there slot used erase freed was is
+
+  -- The reference of a handle on an entry of the table was given back at the entry's slot: as a use
+  -- just where the release was useful and the reference counts.
+  abbrev pub GivesUp : Handle → (useful erase freed : Bool) → (old new : Client T) → Type 0
+  GivesUp handle useful erase freed old new =
+      (hold : Hold) (slot : ℕ) (counting : Bool) → hold_of old handle ≡ Some hold
+      → hold.kept ≡ Pinned slot counting
+      → GivesBackIn hold.shard slot (useful && counting) erase freed old new
 
   -- The client read what it holds.
   pub record Reads (old new : Client T) : Type 0 where

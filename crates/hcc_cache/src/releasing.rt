@@ -1,7 +1,7 @@
 //! Handles that are given back.
-ghost use Rattle.std.specs.Prelude.{◌≡◌, ◌+◌, ◌*◌, Some};
+ghost use Rattle.std.specs.Prelude.{◌≡◌, ◌+◌, ◌*◌, ◌&&◌, Some};
 ghost use Rattle.hcc_cache.specs.declared.holding.Kept.TheVariants.{Pinned, Standing};
-ghost use Rattle.hcc_cache.specs.Calls.{Releases, TakesAtMost};
+ghost use Rattle.hcc_cache.specs.Calls.{GivesBackIn, GivesUp, Releases, TakesAtMost};
 ghost use Rattle.hcc_cache.specs.Clients.{hold_of, Holds};
 ghost use Rattle.hcc_cache.specs.Known.{Knows};
 ghost use Rattle.hcc_table.specs.Steps.{freeing};
@@ -33,6 +33,8 @@ impl<T: Tag> Cache<T> {
         requires holds { Holds client.old handle }
         ensures known { Knows self.now client.new }
         ensures released { Releases self.now handle erase_if_last result client.old client.new }
+        ensures gives { GivesUp self.now handle useful erase_if_last result
+            client.old client.new }
         ensures steps { TakesAtMost (freeing self.now.geometry.slots + 3) client.old client.new }
     {
         let hold = client.hold(handle);
@@ -65,6 +67,8 @@ impl<T: Tag> Cache<T> {
         requires kept { hold.kept ≡ Pinned pin.slot pin.counting }
         ensures known { Knows self.now client.new }
         ensures released { Releases self.now handle erase_if_last result client.old client.new }
+        ensures gives { GivesBackIn self.now hold.shard pin.slot (useful && pin.counting)
+            erase_if_last result client.old client.new }
         ensures steps { TakesAtMost (freeing self.now.geometry.slots + 3) client.old client.new }
     {
         client.let_go(handle);

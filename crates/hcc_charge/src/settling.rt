@@ -4,7 +4,7 @@ ghost use Rattle.hcc_core.specs.World.{is_placed};
 ghost use Rattle.hcc_rule.specs.Callers.{IsSeatAt};
 ghost use Rattle.hcc_rule.specs.Seats.{IsSameSeat, view};
 ghost use Rattle.hcc_charge.specs.Settled.{paid, placed_anew, settled, without_place, HasFreedNothing};
-ghost use Rattle.hcc_table.specs.Steps.{MakesAtMost};
+ghost use Rattle.hcc_table.specs.Steps.{Adds, MakesAtMost};
 
 use hcc_rule::{RuleSeat, RuleTable, Tag};
 use std::alloc::Allocator;
@@ -26,6 +26,7 @@ pub fn settle<T: Tag, A: Allocator>(
     requires covered { (view seat.old).work.needed ≤ charge }
     ensures seat { IsSameSeat seat.old seat.new }
     ensures view { view seat.new ≡ settled (view seat.old) }
+    ensures adds { Adds seat.old seat.new }
     ensures steps { MakesAtMost 2 seat.old seat.new }
 {
     give_slots(table, seat, slots);
@@ -74,6 +75,7 @@ pub(crate) fn give_slots<T: Tag, A: Allocator>(
     requires slots { (view seat.old).work.freed_slots ≡ slots }
     ensures seat { IsSameSeat seat.old seat.new }
     ensures view { view seat.new ≡ placed_anew (view seat.old) }
+    ensures adds { Adds seat.old seat.new }
     ensures steps { MakesAtMost 1 seat.old seat.new }
 {
     if slots > 0 {
@@ -93,6 +95,7 @@ pub(crate) fn give_charge<T: Tag, A: Allocator>(
     requires covered { (view seat.old).work.needed ≤ charge }
     ensures seat { IsSameSeat seat.old seat.new }
     ensures view { view seat.new ≡ paid (view seat.old) }
+    ensures adds { Adds seat.old seat.new }
     ensures steps { MakesAtMost 1 seat.old seat.new }
 {
     if charge > 0 {

@@ -8,3 +8,4 @@ pub mod Joinings
 pub mod Lefts
 pub mod Values
 pub mod Guests
+pub mod Releases

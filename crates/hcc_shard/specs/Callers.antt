@@ -7,6 +7,7 @@ use Rattle.hcc_rule.specs.Callers as table
 use Rattle.hcc_rule.specs.Seats.{made, view}
 use Rattle.hcc_shard.specs.declared.seat.ShardSeat.{ShardSeat}
 use Rattle.hcc_shard.specs.declared.shard.Shard.{Shard}
+use Rattle.hcc_shard.specs.Referred.{GivesBack}
 
 module _ {T A : Type 0} where
   -- its sizes, its rule of capacity and its tag
@@ -38,3 +39,11 @@ module _ {T : Type 0} where
   -- how many atomic steps it made there
   abbrev pub steps_of : ShardSeat T → ℕ
   steps_of seat = made seat.seat
+
+module _ {T A : Type 0} where
+  -- The client of a seat gave a reference at this slot back, as a use or not, and tried to take the
+  -- entry where that was due.
+  abbrev pub GivesBackAt : Shard T A → (slot : ℕ) → (used erase freed : Bool)
+      → (old new : ShardSeat T) → Type 0
+  GivesBackAt shard slot used erase freed old new =
+      GivesBack (table.address_of_meta shard.table slot) used erase freed old.seat new.seat

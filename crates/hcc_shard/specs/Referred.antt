@@ -1,11 +1,25 @@
 -- What a release and an erasure leave of a view.
-use Rattle.std.specs.Prelude.{◌≡◌, ℕ, ◌+◌, ◌≤◌, ◌++◌, Bool, false, List, replicate}
+use Rattle.std.specs.Prelude.{◌≡◌, ℕ, ◌+◌, ◌≤◌, ◌++◌, Bool, true, false, List, replicate}
+use Rattle.hcc_word.specs.declared.layout.TheConstants.{CONSTRUCTION_WORD}
+use Rattle.hcc_word.specs.Word.{is_shareable, refs_of}
 use Rattle.hcc_core.specs.Outcomes.{dropped}
 use Rattle.hcc_core.specs.Sums.{when}
 use Rattle.hcc_rule.specs.declared.key.Key.{Key}
+use Rattle.hcc_rule.specs.declared.view.Atomic.{Atomic}
 use Rattle.hcc_rule.specs.declared.view.View.{View}
+use Rattle.hcc_rule.specs.Seats.{SeatOf, Makes, atomic}
 use Rattle.hcc_rule.specs.Views.{is_called}
+use Rattle.hcc_table.specs.Freed.{is_due, left_of}
 use Rattle.hcc_table.specs.Searched.{Grows, times_met}
+use Rattle.hcc_table.specs.Steps.{BeginsWithTwo, MakesTwo, amount_of}
+
+-- the step that gives one reference back, as a use or not
+abbrev pub giving : (address : ℕ) → (used : Bool) → (found : ℕ) → Atomic
+giving address used found = atomic address (amount_of used 1) 0 found
+
+-- the exchange that takes the entry of the word that is left, by what it finds
+abbrev pub taking : (address : ℕ) → (used : Bool) → (found other : ℕ) → Atomic
+taking address used found other = atomic address (left_of used 1 found) CONSTRUCTION_WORD other
 
 module _ {T : Type 0} where
   -- The record of this name is gone and no other, and an entry was freed or not: one that was Shown
@@ -38,3 +52,20 @@ module _ {T : Type 0} where
     }
     pub dead : Grows v.work.dead w.work.dead
     pub few : freed ≤ times_met key met
+
+  -- The first step of a release gave its reference back, as a use or not, and found the word of an
+  -- entry with references. Where nobody held the entry then, and it was hidden or to be erased, the
+  -- next step was the exchange that takes it: that won just where an entry was freed. Else the
+  -- release made no other step.
+  pub record GivesBack (address : ℕ) (used erase freed : Bool) (old new : SeatOf T) : Type 0 where
+    pub found : ℕ
+    pub entry : is_shareable found ≡ true
+    pub enough : 1 ≤ refs_of found
+    pub kept : is_due erase (left_of used 1 found) ≡ false
+        → (freed ≡ false) × Makes address (amount_of used 1) 0 found old new
+    pub lost : is_due erase (left_of used 1 found) ≡ true → freed ≡ false
+        → (other : ℕ) × ¬ (other ≡ left_of used 1 found)
+        × MakesTwo (giving address used found) (taking address used found other) old new
+    pub won : is_due erase (left_of used 1 found) ≡ true → freed ≡ true
+        → BeginsWithTwo (giving address used found)
+        (taking address used found (left_of used 1 found)) old new

@@ -1,5 +1,5 @@
 //! Look-ups, and references that are given back.
-ghost use Rattle.std.specs.Prelude.{◌≡◌, ◌+◌, ◌<◌, ◌++◌, ◌∷◌, [], true, Some, IfSome, IfNone, length};
+ghost use Rattle.std.specs.Prelude.{◌≡◌, ◌+◌, ◌<◌, ◌++◌, ◌∷◌, ◌&&◌, [], true, Some, IfSome, IfNone, length};
 ghost use Rattle.std.specs.List.{find};
 ghost use Rattle.hcc_core.specs.declared.limits.TheConstants.{MOST_HANDLES};
 ghost use Rattle.hcc_core.specs.Ledgers.{is_standing};
@@ -8,10 +8,11 @@ ghost use Rattle.hcc_rule.specs.Callers.{address_of_meta, room_of, slots_of, IsS
 ghost use Rattle.hcc_rule.specs.Seats.{view};
 ghost use Rattle.hcc_rule.specs.Views.{record_in};
 ghost use Rattle.hcc_table.specs.Efforts.{Lost, Took};
-ghost use Rattle.hcc_table.specs.Pins.{IsOf, IsPinned, erases};
+ghost use Rattle.hcc_table.specs.Pins.{IsOf, IsPinned, erases, is_useful};
 ghost use Rattle.hcc_table.specs.Searched.{IsFound, IsMissed, Searched};
 ghost use Rattle.hcc_table.specs.Steps.{MakesAtMost, MakesFor, Marks, freeing};
 ghost use Rattle.hcc_charge.specs.Settled.{fallen};
+ghost use Rattle.hcc_shard.specs.Callers.{GivesBackAt};
 ghost use Rattle.hcc_shard.specs.Counted.{SameCounts, SameEvictions};
 ghost use Rattle.hcc_shard.specs.Referred.{IsReleased};
 ghost use Rattle.hcc_shard.specs.Seated.{IsNext, Rests};
@@ -110,6 +111,8 @@ impl<T: Tag, A: Allocator> Shard<T, A> {
         ensures seat { Rests self.now seat.new }
         ensures view { IsReleased pin.name (erases last) result
             (view seat.old.seat) (view seat.new.seat) }
+        ensures gives { GivesBackAt self.now pin.slot (is_useful usage && pin.counting)
+            (erases last) result seat.old seat.new }
         ensures effort { Lost 0 1 seat.old.effort seat.new.effort }
         ensures counts { SameEvictions seat.old seat.new }
         ensures steps { MakesAtMost (freeing (slots_of self.now.table) + 3)

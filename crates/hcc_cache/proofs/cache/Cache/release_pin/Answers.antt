@@ -2,15 +2,16 @@ use Rattle.std.proofs.Common.{◌≡◌, ◌∙◌, ◌+◌, get_or, slice_set, 
 use Rattle.std.specs.Vec.{with_item}
 use Rattle.slab.specs.Slab.{get}
 use Rattle.hcc_rule.specs.declared.geometry.Geometry.{Geometry}
-use Rattle.hcc_table.specs.Pins.{erases}
+use Rattle.hcc_table.specs.Pins.{erases, is_useful}
 use Rattle.hcc_table.specs.Steps.{freeing}
 use Rattle.hcc_cache.specs.declared.client.Client.{Client}
 use Rattle.hcc_cache.proofs.Again.{hold_within, pin_at, pinned_at}
 use Rattle.hcc_cache.proofs.At.{ChangesAt, is_at, seated_at, takes_at}
 use Rattle.hcc_cache.proofs.Framing.{hold_there}
 use Rattle.hcc_cache.proofs.Less.{IsLess}
+use Rattle.hcc_core.proofs.ListLemmas.{read_here}
 use Rattle.hcc_cache.proofs.Released.{knows_unpinned, lets_go, releases_unpinned}
-use Rattle.hcc_cache.proofs.cache.Cache.release_pin.Goals.{then-erase_if_last, else-erase_if_last}
+use Rattle.hcc_cache.proofs.cache.Cache.release_pin.Goals.{then-erase_if_last, else-erase_if_last, then-useful, else-useful}
 use Rattle.hcc_cache.proofs.cache.Cache.release_pin.Goals as goal
 
 pub index_mut-seat-requires : goal.index_mut-seat-requires
@@ -102,6 +103,11 @@ returns g c =
     let slots = ap (λ (y : Geometry). y.slots)
     (at.knows.alike.plans hold.shard shard at.shard_is).0 in
     let steps = c.release.ensures.steps in
+    let useful : is_useful c.if-useful.usage ≡ c.args.useful =
+    elim c.if-useful.branch [
+      | then-useful w ↦ ap is_useful w.usage-is ∙ sym w.if-useful.true
+      | else-useful w ↦ ap is_useful w.usage-is ∙ sym w.if-useful.false
+    ] in
     record {
       known =
           knows_unpinned cache old new c.args.handle hold lets c.args.pin.slot
@@ -111,6 +117,15 @@ returns g c =
           releases_unpinned cache old new c.args.handle hold lets c.args.pin.slot
           c.args.pin.counting c.requires.kept shard was is at change alone c.args.erase_if_last
           c.release.result given;
+      gives = record {
+        there = shard;
+        was = was;
+        is = is;
+        shard_is = at.shard_is;
+        before = at.seat_is;
+        later = rw (change.seats) (read_here old.seats.items hold.shard was is at.seat_is);
+        gives = rw (← useful, ← asked) c.release.ensures.gives;
+      };
       steps =
           takes_at cache old new hold.shard shard was is at change
           (freeing cache.geometry.slots + 3) (omega arith);

@@ -1,6 +1,6 @@
 use Rattle.std.proofs.Common.{arith}
-use Rattle.hcc_rule.specs.Callers.{clients_of, geometry_of, plan_of}
-use Rattle.hcc_rule.specs.Closing.{Closes, IsBack, words_of}
+use Rattle.hcc_rule.specs.Callers.{geometry_of, plan_of}
+use Rattle.hcc_rule.specs.Closing.{words_of}
 use Rattle.hcc_rule.specs.Seats.{view}
 use Rattle.hcc_shard.proofs.Joinings.{idle_held}
 use Rattle.hcc_shard.proofs.Lefts.{left_of}
