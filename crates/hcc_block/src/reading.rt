@@ -5,8 +5,8 @@ ghost use Rattle.hcc_shard.specs.Inserted.{inserting};
 ghost use Rattle.hcc_cache.specs.Calls.{KeepsAll, TakesAtMost};
 ghost use Rattle.hcc_cache.specs.Clients.{held_by};
 ghost use Rattle.hcc_cache.specs.Known.{Knows};
-ghost use Rattle.hcc_block.specs.Blocks.{block_of, FitsBlocks};
-ghost use Rattle.hcc_block.specs.Reads.{Answers, CountsMiss, CountsRead, HoldsSame, IsAt, IsRefused};
+ghost use Rattle.hcc_block.specs.Blocks.{block_of, key_of, FitsBlocks};
+ghost use Rattle.hcc_block.specs.Reads.{Answers, Copies, CountsMiss, CountsRead, Hands, HoldsSame, IsAt, IsRefused, Lacks, Loads};
 ghost use Rattle.hcc_block.specs.Sources.{Fails};
 
 use crate::reader::{BlockReader, ReadError};
@@ -54,8 +54,14 @@ impl<S: BlockSource> BlockReader<S> {
         ensures fault { result ≡ Err ReadError.SourceFault
             → KeepsAll cache.now client.old client.new }
 
-        // Each other read is a hit or a miss, and a miss where no look-up may be made.
-        ensures counts { CountsRead result self.old self.new }
+        // Each other read is a hit, which copied the entry of the block's key, or a miss, which
+        // inserted the block: a miss where no look-up may be made, or one found none.
+        ensures counts { let key = key_of file index in CountsRead
+            (Copies cache.now key T.fits client.old client.new)
+            (Loads cache.now key
+            (block_of (S.content self.old.source) self.old.block file index)
+            client.old client.new)
+            (Lacks cache.now key client.old client.new) result self.old self.new }
         ensures refused { IsRefused client.old → result ≢ Err ReadError.NoSuchBlock
             → CountsMiss self.old self.new }
 
@@ -121,6 +127,8 @@ impl<S: BlockSource> BlockReader<S> {
             place.count }
         requires len { length bytes.old ≡ place.count }
         requires room { place.count ≤ 8 * cache.now.geometry.room }
+        ensures hands { OnOk result
+            (Hands cache.now (key_of file index) bytes.new client.old client.new) }
         ensures ok { OnOk result
             (block_of (S.content self.old.source) self.old.block file index ≡ Some bytes.new) }
         ensures failed { OnErr result
@@ -171,6 +179,9 @@ fn copied<T: Tag>(
     ensures none { IfNone result (buffer.new ≡ buffer.old) }
     ensures looked { IfSome result (λ count.
         (held_by client.old < client.old.most) × (0 < client.old.left)) }
+    ensures copies { IfSome result (λ count.
+        Copies cache.now key T.fits client.old client.new) }
+    ensures lacks { IfNone result (Lacks cache.now key client.old client.new) }
     ensures missed { IfNone result (KeepsAll cache.now client.old client.new) }
     ensures known { Knows cache.now client.new }
     ensures same { HoldsSame cache.now client.old client.new }
