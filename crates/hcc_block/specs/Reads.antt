@@ -100,11 +100,21 @@ module _ {S : Type 0} where
   abbrev pub CountsMiss : (old new : BlockReader S) → Type 0
   CountsMiss old new = new ≡ record old { source = new.source; misses = one_more old.misses }
 
-  -- A read is a hit, where this is a copy of the cache's, or a miss, where the block was loaded,
-  -- unless there is no such block. A fault is a miss, where the cache lacked the block.
-  abbrev pub CountsRead : (Copied Loaded Lacked : Type 0) → Result ℕ ReadError
-      → (old new : BlockReader S) → Type 0
-  CountsRead Copied Loaded Lacked (Ok count) old new =
-      (CountsHit old new × Copied) ⊎ (CountsMiss old new × Loaded)
-  CountsRead Copied Loaded Lacked (Err NoSuchBlock) old new = new ≡ old
-  CountsRead Copied Loaded Lacked (Err SourceFault) old new = CountsMiss old new × Lacked
+  -- A read is a hit or a miss, unless there is no such block. A fault is a miss.
+  abbrev pub CountsRead : Result ℕ ReadError → (old new : BlockReader S) → Type 0
+  CountsRead (Ok count) old new = CountsHit old new ⊎ CountsMiss old new
+  CountsRead (Err NoSuchBlock) old new = new ≡ old
+  CountsRead (Err SourceFault) old new = CountsMiss old new
+
+-- Of the cache.
+
+-- A hit copied the entry of the block's key. A miss found none, and inserted the block; where the
+-- source failed it found none.
+unfoldable pub GoesThrough : {S T : Type 0} (fits : T → Key → List ℕ → Type 0) (cache : Cache T)
+    (key : Key) (block : Option (List ℕ)) → Result ℕ ReadError → (old new : BlockReader S)
+    → (was is : Client T) → Type 0
+GoesThrough fits cache key block (Ok count) old new was is =
+    (CountsHit old new × Copies cache key fits was is)
+    ⊎ (CountsMiss old new × Loads cache key block was is)
+GoesThrough fits cache key block (Err NoSuchBlock) old new was is = is ≡ was
+GoesThrough fits cache key block (Err SourceFault) old new was is = Lacks cache key was is

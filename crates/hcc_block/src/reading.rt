@@ -6,7 +6,7 @@ ghost use Rattle.hcc_cache.specs.Calls.{KeepsAll, TakesAtMost};
 ghost use Rattle.hcc_cache.specs.Clients.{held_by};
 ghost use Rattle.hcc_cache.specs.Known.{Knows};
 ghost use Rattle.hcc_block.specs.Blocks.{block_of, key_of, FitsBlocks};
-ghost use Rattle.hcc_block.specs.Reads.{Answers, Copies, CountsMiss, CountsRead, Hands, HoldsSame, IsAt, IsRefused, Lacks, Loads};
+ghost use Rattle.hcc_block.specs.Reads.{Answers, Copies, CountsMiss, CountsRead, GoesThrough, Hands, HoldsSame, IsAt, IsRefused, Lacks};
 ghost use Rattle.hcc_block.specs.Sources.{Fails};
 
 use crate::reader::{BlockReader, ReadError};
@@ -54,16 +54,15 @@ impl<S: BlockSource> BlockReader<S> {
         ensures fault { result ≡ Err ReadError.SourceFault
             → KeepsAll cache.now client.old client.new }
 
-        // Each other read is a hit, which copied the entry of the block's key, or a miss, which
-        // inserted the block: a miss where no look-up may be made, or one found none.
-        ensures counts { let key = key_of file index in CountsRead
-            (Copies cache.now key T.fits client.old client.new)
-            (Loads cache.now key
-            (block_of (S.content self.old.source) self.old.block file index)
-            client.old client.new)
-            (Lacks cache.now key client.old client.new) result self.old self.new }
+        // Each other read is a hit or a miss, and a miss where no look-up may be made.
+        ensures counts { CountsRead result self.old self.new }
         ensures refused { IsRefused client.old → result ≢ Err ReadError.NoSuchBlock
             → CountsMiss self.old self.new }
+
+        // A hit copied the entry of the block's key; a miss found none, and inserted the block.
+        ensures through { GoesThrough T.fits cache.now (key_of file index)
+            (block_of (S.content self.old.source) self.old.block file index) result
+            self.old self.new client.old client.new }
 
         // It reads the same blocks from then on, and the client holds what it held.
         ensures content { S.content self.new.source ≡ S.content self.old.source }

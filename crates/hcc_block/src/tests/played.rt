@@ -43,11 +43,11 @@ pub(super) fn plays(rt: &impl Abort, alloc: Global, row: &Row, seed: u64) -> Res
         block: BLOCK,
     };
     let config = Config { seed, ..row.config };
-    let (cache, mut clients) = Cache::new(alloc, config, tag)?;
+    let (cache, clients) = Cache::new(alloc, config, tag)?;
     assert!(rt; files.len() < 0x1_0000_0000 && cache.room() >= 16);
     let source = FailingSource::new(MemorySource::new(&files), row.fails);
     let mut reader = BlockReader::new(source, BLOCK);
-    reads(rt, &cache, &mut clients, &mut reader, row.reads);
+    let clients = reads(rt, &cache, clients, &mut reader, row.reads);
     let [hits, misses, failures, charges, slots, word] = row.left.0;
     assert_eq!(rt;
         [reader.hits(), reader.misses()],
@@ -98,16 +98,16 @@ fn files_of(alloc: Global, lengths: &[u32]) -> Result<Vec<Vec<u8>>, AllocError> 
 fn reads<S: BlockSource, T: Tag>(
     rt: &impl Abort,
     cache: &Cache<T>,
-    clients: &mut [Client<T>],
+    mut clients: Vec<Client<T>>,
     reader: &mut BlockReader<S>,
     reads: &[Read],
-)
-    requires known { AllKnown cache.now clients.old }
+) -> Vec<Client<T>>
+    requires known { AllKnown cache.now clients.items }
     requires tag { FitsBlocks (T.fits cache.now.tag) (S.content reader.old.source)
         reader.old.block }
     requires block { reader.old.block ≤ 16 }
     requires room { reader.old.block ≤ 8 * cache.now.geometry.room }
-    ensures known { AllKnown cache.now clients.new }
+    ensures { AllKnown cache.now result.items }
 {
     for (number, file, index, wanted) in reads {
         assert!(rt; *number < clients.len(), "no such client");
@@ -115,6 +115,7 @@ fn reads<S: BlockSource, T: Tag>(
         let answer = reader.read(cache, &mut clients[*number], *file, *index, &mut buffer);
         assert_eq!(rt; told(rt, answer, &buffer), *wanted, "at {file} {index}");
     }
+    clients
 }
 
 /// How long the block is that was read, and the sum of its bytes.
