@@ -27,13 +27,13 @@ pub(super) struct Row {
     /// How many reads of the source come before the one that fails.
     pub(super) fails: u64,
     pub(super) reads: &'static [Read],
-    pub(super) left: Left,
+    /// Hits, misses and failures of the source.
+    pub(super) counts: [u64; 3],
+    /// The charges of the entries that are left, and how many they are.
+    pub(super) left: [u64; 2],
+    /// What is left of the first block of a file: the word of slot 0, where keys have no seed.
+    pub(super) word: u64,
 }
-
-/// Hits, misses, failures of the source, the charges and the number of the entries, and the word of
-/// slot 0 where keys have no seed.
-#[derive(Clone, Copy)]
-pub(super) struct Left(pub(super) [u64; 6]);
 
 /// The reads are made, and what they answer and leave is as wanted.
 pub(super) fn plays(rt: &impl Abort, alloc: Global, row: &Row, seed: u64) -> Result<(), Fail> {
@@ -48,36 +48,30 @@ pub(super) fn plays(rt: &impl Abort, alloc: Global, row: &Row, seed: u64) -> Res
     let source = FailingSource::new(MemorySource::new(&files), row.fails);
     let mut reader = BlockReader::new(source, BLOCK);
     let clients = reads(rt, &cache, clients, &mut reader, row.reads);
-    let [hits, misses, failures, charges, slots, word] = row.left.0;
-    assert_eq!(rt;
-        [reader.hits(), reader.misses()],
-        [hits, misses],
-        "of {}",
-        row.name
-    );
-    assert_eq!(rt; reader.source.failures(), failures, "of {}", row.name);
+    let counts = [reader.hits(), reader.misses(), reader.source.failures()];
+    assert_eq!(rt; counts, row.counts, "of {}", row.name);
     let Ok(closed) = cache.close(clients) else {
         panic!(rt; "{} isn't closed", row.name);
     };
     assert_eq!(rt;
-        [closed.usage(), closed.slot_charges()],
-        [charges; 2],
+        [closed.usage(), closed.occupied()],
+        row.left,
         "of {}",
         row.name
     );
     assert_eq!(rt;
-        [closed.occupied(), closed.slot_count()],
-        [slots; 2],
+        [closed.slot_charges(), closed.slot_count()],
+        row.left,
         "of {}",
         row.name
     );
     if seed == 0 {
-        assert_eq!(rt; word_of(rt, &closed), word, "of {}", row.name);
+        assert_eq!(rt; word_of(rt, &closed), row.word, "of {}", row.name);
     }
     Ok(())
 }
 
-/// Files of these lengths. Byte p of file f is p + f.
+/// Files of these lengths. Byte p of file f is p + f, modulo 256.
 fn files_of(alloc: Global, lengths: &[u32]) -> Result<Vec<Vec<u8>>, AllocError> {
     let mut files = Vec::new(alloc);
     let mut first = 0u8;

@@ -1,6 +1,6 @@
 //! Reads as rows: what each answers, and what the reader counted and the cache has at the end.
 
-use super::played::{Left, Read, Row, plays};
+use super::played::{Read, Row, plays};
 use crate::ReadError::{NoSuchBlock, SourceFault};
 use hcc_cache::Config;
 use std::test::Fail;
@@ -65,6 +65,14 @@ const AGAIN: [Read; 3] = [
     (0, 0, 2, Ok((8, 284))),
 ];
 
+/// The third read of the source fails, and no other.
+const LATE: [Read; 4] = [
+    (0, 0, 0, Ok((16, 120))),
+    (0, 0, 1, Ok((16, 376))),
+    (0, 0, 2, Err(SourceFault)),
+    (0, 0, 2, Ok((8, 284))),
+];
+
 /// Files of a block, of nothing, of a byte, and of two blocks and a half; files and blocks whose
 /// numbers are past all; and an index whose first byte would be 0 in 32 bits.
 const ENDS: [Read; 12] = [
@@ -107,7 +115,9 @@ fn blocks_are_read(rt: HostRuntime) -> Result<(), Fail> {
             files: &[40],
             fails: NEVER,
             reads: &TWICE,
-            left: Left([1, 2, 0, 24, 2, 0xe000_0000_c000_0003]),
+            counts: [1, 2, 0],
+            left: [24, 2],
+            word: 0xe000_0000_c000_0003,
         },
         Row {
             name: "fault",
@@ -115,7 +125,9 @@ fn blocks_are_read(rt: HostRuntime) -> Result<(), Fail> {
             files: &[40],
             fails: 1,
             reads: &FAULT,
-            left: Left([1, 2, 1, 16, 1, 0xe000_0000_c000_0003]),
+            counts: [1, 2, 1],
+            left: [16, 1],
+            word: 0xe000_0000_c000_0003,
         },
         Row {
             name: "again",
@@ -123,7 +135,19 @@ fn blocks_are_read(rt: HostRuntime) -> Result<(), Fail> {
             files: &[40],
             fails: 0,
             reads: &AGAIN,
-            left: Left([1, 2, 1, 8, 1, 0]),
+            counts: [1, 2, 1],
+            left: [8, 1],
+            word: 0,
+        },
+        Row {
+            name: "late",
+            config: SMALL,
+            files: &[40],
+            fails: 2,
+            reads: &LATE,
+            counts: [0, 4, 1],
+            left: [40, 3],
+            word: 0xe000_0000_8000_0002,
         },
         Row {
             name: "ends",
@@ -131,7 +155,9 @@ fn blocks_are_read(rt: HostRuntime) -> Result<(), Fail> {
             files: &[16, 0, 1, 40],
             fails: NEVER,
             reads: &ENDS,
-            left: Left([0, 4, 0, 41, 4, 0xe000_0000_8000_0002]),
+            counts: [0, 4, 0],
+            left: [41, 4],
+            word: 0xe000_0000_8000_0002,
         },
         Row {
             name: "crossed",
@@ -139,7 +165,9 @@ fn blocks_are_read(rt: HostRuntime) -> Result<(), Fail> {
             files: &[40, 40],
             fails: NEVER,
             reads: &CROSSED,
-            left: Left([2, 2, 0, 32, 2, 0xe000_0000_c000_0003]),
+            counts: [2, 2, 0],
+            left: [32, 2],
+            word: 0xe000_0000_c000_0003,
         },
         Row {
             name: "spent",
@@ -147,7 +175,9 @@ fn blocks_are_read(rt: HostRuntime) -> Result<(), Fail> {
             files: &[40],
             fails: NEVER,
             reads: &REFUSED,
-            left: Left([0, 4, 0, 16, 1, 0xe000_0000_8000_0002]),
+            counts: [0, 4, 0],
+            left: [16, 1],
+            word: 0xe000_0000_8000_0002,
         },
         Row {
             name: "too large",
@@ -155,7 +185,9 @@ fn blocks_are_read(rt: HostRuntime) -> Result<(), Fail> {
             files: &[40],
             fails: NEVER,
             reads: &REFUSED,
-            left: Left([1, 3, 0, 8, 1, 0]),
+            counts: [1, 3, 0],
+            left: [8, 1],
+            word: 0,
         },
     ] {
         for seed in [0, 1, 0xffff_ffff_ffff_ffff] {
