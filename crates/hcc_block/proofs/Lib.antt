@@ -2,3 +2,4 @@ pub mod Lying
 pub mod Named
 pub mod Held
 pub mod Steps
+pub mod Counted

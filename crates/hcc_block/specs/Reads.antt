@@ -1,9 +1,16 @@
 -- What is known of a read.
-use Rattle.std.specs.Prelude.{◌≡◌, ◌≢◌, ◌⊎◌, ℕ, ◌+◌, ◌<◌, ◌≤◌, ◌++◌, min, List, Option, Some, None, Result, Ok, Err, length, drop}
+use Rattle.std.specs.Prelude.{◌≡◌, ◌≢◌, ◌⊎◌, ◌↔◌, ℕ, ◌+◌, ◌<◌, ◌≤◌, ◌++◌, min, Bool, true, false, List, Option, Some, None, Result, Ok, Err, IsErrOf, length, drop}
+use Rattle.hcc_rule.specs.declared.key.Key.{Key}
 use Rattle.hcc_cache.specs.declared.cache.Cache.{Cache}
 use Rattle.hcc_cache.specs.declared.client.Client.{Client}
+use Rattle.hcc_cache.specs.declared.errors.InsertError.{InsertError}
+use Rattle.hcc_cache.specs.declared.errors.InsertError.TheVariants.{Spent, TooLarge}
 use Rattle.hcc_cache.specs.declared.handle.Handle.{Handle}
+use Rattle.hcc_cache.specs.declared.inserting.Inserted.{Inserted}
+use Rattle.hcc_cache.specs.declared.priority.Priority.TheVariants.{Low}
+use Rattle.hcc_cache.specs.Calls.{Finds, GivesUp, Misses, Reads, Releases}
 use Rattle.hcc_cache.specs.Clients.{held_by, held_of}
+use Rattle.hcc_cache.specs.Inserts.{Inserts}
 use Rattle.hcc_block.specs.declared.reader.BlockReader.{BlockReader}
 use Rattle.hcc_block.specs.declared.reader.ReadError.{ReadError}
 use Rattle.hcc_block.specs.declared.reader.ReadError.TheVariants.{NoSuchBlock, SourceFault}
@@ -34,6 +41,51 @@ Answers (Ok count) old new block before after = AnswersBlock count old new block
 Answers (Err NoSuchBlock) old new block before after = block ≡ None
 Answers (Err SourceFault) old new block before after = (block ≢ None) × Fails before after
 
+-- Of the client.
+
+module _ {T : Type 0} where
+  -- no look-up may be made: it holds all the handles that it may, or no serial is left
+  abbrev pub IsRefused : Client T → Type 0
+  IsRefused client = (held_by client ≡ client.most) ⊎ (client.left ≡ 0)
+
+module _ {T : Type 0} (cache : Cache T) where
+  -- All handles stand for what they stood for, and are as many.
+  pub record HoldsSame (old new : Client T) : Type 0 where
+    pub all : (h : Handle) → held_of cache new h ≡ held_of cache old h
+    pub count : held_by new ≡ held_by old
+
+  module _ (key : Key) where
+    -- A look-up found an entry of the key, whose value was read, and which was released as a use.
+    pub record Copies (fits : T → Key → List ℕ → Type 0) (old new : Client T) : Type 0 where
+      pub handle : Handle
+      pub found : Client T
+      pub was : Client T
+      pub freed : Bool
+      pub finds : Finds cache fits key handle old found
+      pub reads : Reads cache found was
+      pub releases : Releases cache handle false freed was new
+      pub gives : GivesUp cache handle true false freed was new
+
+    -- no look-up may be made, or one found no entry of the key
+    abbrev pub Lacks : (old new : Client T) → Type 0
+    Lacks old new = (IsRefused old × (new ≡ old)) ⊎ Misses cache key old new
+
+    -- The value was handed to an insertion, with its length as the charge and priority Low.
+    pub record Hands (value : List ℕ) (old new : Client T) : Type 0 where
+      pub answer : Result Inserted InsertError
+      pub spent : IsErrOf answer Spent ↔ (old.left ≡ 0)
+      pub large : IsErrOf answer TooLarge
+          ↔ ((0 < old.left) × (cache.strict ≡ true) × (cache.capacity < length value))
+      pub inserts : Inserts cache key (length value) Low value answer old new
+
+    -- The cache lacked the block, which was then inserted.
+    pub record Loads (block : Option (List ℕ)) (old new : Client T) : Type 0 where
+      pub value : List ℕ
+      pub is : block ≡ Some value
+      pub looked : Client T
+      pub lacks : Lacks old looked
+      pub hands : Hands value looked new
+
 -- Of the counts.
 
 -- one more, up to the greatest number
@@ -55,14 +107,15 @@ module _ {S : Type 0} where
   CountsRead (Err NoSuchBlock) old new = new ≡ old
   CountsRead (Err SourceFault) old new = CountsMiss old new
 
--- Of the client.
+-- Of the cache.
 
-module _ {T : Type 0} where
-  -- no look-up may be made: it holds all the handles that it may, or no serial is left
-  abbrev pub IsRefused : Client T → Type 0
-  IsRefused client = (held_by client ≡ client.most) ⊎ (client.left ≡ 0)
-
-  -- All handles stand for what they stood for, and are as many.
-  pub record HoldsSame (cache : Cache T) (old new : Client T) : Type 0 where
-    pub all : (h : Handle) → held_of cache new h ≡ held_of cache old h
-    pub count : held_by new ≡ held_by old
+-- A hit copied the entry of the block's key. A miss found none, and inserted the block; where the
+-- source failed it found none.
+unfoldable pub GoesThrough : {S T : Type 0} (fits : T → Key → List ℕ → Type 0) (cache : Cache T)
+    (key : Key) (block : Option (List ℕ)) → Result ℕ ReadError → (old new : BlockReader S)
+    → (was is : Client T) → Type 0
+GoesThrough fits cache key block (Ok count) old new was is =
+    (CountsHit old new × Copies cache key fits was is)
+    ⊎ (CountsMiss old new × Loads cache key block was is)
+GoesThrough fits cache key block (Err NoSuchBlock) old new was is = is ≡ was
+GoesThrough fits cache key block (Err SourceFault) old new was is = Lacks cache key was is

@@ -1,5 +1,5 @@
 -- What is read of a source, and what it counts.
-use Rattle.std.specs.Prelude.{◌≡◌, ◌⊎◌, ℕ, ◌+◌, ◌-◌, ◌^◌, ◌<◌, ◌≤◌, List, Option, Some, None, length, take, drop, slice_get, IfSome, option_map}
+use Rattle.std.specs.Prelude.{◌≡◌, ◌⊎◌, ℕ, ◌+◌, ◌-◌, ◌^◌, ◌<◌, ◌≤◌, nat_lt, List, Option, Some, None, length, take, drop, slice_get, IfSome, option_map, if◌then◌else◌}
 
 -- the greatest number of a counter
 abbrev pub top : ℕ
@@ -19,7 +19,14 @@ abbrev pub bytes_at : List (List ℕ) → (file from count : ℕ) → Option (Li
 bytes_at files file from count =
     option_map (λ bytes. take count (drop from bytes)) (slice_get files file)
 
--- how often a source failed that fails once, after so many reads more: once where none is left
+-- Of a source that fails once, after so many reads more; it failed where none stands here.
+
+-- how often it failed
 abbrev pub failures_of : Option ℕ → ℕ
 failures_of None = 1
 failures_of (Some before) = 0
+
+-- how many reads come before the one that fails, once a read was made
+abbrev pub after_read : Option ℕ → Option ℕ
+after_read None = None
+after_read (Some before) = if nat_lt 0 before then Some (before - 1) else None

@@ -1,6 +1,6 @@
 //! A source that fails once.
-ghost use Rattle.std.specs.Prelude.{◌≡◌, ◌+◌, min, None, Some};
-ghost use Rattle.hcc_block.specs.Sources.{failures_of, top};
+ghost use Rattle.std.specs.Prelude.{◌≡◌, ◌≢◌, ◌+◌, ◌<◌, ◌≤◌, min, length, IsErr, IsOk, None, OnErr, OnOk, Some};
+ghost use Rattle.hcc_block.specs.Sources.{after_read, bytes_at, failures_of, top, Fails, HasBytes};
 
 use crate::source::{BlockSource, SourceFailed};
 
@@ -43,7 +43,31 @@ impl<S: BlockSource> BlockSource for FailingSource<S> {
         self.source.len(file)
     }
 
-    fn read(&mut self, file: u32, from: u64, buffer: &mut [u8]) -> Result<(), SourceFailed> {
+    fn read(&mut self, file: u32, from: u64, buffer: &mut [u8]) -> Result<(), SourceFailed>
+        requires file { file < length (S.content self.old.source) }
+        requires bytes { HasBytes (S.content self.old.source) file from (length buffer.old) }
+        ensures read { OnOk result (bytes_at (S.content self.old.source) file from
+            (length buffer.old) ≡ Some buffer.new) }
+        ensures content { S.content self.new.source ≡ S.content self.old.source }
+        ensures failed { OnErr result (Fails
+            (min (S.failed self.old.source + failures_of self.old.before) top)
+            (min (S.failed self.new.source + failures_of self.new.before) top)) }
+        ensures grows { min (S.failed self.old.source + failures_of self.old.before) top
+            ≤ min (S.failed self.new.source + failures_of self.new.before) top }
+        ensures reliable { (self.old.before ≡ None) × S.reliable self.old.source
+            → IsOk result × ((self.new.before ≡ None) × S.reliable self.new.source) }
+
+        // The read that is meant fails, and reaches neither the other source nor the buffer.
+        ensures meant { self.old.before ≡ Some 0 → IsErr result
+            × (self.new.source ≡ self.old.source) × (buffer.new ≡ buffer.old) }
+
+        // Each other one fails only where the other source does, and is nearer to it by one.
+        ensures other { self.old.before ≢ Some 0
+            → OnErr result (Fails (S.failed self.old.source) (S.failed self.new.source)) }
+        ensures sound { self.old.before ≢ Some 0 → S.reliable self.old.source
+            → IsOk result × S.reliable self.new.source }
+        ensures before { self.new.before ≡ after_read self.old.before }
+    {
         match self.before {
             Some(0) => {
                 self.before = None;

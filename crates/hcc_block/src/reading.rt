@@ -5,8 +5,8 @@ ghost use Rattle.hcc_shard.specs.Inserted.{inserting};
 ghost use Rattle.hcc_cache.specs.Calls.{KeepsAll, TakesAtMost};
 ghost use Rattle.hcc_cache.specs.Clients.{held_by};
 ghost use Rattle.hcc_cache.specs.Known.{Knows};
-ghost use Rattle.hcc_block.specs.Blocks.{block_of, FitsBlocks};
-ghost use Rattle.hcc_block.specs.Reads.{Answers, CountsMiss, CountsRead, HoldsSame, IsAt, IsRefused};
+ghost use Rattle.hcc_block.specs.Blocks.{block_of, key_of, FitsBlocks};
+ghost use Rattle.hcc_block.specs.Reads.{Answers, Copies, CountsMiss, CountsRead, GoesThrough, Hands, HoldsSame, IsAt, IsRefused, Lacks};
 ghost use Rattle.hcc_block.specs.Sources.{Fails};
 
 use crate::reader::{BlockReader, ReadError};
@@ -58,6 +58,11 @@ impl<S: BlockSource> BlockReader<S> {
         ensures counts { CountsRead result self.old self.new }
         ensures refused { IsRefused client.old → result ≢ Err ReadError.NoSuchBlock
             → CountsMiss self.old self.new }
+
+        // A hit copied the entry of the block's key; a miss found none, and inserted the block.
+        ensures through { GoesThrough T.fits cache.now (key_of file index)
+            (block_of (S.content self.old.source) self.old.block file index) result
+            self.old self.new client.old client.new }
 
         // It reads the same blocks from then on, and the client holds what it held.
         ensures content { S.content self.new.source ≡ S.content self.old.source }
@@ -121,6 +126,8 @@ impl<S: BlockSource> BlockReader<S> {
             place.count }
         requires len { length bytes.old ≡ place.count }
         requires room { place.count ≤ 8 * cache.now.geometry.room }
+        ensures hands { OnOk result
+            (Hands cache.now (key_of file index) bytes.new client.old client.new) }
         ensures ok { OnOk result
             (block_of (S.content self.old.source) self.old.block file index ≡ Some bytes.new) }
         ensures failed { OnErr result
@@ -171,6 +178,9 @@ fn copied<T: Tag>(
     ensures none { IfNone result (buffer.new ≡ buffer.old) }
     ensures looked { IfSome result (λ count.
         (held_by client.old < client.old.most) × (0 < client.old.left)) }
+    ensures copies { IfSome result (λ count.
+        Copies cache.now key T.fits client.old client.new) }
+    ensures lacks { IfNone result (Lacks cache.now key client.old client.new) }
     ensures missed { IfNone result (KeepsAll cache.now client.old client.new) }
     ensures known { Knows cache.now client.new }
     ensures same { HoldsSame cache.now client.old client.new }

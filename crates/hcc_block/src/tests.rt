@@ -1,4 +1,6 @@
-//! What no clause says: the texts of errors, and a file that is read through a cache.
+//! What no clause says: the texts of errors, and what is read through a cache, counted and left.
 
 mod errors;
 mod example;
+mod played;
+mod rows;

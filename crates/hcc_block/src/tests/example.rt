@@ -25,7 +25,8 @@ const CONFIG: Config = Config {
 fn a_file_is_read_in_blocks(rt: HostRuntime) -> Result<(), Fail> {
     let mut file = Vec::new(rt.alloc());
     file.extend_from_slice(b"A block has sixteen bytes, the last one may be shorter.")?;
-    let files = Vec::from_array(rt.alloc(), [file])?;
+    let mut files = Vec::new(rt.alloc());
+    files.push(file)?;
     let tag = FilesTag {
         files: &files,
         block: BLOCK,

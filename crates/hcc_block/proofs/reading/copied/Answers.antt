@@ -7,3 +7,15 @@ returns-clause-same g c =
     holds_same c.args.cache.now c.in-Ok-Some.handle _ c.args.client.now c.lookup.new.client
     c.read_value-count.new.client c.release.new.client finds.gains
     c.read_value-count.ensures.reads.keeps c.release.ensures.released.loses
+
+pub returns-clause-copies : goal.returns-clause-copies
+returns-clause-copies g c = record {
+  handle = c.in-Ok-Some.handle;
+  found = c.lookup.new.client;
+  was = c.read_value-count.new.client;
+  freed = c.release.result;
+  finds = rw c.in-Ok-Some.field-0-is at c.in-Ok-Some.ensures.found;
+  reads = c.read_value-count.ensures.reads;
+  releases = c.release.ensures.released;
+  gives = c.release.ensures.gives;
+}

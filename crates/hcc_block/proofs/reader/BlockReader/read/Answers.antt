@@ -1,5 +1,7 @@
-use Rattle.std.proofs.Common.{arith, ◌≤◌, ◌*◌}
+use Rattle.std.proofs.Common.{arith, inl, inr, refl, ◌∙◌, ◌≤◌, ◌*◌}
 use Rattle.hcc_cache.specs.Calls.{steps_by}
+use Rattle.hcc_block.specs.Reads.{GoesThrough}
+use Rattle.hcc_block.proofs.Counted.{same_reader}
 use Rattle.hcc_block.proofs.Lying.{block_short, block_there}
 use Rattle.hcc_block.proofs.Named.{fits_only}
 use Rattle.hcc_block.proofs.Steps.{hit_within}
@@ -49,3 +51,47 @@ returns-in-Err-clause-answers g c =
       block_there files c.args.self.now.block c.args.file c.args.index _ _ place.1 place.0,
       c.in-Err.ensures.failed,
     )
+
+pub returns-in_default-clause-through : goal.returns-in_default-clause-through
+unfolding GoesThrough
+returns-in_default-clause-through g c = refl
+
+pub returns-in-Some-copied-clause-counts : goal.returns-in-Some-copied-clause-counts
+returns-in-Some-copied-clause-counts g c =
+    inl (same_reader c.args.self.now.source c.args.self.now.block _ _ _ _ _ _
+    c.saturating_add-self.ensures refl)
+
+pub returns-in-Ok-clause-counts : goal.returns-in-Ok-clause-counts
+returns-in-Ok-clause-counts g c =
+    inr (c.in-Ok.ensures.rest ∙ same_reader c.fill.new.self.source c.args.self.now.block
+    _ _ _ _ _ _ refl c.saturating_add-self-2.ensures)
+
+pub returns-in-Some-copied-clause-through : goal.returns-in-Some-copied-clause-through
+unfolding GoesThrough
+returns-in-Some-copied-clause-through g c =
+    inl (
+      same_reader c.args.self.now.source c.args.self.now.block _ _ _ _ _ _
+          c.saturating_add-self.ensures refl,
+      rw c.key_of.ensures at c.in-Some-copied.ensures.copies,
+    )
+
+pub returns-in-Ok-clause-through : goal.returns-in-Ok-clause-through
+unfolding GoesThrough
+returns-in-Ok-clause-through g c =
+    inr (
+      c.in-Ok.ensures.rest
+          ∙ same_reader c.fill.new.self.source c.args.self.now.block _ _ _ _ _ _ refl
+          c.saturating_add-self-2.ensures,
+      record {
+        value = c.fill.new.bytes;
+        is = c.in-Ok.ensures.ok;
+        looked = c.copied.new.client;
+        lacks = rw c.key_of.ensures at c.in_default-copied.ensures.lacks;
+        hands = c.in-Ok.ensures.hands;
+      },
+    )
+
+pub returns-in-Err-clause-through : goal.returns-in-Err-clause-through
+unfolding GoesThrough
+returns-in-Err-clause-through g c =
+    rw c.in-Err.ensures.nothing (rw c.key_of.ensures at c.in_default-copied.ensures.lacks)
