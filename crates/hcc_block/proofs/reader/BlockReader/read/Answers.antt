@@ -1,4 +1,4 @@
-use Rattle.std.proofs.Common.{arith, inl, inr, refl, ◌∙◌, ◌≤◌, ◌*◌}
+use Rattle.std.proofs.Common.{arith, inl, inr, refl, ◌∙◌}
 use Rattle.hcc_cache.specs.Calls.{steps_by}
 use Rattle.hcc_block.specs.Reads.{GoesThrough}
 use Rattle.hcc_block.proofs.Counted.{same_reader}
