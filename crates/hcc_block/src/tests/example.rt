@@ -23,10 +23,9 @@ const CONFIG: Config = Config {
 
 #[test]
 fn a_file_is_read_in_blocks(rt: HostRuntime) -> Result<(), Fail> {
-    let mut file = Vec::new(rt.alloc());
-    file.extend_from_slice(b"A block has sixteen bytes, the last one may be shorter.")?;
-    let mut files = Vec::new(rt.alloc());
-    files.push(file)?;
+    let text = b"A block has sixteen bytes, the last one may be shorter.";
+    let mut files = Vec::with_capacity(rt.alloc(), 1)?;
+    files.push(Vec::from_slice(rt.alloc(), text)?)?;
     let tag = FilesTag {
         files: &files,
         block: BLOCK,

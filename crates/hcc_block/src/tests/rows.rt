@@ -32,6 +32,7 @@ const TIGHT: Config = Config {
     ..SMALL
 };
 
+/// Two clients share the cache.
 const PAIR: Config = Config {
     clients: 2,
     ..SMALL
