@@ -9,6 +9,12 @@ value-length-requires-clause-entry g c =
     let told = subst (λ o. InShard closed.shards.items 0 (TellsEntry closed.seed c.args.slot o))
     c.expect-entry.ensures c.entry.ensures in
     let short : entry.len ≤ 16 = search rules in
-    let len = told.2.3 in
-    (told.0, told.1, (told.2.0, (let fits : length_of c.args.slot told.0 ≤ 16 =
-    omega (arith, len, short) in fits)))
+    let len = told.2.3 in (
+      told.0,
+      told.1,
+      (
+        told.2.0,
+        (let fits : length_of c.args.slot told.0 ≤ 16 =
+            omega (arith, len, short) in fits),
+      ),
+    )
