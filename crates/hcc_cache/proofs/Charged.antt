@@ -1,8 +1,6 @@
 -- What a client holds is charged less than the greatest count.
-use Rattle.std.proofs.Common.{◌≡◌, ℕ, zero, suc, ◌+◌, ◌-◌, ◌*◌, ◌^◌, ◌<◌, ◌≤◌, List, [], ◌∷◌, Some, length, slice_get, refl, arith}
-use Rattle.slab.specs.Slab.{slab_len}
+use Rattle.std.proofs.Common.{◌≡◌, ℕ, suc, ◌+◌, ◌-◌, ◌*◌, ◌^◌, ◌<◌, ◌≤◌, List, [], ◌∷◌, Some, length, slice_get, refl, arith}
 use Rattle.hcc_core.specs.declared.client.Standalone.{Standalone}
-use Rattle.hcc_core.specs.declared.limits.TheConstants.{MOST_HANDLES}
 use Rattle.hcc_core.specs.Sums.{total}
 use Rattle.hcc_rule.specs.declared.view.Record.{Record}
 use Rattle.hcc_rule.specs.declared.view.View.{View}

@@ -1,5 +1,5 @@
 -- What a client holds of a key that it looked for in vain, or erased.
-use Rattle.std.proofs.Common.{◌≡◌, ℕ, ◌+◌, ◌%◌, ◌^◌, ◌<◌, true, Option, Some, None, length, sym, refl, ap, ◌∙◌, arith}
+use Rattle.std.proofs.Common.{◌≡◌, ℕ, ◌+◌, ◌%◌, ◌^◌, true, Option, Some, None, length, sym, refl, ap, ◌∙◌, arith}
 use Rattle.slab.specs.Slab.{get}
 use Rattle.hcc_core.specs.declared.slot.Entry.{Entry}
 use Rattle.hcc_core.specs.Lawful.{is_in}

@@ -1,5 +1,5 @@
-//! Hits to be measured: reads of values that are there, again and again, by one thread or by four at
-//! once. `tests/measure-hits` takes the time.
+//! Hits to be measured: reads of values that are there, again and again, by one thread or by four
+//! at once. `tests/measure-hits` takes the time.
 ghost use Rattle.std.specs.Prelude.{◌≡◌, ℕ, Some, IfOk, length, slice_get};
 ghost use Rattle.std.specs.Thread.{IsSync};
 ghost use Rattle.hcc_cache.specs.Known.{Knows};

@@ -1,4 +1,4 @@
-use Rattle.std.proofs.Common.{rules, ◌≡◌, ◌≤◌, Some, subst, arith}
+use Rattle.std.proofs.Common.{rules, ◌≤◌, subst, arith}
 use Rattle.hcc_cache.specs.Left.{length_of, InShard, TellsEntry}
 use Rattle.hcc_cache.proofs.tests.rows.value_in.Goals as goal
 

@@ -1,4 +1,3 @@
-use Rattle.std.proofs.Common.{◌≡◌, ◌+◌, length, ◌∙◌, arith}
 use Rattle.hcc_rule.proofs.Seats.NewSeats.{popped, new_is_ready}
 use Rattle.hcc_table.proofs.tests.hired.hired.Goals as goal
 

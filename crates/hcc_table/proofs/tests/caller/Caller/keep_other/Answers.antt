@@ -13,7 +13,7 @@ each_from (x ∷ xs) low = (low 0, each_from xs (λ k. low (suc k)))
 pub returns-clause-holds : goal.returns-clause-holds
 returns-clause-holds g c =
     let reserved = c.reserve_held.ensures.reserved in
-    let all_bytes = each_from c.args.value.now (λ k. (omega (arith, c.type_inv.value k))) in record {
+    let bytes = each_from c.args.value.now (λ k. (omega (arith, c.type_inv.value k))) in record {
       one = reserved.0;
       two = record {
         slot = c.in-Placed.slot;
@@ -31,6 +31,6 @@ returns-clause-holds g c =
         called = refl;
         single = refl;
         counts = refl;
-        readable = record { short = c.requires.short; bytes = all_bytes };
+        readable = record { short = c.requires.short; bytes = bytes };
       };
     }
