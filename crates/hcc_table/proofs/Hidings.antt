@@ -1,8 +1,7 @@
 -- Hiding over the probes of a key, one after the other.
-use Rattle.std.proofs.Common.{◌≡◌, ℕ, zero, suc, ◌+◌, ◌-◌, ◌*◌, ◌%◌, ◌^◌, ◌<◌, ◌≤◌, ◌++◌, true, List, [], ◌∷◌, replicate, subst, refl, ap, ◌∙◌, bit_and, bit_or, arith, append_assoc}
+use Rattle.std.proofs.Common.{◌≡◌, ℕ, zero, suc, ◌+◌, ◌-◌, ◌*◌, ◌%◌, ◌^◌, ◌<◌, ◌≤◌, ◌++◌, ◌∷◌, replicate, subst, refl, ap, ◌∙◌, bit_and, bit_or, arith, append_assoc}
 use Rattle.hcc_core.specs.declared.limits.TheConstants.{MOST_SLOTS}
 use Rattle.hcc_core.specs.World.{times}
-use Rattle.hcc_core.specs.Lawful.{is_in}
 use Rattle.hcc_rule.specs.declared.key.Key.{Key}
 use Rattle.hcc_rule.specs.declared.view.Record.{Record}
 use Rattle.hcc_rule.specs.declared.view.View.{View}

@@ -6,12 +6,11 @@ use Rattle.hcc_rule.specs.declared.steps.shows.Draft.{Draft}
 use Rattle.hcc_rule.specs.declared.view.View.{View}
 use Rattle.hcc_rule.specs.Probes.{probe_slot, trail_to}
 use Rattle.hcc_rule.specs.Seats.{SeatOf, IsSameSeat, view}
-use Rattle.hcc_rule.specs.ToldOwners.{after_show, made_of}
 use Rattle.hcc_rule.specs.ToldTrails.{after_pass}
 use Rattle.hcc_rule.proofs.Probes.ProbeLaws.{first_masked, next_masked, probe_inside, some_slots, trail_start, trail_next, trail_length}
 use Rattle.hcc_table.specs.declared.inserting.Insertion.TheVariants.{Placed, Matched, NoSlot}
 use Rattle.hcc_table.specs.declared.walk.Walk.{Walk}
-use Rattle.hcc_table.specs.Inserted.{InsertedBy, IsPlaced, TriedAt, Tried, with_trail}
+use Rattle.hcc_table.specs.Inserted.{InsertedBy, TriedAt, Tried, with_trail}
 use Rattle.hcc_table.specs.Searched.{Buried, IsBefore}
 use Rattle.hcc_table.proofs.Finds.{IsAt, seat_then, buried_none, buried_more}
 use Rattle.hcc_table.proofs.Inserts.{tried_refl, tried_then, trail_is, tried_pass, tried_back, tried_show}

@@ -1,8 +1,8 @@
 -- The steps of calls, one after the other.
-use Rattle.std.proofs.Common.{◌≡◌, ℕ, List, [], ◌∷◌, ◌++◌, refl, sym, ap, ◌∙◌}
+use Rattle.std.proofs.Common.{◌≡◌, [], ◌∷◌, ◌++◌, sym, ap, ◌∙◌}
 use Rattle.std.proofs.lemmas.List.{append_assoc, append-nil}
 use Rattle.hcc_rule.specs.declared.view.Atomic.{Atomic}
-use Rattle.hcc_rule.specs.Seats.{SeatOf, Makes, atomic, steps}
+use Rattle.hcc_rule.specs.Seats.{SeatOf, steps}
 use Rattle.hcc_table.specs.Steps.{Adds, Among, Begins, BeginsWithTwo, Ends, MakesTwo, after}
 
 module _ {T : Type 0} where

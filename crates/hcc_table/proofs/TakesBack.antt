@@ -3,7 +3,6 @@ use Rattle.std.proofs.Common.{◌≡◌, ℕ, suc, ◌+◌, ◌-◌, ◌%◌, �
 use Rattle.std.specs.List.{list_any, range_with_len}
 use Rattle.std.proofs.lemmas.Bool.{eq-eqb, eqb-true}
 use Rattle.hcc_core.specs.declared.limits.TheConstants.{MOST_SLOTS}
-use Rattle.hcc_core.specs.World.{owns_nothing}
 use Rattle.hcc_core.specs.Outcomes.{dropped}
 use Rattle.hcc_core.specs.Trails.{is_slot}
 use Rattle.hcc_rule.specs.declared.key.Key.{Key}
@@ -14,9 +13,7 @@ use Rattle.hcc_rule.specs.ToldTrails.{after_unpass}
 use Rattle.hcc_rule.proofs.Probes.ProbeLaws.{first_masked, next_masked}
 use Rattle.hcc_table.specs.declared.walk.Walk.{Walk}
 use Rattle.hcc_table.proofs.Finds.{IsAt, seat_then}
-use Rattle.hcc_core.specs.declared.slot.Stamp.{Stamp}
 use Rattle.hcc_rule.specs.declared.layout.TheConstants.{CHARGE}
-use Rattle.hcc_rule.specs.declared.view.Made.{Made}
 use Rattle.hcc_rule.specs.Told.{found_dead}
 use Rattle.hcc_rule.specs.ToldOwners.{Freed, after_free, records_left}
 use Rattle.hcc_table.specs.Freed.{IsFreed, TakenAt, emptied}

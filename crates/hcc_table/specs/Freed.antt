@@ -5,9 +5,7 @@ use Rattle.hcc_word.specs.Word.{is_shareable, is_visible, refs_of}
 use Rattle.hcc_core.specs.declared.client.Owned.TheVariants as owned
 use Rattle.hcc_core.specs.declared.slot.Stamp.{Stamp}
 use Rattle.hcc_core.specs.Sums.{when}
-use Rattle.hcc_core.specs.Outcomes.{dropped}
 use Rattle.hcc_rule.specs.Seats.{SeatOf, Makes, view}
-use Rattle.hcc_rule.specs.Views.{is_called}
 use Rattle.hcc_rule.specs.declared.key.Key.{Key}
 use Rattle.hcc_rule.specs.declared.layout.TheConstants.{KEY0, KEY1, PAYLOAD}
 use Rattle.hcc_rule.specs.declared.view.Made.{Made}

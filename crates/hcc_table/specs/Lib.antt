@@ -6,6 +6,5 @@ pub mod Visited
 pub mod Erased
 pub mod Readings
 pub mod Inserted
-pub mod Mates
 pub mod Handles
 pub mod Steps

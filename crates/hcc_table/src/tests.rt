@@ -3,10 +3,9 @@
 use hcc_rule::Tag;
 
 mod caller;
+mod calls;
 mod held;
 mod hired;
-mod hits;
-mod mate;
 mod rows;
 mod threads;
 mod twins;

@@ -48,6 +48,18 @@ fn left_at(rt: &impl Abort, closed: &Closed, slot: u32) -> [u64; 5] {
     ]
 }
 
+/// The value of the entry that is left in a slot: how long it is, and its bytes with 0xee behind
+/// them.
+fn value_in(rt: &impl Abort, closed: &Closed, slot: u32) -> (usize, [u8; 16]) {
+    assert!(rt; closed.shards() > 0, "no shard is left");
+    assert!(rt; slot < closed.slots(0), "no such slot");
+    let entry = closed.entry(0, slot).expect(rt, "no entry is left");
+    assert!(rt; entry.len <= 16, "the value is too long");
+    let mut bytes = [0xee; 16];
+    let length = closed.value(0, slot, &mut bytes);
+    (length, bytes)
+}
+
 /// Where the hand of the first shard is left.
 fn hand(rt: &impl Abort, closed: &Closed) -> u64 {
     assert!(rt; closed.shards() > 0, "no shard is left");
@@ -301,6 +313,8 @@ fn values_are_read_back(rt: HostRuntime) -> Result<(), Fail> {
         left_at(&rt, &closed, 2),
         [0, 2, 200, 16, 0xe000_0000_8000_0002]
     );
+    assert_eq!(rt; value_in(&rt, &closed, 1), (0, [0xee; 16]));
+    assert_eq!(rt; value_in(&rt, &closed, 2), (16, FILLED));
     Ok(())
 }
 

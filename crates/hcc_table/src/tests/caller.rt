@@ -2,12 +2,15 @@
 //! has one handle, or none, and nothing else in hand.
 ghost use Rattle.std.specs.Prelude.{◌≡◌, ◌<◌, ◌≤◌, [], IfSome, IfNone, length};
 ghost use Rattle.hcc_core.specs.declared.client.Place.TheVariants.{Granted};
+ghost use Rattle.hcc_core.specs.declared.limits.TheConstants.{MOST_CLIENTS};
 ghost use Rattle.hcc_core.specs.Opening.{new_client};
-ghost use Rattle.hcc_rule.specs.Callers.{plan_of, IsSeatAt};
+ghost use Rattle.hcc_core.specs.World.{limit_of};
+ghost use Rattle.hcc_rule.specs.Callers.{plan_of, slots_of, IsSeatAt};
+ghost use Rattle.hcc_rule.specs.Rule.{setup_of};
 ghost use Rattle.hcc_rule.specs.Work.{Carries};
-ghost use Rattle.hcc_rule.specs.Benches.{IsBench, IsReady};
+ghost use Rattle.hcc_rule.specs.Benches.{IsReady};
 ghost use Rattle.hcc_rule.specs.Seats.{view};
-ghost use Rattle.hcc_table.specs.Handles.{HoldsOne};
+ghost use Rattle.hcc_table.specs.Handles.{HoldsOne, IsPin, IsSmall};
 
 use super::AnyBytes;
 use crate::{
@@ -18,27 +21,28 @@ use hcc_rule::{Draft, Key, RuleSeat, RuleTable};
 use std::alloc::Global;
 use std::process::Abort;
 
-/// A table for tests: of 8 slots, 2 payload words for each, and not strict.
+/// A table for tests: of at least 8 slots, 2 payload words for each, and not strict.
 pub(super) type Bench = RuleTable<AnyBytes, Global>;
-
-/// The places that such a table grants.
-pub(super) const LIMIT: u64 = 6;
 
 /// The name of the handle.
 pub(super) const NAME: u64 = 7;
 
-/// The seat of a table's only client.
+/// The seat of a client at a table.
 #[derive(Drop)]
 pub(super) struct Caller<'a> {
     pub(super) table: &'a Bench,
     pub(super) seat: RuleSeat<AnyBytes>,
+    pub(super) client: u32,
+    /// How many places the table grants.
+    pub(super) limit: u64,
     /// How many entries the client showed.
     pub(super) shown: u64,
     /// What its calls took.
     pub(super) effort: Effort,
-    ghost bench: { IsBench (plan_of table.now) },
+    ghost bench: { IsSmall (plan_of table.now) },
     ghost seated: { IsSeatAt table.now seat },
-    ghost numbered: { (view seat).client ≡ 0 },
+    ghost numbered: { ((view seat).client ≡ client) × (client < MOST_CLIENTS) },
+    ghost limited: { limit ≡ limit_of (setup_of (plan_of table.now)) },
     ghost counted: { length (view seat).made ≡ shown },
 }
 
@@ -47,7 +51,7 @@ impl Caller<'_> {
     pub(super) fn word(&mut self, slot: u32) -> u64
         requires ready { IsReady (view self.old.seat) }
         requires slot { slot < 8 }
-        ensures same { (self.new.table ≡ self.old.table) × (self.new.shown ≡ self.old.shown) }
+        ensures same { self.new.table ≡ self.old.table }
         ensures ready { IsReady (view self.new.seat) }
     {
         word(self.table, &mut self.seat, slot)
@@ -57,7 +61,7 @@ impl Caller<'_> {
     pub(super) fn displacement(&mut self, slot: u32) -> u64
         requires ready { IsReady (view self.old.seat) }
         requires slot { slot < 8 }
-        ensures same { (self.new.table ≡ self.old.table) × (self.new.shown ≡ self.old.shown) }
+        ensures same { self.new.table ≡ self.old.table }
         ensures ready { IsReady (view self.new.seat) }
     {
         displacement(self.table, &mut self.seat, slot)
@@ -66,7 +70,7 @@ impl Caller<'_> {
     /// The usage and the occupancy.
     pub(super) fn totals(&mut self) -> [u64; 2]
         requires ready { IsReady (view self.old.seat) }
-        ensures same { (self.new.table ≡ self.old.table) × (self.new.shown ≡ self.old.shown) }
+        ensures same { self.new.table ≡ self.old.table }
         ensures ready { IsReady (view self.new.seat) }
     {
         let usage = self.table.usage(&mut self.seat);
@@ -98,7 +102,7 @@ impl Caller<'_> {
             (view self.new.seat) }
     {
         let occupancy = self.table.enter(&mut self.seat);
-        assert!(rt; occupancy < LIMIT, "the table is full");
+        assert!(rt; occupancy < self.limit, "the table is full");
         self.table.charge(&mut self.seat, charge);
     }
 
@@ -126,7 +130,7 @@ impl Caller<'_> {
             &mut self.seat,
             draft,
             value,
-            0,
+            self.client,
             NAME,
             &mut self.effort,
         );
@@ -143,7 +147,7 @@ impl Caller<'_> {
     pub(super) fn settle(&mut self, slots: u64, charge: u64)
         requires freed { Carries (record new_client { freed = charge; freed_slots = slots }) []
             (view self.old.seat) }
-        ensures same { (self.new.table ≡ self.old.table) × (self.new.shown ≡ self.old.shown) }
+        ensures same { self.new.table ≡ self.old.table }
         ensures ready { IsReady (view self.new.seat) }
     {
         if slots > 0 {
@@ -157,8 +161,8 @@ impl Caller<'_> {
     /// Finds an entry, and holds it.
     pub(super) fn find(&mut self, key: Key, marks: bool) -> Option<Pin>
         requires ready { IsReady (view self.old.seat) }
-        ensures same { (self.new.table ≡ self.old.table) × (self.new.shown ≡ self.old.shown) }
-        ensures pin { IfSome result (λ found. (found.slot < 8) × (found.name ≡ NAME)) }
+        ensures same { self.new.table ≡ self.old.table }
+        ensures pin { IfSome result (λ found. IsPin (slots_of self.new.table.now) NAME found) }
         ensures holds { IfSome result (λ found. HoldsOne found (view self.new.seat)) }
         ensures ready { IfNone result (IsReady (view self.new.seat)) }
     {
@@ -174,9 +178,9 @@ impl Caller<'_> {
 
     /// Releases a handle.
     pub(super) fn release(&mut self, found: Pin, usage: Use, last: IfLast) -> Option<u64>
-        requires pin { (found.slot < 8) × (found.name ≡ NAME) }
+        requires pin { IsPin (slots_of self.old.table.now) NAME found }
         requires holds { HoldsOne found (view self.old.seat) }
-        ensures same { (self.new.table ≡ self.old.table) × (self.new.shown ≡ self.old.shown) }
+        ensures same { self.new.table ≡ self.old.table }
         ensures ready { IsReady (view self.new.seat) }
     {
         let freed = release(
@@ -196,7 +200,7 @@ impl Caller<'_> {
     /// Hides the entries of a key.
     pub(super) fn hide(&mut self, key: Key) -> Erased
         requires ready { IsReady (view self.old.seat) }
-        ensures same { (self.new.table ≡ self.old.table) × (self.new.shown ≡ self.old.shown) }
+        ensures same { self.new.table ≡ self.old.table }
         ensures ready { IsReady (view self.new.seat) }
     {
         let erased = hide(self.table, &mut self.seat, key, NAME, &mut self.effort);
@@ -208,7 +212,7 @@ impl Caller<'_> {
     pub(super) fn visit(&mut self, slot: u32) -> ClockVisit
         requires ready { IsReady (view self.old.seat) }
         requires slot { slot < 8 }
-        ensures same { (self.new.table ≡ self.old.table) × (self.new.shown ≡ self.old.shown) }
+        ensures same { self.new.table ≡ self.old.table }
         ensures ready { IsReady (view self.new.seat) }
     {
         let done = visit(self.table, &mut self.seat, slot, &mut self.effort);
@@ -220,9 +224,10 @@ impl Caller<'_> {
 
     /// The word of the slot of a handle.
     pub(super) fn word_held(&mut self, found: Pin) -> u64
-        requires pin { (found.slot < 8) × (found.name ≡ NAME) }
+        requires pin { IsPin (slots_of self.old.table.now) NAME found }
         requires holds { HoldsOne found (view self.old.seat) }
-        ensures same { (self.new.table ≡ self.old.table) × (self.new.shown ≡ self.old.shown) }
+        ensures same { self.new.table ≡ self.old.table }
+        ensures pin { IsPin (slots_of self.new.table.now) NAME found }
         ensures holds { HoldsOne found (view self.new.seat) }
     {
         word(self.table, &mut self.seat, found.slot)

@@ -1,8 +1,9 @@
 //! What a caller does that holds a handle, and how it gets one.
 ghost use Rattle.std.specs.Prelude.{◌≡◌, ◌<◌, ◌≤◌, true, length};
 ghost use Rattle.hcc_rule.specs.Benches.{IsReady};
+ghost use Rattle.hcc_rule.specs.Callers.{slots_of};
 ghost use Rattle.hcc_rule.specs.Seats.{view};
-ghost use Rattle.hcc_table.specs.Handles.{HoldsOne};
+ghost use Rattle.hcc_table.specs.Handles.{HoldsOne, IsPin};
 
 use super::caller::{Caller, NAME};
 use crate::{
@@ -34,7 +35,7 @@ impl Caller<'_> {
         requires countdown { (1 ≤ countdown) × (countdown ≤ 3) }
         requires short { length value.now ≤ 16 }
         ensures same { self.new.table ≡ self.old.table }
-        ensures pin { (result.slot < 8) × (result.name ≡ NAME) }
+        ensures pin { IsPin (slots_of self.new.table.now) NAME result }
         ensures holds { HoldsOne result (view self.new.seat) }
     {
         assert!(rt; self.shown < 100, "too many entries");
@@ -45,7 +46,7 @@ impl Caller<'_> {
             &mut self.seat,
             draft,
             value,
-            0,
+            self.client,
             NAME,
             &mut self.effort,
         );
@@ -60,26 +61,11 @@ impl Caller<'_> {
         }
     }
 
-    /// Whether no entry of the key is found.
-    pub(super) fn misses(&mut self, key: Key) -> bool
-        requires ready { IsReady (view self.old.seat) }
-        ensures same { (self.new.table ≡ self.old.table) × (self.new.shown ≡ self.old.shown) }
-        ensures ready { IsReady (view self.new.seat) }
-    {
-        match self.find(key, false) {
-            None => true,
-            Some(found) => {
-                self.release(found, Use::NotUseful, IfLast::Keep);
-                false
-            }
-        }
-    }
-
     /// Whether no entry of the key is found while the handle is held.
     pub(super) fn misses_held(&mut self, held: Pin, key: Key) -> bool
-        requires pin { held.name ≡ NAME }
+        requires pin { IsPin (slots_of self.old.table.now) NAME held }
         requires holds { HoldsOne held (view self.old.seat) }
-        ensures same { (self.new.table ≡ self.old.table) × (self.new.shown ≡ self.old.shown) }
+        ensures same { self.new.table ≡ self.old.table }
         ensures holds { result ≡ true → HoldsOne held (view self.new.seat) }
     {
         find(
@@ -95,9 +81,10 @@ impl Caller<'_> {
 
     /// The key, the value's length and the buffer that it was read into.
     pub(super) fn read(&mut self, found: Pin) -> (Key, usize, usize, [u8; 20])
-        requires pin { (found.slot < 8) × (found.name ≡ NAME) }
+        requires pin { IsPin (slots_of self.old.table.now) NAME found }
         requires holds { HoldsOne found (view self.old.seat) }
-        ensures same { (self.new.table ≡ self.old.table) × (self.new.shown ≡ self.old.shown) }
+        ensures same { self.new.table ≡ self.old.table }
+        ensures pin { IsPin (slots_of self.new.table.now) NAME found }
         ensures holds { HoldsOne found (view self.new.seat) }
     {
         let key = read_key(self.table, &mut self.seat, found);
@@ -109,10 +96,11 @@ impl Caller<'_> {
 
     /// The charge that is pinned on a slot, while the handle is held.
     pub(super) fn pinned(&mut self, held: Pin, slot: u32) -> u64
-        requires pin { held.name ≡ NAME }
         requires slot { slot < 8 }
+        requires pin { IsPin (slots_of self.old.table.now) NAME held }
         requires holds { HoldsOne held (view self.old.seat) }
-        ensures same { (self.new.table ≡ self.old.table) × (self.new.shown ≡ self.old.shown) }
+        ensures same { self.new.table ≡ self.old.table }
+        ensures pin { IsPin (slots_of self.new.table.now) NAME held }
         ensures holds { HoldsOne held (view self.new.seat) }
     {
         pinned_charge(self.table, &mut self.seat, slot, OTHER, &mut self.effort)
@@ -121,9 +109,9 @@ impl Caller<'_> {
     /// Holds the entry of the handle once more, and releases both references. The words are those
     /// with both and after each was released.
     pub(super) fn hold_twice(&mut self, rt: &impl Abort, found: Pin) -> [u64; 3]
-        requires pin { (found.slot < 8) × (found.name ≡ NAME) }
+        requires pin { IsPin (slots_of self.old.table.now) NAME found }
         requires holds { HoldsOne found (view self.old.seat) }
-        ensures same { (self.new.table ≡ self.old.table) × (self.new.shown ≡ self.old.shown) }
+        ensures same { self.new.table ≡ self.old.table }
         ensures ready { IsReady (view self.new.seat) }
     {
         let other = again(self.table, &mut self.seat, found, OTHER, &mut self.effort);
@@ -140,14 +128,15 @@ impl Caller<'_> {
         let one = self.word_held(found);
         let freed = self.release(found, Use::Useful, IfLast::Keep);
         assert!(rt; freed == None, "the entry is visible");
-        [both, one, self.word(found.slot)]
+        let none = word(self.table, &mut self.seat, found.slot);
+        [both, one, none]
     }
 
     /// Takes the entry of a slot without references, and frees it. It answers the charge.
     pub(super) fn evict(&mut self, rt: &impl Abort, slot: u32) -> u64
         requires ready { IsReady (view self.old.seat) }
         requires slot { slot < 8 }
-        ensures same { (self.new.table ≡ self.old.table) × (self.new.shown ≡ self.old.shown) }
+        ensures same { self.new.table ≡ self.old.table }
         ensures ready { IsReady (view self.new.seat) }
     {
         let seen = word(self.table, &mut self.seat, slot);

@@ -1,13 +1,19 @@
 //! Two clients on two threads: in every order of their steps all entries are inserted and found.
-ghost use Rattle.std.specs.Prelude.{◌≡◌, ◌<◌, ◌≤◌};
+ghost use Rattle.std.specs.Prelude.{◌≡◌, ◌<◌, ◌≤◌, length};
 ghost use Rattle.std.specs.Thread.{IsSync};
-ghost use Rattle.hcc_rule.specs.Callers.{plan_of, IsSeatAt};
-ghost use Rattle.hcc_rule.specs.Benches.{IsReadySeatAt};
-ghost use Rattle.hcc_table.specs.Mates.{IsPlain};
+ghost use Rattle.hcc_core.specs.declared.limits.TheConstants.{MOST_CLIENTS};
+ghost use Rattle.hcc_rule.specs.Benches.{IsReady, IsReadySeatAt};
+ghost use Rattle.hcc_rule.specs.Callers.{plan_of, AreSeatsAt, IsSeatAt};
+ghost use Rattle.hcc_rule.specs.Seats.{view};
+ghost use Rattle.hcc_table.specs.Handles.{IsSmall};
 
 use super::AnyBytes;
-use super::mate::{Hit, Mate, Shard, seated, shard};
-use crate::Effort;
+use super::caller::{Bench, Caller, NAME};
+use super::calls::{Answer, Call, plays};
+use super::held::UNREAD;
+use super::hired::{Seats, bench, hired};
+use crate::{Effort, IfLast, Insertion, Pin, Use};
+use hcc_core::limits::OCCUPANCY_PERCENT;
 use hcc_rule::{Key, RuleSeat};
 use std::alloc::AllocError;
 use std::process::Abort;
@@ -16,186 +22,154 @@ use std::thread::{Threads, join};
 /// The word of a slot whose entry has a countdown of 2 and no reference, and was used twice.
 const USED: u64 = 0xe000_0001_0000_0004;
 
-/// Keys whose first probe is the slot of that number, in a shard of 16 slots.
-fn key(number: u8) -> Key {
-    Key {
-        w0: 0,
-        w1: number as u64,
-    }
-}
-
-/// Inserts the entries of four keys, from this number on, each at its key's first probe.
-fn inserts(
-    rt: &impl Abort,
-    table: &Shard,
-    seat: RuleSeat<AnyBytes>,
-    client: u32,
-    first: u8,
-) -> RuleSeat<AnyBytes>
-    requires plain { IsPlain (plan_of table.now) }
-    requires client { client < 1024 }
-    requires first { first ≤ 4 }
-    requires ready { IsReadySeatAt table.now client 0 seat }
-    ensures ready { IsReadySeatAt table.now client 4 result }
-{
-    let mut me = Mate {
-        table,
-        seat,
-        client,
-        shown: 0,
-        effort: Effort::NONE,
-    };
-    let slots = [
-        me.insert(rt, key(first), &[first]),
-        me.insert(rt, key(first + 1), &[first + 1]),
-        me.insert(rt, key(first + 2), &[first + 2]),
-        me.insert(rt, key(first + 3), &[first + 3]),
-    ];
-    let first = first as u32;
-    assert_eq!(rt; slots, [first, first + 1, first + 2, first + 3]);
-    me.seat
-}
-
-/// Finds and reads the entries of all eight keys.
-fn finds(
-    rt: &impl Abort,
-    table: &Shard,
-    seat: RuleSeat<AnyBytes>,
-    client: u32,
-) -> RuleSeat<AnyBytes>
-    requires plain { IsPlain (plan_of table.now) }
-    requires ready { IsReadySeatAt table.now client 4 seat }
-    ensures ready { IsReadySeatAt table.now client 4 result }
-{
-    let mut me = Mate {
-        table,
-        seat,
-        client,
-        shown: 4,
-        effort: Effort::NONE,
-    };
-    for number in 0..8 {
-        let mut bytes = [0; 16];
-        bytes[0] = number;
-        let want = Hit {
-            slot: number as u32,
-            length: 1,
-            bytes,
-        };
-        let hit = me.hit(key(number)).expect(rt, "the key has no entry");
-        assert_eq!(rt; hit, want);
-    }
-    me.seat
-}
-
-/// Clients 0 and 1 insert four entries each at once.
-fn both_insert<R: Abort + Threads + Sync>(
-    rt: &R,
-    table: &Shard,
-    first: RuleSeat<AnyBytes>,
-    second: RuleSeat<AnyBytes>,
-) -> (RuleSeat<AnyBytes>, RuleSeat<AnyBytes>)
-    requires plain { IsPlain (plan_of table.now) }
-    requires first { IsReadySeatAt table.now 0 0 first }
-    requires second { IsReadySeatAt table.now 1 0 second }
-    ensures first { IsReadySeatAt table.now 0 4 result.0 }
-    ensures second { IsReadySeatAt table.now 1 4 result.1 }
-{
-    join(
-        rt,
-        move ||
-            requires { IsSync R.row × IsPlain (plan_of table.now)
-                × IsReadySeatAt table.now 0 0 first }
-            ensures { IsReadySeatAt table.entry.now 0 4 result }
-        { inserts(rt, table, first, 0, 0) },
-        move ||
-            requires { IsSync R.row × IsPlain (plan_of table.now)
-                × IsReadySeatAt table.now 1 0 second }
-            ensures { IsReadySeatAt table.entry.now 1 4 result }
-        { inserts(rt, table, second, 1, 4) },
-    )
-}
-
-/// Tries to insert second entries of all eight keys.
-fn meets(
-    rt: &impl Abort,
-    table: &Shard,
-    seat: RuleSeat<AnyBytes>,
-    client: u32,
-) -> RuleSeat<AnyBytes>
-    requires plain { IsPlain (plan_of table.now) }
-    requires client { client < 1024 }
-    requires ready { IsReadySeatAt table.now client 4 seat }
-    ensures ready { IsReadySeatAt table.now client 4 result }
-{
-    let mut me = Mate {
-        table,
-        seat,
-        client,
-        shown: 4,
-        effort: Effort::NONE,
-    };
-    for number in 0..8 {
-        me.insert_twin(rt, key(number), &[number]);
-    }
-    me.seat
-}
-
-/// What client 1 does while client 0 finds the entries.
-#[derive(Clone, Copy, Debug, PartialEq, Eq)]
-enum Other {
-    /// It finds them too.
+/// What a client does.
+#[derive(Clone, Copy)]
+enum Work {
+    /// Inserts the entries of four keys, from this number on, each at its key's first probe.
+    Inserts(u8),
+    /// Finds and reads the entries of all eight keys.
     Finds,
-    /// It tries to insert others of their keys.
+    /// Tries to insert second entries of all eight keys.
     Meets,
 }
 
-/// Client 0 finds and holds the entries, and client 1 works beside it.
-fn one_finds<R: Abort + Threads + Sync>(
+/// The calls of a client on the key of a number, whose first probe is the slot of that number.
+fn on_key(rt: &impl Abort, me: &mut Caller, work: Work, number: u8)
+    requires ready { IsReady (view me.old.seat) }
+    ensures same { me.new.table ≡ me.old.table }
+    ensures ready { IsReady (view me.new.seat) }
+{
+    let slot = number as u32;
+    let key = Key {
+        w0: 0,
+        w1: number as u64,
+    };
+    let insert = Call::Insert(key, 1, 2, &[number]);
+    let pin = Pin {
+        slot,
+        name: NAME,
+        counting: true,
+    };
+    let mut buffer = [UNREAD; 20];
+    buffer[0] = number;
+    match work {
+        Work::Inserts(_) => {
+            let placed = Answer::Inserted(Insertion::Placed { slot });
+            plays(rt, me, &[(insert, placed)]);
+        }
+        Work::Finds => {
+            let find = (Call::Find(key, false), Answer::Held(pin));
+            let read = (Call::Read, Answer::Entry(key, 1, 1, buffer));
+            let release = Call::Release(Use::NotUseful, IfLast::Keep);
+            plays(rt, me, &[find, read, (release, Answer::Freed(None))]);
+        }
+        Work::Meets => plays(rt, me, &[(insert, Answer::Inserted(Insertion::Matched))]),
+    }
+}
+
+/// A client between its works, apart from its table.
+#[derive(Drop)]
+struct Away {
+    seat: RuleSeat<AnyBytes>,
+    client: u32,
+    shown: u64,
+}
+
+/// The client of the last seat.
+fn seated(rt: &impl Abort, table: &Bench, seats: &mut Seats) -> Away
+    requires new { AreSeatsAt table.now 0 seats.old.items }
+    requires small { IsSmall (plan_of table.now) }
+    requires few { length seats.old.items ≤ 2 }
+    ensures rest { AreSeatsAt table.now 0 seats.new.items }
+    ensures few { length seats.new.items ≤ 2 }
+    ensures client { result.client < MOST_CLIENTS }
+    ensures ready { IsReadySeatAt table.now result.client result.shown result.seat }
+{
+    let me = hired(rt, table, seats);
+    Away {
+        client: me.client,
+        shown: me.shown,
+        seat: me.seat,
+    }
+}
+
+/// A client does its work.
+fn works(rt: &impl Abort, table: &Bench, at: Away, work: Work) -> Away
+    requires small { IsSmall (plan_of table.now) }
+    requires client { at.client < MOST_CLIENTS }
+    requires ready { IsReadySeatAt table.now at.client at.shown at.seat }
+    ensures client { result.client < MOST_CLIENTS }
+    ensures ready { IsReadySeatAt table.now result.client result.shown result.seat }
+{
+    let mut me = Caller {
+        table,
+        seat: at.seat,
+        client: at.client,
+        limit: table.geometry().slots as u64 * OCCUPANCY_PERCENT / 100,
+        shown: at.shown,
+        effort: Effort::NONE,
+    };
+    for number in 0..8 {
+        let is_own = match work {
+            Work::Inserts(first) => number / 4 == first / 4,
+            _ => true,
+        };
+        if is_own {
+            on_key(rt, &mut me, work, number);
+        }
+    }
+    Away {
+        client: me.client,
+        shown: me.shown,
+        seat: me.seat,
+    }
+}
+
+/// Two clients of a table work at once.
+fn at_once<R: Abort + Threads + Sync>(
     rt: &R,
-    table: &Shard,
-    first: RuleSeat<AnyBytes>,
-    second: RuleSeat<AnyBytes>,
-    other: Other,
-) -> (RuleSeat<AnyBytes>, RuleSeat<AnyBytes>)
-    requires plain { IsPlain (plan_of table.now) }
-    requires first { IsReadySeatAt table.now 0 4 first }
-    requires second { IsReadySeatAt table.now 1 4 second }
-    ensures first { IsReadySeatAt table.now 0 4 result.0 }
-    ensures second { IsReadySeatAt table.now 1 4 result.1 }
+    table: &Bench,
+    first: Away,
+    second: Away,
+    work: Work,
+    other: Work,
+) -> (Away, Away)
+    requires small { IsSmall (plan_of table.now) }
+    requires first { (first.client < MOST_CLIENTS)
+        × IsReadySeatAt table.now first.client first.shown first.seat }
+    requires second { (second.client < MOST_CLIENTS)
+        × IsReadySeatAt table.now second.client second.shown second.seat }
+    ensures first { (result.0.client < MOST_CLIENTS)
+        × IsReadySeatAt table.now result.0.client result.0.shown result.0.seat }
+    ensures second { (result.1.client < MOST_CLIENTS)
+        × IsReadySeatAt table.now result.1.client result.1.shown result.1.seat }
 {
     join(
         rt,
         move ||
-            requires { IsSync R.row × IsPlain (plan_of table.now)
-                × IsReadySeatAt table.now 0 4 first }
-            ensures { IsReadySeatAt table.entry.now 0 4 result }
-        { finds(rt, table, first, 0) },
+            requires { IsSync R.row × IsSmall (plan_of table.now) × (first.client < MOST_CLIENTS)
+                × IsReadySeatAt table.now first.client first.shown first.seat }
+            ensures { (result.client < MOST_CLIENTS)
+                × IsReadySeatAt table.entry.now result.client result.shown result.seat }
+        { works(rt, table, first, work) },
         move ||
-            requires { IsSync R.row × IsPlain (plan_of table.now)
-                × IsReadySeatAt table.now 1 4 second }
-            ensures { IsReadySeatAt table.entry.now 1 4 result }
-        {
-            match other {
-                Other::Finds => finds(rt, table, second, 1),
-                Other::Meets => meets(rt, table, second, 1),
-            }
-        },
+            requires { IsSync R.row × IsSmall (plan_of table.now) × (second.client < MOST_CLIENTS)
+                × IsReadySeatAt table.now second.client second.shown second.seat }
+            ensures { (result.client < MOST_CLIENTS)
+                × IsReadySeatAt table.entry.now result.client result.shown result.seat }
+        { works(rt, table, second, other) },
     )
 }
 
-/// Ends client 1. The seat that is left names both clients.
-fn end_both(
-    table: &Shard,
-    mut first: RuleSeat<AnyBytes>,
-    second: RuleSeat<AnyBytes>,
-) -> RuleSeat<AnyBytes>
-    requires first { IsReadySeatAt table.now 0 4 first }
-    requires second { IsReadySeatAt table.now 1 4 second }
+/// Ends the second client. The seat that is left names both.
+fn end_both(table: &Bench, first: Away, second: Away) -> RuleSeat<AnyBytes>
+    requires first { IsReadySeatAt table.now first.client first.shown first.seat }
+    requires second { IsReadySeatAt table.now second.client second.shown second.seat }
     ensures { IsSeatAt table.now result }
 {
-    table.join(&mut first, second);
-    first
+    let mut seat = first.seat;
+    table.join(&mut seat, second.seat);
+    seat
 }
 
 /// The two clients insert eight entries at once, each at its key's first probe, and both find all
@@ -204,12 +178,13 @@ fn end_both(
 /// words tell.
 #[test]
 fn two_threads_insert_and_find_entries(rt: HostRuntime) -> Result<(), AllocError> {
-    let (table, mut seats) = shard(rt.alloc(), 2, 1)?;
+    let (table, mut seats) = bench(rt.alloc(), true)?;
     let second = seated(&rt, &table, &mut seats);
     let first = seated(&rt, &table, &mut seats);
-    let (first, second) = both_insert(&rt, &table, first, second);
-    let (first, second) = one_finds(&rt, &table, first, second, Other::Finds);
-    let (first, second) = one_finds(&rt, &table, first, second, Other::Meets);
+    let inserts = (Work::Inserts(0), Work::Inserts(4));
+    let (first, second) = at_once(&rt, &table, first, second, inserts.0, inserts.1);
+    let (first, second) = at_once(&rt, &table, first, second, Work::Finds, Work::Finds);
+    let (first, second) = at_once(&rt, &table, first, second, Work::Finds, Work::Meets);
     let last = end_both(&table, first, second);
     let closed = table.close(last);
     for slot in 0..16 {

@@ -4,11 +4,12 @@ ghost use Rattle.std.specs.Prelude.{◌≡◌, ◌<◌, ◌≤◌, [], ◌∷◌
 ghost use Rattle.hcc_core.specs.declared.client.Place.TheVariants.{Granted};
 ghost use Rattle.hcc_core.specs.Opening.{new_client};
 ghost use Rattle.hcc_rule.specs.declared.view.Record.{Record};
+ghost use Rattle.hcc_rule.specs.Callers.{slots_of};
 ghost use Rattle.hcc_rule.specs.Work.{Carries};
 ghost use Rattle.hcc_rule.specs.Seats.{view};
-ghost use Rattle.hcc_table.specs.Handles.{HoldsOne, HoldsTwo, IsHandle};
+ghost use Rattle.hcc_table.specs.Handles.{HoldsOne, HoldsTwo, IsHandle, IsPin};
 
-use super::caller::{Caller, LIMIT, NAME};
+use super::caller::{Caller, NAME};
 use super::held::OTHER;
 use crate::{
     ClockVisit, Erased, IfLast, Insertion, Pin, Use, find, hide, insert, read_bytes, release,
@@ -23,9 +24,10 @@ const THIRD: u64 = 11;
 impl Caller<'_> {
     /// Hides the entries of a key, while the handle is held.
     pub(super) fn hide_held(&mut self, rt: &impl Abort, found: Pin, key: Key) -> Erased
-        requires pin { (found.slot < 8) × (found.name ≡ NAME) }
+        requires pin { IsPin (slots_of self.old.table.now) NAME found }
         requires holds { HoldsOne found (view self.old.seat) }
-        ensures same { (self.new.table ≡ self.old.table) × (self.new.shown ≡ self.old.shown) }
+        ensures same { self.new.table ≡ self.old.table }
+        ensures pin { IsPin (slots_of self.new.table.now) NAME found }
         ensures holds { HoldsOne found (view self.new.seat) }
     {
         let erased = hide(self.table, &mut self.seat, key, OTHER, &mut self.effort);
@@ -37,10 +39,11 @@ impl Caller<'_> {
     }
 
     /// A visit of the clock that sees the handle.
-    pub(super) fn visit_held(&mut self, rt: &impl Abort, found: Pin)
-        requires pin { (found.slot < 8) × (found.name ≡ NAME) }
+    pub(super) fn visit_held(&mut self, rt: &impl Abort, found: Pin) -> ClockVisit
+        requires pin { IsPin (slots_of self.old.table.now) NAME found }
         requires holds { HoldsOne found (view self.old.seat) }
-        ensures same { (self.new.table ≡ self.old.table) × (self.new.shown ≡ self.old.shown) }
+        ensures same { self.new.table ≡ self.old.table }
+        ensures pin { IsPin (slots_of self.new.table.now) NAME found }
         ensures holds { HoldsOne found (view self.new.seat) }
     {
         let done = visit(self.table, &mut self.seat, found.slot, &mut self.effort);
@@ -48,10 +51,12 @@ impl Caller<'_> {
             done == ClockVisit::Pinned,
             "the clock didn't see the handle"
         );
+        done
     }
 
     /// Asks for a place and a charge, while the handle is held.
     fn reserve_held(&mut self, rt: &impl Abort, found: Pin, charge: u32)
+        requires pin { IsPin (slots_of self.old.table.now) NAME found }
         requires holds { HoldsOne found (view self.old.seat) }
         ensures same { (self.new.table ≡ self.old.table) × (self.new.shown ≡ self.old.shown) }
         ensures reserved { (r : Record) × IsHandle found r
@@ -59,33 +64,38 @@ impl Caller<'_> {
             (view self.new.seat) }
     {
         let occupancy = self.table.enter(&mut self.seat);
-        assert!(rt; occupancy < LIMIT, "the table is full");
+        assert!(rt; occupancy < self.limit, "the table is full");
         self.table.charge(&mut self.seat, charge);
     }
 
-    /// Tries to insert another entry, of countdown 2, while the handle is held.
+    /// Tries to insert another entry while the handle is held.
     pub(super) fn insert_held(
         &mut self,
         rt: &impl Abort,
         found: Pin,
         key: Key,
         charge: u32,
+        countdown: u32,
+        value: &[u8],
     ) -> Insertion
-        requires pin { found.name ≡ NAME }
+        requires pin { IsPin (slots_of self.old.table.now) NAME found }
         requires holds { HoldsOne found (view self.old.seat) }
         requires charge { 0 < charge }
+        requires countdown { (1 ≤ countdown) × (countdown ≤ 3) }
+        requires short { length value.now ≤ 16 }
         ensures same { self.new.table ≡ self.old.table }
+        ensures pin { IsPin (slots_of self.new.table.now) NAME found }
         ensures holds { HoldsOne found (view self.new.seat) }
     {
         assert!(rt; self.shown < 100, "too many entries");
-        let draft = self.draft(key, charge, 2, None);
+        let draft = self.draft(key, charge, countdown, None);
         self.reserve_held(rt, found, charge);
         let insertion = insert(
             self.table,
             &mut self.seat,
             draft,
-            &[],
-            0,
+            value,
+            self.client,
             OTHER,
             &mut self.effort,
         );
@@ -105,24 +115,27 @@ impl Caller<'_> {
         found: Pin,
         key: Key,
         charge: u32,
+        countdown: u32,
         value: &[u8],
     ) -> Pin
-        requires pin { found.name ≡ NAME }
+        requires countdown { (1 ≤ countdown) × (countdown ≤ 3) }
+        requires pin { IsPin (slots_of self.old.table.now) NAME found }
         requires holds { HoldsOne found (view self.old.seat) }
         requires short { length value.now ≤ 16 }
         ensures same { self.new.table ≡ self.old.table }
-        ensures pin { (result.slot < 8) × (result.name ≡ OTHER) }
+        ensures pins { IsPin (slots_of self.new.table.now) NAME found
+            × IsPin (slots_of self.new.table.now) OTHER result }
         ensures holds { HoldsTwo found result (view self.new.seat) }
     {
         assert!(rt; self.shown < 100, "too many entries");
-        let draft = self.draft(key, charge, 2, Some(OTHER));
+        let draft = self.draft(key, charge, countdown, Some(OTHER));
         self.reserve_held(rt, found, charge);
         let insertion = insert(
             self.table,
             &mut self.seat,
             draft,
             value,
-            0,
+            self.client,
             OTHER,
             &mut self.effort,
         );
@@ -139,9 +152,12 @@ impl Caller<'_> {
 
     /// The first byte of the value of the entry that a handle is on.
     fn first_byte(&mut self, one: Pin, two: Pin, second: bool) -> u8
-        requires pins { (one.slot < 8) × (one.name ≡ NAME) × (two.slot < 8) × (two.name ≡ OTHER) }
+        requires pins { IsPin (slots_of self.old.table.now) NAME one
+            × IsPin (slots_of self.old.table.now) OTHER two }
         requires holds { HoldsTwo one two (view self.old.seat) }
-        ensures same { (self.new.table ≡ self.old.table) × (self.new.shown ≡ self.old.shown) }
+        ensures same { self.new.table ≡ self.old.table }
+        ensures pins { IsPin (slots_of self.new.table.now) NAME one
+            × IsPin (slots_of self.new.table.now) OTHER two }
         ensures holds { HoldsTwo one two (view self.new.seat) }
     {
         let mut buffer = [0; 16];
@@ -156,9 +172,12 @@ impl Caller<'_> {
     /// Finds an entry while both handles are held, and releases it. The answer is its slot, that
     /// slot's word, and the first byte of its value.
     fn peek(&mut self, rt: &impl Abort, one: Pin, two: Pin, key: Key) -> (u32, u64, u8)
-        requires pins { (one.slot < 8) × (one.name ≡ NAME) × (two.slot < 8) × (two.name ≡ OTHER) }
+        requires pins { IsPin (slots_of self.old.table.now) NAME one
+            × IsPin (slots_of self.old.table.now) OTHER two }
         requires holds { HoldsTwo one two (view self.old.seat) }
-        ensures same { (self.new.table ≡ self.old.table) × (self.new.shown ≡ self.old.shown) }
+        ensures same { self.new.table ≡ self.old.table }
+        ensures pins { IsPin (slots_of self.new.table.now) NAME one
+            × IsPin (slots_of self.new.table.now) OTHER two }
         ensures holds { HoldsTwo one two (view self.new.seat) }
     {
         let third = find(
@@ -193,9 +212,12 @@ impl Caller<'_> {
         two: Pin,
         key: Key,
     ) -> (u8, u8, (u32, u64, u8))
-        requires pins { (one.slot < 8) × (one.name ≡ NAME) × (two.slot < 8) × (two.name ≡ OTHER) }
+        requires pins { IsPin (slots_of self.old.table.now) NAME one
+            × IsPin (slots_of self.old.table.now) OTHER two }
         requires holds { HoldsTwo one two (view self.old.seat) }
-        ensures same { (self.new.table ≡ self.old.table) × (self.new.shown ≡ self.old.shown) }
+        ensures same { self.new.table ≡ self.old.table }
+        ensures pins { IsPin (slots_of self.new.table.now) NAME one
+            × IsPin (slots_of self.new.table.now) OTHER two }
         ensures holds { HoldsTwo one two (view self.new.seat) }
     {
         let first = self.first_byte(one, two, false);
@@ -203,21 +225,30 @@ impl Caller<'_> {
         (first, self.first_byte(one, two, true), peeked)
     }
 
-    /// Releases the second handle as a use.
-    pub(super) fn release_other(&mut self, rt: &impl Abort, one: Pin, two: Pin)
-        requires pins { (one.slot < 8) × (one.name ≡ NAME) × (two.slot < 8) × (two.name ≡ OTHER) }
+    /// Releases the second handle, whose entry stays.
+    pub(super) fn release_other(
+        &mut self,
+        rt: &impl Abort,
+        one: Pin,
+        two: Pin,
+        usage: Use,
+        last: IfLast,
+    )
+        requires pins { IsPin (slots_of self.old.table.now) NAME one
+            × IsPin (slots_of self.old.table.now) OTHER two }
         requires holds { HoldsTwo one two (view self.old.seat) }
-        ensures same { (self.new.table ≡ self.old.table) × (self.new.shown ≡ self.old.shown) }
+        ensures same { self.new.table ≡ self.old.table }
+        ensures pin { IsPin (slots_of self.new.table.now) NAME one }
         ensures holds { HoldsOne one (view self.new.seat) }
     {
         let freed = release(
             self.table,
             &mut self.seat,
             two,
-            Use::Useful,
-            IfLast::Keep,
+            usage,
+            last,
             &mut self.effort,
         );
-        assert!(rt; freed == None, "the entry is visible");
+        assert!(rt; freed == None, "the entry was freed");
     }
 }

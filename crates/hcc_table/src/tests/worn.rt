@@ -13,8 +13,7 @@ impl Caller<'_> {
     pub(super) fn wear(&mut self, rt: &impl Abort, slot: u32, times: u32)
         requires ready { IsReady (view self.old.seat) }
         requires slot { slot < 8 }
-        ensures same { (self.new.table ≡ self.old.table) × (self.new.shown ≡ self.old.shown)
-            × (self.new.effort ≡ self.old.effort) }
+        ensures same { self.new.table ≡ self.old.table }
         ensures ready { IsReady (view self.new.seat) }
     {
         for _ in 0..times {
@@ -26,8 +25,7 @@ impl Caller<'_> {
     fn use_often(&mut self, rt: &impl Abort, slot: u32)
         requires ready { IsReady (view self.old.seat) }
         requires slot { slot < 8 }
-        ensures same { (self.new.table ≡ self.old.table) × (self.new.shown ≡ self.old.shown)
-            × (self.new.effort ≡ self.old.effort) }
+        ensures same { self.new.table ≡ self.old.table }
         ensures ready { IsReady (view self.new.seat) }
     {
         let seen = self.table.look(&mut self.seat, slot);

@@ -1,4 +1,4 @@
-use Rattle.std.proofs.Common.{◌+◌, ◌≤◌, arith, refl}
+use Rattle.std.proofs.Common.{arith, refl}
 use Rattle.hcc_table.proofs.Logs.{adds_none, adds_one, adds_then}
 use Rattle.hcc_table.proofs.TakesBack.{takes_back, back, stands, goes_back}
 use Rattle.hcc_table.proofs.freeing.take_back.Goals as goal

@@ -1,6 +1,5 @@
 use Rattle.std.proofs.lemmas.Bool.{eq-eqb}
 use Rattle.hcc_rule.specs.Seats.{view}
-use Rattle.hcc_table.specs.Freed.{TakenAt}
 use Rattle.hcc_table.proofs.TakesBack.{freed, taken_at}
 use Rattle.hcc_table.proofs.freeing.try_free.Goals as goal
 

@@ -1,4 +1,4 @@
-use Rattle.std.proofs.Common.{mul-suc, ◌≡◌, ◌+◌, ◌*◌, ◌<◌, ◌≤◌, refl, arith}
+use Rattle.std.proofs.Common.{mul-suc, ◌+◌, ◌*◌, ◌<◌, ◌≤◌, refl, arith}
 use Rattle.hcc_table.specs.Efforts.{Took}
 use Rattle.hcc_table.specs.Steps.{freeing}
 use Rattle.hcc_table.proofs.Rises.{took_none, took_next, took_within}

@@ -1,4 +1,4 @@
-use Rattle.std.proofs.Common.{◌≡◌, sym}
+use Rattle.std.proofs.Common.{sym}
 use Rattle.hcc_rule.specs.Seats.{view}
 use Rattle.hcc_rule.specs.declared.layout.TheConstants.{CHARGE}
 use Rattle.hcc_rule.specs.ToldOwners.{IsDataWord}

@@ -1,5 +1,5 @@
-use Rattle.std.proofs.Common.{◌≡◌, ℕ, ◌+◌, ◌*◌, ◌/◌, ◌<◌, arith}
-use Rattle.hcc_table.proofs.Values.{IsReading, reads_next, reads_rest}
+use Rattle.std.proofs.Common.{ℕ, ◌+◌, ◌*◌, ◌/◌, ◌<◌, arith}
+use Rattle.hcc_table.proofs.Values.{reads_next, reads_rest}
 use Rattle.hcc_table.proofs.readings.read_bytes.Goals as goal
 
 pub loop-four-preserved : goal.loop-four-preserved

@@ -6,7 +6,5 @@ use Rattle.hcc_table.proofs.tests.caller.Caller.wear.Given as goal
 abbrev pub invariant-loop : goal.invariant-loop
 invariant-loop g l = record {
   table : l.self.table ≡ l.initial.self.table;
-  shown : l.self.shown ≡ l.initial.self.shown;
-  effort : l.self.effort ≡ l.initial.self.effort;
   ready : IsReady (view l.self.seat);
 }

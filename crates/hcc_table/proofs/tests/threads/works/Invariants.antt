@@ -1,12 +1,10 @@
 use Rattle.std.proofs.Common.{◌≡◌}
 use Rattle.hcc_rule.specs.Benches.{IsReady}
 use Rattle.hcc_rule.specs.Seats.{view}
-use Rattle.hcc_table.proofs.tests.threads.meets.Given as goal
+use Rattle.hcc_table.proofs.tests.threads.works.Given as goal
 
 abbrev pub invariant-loop-number : goal.invariant-loop-number
 invariant-loop-number g l = record {
-  table : l.me.table ≡ l.initial.me.table;
-  client : l.me.client ≡ l.initial.me.client;
-  shown : l.me.shown ≡ l.initial.me.shown;
+  table : l.me.table.now ≡ l.table;
   ready : IsReady (view l.me.seat);
 }
