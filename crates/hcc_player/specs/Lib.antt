@@ -1,7 +1,13 @@
 pub mod Number
 pub mod Value
+pub mod Words
 pub mod Line
 pub mod Text
 pub mod Script
+pub mod Judged
 pub mod Bytes
+pub mod Input
 pub mod Play
+pub mod Options
+pub mod Sums
+pub mod Report

@@ -7,13 +7,19 @@
 #![tactic(auto)]
 
 pub mod fault;
+mod grammar;
+mod input;
 pub mod limits;
 mod line;
 mod number;
+pub mod options;
 mod output;
 pub mod play;
 mod print;
+mod report;
 mod script;
+mod sums;
 #[cfg(test)]
 mod tests;
 mod value;
+mod words;
