@@ -8,3 +8,9 @@ pub mod PlayLemmas
 pub mod NumberLemmas
 pub mod ScriptLaws
 pub mod JsonLemmas
+pub mod RegisterLemmas
+pub mod RunLemmas
+pub mod RunningLemmas
+pub mod CallLemmas
+pub mod EndLemmas
+pub mod PlayRunLemmas

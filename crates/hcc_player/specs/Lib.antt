@@ -11,3 +11,8 @@ pub mod Play
 pub mod Options
 pub mod Sums
 pub mod Report
+pub mod RunLine
+pub mod RunAnswers
+pub mod Registers
+pub mod TraceTag
+pub mod PlayRun

@@ -17,6 +17,7 @@ mod output;
 pub mod play;
 mod print;
 mod report;
+pub mod run;
 mod script;
 mod sums;
 #[cfg(test)]

@@ -66,10 +66,7 @@ pub fn number_below(end: u32, word: &[u8]) -> Result<u32, TextFault>
 }
 
 /// Reads a number below `2^32`, as of a client or a slot.
-#[tactic(
-    auto,
-    unfolding(crate::specs::Number::small_number_of, crate::specs::Number::number_below)
-)]
+#[tactic(auto, unfolding(crate::specs::Number::small_number_of, crate::specs::Number::number_below))]
 pub fn small_number(word: &[u8]) -> Result<u32, TextFault>
     ensures { result ≡ small_number_of word.now }
 {
@@ -80,7 +77,8 @@ pub fn small_number(word: &[u8]) -> Result<u32, TextFault>
 /// Reads a charge: a number from 1 to 4,294,967,295.
 #[tactic(auto, unfolding(crate::specs::Number::charge_of))]
 pub fn charge(word: &[u8]) -> Result<u32, TextFault>
-    ensures { result ≡ charge_of word.now }
+    ensures value { result ≡ charge_of word.now }
+    ensures some { IfOk result (λ charge. 0 < charge) }
 {
     let charge = small_number(word)?;
     if charge == 0 {

@@ -49,8 +49,9 @@ fn bytes_of(alloc: Global, digits: &[u8]) -> Result<Vec<u8>, LineError>
 /// Reads a value of at most so many bytes: two digits for each byte, or `-` for no bytes.
 #[tactic(auto, unfolding(crate::specs::Value::value_of))]
 fn hexadecimal(alloc: Global, most: usize, word: &[u8]) -> Result<Vec<u8>, LineError>
-    ensures { MatchResult result (λ bytes. value_of most word.now ≡ Ok bytes.items)
+    ensures value { MatchResult result (λ bytes. value_of most word.now ≡ Ok bytes.items)
         (λ error. Fails error (value_of most word.now)) }
+    ensures short { IfOk result (λ bytes. length bytes.items ≤ most) }
 {
     if word == b"-".as_slice() {
         return Ok(Vec::new(alloc));
@@ -69,6 +70,7 @@ fn hexadecimal(alloc: Global, most: usize, word: &[u8]) -> Result<Vec<u8>, LineE
 pub fn value(alloc: Global, most: usize, word: &[u8]) -> Result<Vec<u8>, LineError>
     ensures value { MatchResult result (λ bytes. value_of most word.now ≡ Ok bytes.items)
         (λ error. Fails error (value_of most word.now)) }
+    ensures short { IfOk result (λ bytes. length bytes.items ≤ most) }
 
     // A value is read exactly where the word is the text of its bytes.
     ensures read { IfOk result (λ bytes. word.now ≡ value_text bytes.items) }
