@@ -1,9 +1,7 @@
 -- What the calls of a trace leave of a client and its registers.
 use Rattle.std.proofs.Common.{◌≡◌, ◌≢◌, ℕ, ◌+◌, ◌<◌, Bool, true, false, List, [], ◌++◌, Option, Some}
-use Rattle.std.proofs.Common.{None, Result, Ok, Err, IsSome, length, drop, refl, sym, ap, ◌∙◌, subst}
-use Rattle.std.proofs.Common.{append-nil, arith}
+use Rattle.std.proofs.Common.{None, Result, Ok, Err, IsSome, length, refl, sym, ap, ◌∙◌, subst}
 use Rattle.std.specs.Prelude.{is_some, slice_set}
-use Rattle.std.proofs.lemmas.List.{drop_all}
 use Rattle.hcc_rule.specs.declared.key.Key.{Key}
 use Rattle.hcc_cache.specs.declared.cache.Cache.{Cache}
 use Rattle.hcc_cache.specs.declared.client.Client.{Client}
@@ -220,9 +218,3 @@ module _ {T : Type 0} (fits : T → Key → List ℕ → Type 0) (cache : Cache 
     less_filled fits cache keys old new handles r handle known loses.others loses.count full
         filled,
   )
-
--- what was read to a buffer that was just large enough
-pub all_read : (buffer value old : List ℕ) → buffer ≡ value ++ drop (length value) old
-    → length old ≡ length value → buffer ≡ value
-all_read buffer value old read same =
-    read ∙ ap (λ r. value ++ r) (drop_all (length value) old (omega arith)) ∙ append-nil value

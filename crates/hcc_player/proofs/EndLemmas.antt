@@ -57,14 +57,14 @@ released Puts keys r (answers.Word w d) right before q within = absurd right
 released Puts keys r (answers.Stats s) right before q within = absurd right
 
 -- the list with one member set
-at_member : {A : Type 0} (xs : List A) (n : ℕ) (x y : A) → slice_get (slice_set xs n x) n ≡ Some y
+pub at_member : {A : Type 0} (xs : List A) (n : ℕ) (x y : A) → slice_get (slice_set xs n x) n ≡ Some y
     → y ≡ x
 at_member [] zero x y e = cc
 at_member [] (suc n) x y e = cc
 at_member (z ∷ zs) zero x y e = cc
 at_member (z ∷ zs) (suc n) x y e = at_member zs n x y e
 
-off_member : {A : Type 0} (xs : List A) (n k : ℕ) (x : A) → k ≢ n
+pub off_member : {A : Type 0} (xs : List A) (n k : ℕ) (x : A) → k ≢ n
     → slice_get (slice_set xs n x) k ≡ slice_get xs k
 off_member [] n k x other = refl
 off_member (z ∷ zs) zero zero x other = absurd (other refl)

@@ -1,8 +1,10 @@
 -- A trace in the middle of its play.
 use Rattle.std.proofs.Common.{◌≡◌, ℕ, zero, suc, ◌+◌, List, [], ◌∷◌, ◌++◌, Option, Some, Ok, Err, Result, IsOk}
 use Rattle.std.proofs.Common.{length}
-use Rattle.std.proofs.Common.{refl, sym, ap, ◌∙◌, subst, append_assoc, append-nil}
-use Rattle.std.specs.Prelude.{slice_get}
+use Rattle.std.proofs.Common.{refl, sym, ap, ◌∙◌, subst, append_assoc, append-nil, length-set, inl}
+use Rattle.std.proofs.Common.{inr, true, false, ◌==◌, rules, tests}
+use Rattle.std.specs.Prelude.{slice_get, slice_set}
+use Rattle.std.proofs.lemmas.Bool.{cases_eq}
 use Rattle.hcc_rule.specs.declared.key.Key.{Key}
 use Rattle.hcc_cache.specs.declared.cache.Cache.{Cache}
 use Rattle.hcc_cache.specs.declared.client.Client.{Client}
@@ -12,13 +14,15 @@ use Rattle.hcc_player.specs.declared.run.call.RunLine.{RunLine}
 use Rattle.hcc_player.specs.declared.run.registers.Registers.{Registers}
 use Rattle.hcc_player.specs.Bytes.{AppendsPart, Leaves}
 use Rattle.hcc_player.specs.PlayRun.{Answered, AnsweredPart, AreManned, FitsIn, Steps}
-use Rattle.hcc_player.specs.RunAnswers.{answer_line, answers_text, keys_after, keys_at, no_keys}
-use Rattle.hcc_player.specs.RunAnswers.{AllKeys, AreRight, Inserts, PutsIn}
+use Rattle.hcc_player.specs.Registers.{AreFilled, Goes}
+use Rattle.hcc_player.specs.RunAnswers.{answer_line, answers_text, keys_after, keys_at, keys_by}
+use Rattle.hcc_player.specs.RunAnswers.{no_keys, AllKeys, AreRight, Inserts, IsRight, PutsIn}
 use Rattle.hcc_player.specs.RunLine.{run_line}
 use Rattle.hcc_player.specs.declared.fault.ScriptFault.{ScriptFault}
 use Rattle.hcc_player.specs.Script.{lines_of, script_from, script_of}
 use Rattle.hcc_player.specs.TraceTag.{run_trace, said}
 use Rattle.hcc_player.proofs.ByteLemmas.{leaves_less, leaves_more}
+use Rattle.hcc_player.proofs.EndLemmas.{at_member, off_member}
 use Rattle.hcc_player.proofs.RunLemmas.{answers_more, can_go_on, keys_more, put_line, put_none}
 use Rattle.hcc_player.proofs.RunLemmas.{right_more, AllPut}
 use Rattle.hcc_player.proofs.Splits.{splits, ends}
@@ -217,3 +221,46 @@ module _ {T : Type 0} (fits : T → Key → List ℕ → Type 0) (cache : Cache 
       running_stops old new before part.0 after all clients' registers'
       (running_goes old mid new before pending part.0 rest after all clients clients' registers
       registers' so_far line answer next goes steps part.1)
+
+module _ {T : Type 0} (fits : T → Key → List ℕ → Type 0) (cache : Cache T) where
+  -- the call of a line, by its client
+  pub steps_by : (line : RunLine) (answer : Answer) (clients : List (Client T))
+      (registers : List Registers) (client client' : Client T) (held held' : Registers)
+      → slice_get clients line.client ≡ Some client
+      → slice_get registers line.client ≡ Some held
+      → Goes fits cache line.call answer client client' held.handles.items held'.handles.items
+      → Steps fits cache line answer clients (slice_set clients line.client client') registers
+      (slice_set registers line.client held')
+  steps_by line answer clients registers client client' held held' here there goes keys manned = (
+    now.0,
+    record {
+      count = length-set registers line.client held' ∙ manned.count
+          ∙ sym (length-set clients line.client client');
+      each = each;
+    },
+  )
+    where
+      now : IsRight (fits cache.tag) (keys line.client) line.call answer
+          × AreFilled fits cache (keys_by (keys line.client) line.call answer) client'
+          held'.handles.items
+      now = goes (keys line.client) (manned.each line.client client held here there)
+
+      each : (c : ℕ) (one : Client T) (has : Registers)
+          → slice_get (slice_set clients line.client client') c ≡ Some one
+          → slice_get (slice_set registers line.client held') c ≡ Some has
+          → AreFilled fits cache (keys_after keys line answer c) one has.handles.items
+      each c one has at holds =
+          elim (cases_eq c line.client) [
+            | inl e ↦
+                let here_is : (c == line.client) ≡ true = search (rules, tests) in
+                let one_is : one ≡ client' =
+                at_member clients line.client client' one (rw e at at) in
+                let has_is : has ≡ held' =
+                at_member registers line.client held' has (rw e at holds) in
+                rw (here_is, e, one_is, has_is) now.1
+            | inr other ↦
+                let elsewhere : (c == line.client) ≡ false = search (rules, tests) in
+                rw elsewhere (manned.each c one has
+                (sym (off_member clients line.client c client' other) ∙ at)
+                (sym (off_member registers line.client c held' other) ∙ holds))
+          ]

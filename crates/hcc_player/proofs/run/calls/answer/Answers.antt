@@ -19,7 +19,7 @@ pub returns-in-Release : goal.returns-in-Release
 returns-in-Release g c = rw c.in-Release.is c.release.ensures.goes
 
 pub returns-in-Value : goal.returns-in-Value
-returns-in-Value g c = rw c.in-Value.is c.value.ensures
+returns-in-Value g c = rw c.in-Value.is c.value-in-Value.ensures
 
 pub returns-in-Erase : goal.returns-in-Erase
 unfolding keys_by IsRight

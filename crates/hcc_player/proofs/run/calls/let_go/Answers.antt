@@ -23,7 +23,8 @@ pub returns-clause-none : goal.returns-clause-none
 returns-clause-none g c =
     let inv = c.loop-register.invariant in
     let count = inv.count in
-    let all = c.kept.ensures in
+    let all = c.kept-register-end.ensures in
+    let past = c.loop-register-test.false in
     holds_none g.T.Tag.fits c.args.cache.now inv.filled.0 c.loop-register.client
     c.loop-register.registers.handles.items inv.filled.1
     (λ r within. inv.filled.2 r (omega arith))

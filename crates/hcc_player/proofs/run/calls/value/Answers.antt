@@ -1,8 +1,9 @@
-use Rattle.std.proofs.Common.{◌≡◌, Some, None, length, sym, ◌∙◌, subst}
+use Rattle.std.proofs.Common.{◌≡◌, Some, None, sym, ◌∙◌, subst}
 use Rattle.hcc_cache.specs.Clients.{held_of}
 use Rattle.hcc_player.specs.Registers.{at}
 use Rattle.hcc_player.specs.RunAnswers.{keys_by, IsRight}
-use Rattle.hcc_player.proofs.CallLemmas.{all_read, empty_key}
+use Rattle.hcc_player.proofs.ByteLemmas.{read_back}
+use Rattle.hcc_player.proofs.CallLemmas.{empty_key}
 use Rattle.hcc_player.proofs.RegisterLemmas.{on_register, same_filled}
 use Rattle.hcc_player.proofs.run.calls.value.Goals as goal
 
@@ -37,8 +38,14 @@ returns g c keys filled =
     looked.reads.keeps.all looked.reads.keeps.count filled in
     let second = same_filled fits cache keys c.value_len-len.new.client c.read_value.new.client
     handles read.known read.reads.keeps.all read.reads.keeps.count first in
-    let a = c.from_vec.ensures in
-    let b = c.deref_mut.ensures.writes_back in
-    let e = c.deref_mut.ensures.value in
-    let f = c.in_ok-bytes.ensures.len in
-    ((on.held.insertion.key, on.keyed, ?), second)
+    let value = on.held.insertion.value in
+    let back = read_back c.from_vec.result c.read_value.new.buffer value c.deref_mut.result.now
+    c.in_ok-bytes.bytes.items c.in_ok-bytes.bytes.len c.from_vec.ensures bytes
+    (c.in_ok-bytes.ensures.len ∙ len) in (
+      (
+        on.held.insertion.key,
+        on.keyed,
+        subst (fits cache.tag on.held.insertion.key) (sym back) on.right,
+      ),
+      second,
+    )
