@@ -1,8 +1,10 @@
-//! Plays scripts of a block cache's protocol from the command line.
+//! Plays scripts of a block cache's protocol, and traces of calls on it, from the command line.
 #![tactic(auto)]
 
+mod cache_options;
 mod cli;
 mod run;
+mod run_command;
 mod status;
 #[cfg(test)]
 mod tests;

@@ -1,13 +1,16 @@
 //! Does what the words ask for, over any runtime.
 ghost use Rattle.hcc_core.specs.Opening.{CanOpen};
 
+use crate::cache_options::config_of;
 use crate::cli::{command, default_setup, setup_of};
 use crate::status::{Status, status_of};
-use clap::Error;
 use clap::error::ErrorKind;
+use clap::{ArgMatches, Error};
 use hcc_core::setup::Setup;
 use hcc_player::fault::PlayError;
+use hcc_player::options::Options;
 use hcc_player::play::play_core;
+use hcc_player::run::play_run;
 use std::io;
 
 /// Tells why a play ended.
@@ -26,6 +29,33 @@ fn core<R: AllocGlobal + Input + Print + Eprint>(rt: &R, setup: Setup) -> Status
         Ok(()) => Status::Done,
         Err(error) => told(rt, error),
     }
+}
+
+/// Plays a script in a world of these options.
+fn core_with<R: AllocGlobal + Input + Print + Eprint>(rt: &R, options: &ArgMatches<'_>) -> Status {
+    match setup_of(options) {
+        Some(setup) => core(rt, setup),
+        None => out_of_range(rt),
+    }
+}
+
+/// Plays a trace of calls from standard input to standard output.
+fn run_with<R: AllocGlobal + Input + Print + Eprint>(rt: &R, options: &ArgMatches<'_>) -> Status {
+    let Some(config) = config_of(options) else {
+        return out_of_range(rt);
+    };
+    let mut reader = rt.reader();
+    let mut writer = io::writer(rt);
+    let options = Options { config, block: 1 };
+    match play_run(rt.alloc(), &mut reader, &mut writer, &options) {
+        Ok(()) => Status::Done,
+        Err(error) => told(rt, error),
+    }
+}
+
+fn out_of_range<R: Eprint>(rt: &R) -> Status {
+    let _ = rt.eprintln("error: a number is out of range");
+    Status::Refused
 }
 
 /// Tells what `clap` says of wrong arguments, or the help that was asked for.
@@ -59,15 +89,9 @@ pub fn run<R: AllocGlobal + Input + Print + Eprint>(rt: &R, words: &[String]) ->
         Ok(matches) => matches,
         Err(error) => return refused(rt, &error),
     };
-    let setup = match matches.subcommand() {
-        Some((_, options)) => setup_of(options),
-        None => None,
-    };
-    match setup {
-        Some(setup) => core(rt, setup),
-        None => {
-            let _ = rt.eprintln("error: a number is out of range");
-            Status::Refused
-        }
+    match matches.subcommand() {
+        Some(("run", options)) => run_with(rt, options),
+        Some((_, options)) => core_with(rt, options),
+        None => out_of_range(rt),
     }
 }

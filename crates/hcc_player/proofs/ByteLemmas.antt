@@ -1,5 +1,7 @@
 -- Bytes that leave in parts.
-use Rattle.std.proofs.Common.{ℕ, List, [], ◌++◌, Option, Some, None, Result, Ok, Err, OnErr, take}
+use Rattle.std.proofs.Common.{◌≡◌, ℕ, List, [], ◌++◌, Option, Some, None, Result, Ok, Err, OnErr, OnOk}
+use Rattle.std.proofs.Common.{IfOk, length, take}
+use Rattle.std.proofs.Math.Seq.{take-append_seam}
 use Rattle.std.proofs.Common.{drop, refl, sym, ap, ◌∙◌, append_assoc, append-nil, take-append-drop}
 use Rattle.std.specs.Io.KnownBytes.{Appends, Keeps}
 use Rattle.std.proofs.KnownBytes.{Appends-trans, Keeps-refl}
@@ -62,3 +64,30 @@ all_out a b bytes out = rw (← out.cut, append-nil out.front) out.appended
 pub on_error : {A E : Type 0} (result : Result A E) (P : Type 0) → P → OnErr result P
 on_error (Ok value) P holds = tt
 on_error (Err error) P holds = holds
+
+-- what follows of a fact that holds at a success, or at an error
+pub on_ok_so : {A E : Type 0} (result : Result A E) (P Q : Type 0) → (P → Q) → OnOk result P
+    → OnOk result Q
+on_ok_so (Ok value) P Q goes holds = goes holds
+on_ok_so (Err error) P Q goes holds = tt
+
+pub on_error_so : {A E : Type 0} (result : Result A E) (P Q : Type 0) → (P → Q) → OnErr result P
+    → OnErr result Q
+on_error_so (Ok value) P Q goes holds = tt
+on_error_so (Err error) P Q goes holds = goes holds
+
+-- what holds of each success
+pub if_ok_so : {A E : Type 0} (result : Result A E) (P Q : A → Type 0)
+    → ((value : A) → P value → Q value) → IfOk result P → IfOk result Q
+if_ok_so (Ok value) P Q goes holds = goes value holds
+if_ok_so (Err error) P Q goes holds = tt
+
+-- bytes that were read to the front of a buffer, and are its front
+pub read_back : (told buffer value old items : List ℕ) (len : ℕ)
+    → told ≡ take len (buffer ++ drop (length buffer) items)
+    → buffer ≡ value ++ drop (length value) old → len ≡ length value → told ≡ value
+read_back told buffer value old items len is read same =
+    is ∙ ap (λ b. take len (b ++ drop (length buffer) items)) read
+    ∙ ap (take len) (append_assoc value (drop (length value) old) (drop (length buffer) items))
+    ∙ ap (λ n. take n (value ++ (drop (length value) old ++ drop (length buffer) items))) same
+    ∙ take-append_seam value (drop (length value) old ++ drop (length buffer) items)

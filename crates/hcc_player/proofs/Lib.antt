@@ -1,8 +1,16 @@
 pub mod ValueLemmas
 pub mod ValueLaws
 pub mod LineLemmas
+pub mod Splits
 pub mod ByteLemmas
 pub mod TextLemmas
 pub mod PlayLemmas
 pub mod NumberLemmas
 pub mod ScriptLaws
+pub mod JsonLemmas
+pub mod RegisterLemmas
+pub mod RunLemmas
+pub mod RunningLemmas
+pub mod CallLemmas
+pub mod EndLemmas
+pub mod PlayRunLemmas

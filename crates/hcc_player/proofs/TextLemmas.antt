@@ -1,6 +1,7 @@
 -- The texts of a world's slots, one after another.
 use Rattle.std.proofs.Common.{◌≡◌, ℕ, ◌+◌, inl, inr, List, [], ◌∷◌, ◌++◌, Some, None, drop}
-use Rattle.std.proofs.Common.{slice_get, refl, sym, ap, ◌∙◌, add-one}
+use Rattle.std.proofs.Common.{slice_get, refl, sym, ap, ◌∙◌, add-one, append_assoc, Result, Ok, Err}
+use Rattle.std.proofs.Common.{OnOk}
 use Rattle.std.proofs.Math.Seq.{drop-cons}
 use Rattle.std.proofs.lemmas.Option.{slice_get_within, get_or_from_slice_get, slice_get_cases}
 use Rattle.std.proofs.lemmas.List.{drop_all}
@@ -36,3 +37,17 @@ nothing_past all n past =
 pub slots_past : (world : State) (all : List Slot) (n : ℕ) → slice_get all n ≡ None
     → slots_from world n (drop n all) ≡ []
 slots_past world all n past = ap (slots_from world n) (nothing_past all n past)
+
+-- texts that are written in two or three pieces
+pub two_pieces : (old a b m : List ℕ) → m ≡ old ++ a → m ++ b ≡ old ++ (a ++ b)
+two_pieces old a b m first = rw first (append_assoc old a b)
+
+pub three_pieces : (old a b c m n : List ℕ) → m ≡ old ++ a → n ≡ m ++ b
+    → n ++ c ≡ old ++ (a ++ b ++ c)
+three_pieces old a b c m n first second =
+    ap (λ l. l ++ c) (second ∙ two_pieces old a b m first) ∙ append_assoc old (a ++ b) c
+
+pub on_ok_text : {A E : Type 0} (result : Result A E) (new mid last whole : List ℕ)
+    → mid ++ last ≡ whole → OnOk result (new ≡ mid ++ last) → OnOk result (new ≡ whole)
+on_ok_text (Ok done) new mid last whole same told = told ∙ same
+on_ok_text (Err error) new mid last whole same told = tt

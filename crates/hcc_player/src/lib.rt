@@ -7,13 +7,20 @@
 #![tactic(auto)]
 
 pub mod fault;
+mod grammar;
+mod input;
 pub mod limits;
 mod line;
 mod number;
+pub mod options;
 mod output;
 pub mod play;
 mod print;
+mod report;
+pub mod run;
 mod script;
+mod sums;
 #[cfg(test)]
 mod tests;
 mod value;
+mod words;

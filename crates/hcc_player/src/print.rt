@@ -53,7 +53,7 @@ fn push_byte(out: &mut String, byte: u8) -> Result<(), AllocError>
 }
 
 #[tactic(auto, using(std::proofs::lemmas::List::flat_map_more))]
-fn push_bytes(out: &mut String, bytes: &[u8]) -> Result<(), AllocError>
+pub fn push_bytes(out: &mut String, bytes: &[u8]) -> Result<(), AllocError>
     ensures { OnOk result
         (string_bytes out.new ≡ string_bytes out.old ++ flat_map byte_text bytes.now) }
 {
@@ -65,7 +65,7 @@ fn push_bytes(out: &mut String, bytes: &[u8]) -> Result<(), AllocError>
 
 /// Writes a value as a script has it.
 #[tactic(auto, unfolding(crate::specs::Text::value_text))]
-fn push_value(out: &mut String, value: &[u8]) -> Result<(), AllocError>
+pub fn push_value(out: &mut String, value: &[u8]) -> Result<(), AllocError>
     ensures { OnOk result
         (string_bytes out.new ≡ string_bytes out.old ++ value_text value.now) }
 {

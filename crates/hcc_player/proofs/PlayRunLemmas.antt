@@ -1,0 +1,216 @@
+-- A whole play of a trace: what is written for its text.
+use Rattle.std.proofs.Common.{◌≡◌, ◌⊎◌, inl, inr, ℕ, zero, suc, ◌≤◌, List, [], ◌∷◌, ◌++◌, Option, Some}
+use Rattle.std.proofs.Common.{None, Result, Ok, Err, IsOk, IfSome, length, refl, sym, ap, ◌∙◌, subst}
+use Rattle.std.specs.Prelude.{slice_get}
+use Rattle.std.specs.Io.KnownBytes.{Appends, Keeps}
+use Rattle.hcc_rule.specs.declared.key.Key.{Key}
+use Rattle.hcc_cache.specs.declared.cache.Cache.{Cache}
+use Rattle.hcc_cache.specs.declared.client.Client.{Client}
+use Rattle.hcc_cache.specs.declared.config.Config.{Config}
+use Rattle.hcc_cache.specs.declared.handle.Handle.{Handle}
+use Rattle.hcc_cache.specs.Opened.{IsOpened}
+use Rattle.hcc_player.specs.declared.limits.TheConstants.{MOST_INPUT}
+use Rattle.hcc_player.specs.declared.fault.PlayError.{PlayError}
+use Rattle.hcc_player.specs.declared.fault.PlayError.TheVariants as plays
+use Rattle.hcc_player.specs.declared.run.answer.Answer.{Answer}
+use Rattle.hcc_player.specs.declared.run.call.RunLine.{RunLine}
+use Rattle.hcc_player.specs.declared.run.registers.Registers.{Registers}
+use Rattle.hcc_player.specs.declared.run.tag.TraceTag.{TraceTag}
+use Rattle.hcc_player.specs.declared.sums.Sums.{Sums}
+use Rattle.hcc_player.specs.Bytes.{AppendsPart, Leaves}
+use Rattle.hcc_player.specs.Input.{IsWhole}
+use Rattle.hcc_player.specs.Judged.{FailsToJudge, IsAtFault}
+use Rattle.hcc_player.specs.Options.{config_check}
+use Rattle.hcc_player.specs.RunLine.{run_line}
+use Rattle.hcc_player.specs.PlayRun.{Agree, Answered, AnsweredPart, AreEmpty, AreManned, Ended}
+use Rattle.hcc_player.specs.PlayRun.{EndedPart, EndsRun, FitsIn, IsOutput, Writes, WritesFront}
+use Rattle.hcc_player.specs.Registers.{at, AreFilled, IsFilled}
+use Rattle.hcc_player.specs.Report.{sums_text}
+use Rattle.hcc_player.specs.RunAnswers.{answers_text, no_keys, AreRight, Inserts, IsPlayed}
+use Rattle.hcc_player.specs.TraceTag.{fits_trace, run_trace, said}
+use Rattle.hcc_player.proofs.ByteLemmas.{all_out, leaves_less, leaves_more, leaves_none}
+use Rattle.hcc_player.proofs.ByteLemmas.{writes_nothing}
+use Rattle.hcc_player.proofs.RunLemmas.{can_go_on, put_none}
+
+-- The beginning.
+
+none_at : (r : ℕ) → at [] r ≡ None
+none_at zero = refl
+none_at (suc r) = refl
+
+-- new clients, whose registers are empty
+pub manned_new : {T : Type 0} (fits : T → Key → List ℕ → Type 0) (config : Config) (tag : T)
+    (cache : Cache T) (clients : List (Client T)) (registers : List Registers)
+    → IsOpened config tag cache clients → AreEmpty registers → length registers ≡ length clients
+    → AreManned fits cache no_keys clients registers
+manned_new fits config tag cache clients registers opened empty count = record {
+  count = count;
+  each = λ c client held here there.
+      subst (λ handles. AreFilled fits cache (no_keys c) client handles) (sym (empty c held there))
+      (record {
+        known = opened.known c client here;
+        each = λ r.
+            subst (λ x. IsFilled fits cache client (no_keys c r) x) (sym (none_at r)) refl;
+        apart = λ r s h first second.
+            let no : None ≡ Some h = sym (none_at r) ∙ first in cc;
+        count = (opened.dealt.each c client here).unused.held;
+      });
+}
+
+-- the tag names the trace
+pub fits_named : (tag : TraceTag) (cache : Cache TraceTag) → cache.tag ≡ tag
+    → FitsIn fits_trace cache (said (run_trace tag.config tag.text.now))
+fits_named tag cache same key value puts =
+    subst (λ t. fits_trace t key value) (sym same) puts
+
+-- The end.
+
+-- some text may be written for each list of lines
+abbrev no_sums : Sums
+no_sums = record { charges = 0; occupied = 0; slots = 0; usage = 0 }
+
+pub some_played : (lines : List RunLine) → (out : List ℕ) × IsPlayed lines out
+some_played lines =
+    let some = can_go_on (Inserts lines) no_keys lines (put_none (Inserts lines)) in (
+      answers_text some.0 ++ sums_text no_sums,
+      record {
+        told = some.0;
+        right = some.1;
+        sums = no_sums;
+        charged = refl;
+        occupies = refl;
+        is = refl;
+      },
+    )
+
+pub played_as : (lines : List RunLine) (told : List Answer) (sums : Sums)
+    → AreRight (Inserts lines) no_keys lines told → Agree sums
+    → IsPlayed lines (answers_text told ++ sums_text sums)
+played_as lines told sums right agree = record {
+  told = told;
+  right = right;
+  sums = sums;
+  charged = agree.charged;
+  occupies = agree.occupies;
+  is = refl;
+}
+
+-- all answers and the sums are out
+pub play_whole : (lines : List RunLine) (old mid new : Option (List ℕ)) (pending : List ℕ)
+    → Answered (Inserts lines) lines old mid [] pending → Ended mid new pending
+    → (out : List ℕ) × IsPlayed lines out × Appends old new out
+play_whole lines old mid new pending answered ended =
+    let text = answers_text answered.0 in
+    let more = sums_text ended.0 in (
+      text ++ more,
+      played_as lines answered.0 ended.0 answered.1 ended.1,
+      all_out old new (text ++ more) (leaves_less old mid new (text ++ more) (pending ++ more) []
+          (leaves_more old mid text pending more answered.2)
+          (leaves_none mid new (pending ++ more) ended.2)),
+    )
+
+-- a front of that is
+pub play_cut : (lines : List RunLine) (old mid new : Option (List ℕ)) (pending : List ℕ)
+    → Answered (Inserts lines) lines old mid [] pending → EndedPart mid new pending
+    → (out : List ℕ) × IsPlayed lines out × AppendsPart old new out
+play_cut lines old mid new pending answered ended =
+    let text = answers_text answered.0 in
+    let more = sums_text ended.0 in (
+      text ++ more,
+      played_as lines answered.0 ended.0 answered.1 ended.1,
+      (
+        ended.2.0,
+        leaves_less old mid new (text ++ more) (pending ++ more) ended.2.0
+            (leaves_more old mid text pending more answered.2) ended.2.1,
+      ),
+    )
+
+-- it stopped before the end
+pub play_stopped : (lines : List RunLine) (old new : Option (List ℕ))
+    → AnsweredPart (Inserts lines) lines old new []
+    → (out : List ℕ) × IsPlayed lines out × AppendsPart old new out
+play_stopped lines old new part =
+    let text = answers_text part.0 in
+    let more = sums_text no_sums in (
+      text ++ more,
+      played_as lines part.0 no_sums part.1 (record { charged = refl; occupies = refl }),
+      (part.2.0 ++ more, leaves_more old new text part.2.0 more part.2.1),
+    )
+
+-- it stopped before anything was written
+pub play_unbegun : (lines : List RunLine) (a : Option (List ℕ))
+    → (out : List ℕ) × IsPlayed lines out × AppendsPart a a out
+play_unbegun lines a =
+    let some = some_played lines in (some.0, some.1, writes_nothing a some.0)
+
+-- Of the text that a reader had left.
+
+-- the lines of a good trace
+good_lines : (read : Result (List RunLine) _) → IsOk read → read ≡ Ok (said read)
+good_lines (Ok lines) fine = refl
+good_lines (Err fault) fine = cc
+
+pub output_of : (config : Config) (text out : List ℕ) → length text ≤ MOST_INPUT
+    → IsOk (run_trace config text) → IsPlayed (said (run_trace config text)) out
+    → IsOutput config text out
+output_of config text out short good played = record {
+  lines = said (run_trace config text);
+  trace = (short, good_lines (run_trace config text) good);
+  played = played;
+}
+
+pub writes_known : (config : Config) (known old new : Option (List ℕ)) (bytes : List ℕ)
+    → IsWhole known bytes → IsOk (run_trace config bytes)
+    → ((out : List ℕ) × IsPlayed (said (run_trace config bytes)) out × Appends old new out)
+    → IfSome known (Writes config old new)
+writes_known config None old new bytes whole good done = tt
+writes_known config (Some text) old new bytes whole good done =
+    subst (Writes config old new) whole.1
+    (done.0, output_of config bytes done.0 whole.0 good done.1, done.2)
+
+pub fronts_known : (config : Config) (known old new : Option (List ℕ)) (bytes : List ℕ)
+    → IsWhole known bytes → IsOk (run_trace config bytes)
+    → ((out : List ℕ) × IsPlayed (said (run_trace config bytes)) out × AppendsPart old new out)
+    → IfSome known (WritesFront config old new)
+fronts_known config None old new bytes whole good done = tt
+fronts_known config (Some text) old new bytes whole good done =
+    subst (WritesFront config old new) whole.1
+    (inr (done.0, output_of config bytes done.0 whole.0 good done.1, done.2))
+
+-- nothing was written
+pub keeps_known : (config : Config) (known old new : Option (List ℕ)) → Keeps old new
+    → IfSome known (WritesFront config old new)
+keeps_known config None old new kept = tt
+keeps_known config (Some text) old new kept = inl kept
+
+-- a text that was read and is not good
+pub run_judged : (config : Config) (known : Option (List ℕ)) (bytes : List ℕ) (error : PlayError)
+    → config_check config ≡ Ok tt → IsWhole known bytes
+    → FailsToJudge (run_line config) error bytes → IfSome known (EndsRun config error)
+run_judged config None bytes error allowed whole fails = tt
+run_judged config (Some text) bytes (plays.Text line fault) allowed whole fails =
+    subst (λ b. (config_check config ≡ Ok tt) × (length b ≤ MOST_INPUT)
+    × IsAtFault (run_line config) b line fault) whole.1 (allowed, whole.0, fails)
+run_judged config (Some text) bytes plays.OutOfMemory allowed whole fails = allowed
+run_judged config (Some text) bytes plays.ReadFailed allowed whole fails = allowed
+run_judged config (Some text) bytes plays.TooLarge allowed whole fails = absurd fails
+run_judged config (Some text) bytes plays.WriteFailed allowed whole fails = absurd fails
+run_judged config (Some text) bytes (plays.Refused error) allowed whole fails = absurd fails
+run_judged config (Some text) bytes plays.BadBlock allowed whole fails = absurd fails
+
+-- the tag names the trace, whatever it is called
+pub answered_as : (tag : TraceTag) (cache : Cache TraceTag) → cache.tag ≡ tag
+    → (lines : List RunLine) (old new : Option (List ℕ)) (pending first rest : List ℕ)
+    → pending ≡ first → Answered (fits_trace cache.tag) lines old new pending rest
+    → Answered (fits_trace tag) lines old new first rest
+answered_as tag cache same lines old new pending first rest begun answered =
+    subst (λ p. Answered (fits_trace tag) lines old new p rest) begun
+    (subst (λ t. Answered (fits_trace t) lines old new pending rest) same answered)
+
+pub part_as : (tag : TraceTag) (cache : Cache TraceTag) → cache.tag ≡ tag
+    → (lines : List RunLine) (old new : Option (List ℕ)) (pending first : List ℕ)
+    → pending ≡ first → AnsweredPart (fits_trace cache.tag) lines old new pending
+    → AnsweredPart (fits_trace tag) lines old new first
+part_as tag cache same lines old new pending first begun part =
+    subst (λ p. AnsweredPart (fits_trace tag) lines old new p) begun
+    (subst (λ t. AnsweredPart (fits_trace t) lines old new pending) same part)

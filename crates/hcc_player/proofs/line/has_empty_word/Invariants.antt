@@ -1,8 +1,0 @@
-use Rattle.std.proofs.Common.{◌≡◌, map, drop}
-use Rattle.hcc_player.specs.Line.{has_empty_word}
-use Rattle.hcc_player.proofs.line.has_empty_word.Given as goal
-
-abbrev pub invariant-loop-word : goal.invariant-loop-word
-invariant-loop-word l =
-    has_empty_word (map (λ w. w.now) (drop l.word-index l.words))
-    ≡ has_empty_word (map (λ w. w.now) l.words)

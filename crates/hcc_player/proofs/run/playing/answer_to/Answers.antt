@@ -1,0 +1,36 @@
+use Rattle.std.proofs.Common.{◌≡◌, Some, length, slice_get, refl, sym, arith}
+use Rattle.std.proofs.lemmas.Option.{slice_get_read}
+use Rattle.hcc_player.proofs.ByteLemmas.{if_ok_so}
+use Rattle.hcc_player.proofs.RunningLemmas.{steps_by}
+use Rattle.hcc_player.proofs.run.playing.answer_to.Goals as goal
+
+pub answer-requires-clause-can : goal.answer-requires-clause-can
+answer-requires-clause-can g c =
+    let m = c.requires.manned in
+    let n = c.args.line.client in
+    let clients = c.args.clients.now.items in
+    let registers = c.args.registers.now.items in
+    let within = c.requires.client in
+    let count = m.1.count in (
+      m.0 n,
+      m.1.each n c.index_mut.result.now c.index_mut-2.result.now
+          (slice_get_read clients (length clients) n c.index_mut.result.now refl within
+          c.index_mut.ensures.value)
+          (slice_get_read registers (length registers) n c.index_mut-2.result.now refl
+          (omega arith) c.index_mut-2.ensures.value),
+    )
+
+pub returns-clause-steps : goal.returns-clause-steps
+returns-clause-steps g c =
+    let n = c.args.line.client in
+    let clients = c.args.clients.now.items in
+    let registers = c.args.registers.now.items in
+    let within = c.requires.client in
+    let count = c.requires.manned.1.count in
+    if_ok_so c.answer.result _ _ (λ answer goes.
+    steps_by g.T.Tag.fits c.args.cache.now c.args.line answer clients registers
+    c.index_mut.result.now c.answer.new.client c.index_mut-2.result.now c.answer.new.registers
+    (slice_get_read clients (length clients) n c.index_mut.result.now refl within
+    c.index_mut.ensures.value)
+    (slice_get_read registers (length registers) n c.index_mut-2.result.now refl
+    (omega arith) c.index_mut-2.ensures.value) goes) c.answer.ensures

@@ -1,0 +1,67 @@
+use Rattle.std.proofs.Common.{◌≡◌, [], ◌∙◌, string_bytes}
+use Rattle.hcc_player.specs.declared.run.tag.TraceTag.{TraceTag}
+use Rattle.hcc_player.specs.TraceTag.{fits_trace, run_trace, said}
+use Rattle.hcc_player.proofs.ByteLemmas.{on_error, on_error_so, on_ok_so}
+use Rattle.hcc_player.proofs.PlayRunLemmas.{answered_as, manned_new, part_as, play_cut}
+use Rattle.hcc_player.proofs.PlayRunLemmas.{play_stopped, play_unbegun, play_whole}
+use Rattle.hcc_player.proofs.run.playing.play_text.Goals as goal
+
+pub returns-in_default-clause-part : goal.returns-in_default-clause-part
+returns-in_default-clause-part g c =
+    play_unbegun (said (run_trace c.args.config c.args.text.now))
+    (g.W.Write.contents c.args.writer.now)
+
+pub returns-in_err-registers-clause-part : goal.returns-in_err-registers-clause-part
+returns-in_err-registers-clause-part g c =
+    on_error c.from_residual.result _
+    (play_unbegun (said (run_trace c.args.config c.args.text.now))
+    (g.W.Write.contents c.args.writer.now))
+
+pub play_lines-requires-clause-manned : goal.play_lines-requires-clause-manned
+play_lines-requires-clause-manned g c =
+    manned_new fits_trace c.args.config _ c.in-Ok.cache c.in-Ok.clients.items
+    c.in_ok-registers.registers.items c.in-Ok.ensures.made c.in_ok-registers.ensures.empty
+    (c.in_ok-registers.ensures.count ∙ c.len.ensures ∙ c.in-Ok.clients.ok.0)
+
+pub returns-in_err-play_lines-clause-part : goal.returns-in_err-play_lines-clause-part
+returns-in_err-play_lines-clause-part g c =
+    let lines = said (run_trace c.args.config c.args.text.now) in
+    let tag : TraceTag = record { config = c.args.config; text = c.args.text } in
+    let cache = c.in-Ok.cache in
+    let old = g.W.Write.contents c.args.writer.now in
+    let mid = g.W.Write.contents c.play_lines.new.writer in
+    on_error c.from_residual-in_err-play_lines.result _
+    (play_stopped lines old mid
+    (part_as tag cache c.in-Ok.ensures.made.tag_is lines old mid
+    (string_bytes c.new-pending.result) [] c.new-pending.ensures.bytes
+    c.in_err-play_lines.ensures.part))
+
+pub returns-clause-ok : goal.returns-clause-ok
+returns-clause-ok g c =
+    let lines = said (run_trace c.args.config c.args.text.now) in
+    let tag : TraceTag = record { config = c.args.config; text = c.args.text } in
+    let cache = c.in-Ok.cache in
+    let old = g.W.Write.contents c.args.writer.now in
+    let mid = g.W.Write.contents c.play_lines.new.writer in
+    let new = g.W.Write.contents c.finish.new.writer in
+    let rest = string_bytes c.play_lines.new.pending in
+    on_ok_so c.finish.result _ _
+    (play_whole lines old mid new rest
+    (answered_as tag cache c.in-Ok.ensures.made.tag_is lines old mid
+    (string_bytes c.new-pending.result) [] rest c.new-pending.ensures.bytes
+    c.in_ok-play_lines.ensures.ok)) c.finish.ensures.ok
+
+pub returns-clause-part : goal.returns-clause-part
+returns-clause-part g c =
+    let lines = said (run_trace c.args.config c.args.text.now) in
+    let tag : TraceTag = record { config = c.args.config; text = c.args.text } in
+    let cache = c.in-Ok.cache in
+    let old = g.W.Write.contents c.args.writer.now in
+    let mid = g.W.Write.contents c.play_lines.new.writer in
+    let new = g.W.Write.contents c.finish.new.writer in
+    let rest = string_bytes c.play_lines.new.pending in
+    on_error_so c.finish.result _ _
+    (play_cut lines old mid new rest
+    (answered_as tag cache c.in-Ok.ensures.made.tag_is lines old mid
+    (string_bytes c.new-pending.result) [] rest c.new-pending.ensures.bytes
+    c.in_ok-play_lines.ensures.ok)) c.finish.ensures.part
