@@ -6,3 +6,8 @@ pub mod TextLemmas
 pub mod PlayLemmas
 pub mod NumberLemmas
 pub mod ScriptLaws
+pub mod Compact
+pub mod Places
+pub mod Adding
+pub mod Dealing
+pub mod Crewing

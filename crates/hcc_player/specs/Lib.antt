@@ -5,3 +5,8 @@ pub mod Text
 pub mod Script
 pub mod Bytes
 pub mod Play
+pub mod Tally
+pub mod Deal
+pub mod Work
+pub mod Report
+pub mod Json
