@@ -3,9 +3,11 @@ ghost use Rattle.std.specs.Prelude.{◌≡◌, ◌≤◌, IfSome, false};
 ghost use Rattle.hcc_core.specs.Opening.{CanOpen};
 ghost use Rattle.hcc_play.specs.declared.cli.TheConstants.{PLAYED_SLOTS, PLAYED_CAPACITY};
 
+use crate::cache::{config_of, number, with_cache};
 use clap::{Arg, ArgAction, ArgMatches, Command, value_parser};
 use hcc_core::limits::MOST_CLIENTS;
 use hcc_core::setup::Setup;
+use hcc_player::options::Options;
 use std::alloc::{AllocError, Global};
 
 /// The most slots of a world that is played: each line shows them all.
@@ -14,13 +16,13 @@ const PLAYED_SLOTS: u32 = 16;
 /// The most capacity of a world that is played.
 const PLAYED_CAPACITY: u64 = 1 << 40;
 
-const ABOUT: &str = "Plays scripts of a block cache's protocol";
+const ABOUT: &str = "Plays scripts of a block cache's protocol, and reads files through the cache";
 
 const AFTER: &str = "\
 With no arguments the program does `core` with the defaults.
 
-Exit status: 0 done; 2 the arguments or the input were refused; 3 a read or a
-write failed; 5 out of memory.";
+Exit status: 0 done; 2 the arguments or the input were refused; 3 a read, a
+write or a file failed; 4 the sizes of the cache were refused; 5 out of memory.";
 
 const CORE_ABOUT: &str = "\
 Plays a script of protocol events from standard input in a new world, and
@@ -54,6 +56,24 @@ its key, @ its stamp, # its charge, u its uses, r its references (client, name
 and weight of each) and h whether it was hit. Behind / is how often the slot
 stands in trails. The whole script is judged first; at a fault nothing is
 played, and `line N: FAULT` is told.";
+
+const BLOCKS_ABOUT: &str = "\
+Reads blocks of files through one cache, by a trace from standard input, each
+client on a thread of its own, and writes a line of JSON";
+
+const BLOCKS_AFTER: &str = "\
+The files are read whole. A trace has one read a line: the client, the file and
+the block, by their numbers from 0, with one space between.
+
+  0 0 5                 client 0 reads block 5 of the first file
+  1 0 5                 client 1 reads the same block
+
+Each client reads its own lines, in order. The whole trace is judged first; at a
+fault nothing is read, and `line N: FAULT` is told. The line of JSON has the
+charges and the slots of the entries that are left in the cache, what its usage
+and occupancy words say, and for each client how many reads gave a block, how
+many the source failed, how many the cache had and had not, how many were of
+blocks that aren't there, and the sum of all bytes read.";
 
 fn slots_arg<'a>(alloc: Global) -> Arg<'a> {
     Arg::new(alloc, "slots")
@@ -100,15 +120,38 @@ fn core_command<'a>(alloc: Global) -> Result<Command<'a>, AllocError> {
         .arg(strict_arg(alloc))
 }
 
+fn block_arg<'a>(alloc: Global) -> Arg<'a> {
+    let help = "How many bytes a block has, 1 to eight times the room";
+    number(alloc, "block", "16", help).value_parser(value_parser!(u32))
+}
+
+fn file_arg<'a>(alloc: Global) -> Arg<'a> {
+    Arg::new(alloc, "FILE")
+        .help("The files that are read, none or more")
+        .num_args(0..)
+}
+
+/// The subcommand `blocks`.
+fn blocks_command<'a>(alloc: Global) -> Result<Command<'a>, AllocError> {
+    let command = Command::new(alloc, "blocks")
+        .about(BLOCKS_ABOUT)
+        .after_help(BLOCKS_AFTER);
+    with_cache(alloc, command)?
+        .arg(block_arg(alloc))?
+        .arg(file_arg(alloc))
+}
+
 /// The whole command line.
 pub fn command<'a>(alloc: Global) -> Result<Command<'a>, AllocError> {
     let core = core_command(alloc)?;
+    let blocks = blocks_command(alloc)?;
     Command::new(alloc, "hcc_play")
         .about(ABOUT)
         .after_help(AFTER)
         .override_usage("hcc_play [COMMAND]")
         .subcommand_required(true)
-        .subcommand(core)
+        .subcommand(core)?
+        .subcommand(blocks)
 }
 
 /// The setup where no word is given.
@@ -145,4 +188,20 @@ pub fn setup_of(options: &ArgMatches<'_>) -> Option<Setup>
         capacity,
         strict: options.get_flag("strict"),
     })
+}
+
+/// The options of `blocks`, if each number was given or has its default.
+pub fn options_of(options: &ArgMatches<'_>) -> Option<Options> {
+    Some(Options {
+        config: config_of(options)?,
+        block: options.get_one::<u32>("block")?,
+    })
+}
+
+/// The paths of the files, in order.
+pub fn paths_of<'a>(alloc: Global, options: &ArgMatches<'a>) -> Result<Vec<&'a str>, AllocError> {
+    match options.get_strs("FILE") {
+        Some(paths) => Vec::from_slice(alloc, paths),
+        None => Ok(Vec::new(alloc)),
+    }
 }

@@ -1,7 +1,11 @@
-//! Plays scripts of a block cache's protocol from the command line.
+//! Plays scripts of a block cache's protocol, and reads files through the cache, from the command
+//! line.
 #![tactic(auto)]
 
+mod blocks;
+mod cache;
 mod cli;
+mod progress;
 mod run;
 mod status;
 #[cfg(test)]
@@ -10,7 +14,7 @@ mod tests;
 use crate::run::run;
 use crate::status::Status;
 use std::io;
-use std::io::ErrorKind;
+use std::io::{ErrorKind, IsTerminal};
 use std::process::ExitCode;
 
 /// The words of the command line.
@@ -31,7 +35,7 @@ fn unread(rt: &HostRuntime, error: &io::Error) -> Status {
 
 fn main(rt: HostRuntime) -> ExitCode {
     let status = match words_of(&rt) {
-        Ok(words) => run(&rt, words.as_slice()),
+        Ok(words) => run(&rt, words.as_slice(), rt.stderr().is_terminal()),
         Err(error) => unread(&rt, &error),
     };
     ExitCode::from(status.code())

@@ -13,12 +13,14 @@ pub enum Status {
     Refused,
     /// A read or a write failed.
     Failed,
+    /// The sizes of the cache or of a block were refused.
+    BadOptions,
     /// Memory was refused.
     NoMemory,
 }
 
 impl Status {
-    /// The number that the program exits with: 0, 2, 3 or 5.
+    /// The number that the program exits with: 0, 2, 3, 4 or 5.
     pub fn code(self) -> u8
         ensures { result ≡ code_of self }
     {
@@ -26,6 +28,7 @@ impl Status {
             Status::Done => 0,
             Status::Refused => 2,
             Status::Failed => 3,
+            Status::BadOptions => 4,
             Status::NoMemory => 5,
         }
     }
@@ -41,5 +44,7 @@ pub fn status_of(error: PlayError) -> Status
         PlayError::Text { .. } => Status::Refused,
         PlayError::OutOfMemory => Status::NoMemory,
         PlayError::WriteFailed => Status::Failed,
+        PlayError::Refused(_) => Status::BadOptions,
+        PlayError::BadBlock => Status::BadOptions,
     }
 }

@@ -101,3 +101,24 @@ is_tally steady found r adds counted =
           let sum = e.1 in
           (omega arith, faults, omega arith);
     }
+
+-- reads of a source that is steady at least as often
+pub all_for : (steady now : Type 0) (found : List (Option (List ℕ))) (old new : Tally)
+    → (steady → now) → AddsAll now found old new → AddsAll steady found old new
+all_for steady now [] old new keeps adds = adds
+all_for steady now (one ∷ found) old new keeps adds = (
+  adds.0,
+  adds_for steady now one old adds.0 keeps adds.1,
+  all_for steady now found adds.0 new keeps adds.2,
+)
+
+-- a tally of such reads
+pub tally_for : (steady now : Type 0) (found : List (Option (List ℕ))) (r : ClientReport)
+    → (steady → now) → IsTally now found r → IsTally steady found r
+tally_for steady now found r keeps tally = record {
+  adds = all_for steady now found nothing r.tally keeps tally.adds;
+  there = tally.there;
+  gone = tally.gone;
+  counted = tally.counted;
+  exact = λ s. tally.exact (keeps s);
+}

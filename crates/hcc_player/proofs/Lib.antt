@@ -1,6 +1,7 @@
 pub mod ValueLemmas
 pub mod ValueLaws
 pub mod LineLemmas
+pub mod Splits
 pub mod ByteLemmas
 pub mod TextLemmas
 pub mod PlayLemmas
@@ -9,5 +10,10 @@ pub mod ScriptLaws
 pub mod Compact
 pub mod Places
 pub mod Adding
+pub mod ReadBounds
 pub mod Dealing
 pub mod Crewing
+pub mod JsonLemmas
+pub mod Fine
+pub mod Playing
+pub mod Reporting

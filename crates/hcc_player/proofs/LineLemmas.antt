@@ -1,4 +1,4 @@
--- What the first line of a text gives.
+-- What the first line of a text says.
 use Rattle.std.proofs.Common.{◌≡◌, ℕ, ◌+◌, ◌==◌, ◌-◌, inl, inr, Bool, true, false, cond, List, []}
 use Rattle.std.proofs.Common.{◌∷◌, ◌++◌, Some, None, Result, Ok, Err, IsOk, length, take, drop}
 use Rattle.std.proofs.Common.{position, refl, sym, ap, ◌∙◌, arith, ltb, append_assoc}
@@ -7,14 +7,12 @@ use Rattle.std.proofs.lemmas.List.Splits.{slice_split_first, slice_split_none}
 use Rattle.std.proofs.lemmas.List.Sums.{fails_before_first}
 use Rattle.std.proofs.lemmas.List.{take_rest}
 use Rattle.std.proofs.lemmas.Bool.{cases_Bool, ltb-true, ltb-false}
-use Rattle.hcc_core.specs.declared.event.Event.{Event}
 use Rattle.hcc_player.specs.declared.fault.ScriptFault.{ScriptFault}
 use Rattle.hcc_player.specs.declared.fault.TextFault.{TextFault}
 use Rattle.hcc_player.specs.declared.fault.LineError.{LineError}
 use Rattle.hcc_player.specs.declared.fault.LineError.TheVariants as errors
-use Rattle.hcc_player.specs.Line.{line_event}
 use Rattle.hcc_player.specs.Value.{Gives}
-use Rattle.hcc_player.specs.Script.{lines_of, script_from, with_front, then_events, ends_with}
+use Rattle.hcc_player.specs.Script.{lines_of, script_from, with_front, then_lines, ends_with}
 use Rattle.hcc_player.specs.Script.{last_fault, ScriptFails, told_in}
 
 onto_some : (b : ℕ) (lines : List (List ℕ)) (line : List ℕ) (more : List (List ℕ))
@@ -34,27 +32,14 @@ some_line (b ∷ bs) =
       | false ↦ (b ∷ rest.0, rest.1, onto_some b (lines_of bs) rest.0 rest.1 rest.2)
     ]
 
--- a text whose first line a line feed ends
-pub script_line : (n : ℕ) (text line after : List ℕ) → lines_of text ≡ line ∷ lines_of after
-    → script_from n (lines_of text) ≡ then_events n (line_event line)
-    (script_from (n + 1) (lines_of after))
-script_line n text line after cut =
-    let next = some_line after in
-    rw (cut, next.2) refl
-
--- a text without a line feed
-pub script_end : (n : ℕ) (text : List ℕ) → lines_of text ≡ text ∷ []
-    → script_from n (lines_of text) ≡ ends_with n (last_fault text)
-script_end n text whole = ap (script_from n) whole
-
-pub front_nil : (read : Result (List Event) ScriptFault) → with_front [] read ≡ read
-front_nil (Ok events) = refl
+pub front_nil : {A : Type 0} (read : Result (List A) ScriptFault) → with_front [] read ≡ read
+front_nil (Ok more) = refl
 front_nil (Err fault) = refl
 
-pub front_more : (front : List Event) (event : Event) (read : Result (List Event) ScriptFault)
-    → with_front (front ++ event ∷ []) read ≡ with_front front (with_front (event ∷ []) read)
-front_more front event (Ok events) = ap Ok (append_assoc front (event ∷ []) events)
-front_more front event (Err fault) = refl
+pub front_more : {A : Type 0} (front : List A) (said : A) (read : Result (List A) ScriptFault)
+    → with_front (front ++ said ∷ []) read ≡ with_front front (with_front (said ∷ []) read)
+front_more front said (Ok more) = ap Ok (append_assoc front (said ∷ []) more)
+front_more front said (Err fault) = refl
 
 abbrev is_feed : ℕ → Bool
 is_feed b = b == 10
@@ -83,55 +68,69 @@ uncut text h =
           (λ k d below. fails_before_first is_feed text k d (omega arith))
     ]
 
--- the events so far stand in front of those of the rest, and together they are all
-pub record Ahead (n : ℕ) (rest : List ℕ) (all : Result (List Event) ScriptFault) : Type 0 where
-  pub front : List Event
-  pub so_far : with_front front (script_from n (lines_of rest)) ≡ all
+module _ {A : Type 0} (says : List ℕ → Result A TextFault) where
+  -- a text whose first line a line feed ends
+  pub script_line : (n : ℕ) (text line after : List ℕ) → lines_of text ≡ line ∷ lines_of after
+      → script_from says n (lines_of text) ≡ then_lines n (says line)
+      (script_from says (n + 1) (lines_of after))
+  script_line n text line after cut =
+      let next = some_line after in
+      rw (cut, next.2) refl
 
--- a line with an event
-pub ahead_goes : (n : ℕ) (text line after : List ℕ) (all : Result (List Event) ScriptFault)
-    (event : Event)
-    → Ahead n text all → lines_of text ≡ line ∷ lines_of after → line_event line ≡ Ok event
-    → Ahead (n + 1) after all
-ahead_goes n text line after all event ahead cut told =
-    let goes : then_events n (line_event line) (script_from (n + 1) (lines_of after))
-    ≡ with_front (event ∷ []) (script_from (n + 1) (lines_of after)) = rw told refl in
-    record {
-      front = ahead.front ++ event ∷ [];
-      so_far =
-          front_more ahead.front event (script_from (n + 1) (lines_of after))
-          ∙ ap (with_front ahead.front) (sym (script_line n text line after cut ∙ goes))
-          ∙ ahead.so_far;
-    }
+  -- a text without a line feed
+  pub script_end : (n : ℕ) (text : List ℕ) → lines_of text ≡ text ∷ []
+      → script_from says n (lines_of text) ≡ ends_with n (last_fault text)
+  script_end n text whole = ap (script_from says n) whole
 
--- a line at fault
-pub ahead_fails : (n : ℕ) (text line after : List ℕ) (all : Result (List Event) ScriptFault)
-    (error : LineError)
-    → Ahead n text all → lines_of text ≡ line ∷ lines_of after
-    → Gives {X = Event} (Err error) (line_event line)
-    → ScriptFails (told_in n error) all
-ahead_fails n text line after all (errors.Fault f) ahead cut told =
-    let failed : then_events n (line_event line) (script_from (n + 1) (lines_of after))
-    ≡ Err (record { line = n; fault = f }) = rw told refl in
-    sym ahead.so_far ∙ ap (with_front ahead.front) (script_line n text line after cut ∙ failed)
-ahead_fails n text line after all errors.OutOfMemory ahead cut told = tt
+  -- what was said so far stands in front of what the rest say, and together they are all
+  pub record Ahead (n : ℕ) (rest : List ℕ) (all : Result (List A) ScriptFault) : Type 0 where
+    pub front : List A
+    pub so_far : with_front front (script_from says n (lines_of rest)) ≡ all
 
--- the end without a fault
-pub ahead_ends : (n : ℕ) (text : List ℕ) (all : Result (List Event) ScriptFault)
-    → Ahead n text all → lines_of text ≡ text ∷ [] → last_fault text ≡ None → IsOk all
-ahead_ends n text all ahead whole fine =
-    let ends : script_from n (lines_of text) ≡ Ok [] = script_end n text whole
-    ∙ ap (ends_with n) fine in
-    let done : Ok (ahead.front ++ []) ≡ all = sym (ap (with_front ahead.front) ends)
-    ∙ ahead.so_far in
-    rw (← done) refl
+  -- a line more
+  pub ahead_goes : (n : ℕ) (text line after : List ℕ) (all : Result (List A) ScriptFault)
+      (said : A)
+      → Ahead n text all → lines_of text ≡ line ∷ lines_of after → says line ≡ Ok said
+      → Ahead (n + 1) after all
+  ahead_goes n text line after all said ahead cut told =
+      let goes : then_lines n (says line) (script_from says (n + 1) (lines_of after))
+      ≡ with_front (said ∷ []) (script_from says (n + 1) (lines_of after)) = rw told refl in
+      record {
+        front = ahead.front ++ said ∷ [];
+        so_far =
+            front_more ahead.front said (script_from says (n + 1) (lines_of after))
+            ∙ ap (with_front ahead.front) (sym (script_line n text line after cut ∙ goes))
+            ∙ ahead.so_far;
+      }
 
--- the end with a fault
-pub ahead_stops : (n : ℕ) (text : List ℕ) (all : Result (List Event) ScriptFault)
-    (fault : TextFault)
-    → Ahead n text all → lines_of text ≡ text ∷ [] → last_fault text ≡ Some fault
-    → all ≡ Err (record { line = n; fault = fault })
-ahead_stops n text all fault ahead whole wrong =
-    let ends : script_from n (lines_of text) ≡ Err (record { line = n; fault = fault })
-    = script_end n text whole ∙ ap (ends_with n) wrong in
-    sym ahead.so_far ∙ ap (with_front ahead.front) ends
+  -- a line at fault
+  pub ahead_fails : (n : ℕ) (text line after : List ℕ) (all : Result (List A) ScriptFault)
+      (error : LineError)
+      → Ahead n text all → lines_of text ≡ line ∷ lines_of after
+      → Gives {X = A} (Err error) (says line)
+      → ScriptFails (told_in n error) all
+  ahead_fails n text line after all (errors.Fault f) ahead cut told =
+      let failed : then_lines n (says line) (script_from says (n + 1) (lines_of after))
+      ≡ Err (record { line = n; fault = f }) = rw told refl in
+      sym ahead.so_far ∙ ap (with_front ahead.front) (script_line n text line after cut ∙ failed)
+  ahead_fails n text line after all errors.OutOfMemory ahead cut told = tt
+
+  -- the end without a fault
+  pub ahead_ends : (n : ℕ) (text : List ℕ) (all : Result (List A) ScriptFault)
+      → Ahead n text all → lines_of text ≡ text ∷ [] → last_fault text ≡ None → IsOk all
+  ahead_ends n text all ahead whole fine =
+      let ends : script_from says n (lines_of text) ≡ Ok [] = script_end n text whole
+      ∙ ap (ends_with n) fine in
+      let done : Ok (ahead.front ++ []) ≡ all = sym (ap (with_front ahead.front) ends)
+      ∙ ahead.so_far in
+      rw (← done) refl
+
+  -- the end with a fault
+  pub ahead_stops : (n : ℕ) (text : List ℕ) (all : Result (List A) ScriptFault)
+      (fault : TextFault)
+      → Ahead n text all → lines_of text ≡ text ∷ [] → last_fault text ≡ Some fault
+      → all ≡ Err (record { line = n; fault = fault })
+  ahead_stops n text all fault ahead whole wrong =
+      let ends : script_from says n (lines_of text) ≡ Err (record { line = n; fault = fault })
+      = script_end n text whole ∙ ap (ends_with n) wrong in
+      sym ahead.so_far ∙ ap (with_front ahead.front) ends

@@ -48,7 +48,7 @@ all_with P (x ∷ xs) [] same each = let no : 0 ≡ length (x ∷ xs) = same in 
 all_with P (x ∷ xs) (y ∷ ys) same each = (
   each 0 x y (omega arith) refl refl,
   all_with P xs ys (omega arith)
-  (λ i a b within here there. each (suc i) a b (omega arith) here there),
+      (λ i a b within here there. each (suc i) a b (omega arith) here there),
 )
 
 -- a function keeps how many there are

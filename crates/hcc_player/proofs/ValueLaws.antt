@@ -9,7 +9,6 @@ use Rattle.std.specs.List.{All, flat_map}
 use Rattle.std.specs.Str.{bytes_eq}
 use Rattle.std.proofs.lemmas.Bool.{cases_Bool}
 use Rattle.std.proofs.lemmas.Slice.Eq.{bytes_eq-Decides}
-use Rattle.hcc_player.specs.declared.limits.TheConstants.{MOST_VALUE}
 use Rattle.hcc_player.specs.declared.fault.TextFault.{TextFault}
 use Rattle.hcc_player.specs.declared.fault.TextFault.TheVariants.{ValueTooLong}
 use Rattle.hcc_player.specs.declared.fault.LineError.{LineError}
@@ -129,12 +128,12 @@ some_text : (b : ℕ) (bs : List ℕ) → value_text (b ∷ bs) ≡ flat_map byt
 unfolding value_text
 some_text b bs = let some : (length (b ∷ bs) == 0) ≡ false = search (rules, tests) in rw some refl
 
-value_join : (word bytes : List ℕ) (read : Result (List ℕ) TextFault)
+value_join : (most : ℕ) (word bytes : List ℕ) (read : Result (List ℕ) TextFault)
     → 0 < length word → bytes_of word ≡ read
-    → (read >>= λ bs. if nat_lt MOST_VALUE (length bs) then Err ValueTooLong else Ok bs) ≡ Ok bytes
+    → (read >>= λ bs. if nat_lt most (length bs) then Err ValueTooLong else Ok bs) ≡ Ok bytes
     → word ≡ value_text bytes
-value_join word bytes (Ok bs) some here e =
-    elim (cases_Bool (nat_lt MOST_VALUE (length bs))) [
+value_join most word bytes (Ok bs) some here e =
+    elim (cases_Bool (nat_lt most (length bs))) [
       | inl long ↦ let no = rw long at e in cc
       | inr short ↦
           let fits : Ok bs ≡ Ok bytes = rw short at e in
@@ -145,12 +144,12 @@ value_join word bytes (Ok bs) some here e =
     nonempty : (v : List ℕ) → word ≡ flat_map byte_text v → word ≡ value_text v
     nonempty [] none = let bare : length word ≡ 0 = ap length none in absurd (omega arith)
     nonempty (b ∷ bs) text = text ∙ sym (some_text b bs)
-value_join word bytes (Err fault) some here e = cc
+value_join most word bytes (Err fault) some here e = cc
 
 -- what was read is the value that the word writes
-pub reads_text : (word bytes : List ℕ) → value_of word ≡ Ok bytes → word ≡ value_text bytes
+pub reads_text : (most : ℕ) (word bytes : List ℕ) → value_of most word ≡ Ok bytes → word ≡ value_text bytes
 unfolding value_of value_text
-reads_text word bytes e =
+reads_text most word bytes e =
     elim (cases_Bool (bytes_eq word (codes "-"))) [
       | inl dash ↦
           let none : Ok [] ≡ Ok bytes = rw dash at e in
@@ -160,17 +159,17 @@ reads_text word bytes e =
           elim (cases_Bool (length word == 0)) [
             | inl bare ↦ let no = rw (other, bare) at e in cc
             | inr some ↦
-                value_join word bytes (bytes_of word) (search (rules, tests))
+                value_join most word bytes (bytes_of word) (search (rules, tests))
                 refl (rw (other, some) at e)
           ]
     ]
 
 -- the text of a value is read as that value
-pub takes_text : (word bytes : List ℕ) → All (λ b. b < 256) bytes → length bytes ≤ MOST_VALUE
-    → word ≡ value_text bytes → value_of word ≡ Ok bytes
+pub takes_text : (most : ℕ) (word bytes : List ℕ) → All (λ b. b < 256) bytes → length bytes ≤ most
+    → word ≡ value_text bytes → value_of most word ≡ Ok bytes
 unfolding value_of value_text
-takes_text word [] small few e = let dash : word ≡ codes "-" = e in rw dash refl
-takes_text word (b ∷ bs) small few e =
+takes_text most word [] small few e = let dash : word ≡ codes "-" = e in rw dash refl
+takes_text most word (b ∷ bs) small few e =
     let text : word ≡ flat_map byte_text (b ∷ bs) = e ∙ some_text b bs in
     let long : length word ≡ suc (suc (length (flat_map byte_text bs))) = ap length text in
     elim (cases_Bool (bytes_eq word (codes "-"))) [
@@ -180,29 +179,30 @@ takes_text word (b ∷ bs) small few e =
       | inr other ↦
           let some : (length word == 0) ≡ false = search (rules, tests) in
           let read : bytes_of word ≡ Ok (b ∷ bs) = rw text (bytes_go (b ∷ bs) small) in
-          let fits : nat_lt MOST_VALUE (length (b ∷ bs)) ≡ false = search (rules, tests) in
+          let fits : nat_lt most (length (b ∷ bs)) ≡ false = search (rules, tests) in
           rw (other, some, read, fits) refl
     ]
 
 -- what a reader of values answered, as this definition has it
-abbrev pub Answers : {X : Type 0} → (X → List ℕ) → List ℕ → Result X LineError → Type 0
-Answers items word result =
-    MatchResult result (λ x. value_of word ≡ Ok (items x)) (λ error. Fails error (value_of word))
+abbrev pub Answers : {X : Type 0} → (X → List ℕ) → (most : ℕ) → List ℕ → Result X LineError
+    → Type 0
+Answers items most word result =
+    MatchResult result (λ x. value_of most word ≡ Ok (items x)) (λ error. Fails error (value_of most word))
 
 -- it answers a value whose text the word is
-pub read_law : {X : Type 0} (items : X → List ℕ) (word : List ℕ) (result : Result X LineError)
-    → Answers items word result → IfOk result (λ x. word ≡ value_text (items x))
-read_law items word (Ok x) answered = reads_text word (items x) answered
-read_law items word (Err error) answered = tt
+pub read_law : {X : Type 0} (items : X → List ℕ) (most : ℕ) (word : List ℕ) (result : Result X LineError)
+    → Answers items most word result → IfOk result (λ x. word ≡ value_text (items x))
+read_law items most word (Ok x) answered = reads_text most word (items x) answered
+read_law items most word (Err error) answered = tt
 
 -- where the word is the text of a value, it answers that value, unless memory was refused
-pub takes_law : {X : Type 0} (items : X → List ℕ) (word : List ℕ) (result : Result X LineError)
-    → Answers items word result → (bytes : List ℕ) → All (λ b. b < 256) bytes
-    → length bytes ≤ MOST_VALUE
+pub takes_law : {X : Type 0} (items : X → List ℕ) (most : ℕ) (word : List ℕ) (result : Result X LineError)
+    → Answers items most word result → (bytes : List ℕ) → All (λ b. b < 256) bytes
+    → length bytes ≤ most
     → word ≡ value_text bytes
     → MatchResult result (λ x. items x ≡ bytes) (λ error. error ≡ errors.OutOfMemory)
-takes_law items word (Ok x) answered bytes small few text =
-    let same : Ok (items x) ≡ Ok bytes = sym answered ∙ takes_text word bytes small few text in cc
-takes_law items word (Err errors.OutOfMemory) answered bytes small few text = refl
-takes_law items word (Err (errors.Fault fault)) answered bytes small few text =
-    let no : Err fault ≡ Ok bytes = sym answered ∙ takes_text word bytes small few text in cc
+takes_law items most word (Ok x) answered bytes small few text =
+    let same : Ok (items x) ≡ Ok bytes = sym answered ∙ takes_text most word bytes small few text in cc
+takes_law items most word (Err errors.OutOfMemory) answered bytes small few text = refl
+takes_law items most word (Err (errors.Fault fault)) answered bytes small few text =
+    let no : Err fault ≡ Ok bytes = sym answered ∙ takes_text most word bytes small few text in cc

@@ -1,24 +1,14 @@
--- Lines: the words of one event.
-use Rattle.std.specs.Prelude.{ℕ, Bool, false, ◌&&◌, ◌||◌, ◌==◌, nat_lt, nat_le, List, [], ◌∷◌}
-use Rattle.std.specs.Prelude.{Option, Some, None, Result, Ok, Err, length, codes, slice_index_or}
-use Rattle.std.specs.Prelude.{if◌then◌else◌}
+-- Lines of scripts: the words of one event.
+use Rattle.std.specs.Prelude.{ℕ, List, Option, Some, None, Result, Ok, Err, codes, if◌then◌else◌}
 use Rattle.std.specs.Str.{bytes_eq}
-use Rattle.std.specs.List.{list_all, slice_split}
 use Rattle.hcc_core.specs.declared.event.Event.{Event}
 use Rattle.hcc_core.specs.declared.event.Event.TheVariants as events
-use Rattle.hcc_player.specs.declared.limits.TheConstants.{MOST_LINE}
 use Rattle.hcc_player.specs.declared.fault.TextFault.{TextFault}
-use Rattle.hcc_player.specs.declared.fault.TextFault.TheVariants.{TooLong, NotAscii, BadWord}
+use Rattle.hcc_player.specs.declared.fault.TextFault.TheVariants.{BadWord}
 use Rattle.hcc_player.specs.Number.{◌>>=◌, number_of, small_number_of, charge_of, name_of}
+use Rattle.hcc_player.specs.declared.limits.TheConstants.{MOST_VALUE}
 use Rattle.hcc_player.specs.Value.{value_of}
-
--- the word of this number, counted from 0
-unfoldable pub word_at : List (List ℕ) → ℕ → List ℕ
-word_at words index = slice_index_or words index []
-
--- a line of this many words
-abbrev pub of_words : {A : Type 0} → ℕ → List (List ℕ) → Result A TextFault → Result A TextFault
-of_words count words event = if length words == count then event else Err BadWord
+use Rattle.hcc_player.specs.Words.{word_at, of_words, line_of}
 
 -- Most events have one of three forms: a client; a client and a slot; a client and a name. Their
 -- words are looked at one after another.
@@ -76,7 +66,7 @@ show_line words = of_words 8 words (do
   charge ← charge_of (word_at words 4)
   countdown ← number_of (word_at words 5)
   name ← name_of (word_at words 6)
-  value ← value_of (word_at words 7)
+  value ← value_of MOST_VALUE (word_at words 7)
   Ok (events.Show client key0 key1 charge countdown name value))
 
 -- What stands behind the verbs of these three forms.
@@ -175,27 +165,6 @@ event_of verb words =
     if bytes_eq verb (codes "show") then show_line words
     else (known_event verb words >>= λ known. if_known known)
 
-abbrev pub has_empty_word : List (List ℕ) → Bool
-has_empty_word [] = false
-has_empty_word (word ∷ words) = (length word == 0) || has_empty_word words
-
--- the event of a line's words
-unfoldable pub words_event : List (List ℕ) → Result Event TextFault
-words_event words =
-    if (length words == 0) || has_empty_word words then Err BadWord
-    else event_of (word_at words 0) words
-
--- the words of a line, cut at each space
-abbrev pub words_of : List ℕ → List (List ℕ)
-words_of line = slice_split (λ byte. byte == 32) line
-
--- a space or a visible character
-abbrev pub is_plain : ℕ → Bool
-is_plain byte = nat_le 32 byte && nat_le byte 126
-
 -- the event of a line that a line feed ends
 unfoldable pub line_event : List ℕ → Result Event TextFault
-line_event line =
-    if nat_lt MOST_LINE (length line) then Err TooLong
-    else if list_all is_plain line then words_event (words_of line)
-    else Err NotAscii
+line_event = line_of (λ words. event_of (word_at words 0) words)

@@ -34,11 +34,15 @@ number_of (byte ∷ []) = digits_from 0 (byte ∷ [])
 number_of (byte ∷ next ∷ bytes) =
     if byte == 48 then Err BadNumber else digits_from 0 (byte ∷ next ∷ bytes)
 
+-- a number below this one
+unfoldable pub number_below : ℕ → List ℕ → Result ℕ TextFault
+number_below end word = do
+  number ← number_of word
+  if nat_lt number end then Ok number else Err OutOfRange
+
 -- a number below 2^32
 unfoldable pub small_number_of : List ℕ → Result ℕ TextFault
-small_number_of word = do
-  number ← number_of word
-  if nat_lt number (2 ^ 32) then Ok number else Err OutOfRange
+small_number_of word = number_below (2 ^ 32) word
 
 -- a number from 1 to 2^32 - 1
 unfoldable pub charge_of : List ℕ → Result ℕ TextFault

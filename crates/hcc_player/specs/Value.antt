@@ -3,7 +3,6 @@ use Rattle.std.specs.Prelude.{◌≡◌, ℕ, ◌+◌, ◌-◌, ◌*◌, ◌&&�
 use Rattle.std.specs.Prelude.{Result, Ok, Err, length, codes, if◌then◌else◌}
 use Rattle.std.specs.Char.{is_ascii_digit}
 use Rattle.std.specs.Str.{bytes_eq}
-use Rattle.hcc_player.specs.declared.limits.TheConstants.{MOST_VALUE}
 use Rattle.hcc_player.specs.declared.fault.TextFault.{TextFault}
 use Rattle.hcc_player.specs.declared.fault.TextFault.TheVariants.{BadValue, ValueTooLong}
 use Rattle.hcc_player.specs.declared.fault.LineError.{LineError}
@@ -33,21 +32,25 @@ bytes_of (high ∷ low ∷ digits) = do
   bytes ← bytes_of digits
   Ok (byte ∷ bytes)
 
--- a value of at most 64 bytes, or a dash for no bytes
-unfoldable pub value_of : List ℕ → Result (List ℕ) TextFault
-value_of word =
+-- a value of at most so many bytes, or a dash for no bytes
+unfoldable pub value_of : (most : ℕ) → List ℕ → Result (List ℕ) TextFault
+value_of most word =
     if bytes_eq word (codes "-") then Ok []
     else if length word == 0 then Err BadValue
     else (do
       bytes ← bytes_of word
-      if nat_lt MOST_VALUE (length bytes) then Err ValueTooLong else Ok bytes)
+      if nat_lt most (length bytes) then Err ValueTooLong else Ok bytes)
 
 -- A reader that failed so: the reading ends in that fault, or memory was refused.
 abbrev pub Fails : {X : Type 0} → LineError → Result X TextFault → Type 0
 Fails errors.OutOfMemory read = Unit {0}
 Fails (errors.Fault fault) read = read ≡ Err fault
 
--- What a reader returned is what reading gives, unless memory was refused.
+-- What a reader returned is what reading gives, unless memory was refused: seen so, or as it is.
+abbrev pub GivesAs : {X Y : Type 0} → (X → Y) → Result X LineError → Result Y TextFault → Type 0
+GivesAs see (Ok x) read = read ≡ Ok (see x)
+GivesAs see (Err error) read = Fails error read
+
 abbrev pub Gives : {X : Type 0} → Result X LineError → Result X TextFault → Type 0
 Gives (Ok x) read = read ≡ Ok x
 Gives (Err error) read = Fails error read

@@ -1,5 +1,5 @@
 -- Workers: what they begin with, and what they end with.
-use Rattle.std.specs.Prelude.{◌≡◌, ℕ, ◌*◌, ◌^◌, ◌<◌, ◌≤◌, List, [], ◌∷◌, Some, length, slice_get}
+use Rattle.std.specs.Prelude.{◌≡◌, ℕ, ◌*◌, ◌≤◌, List, [], ◌∷◌, Some, length, slice_get}
 use Rattle.hcc_rule.specs.declared.key.Key.{Key}
 use Rattle.hcc_cache.specs.declared.cache.Cache.{Cache}
 use Rattle.hcc_cache.specs.declared.client.Client.{Client}
@@ -52,7 +52,6 @@ module _ {T S : Type 0} (fits : T → Key → List ℕ → Type 0) (content : S 
     pub block : w.reader.block ≤ 8 * cache.geometry.room
     pub room : w.reader.block ≤ length w.buffer.items
     pub counts : (w.reader.hits ≡ 0) × (w.reader.misses ≡ 0)
-    pub few : length w.lines.items < 2 ^ 62
 
   -- A worker has ended: its client is idle again, and its report is the tally of its lines.
   pub record Ends (w : Worker T S) (d : Done T) : Type 0 where

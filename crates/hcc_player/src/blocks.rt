@@ -5,8 +5,12 @@ mod crew;
 mod deal;
 mod gate;
 mod line;
+mod play;
 mod report;
 mod tally;
+#[cfg(test)]
+mod tests;
 mod worker;
 
 pub use gate::{Gate, OpenGate};
+pub use play::play_blocks;

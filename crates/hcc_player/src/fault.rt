@@ -1,12 +1,13 @@
-//! What may be wrong with a script, and why a play ends early.
+//! What may be wrong with a script or a trace, and why a play ends early.
 ghost use Rattle.std.specs.Prelude.{◌≡◌};
 ghost use Rattle.hcc_player.specs.declared.fault.LineError.TheVariants as lines;
 ghost use Rattle.hcc_player.specs.declared.fault.PlayError.TheVariants as plays;
 
+use hcc_cache::NewError;
 use std::alloc::{AllocError, AllocFailed};
 use thiserror::Error;
 
-/// What is wrong with a line of a script.
+/// What is wrong with a line of a script or a trace.
 ///
 /// The first fault of the first line at fault is told. The faults of a line stand here in the
 /// order in which they are looked for; from [`TextFault::BadNumber`] on, the words are looked at
@@ -22,8 +23,8 @@ pub enum TextFault {
     /// A byte is neither a space nor a visible character of ASCII.
     #[error("NotAscii")]
     NotAscii,
-    /// The line or a word is empty, the first word names no event, or the event has another
-    /// number of words.
+    /// The line or a word is empty, no event or call is named so, or it has another number of
+    /// words.
     #[error("BadWord")]
     BadWord,
     /// A word is no decimal number below `2^64` without leading zeros.
@@ -32,19 +33,20 @@ pub enum TextFault {
     /// A number is outside the range that it has in this place.
     #[error("OutOfRange")]
     OutOfRange,
-    /// A word is none of those that may stand in its place. No word of a script is a choice, so
-    /// no script has this fault.
+    /// A word is none of those that may stand in its place; of traces alone, since no word of a
+    /// script is a choice.
     #[error("BadChoice")]
     BadChoice,
     /// A value is neither `-` nor pairs of lower-case hexadecimal digits.
     #[error("BadValue")]
     BadValue,
-    /// A value has more than 64 bytes.
+    /// A value has more bytes than it may have: 64 in a script, as many as a slot has room for
+    /// in a trace.
     #[error("ValueTooLong")]
     ValueTooLong,
 }
 
-/// Why a line gives no event.
+/// Why it isn't known what a line says.
 #[derive(Clone, Copy, Debug, PartialEq, Eq)]
 pub enum LineError {
     /// The line is at fault.
@@ -85,7 +87,7 @@ pub struct ScriptFault {
     pub fault: TextFault,
 }
 
-/// Why a text is not known to be a script.
+/// Why a text is not known to be good.
 #[derive(Clone, Copy, Debug, PartialEq, Eq)]
 pub enum ScriptError {
     /// The text is at fault.
@@ -107,12 +109,18 @@ pub enum PlayError {
     #[error("line {line}: {fault}")]
     Text { line: u64, fault: TextFault },
     /// Memory was refused; a front part of the output may have been written, if the whole text is
-    /// a script, and else nothing.
+    /// good, and else nothing.
     #[error("out of memory")]
     OutOfMemory,
     /// The writer failed; a front part of the output may have been written.
     #[error("write failed")]
     WriteFailed,
+    /// The sizes of the cache are refused; nothing was read.
+    #[error("refused {0}")]
+    Refused(NewError),
+    /// The block size is 0, or above the most bytes of a value; nothing was read.
+    #[error("refused BadBlock")]
+    BadBlock,
 }
 
 impl From<AllocError> for PlayError {

@@ -8,13 +8,19 @@
 
 pub mod blocks;
 pub mod fault;
+mod grammar;
+mod input;
 pub mod limits;
 mod line;
 mod number;
+pub mod options;
 mod output;
 pub mod play;
 mod print;
+mod report;
 mod script;
+mod sums;
 #[cfg(test)]
 mod tests;
 mod value;
+mod words;

@@ -1,72 +1,47 @@
 //! Reads lines: the words of one event.
-ghost use Rattle.std.specs.Prelude.{◌≡◌, ◌<◌, length, map, IfOk};
-ghost use Rattle.std.specs.List.{list_all};
+ghost use Rattle.std.specs.Prelude.{◌≡◌, map};
 ghost use Rattle.hcc_player.specs.Value.{Gives};
-ghost use Rattle.hcc_player.specs.Line.{line_event, is_plain, words_of, words_event};
-ghost use Rattle.hcc_player.specs.Line.{has_empty_word};
+ghost use Rattle.hcc_player.specs.Line.{line_event};
 ghost use Rattle.hcc_player.specs.Line.{event_of, known_event, reference_event, use_event};
 ghost use Rattle.hcc_player.specs.Line.{entry_event, place_event, charge_event, trail_event};
 ghost use Rattle.hcc_player.specs.Line.{show_line, acquire_line, free_line, charge_line};
 ghost use Rattle.hcc_player.specs.Line.{stand_line};
-ghost use Rattle.hcc_player.specs.Line.{client_in, client_and_slot, client_and_name, word_at};
+ghost use Rattle.hcc_player.specs.Line.{client_in, client_and_slot, client_and_name};
+ghost use Rattle.hcc_player.specs.Words.{word_at};
 
 use crate::fault::{LineError, TextFault};
-use crate::limits::MOST_LINE;
+use crate::grammar::Grammar;
+use crate::limits::MOST_VALUE;
 use crate::number::{charge, name, number, small_number};
 use crate::value::value;
+use crate::words::{plain_words, word};
 use hcc_core::event::Event;
 use hcc_core::listed::Listed;
-use std::alloc::{AllocError, Global};
+use std::alloc::Global;
+
+/// The grammar of scripts: each line says an event.
+pub(crate) struct Events;
+
+impl Grammar for Events {
+    ghost use Rattle.hcc_player.specs.Line.{line_event};
+
+    type Line = Event;
+
+    ghost says = { λ grammar line. line_event line };
+
+    fn line(&self, alloc: Global, line: &[u8]) -> Result<Event, LineError> {
+        line_event(alloc, line)
+    }
+}
 
 /// Reads the event of a line, given without its line feed. It takes memory for the words and
 /// for the value, and gives back all but the value.
 #[tactic(auto, unfolding(crate::specs::Line::line_event))]
-pub fn line_event(alloc: Global, line: &[u8]) -> Result<Event, LineError>
+fn line_event(alloc: Global, line: &[u8]) -> Result<Event, LineError>
     ensures { Gives result (line_event line.now) }
 {
-    if line.len() > MOST_LINE {
-        return Err(LineError::Fault(TextFault::TooLong));
-    }
-    if !is_plain_line(line) {
-        return Err(LineError::Fault(TextFault::NotAscii));
-    }
-    let words = words_of(alloc, line)?;
-    words_event(alloc, &words)
-}
-
-fn is_plain_line(line: &[u8]) -> bool
-    ensures { result ≡ list_all is_plain line.now }
-{
-    line.iter().all(|byte| 32 <= *byte && *byte <= 126)
-}
-
-/// The words of a line.
-fn words_of<'a>(alloc: Global, line: &'a [u8]) -> Result<Vec<&'a [u8]>, AllocError>
-    ensures { IfOk result (λ words. map (λ w. w.now) words.items ≡ words_of line.now) }
-{
-    line.split(|byte| *byte == b' ').collect(alloc)
-}
-
-/// The event of a line's words.
-#[tactic(auto, unfolding(crate::specs::Line::words_event))]
-fn words_event(alloc: Global, words: &[&[u8]]) -> Result<Event, LineError>
-    ensures { Gives result (words_event (map (λ w. w.now) words.now)) }
-{
-    if words.is_empty() || has_empty_word(words) {
-        return Err(LineError::Fault(TextFault::BadWord));
-    }
-    event_of(alloc, word(words, 0), words)
-}
-
-fn has_empty_word(words: &[&[u8]]) -> bool
-    ensures { result ≡ has_empty_word (map (λ w. w.now) words.now) }
-{
-    for word in words {
-        if word.is_empty() {
-            return true;
-        }
-    }
-    false
+    let words = plain_words(alloc, line)?;
+    event_of(alloc, word(&words, 0), &words)
 }
 
 /// The event of words that are all there: of the group that knows the verb.
@@ -287,7 +262,7 @@ fn show_line(alloc: Global, words: &[&[u8]]) -> Result<Event, LineError>
     let charge = charge(word(words, 4))?;
     let countdown = number(word(words, 5))?;
     let name = name(word(words, 6))?;
-    let value = value(alloc, word(words, 7))?;
+    let value = value(alloc, MOST_VALUE, word(words, 7))?;
     Ok(Event::Show {
         client,
         key0,
@@ -395,13 +370,4 @@ fn client_and_name(words: &[&[u8]]) -> Result<(u32, u64), TextFault>
     let client = small_number(word(words, 1))?;
     let name = number(word(words, 2))?;
     Ok((client, name))
-}
-
-/// The word of this number, counted from 0.
-#[tactic(auto, unfolding(crate::specs::Line::word_at))]
-fn word<'a>(words: &[&'a [u8]], index: usize) -> &'a [u8]
-    requires { index < length words.now }
-    ensures { result.now ≡ word_at (map (λ w. w.now) words.now) index }
-{
-    words[index]
 }

@@ -1,7 +1,7 @@
 //! Reads words that are numbers.
 ghost use Rattle.std.specs.Prelude.{◌≡◌, ◌<◌, ◌^◌, ℕ, Ok, IfOk, decimal};
 ghost use Rattle.hcc_player.specs.Number.{digit_onto, digits_from, number_of, small_number_of};
-ghost use Rattle.hcc_player.specs.Number.{charge_of, name_of};
+ghost use Rattle.hcc_player.specs.Number.{charge_of, name_of, number_below};
 
 use crate::fault::TextFault;
 
@@ -51,8 +51,22 @@ pub fn number(word: &[u8]) -> Result<u64, TextFault>
     numeral(word)
 }
 
+/// Reads a number below this one.
+#[tactic(auto, unfolding(crate::specs::Number::number_below))]
+pub fn number_below(end: u32, word: &[u8]) -> Result<u32, TextFault>
+    ensures value { result ≡ number_below end word.now }
+    ensures below { IfOk result (λ n. n < end) }
+{
+    let number = number(word)?;
+    if number < u64::from(end) {
+        Ok(number as u32)
+    } else {
+        Err(TextFault::OutOfRange)
+    }
+}
+
 /// Reads a number below `2^32`, as of a client or a slot.
-#[tactic(auto, unfolding(crate::specs::Number::small_number_of))]
+#[tactic(auto, unfolding(crate::specs::Number::small_number_of, crate::specs::Number::number_below))]
 pub fn small_number(word: &[u8]) -> Result<u32, TextFault>
     ensures { result ≡ small_number_of word.now }
 {

@@ -1,132 +1,28 @@
 //! Plays a script from a reader to a writer.
-ghost use Rattle.std.specs.Prelude.{◌≡◌, ◌++◌, ◌+◌, ◌<◌, ◌≤◌, ◌⊎◌, [], Ok, IfOk, OnOk, OnErr};
-ghost use Rattle.std.specs.Prelude.{IfErr, IfSome, IsOk, length, false, string_bytes};
-ghost use Rattle.std.specs.Io.KnownBytes.{Appends, Keeps, Consumes, IsAtEnd};
+ghost use Rattle.std.specs.Prelude.{◌≡◌, ◌++◌, ◌+◌, ◌⊎◌, IfOk, OnOk, OnErr, IfErr, IfSome, IsOk};
+ghost use Rattle.std.specs.Prelude.{string_bytes};
+ghost use Rattle.std.specs.Io.KnownBytes.{Appends, Keeps};
 ghost use Rattle.hcc_core.specs.Steps.{outcome_of};
 ghost use Rattle.hcc_core.specs.Opening.{CanOpen};
 ghost use Rattle.hcc_core.specs.Runs.{after};
-ghost use Rattle.hcc_player.specs.Bytes.{Leaves, AppendsPart, TakesAtMost, GivesPart};
+ghost use Rattle.hcc_player.specs.Bytes.{Leaves, AppendsPart, TakesAtMost};
 ghost use Rattle.hcc_player.specs.Text.{answer_of, event_text};
-ghost use Rattle.hcc_player.specs.Line.{line_event};
-ghost use Rattle.hcc_player.specs.Script.{lines_of, script_of, GiveEvents};
-ghost use Rattle.hcc_player.specs.Play.{IsWhole, FailsInPart, FailsToRead, FailsToJudge};
-ghost use Rattle.hcc_player.specs.Play.{FailsToPlay, played, script_text, IsScript, EndsAt};
-ghost use Rattle.hcc_player.specs.Play.{WritesLate};
+ghost use Rattle.hcc_player.specs.Script.{lines_of};
+ghost use Rattle.hcc_player.specs.Play.{events_in, played, script_text, EndsAt, FailsToPlay};
+ghost use Rattle.hcc_player.specs.Play.{GiveEvents, IsScript, WritesLate};
 
-use crate::fault::{LineError, PlayError, ScriptError};
+use crate::fault::PlayError;
+use crate::input::read_all;
 use crate::limits::MOST_INPUT;
-use crate::line::line_event;
+use crate::line::Events;
 use crate::output::{flush, spill, write_out};
 use crate::print::push_line;
-use crate::script::{judge, next_line};
+use crate::script::{judge_all, judged_line, next_line};
 use hcc_core::event::{CoreError, Event, Reply};
 use hcc_core::setup::Setup;
 use hcc_core::world::World;
-use std::alloc::{AllocError, Global};
-use std::io::{ErrorKind, Read, Write};
-
-/// How many bytes are read at once.
-const CHUNK: usize = 65_536;
-
-/// Reads once, and adds the bytes that came: whether there may be more. A read that was
-/// interrupted gave none.
-fn read_part<R: Read>(
-    reader: &mut R,
-    chunk: &mut [u8],
-    bytes: &mut Vec<u8>,
-) -> Result<bool, PlayError>
-    requires { 0 < length chunk.old }
-    ensures part { GivesPart (R.remaining reader.old) (R.remaining reader.new)
-        (length chunk.old) bytes.old.items result bytes.new.items }
-    ensures end { IfOk result (λ more. more ≡ false →
-        IsAtEnd (R.remaining reader.new) × (bytes.new.items ≡ bytes.old.items)) }
-    ensures err { IfErr result FailsInPart }
-{
-    match reader.read(chunk) {
-        Ok(0) => Ok(false),
-        Ok(count) => {
-            bytes.extend_from_slice(&chunk[..count])?;
-            Ok(true)
-        }
-        Err(error) => {
-            if error.kind() == ErrorKind::Interrupted {
-                Ok(true)
-            } else {
-                Err(PlayError::ReadFailed)
-            }
-        }
-    }
-}
-
-/// Reads all there is, part by part, and ends with the first byte that is too many.
-fn read_by<R: Read>(alloc: Global, reader: &mut R, chunk: &mut [u8]) -> Result<Vec<u8>, PlayError>
-    requires { 0 < length chunk.old }
-    ensures whole { IfOk result (λ bytes. IsWhole (R.remaining reader.old) bytes.items) }
-    ensures bounded { TakesAtMost (MOST_INPUT + 1)
-        (R.remaining reader.old) (R.remaining reader.new) }
-    ensures err { IfErr result (λ error. FailsToRead error (R.remaining reader.old)) }
-{
-    let mut bytes = Vec::new(alloc);
-    for _ in 0..u64::MAX {
-        let room = MOST_INPUT as usize + 1 - bytes.len();
-        if room == 0 {
-            return Err(PlayError::TooLarge);
-        }
-        let size = room.min(chunk.len());
-        if !read_part(reader, &mut chunk[..size], &mut bytes)? {
-            return Ok(bytes);
-        }
-    }
-    Err(PlayError::ReadFailed)
-}
-
-/// A buffer of this size.
-fn buffer(alloc: Global, size: usize) -> Result<Vec<u8>, AllocError>
-    ensures { IfOk result (λ buffer. length buffer.items ≡ size) }
-{
-    vec![in alloc; 0u8; size]
-}
-
-/// Reads all there is, and ends with the first byte that is too many.
-fn read_all<R: Read>(alloc: Global, reader: &mut R) -> Result<Vec<u8>, PlayError>
-    ensures whole { IfOk result (λ bytes. IsWhole (R.remaining reader.old) bytes.items) }
-    ensures bounded { TakesAtMost (MOST_INPUT + 1)
-        (R.remaining reader.old) (R.remaining reader.new) }
-    ensures err { IfErr result (λ error. FailsToRead error (R.remaining reader.old)) }
-{
-    let mut chunk = buffer(alloc, CHUNK)?;
-    read_by(alloc, reader, &mut chunk)
-}
-
-/// Judges the whole text.
-#[tactic(auto, using(crate::proofs::ScriptLaws::first_fault, crate::proofs::ScriptLaws::all_give))]
-fn judge_all(alloc: Global, text: &[u8]) -> Result<(), PlayError>
-    ensures ok { OnOk result (IsOk (script_of text.now)) }
-    ensures lines { OnOk result (GiveEvents (lines_of text.now)) }
-    ensures err { IfErr result (λ error. FailsToJudge error text.now) }
-{
-    match judge(alloc, text) {
-        Ok(()) => Ok(()),
-        Err(ScriptError::Fault(at)) => Err(PlayError::Text {
-            line: at.line,
-            fault: at.fault,
-        }),
-        Err(ScriptError::OutOfMemory) => Err(PlayError::OutOfMemory),
-    }
-}
-
-/// The event of a line that was judged.
-fn event_in(alloc: Global, line: &[u8]) -> Result<Event, PlayError>
-    requires { IsOk (line_event line.now) }
-    ensures ok { IfOk result (λ event. line_event line.now ≡ Ok event) }
-    ensures err { IfErr result (λ error. error ≡ PlayError.OutOfMemory) }
-{
-    match line_event(alloc, line) {
-        Ok(event) => Ok(event),
-        Err(LineError::Fault(_)) => unreachable!(),
-        Err(LineError::OutOfMemory) => Err(PlayError::OutOfMemory),
-    }
-}
+use std::alloc::Global;
+use std::io::{Read, Write};
 
 /// Makes one step: what it answered, if memory was not refused.
 fn answer(world: &mut World, event: Event) -> Result<Result<Reply, CoreError>, PlayError>
@@ -169,17 +65,17 @@ fn play_lines<W: Write>(
     pending: &mut String,
     writer: &mut W,
 ) -> Result<(), PlayError>
-    requires { IsOk (script_of text.now) }
+    requires { IsOk (events_in text.now) }
     ensures ok { OnOk result (Leaves (W.contents writer.old) (W.contents writer.new)
-        (string_bytes pending.old ++ played world.old (script_of text.now))
+        (string_bytes pending.old ++ played world.old (events_in text.now))
         (string_bytes pending.new)) }
     ensures part { OnErr result (AppendsPart (W.contents writer.old) (W.contents writer.new)
-        (string_bytes pending.old ++ played world.old (script_of text.now))) }
+        (string_bytes pending.old ++ played world.old (events_in text.now))) }
     ensures err { IfErr result FailsToPlay }
 {
     let mut rest = text;
     while let Some((line, after)) = next_line(rest) {
-        let event = event_in(alloc, line)?;
+        let event = judged_line(alloc, &Events, line)?;
         play_event(world, event, pending, writer)?;
         rest = after;
     }
@@ -193,11 +89,11 @@ fn play_text<W: Write>(
     world: &mut World,
     writer: &mut W,
 ) -> Result<(), PlayError>
-    requires { IsOk (script_of text.now) }
+    requires { IsOk (events_in text.now) }
     ensures ok { OnOk result (Appends (W.contents writer.old) (W.contents writer.new)
-        (played world.old (script_of text.now))) }
+        (played world.old (events_in text.now))) }
     ensures part { OnErr result (AppendsPart (W.contents writer.old) (W.contents writer.new)
-        (played world.old (script_of text.now))) }
+        (played world.old (events_in text.now))) }
     ensures err { IfErr result FailsToPlay }
 {
     let mut pending = String::new(alloc);
@@ -254,7 +150,7 @@ pub fn play_core<R: Read, W: Write>(
         (R.remaining reader.old) (R.remaining reader.new) }
 {
     let text = read_all(alloc, reader)?;
-    judge_all(alloc, &text)?;
+    judge_all(alloc, &Events, &text)?;
     let Ok(mut world) = World::opening(alloc, setup) else {
         return Err(PlayError::OutOfMemory);
     };

@@ -5,7 +5,6 @@ ghost use Rattle.hcc_player.specs.Text.{value_text};
 ghost use Rattle.hcc_player.specs.Value.{hex_digit, byte_of, bytes_of, value_of, Fails};
 
 use crate::fault::{LineError, TextFault};
-use crate::limits::MOST_VALUE;
 use std::alloc::Global;
 
 /// The number that a lower-case hexadecimal digit stands for.
@@ -47,11 +46,11 @@ fn bytes_of(alloc: Global, digits: &[u8]) -> Result<Vec<u8>, LineError>
     Ok(bytes)
 }
 
-/// Reads a value of at most 64 bytes: two digits for each byte, or `-` for no bytes.
+/// Reads a value of at most so many bytes: two digits for each byte, or `-` for no bytes.
 #[tactic(auto, unfolding(crate::specs::Value::value_of))]
-fn hexadecimal(alloc: Global, word: &[u8]) -> Result<Vec<u8>, LineError>
-    ensures { MatchResult result (λ bytes. value_of word.now ≡ Ok bytes.items)
-        (λ error. Fails error (value_of word.now)) }
+fn hexadecimal(alloc: Global, most: usize, word: &[u8]) -> Result<Vec<u8>, LineError>
+    ensures { MatchResult result (λ bytes. value_of most word.now ≡ Ok bytes.items)
+        (λ error. Fails error (value_of most word.now)) }
 {
     if word == b"-".as_slice() {
         return Ok(Vec::new(alloc));
@@ -60,22 +59,22 @@ fn hexadecimal(alloc: Global, word: &[u8]) -> Result<Vec<u8>, LineError>
         return Err(LineError::Fault(TextFault::BadValue));
     }
     let bytes = bytes_of(alloc, word)?;
-    if bytes.len() > MOST_VALUE {
+    if bytes.len() > most {
         return Err(LineError::Fault(TextFault::ValueTooLong));
     }
     Ok(bytes)
 }
 
-/// Reads a value of at most 64 bytes: two digits for each byte, or `-` for no bytes.
-pub fn value(alloc: Global, word: &[u8]) -> Result<Vec<u8>, LineError>
-    ensures value { MatchResult result (λ bytes. value_of word.now ≡ Ok bytes.items)
-        (λ error. Fails error (value_of word.now)) }
+/// Reads a value of at most so many bytes: two digits for each byte, or `-` for no bytes.
+pub fn value(alloc: Global, most: usize, word: &[u8]) -> Result<Vec<u8>, LineError>
+    ensures value { MatchResult result (λ bytes. value_of most word.now ≡ Ok bytes.items)
+        (λ error. Fails error (value_of most word.now)) }
 
     // A value is read exactly where the word is the text of its bytes.
     ensures read { IfOk result (λ bytes. word.now ≡ value_text bytes.items) }
-    ensures takes { (bytes : List ℕ) → All (λ b. b < 256) bytes → length bytes ≤ MOST_VALUE
+    ensures takes { (bytes : List ℕ) → All (λ b. b < 256) bytes → length bytes ≤ most
         → word.now ≡ value_text bytes → MatchResult result (λ read. read.items ≡ bytes)
         (λ error. error ≡ LineError.OutOfMemory) }
 {
-    hexadecimal(alloc, word)
+    hexadecimal(alloc, most, word)
 }

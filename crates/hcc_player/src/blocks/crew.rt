@@ -25,7 +25,7 @@ pub fn crew<T, S: BlockSource + Drop>(
     ensures count { IfOk result (λ workers. length workers.items ≡ length clients.items) }
     ensures set { IfOk result (λ workers.
         EachAt (IsSetUp clients.items sources.items (map (λ list. list.items) lists.items) block)
-            workers.items) }
+        workers.items) }
 {
     let mut workers = Vec::with_capacity(alloc, clients.len())?;
     let mut clients = clients.into_iter();

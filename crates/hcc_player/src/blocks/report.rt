@@ -1,71 +1,38 @@
 //! The report of a play of block reads.
 ghost use Rattle.std.specs.Prelude.{◌≡◌, IfOk, map, string_bytes};
 ghost use Rattle.serde_json.specs.View.{view};
-ghost use Rattle.hcc_player.specs.Json.{client_data, report_data};
-ghost use Rattle.hcc_player.specs.Report.{report_text};
+ghost use Rattle.hcc_player.specs.BlocksReport.{client_data, report_data, report_text};
 
 use super::tally::ClientReport;
-use hcc_cache::Closed;
+use crate::sums::Sums;
 use serde_json::{Value, json};
 use std::alloc::{AllocError, Global};
-
-/// What is left of a cache: the sums slot by slot, and what its words say.
-#[derive(Clone, Copy, Debug, PartialEq, Eq)]
-pub struct Totals {
-    /// The charges of all entries.
-    pub charges: u64,
-    /// How many entries the occupancy words tell.
-    pub occupied: u64,
-    /// How many slots have an entry.
-    pub slots: u64,
-    /// The charge that the usage words tell.
-    pub usage: u64,
-}
-
-impl Totals {
-    /// What is left of a closed cache.
-    pub fn of(closed: &Closed) -> Totals
-        ensures charged { result.charges ≡ result.usage }
-        ensures occupies { result.slots ≡ result.occupied }
-    {
-        Totals {
-            charges: closed.slot_charges(),
-            occupied: closed.occupied(),
-            slots: closed.slot_count(),
-            usage: closed.usage(),
-        }
-    }
-}
 
 /// The text of a report, with a line feed behind it.
 pub fn report_text(
     alloc: Global,
-    totals: Totals,
+    sums: Sums,
     clients: &[ClientReport],
 ) -> Result<String, AllocError>
-    ensures { IfOk result (λ text. string_bytes text ≡ report_text totals clients.now) }
+    ensures { IfOk result (λ text. string_bytes text ≡ report_text sums clients.now) }
 {
-    let value = report_value(alloc, totals, clients)?;
+    let value = report_value(alloc, sums, clients)?;
     let mut text = value.to_string(alloc)?;
     text.push_str("\n")?;
     Ok(text)
 }
 
 /// A report as a value.
-fn report_value(
-    alloc: Global,
-    totals: Totals,
-    clients: &[ClientReport],
-) -> Result<Value, AllocError>
-    ensures { IfOk result (λ value. view value ≡ report_data totals clients.now) }
+fn report_value(alloc: Global, sums: Sums, clients: &[ClientReport]) -> Result<Value, AllocError>
+    ensures { IfOk result (λ value. view value ≡ report_data sums clients.now) }
 {
     let clients = Value::Array(client_values(alloc, clients)?);
     json!(in alloc; {
-        "charges": totals.charges,
+        "charges": sums.charges,
         "clients": clients,
-        "occupied": totals.occupied,
-        "slots": totals.slots,
-        "usage": totals.usage,
+        "occupied": sums.occupied,
+        "slots": sums.slots,
+        "usage": sums.usage,
     })
 }
 

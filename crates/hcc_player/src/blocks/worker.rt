@@ -94,7 +94,7 @@ fn play_lines<T: Tag + Copy + Drop, S: BlockSource, G: Gate>(
     requires block { reader.old.block ≤ 8 * cache.now.geometry.room }
     requires room { reader.old.block ≤ length buffer.old }
     requires counts { (reader.old.hits ≡ 0) × (reader.old.misses ≡ 0) }
-    requires few { length lines.now < 2 ^ 62 }
+    requires few { length lines.now < 2 ^ 63 }
     ensures idle { IsIdle cache.now client.new }
     ensures tally { IsTally (S.reliable reader.old.source)
         (found_by (S.content reader.old.source) reader.old.block lines.now) result }
@@ -129,7 +129,7 @@ fn play_line<T: Tag + Copy + Drop, S: BlockSource>(
         reader.old.block }
     requires block { reader.old.block ≤ 8 * cache.now.geometry.room }
     requires room { reader.old.block ≤ length buffer.old }
-    requires few { lines_of_tally tally.old < 2 ^ 62 }
+    requires few { lines_of_tally tally.old < 2 ^ 63 }
     requires counted { reader.old.hits + reader.old.misses
         ≡ tally.old.blocks + tally.old.faults }
     ensures adds { Adds (S.reliable reader.old.source)

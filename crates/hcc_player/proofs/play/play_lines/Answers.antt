@@ -1,16 +1,18 @@
 use Rattle.std.proofs.Common.{◌++◌, string_bytes, sym, ap, refl}
 use Rattle.std.proofs.KnownBytes.{Keeps-refl}
+use Rattle.hcc_player.specs.Line.{line_event}
 use Rattle.hcc_player.specs.Script.{script_of}
-use Rattle.hcc_player.specs.Play.{played}
+use Rattle.hcc_player.specs.Play.{events_in, played}
+use Rattle.hcc_player.proofs.Splits.{said_of, splits}
 use Rattle.hcc_player.proofs.ByteLemmas.{leaves_all, on_error}
-use Rattle.hcc_player.proofs.PlayLemmas.{events_of, splits, playing_goes, playing_stops}
+use Rattle.hcc_player.proofs.PlayLemmas.{playing_goes, playing_stops}
 use Rattle.hcc_player.proofs.PlayLemmas.{playing_fails}
 use Rattle.hcc_player.proofs.play.play_lines.Goals as goal
 
 pub loop-line-init : goal.loop-line-init
 unfolding script_of
 loop-line-init g c =
-    let events = events_of (script_of c.args.text.now) c.requires in
+    let events = said_of (events_in c.args.text.now) c.requires in
     let pending = string_bytes c.args.pending.now in
     record {
       number = 1;
@@ -21,10 +23,10 @@ loop-line-init g c =
       whole = ap (λ r. pending ++ played c.args.world.now r) (sym events.1);
     }
 
-pub event_in-requires : goal.event_in-requires
-event_in-requires g c =
+pub judged_line-requires : goal.judged_line-requires
+judged_line-requires g c =
     let so_far = c.loop-line.invariant in
-    let s = splits so_far.number c.loop-line.rest.now c.in-Some.line.now c.in-Some.after.now
+    let s = splits line_event so_far.number c.loop-line.rest.now c.in-Some.line.now c.in-Some.after.now
     so_far.events c.in-Some.ensures.line so_far.script in
     rw s.first refl
 

@@ -5,9 +5,9 @@ use Rattle.hcc_player.proofs.blocks.deal.deal.Goals as goal
 pub returns : goal.returns
 returns c =
     let lists = c.args.lists.now in
-    let line = c.args.line in
-    let was = c.index-lists-line.result in
-    let read = get_or-map (λ list. list.items) lists line.client was [] c.requires in
-    map-set (λ list. list.items) lists line.client c.push.new.self
-    ∙ ap (slice_set (map (λ list. list.items) lists) line.client)
-    (c.in_ok-push.ensures.items ∙ ap (λ items. items ++ line ∷ []) (sym read))
+    let read = c.args.read in
+    let was = c.index-lists-read.result in
+    let there = get_or-map (λ list. list.items) lists read.client was [] c.requires in
+    map-set (λ list. list.items) lists read.client c.push.new.self
+    ∙ ap (slice_set (map (λ list. list.items) lists) read.client)
+    (c.in_ok-push.ensures.items ∙ ap (λ items. items ++ read ∷ []) (sym there))

@@ -1,7 +1,7 @@
 use Rattle.std.proofs.Common.{rules}
 use Rattle.serde_json.specs.declared.value.Value.{the_lemmas}
 use Rattle.serde_json.proofs.OnLiterals.{serde_json_on_literals}
-use Rattle.hcc_player.specs.Json.{client_data}
+use Rattle.hcc_player.specs.BlocksReport.{client_data}
 use Rattle.hcc_player.proofs.blocks.report.client_value.Goals as goal
 
 pub returns-in-Ok-json-12 : goal.returns-in-Ok-json-12

@@ -1,6 +1,6 @@
 use Rattle.std.proofs.Common.{◌≡◌, map, take}
 use Rattle.serde_json.specs.View.{view}
-use Rattle.hcc_player.specs.Json.{client_data}
+use Rattle.hcc_player.specs.BlocksReport.{client_data}
 use Rattle.hcc_player.proofs.blocks.report.client_values.Given as goal
 
 abbrev pub invariant-loop-client : goal.invariant-loop-client

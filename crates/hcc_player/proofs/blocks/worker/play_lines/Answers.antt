@@ -30,10 +30,12 @@ loop-line-preserved g c =
       steady = λ s. told.reliable (so_far.steady s);
       adds = λ new rest.
           so_far.adds new
-          (subst (λ found. AddsAll steady found c.loop-line.tally new) (sym next)
-          (c.play_line.new.tally,
-          adds_for steady _ (block_of files size line.file line.index) c.loop-line.tally
-          c.play_line.new.tally so_far.steady adds, rest));
+          (subst (λ found. AddsAll steady found c.loop-line.tally new) (sym next) (
+            c.play_line.new.tally,
+            adds_for steady _ (block_of files size line.file line.index) c.loop-line.tally
+                c.play_line.new.tally so_far.steady adds,
+            rest,
+          ));
     }
 
 pub returns-clause-tally : goal.returns-clause-tally

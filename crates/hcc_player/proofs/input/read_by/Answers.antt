@@ -1,7 +1,7 @@
 use Rattle.std.proofs.Common.{◌++◌, arith, length-append}
 use Rattle.std.proofs.lemmas.List.{length-take}
 use Rattle.std.proofs.KnownBytes.{Consumes-trans}
-use Rattle.hcc_player.proofs.play.read_by.Goals as goal
+use Rattle.hcc_player.proofs.input.read_by.Goals as goal
 
 pub returns-in_err-read_part-clause-bounded : goal.returns-in_err-read_part-clause-bounded
 returns-in_err-read_part-clause-bounded g c =

@@ -1,6 +1,6 @@
 use Rattle.std.proofs.Common.{◌≡◌, map, drop}
-use Rattle.hcc_player.specs.Line.{has_empty_word}
-use Rattle.hcc_player.proofs.line.has_empty_word.Given as goal
+use Rattle.hcc_player.specs.Words.{has_empty_word}
+use Rattle.hcc_player.proofs.words.has_empty_word.Given as goal
 
 abbrev pub invariant-loop-word : goal.invariant-loop-word
 invariant-loop-word l =
