@@ -2,19 +2,18 @@
 ghost use Rattle.std.specs.Prelude.{◌≡◌, ◌<◌, ◌^◌, IfOk, length, map};
 ghost use Rattle.std.specs.List.{All};
 
+use crate::progress::Progress;
 use crate::run::told;
 use crate::status::Status;
 use hcc_block::{BlockSource, MemorySource};
 use hcc_player::blocks::play_blocks;
 use hcc_player::fault::PlayError;
 use hcc_player::options::Options;
-use crate::progress::Progress;
 use std::alloc::{AllocError, Global};
-use std::fs;
-use std::io;
 use std::io::ErrorKind;
 use std::rt::Files;
 use std::thread::Threads;
+use std::{fs, io};
 
 /// Plays the trace of block reads on standard input over the files of these paths. On a terminal
 /// it tells how far it is.
@@ -59,10 +58,7 @@ pub fn blocks<R: AllocGlobal + Input + Print + Eprint + Files + Threads + Sync>(
 }
 
 /// The bytes of the files of these paths, in order.
-fn files_of<R: AllocGlobal + Eprint + Files>(
-    rt: &R,
-    paths: &[&str],
-) -> Result<Vec<Vec<u8>>, Status>
+fn files_of<R: AllocGlobal + Eprint + Files>(rt: &R, paths: &[&str]) -> Result<Vec<Vec<u8>>, Status>
     ensures { IfOk result (λ files. length files.items ≡ length paths.now) }
 {
     let mut files = Vec::new(rt.alloc());
@@ -98,7 +94,7 @@ fn sources<'a>(
     ensures count { IfOk result (λ sources. length sources.items ≡ clients) }
     ensures content { IfOk result (λ sources.
         All (λ source. ⟦<MemorySource<'a> as BlockSource>⟧.content source
-            ≡ map (λ file. file.items) files.now) sources.items) }
+        ≡ map (λ file. file.items) files.now) sources.items) }
 {
     let mut sources = Vec::with_capacity(alloc, clients as usize)?;
     for _ in 0..clients {

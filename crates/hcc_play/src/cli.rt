@@ -3,11 +3,10 @@ ghost use Rattle.std.specs.Prelude.{◌≡◌, ◌≤◌, IfSome, false};
 ghost use Rattle.hcc_core.specs.Opening.{CanOpen};
 ghost use Rattle.hcc_play.specs.declared.cli.TheConstants.{PLAYED_SLOTS, PLAYED_CAPACITY};
 
-use crate::cache::{config_of, number, with_cache};
+use crate::blocks_command::blocks_command;
 use clap::{Arg, ArgAction, ArgMatches, Command, value_parser};
 use hcc_core::limits::MOST_CLIENTS;
 use hcc_core::setup::Setup;
-use hcc_player::options::Options;
 use std::alloc::{AllocError, Global};
 
 /// The most slots of a world that is played: each line shows them all.
@@ -57,24 +56,6 @@ and weight of each) and h whether it was hit. Behind / is how often the slot
 stands in trails. The whole script is judged first; at a fault nothing is
 played, and `line N: FAULT` is told.";
 
-const BLOCKS_ABOUT: &str = "\
-Reads blocks of files through one cache, by a trace from standard input, each
-client on a thread of its own, and writes a line of JSON";
-
-const BLOCKS_AFTER: &str = "\
-The files are read whole. A trace has one read a line: the client, the file and
-the block, by their numbers from 0, with one space between.
-
-  0 0 5                 client 0 reads block 5 of the first file
-  1 0 5                 client 1 reads the same block
-
-Each client reads its own lines, in order. The whole trace is judged first; at a
-fault nothing is read, and `line N: FAULT` is told. The line of JSON has the
-charges and the slots of the entries that are left in the cache, what its usage
-and occupancy words say, and for each client how many reads gave a block, how
-many the source failed, how many the cache had and had not, how many were of
-blocks that aren't there, and the sum of all bytes read.";
-
 fn slots_arg<'a>(alloc: Global) -> Arg<'a> {
     Arg::new(alloc, "slots")
         .long("slots")
@@ -118,27 +99,6 @@ fn core_command<'a>(alloc: Global) -> Result<Command<'a>, AllocError> {
         .arg(clients_arg(alloc))?
         .arg(capacity_arg(alloc))?
         .arg(strict_arg(alloc))
-}
-
-fn block_arg<'a>(alloc: Global) -> Arg<'a> {
-    let help = "How many bytes a block has, 1 to eight times the room";
-    number(alloc, "block", "16", help).value_parser(value_parser!(u32))
-}
-
-fn file_arg<'a>(alloc: Global) -> Arg<'a> {
-    Arg::new(alloc, "FILE")
-        .help("The files that are read, none or more")
-        .num_args(0..)
-}
-
-/// The subcommand `blocks`.
-fn blocks_command<'a>(alloc: Global) -> Result<Command<'a>, AllocError> {
-    let command = Command::new(alloc, "blocks")
-        .about(BLOCKS_ABOUT)
-        .after_help(BLOCKS_AFTER);
-    with_cache(alloc, command)?
-        .arg(block_arg(alloc))?
-        .arg(file_arg(alloc))
 }
 
 /// The whole command line.
@@ -188,20 +148,4 @@ pub fn setup_of(options: &ArgMatches<'_>) -> Option<Setup>
         capacity,
         strict: options.get_flag("strict"),
     })
-}
-
-/// The options of `blocks`, if each number was given or has its default.
-pub fn options_of(options: &ArgMatches<'_>) -> Option<Options> {
-    Some(Options {
-        config: config_of(options)?,
-        block: options.get_one::<u32>("block")?,
-    })
-}
-
-/// The paths of the files, in order.
-pub fn paths_of<'a>(alloc: Global, options: &ArgMatches<'a>) -> Result<Vec<&'a str>, AllocError> {
-    match options.get_strs("FILE") {
-        Some(paths) => Vec::from_slice(alloc, paths),
-        None => Ok(Vec::new(alloc)),
-    }
 }

@@ -3,7 +3,8 @@
 #![tactic(auto)]
 
 mod blocks;
-mod cache;
+mod blocks_command;
+mod cache_options;
 mod cli;
 mod progress;
 mod run;

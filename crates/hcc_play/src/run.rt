@@ -4,7 +4,8 @@ ghost use Rattle.hcc_play.specs.Requests.{IsOpen};
 ghost use Rattle.std.specs.Prelude.{IfOk, IfSome};
 
 use crate::blocks::blocks;
-use crate::cli::{command, default_setup, options_of, paths_of, setup_of};
+use crate::blocks_command::{options_of, paths_of};
+use crate::cli::{command, default_setup, setup_of};
 use crate::status::{Status, status_of};
 use clap::error::ErrorKind;
 use clap::{ArgMatches, Error};
@@ -67,10 +68,7 @@ pub fn asked<'a, R: AllocGlobal + Print + Eprint>(rt: &R, words: &'a [String]) -
 }
 
 /// What a subcommand asks for, if its numbers are in their ranges.
-fn asked_by<'a>(
-    alloc: Global,
-    matches: &ArgMatches<'a>,
-) -> Result<Option<Request<'a>>, AllocError>
+fn asked_by<'a>(alloc: Global, matches: &ArgMatches<'a>) -> Result<Option<Request<'a>>, AllocError>
     ensures { IfOk result (λ asked. IfSome asked IsOpen) }
 {
     let Some((name, options)) = matches.subcommand() else {

@@ -1,5 +1,5 @@
 -- Options that are not refused.
-use Rattle.std.proofs.Common.{◌≡◌, ℕ, ◌*◌, ◌≤◌, ◌==◌, ◌||◌, inl, inr, true, false, nat_lt, Result, Ok, Err, refl, arith, rules, tests}
+use Rattle.std.proofs.Common.{◌≡◌, ℕ, ◌*◌, ◌≤◌, ◌==◌, inl, inr, nat_lt, Result, Ok, Err, rules, tests}
 use Rattle.std.proofs.lemmas.Bool.{cases_Bool}
 use Rattle.hcc_cache.specs.Configs.{checked}
 use Rattle.hcc_cache.specs.declared.errors.NewError.{NewError}

@@ -1,5 +1,5 @@
 -- The reads that a trace says are of its clients.
-use Rattle.std.proofs.Common.{◌≡◌, ℕ, zero, suc, ◌+◌, ◌<◌, ◌==◌, inl, inr, List, [], ◌∷◌, ◌++◌, Option, Some, None, Result, Ok, Err, nat_lt, length, refl, ap, arith}
+use Rattle.std.proofs.Common.{◌≡◌, ℕ, zero, suc, ◌+◌, ◌<◌, ◌==◌, inl, inr, List, [], ◌∷◌, Option, Some, None, Result, Ok, Err, nat_lt, length, refl, arith}
 use Rattle.std.specs.List.{All}
 use Rattle.std.proofs.lemmas.Bool.{cases_Bool, ltb-true}
 use Rattle.hcc_player.specs.declared.blocks.line.BlockRead.{BlockRead}
@@ -67,13 +67,15 @@ module _ {A : Type 0} (says : List ℕ → Result A TextFault) (P : A → Type 0
 
   none_said : (n : ℕ) (fault : Option TextFault) (all : List A) → ends_with n fault ≡ Ok all
       → All P all
-  none_said n None all e = let none : [] ≡ all = cc in rw (← none) (λ k d within. absurd (omega arith))
+  none_said n None all e =
+      let none : [] ≡ all = cc in rw (← none) (λ k d within. absurd (omega arith))
   none_said n (Some fault) all e = cc
 
   -- what lines say, from this number on
   all_said : (n : ℕ) (lines : List (List ℕ)) (all : List A) → script_from says n lines ≡ Ok all
       → All P all
-  all_said n [] all e = let none : [] ≡ all = cc in rw (← none) (λ k d within. absurd (omega arith))
+  all_said n [] all e =
+      let none : [] ≡ all = cc in rw (← none) (λ k d within. absurd (omega arith))
   all_said n (line ∷ []) all e = none_said n (last_fault line) all e
   all_said n (line ∷ next ∷ more) all e =
       said_all n line (says line) (script_from says (n + 1) (next ∷ more)) all refl

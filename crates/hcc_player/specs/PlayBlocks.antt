@@ -1,5 +1,5 @@
 -- What a play of block reads reports, and why it ends.
-use Rattle.std.specs.Prelude.{◌≡◌, ◌⊎◌, ℕ, ◌<◌, ◌≤◌, List, Option, Result, Ok, Err, IsOk, length}
+use Rattle.std.specs.Prelude.{◌≡◌, ℕ, ◌<◌, ◌≤◌, List, Option, Result, Ok, Err, IsOk, length}
 use Rattle.std.specs.Io.KnownBytes.{Appends, Keeps}
 use Rattle.hcc_player.specs.declared.blocks.line.BlockRead.{BlockRead}
 use Rattle.hcc_player.specs.declared.blocks.tally.ClientReport.{ClientReport}

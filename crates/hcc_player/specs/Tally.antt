@@ -61,9 +61,9 @@ AddsAll steady [] old new = new ≡ old
 AddsAll steady (one ∷ found) old new =
     (between : Tally) × Adds steady one old between × AddsAll steady found between new
 
--- What a client reports of blocks that were found so. Each line is a block, a fault or missing; each
--- that is there is a hit or a miss. Where the source is steady there is no fault, and the sum is
--- that of all bytes.
+-- What a client reports of blocks that were found so. Each line is a block, a fault or missing;
+-- each that is there is a hit or a miss. Where the source is steady there is no fault, and the sum
+-- is that of all bytes.
 pub record IsTally (steady : Type 0) (found : List (Option (List ℕ))) (r : ClientReport) : Type 0
   where
     pub adds : AddsAll steady found nothing r.tally

@@ -98,6 +98,7 @@ fn play_lines<T: Tag + Copy + Drop, S: BlockSource, G: Gate>(
     ensures idle { IsIdle cache.now client.new }
     ensures tally { IsTally (S.reliable reader.old.source)
         (found_by (S.content reader.old.source) reader.old.block lines.now) result }
+    ensures told { (result.hits ≡ reader.new.hits) × (result.misses ≡ reader.new.misses) }
 {
     let number = client.number();
     let mut tally = Tally::new();

@@ -1,7 +1,7 @@
-use Rattle.std.proofs.Common.{◌≡◌, ◌++◌, [], ◌∷◌, List, length, map, refl, ap, ◌∙◌}
+use Rattle.std.proofs.Common.{map, refl, ◌∙◌}
 use Rattle.std.specs.Vec.Iter.{into_iter_items}
 use Rattle.hcc_player.specs.declared.blocks.worker.Worker.{Worker}
-use Rattle.hcc_player.proofs.Crewing.{AreMade, made_none, made_more}
+use Rattle.hcc_player.proofs.Crewing.{made_none, made_more}
 use Rattle.hcc_player.proofs.Places.{count_map}
 use Rattle.hcc_player.proofs.blocks.crew.crew.Goals as goal
 
@@ -31,7 +31,8 @@ loop-client-preserved g c =
     rw (c.in_ok-push.ensures.items)
     (made_more c.args.clients.items c.args.sources.items
     (map (λ list. list.items) c.args.lists.items) c.args.block c.in-Some.client
-    (into_iter_items c.next.new.self) c.taken-source.result (into_iter_items c.taken-source.new.left)
+    (into_iter_items c.next.new.self) c.taken-source.result
+    (into_iter_items c.taken-source.new.left)
     c.taken-lines.result.items (map (λ list. list.items) (into_iter_items c.taken-lines.new.left))
     c.loop-client.workers.items w so_far
     (record {

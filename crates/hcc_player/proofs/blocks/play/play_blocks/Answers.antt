@@ -1,4 +1,4 @@
-use Rattle.std.proofs.Common.{◌≡◌, map, string_bytes, subst}
+use Rattle.std.proofs.Common.{map, string_bytes}
 use Rattle.std.specs.List.{All}
 use Rattle.hcc_player.specs.PlayBlocks.{IsReport, WritesPart}
 use Rattle.hcc_player.proofs.ByteLemmas.{on_error}
@@ -12,6 +12,7 @@ returns-clause-part g c =
     let steady = All g.S.BlockSource.reliable c.args.sources.items in
     let whole = c.in_ok-text.ensures.whole in
     let bytes = string_bytes c.in_ok-report.report in
+    let out = c.in_ok-write_out.ensures.ok in
     let report : IsReport files options steady c.in_ok-text.text.items bytes =
     rw c.deref.ensures.value at c.in_ok-report.ensures.report in
     on_error c.flush.result _
@@ -20,6 +21,5 @@ returns-clause-part g c =
       bytes,
       whole.0,
       report,
-      flushed _ _ _ c.as_bytes.result.now bytes c.in_ok-write_out.ensures.ok c.as_bytes.ensures.value
-          c.flush.ensures.kept,
+      flushed _ _ _ c.as_bytes.result.now bytes out c.as_bytes.ensures.value c.flush.ensures.kept,
     ))

@@ -1,4 +1,4 @@
-use Rattle.std.proofs.Common.{◌≡◌, map, length, ap, ◌∙◌, arith}
+use Rattle.std.proofs.Common.{map, length, ap, ◌∙◌}
 use Rattle.std.specs.List.{All}
 use Rattle.hcc_block.specs.declared.tag.FilesTag.{FilesTag}
 use Rattle.hcc_player.proofs.Fine.{block_size}

@@ -1,4 +1,4 @@
-use Rattle.std.proofs.Common.{◌≡◌, map, ◌∙◌}
+use Rattle.std.proofs.Common.{map}
 use Rattle.std.specs.List.{All}
 use Rattle.hcc_player.specs.BlocksLine.{reads_in}
 use Rattle.hcc_player.proofs.Playing.{played_lines}

@@ -1,4 +1,4 @@
-use Rattle.std.proofs.Common.{◌+◌, arith, ap, ◌∙◌, drop, get_or, refl, sym, subst}
+use Rattle.std.proofs.Common.{◌+◌, arith, ap, ◌∙◌, get_or, refl, sym, subst}
 use Rattle.hcc_block.specs.Blocks.{block_of}
 use Rattle.hcc_player.specs.declared.blocks.line.BlockRead.{BlockRead}
 use Rattle.hcc_player.specs.Tally.{found_by, AddsAll}

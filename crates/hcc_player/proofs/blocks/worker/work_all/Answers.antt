@@ -1,5 +1,4 @@
 use Rattle.std.proofs.Common.{sym, subst, ◌∙◌, arith}
-use Rattle.std.proofs.lemmas.Result.{IfOk-weaker}
 use Rattle.hcc_player.specs.Work.{Ends}
 use Rattle.hcc_player.proofs.Places.{all_with, ok_both}
 use Rattle.hcc_player.proofs.blocks.worker.work_all.Goals as goal
