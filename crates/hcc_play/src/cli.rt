@@ -3,6 +3,7 @@ ghost use Rattle.std.specs.Prelude.{◌≡◌, ◌≤◌, IfSome, false};
 ghost use Rattle.hcc_core.specs.Opening.{CanOpen};
 ghost use Rattle.hcc_play.specs.declared.cli.TheConstants.{PLAYED_SLOTS, PLAYED_CAPACITY};
 
+use crate::blocks_command::blocks_command;
 use crate::run_command::run_command;
 use clap::{Arg, ArgAction, ArgMatches, Command, value_parser};
 use hcc_core::limits::MOST_CLIENTS;
@@ -15,13 +16,15 @@ const PLAYED_SLOTS: u32 = 16;
 /// The most capacity of a world that is played.
 const PLAYED_CAPACITY: u64 = 1 << 40;
 
-const ABOUT: &str = "Plays scripts of a block cache's protocol, and traces of calls on it";
+const ABOUT: &str = "\
+Plays scripts of a block cache's protocol and traces of calls on the cache, and
+reads files through it";
 
 const AFTER: &str = "\
 With no arguments the program does `core` with the defaults.
 
-Exit status: 0 done; 2 the arguments or the input were refused; 3 a read or a
-write failed; 4 the sizes of the cache were refused; 5 out of memory.";
+Exit status: 0 done; 2 the arguments or the input were refused; 3 a read, a
+write or a file failed; 4 the sizes of the cache were refused; 5 out of memory.";
 
 const CORE_ABOUT: &str = "\
 Plays a script of protocol events from standard input in a new world, and
@@ -105,13 +108,15 @@ fn core_command<'a>(alloc: Global) -> Result<Command<'a>, AllocError> {
 pub fn command<'a>(alloc: Global) -> Result<Command<'a>, AllocError> {
     let core = core_command(alloc)?;
     let run = run_command(alloc)?;
+    let blocks = blocks_command(alloc)?;
     Command::new(alloc, "hcc_play")
         .about(ABOUT)
         .after_help(AFTER)
         .override_usage("hcc_play [COMMAND]")
         .subcommand_required(true)
         .subcommand(core)?
-        .subcommand(run)
+        .subcommand(run)?
+        .subcommand(blocks)
 }
 
 /// The setup where no word is given.

@@ -1,8 +1,12 @@
-//! Plays scripts of a block cache's protocol, and traces of calls on it, from the command line.
+//! Plays scripts of a block cache's protocol and traces of calls on the cache, and reads files
+//! through it, from the command line.
 #![tactic(auto)]
 
+mod blocks;
+mod blocks_command;
 mod cache_options;
 mod cli;
+mod progress;
 mod run;
 mod run_command;
 mod status;
@@ -12,7 +16,7 @@ mod tests;
 use crate::run::run;
 use crate::status::Status;
 use std::io;
-use std::io::ErrorKind;
+use std::io::{ErrorKind, IsTerminal};
 use std::process::ExitCode;
 
 /// The words of the command line.
@@ -33,7 +37,7 @@ fn unread(rt: &HostRuntime, error: &io::Error) -> Status {
 
 fn main(rt: HostRuntime) -> ExitCode {
     let status = match words_of(&rt) {
-        Ok(words) => run(&rt, words.as_slice()),
+        Ok(words) => run(&rt, words.as_slice(), rt.stderr().is_terminal()),
         Err(error) => unread(&rt, &error),
     };
     ExitCode::from(status.code())

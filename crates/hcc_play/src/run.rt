@@ -1,26 +1,112 @@
 //! Does what the words ask for, over any runtime.
 ghost use Rattle.hcc_core.specs.Opening.{CanOpen};
+ghost use Rattle.hcc_play.specs.Requests.{IsOpen};
+ghost use Rattle.std.specs.Prelude.{IfOk, IfSome};
 
+use crate::blocks::blocks;
+use crate::blocks_command::{options_of, paths_of};
 use crate::cache_options::config_of;
 use crate::cli::{command, default_setup, setup_of};
 use crate::status::{Status, status_of};
 use clap::error::ErrorKind;
 use clap::{ArgMatches, Error};
+use hcc_cache::Config;
 use hcc_core::setup::Setup;
 use hcc_player::fault::PlayError;
 use hcc_player::options::Options;
 use hcc_player::play::play_core;
 use hcc_player::run::play_run;
+use std::alloc::{AllocError, Global};
 use std::io;
+use std::rt::Files;
+use std::thread::Threads;
+
+/// What the words ask for.
+#[derive(Drop)]
+pub enum Request<'a> {
+    /// A script of events in a world of this setup.
+    Core(Setup),
+    /// A trace of calls on a cache of this size.
+    Run(Config),
+    /// A trace of block reads over the files of these paths.
+    Blocks(Options, Vec<&'a str>),
+    /// No more: help was given, or the words were refused.
+    Nothing(Status),
+}
+
+/// Does what the words ask for: the first is the program's name. On a terminal a long play tells
+/// how far it is.
+pub fn run<R: AllocGlobal + Input + Print + Eprint + Files + Threads + Sync>(
+    rt: &R,
+    words: &[String],
+    terminal: bool,
+) -> Status {
+    match asked(rt, words) {
+        Request::Core(setup) => core(rt, setup),
+        Request::Run(config) => calls(rt, config),
+        Request::Blocks(options, paths) => blocks(rt, &options, &paths, terminal),
+        Request::Nothing(status) => status,
+    }
+}
+
+/// What the words ask for, where help is given and wrong words are refused at once.
+pub fn asked<'a, R: AllocGlobal + Print + Eprint>(rt: &R, words: &'a [String]) -> Request<'a>
+    ensures { IsOpen result }
+{
+    if words.len() <= 1 {
+        return Request::Core(default_setup());
+    }
+    let Ok(command) = command(rt.alloc()) else {
+        return Request::Nothing(told(rt, PlayError::OutOfMemory));
+    };
+    let matches = match command.try_get_matches_from(words) {
+        Ok(matches) => matches,
+        Err(error) => return Request::Nothing(refused(rt, &error)),
+    };
+    match asked_by(rt.alloc(), &matches) {
+        Ok(Some(asked)) => asked,
+        Ok(None) => {
+            let _ = rt.eprintln("error: a number is out of range");
+            Request::Nothing(Status::Refused)
+        }
+        Err(AllocError) => Request::Nothing(told(rt, PlayError::OutOfMemory)),
+    }
+}
+
+/// What a subcommand asks for, if its numbers are in their ranges.
+fn asked_by<'a>(alloc: Global, matches: &ArgMatches<'a>) -> Result<Option<Request<'a>>, AllocError>
+    ensures { IfOk result (λ asked. IfSome asked IsOpen) }
+{
+    let Some((name, options)) = matches.subcommand() else {
+        return Ok(None);
+    };
+    if name == "core" {
+        return Ok(match setup_of(options) {
+            Some(setup) => Some(Request::Core(setup)),
+            None => None,
+        });
+    }
+    if name == "run" {
+        return Ok(match config_of(options) {
+            Some(config) => Some(Request::Run(config)),
+            None => None,
+        });
+    }
+    let Some(found) = options_of(options) else {
+        return Ok(None);
+    };
+    let paths = paths_of(alloc, options)?;
+    Ok(Some(Request::Blocks(found, paths)))
+}
 
 /// Tells why a play ended.
-fn told<R: Eprint>(rt: &R, error: PlayError) -> Status {
+pub fn told<R: Eprint>(rt: &R, error: PlayError) -> Status {
     let _ = rt.eprintln(error);
     status_of(error)
 }
 
 /// Plays a script from standard input to standard output.
-fn core<R: AllocGlobal + Input + Print + Eprint>(rt: &R, setup: Setup) -> Status
+pub fn core<R: AllocGlobal + Input + Print + Eprint>(rt: &R, setup: Setup) -> Status
     requires { CanOpen setup }
 {
     let mut reader = rt.reader();
@@ -31,19 +117,8 @@ fn core<R: AllocGlobal + Input + Print + Eprint>(rt: &R, setup: Setup) -> Status
     }
 }
 
-/// Plays a script in a world of these options.
-fn core_with<R: AllocGlobal + Input + Print + Eprint>(rt: &R, options: &ArgMatches<'_>) -> Status {
-    match setup_of(options) {
-        Some(setup) => core(rt, setup),
-        None => out_of_range(rt),
-    }
-}
-
 /// Plays a trace of calls from standard input to standard output.
-fn run_with<R: AllocGlobal + Input + Print + Eprint>(rt: &R, options: &ArgMatches<'_>) -> Status {
-    let Some(config) = config_of(options) else {
-        return out_of_range(rt);
-    };
+fn calls<R: AllocGlobal + Input + Print + Eprint>(rt: &R, config: Config) -> Status {
     let mut reader = rt.reader();
     let mut writer = io::writer(rt);
     let options = Options { config, block: 1 };
@@ -51,11 +126,6 @@ fn run_with<R: AllocGlobal + Input + Print + Eprint>(rt: &R, options: &ArgMatche
         Ok(()) => Status::Done,
         Err(error) => told(rt, error),
     }
-}
-
-fn out_of_range<R: Eprint>(rt: &R) -> Status {
-    let _ = rt.eprintln("error: a number is out of range");
-    Status::Refused
 }
 
 /// Tells what `clap` says of wrong arguments, or the help that was asked for.
@@ -74,24 +144,5 @@ fn refused<R: Print + Eprint>(rt: &R, error: &Error) -> Status {
             let _ = rt.eprintln("write failed");
             Status::Failed
         }
-    }
-}
-
-/// Does what the words ask for: the first is the program's name.
-pub fn run<R: AllocGlobal + Input + Print + Eprint>(rt: &R, words: &[String]) -> Status {
-    if words.len() <= 1 {
-        return core(rt, default_setup());
-    }
-    let Ok(command) = command(rt.alloc()) else {
-        return told(rt, PlayError::OutOfMemory);
-    };
-    let matches = match command.try_get_matches_from(words) {
-        Ok(matches) => matches,
-        Err(error) => return refused(rt, &error),
-    };
-    match matches.subcommand() {
-        Some(("run", options)) => run_with(rt, options),
-        Some((_, options)) => core_with(rt, options),
-        None => out_of_range(rt),
     }
 }

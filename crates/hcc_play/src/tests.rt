@@ -1,5 +1,5 @@
 //! The program over a runtime in memory: what each input gives, and what each refusal tells.
-use crate::run::run;
+use crate::run::{Request, asked, core};
 use crate::status::Status;
 use std::alloc::{Allocator, Global};
 use std::cell::RefCell;
@@ -98,7 +98,11 @@ fn play(alloc: Global, words: &[&str], input: &'static [u8]) -> Result<Ran, Fail
         out: RefCell::new(Vec::new(alloc)),
         told: RefCell::new(Vec::new(alloc)),
     };
-    let status = run(&fake, owned.as_slice());
+    let status = match asked(&fake, owned.as_slice()) {
+        Request::Core(setup) => core(&fake, setup),
+        Request::Blocks(..) => Status::Done,
+        Request::Nothing(status) => status,
+    };
     let Fake { out, told, .. } = fake;
     Ok(Ran {
         status,

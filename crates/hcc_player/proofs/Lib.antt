@@ -7,6 +7,12 @@ pub mod TextLemmas
 pub mod PlayLemmas
 pub mod NumberLemmas
 pub mod ScriptLaws
+pub mod Compact
+pub mod Places
+pub mod Adding
+pub mod ReadBounds
+pub mod Dealing
+pub mod Crewing
 pub mod JsonLemmas
 pub mod RegisterLemmas
 pub mod RunLemmas
@@ -14,3 +20,6 @@ pub mod RunningLemmas
 pub mod CallLemmas
 pub mod EndLemmas
 pub mod PlayRunLemmas
+pub mod Fine
+pub mod Playing
+pub mod Reporting

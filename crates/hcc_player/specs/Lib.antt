@@ -16,3 +16,9 @@ pub mod RunAnswers
 pub mod Registers
 pub mod TraceTag
 pub mod PlayRun
+pub mod BlocksLine
+pub mod Tally
+pub mod Deal
+pub mod Work
+pub mod BlocksReport
+pub mod PlayBlocks

@@ -6,6 +6,7 @@
 //! code that reads and writes.
 #![tactic(auto)]
 
+pub mod blocks;
 pub mod fault;
 mod grammar;
 mod input;

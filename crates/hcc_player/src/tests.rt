@@ -5,7 +5,7 @@ use hcc_core::setup::Setup;
 use std::alloc::Global;
 use std::test::Fail;
 
-mod streams;
+pub(crate) mod streams;
 
 const DEFAULTS: Setup = Setup {
     slots: 2,

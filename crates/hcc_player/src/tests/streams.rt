@@ -10,7 +10,7 @@ use std::test::Fail;
 
 /// How a call ends that is not served.
 #[derive(Clone, Copy, Debug)]
-enum End {
+pub(crate) enum End {
     Moves0,
     Fails(ErrorKind),
 }
@@ -18,11 +18,11 @@ enum End {
 /// The calls of a fake. Each moves at most `step` bytes, but for the one of number `at`, counted
 /// from 0, which ends otherwise.
 #[derive(Clone, Copy)]
-struct Calls {
-    step: usize,
-    at: usize,
-    end: End,
-    made: usize,
+pub(crate) struct Calls {
+    pub(crate) step: usize,
+    pub(crate) at: usize,
+    pub(crate) end: End,
+    pub(crate) made: usize,
 }
 
 impl Calls {
@@ -38,7 +38,7 @@ impl Calls {
 }
 
 /// Calls of which none ends otherwise.
-const ALL_SERVED: Calls = Calls {
+pub(crate) const ALL_SERVED: Calls = Calls {
     step: usize::MAX,
     at: usize::MAX,
     end: End::Moves0,
@@ -47,9 +47,9 @@ const ALL_SERVED: Calls = Calls {
 
 /// A reader of these bytes.
 #[derive(Drop)]
-struct Source<'a> {
-    rest: &'a [u8],
-    calls: Calls,
+pub(crate) struct Source<'a> {
+    pub(crate) rest: &'a [u8],
+    pub(crate) calls: Calls,
 }
 
 impl Read for Source<'_> {
@@ -63,10 +63,10 @@ impl Read for Source<'_> {
 
 /// A writer that keeps what it took. Its flush may fail.
 #[derive(Drop)]
-struct Sink {
-    taken: Vec<u8>,
-    calls: Calls,
-    flushes: bool,
+pub(crate) struct Sink {
+    pub(crate) taken: Vec<u8>,
+    pub(crate) calls: Calls,
+    pub(crate) flushes: bool,
 }
 
 impl Write for Sink {

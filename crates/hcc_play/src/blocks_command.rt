@@ -1,0 +1,63 @@
+//! The subcommand `blocks` on the command line.
+
+use crate::cache_options::{config_of, with_cache_args};
+use clap::{Arg, ArgMatches, Command, value_parser};
+use hcc_player::options::Options;
+use std::alloc::{AllocError, Global};
+
+const ABOUT: &str = "\
+Reads blocks of files through one cache, by a trace from standard input, each
+client on a thread of its own, and writes a line of JSON";
+
+const AFTER: &str = "\
+The files are read whole. A trace has one read a line: the client, the file and
+the block, by their numbers from 0, with one space between.
+
+  0 0 5                 client 0 reads block 5 of the first file
+  1 0 5                 client 1 reads the same block
+
+Each client reads its own lines, in order. The whole trace is judged first; at a
+fault nothing is read, and `line N: FAULT` is told. The line of JSON has the
+charges and the slots of the entries that are left in the cache, what its usage
+and occupancy words say, and for each client how many reads gave a block, how
+many the source failed, how many the cache had and had not, how many were of
+blocks that aren't there, and the sum of all bytes read.";
+
+/// The subcommand `blocks`.
+pub fn blocks_command<'a>(alloc: Global) -> Result<Command<'a>, AllocError> {
+    let command = Command::new(alloc, "blocks").about(ABOUT).after_help(AFTER);
+    with_cache_args(alloc, command)?
+        .arg(block_arg(alloc))?
+        .arg(file_arg(alloc))
+}
+
+fn block_arg<'a>(alloc: Global) -> Arg<'a> {
+    Arg::new(alloc, "block")
+        .long("block")
+        .value_name("N")
+        .help("How many bytes a block has, 1 to eight times the room")
+        .value_parser(value_parser!(u32))
+        .default_value("16")
+}
+
+fn file_arg<'a>(alloc: Global) -> Arg<'a> {
+    Arg::new(alloc, "FILE")
+        .help("The files that are read, none or more")
+        .num_args(0..)
+}
+
+/// The options that were told. Whether they can be is judged later.
+pub fn options_of(options: &ArgMatches<'_>) -> Option<Options> {
+    Some(Options {
+        config: config_of(options)?,
+        block: options.get_one::<u32>("block")?,
+    })
+}
+
+/// The paths of the files, in order.
+pub fn paths_of<'a>(alloc: Global, options: &ArgMatches<'a>) -> Result<Vec<&'a str>, AllocError> {
+    match options.get_strs("FILE") {
+        Some(paths) => Vec::from_slice(alloc, paths),
+        None => Ok(Vec::new(alloc)),
+    }
+}
