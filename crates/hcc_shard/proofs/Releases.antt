@@ -49,8 +49,8 @@ module _ {T : Type 0} where
             given.is tried
 
     -- a release that freed an entry, and settled what it freed
-    pub gives_back_and_frees : (left charge : ℕ) (before later : Effort) (old mid end new : SeatOf T)
-        → IsLeft address slot 1 name used left old mid
+    pub gives_back_and_frees : (left charge : ℕ) (before later : Effort)
+        (old mid end new : SeatOf T) → IsLeft address slot 1 name used left old mid
         → TriedWhereDue address left (is_due erase left) (Some charge) before later mid end
         → Adds end new
         → GivesBack address used erase true old new
