@@ -126,18 +126,20 @@ module _ {T : Type 0} (fits : T → Key → List ℕ → Type 0) (cache : Cache 
       × AreFilled fits cache (keys_by keys (calls.Pin r key charge priority value)
       (placed_answer told)) new (slice_set handles r (Some handle))
   unfolding IsRight keys_by
-  pin_goes keys old new handles r k t q v handle inserted.Placed known i right empty within filled = (
-    empty_key keys old handles r empty filled,
-    more_filled fits cache keys old new handles r handle _ known i.gains.free i.gains.stands
-        i.gains.others i.gains.count right empty within filled,
-  )
+  pin_goes keys old new handles r k t q v handle inserted.Placed known i right empty within
+      filled = (
+        empty_key keys old handles r empty filled,
+        more_filled fits cache keys old new handles r handle _ known i.gains.free i.gains.stands
+            i.gains.others i.gains.count right empty within filled,
+      )
   pin_goes keys old new handles r k t q v handle inserted.Standalone known i right empty within
       filled = (
         empty_key keys old handles r empty filled,
         more_filled fits cache keys old new handles r handle _ known i.gains.free i.gains.stands
             i.gains.others i.gains.count right empty within filled,
       )
-  pin_goes keys old new handles r k t q v handle inserted.Dropped known i right empty within filled =
+  pin_goes keys old new handles r k t q v handle inserted.Dropped known i right empty within
+      filled =
       absurd i
 
   pub pin_refused : (keys : Keys) (old new : Client T) (handles : List (Option Handle))

@@ -57,7 +57,8 @@ released Puts keys r (answers.Word w d) right before q within = absurd right
 released Puts keys r (answers.Stats s) right before q within = absurd right
 
 -- the list with one member set
-pub at_member : {A : Type 0} (xs : List A) (n : ℕ) (x y : A) → slice_get (slice_set xs n x) n ≡ Some y
+pub at_member : {A : Type 0} (xs : List A) (n : ℕ) (x y : A)
+    → slice_get (slice_set xs n x) n ≡ Some y
     → y ≡ x
 at_member [] zero x y e = cc
 at_member [] (suc n) x y e = cc

@@ -8,6 +8,7 @@ pub mod PlayLemmas
 pub mod NumberLemmas
 pub mod ScriptLaws
 pub mod JsonLemmas
+pub mod Grown
 pub mod RegisterLemmas
 pub mod RunLemmas
 pub mod RunningLemmas

@@ -26,8 +26,8 @@ mod playing;
 mod registers;
 mod tag;
 
-/// Plays the trace of calls that a reader has left on a new cache, in order on one thread: writes one
-/// line for each line of the trace, and at the end, once all handles that are still held were
+/// Plays the trace of calls that a reader has left on a new cache, in order on one thread: writes
+/// one line for each line of the trace, and at the end, once all handles that are still held were
 /// released and the cache is closed, its sums as a line of JSON.
 ///
 /// Sizes that [`hcc_cache::Config::check`] refuses are refused before anything is read; the block
