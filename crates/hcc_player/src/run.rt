@@ -1,10 +1,9 @@
 //! Plays traces of calls on a cache, in order on one thread.
-ghost use Rattle.std.specs.Prelude.{◌≡◌, ◌++◌, ◌+◌, ◌<◌, ◌⊎◌, ℕ, List, Err, IfOk, OnOk, OnErr, IfErr};
-ghost use Rattle.std.specs.Prelude.{IfSome, length, string_bytes};
-ghost use Rattle.std.specs.Io.KnownBytes.{Keeps};
+ghost use Rattle.std.specs.Prelude.{◌≡◌, ◌++◌, ◌+◌, ◌<◌, ◌⊎◌, Err, OnOk, OnErr, IfErr};
+ghost use Rattle.std.specs.Prelude.{IfSome};
 ghost use Rattle.hcc_player.specs.Bytes.{TakesAtMost};
 ghost use Rattle.hcc_player.specs.Options.{config_check};
-ghost use Rattle.hcc_player.specs.Play.{FailsToPlay, WritesLate};
+ghost use Rattle.hcc_player.specs.Play.{WritesLate};
 ghost use Rattle.hcc_player.specs.PlayRun.{EndsRun, SayCalls, Writes, WritesFront};
 
 use crate::fault::PlayError;

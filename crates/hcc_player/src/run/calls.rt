@@ -4,7 +4,7 @@ ghost use Rattle.hcc_rule.specs.declared.key.Key.{Key};
 ghost use Rattle.hcc_cache.specs.declared.handle.Handle.{Handle};
 ghost use Rattle.hcc_cache.specs.Clients.{held_by};
 ghost use Rattle.hcc_cache.specs.Known.{Knows};
-ghost use Rattle.hcc_player.specs.Registers.{at, AreFilled, CanPlay, Goes};
+ghost use Rattle.hcc_player.specs.Registers.{CanPlay, Goes};
 ghost use Rattle.hcc_player.specs.RunAnswers.{placed_answer, refusal_of, PutsIn};
 ghost use Rattle.hcc_player.specs.RunLine.{IsSoundCall};
 

@@ -1,5 +1,7 @@
 //! Readers and writers that give or take little, are interrupted or fail at one of their calls:
 //! what a play answers then, and what is out.
+ghost use Rattle.std.specs.Prelude.{◌<◌};
+
 use super::{DEFAULTS, FIRST_OUTPUT, FIRST_SCRIPT};
 use crate::fault::PlayError;
 use crate::options::Options;
@@ -190,7 +192,9 @@ fn play(
 }
 
 /// Plays a text with one read that ends so, at each of them: what comes of it.
-fn reads_end(rt: &impl Abort, alloc: Global, which: Which, kind: ErrorKind, step: usize) {
+fn reads_end(rt: &impl Abort, alloc: Global, which: Which, kind: ErrorKind, step: usize)
+    requires { 0 < step }
+{
     let text = which.text();
     // The last read finds the end.
     let whole = text.len().div_ceil(step).saturating_add(1);
@@ -231,7 +235,9 @@ fn each_read_may_end_otherwise(rt: HostRuntime) -> Result<(), Fail> {
 }
 
 /// Plays a text with one write that ends so, at each of them: what comes of it.
-fn writes_end(rt: &impl Abort, alloc: Global, which: Which, end: End, step: usize) {
+fn writes_end(rt: &impl Abort, alloc: Global, which: Which, end: End, step: usize)
+    requires { 0 < step }
+{
     let whole = which.output();
     let writes = whole.len().div_ceil(step);
     for at in 0..writes {
