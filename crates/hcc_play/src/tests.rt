@@ -167,7 +167,7 @@ fn refuses_arguments(rt: HostRuntime) -> Result<(), Fail> {
         &["core", "--capacity", "1099511627777"],
         &["core", "--capacity", "many"],
         &["core", "script"],
-        &["run"],
+        &["run", "--block", "16"],
         &["--strict"],
     ];
     for words in cases {

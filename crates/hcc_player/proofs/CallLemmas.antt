@@ -1,5 +1,5 @@
 -- What the calls of a trace leave of a client and its registers.
-use Rattle.std.proofs.Common.{◌≡◌, ◌≢◌, ℕ, ◌+◌, ◌<◌, Bool, true, false, List, [], ◌++◌, Option, Some}
+use Rattle.std.proofs.Common.{◌≡◌, ◌≢◌, ℕ, ◌+◌, ◌<◌, true, false, List, ◌++◌, Option, Some}
 use Rattle.std.proofs.Common.{None, Result, Ok, Err, IsSome, length, refl, sym, ap, ◌∙◌, subst}
 use Rattle.std.specs.Prelude.{is_some, slice_set}
 use Rattle.hcc_rule.specs.declared.key.Key.{Key}
@@ -14,15 +14,15 @@ use Rattle.hcc_cache.specs.declared.holding.Hold.{Hold}
 use Rattle.hcc_cache.specs.declared.inserting.Inserted.{Inserted}
 use Rattle.hcc_cache.specs.declared.inserting.Inserted.TheVariants as inserted
 use Rattle.hcc_cache.specs.declared.priority.Priority.{Priority}
-use Rattle.hcc_cache.specs.Calls.{Finds, Gains, Loses, Rerefs}
-use Rattle.hcc_cache.specs.Clients.{Held, held_by, held_of, hold_of, Holds}
+use Rattle.hcc_cache.specs.Calls.{Finds, Loses, Rerefs}
+use Rattle.hcc_cache.specs.Clients.{Held, held_of, hold_of, Holds}
 use Rattle.hcc_cache.specs.Inserts.{Inserts, InsertsWith, RefusesWith}
 use Rattle.hcc_cache.specs.Known.{Knows}
 use Rattle.hcc_player.specs.declared.run.answer.Answer.TheVariants as answers
 use Rattle.hcc_player.specs.declared.run.call.Call.TheVariants as calls
 use Rattle.hcc_player.specs.Registers.{at, AreFilled, IsFilled, IsOn}
 use Rattle.hcc_player.specs.RunAnswers.{Keys, with_key, keys_by, placed_answer, refusal_of, IsRight}
-use Rattle.hcc_player.proofs.RegisterLemmas.{less_filled, more_filled, none_empty, on_register}
+use Rattle.hcc_player.proofs.RegisterLemmas.{less_filled, more_filled, on_register}
 use Rattle.hcc_player.proofs.RegisterLemmas.{same_filled}
 
 module _ {T : Type 0} (fits : T → Key → List ℕ → Type 0) (cache : Cache T) where
@@ -126,18 +126,20 @@ module _ {T : Type 0} (fits : T → Key → List ℕ → Type 0) (cache : Cache 
       × AreFilled fits cache (keys_by keys (calls.Pin r key charge priority value)
       (placed_answer told)) new (slice_set handles r (Some handle))
   unfolding IsRight keys_by
-  pin_goes keys old new handles r k t q v handle inserted.Placed known i right empty within filled = (
-    empty_key keys old handles r empty filled,
-    more_filled fits cache keys old new handles r handle _ known i.gains.free i.gains.stands
-        i.gains.others i.gains.count right empty within filled,
-  )
+  pin_goes keys old new handles r k t q v handle inserted.Placed known i right empty within
+      filled = (
+        empty_key keys old handles r empty filled,
+        more_filled fits cache keys old new handles r handle _ known i.gains.free i.gains.stands
+            i.gains.others i.gains.count right empty within filled,
+      )
   pin_goes keys old new handles r k t q v handle inserted.Standalone known i right empty within
       filled = (
         empty_key keys old handles r empty filled,
         more_filled fits cache keys old new handles r handle _ known i.gains.free i.gains.stands
             i.gains.others i.gains.count right empty within filled,
       )
-  pin_goes keys old new handles r k t q v handle inserted.Dropped known i right empty within filled =
+  pin_goes keys old new handles r k t q v handle inserted.Dropped known i right empty within
+      filled =
       absurd i
 
   pub pin_refused : (keys : Keys) (old new : Client T) (handles : List (Option Handle))

@@ -1,6 +1,6 @@
 -- The end of a trace: all that is held is released, and the cache is closed.
 use Rattle.std.proofs.Common.{◌≡◌, ◌≢◌, ℕ, zero, suc, ◌+◌, ◌<◌, ◌≤◌, ◌==◌, inl, inr, true, false}
-use Rattle.std.proofs.Common.{List, [], ◌∷◌, Option, Some, None, length, refl, sym, ap, ◌∙◌, subst}
+use Rattle.std.proofs.Common.{List, [], ◌∷◌, Option, Some, None, length, refl, sym, ap, ◌∙◌}
 use Rattle.std.proofs.Common.{arith, rules, tests}
 use Rattle.std.specs.Prelude.{slice_get, slice_set}
 use Rattle.std.proofs.lemmas.Bool.{cases_eq}
@@ -16,7 +16,7 @@ use Rattle.hcc_player.specs.declared.run.answer.Answer.{Answer}
 use Rattle.hcc_player.specs.declared.run.answer.Answer.TheVariants as answers
 use Rattle.hcc_player.specs.declared.run.call.Call.TheVariants as calls
 use Rattle.hcc_player.specs.declared.run.registers.Registers.{Registers}
-use Rattle.hcc_player.specs.Registers.{at, how_many, AreFilled, CanPlay}
+use Rattle.hcc_player.specs.Registers.{at, AreFilled, CanPlay}
 use Rattle.hcc_player.specs.RunAnswers.{Keys, with_key, keys_by, IsRight}
 use Rattle.hcc_player.proofs.RegisterLemmas.{all_empty, none_empty}
 
@@ -57,7 +57,8 @@ released Puts keys r (answers.Word w d) right before q within = absurd right
 released Puts keys r (answers.Stats s) right before q within = absurd right
 
 -- the list with one member set
-pub at_member : {A : Type 0} (xs : List A) (n : ℕ) (x y : A) → slice_get (slice_set xs n x) n ≡ Some y
+pub at_member : {A : Type 0} (xs : List A) (n : ℕ) (x y : A)
+    → slice_get (slice_set xs n x) n ≡ Some y
     → y ≡ x
 at_member [] zero x y e = cc
 at_member [] (suc n) x y e = cc

@@ -14,6 +14,7 @@ pub mod ReadBounds
 pub mod Dealing
 pub mod Crewing
 pub mod JsonLemmas
+pub mod Grown
 pub mod RegisterLemmas
 pub mod RunLemmas
 pub mod RunningLemmas

@@ -1,13 +1,11 @@
 -- A whole play of a trace: what is written for its text.
 use Rattle.std.proofs.Common.{◌≡◌, ◌⊎◌, inl, inr, ℕ, zero, suc, ◌≤◌, List, [], ◌∷◌, ◌++◌, Option, Some}
-use Rattle.std.proofs.Common.{None, Result, Ok, Err, IsOk, IfSome, length, refl, sym, ap, ◌∙◌, subst}
-use Rattle.std.specs.Prelude.{slice_get}
+use Rattle.std.proofs.Common.{None, Result, Ok, Err, IsOk, IfSome, length, refl, sym, ◌∙◌, subst}
 use Rattle.std.specs.Io.KnownBytes.{Appends, Keeps}
 use Rattle.hcc_rule.specs.declared.key.Key.{Key}
 use Rattle.hcc_cache.specs.declared.cache.Cache.{Cache}
 use Rattle.hcc_cache.specs.declared.client.Client.{Client}
 use Rattle.hcc_cache.specs.declared.config.Config.{Config}
-use Rattle.hcc_cache.specs.declared.handle.Handle.{Handle}
 use Rattle.hcc_cache.specs.Opened.{IsOpened}
 use Rattle.hcc_player.specs.declared.limits.TheConstants.{MOST_INPUT}
 use Rattle.hcc_player.specs.declared.fault.PlayError.{PlayError}
@@ -17,7 +15,7 @@ use Rattle.hcc_player.specs.declared.run.call.RunLine.{RunLine}
 use Rattle.hcc_player.specs.declared.run.registers.Registers.{Registers}
 use Rattle.hcc_player.specs.declared.run.tag.TraceTag.{TraceTag}
 use Rattle.hcc_player.specs.declared.sums.Sums.{Sums}
-use Rattle.hcc_player.specs.Bytes.{AppendsPart, Leaves}
+use Rattle.hcc_player.specs.Bytes.{AppendsPart}
 use Rattle.hcc_player.specs.Input.{IsWhole}
 use Rattle.hcc_player.specs.Judged.{FailsToJudge, IsAtFault}
 use Rattle.hcc_player.specs.Options.{config_check}

@@ -2,7 +2,7 @@
 use Rattle.std.proofs.Common.{◌≡◌, ◌≢◌, ℕ, zero, suc, ◌+◌, ◌<◌, ◌==◌, inl, inr, true, false, List}
 use Rattle.std.proofs.Common.{[], ◌∷◌, ◌++◌, Option, Some, None, length, refl, sym, ap, ◌∙◌, subst}
 use Rattle.std.proofs.Common.{arith, rules, tests}
-use Rattle.std.specs.Prelude.{slice_get, slice_set}
+use Rattle.std.specs.Prelude.{slice_set}
 use Rattle.std.proofs.lemmas.Bool.{cases_eq}
 use Rattle.hcc_rule.specs.declared.key.Key.{Key}
 use Rattle.hcc_cache.specs.declared.cache.Cache.{Cache}
@@ -57,18 +57,6 @@ one_less (None ∷ ys) zero h full = cc
 one_less (Some k ∷ ys) zero h full = omega arith
 one_less (None ∷ ys) (suc r) h full = one_less ys r h full
 one_less (Some k ∷ ys) (suc r) h full = let rest = one_less ys r h full in omega arith
-
--- an empty register more
-pub at_grown : (xs : List (Option Handle)) (r : ℕ) → at (xs ++ None ∷ []) r ≡ at xs r
-at_grown [] zero = refl
-at_grown [] (suc r) = refl
-at_grown (y ∷ ys) zero = refl
-at_grown (y ∷ ys) (suc r) = at_grown ys r
-
-pub count_grown : (xs : List (Option Handle)) → how_many (xs ++ None ∷ []) ≡ how_many xs
-count_grown [] = refl
-count_grown (None ∷ ys) = count_grown ys
-count_grown (Some k ∷ ys) = ap (λ n. 1 + n) (count_grown ys)
 
 -- no register holds a handle
 pub all_empty : (xs : List (Option Handle)) → ((r : ℕ) → r < length xs → at xs r ≡ None)

@@ -1,9 +1,8 @@
 -- A trace that is played line by line: the answers so far are right, and can be followed by right
 -- answers to the lines that are left.
-use Rattle.std.proofs.Common.{◌≡◌, ℕ, zero, suc, ◌+◌, ◌==◌, inl, inr, true, false, Bool, List, []}
-use Rattle.std.proofs.Common.{◌∷◌, ◌++◌, Option, Some, None, length, refl, sym, ap, ◌∙◌, subst}
-use Rattle.std.proofs.Common.{append_assoc, append-nil, arith, rules, tests}
-use Rattle.std.specs.Prelude.{slice_get}
+use Rattle.std.proofs.Common.{◌≡◌, ℕ, ◌+◌, ◌==◌, inl, inr, true, false, Bool, List, []}
+use Rattle.std.proofs.Common.{◌∷◌, ◌++◌, Option, Some, None, refl, sym, ap, ◌∙◌, subst}
+use Rattle.std.proofs.Common.{append_assoc, rules, tests}
 use Rattle.std.proofs.lemmas.Bool.{cases_Bool, cases_eq}
 use Rattle.hcc_rule.specs.declared.key.Key.{Key}
 use Rattle.hcc_cache.specs.declared.errors.InsertError.TheVariants as errors
@@ -14,7 +13,7 @@ use Rattle.hcc_player.specs.declared.run.call.Call.TheVariants as calls
 use Rattle.hcc_player.specs.declared.run.call.RunLine.{RunLine}
 use Rattle.hcc_player.specs.RunAnswers.{Keys, AllKeys, with_key, with_key_if, fills, keys_by}
 use Rattle.hcc_player.specs.RunAnswers.{keys_after, keys_at, no_keys, IsRight, AreRight, PutsIn}
-use Rattle.hcc_player.specs.RunAnswers.{Inserts, answer_line, answers_text}
+use Rattle.hcc_player.specs.RunAnswers.{answer_line, answers_text}
 
 -- Texts.
 

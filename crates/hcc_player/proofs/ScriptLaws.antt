@@ -143,4 +143,5 @@ module _ {A : Type 0} (says : List ℕ → Result A TextFault) where
   all_say text fine =
       let first = some_line text in
       let read = said_of (script_from says 1 (lines_of text)) fine in
-      rw first.2 (say_from 1 first.0 first.1 read.0 (ap (script_from says 1) (sym first.2) ∙ read.1))
+      rw first.2 (say_from 1 first.0 first.1 read.0
+      (ap (script_from says 1) (sym first.2) ∙ read.1))

@@ -147,7 +147,8 @@ value_join most word bytes (Ok bs) some here e =
 value_join most word bytes (Err fault) some here e = cc
 
 -- what was read is the value that the word writes
-pub reads_text : (most : ℕ) (word bytes : List ℕ) → value_of most word ≡ Ok bytes → word ≡ value_text bytes
+pub reads_text : (most : ℕ) (word bytes : List ℕ) → value_of most word ≡ Ok bytes
+    → word ≡ value_text bytes
 unfolding value_of value_text
 reads_text most word bytes e =
     elim (cases_Bool (bytes_eq word (codes "-"))) [
@@ -187,22 +188,26 @@ takes_text most word (b ∷ bs) small few e =
 abbrev pub Answers : {X : Type 0} → (X → List ℕ) → (most : ℕ) → List ℕ → Result X LineError
     → Type 0
 Answers items most word result =
-    MatchResult result (λ x. value_of most word ≡ Ok (items x)) (λ error. Fails error (value_of most word))
+    MatchResult result (λ x. value_of most word ≡ Ok (items x))
+    (λ error. Fails error (value_of most word))
 
 -- it answers a value whose text the word is
-pub read_law : {X : Type 0} (items : X → List ℕ) (most : ℕ) (word : List ℕ) (result : Result X LineError)
+pub read_law : {X : Type 0} (items : X → List ℕ) (most : ℕ) (word : List ℕ)
+    (result : Result X LineError)
     → Answers items most word result → IfOk result (λ x. word ≡ value_text (items x))
 read_law items most word (Ok x) answered = reads_text most word (items x) answered
 read_law items most word (Err error) answered = tt
 
 -- where the word is the text of a value, it answers that value, unless memory was refused
-pub takes_law : {X : Type 0} (items : X → List ℕ) (most : ℕ) (word : List ℕ) (result : Result X LineError)
+pub takes_law : {X : Type 0} (items : X → List ℕ) (most : ℕ) (word : List ℕ)
+    (result : Result X LineError)
     → Answers items most word result → (bytes : List ℕ) → All (λ b. b < 256) bytes
     → length bytes ≤ most
     → word ≡ value_text bytes
     → MatchResult result (λ x. items x ≡ bytes) (λ error. error ≡ errors.OutOfMemory)
 takes_law items most word (Ok x) answered bytes small few text =
-    let same : Ok (items x) ≡ Ok bytes = sym answered ∙ takes_text most word bytes small few text in cc
+    let same : Ok (items x) ≡ Ok bytes =
+    sym answered ∙ takes_text most word bytes small few text in cc
 takes_law items most word (Err errors.OutOfMemory) answered bytes small few text = refl
 takes_law items most word (Err (errors.Fault fault)) answered bytes small few text =
     let no : Err fault ≡ Ok bytes = sym answered ∙ takes_text most word bytes small few text in cc

@@ -41,7 +41,7 @@ number_below end word = do
   if nat_lt number end then Ok number else Err OutOfRange
 
 -- a number below 2^32
-unfoldable pub small_number_of : List ℕ → Result ℕ TextFault
+abbrev pub small_number_of : List ℕ → Result ℕ TextFault
 small_number_of word = number_below (2 ^ 32) word
 
 -- a number from 1 to 2^32 - 1

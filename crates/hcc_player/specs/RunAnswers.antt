@@ -31,7 +31,7 @@ Keys = ℕ → Option Key
 abbrev pub with_key : Keys → ℕ → Option Key → Keys
 with_key keys register key r = if r == register then key else keys r
 
--- whether an answer says that the register to be filled was filled, or the one to be emptied emptied
+-- whether an answer says that a register was filled, or that one was emptied
 abbrev pub fills : Answer → Bool
 fills answers.Placed = true
 fills answers.Standalone = true
@@ -73,10 +73,10 @@ IsEmpty register = register ≡ None
 
 -- Of a relation of the keys and the values that the trace inserts under them.
 module _ (Puts : Key → List ℕ → Type 0) where
-  -- The answers that a call may have, where the registers of its client were filled so. `busy` comes
-  -- exactly where the register to be filled is full, and else `none` exactly where the register to
-  -- be read is empty. A hit is on a key under which the trace inserts something. A value is one that
-  -- it inserts under the key that the register was filled for.
+  -- The answers that a call may have, where the registers of its client were filled so. `busy`
+  -- comes exactly where the register to be filled is full, and else `none` exactly where the
+  -- register to be read is empty. A hit is on a key under which the trace inserts something. A
+  -- value is one that it inserts under the key that the register was filled for.
   unfoldable pub IsRight : Keys → Call → Answer → Type 0
   IsRight keys (calls.Insert key charge priority value) answers.Placed = Unit {0}
   IsRight keys (calls.Insert key charge priority value) answers.Dropped = Unit {0}

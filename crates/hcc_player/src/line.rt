@@ -7,7 +7,6 @@ ghost use Rattle.hcc_player.specs.Line.{entry_event, place_event, charge_event, 
 ghost use Rattle.hcc_player.specs.Line.{show_line, acquire_line, free_line, charge_line};
 ghost use Rattle.hcc_player.specs.Line.{stand_line};
 ghost use Rattle.hcc_player.specs.Line.{client_in, client_and_slot, client_and_name};
-ghost use Rattle.hcc_player.specs.Words.{word_at};
 
 use crate::fault::{LineError, TextFault};
 use crate::grammar::Grammar;

@@ -66,7 +66,7 @@ pub fn number_below(end: u32, word: &[u8]) -> Result<u32, TextFault>
 }
 
 /// Reads a number below `2^32`, as of a client or a slot.
-#[tactic(auto, unfolding(crate::specs::Number::small_number_of, crate::specs::Number::number_below))]
+#[tactic(auto, unfolding(crate::specs::Number::number_below))]
 pub fn small_number(word: &[u8]) -> Result<u32, TextFault>
     ensures { result ≡ small_number_of word.now }
 {

@@ -1,10 +1,9 @@
 //! Plays traces of calls on a cache, in order on one thread.
-ghost use Rattle.std.specs.Prelude.{◌≡◌, ◌++◌, ◌+◌, ◌<◌, ◌⊎◌, ℕ, List, Err, IfOk, OnOk, OnErr, IfErr};
-ghost use Rattle.std.specs.Prelude.{IfSome, length, string_bytes};
-ghost use Rattle.std.specs.Io.KnownBytes.{Keeps};
+ghost use Rattle.std.specs.Prelude.{◌≡◌, ◌++◌, ◌+◌, ◌<◌, ◌⊎◌, Err, OnOk, OnErr, IfErr};
+ghost use Rattle.std.specs.Prelude.{IfSome};
 ghost use Rattle.hcc_player.specs.Bytes.{TakesAtMost};
 ghost use Rattle.hcc_player.specs.Options.{config_check};
-ghost use Rattle.hcc_player.specs.Play.{FailsToPlay, WritesLate};
+ghost use Rattle.hcc_player.specs.Play.{WritesLate};
 ghost use Rattle.hcc_player.specs.PlayRun.{EndsRun, SayCalls, Writes, WritesFront};
 
 use crate::fault::PlayError;
@@ -26,8 +25,8 @@ mod playing;
 mod registers;
 mod tag;
 
-/// Plays the trace of calls that a reader has left on a new cache, in order on one thread: writes one
-/// line for each line of the trace, and at the end, once all handles that are still held were
+/// Plays the trace of calls that a reader has left on a new cache, in order on one thread: writes
+/// one line for each line of the trace, and at the end, once all handles that are still held were
 /// released and the cache is closed, its sums as a line of JSON.
 ///
 /// Sizes that [`hcc_cache::Config::check`] refuses are refused before anything is read; the block

@@ -1,5 +1,5 @@
 //! What the lines of a trace are answered.
-ghost use Rattle.std.specs.Prelude.{◌≡◌, ◌++◌, OnOk, string_bytes, decimal, codes};
+ghost use Rattle.std.specs.Prelude.{◌≡◌, ◌++◌, OnOk, string_bytes};
 ghost use Rattle.hcc_player.specs.RunAnswers.{answer_line, answer_text, error_text, freed_text, named};
 ghost use Rattle.hcc_player.specs.RunAnswers.{searches_text, stats_text, totals_answer, tries_text};
 ghost use Rattle.hcc_player.specs.RunAnswers.{word_answer};

@@ -4,7 +4,7 @@ ghost use Rattle.hcc_rule.specs.declared.key.Key.{Key};
 ghost use Rattle.hcc_cache.specs.declared.handle.Handle.{Handle};
 ghost use Rattle.hcc_cache.specs.Clients.{held_by};
 ghost use Rattle.hcc_cache.specs.Known.{Knows};
-ghost use Rattle.hcc_player.specs.Registers.{at, AreFilled, CanPlay, Goes};
+ghost use Rattle.hcc_player.specs.Registers.{CanPlay, Goes};
 ghost use Rattle.hcc_player.specs.RunAnswers.{placed_answer, refusal_of, PutsIn};
 ghost use Rattle.hcc_player.specs.RunLine.{IsSoundCall};
 
@@ -15,8 +15,8 @@ use crate::run::registers::Registers;
 use hcc_cache::{Cache, Client, InsertError, Inserted, Key, LookupError, Priority, Tag};
 use std::alloc::{AllocError, Global};
 
-/// Makes a call, whose values fit their keys, and answers it. It takes memory for registers that were
-/// not needed yet, and for a value that is read.
+/// Makes a call, whose values fit their keys, and answers it. It takes memory for registers that
+/// were not needed yet, and for a value that is read.
 pub(crate) fn answer<T: Tag>(
     alloc: Global,
     cache: &Cache<T>,

@@ -94,7 +94,8 @@ fn play_lines<T: Tag, W: Write>(
     ensures manned { OnOk result ((keys : AllKeys)
         × AreManned T.fits cache.now keys clients.new.items registers.new.items) }
     ensures count { length clients.new.items ≡ length clients.old.items }
-    ensures part { OnErr result (AnsweredPart (T.fits cache.now.tag) (said (run_trace config text.now))
+    ensures part { OnErr result (AnsweredPart (T.fits cache.now.tag)
+        (said (run_trace config text.now))
         (W.contents writer.old) (W.contents writer.new) (string_bytes pending.old)) }
     ensures err { IfErr result FailsToPlay }
 {

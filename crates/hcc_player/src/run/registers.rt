@@ -5,8 +5,8 @@ ghost use Rattle.hcc_player.specs.Registers.{at, how_many};
 use hcc_cache::Handle;
 use std::alloc::{AllocError, Global};
 
-/// The handles in a client's registers. As many registers are kept as were needed so far; the others
-/// are empty.
+/// The handles in a client's registers. As many registers are kept as were needed so far; the
+/// others are empty.
 #[derive(Drop)]
 pub(crate) struct Registers {
     pub(crate) handles: Vec<Option<Handle>>,
@@ -40,7 +40,7 @@ impl Registers {
     }
 
     /// Takes the memory for a register to be filled.
-    #[tactic(auto, using(crate::proofs::RegisterLemmas::at_grown, crate::proofs::RegisterLemmas::count_grown))]
+    #[tactic(auto, using(crate::proofs::Grown::at_grown, crate::proofs::Grown::count_grown))]
     pub(crate) fn reserve(&mut self, register: usize) -> Result<(), AllocError>
         ensures there { OnOk result (register < length self.new.handles.items) }
         ensures same { (r : ℕ) → at self.new.handles.items r ≡ at self.old.handles.items r }

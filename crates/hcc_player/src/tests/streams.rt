@@ -1,11 +1,17 @@
 //! Readers and writers that give or take little, are interrupted or fail at one of their calls:
 //! what a play answers then, and what is out.
+ghost use Rattle.std.specs.Prelude.{◌<◌};
+
 use super::{DEFAULTS, FIRST_OUTPUT, FIRST_SCRIPT};
 use crate::fault::PlayError;
+use crate::options::Options;
 use crate::play::play_core;
+use crate::run::play_run;
+use hcc_cache::Config;
 use std::alloc::Global;
 use std::io;
 use std::io::{ErrorKind, Read, Write};
+use std::process::Abort;
 use std::test::Fail;
 
 /// How a call ends that is not served.
@@ -84,6 +90,69 @@ impl Write for Sink {
     }
 }
 
+/// A text that is played, of each kind.
+#[derive(Clone, Copy, Debug)]
+enum Which {
+    Script,
+    Calls,
+}
+
+impl Which {
+    fn text(self) -> &'static [u8] {
+        match self {
+            Which::Script => FIRST_SCRIPT,
+            Which::Calls => FIRST_CALLS,
+        }
+    }
+
+    /// What it gives.
+    fn output(self) -> &'static [u8] {
+        match self {
+            Which::Script => FIRST_OUTPUT,
+            Which::Calls => FIRST_ANSWERS,
+        }
+    }
+}
+
+/// A worked trace on a cache of one shard with 8 slots.
+const FIRST_CALLS: &[u8] = b"\
+0 I 0 1 200 L aa\n\
+0 W 0 1\n\
+0 G 0 0 1\n\
+0 V 0\n\
+0 R 0 U K\n\
+0 W 0 1\n\
+0 R 0 U K\n\
+0 U\n";
+
+/// What that trace gives.
+const FIRST_ANSWERS: &[u8] = b"\
+placed\n\
+word e000000080000002 displaced 0\n\
+hit\n\
+value aa\n\
+kept\n\
+word e0000000c0000003 displaced 0\n\
+none\n\
+usage 200 pinned 0 occupancy 1\n\
+{\"charges\":200,\"occupied\":1,\"slots\":1,\"usage\":200}\n";
+
+const OPTIONS: Options = Options {
+    config: Config {
+        slots: 8,
+        room: 2,
+        clients: 1,
+        handles: 8,
+        shards: 1,
+        capacity: 600,
+        strict: false,
+        marks: false,
+        serials: 18_014_398_509_481_984,
+        seed: 0,
+    },
+    block: 1,
+};
+
 /// What a play answered, what is out, and how many calls it made of each kind.
 #[derive(Drop)]
 struct Ran {
@@ -93,7 +162,14 @@ struct Ran {
     writes: usize,
 }
 
-fn play(alloc: Global, text: &[u8], reads: Calls, writes: Calls, flushes: bool) -> Ran {
+fn play(
+    alloc: Global,
+    which: Which,
+    text: &[u8],
+    reads: Calls,
+    writes: Calls,
+    flushes: bool,
+) -> Ran {
     let mut reader = Source {
         rest: text,
         calls: reads,
@@ -103,7 +179,10 @@ fn play(alloc: Global, text: &[u8], reads: Calls, writes: Calls, flushes: bool) 
         calls: writes,
         flushes,
     };
-    let answer = play_core(alloc, &mut reader, &mut writer, DEFAULTS);
+    let answer = match which {
+        Which::Script => play_core(alloc, &mut reader, &mut writer, DEFAULTS),
+        Which::Calls => play_run(alloc, &mut reader, &mut writer, &OPTIONS),
+    };
     Ran {
         answer,
         out: writer.taken,
@@ -112,73 +191,92 @@ fn play(alloc: Global, text: &[u8], reads: Calls, writes: Calls, flushes: bool) 
     }
 }
 
+/// Plays a text with one read that ends so, at each of them: what comes of it.
+fn reads_end(rt: &impl Abort, alloc: Global, which: Which, kind: ErrorKind, step: usize)
+    requires { 0 < step }
+{
+    let text = which.text();
+    // The last read finds the end.
+    let whole = text.len().div_ceil(step).saturating_add(1);
+    for at in 0..whole {
+        let calls = Calls {
+            step,
+            at,
+            end: End::Fails(kind),
+            made: 0,
+        };
+        let ran = play(alloc, which, text, calls, ALL_SERVED, true);
+        let (answer, out, reads) = if kind == ErrorKind::Interrupted {
+            (Ok(()), which.output(), whole.saturating_add(1))
+        } else {
+            let failed = Err(PlayError::ReadFailed);
+            (failed, b"".as_slice(), at.saturating_add(1))
+        };
+        assert_eq!(rt; ran.answer, answer, "{which:?}: {kind:?} at {at} by {step}");
+        assert_eq!(rt;
+            ran.out.as_slice(),
+            out,
+            "{which:?}: {kind:?} at {at} by {step}"
+        );
+        assert_eq!(rt; ran.reads, reads, "{which:?}: {kind:?} at {at} by {step}");
+    }
+}
+
 #[test]
 fn each_read_may_end_otherwise(rt: HostRuntime) -> Result<(), Fail> {
-    let text = FIRST_SCRIPT;
-    let cases: [(ErrorKind, Result<(), PlayError>); 2] = [
-        (ErrorKind::Interrupted, Ok(())),
-        (ErrorKind::Other, Err(PlayError::ReadFailed)),
-    ];
-    for (kind, answer) in cases {
-        for step in [1, 7, usize::MAX] {
-            // The last read finds the end.
-            let whole = text.len().div_ceil(step).saturating_add(1);
-            for at in 0..whole {
-                let end = End::Fails(kind);
-                let calls = Calls {
-                    step,
-                    at,
-                    end,
-                    made: 0,
-                };
-                let ran = play(rt.alloc(), text, calls, ALL_SERVED, true);
-                assert_eq!(rt; ran.answer, answer, "{kind:?} at {at} by {step}");
-                let (out, reads) = match answer {
-                    Ok(()) => (FIRST_OUTPUT, whole.saturating_add(1)),
-                    Err(_) => (b"".as_slice(), at.saturating_add(1)),
-                };
-                assert_eq!(rt; ran.out.as_slice(), out, "{kind:?} at {at} by {step}");
-                assert_eq!(rt; ran.reads, reads, "{kind:?} at {at} by {step}");
+    for which in [Which::Script, Which::Calls] {
+        for kind in [ErrorKind::Interrupted, ErrorKind::Other] {
+            for step in [1, 7, usize::MAX] {
+                reads_end(&rt, rt.alloc(), which, kind, step);
             }
         }
     }
     Ok(())
 }
 
+/// Plays a text with one write that ends so, at each of them: what comes of it.
+fn writes_end(rt: &impl Abort, alloc: Global, which: Which, end: End, step: usize)
+    requires { 0 < step }
+{
+    let whole = which.output();
+    let writes = whole.len().div_ceil(step);
+    for at in 0..writes {
+        let calls = Calls {
+            step,
+            at,
+            end,
+            made: 0,
+        };
+        let ran = play(alloc, which, which.text(), ALL_SERVED, calls, true);
+        let (answer, out, made) = match end {
+            End::Fails(ErrorKind::Interrupted) => (Ok(()), whole.len(), writes),
+            _ => (Err(PlayError::WriteFailed), at.saturating_mul(step), at),
+        };
+        assert_eq!(rt; ran.answer, answer, "{which:?}: {end:?} at {at} by {step}");
+        assert!(rt;
+            whole.starts_with(ran.out.as_slice()),
+            "{which:?}: {end:?} at {at} by {step}"
+        );
+        assert_eq!(rt; ran.out.len(), out, "{which:?}: {end:?} at {at} by {step}");
+        assert_eq!(rt;
+            ran.writes,
+            made.saturating_add(1),
+            "{which:?}: {end:?} at {at} by {step}"
+        );
+    }
+}
+
 #[test]
 fn each_write_may_end_otherwise(rt: HostRuntime) -> Result<(), Fail> {
-    let whole = FIRST_OUTPUT;
-    let cases: [(End, Result<(), PlayError>); 3] = [
-        (End::Fails(ErrorKind::Interrupted), Ok(())),
-        (End::Fails(ErrorKind::Other), Err(PlayError::WriteFailed)),
-        (End::Moves0, Err(PlayError::WriteFailed)),
+    let ends = [
+        End::Fails(ErrorKind::Interrupted),
+        End::Fails(ErrorKind::Other),
+        End::Moves0,
     ];
-    for (end, answer) in cases {
-        for step in [1, 7, usize::MAX] {
-            let writes = whole.len().div_ceil(step);
-            for at in 0..writes {
-                let calls = Calls {
-                    step,
-                    at,
-                    end,
-                    made: 0,
-                };
-                let ran = play(rt.alloc(), FIRST_SCRIPT, ALL_SERVED, calls, true);
-                assert_eq!(rt; ran.answer, answer, "{end:?} at {at} by {step}");
-                let (out, made) = match answer {
-                    Ok(()) => (whole.len(), writes),
-                    Err(_) => (at.saturating_mul(step), at),
-                };
-                assert!(rt;
-                    whole.starts_with(ran.out.as_slice()),
-                    "{end:?} at {at} by {step}"
-                );
-                assert_eq!(rt; ran.out.len(), out, "{end:?} at {at} by {step}");
-                assert_eq!(rt;
-                    ran.writes,
-                    made.saturating_add(1),
-                    "{end:?} at {at} by {step}"
-                );
+    for which in [Which::Script, Which::Calls] {
+        for end in ends {
+            for step in [1, 7, usize::MAX] {
+                writes_end(&rt, rt.alloc(), which, end, step);
             }
         }
     }
@@ -187,9 +285,18 @@ fn each_write_may_end_otherwise(rt: HostRuntime) -> Result<(), Fail> {
 
 #[test]
 fn the_flush_may_fail(rt: HostRuntime) -> Result<(), Fail> {
-    let ran = play(rt.alloc(), FIRST_SCRIPT, ALL_SERVED, ALL_SERVED, false);
-    assert_eq!(rt; ran.answer, Err(PlayError::WriteFailed));
-    assert_eq!(rt; ran.out.as_slice(), FIRST_OUTPUT);
+    for which in [Which::Script, Which::Calls] {
+        let ran = play(
+            rt.alloc(),
+            which,
+            which.text(),
+            ALL_SERVED,
+            ALL_SERVED,
+            false,
+        );
+        assert_eq!(rt; ran.answer, Err(PlayError::WriteFailed));
+        assert_eq!(rt; ran.out.as_slice(), which.output());
+    }
     Ok(())
 }
 
@@ -202,7 +309,14 @@ fn a_read_of_nothing_ends_the_text(rt: HostRuntime) -> Result<(), Fail> {
         end,
         made,
     };
-    let ran = play(rt.alloc(), FIRST_SCRIPT, calls, ALL_SERVED, true);
+    let ran = play(
+        rt.alloc(),
+        Which::Script,
+        FIRST_SCRIPT,
+        calls,
+        ALL_SERVED,
+        true,
+    );
     assert_eq!(rt; ran.answer, Ok(()));
     assert_eq!(rt;
         ran.out.as_slice(),
@@ -234,13 +348,20 @@ fn a_write_may_fail_in_the_middle_of_a_play(rt: HostRuntime) -> Result<(), Fail>
             end,
             made,
         };
-        let ran = play(rt.alloc(), &text, ALL_SERVED, calls, true);
+        let ran = play(rt.alloc(), Which::Script, &text, ALL_SERVED, calls, true);
         assert_eq!(rt; ran.answer, Err(PlayError::WriteFailed), "at {at}");
         assert_eq!(rt; ran.writes, at.saturating_add(1));
         assert!(rt; whole.starts_with(&ran.out), "at {at}");
         assert!(rt; ran.out.len() < whole.len(), "at {at}");
     }
-    let ran = play(rt.alloc(), &text, ALL_SERVED, ALL_SERVED, true);
+    let ran = play(
+        rt.alloc(),
+        Which::Script,
+        &text,
+        ALL_SERVED,
+        ALL_SERVED,
+        true,
+    );
     assert_eq!(rt; ran.answer, Ok(()));
     assert_eq!(rt; ran.out.as_slice(), whole.as_slice());
     Ok(())

@@ -26,8 +26,8 @@ loop-line-init g c =
 pub judged_line-requires : goal.judged_line-requires
 judged_line-requires g c =
     let so_far = c.loop-line.invariant in
-    let s = splits line_event so_far.number c.loop-line.rest.now c.in-Some.line.now c.in-Some.after.now
-    so_far.events c.in-Some.ensures.line so_far.script in
+    let s = splits line_event so_far.number c.loop-line.rest.now c.in-Some.line.now
+    c.in-Some.after.now so_far.events c.in-Some.ensures.line so_far.script in
     rw s.first refl
 
 pub returns-in_err-event-clause-part : goal.returns-in_err-event-clause-part

@@ -4,7 +4,8 @@ use Rattle.hcc_player.proofs.run.calls.answer.Goals as goal
 
 pub returns-in-Insert : goal.returns-in-Insert
 returns-in-Insert g c =
-    rw c.in-Insert.is (rw c.as_slice.ensures at (c.insert.ensures c.args.registers.now.handles.items))
+    rw c.in-Insert.is
+    (rw c.as_slice.ensures at (c.insert.ensures c.args.registers.now.handles.items))
 
 pub returns-in-Pin : goal.returns-in-Pin
 returns-in-Pin g c = rw c.in-Pin.is c.pin.ensures
@@ -28,7 +29,8 @@ returns-in-Erase g c =
     rw c.in-Erase.is (λ keys filled. (
       tt,
       same_filled g.T.Tag.fits c.args.cache.now keys
-          c.args.client.now c.erase.new.client c.args.registers.now.handles.items c.erase.ensures.known
+          c.args.client.now c.erase.new.client c.args.registers.now.handles.items
+          c.erase.ensures.known
           erased.keeps.all erased.keeps.count filled,
     ))
 

@@ -11,7 +11,8 @@ returns-in-Ok g c handles keys filled =
       insert_placed g.T.Tag.fits c.args.cache.now keys c.args.client.now c.insert.new.client
           c.args.key c.args.charge c.args.priority c.args.value.now c.in-Ok.inserted told,
       insert_filled g.T.Tag.fits c.args.cache.now keys c.args.client.now c.insert.new.client handles
-          c.args.key c.args.charge c.args.priority c.args.value.now (Ok c.in-Ok.inserted) c.in-Ok.ensures.known told
+          c.args.key c.args.charge c.args.priority c.args.value.now
+          (Ok c.in-Ok.inserted) c.in-Ok.ensures.known told
           filled,
     )
 
@@ -22,6 +23,7 @@ returns-in-Err g c handles keys filled =
       insert_refused g.T.Tag.fits c.args.cache.now c.args.client.now c.insert.new.client
           c.args.key c.args.charge c.args.priority c.args.value.now c.in-Err.error told,
       insert_filled g.T.Tag.fits c.args.cache.now keys c.args.client.now c.insert.new.client handles
-          c.args.key c.args.charge c.args.priority c.args.value.now (Err c.in-Err.error) c.in-Err.ensures.known told
+          c.args.key c.args.charge c.args.priority c.args.value.now
+          (Err c.in-Err.error) c.in-Err.ensures.known told
           filled,
     )
