@@ -31,6 +31,12 @@ pub record IsSized (cache : Cache AnyBytes) (config : Config) : Type 0 where
   pub geometry : cache.geometry ≡ shard_geometry config
   pub shards : length cache.shards.items ≡ config.shards
 
+-- What holds of a cache between any two calls: it is as configured, and each client that is back is
+-- one of it, and holds no handle.
+pub record IsWholePool (pool : Pool) : Type 0 where
+  pub sized : IsSized (arc_value pool.cache) pool.config
+  pub clients : Each (IsBack (arc_value pool.cache) pool.config) pool.back.items
+
 -- what the closed cache tells: the sums over its entries, twice
 abbrev pub totals_of : Closed → Totals
 totals_of closed = record {
@@ -46,6 +52,14 @@ totals_of closed = record {
 abbrev pub IfOpen : Option Pool → (Pool → Type 0) → Type 0
 IfOpen None Holds = ⊥
 IfOpen (Some pool) Holds = Holds pool
+
+-- the same, of a cache that may be closed
+abbrev pub IsWholeRack : Rack → Type 0
+IsWholeRack rack = IfAny rack.pool
+  where
+    IfAny : Option Pool → Type 0
+    IfAny None = Unit {0}
+    IfAny (Some pool) = IsWholePool pool
 
 -- the clients that are back
 abbrev pub backs : Option Pool → List (Client AnyBytes)
@@ -69,13 +83,18 @@ abbrev pub GivesOut : Session → (home : ℕ) → (old new : Rack) → Type 0
 GivesOut session home old new =
     IfOpen old.pool (λ pool. GivesOutOf session home pool (backs new.pool))
 
+-- the session is one of this cache's
+abbrev pub IsOf : Pool → Session → Type 0
+IsOf pool session =
+    (arc_value session.cache ≡ arc_value pool.cache) × (session.client.most ≡ pool.config.handles)
+
 -- a session that knows its cache by this number is one of this cache's
 abbrev pub IsHome : (home : ℕ) → Session → Rack → Type 0
 IsHome home session rack = IsHomeOf rack.pool
   where
     IsHomeOf : Option Pool → Type 0
     IsHomeOf None = Unit {0}
-    IsHomeOf (Some pool) = session.home ≡ home → arc_value session.cache ≡ arc_value pool.cache
+    IsHomeOf (Some pool) = session.home ≡ home → IsOf pool session
 
 -- the session's client, which holds no handle, is back
 abbrev pub TakesBack : Session → (old new : Rack) → Type 0

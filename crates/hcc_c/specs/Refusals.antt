@@ -1,5 +1,5 @@
 -- The numbers of refusals, and which refusal of the cache is told as which.
-use Rattle.std.specs.Prelude.{ℕ, Option, Some, None}
+use Rattle.std.specs.Prelude.{ℕ, ◌==◌, Option, Some, None, if◌then◌else◌}
 use Rattle.hcc_cache.specs.declared.errors.NewError.{NewError}
 use Rattle.hcc_cache.specs.declared.errors.NewError.TheVariants as new
 use Rattle.hcc_cache.specs.declared.errors.LookupError.{LookupError}
@@ -73,10 +73,9 @@ unfit_of unfit.OutOfMemory = OutOfMemory
 
 -- the priority of a number, if it is that of one
 abbrev pub priority_of : ℕ → Option Priority
-priority_of 0 = Some High
-priority_of 1 = Some Low
-priority_of 2 = Some Bottom
-priority_of _ = None
+priority_of number =
+    if number == 0 then Some High
+    else (if number == 1 then Some Low else (if number == 2 then Some Bottom else None))
 
 -- the number of what came of an insertion
 abbrev pub inserted_code : Inserted → ℕ

@@ -1,5 +1,6 @@
 -- A client in the hands of C: the numbers of its handles, and what its calls leave of them.
 use Rattle.std.specs.Prelude.{◌≡◌, ℕ, ◌*◌, ◌<◌, ◌≤◌, ◌&&◌, ◌==◌, Bool, List, Option, Some, None, Result, Ok, Err, length, nat_le, if◌then◌else◌}
+use Rattle.std.specs.Arc.{arc_value}
 use Rattle.slab.specs.Slab.{Slab, Updates, get, slab_len}
 use Rattle.hcc_rule.specs.declared.key.Key.{Key}
 use Rattle.hcc_cache.specs.declared.cache.Cache.{Cache}
@@ -7,11 +8,25 @@ use Rattle.hcc_cache.specs.declared.client.Client.{Client}
 use Rattle.hcc_cache.specs.declared.handle.Handle.{Handle}
 use Rattle.hcc_cache.specs.declared.tags.AnyBytes.{AnyBytes}
 use Rattle.hcc_cache.specs.Clients.{Holds, held_by}
+use Rattle.hcc_cache.specs.Known.{Knows}
 use Rattle.hcc_c.specs.declared.shapes.Number.{Number}
 use Rattle.hcc_c.specs.declared.session.Numbered.{Numbered}
 use Rattle.hcc_c.specs.declared.session.Session.{Session}
 use Rattle.hcc_c.specs.declared.inserting.Unfit.{Unfit}
 use Rattle.hcc_c.specs.declared.inserting.Unfit.TheVariants.{NoCharge, TooLong}
+
+-- Each handle has a number, and there is room for those of all that the client may hold.
+pub record IsFit (client : Client AnyBytes) (numbers : Slab Numbered) : Type 0 where
+  pub count : slab_len numbers ≡ held_by client
+  pub room : client.most ≤ numbers.capacity
+
+-- What holds of a client between any two of its calls: its cache knows it, there is room for the
+-- numbers of its handles, and the sizes are the cache's.
+pub record IsWhole (session : Session) : Type 0 where
+  pub knows : Knows (arc_value session.cache) session.client
+  pub fit : IsFit session.client session.numbers
+  pub shards : length (arc_value session.cache).shards.items ≡ session.shards
+  pub slots : (arc_value session.cache).geometry.slots ≡ session.slots
 
 -- every value fits every key
 abbrev pub any : AnyBytes → Key → List ℕ → Type 0

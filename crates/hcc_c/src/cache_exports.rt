@@ -1,5 +1,6 @@
 //! The calls of a cache, as C has them.
-ghost use Rattle.hcc_c.specs.Pools.{IsHome};
+ghost use Rattle.hcc_c.specs.Pools.{IsHome, IsWholeRack};
+ghost use Rattle.hcc_c.specs.Sessions.{IsWhole};
 
 use crate::objects::{CacheObject, ClientObject, lend_cache, lend_client};
 use crate::pool::{Pool, Rack};
@@ -29,7 +30,9 @@ pub extern "C" fn ferretgold_raw_client_open(
     cache: CacheObject,
     home: usize,
     client: &mut *mut u8,
-) -> u32 {
+) -> u32
+    requires { IsWholeRack cache.value }
+{
     let mut cache = cache.cache(alloc);
     let answer = cache.take(alloc, home);
     lend_cache(cache);
@@ -50,7 +53,9 @@ pub extern "C" fn ferretgold_raw_client_close(
     home: usize,
     client: ClientObject,
 ) -> u32
-    requires { IsHome home client.value cache.value }
+    requires cache { IsWholeRack cache.value }
+    requires client { IsWhole client.value }
+    requires home { IsHome home client.value cache.value }
 {
     let mut cache = cache.cache(alloc);
     let client = client.client(alloc);
@@ -70,7 +75,9 @@ pub extern "C" fn ferretgold_raw_close(
     alloc: Global,
     cache: CacheObject,
     totals: &mut Totals,
-) -> u32 {
+) -> u32
+    requires { IsWholeRack cache.value }
+{
     let mut cache = cache.cache(alloc);
     match cache.close() {
         Ok(told) => {

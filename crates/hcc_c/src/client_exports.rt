@@ -1,4 +1,5 @@
 //! The calls of a client, as C has them. Each takes the client behind its pointer for one call.
+ghost use Rattle.hcc_c.specs.Sessions.{IsWhole};
 
 use crate::objects::{ClientObject, lend_client};
 use crate::refusal::{Refusal, inserted_code, priority_of};
@@ -15,7 +16,9 @@ pub extern "C" fn ferretgold_raw_lookup(
     client: ClientObject,
     key: &Key,
     handle: &mut Number,
-) -> u32 {
+) -> u32
+    requires { IsWhole client.value }
+{
     let mut client = client.client(alloc);
     let answer = client.lookup(key.key());
     lend_client(client);
@@ -35,7 +38,9 @@ pub extern "C" fn ferretgold_raw_reref(
     client: ClientObject,
     handle: &Number,
     more: &mut Number,
-) -> u32 {
+) -> u32
+    requires { IsWhole client.value }
+{
     let mut client = client.client(alloc);
     let answer = client.reref(*handle);
     lend_client(client);
@@ -57,7 +62,9 @@ pub extern "C" fn ferretgold_raw_release(
     useful: bool,
     erase_if_last: bool,
     freed: &mut bool,
-) -> u32 {
+) -> u32
+    requires { IsWhole client.value }
+{
     let mut client = client.client(alloc);
     let answer = client.release(*handle, useful, erase_if_last);
     lend_client(client);
@@ -84,7 +91,9 @@ pub extern "C" fn ferretgold_raw_insert(
     charge: u32,
     priority: u32,
     inserted: &mut u32,
-) -> u32 {
+) -> u32
+    requires { IsWhole client.value }
+{
     let mut client = client.client(alloc);
     let Some(priority) = priority_of(priority) else {
         lend_client(client);
@@ -112,7 +121,9 @@ pub extern "C" fn ferretgold_raw_insert_pinned(
     priority: u32,
     inserted: &mut u32,
     handle: &mut Number,
-) -> u32 {
+) -> u32
+    requires { IsWhole client.value }
+{
     let mut client = client.client(alloc);
     let Some(priority) = priority_of(priority) else {
         lend_client(client);
@@ -137,7 +148,9 @@ pub extern "C" fn ferretgold_raw_erase(
     client: ClientObject,
     key: &Key,
     hidden: &mut u32,
-) -> u32 {
+) -> u32
+    requires { IsWhole client.value }
+{
     let mut client = client.client(alloc);
     *hidden = client.erase(key.key());
     lend_client(client);
@@ -150,7 +163,9 @@ pub extern "C" fn ferretgold_raw_key(
     client: ClientObject,
     handle: &Number,
     key: &mut Key,
-) -> u32 {
+) -> u32
+    requires { IsWhole client.value }
+{
     let mut client = client.client(alloc);
     let answer = client.key(*handle);
     lend_client(client);
@@ -169,7 +184,9 @@ pub extern "C" fn ferretgold_raw_value_len(
     client: ClientObject,
     handle: &Number,
     len: &mut usize,
-) -> u32 {
+) -> u32
+    requires { IsWhole client.value }
+{
     let mut client = client.client(alloc);
     let answer = client.value_len(*handle);
     lend_client(client);
@@ -183,7 +200,9 @@ pub extern "C" fn ferretgold_raw_read_value(
     handle: &Number,
     buffer: &mut [u8],
     len: &mut usize,
-) -> u32 {
+) -> u32
+    requires { IsWhole client.value }
+{
     let mut client = client.client(alloc);
     let answer = client.read_value(*handle, buffer);
     lend_client(client);
@@ -201,7 +220,9 @@ pub extern "C" fn ferretgold_raw_read_value(
 }
 
 #[unsafe(no_mangle)]
-pub extern "C" fn ferretgold_raw_usage(alloc: Global, client: ClientObject) -> u64 {
+pub extern "C" fn ferretgold_raw_usage(alloc: Global, client: ClientObject) -> u64
+    requires { IsWhole client.value }
+{
     let mut client = client.client(alloc);
     let answer = client.usage();
     lend_client(client);
@@ -209,7 +230,9 @@ pub extern "C" fn ferretgold_raw_usage(alloc: Global, client: ClientObject) -> u
 }
 
 #[unsafe(no_mangle)]
-pub extern "C" fn ferretgold_raw_pinned_usage(alloc: Global, client: ClientObject) -> u64 {
+pub extern "C" fn ferretgold_raw_pinned_usage(alloc: Global, client: ClientObject) -> u64
+    requires { IsWhole client.value }
+{
     let mut client = client.client(alloc);
     let answer = client.pinned_usage();
     lend_client(client);
@@ -217,7 +240,9 @@ pub extern "C" fn ferretgold_raw_pinned_usage(alloc: Global, client: ClientObjec
 }
 
 #[unsafe(no_mangle)]
-pub extern "C" fn ferretgold_raw_occupancy(alloc: Global, client: ClientObject) -> u64 {
+pub extern "C" fn ferretgold_raw_occupancy(alloc: Global, client: ClientObject) -> u64
+    requires { IsWhole client.value }
+{
     let mut client = client.client(alloc);
     let answer = client.occupancy();
     lend_client(client);
@@ -231,7 +256,9 @@ pub extern "C" fn ferretgold_raw_word(
     shard: u32,
     slot: u32,
     word: &mut u64,
-) -> u32 {
+) -> u32
+    requires { IsWhole client.value }
+{
     let mut client = client.client(alloc);
     let answer = client.word(shard, slot);
     lend_client(client);
@@ -251,7 +278,9 @@ pub extern "C" fn ferretgold_raw_displacement(
     shard: u32,
     slot: u32,
     displacement: &mut u64,
-) -> u32 {
+) -> u32
+    requires { IsWhole client.value }
+{
     let mut client = client.client(alloc);
     let answer = client.displacement(shard, slot);
     lend_client(client);
@@ -265,7 +294,9 @@ pub extern "C" fn ferretgold_raw_displacement(
 }
 
 #[unsafe(no_mangle)]
-pub extern "C" fn ferretgold_raw_number(alloc: Global, client: ClientObject) -> u32 {
+pub extern "C" fn ferretgold_raw_number(alloc: Global, client: ClientObject) -> u32
+    requires { IsWhole client.value }
+{
     let client = client.client(alloc);
     let answer = client.number();
     lend_client(client);
@@ -273,7 +304,9 @@ pub extern "C" fn ferretgold_raw_number(alloc: Global, client: ClientObject) -> 
 }
 
 #[unsafe(no_mangle)]
-pub extern "C" fn ferretgold_raw_held(alloc: Global, client: ClientObject) -> u32 {
+pub extern "C" fn ferretgold_raw_held(alloc: Global, client: ClientObject) -> u32
+    requires { IsWhole client.value }
+{
     let client = client.client(alloc);
     let answer = client.held();
     lend_client(client);
@@ -281,7 +314,9 @@ pub extern "C" fn ferretgold_raw_held(alloc: Global, client: ClientObject) -> u3
 }
 
 #[unsafe(no_mangle)]
-pub extern "C" fn ferretgold_raw_serials_left(alloc: Global, client: ClientObject) -> u64 {
+pub extern "C" fn ferretgold_raw_serials_left(alloc: Global, client: ClientObject) -> u64
+    requires { IsWhole client.value }
+{
     let client = client.client(alloc);
     let answer = client.serials_left();
     lend_client(client);
@@ -293,7 +328,9 @@ pub extern "C" fn ferretgold_raw_holds(
     alloc: Global,
     client: ClientObject,
     handle: &Number,
-) -> bool {
+) -> bool
+    requires { IsWhole client.value }
+{
     let client = client.client(alloc);
     let answer = client.holds(*handle);
     lend_client(client);
@@ -301,7 +338,9 @@ pub extern "C" fn ferretgold_raw_holds(
 }
 
 #[unsafe(no_mangle)]
-pub extern "C" fn ferretgold_raw_stats(alloc: Global, client: ClientObject, stats: &mut Stats) {
+pub extern "C" fn ferretgold_raw_stats(alloc: Global, client: ClientObject, stats: &mut Stats)
+    requires { IsWhole client.value }
+{
     let client = client.client(alloc);
     *stats = client.stats();
     lend_client(client);

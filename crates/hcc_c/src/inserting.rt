@@ -1,11 +1,11 @@
 //! Insertions, whose charge and length are judged first.
-ghost use Rattle.std.specs.Prelude.{◌≡◌, ◌*◌, ◌<◌, ◌≤◌, ◌↔◌, true, IfOk, IfErr, OnOk, IsOk, IsErrOf, IsOkUnless, MatchResult, length};
+ghost use Rattle.std.specs.Prelude.{◌≡◌, ◌*◌, ◌<◌, ◌≤◌, ◌↔◌, true, IfOk, IfErr, OnOk, OnErr, IsOk, IsErrOf, IsOkUnless, MatchResult, length};
 ghost use Rattle.std.specs.Arc.{arc_value};
 ghost use Rattle.hcc_shard.specs.Inserted.{inserting};
 ghost use Rattle.hcc_cache.specs.Calls.{TakesAtMost};
 ghost use Rattle.hcc_cache.specs.Clients.{held_by};
 ghost use Rattle.hcc_cache.specs.Inserts.{Inserts, InsertsWith, RefusesWith};
-ghost use Rattle.hcc_c.specs.Sessions.{Gives, judged};
+ghost use Rattle.hcc_c.specs.Sessions.{Gives, IsWhole, judged};
 
 use crate::referring::given;
 use crate::session::Session;
@@ -34,6 +34,8 @@ impl Session {
         charge: u32,
         priority: Priority,
     ) -> Result<Result<Inserted, InsertError>, Unfit>
+        requires { IsWhole self.old }
+        ensures whole { IsWhole self.new }
         ensures unfit { IfErr (judged (8 * (arc_value self.old.cache).geometry.room)
             (length value.now) charge) (λ why. (result ≡ Err why) × (self.new ≡ self.old)) }
         ensures fit { OnOk (judged (8 * (arc_value self.old.cache).geometry.room)
@@ -68,6 +70,8 @@ impl Session {
         charge: u32,
         priority: Priority,
     ) -> Result<Result<(Number, Inserted), InsertError>, Unfit>
+        requires { IsWhole self.old }
+        ensures whole { IsWhole self.new }
         ensures unfit { IfErr (judged (8 * (arc_value self.old.cache).geometry.room)
             (length value.now) charge) (λ why. (result ≡ Err why) × (self.new ≡ self.old)) }
         ensures memory { OnOk (judged (8 * (arc_value self.old.cache).geometry.room)

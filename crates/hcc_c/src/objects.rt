@@ -7,6 +7,8 @@ ghost use Rattle.hcc_c.specs.declared.pool.Rack.{Rack};
 ghost use Rattle.hcc_c.specs.declared.session.Session.{Session};
 ghost use Rattle.hcc_c.specs.contracts.pool.Rack.{the_row as rack_row};
 ghost use Rattle.hcc_c.specs.contracts.session.Session.{the_row as session_row};
+ghost use Rattle.hcc_c.specs.Pools.{IsWholeRack};
+ghost use Rattle.hcc_c.specs.Sessions.{IsWhole};
 
 use crate::pool::Rack;
 use crate::session::Session;
@@ -39,7 +41,9 @@ impl ClientObject {
 unsafe impl Send for ClientObject {}
 
 /// Hands a client to C: its pointer stands for it.
-pub(crate) fn lend_client(client: Box<Session>) -> *mut u8 {
+pub(crate) fn lend_client(client: Box<Session>) -> *mut u8
+    requires { IsWhole client.value }
+{
     Box::into_raw(client) as *mut u8
 }
 
@@ -69,7 +73,9 @@ impl CacheObject {
 unsafe impl Send for CacheObject {}
 
 /// Hands a cache to C: its pointer stands for it.
-pub(crate) fn lend_cache(cache: Box<Rack>) -> *mut u8 {
+pub(crate) fn lend_cache(cache: Box<Rack>) -> *mut u8
+    requires { IsWholeRack cache.value }
+{
     Box::into_raw(cache) as *mut u8
 }
 

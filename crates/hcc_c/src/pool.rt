@@ -1,13 +1,12 @@
 //! A cache in the hands of C, with the clients that it has back.
 ghost use Rattle.std.specs.Prelude.{◌≡◌, ◌+◌, ◌<◌, ◌≤◌, ◌++◌, ◌∷◌, [], Err, IfOk, IfErr, OnOk, OnErr, IsOkUnless, length};
 ghost use Rattle.std.specs.Arc.{arc_value};
-ghost use Rattle.hcc_rule.specs.Views.{Each};
 ghost use Rattle.hcc_cache.specs.Clients.{held_by};
 ghost use Rattle.hcc_cache.specs.Closings.{AreBack, IsClosed};
 ghost use Rattle.hcc_cache.specs.Configs.{checked};
 ghost use Rattle.hcc_cache.specs.Opened.{IsOpened};
-ghost use Rattle.hcc_c.specs.Pools.{Closes, GivesOut, IsBack, IsHome, IsSameRack, IsSized, TakesBack, totals_of};
-ghost use Rattle.hcc_c.specs.Sessions.{any};
+ghost use Rattle.hcc_c.specs.Pools.{Closes, GivesOut, IsHome, IsOf, IsSameRack, IsWholePool, IsWholeRack, TakesBack, totals_of};
+ghost use Rattle.hcc_c.specs.Sessions.{IsWhole, any};
 
 use crate::refusal::Refusal;
 use crate::session::Session;
@@ -23,8 +22,6 @@ pub struct Pool {
     pub(crate) cache: Arc<Cache<AnyBytes>, Global>,
     pub(crate) back: Vec<Client<AnyBytes>>,
     pub(crate) config: Config,
-    ghost clients: { Each (IsBack (arc_value cache) config) back.items },
-    ghost sized: { IsSized (arc_value cache) config },
 }
 
 impl Pool {
@@ -35,6 +32,7 @@ impl Pool {
         ensures opened { IfOk result (λ pool. (tag : _)
             × IsOpened config tag (arc_value pool.cache) pool.back.items) }
         ensures config { IfOk result (λ pool. pool.config ≡ config) }
+        ensures whole { IfOk result IsWholePool }
     {
         let (cache, back) = Cache::new(alloc, config, AnyBytes)?;
         match Arc::new(alloc, cache) {
@@ -50,6 +48,9 @@ impl Pool {
     /// Gives out one of the clients that are back, which knows its cache by this number. It is
     /// refused where none is back, and else only for memory; nothing is changed then.
     pub fn take(&mut self, alloc: Global, home: usize) -> Result<Box<Session>, Refusal>
+        requires { IsWholePool self.old }
+        ensures whole { IsWholePool self.new }
+        ensures session { IfOk result (λ session. IsWhole session.value) }
         ensures empty { length self.old.back.items ≡ 0 → result ≡ Err Refusal.NoClient }
         ensures memory { 0 < length self.old.back.items
             → IsOkUnless result Refusal.OutOfMemory }
@@ -85,7 +86,8 @@ impl Pool {
         match Box::new(alloc, session) {
             Ok(session) => Ok(session),
             Err(refused) => {
-                let Session { client, .. } = refused.value;
+                let session = refused.value;
+                let Session { client, .. } = session;
                 let _ = self.back.push(client);
                 Err(Refusal::OutOfMemory)
             }
@@ -99,15 +101,18 @@ impl Pool {
         home: usize,
         session: Box<Session>,
     ) -> Result<(), (Refusal, Box<Session>)>
-        requires { session.value.home ≡ home
-            → arc_value session.value.cache ≡ arc_value self.old.cache }
+        requires whole { IsWholePool self.old }
+        requires session { IsWhole session.value }
+        requires home { session.value.home ≡ home → IsOf self.old session.value }
+        ensures whole { IsWholePool self.new }
         ensures other { IfErr result (λ e. e.0 ≡ Refusal.OtherCache
             → ¬ (session.value.home ≡ home)) }
         ensures held { IfErr result (λ e. e.0 ≡ Refusal.HandlesOut
             → 0 < held_by session.value.client) }
         ensures may { OnOk result ((session.value.home ≡ home)
             × (held_by session.value.client ≡ 0)) }
-        ensures nothing { IfErr result (λ e. (self.new ≡ self.old) × (e.1 ≡ session)) }
+        ensures nothing { IfErr result (λ e. (self.new.back.items ≡ self.old.back.items)
+            × (e.1 ≡ session)) }
         ensures back { OnOk result (self.new.back.items
             ≡ self.old.back.items ++ session.value.client ∷ []) }
         ensures rest { self.new ≡ record self.old { back = self.new.back } }
@@ -128,6 +133,7 @@ impl Pool {
 
     /// Ends the cache, once all its clients are back. Else it is handed back as it was.
     pub fn close(self) -> Result<Totals, Pool>
+        requires { IsWholePool self }
         ensures back { IfErr result (λ pool. pool ≡ self) }
         ensures closed { IfOk result (λ totals. (closed : _)
             × AreBack (arc_value self.cache) self.back.items
@@ -185,6 +191,9 @@ pub struct Rack {
 impl Rack {
     /// Gives out a client, as its pool does.
     pub fn take(&mut self, alloc: Global, home: usize) -> Result<Box<Session>, Refusal>
+        requires { IsWholeRack self.old }
+        ensures whole { IsWholeRack self.new }
+        ensures session { IfOk result (λ session. IsWhole session.value) }
         ensures nothing { OnErr result (IsSameRack self.old self.new) }
         ensures taken { IfOk result (λ session. GivesOut session.value home self.old self.new) }
     {
@@ -200,8 +209,11 @@ impl Rack {
         home: usize,
         session: Box<Session>,
     ) -> Result<(), (Refusal, Box<Session>)>
-        requires { IsHome home session.value self.old }
-        ensures nothing { IfErr result (λ e. (self.new ≡ self.old) × (e.1 ≡ session)) }
+        requires whole { IsWholeRack self.old }
+        requires session { IsWhole session.value }
+        requires home { IsHome home session.value self.old }
+        ensures whole { IsWholeRack self.new }
+        ensures nothing { IfErr result (λ e. IsSameRack self.old self.new × (e.1 ≡ session)) }
         ensures back { OnOk result (TakesBack session.value self.old self.new) }
     {
         match &mut self.pool {
@@ -212,6 +224,7 @@ impl Rack {
 
     /// Ends the cache, as its pool does; else nothing is changed.
     pub fn close(&mut self) -> Result<Totals, Refusal>
+        requires { IsWholeRack self.old }
         ensures missing { IfErr result (λ e. (e ≡ Refusal.Missing) × (self.new ≡ self.old)) }
         ensures closed { IfOk result (λ totals. Closes totals self.old) }
     {

@@ -4,7 +4,7 @@ ghost use Rattle.std.specs.Arc.{arc_value};
 ghost use Rattle.hcc_rule.specs.Words.{words_for};
 ghost use Rattle.hcc_cache.specs.Calls.{Reads, TakesAtMost};
 ghost use Rattle.hcc_cache.specs.Clients.{held_of};
-ghost use Rattle.hcc_c.specs.Sessions.{IsHandle, IsNone};
+ghost use Rattle.hcc_c.specs.Sessions.{IsHandle, IsNone, IsWhole};
 
 use crate::session::Session;
 use crate::shapes::Number;
@@ -13,6 +13,8 @@ use hcc_cache::Key;
 impl Session {
     /// The key of the entry that a handle is on; none where the number is that of no handle.
     pub fn key(&mut self, number: Number) -> Option<Key>
+        requires { IsWhole self.old }
+        ensures whole { IsWhole self.new }
         ensures none { IfNone result (IsNone self.old number) }
         ensures exact { IfSome result (λ key. (handle : _) × IsHandle self.old number handle
             × IfSome (held_of (arc_value self.old.cache) self.old.client handle) (λ held.
@@ -25,6 +27,8 @@ impl Session {
 
     /// How many bytes the value has; none where the number is that of no handle.
     pub fn value_len(&mut self, number: Number) -> Option<usize>
+        requires { IsWhole self.old }
+        ensures whole { IsWhole self.new }
         ensures none { IfNone result (IsNone self.old number × (self.new ≡ self.old)) }
         ensures exact { IfSome result (λ len. (handle : _) × IsHandle self.old number handle
             × IfSome (held_of (arc_value self.old.cache) self.old.client handle) (λ held.
@@ -46,6 +50,8 @@ impl Session {
         number: Number,
         buffer: &mut [u8],
     ) -> Option<Result<usize, usize>>
+        requires { IsWhole self.old }
+        ensures whole { IsWhole self.new }
         ensures none { IfNone result (IsNone self.old number × (self.new ≡ self.old)
             × (buffer.new ≡ buffer.old)) }
         ensures read { IfSome result (λ answer. IfOk answer (λ len. (handle : _)

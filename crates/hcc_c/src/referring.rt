@@ -5,7 +5,7 @@ ghost use Rattle.slab.specs.Slab.{get, slab_len, HasRoomFor, Updates};
 ghost use Rattle.hcc_table.specs.Steps.{freeing};
 ghost use Rattle.hcc_cache.specs.Calls.{Erases, Finds, Misses, Releases, Rerefs, TakesAtMost};
 ghost use Rattle.hcc_cache.specs.Clients.{Holds, held_by};
-ghost use Rattle.hcc_c.specs.Sessions.{Ends, Gives, IsHandle, IsNone, any, numbered};
+ghost use Rattle.hcc_c.specs.Sessions.{Ends, Gives, IsHandle, IsNone, IsWhole, any, numbered};
 
 use crate::session::{Numbered, Session};
 use crate::shapes::Number;
@@ -16,6 +16,8 @@ impl Session {
     /// Looks for a visible entry of the key, as the cache does. The handle that it gives is told by
     /// its number.
     pub fn lookup(&mut self, key: Key) -> Result<Option<Number>, LookupError>
+        requires { IsWhole self.old }
+        ensures whole { IsWhole self.new }
         ensures full { IsErrOf result LookupError.HandlesFull
             ↔ (held_by self.old.client ≡ self.old.client.most) }
         ensures spent { IsErrOf result LookupError.Spent
@@ -45,6 +47,8 @@ impl Session {
     /// One handle more on the very entry that a handle is on; none where the number is that of no
     /// handle.
     pub fn reref(&mut self, number: Number) -> Option<Result<Number, LookupError>>
+        requires { IsWhole self.old }
+        ensures whole { IsWhole self.new }
         ensures none { IfNone result (IsNone self.old number × (self.new ≡ self.old)) }
         ensures full { IfSome result (λ answer. IsErrOf answer LookupError.HandlesFull
             ↔ (held_by self.old.client ≡ self.old.client.most)) }
@@ -103,6 +107,8 @@ impl Session {
     /// Gives a handle back, as the cache does: whether an entry was freed. None where the number is
     /// that of no handle.
     pub fn release(&mut self, number: Number, useful: bool, erase_if_last: bool) -> Option<bool>
+        requires { IsWhole self.old }
+        ensures whole { IsWhole self.new }
         ensures none { IfNone result (IsNone self.old number × (self.new ≡ self.old)) }
         ensures released { IfSome result (λ freed. (handle : _)
             × IsHandle self.old number handle
@@ -126,6 +132,8 @@ impl Session {
 
     /// Hides each visible entry of the key, as the cache does: how many it hid.
     pub fn erase(&mut self, key: Key) -> u32
+        requires { IsWhole self.old }
+        ensures whole { IsWhole self.new }
         ensures erased { Erases (arc_value self.old.cache) key result
             self.old.client self.new.client }
         ensures rest { self.new ≡ record self.old { client = self.new.client } }

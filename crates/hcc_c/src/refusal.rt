@@ -130,11 +130,14 @@ impl Refusal {
 pub(crate) fn priority_of(number: u32) -> Option<Priority>
     ensures { result ≡ priority_of number }
 {
-    match number {
-        0 => Some(Priority::High),
-        1 => Some(Priority::Low),
-        2 => Some(Priority::Bottom),
-        _ => None,
+    if number == 0 {
+        Some(Priority::High)
+    } else if number == 1 {
+        Some(Priority::Low)
+    } else if number == 2 {
+        Some(Priority::Bottom)
+    } else {
+        None
     }
 }
 

@@ -1,12 +1,12 @@
 //! Totals, and words of the cache's shards.
-ghost use Rattle.std.specs.Prelude.{◌≡◌, ◌+◌, ◌*◌, ◌<◌, ◌≤◌, true, IfSome, IfNone, length};
+ghost use Rattle.std.specs.Prelude.{◌≡◌, ◌+◌, ◌*◌, ◌<◌, ◌≤◌, true, false, IfSome, IfNone};
 ghost use Rattle.std.specs.Arc.{arc_value};
 ghost use Rattle.hcc_rule.specs.Told.{Backs};
 ghost use Rattle.hcc_rule.specs.ToldTrails.{passed_held};
 ghost use Rattle.hcc_cache.specs.Calls.{KeepsAll, Reads, TakesAtMost};
 ghost use Rattle.hcc_cache.specs.Clients.{Holds, held_by, view_at};
 ghost use Rattle.hcc_cache.specs.Totals.{charge_by, entries_by, made_by, no_stats, stats_over, taken_by};
-ghost use Rattle.hcc_c.specs.Sessions.{IsHandle, IsNone};
+ghost use Rattle.hcc_c.specs.Sessions.{IsHandle, IsNone, IsWhole};
 ghost use Rattle.hcc_c.specs.Shapes.{stats_of};
 
 use crate::session::Session;
@@ -15,6 +15,8 @@ use crate::shapes::{Number, Stats};
 impl Session {
     /// What is charged in all shards.
     pub fn usage(&mut self) -> u64
+        requires { IsWhole self.old }
+        ensures whole { IsWhole self.new }
         ensures keeps { KeepsAll (arc_value self.old.cache) self.old.client self.new.client }
         ensures entries { charge_by self.old.client ≤ result }
         ensures strict { (arc_value self.old.cache).strict ≡ true
@@ -27,6 +29,8 @@ impl Session {
 
     /// What is charged for entries that are held, and for standalone ones.
     pub fn pinned_usage(&mut self) -> u64
+        requires { IsWhole self.old }
+        ensures whole { IsWhole self.new }
         ensures keeps { KeepsAll (arc_value self.old.cache) self.old.client self.new.client }
         ensures entries { charge_by self.old.client ≤ result }
         ensures alone { (arc_value self.old.cache).geometry.clients ≡ 1
@@ -40,6 +44,8 @@ impl Session {
 
     /// How many entries all shards have.
     pub fn occupancy(&mut self) -> u64
+        requires { IsWhole self.old }
+        ensures whole { IsWhole self.new }
         ensures reads { Reads (arc_value self.old.cache) self.old.client self.new.client }
         ensures entries { entries_by self.old.client ≤ result }
         ensures alone { (arc_value self.old.cache).geometry.clients ≡ 1
@@ -52,6 +58,8 @@ impl Session {
 
     /// The meta word of a slot of a shard; none where a number is out of range.
     pub fn word(&mut self, shard: u32, slot: u32) -> Option<u64>
+        requires { IsWhole self.old }
+        ensures whole { IsWhole self.new }
         ensures none { IfNone result ((shard < self.old.shards) × (slot < self.old.slots) → ⊥) }
         ensures same { IfNone result (self.new ≡ self.old) }
         ensures range { IfSome result (λ _.
@@ -71,6 +79,8 @@ impl Session {
 
     /// How often a slot of a shard stands in trails; none where a number is out of range.
     pub fn displacement(&mut self, shard: u32, slot: u32) -> Option<u64>
+        requires { IsWhole self.old }
+        ensures whole { IsWhole self.new }
         ensures none { IfNone result ((shard < self.old.shards) × (slot < self.old.slots) → ⊥) }
         ensures same { IfNone result (self.new ≡ self.old) }
         ensures range { IfSome result (λ _.
