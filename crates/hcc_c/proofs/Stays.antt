@@ -26,7 +26,8 @@ module _ {T : Type 0} (cache : Cache T) where
       → IsSome (held_as cache.seed client.seats.items client.alone mine)
   held_if client handle knows slot at None is some = some
   held_if client handle knows None at (Some hold) is some = cc
-  held_if client handle knows (Some kept) at (Some hold) is some = by (is_of client.number handle kept) is
+  held_if client handle knows (Some kept) at (Some hold) is some = by (is_of client.number handle
+      kept) is
     where
       by : (test : Bool) → (if test then Some kept else None) ≡ Some hold
           → IsSome (held_as cache.seed client.seats.items client.alone (Some hold))

@@ -1,14 +1,14 @@
 //! The calls of a client, as C has them. Each takes the client behind its pointer for one call.
 ghost use Rattle.hcc_c.specs.Sessions.{IsWhole};
 
+use crate::answers::{told, told_insert, told_key, told_look, told_pinned, told_read, told_reref};
 use crate::objects::{ClientObject, lend_client};
-use crate::refusal::{Refusal, inserted_code, priority_of};
+use crate::refusal::{Refusal, priority_of};
 use crate::shapes::{Key, Number, Stats};
 use std::alloc::Global;
 
-/// The answers that are no refusals.
+/// The answer that is no refusal.
 const DONE: u32 = 0;
-const MISSED: u32 = 1;
 
 #[unsafe(no_mangle)]
 pub extern "C" fn ferretgold_raw_lookup(
@@ -22,14 +22,7 @@ pub extern "C" fn ferretgold_raw_lookup(
     let mut client = client.client(alloc);
     let answer = client.lookup(key.key());
     lend_client(client);
-    match answer {
-        Ok(Some(number)) => {
-            *handle = number;
-            DONE
-        }
-        Ok(None) => MISSED,
-        Err(why) => Refusal::looking(why).code(),
-    }
+    told_look(answer, handle)
 }
 
 #[unsafe(no_mangle)]
@@ -44,14 +37,7 @@ pub extern "C" fn ferretgold_raw_reref(
     let mut client = client.client(alloc);
     let answer = client.reref(*handle);
     lend_client(client);
-    match answer {
-        Some(Ok(number)) => {
-            *more = number;
-            DONE
-        }
-        Some(Err(why)) => Refusal::looking(why).code(),
-        None => Refusal::NoHandle.code(),
-    }
+    told_reref(answer, more)
 }
 
 #[unsafe(no_mangle)]
@@ -68,18 +54,7 @@ pub extern "C" fn ferretgold_raw_release(
     let mut client = client.client(alloc);
     let answer = client.release(*handle, useful, erase_if_last);
     lend_client(client);
-    told(answer, freed)
-}
-
-/// Tells an answer, or that the handle is none of the client's.
-fn told<T: Copy>(answer: Option<T>, out: &mut T) -> u32 {
-    match answer {
-        Some(value) => {
-            *out = value;
-            DONE
-        }
-        None => Refusal::NoHandle.code(),
-    }
+    told(answer, Refusal::NoHandle, freed)
 }
 
 #[unsafe(no_mangle)]
@@ -101,14 +76,7 @@ pub extern "C" fn ferretgold_raw_insert(
     };
     let answer = client.insert(key.key(), value, charge, priority);
     lend_client(client);
-    match answer {
-        Ok(Ok(what)) => {
-            *inserted = inserted_code(what);
-            DONE
-        }
-        Ok(Err(why)) => Refusal::inserting(why).code(),
-        Err(why) => Refusal::unfit(why).code(),
-    }
+    told_insert(answer, inserted)
 }
 
 #[unsafe(no_mangle)]
@@ -131,15 +99,7 @@ pub extern "C" fn ferretgold_raw_insert_pinned(
     };
     let answer = client.insert_pinned(alloc, key.key(), value, charge, priority);
     lend_client(client);
-    match answer {
-        Ok(Ok((number, what))) => {
-            *handle = number;
-            *inserted = inserted_code(what);
-            DONE
-        }
-        Ok(Err(why)) => Refusal::inserting(why).code(),
-        Err(why) => Refusal::unfit(why).code(),
-    }
+    told_pinned(answer, inserted, handle)
 }
 
 #[unsafe(no_mangle)]
@@ -169,13 +129,7 @@ pub extern "C" fn ferretgold_raw_key(
     let mut client = client.client(alloc);
     let answer = client.key(*handle);
     lend_client(client);
-    match answer {
-        Some(found) => {
-            *key = Key::words(found);
-            DONE
-        }
-        None => Refusal::NoHandle.code(),
-    }
+    told_key(answer, key)
 }
 
 #[unsafe(no_mangle)]
@@ -183,14 +137,14 @@ pub extern "C" fn ferretgold_raw_value_len(
     alloc: Global,
     client: ClientObject,
     handle: &Number,
-    len: &mut usize,
+    length: &mut usize,
 ) -> u32
     requires { IsWhole client.value }
 {
     let mut client = client.client(alloc);
     let answer = client.value_len(*handle);
     lend_client(client);
-    told(answer, len)
+    told(answer, Refusal::NoHandle, length)
 }
 
 #[unsafe(no_mangle)]
@@ -199,24 +153,14 @@ pub extern "C" fn ferretgold_raw_read_value(
     client: ClientObject,
     handle: &Number,
     buffer: &mut [u8],
-    len: &mut usize,
+    length: &mut usize,
 ) -> u32
     requires { IsWhole client.value }
 {
     let mut client = client.client(alloc);
     let answer = client.read_value(*handle, buffer);
     lend_client(client);
-    match answer {
-        Some(Ok(read)) => {
-            *len = read;
-            DONE
-        }
-        Some(Err(need)) => {
-            *len = need;
-            Refusal::TooShort.code()
-        }
-        None => Refusal::NoHandle.code(),
-    }
+    told_read(answer, length)
 }
 
 #[unsafe(no_mangle)]
@@ -262,13 +206,7 @@ pub extern "C" fn ferretgold_raw_word(
     let mut client = client.client(alloc);
     let answer = client.word(shard, slot);
     lend_client(client);
-    match answer {
-        Some(found) => {
-            *word = found;
-            DONE
-        }
-        None => Refusal::OutOfRange.code(),
-    }
+    told(answer, Refusal::OutOfRange, word)
 }
 
 #[unsafe(no_mangle)]
@@ -284,13 +222,7 @@ pub extern "C" fn ferretgold_raw_displacement(
     let mut client = client.client(alloc);
     let answer = client.displacement(shard, slot);
     lend_client(client);
-    match answer {
-        Some(found) => {
-            *displacement = found;
-            DONE
-        }
-        None => Refusal::OutOfRange.code(),
-    }
+    told(answer, Refusal::OutOfRange, displacement)
 }
 
 #[unsafe(no_mangle)]
@@ -324,11 +256,7 @@ pub extern "C" fn ferretgold_raw_serials_left(alloc: Global, client: ClientObjec
 }
 
 #[unsafe(no_mangle)]
-pub extern "C" fn ferretgold_raw_holds(
-    alloc: Global,
-    client: ClientObject,
-    handle: &Number,
-) -> bool
+pub extern "C" fn ferretgold_raw_holds(alloc: Global, client: ClientObject, handle: &Number) -> bool
     requires { IsWhole client.value }
 {
     let client = client.client(alloc);

@@ -55,9 +55,10 @@ impl Session {
             self.old.client self.new.client }
     {
         judge(self.cache.room(), value.len(), charge)?;
-        Ok(self
-            .cache
-            .insert(&mut self.client, key, value, charge, priority))
+        Ok(
+            self.cache
+                .insert(&mut self.client, key, value, charge, priority),
+        )
     }
 
     /// The same with a handle on what was inserted, which is told by its number. Memory is taken

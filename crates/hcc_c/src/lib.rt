@@ -5,6 +5,7 @@
 //! over plain values, whose contract says what the cache's says.
 #![tactic(auto)]
 
+mod answers;
 mod cache_exports;
 mod client_exports;
 mod inserting;

@@ -45,11 +45,7 @@ impl Session {
     /// Copies the value to the front of the buffer: how many bytes it has. Where the buffer has
     /// fewer, the same number is told as an error, and the buffer stays. None where the number is
     /// that of no handle.
-    pub fn read_value(
-        &mut self,
-        number: Number,
-        buffer: &mut [u8],
-    ) -> Option<Result<usize, usize>>
+    pub fn read_value(&mut self, number: Number, buffer: &mut [u8]) -> Option<Result<usize, usize>>
         requires { IsWhole self.old }
         ensures whole { IsWhole self.new }
         ensures none { IfNone result (IsNone self.old number × (self.new ≡ self.old)

@@ -12,5 +12,9 @@ use Rattle.hcc_c.specs.contracts.objects.CacheObject.{the_row, the_type}
 
 pub send : IsSend the_row
 send = let O = the_type in let ps : IsSend RawPtr = search sendable in
-    owning_send O (ps, tt) (λ d. (lies X its-send d.at d.value, frees.frees d.alloc (raw (lone X.mir)) d.at))
+    owning_send O (ps, tt) (λ d. (
+      lies X its-send d.at d.value,
+      frees.frees d.alloc (raw (lone
+          X.mir)) d.at,
+    ))
     (λ k. quiet (to O) (exits_of k (fields O)) ((struct_send (shape O) (ps, tt)).leaving k))

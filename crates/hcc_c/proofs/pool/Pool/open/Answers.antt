@@ -9,7 +9,7 @@ returns-in-Ok-clause-whole c =
     let opened = c.in_ok-cache.ensures.made in
     record {
       sized = rw c.in-Ok.ensures.ok (is_sized c.args.config _ c.in_ok-cache.cache
-      c.in_ok-cache.back.items opened);
+          c.in_ok-cache.back.items opened);
       clients = rw c.in-Ok.ensures.ok (all_back c.args.config _ c.in_ok-cache.cache
-      c.in_ok-cache.back.items opened);
+          c.in_ok-cache.back.items opened);
     }

@@ -1,5 +1,4 @@
 use Rattle.std.proofs.Common.{arith}
-use Rattle.std.specs.Arc.{arc_value}
 use Rattle.hcc_c.proofs.Counts.{counts_inserted, counts_refused}
 use Rattle.hcc_c.proofs.session.Session.insert_pinned.Goals as goal
 use Rattle.hcc_c.proofs.session.Session.insert_pinned.Goals.{in-Ok-answer, in-Err}
@@ -8,32 +7,33 @@ pub returns-clause-whole : goal.returns-clause-whole
 returns-clause-whole c =
     let whole = c.requires in
     let session = c.args.self.now in
-    let cache = arc_value session.cache in
+    let cache = c.deref-2.result.now in
+    let knows = rw c.deref-2.ensures at c.insert_pinned-answer.ensures.known in
     let new = c.insert_pinned-answer.new.client in
     let room = whole.fit.room in
     let count = whole.fit.count in
     elim c.match-answer.branch [
       | in-Ok-answer w ↦
           let counts = counts_inserted cache c.args.key c.args.charge c.args.priority
-              c.args.value.now session.client new w.in-Ok-answer.handle w.in-Ok-answer.inserted
-              w.in-Ok-answer.ensures.inserted in
+          c.in-Ok.copy.items session.client new w.in-Ok-answer.handle w.in-Ok-answer.inserted
+          w.in-Ok-answer.ensures.inserted in
           let one = counts.0 in
           let most = counts.1 in
           let len = w.given-number.ensures.len in
           let capacity = w.given-number.ensures.capacity in
           rw w.self-is (record {
-            knows = c.insert_pinned-answer.ensures.known;
+            knows = knows;
             fit = record { count = omega arith; room = omega arith };
             shards = whole.shards;
             slots = whole.slots;
           })
       | in-Err w ↦
           let counts = counts_refused cache c.args.key c.args.charge c.args.priority
-              c.args.value.now session.client new w.in-Err.why w.in-Err.ensures.inserted in
+          c.in-Ok.copy.items session.client new w.in-Err.why w.in-Err.ensures.inserted in
           let same = counts.0 in
           let most = counts.1 in
           rw w.self-is (record {
-            knows = c.insert_pinned-answer.ensures.known;
+            knows = knows;
             fit = record { count = omega arith; room = omega arith };
             shards = whole.shards;
             slots = whole.slots;
