@@ -57,9 +57,9 @@ class block_cache {
 // A table file of LevelDB. It never changes once it is read, so its blocks may be kept.
 class cached_file : public leveldb::RandomAccessFile {
   public:
-    cached_file(std::unique_ptr<leveldb::RandomAccessFile> file, std::uint64_t number,
-                block_cache &cache)
-        : file_(std::move(file)), number_(number), cache_(cache) {}
+    cached_file(std::unique_ptr<leveldb::RandomAccessFile> file, std::uint64_t size,
+                std::uint64_t number, block_cache &cache)
+        : file_(std::move(file)), size_(size), number_(number), cache_(cache) {}
 
     leveldb::Status Read(std::uint64_t offset, std::size_t length, leveldb::Slice *result,
                          char *scratch) const override {
@@ -67,13 +67,13 @@ class cached_file : public leveldb::RandomAccessFile {
         std::size_t count = 0;
         cache_.with_client([&](ferretgold::client *client) {
             char block[BLOCK];
-            while (count < length && status.ok()) {
+            while (count < length && offset + count < size_) {
                 const std::uint64_t at = offset + count;
                 std::size_t has = 0;
                 status = block_at(client, at / BLOCK, block, &has);
                 const std::size_t from = static_cast<std::size_t>(at % BLOCK);
                 if (!status.ok() || has <= from) {
-                    break; // past the end
+                    break;
                 }
                 const std::size_t part = std::min(has - from, length - count);
                 std::memcpy(scratch + count, block + from, part);
@@ -85,7 +85,8 @@ class cached_file : public leveldb::RandomAccessFile {
     }
 
   private:
-    // Reads a block: from the cache where it has it, and else from the file.
+    // Reads a block that begins within the file: from the cache where it has it, and else from the
+    // file.
     leveldb::Status block_at(ferretgold::client *client, std::uint64_t index, char *block,
                              std::size_t *has) const {
         const ferretgold_key key = {number_, index};
@@ -98,7 +99,9 @@ class cached_file : public leveldb::RandomAccessFile {
         }
         cache_.misses.fetch_add(1, std::memory_order_relaxed);
         leveldb::Slice read;
-        leveldb::Status status = file_->Read(index * BLOCK, BLOCK, &read, block);
+        const std::uint64_t from = index * BLOCK;
+        const auto length = std::min<std::uint64_t>(BLOCK, size_ - from);
+        leveldb::Status status = file_->Read(from, static_cast<std::size_t>(length), &read, block);
         if (status.ok()) {
             *has = read.size();
             std::memmove(block, read.data(), read.size());
@@ -110,6 +113,7 @@ class cached_file : public leveldb::RandomAccessFile {
     }
 
     std::unique_ptr<leveldb::RandomAccessFile> file_;
+    std::uint64_t size_;
     std::uint64_t number_;
     block_cache &cache_;
 };
@@ -123,9 +127,13 @@ class cached_env : public leveldb::EnvWrapper {
     leveldb::Status NewRandomAccessFile(const std::string &name,
                                         leveldb::RandomAccessFile **result) override {
         leveldb::RandomAccessFile *file = nullptr;
-        leveldb::Status status = target()->NewRandomAccessFile(name, &file);
+        std::uint64_t size = 0;
+        leveldb::Status status = target()->GetFileSize(name, &size);
         if (status.ok()) {
-            *result = new cached_file(std::unique_ptr<leveldb::RandomAccessFile>(file),
+            status = target()->NewRandomAccessFile(name, &file);
+        }
+        if (status.ok()) {
+            *result = new cached_file(std::unique_ptr<leveldb::RandomAccessFile>(file), size,
                                       number_of(name), cache_);
         }
         return status;
