@@ -39,10 +39,10 @@ std::string value_of(std::uint32_t number) {
     return value;
 }
 
-// A database without a block cache of its own worth speaking of.
+// A database without a block cache of its own.
 struct database {
     database(const std::string &folder, leveldb::Env *env)
-        : blocks(leveldb::NewLRUCache(1)) {
+        : blocks(leveldb::NewLRUCache(0)) {
         leveldb::Options options;
         options.create_if_missing = true;
         options.env = env;
