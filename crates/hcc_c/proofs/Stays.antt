@@ -7,7 +7,7 @@ use Rattle.hcc_cache.specs.declared.handle.Handle.{Handle}
 use Rattle.hcc_cache.specs.declared.holding.Hold.{Hold}
 use Rattle.hcc_cache.specs.declared.holding.Kept.{Kept}
 use Rattle.hcc_cache.specs.declared.holding.Kept.TheVariants.{Pinned, Standing}
-use Rattle.hcc_cache.specs.Calls.{KeepsAll}
+use Rattle.hcc_cache.specs.Calls.{KeepsAll, Reads}
 use Rattle.hcc_cache.specs.Clients.{Holds, held_as, held_of, hold_of, if_of, is_of, kept_as}
 use Rattle.hcc_cache.specs.Known.{IsKeptAs, Knows}
 
@@ -54,3 +54,23 @@ module _ {T : Type 0} (cache : Cache T) where
   stays_held handle old new knows keeps holds =
       held_back new (hold_of new handle)
       (rw (keeps.all handle) (held_stands old handle knows holds))
+
+  -- two readings are one
+  pub reads_twice : (a b c : Client T) → Reads cache a b → Reads cache b c → Reads cache a c
+  reads_twice a b c first next = record {
+    rests = record {
+      all = λ s. next.rests.all s ∙ first.rests.all s;
+      self = (
+        next.rests.self.0 ∙ first.rests.self.0,
+        next.rests.self.1 ∙ first.rests.self.1,
+      );
+    };
+    keeps = record {
+      all = λ h. next.keeps.all h ∙ first.keeps.all h;
+      count = next.keeps.count ∙ first.keeps.count;
+      serials = (
+        next.keeps.serials.0 ∙ first.keeps.serials.0,
+        next.keeps.serials.1 ∙ first.keeps.serials.1,
+      );
+    };
+  }

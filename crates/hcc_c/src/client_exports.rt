@@ -1,5 +1,10 @@
 //! The calls of a client, as C has them. Each takes the client behind its pointer for one call.
-ghost use Rattle.hcc_c.specs.Sessions.{IsWhole};
+ghost use Rattle.std.specs.Prelude.{◌≡◌, ◌+◌, ◌≤◌, true, false};
+ghost use Rattle.std.specs.Arc.{arc_value};
+ghost use Rattle.hcc_cache.specs.Clients.{held_by};
+ghost use Rattle.hcc_cache.specs.Totals.{charge_by, entries_by, made_by, no_stats, stats_over, taken_by};
+ghost use Rattle.hcc_c.specs.Sessions.{IsHandle, IsNone, IsWhole};
+ghost use Rattle.hcc_c.specs.Shapes.{stats_of};
 
 use crate::answers::{told, told_insert, told_key, told_look, told_pinned, told_read, told_reref};
 use crate::objects::{ClientObject, lend_client};
@@ -166,6 +171,7 @@ pub extern "C" fn ferretgold_raw_read_value(
 #[unsafe(no_mangle)]
 pub extern "C" fn ferretgold_raw_usage(alloc: Global, client: ClientObject) -> u64
     requires { IsWhole client.value }
+    ensures { charge_by client.value.client ≤ result }
 {
     let mut client = client.client(alloc);
     let answer = client.usage();
@@ -176,6 +182,9 @@ pub extern "C" fn ferretgold_raw_usage(alloc: Global, client: ClientObject) -> u
 #[unsafe(no_mangle)]
 pub extern "C" fn ferretgold_raw_pinned_usage(alloc: Global, client: ClientObject) -> u64
     requires { IsWhole client.value }
+    ensures entries { charge_by client.value.client ≤ result }
+    ensures alone { (arc_value client.value.cache).geometry.clients ≡ 1
+        → result ≡ charge_by client.value.client }
 {
     let mut client = client.client(alloc);
     let answer = client.pinned_usage();
@@ -186,6 +195,9 @@ pub extern "C" fn ferretgold_raw_pinned_usage(alloc: Global, client: ClientObjec
 #[unsafe(no_mangle)]
 pub extern "C" fn ferretgold_raw_occupancy(alloc: Global, client: ClientObject) -> u64
     requires { IsWhole client.value }
+    ensures entries { entries_by client.value.client ≤ result }
+    ensures alone { (arc_value client.value.cache).geometry.clients ≡ 1
+        → result + taken_by client.value.client ≡ made_by client.value.client }
 {
     let mut client = client.client(alloc);
     let answer = client.occupancy();
@@ -228,6 +240,7 @@ pub extern "C" fn ferretgold_raw_displacement(
 #[unsafe(no_mangle)]
 pub extern "C" fn ferretgold_raw_number(alloc: Global, client: ClientObject) -> u32
     requires { IsWhole client.value }
+    ensures { result ≡ client.value.client.number }
 {
     let client = client.client(alloc);
     let answer = client.number();
@@ -238,6 +251,7 @@ pub extern "C" fn ferretgold_raw_number(alloc: Global, client: ClientObject) -> 
 #[unsafe(no_mangle)]
 pub extern "C" fn ferretgold_raw_held(alloc: Global, client: ClientObject) -> u32
     requires { IsWhole client.value }
+    ensures { result ≡ held_by client.value.client }
 {
     let client = client.client(alloc);
     let answer = client.held();
@@ -248,6 +262,7 @@ pub extern "C" fn ferretgold_raw_held(alloc: Global, client: ClientObject) -> u3
 #[unsafe(no_mangle)]
 pub extern "C" fn ferretgold_raw_serials_left(alloc: Global, client: ClientObject) -> u64
     requires { IsWhole client.value }
+    ensures { result ≡ client.value.client.left }
 {
     let client = client.client(alloc);
     let answer = client.serials_left();
@@ -258,6 +273,8 @@ pub extern "C" fn ferretgold_raw_serials_left(alloc: Global, client: ClientObjec
 #[unsafe(no_mangle)]
 pub extern "C" fn ferretgold_raw_holds(alloc: Global, client: ClientObject, handle: &Number) -> bool
     requires { IsWhole client.value }
+    ensures yes { result ≡ true → (it : _) × IsHandle client.value handle.now it }
+    ensures no { IsNone client.value handle.now → result ≡ false }
 {
     let client = client.client(alloc);
     let answer = client.holds(*handle);
@@ -268,6 +285,7 @@ pub extern "C" fn ferretgold_raw_holds(alloc: Global, client: ClientObject, hand
 #[unsafe(no_mangle)]
 pub extern "C" fn ferretgold_raw_stats(alloc: Global, client: ClientObject, stats: &mut Stats)
     requires { IsWhole client.value }
+    ensures { stats.new ≡ stats_of (stats_over no_stats client.value.client.seats.items) }
 {
     let client = client.client(alloc);
     *stats = client.stats();

@@ -45,6 +45,7 @@ impl Session {
     /// Copies the value to the front of the buffer: how many bytes it has. Where the buffer has
     /// fewer, the same number is told as an error, and the buffer stays. None where the number is
     /// that of no handle.
+    #[tactic(auto, using(crate::proofs::Stays::reads_twice))]
     pub fn read_value(&mut self, number: Number, buffer: &mut [u8]) -> Option<Result<usize, usize>>
         requires { IsWhole self.old }
         ensures whole { IsWhole self.new }
@@ -60,7 +61,13 @@ impl Session {
             × IfSome (held_of (arc_value self.old.cache) self.old.client handle) (λ held.
             len ≡ length held.insertion.value)
             × (length buffer.old < len) × (buffer.new ≡ buffer.old))) }
+        ensures reads { IfSome result (λ _.
+            Reads (arc_value self.old.cache) self.old.client self.new.client) }
         ensures rest { self.new ≡ record self.old { client = self.new.client } }
+        ensures steps { IfSome result (λ answer. IfOk answer (λ len.
+            TakesAtMost (words_for len + 2) self.old.client self.new.client)) }
+        ensures few { IfSome result (λ answer. IfErr answer (λ len.
+            TakesAtMost 1 self.old.client self.new.client)) }
     {
         let handle = self.handle(number)?;
         let len = self.cache.value_len(&mut self.client, handle);
