@@ -1,0 +1,15 @@
+use Rattle.hcc_c.proofs.Backs.{all_back, is_sized}
+use Rattle.hcc_c.proofs.pool.Pool.open.Goals as goal
+
+pub returns-in-Ok-clause-opened : goal.returns-in-Ok-clause-opened
+returns-in-Ok-clause-opened c = (_, rw c.in-Ok.ensures.ok c.in_ok-cache.ensures.made)
+
+pub returns-in-Ok-clause-whole : goal.returns-in-Ok-clause-whole
+returns-in-Ok-clause-whole c =
+    let opened = c.in_ok-cache.ensures.made in
+    record {
+      sized = rw c.in-Ok.ensures.ok (is_sized c.args.config _ c.in_ok-cache.cache
+          c.in_ok-cache.back.items opened);
+      clients = rw c.in-Ok.ensures.ok (all_back c.args.config _ c.in_ok-cache.cache
+          c.in_ok-cache.back.items opened);
+    }

@@ -1,0 +1,88 @@
+-- How C is told what a call answers: the status, and what each output is then.
+use Rattle.std.specs.Prelude.{ℕ, Option, Some, None, Result, Ok, Err}
+use Rattle.hcc_rule.specs.declared.key.Key.{Key as CacheKey}
+use Rattle.hcc_cache.specs.declared.errors.InsertError.{InsertError}
+use Rattle.hcc_cache.specs.declared.errors.LookupError.{LookupError}
+use Rattle.hcc_cache.specs.declared.inserting.Inserted.{Inserted}
+use Rattle.hcc_c.specs.declared.inserting.Unfit.{Unfit}
+use Rattle.hcc_c.specs.declared.refusal.Refusal.{Refusal}
+use Rattle.hcc_c.specs.declared.refusal.Refusal.TheVariants.{NoHandle, TooShort}
+use Rattle.hcc_c.specs.declared.shapes.Key.{Key}
+use Rattle.hcc_c.specs.declared.shapes.Number.{Number}
+use Rattle.hcc_c.specs.Refusals.{code_of, inserted_code, inserting_of, looking_of, unfit_of}
+use Rattle.hcc_c.specs.Shapes.{words_of}
+
+-- a value, or none
+module _ {A : Type 0} where
+  abbrev pub status_of : Option A → Refusal → ℕ
+  status_of None why = code_of why
+  status_of (Some value) why = 0
+
+  abbrev pub value_or : Option A → A → A
+  value_or None old = old
+  value_or (Some value) old = value
+
+abbrev pub key_or : Option CacheKey → Key → Key
+key_or None old = old
+key_or (Some key) old = words_of key
+
+-- a look-up
+abbrev pub status_of_look : Result (Option Number) LookupError → ℕ
+status_of_look (Ok None) = 1
+status_of_look (Ok (Some number)) = 0
+status_of_look (Err why) = code_of (looking_of why)
+
+abbrev pub number_of : Result (Option Number) LookupError → Number → Number
+number_of (Ok None) old = old
+number_of (Ok (Some number)) old = number
+number_of (Err why) old = old
+
+-- one handle more
+abbrev pub status_of_reref : Option (Result Number LookupError) → ℕ
+status_of_reref None = code_of NoHandle
+status_of_reref (Some (Ok number)) = 0
+status_of_reref (Some (Err why)) = code_of (looking_of why)
+
+abbrev pub more_of : Option (Result Number LookupError) → Number → Number
+more_of None old = old
+more_of (Some (Ok number)) old = number
+more_of (Some (Err why)) old = old
+
+-- an insertion
+abbrev pub status_of_insert : Result (Result Inserted InsertError) Unfit → ℕ
+status_of_insert (Ok (Ok what)) = 0
+status_of_insert (Ok (Err why)) = code_of (inserting_of why)
+status_of_insert (Err why) = code_of (unfit_of why)
+
+abbrev pub inserted_of : Result (Result Inserted InsertError) Unfit → ℕ → ℕ
+inserted_of (Ok (Ok what)) old = inserted_code what
+inserted_of (Ok (Err why)) old = old
+inserted_of (Err why) old = old
+
+-- an insertion with a handle
+abbrev pub status_of_pinned : Result (Result (Number × Inserted) InsertError) Unfit → ℕ
+status_of_pinned (Ok (Ok made)) = 0
+status_of_pinned (Ok (Err why)) = code_of (inserting_of why)
+status_of_pinned (Err why) = code_of (unfit_of why)
+
+abbrev pub inserted_of_pinned : Result (Result (Number × Inserted) InsertError) Unfit → ℕ → ℕ
+inserted_of_pinned (Ok (Ok made)) old = inserted_code made.1
+inserted_of_pinned (Ok (Err why)) old = old
+inserted_of_pinned (Err why) old = old
+
+abbrev pub handle_of_pinned : Result (Result (Number × Inserted) InsertError) Unfit
+    → Number → Number
+handle_of_pinned (Ok (Ok made)) old = made.0
+handle_of_pinned (Ok (Err why)) old = old
+handle_of_pinned (Err why) old = old
+
+-- a reading
+abbrev pub status_of_read : Option (Result ℕ ℕ) → ℕ
+status_of_read None = code_of NoHandle
+status_of_read (Some (Ok length)) = 0
+status_of_read (Some (Err need)) = code_of TooShort
+
+abbrev pub length_of : Option (Result ℕ ℕ) → ℕ → ℕ
+length_of None old = old
+length_of (Some (Ok length)) old = length
+length_of (Some (Err need)) old = need

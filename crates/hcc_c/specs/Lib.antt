@@ -1,0 +1,5 @@
+pub mod Shapes
+pub mod Refusals
+pub mod Sessions
+pub mod Pools
+pub mod Answers

@@ -1,0 +1,84 @@
+-- The numbers of refusals, and which refusal of the cache is told as which.
+use Rattle.std.specs.Prelude.{ℕ, ◌==◌, Option, Some, None, if◌then◌else◌}
+use Rattle.hcc_cache.specs.declared.errors.NewError.{NewError}
+use Rattle.hcc_cache.specs.declared.errors.NewError.TheVariants as new
+use Rattle.hcc_cache.specs.declared.errors.LookupError.{LookupError}
+use Rattle.hcc_cache.specs.declared.errors.LookupError.TheVariants as look
+use Rattle.hcc_cache.specs.declared.errors.InsertError.{InsertError}
+use Rattle.hcc_cache.specs.declared.errors.InsertError.TheVariants as insert
+use Rattle.hcc_cache.specs.declared.inserting.Inserted.{Inserted}
+use Rattle.hcc_cache.specs.declared.inserting.Inserted.TheVariants as inserted
+use Rattle.hcc_cache.specs.declared.priority.Priority.{Priority}
+use Rattle.hcc_cache.specs.declared.priority.Priority.TheVariants.{High, Low, Bottom}
+use Rattle.hcc_c.specs.declared.inserting.Unfit.{Unfit}
+use Rattle.hcc_c.specs.declared.inserting.Unfit.TheVariants as unfit
+use Rattle.hcc_c.specs.declared.refusal.Refusal.{Refusal}
+use Rattle.hcc_c.specs.declared.refusal.Refusal.TheVariants.{NoHandle, NoCharge, TooLong, TooShort, BadPriority, OutOfRange, HandlesFull, Spent, TooLarge, CapacityFull, OccupancyFull, OutOfMemory, BadSlots, BadRoom, BadClients, BadHandles, BadShards, BadCapacity, BadSerials, NoClient, OtherCache, HandlesOut, Missing}
+
+-- the numbers that the header gives
+abbrev pub code_of : Refusal → ℕ
+code_of NoHandle = 17
+code_of NoCharge = 18
+code_of TooLong = 19
+code_of TooShort = 20
+code_of BadPriority = 21
+code_of OutOfRange = 22
+code_of HandlesFull = 23
+code_of Spent = 24
+code_of TooLarge = 25
+code_of CapacityFull = 26
+code_of OccupancyFull = 27
+code_of OutOfMemory = 28
+code_of BadSlots = 29
+code_of BadRoom = 30
+code_of BadClients = 31
+code_of BadHandles = 32
+code_of BadShards = 33
+code_of BadCapacity = 34
+code_of BadSerials = 35
+code_of NoClient = 36
+code_of OtherCache = 37
+code_of HandlesOut = 38
+code_of Missing = 39
+
+-- why a cache isn't made
+abbrev pub opening_of : NewError → Refusal
+opening_of new.BadSlots = BadSlots
+opening_of new.BadRoom = BadRoom
+opening_of new.BadClients = BadClients
+opening_of new.BadHandles = BadHandles
+opening_of new.BadShards = BadShards
+opening_of new.BadCapacity = BadCapacity
+opening_of new.BadSerials = BadSerials
+opening_of new.OutOfMemory = OutOfMemory
+
+-- why a handle isn't given
+abbrev pub looking_of : LookupError → Refusal
+looking_of look.HandlesFull = HandlesFull
+looking_of look.Spent = Spent
+
+-- why nothing is inserted
+abbrev pub inserting_of : InsertError → Refusal
+inserting_of insert.HandlesFull = HandlesFull
+inserting_of insert.Spent = Spent
+inserting_of insert.TooLarge = TooLarge
+inserting_of insert.CapacityFull = CapacityFull
+inserting_of insert.OccupancyFull = OccupancyFull
+
+-- why the cache isn't asked to insert a value
+abbrev pub unfit_of : Unfit → Refusal
+unfit_of unfit.NoCharge = NoCharge
+unfit_of unfit.TooLong = TooLong
+unfit_of unfit.OutOfMemory = OutOfMemory
+
+-- the priority of a number, if it is that of one
+abbrev pub priority_of : ℕ → Option Priority
+priority_of number =
+    if number == 0 then Some High
+    else (if number == 1 then Some Low else (if number == 2 then Some Bottom else None))
+
+-- the number of what came of an insertion
+abbrev pub inserted_code : Inserted → ℕ
+inserted_code inserted.Placed = 0
+inserted_code inserted.Dropped = 1
+inserted_code inserted.Standalone = 2

@@ -1,0 +1,40 @@
+-- The cache's values of what crosses to C.
+use Rattle.std.specs.Prelude.{ℕ}
+use Rattle.hcc_rule.specs.declared.key.Key.{Key as CacheKey}
+use Rattle.hcc_shard.specs.declared.seat.Stats.{Stats as CacheStats}
+use Rattle.hcc_cache.specs.declared.config.Config.{Config}
+use Rattle.hcc_c.specs.declared.shapes.Key.{Key}
+use Rattle.hcc_c.specs.declared.shapes.Setup.{Setup}
+use Rattle.hcc_c.specs.declared.shapes.Stats.{Stats}
+
+abbrev pub key_of : Key → CacheKey
+key_of key = record { w0 = key.w0; w1 = key.w1 }
+
+abbrev pub words_of : CacheKey → Key
+words_of key = record { w0 = key.w0; w1 = key.w1 }
+
+abbrev pub config_of : Setup → Config
+config_of setup = record {
+  slots = setup.slots;
+  room = setup.room;
+  clients = setup.clients;
+  handles = setup.handles;
+  shards = setup.shards;
+  capacity = setup.capacity;
+  strict = setup.strict;
+  marks = setup.marks;
+  serials = setup.serials;
+  seed = setup.seed;
+}
+
+abbrev pub stats_of : CacheStats → Stats
+stats_of stats = record {
+  probes = stats.probes;
+  boosts = stats.boosts;
+  evicted = stats.evicted;
+  evicted_hit = stats.evicted_hit;
+  freed = stats.freed;
+  turns = stats.turns;
+  corrections = stats.corrections;
+  lost = stats.lost;
+}

@@ -1,0 +1,25 @@
+//! The cache for engines in C, C++ and Rust: every call of it by opaque pointers, and what a prover
+//! asks of callers judged at run time.
+//!
+//! `include/ferretgold.h` says what each call means. The exports hand each object to a function
+//! over plain values, whose contract says what the cache's says.
+#![tactic(auto)]
+
+mod answers;
+mod cache_exports;
+mod client_exports;
+mod inserting;
+mod objects;
+mod pool;
+mod reading;
+mod referring;
+mod refusal;
+mod session;
+mod shapes;
+mod totals;
+
+pub use objects::{CacheObject, ClientObject, objects_cross};
+pub use pool::{Pool, Rack};
+pub use refusal::Refusal;
+pub use session::Session;
+pub use shapes::{Key, Number, Setup, Stats, Totals};

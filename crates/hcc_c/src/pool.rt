@@ -1,0 +1,242 @@
+//! A cache in the hands of C, with the clients that it has back.
+ghost use Rattle.std.specs.Prelude.{◌≡◌, ◌+◌, ◌<◌, ◌≤◌, ◌++◌, ◌∷◌, [], Err, IfOk, IfErr, OnOk, OnErr, IsOkUnless, length};
+ghost use Rattle.std.specs.Arc.{arc_value};
+ghost use Rattle.hcc_cache.specs.Clients.{held_by};
+ghost use Rattle.hcc_cache.specs.Closings.{AreBack, IsClosed};
+ghost use Rattle.hcc_cache.specs.Configs.{checked};
+ghost use Rattle.hcc_cache.specs.Opened.{IsOpened};
+ghost use Rattle.hcc_c.specs.Pools.{Closes, GivesOut, IsHome, IsOf, IsSameRack, IsWholePool, IsWholeRack, TakesBack, totals_of};
+ghost use Rattle.hcc_c.specs.Sessions.{IsWhole, any};
+
+use crate::refusal::Refusal;
+use crate::session::Session;
+use crate::shapes::Totals;
+use hcc_cache::{AnyBytes, Cache, Client, Closed, Config, NewError};
+use slab::Slab;
+use std::alloc::Global;
+use std::sync::Arc;
+
+/// A cache, with the clients that it has back.
+#[derive(Drop)]
+pub struct Pool {
+    pub(crate) cache: Arc<Cache<AnyBytes>, Global>,
+    pub(crate) back: Vec<Client<AnyBytes>>,
+    pub(crate) config: Config,
+}
+
+impl Pool {
+    /// A new cache, with all its clients. It refuses what the cache's `new` does.
+    pub fn open(alloc: Global, config: Config) -> Result<Pool, NewError>
+        ensures refused { IfErr (checked config) (λ e. result ≡ Err e) }
+        ensures memory { OnOk (checked config) (IsOkUnless result NewError.OutOfMemory) }
+        ensures opened { IfOk result (λ pool. (tag : _)
+            × IsOpened config tag (arc_value pool.cache) pool.back.items) }
+        ensures config { IfOk result (λ pool. pool.config ≡ config) }
+        ensures whole { IfOk result IsWholePool }
+    {
+        let (cache, back) = Cache::new(alloc, config, AnyBytes)?;
+        match Arc::new(alloc, cache) {
+            Ok(cache) => Ok(Pool {
+                cache,
+                back,
+                config,
+            }),
+            Err(_) => Err(NewError::OutOfMemory),
+        }
+    }
+
+    /// Gives out one of the clients that are back, which knows its cache by this number. It is
+    /// refused where none is back, and else only for memory; nothing is changed then.
+    pub fn take(&mut self, alloc: Global, home: usize) -> Result<Box<Session>, Refusal>
+        requires { IsWholePool self.old }
+        ensures whole { IsWholePool self.new }
+        ensures session { IfOk result (λ session. IsWhole session.value) }
+        ensures empty { length self.old.back.items ≡ 0 → result ≡ Err Refusal.NoClient }
+        ensures memory { 0 < length self.old.back.items
+            → IsOkUnless result Refusal.OutOfMemory }
+        ensures nothing { OnErr result (self.new.back.items ≡ self.old.back.items) }
+        ensures taken { IfOk result (λ session.
+            self.old.back.items ≡ self.new.back.items ++ session.value.client ∷ []) }
+        ensures cache { IfOk result (λ session.
+            arc_value session.value.cache ≡ arc_value self.old.cache) }
+        ensures home { IfOk result (λ session. session.value.home ≡ home) }
+        ensures unnumbered { IfOk result (λ session. session.value.numbers.slots ≡ []) }
+        ensures rest { self.new ≡ record self.old { back = self.new.back } }
+    {
+        if self.back.is_empty() {
+            return Err(Refusal::NoClient);
+        }
+        let Ok(cache) = Arc::try_clone(&self.cache) else {
+            return Err(Refusal::OutOfMemory);
+        };
+        let Ok(numbers) = Slab::with_capacity(alloc, self.config.handles as usize) else {
+            return Err(Refusal::OutOfMemory);
+        };
+        let Some(client) = self.back.pop() else {
+            return Err(Refusal::NoClient);
+        };
+        let session = Session {
+            cache,
+            client,
+            numbers,
+            home,
+            shards: self.config.shards,
+            slots: self.config.slots,
+        };
+        match Box::new(alloc, session) {
+            Ok(session) => Ok(session),
+            Err(refused) => {
+                let session = refused.value;
+                let Session { client, .. } = session;
+                let _ = self.back.push(client);
+                Err(Refusal::OutOfMemory)
+            }
+        }
+    }
+
+    /// Takes a client back. It is refused where the client's cache has another number, then where
+    /// the client holds a handle; nothing is changed then.
+    pub fn give_back(
+        &mut self,
+        home: usize,
+        session: Box<Session>,
+    ) -> Result<(), (Refusal, Box<Session>)>
+        requires whole { IsWholePool self.old }
+        requires session { IsWhole session.value }
+        requires home { session.value.home ≡ home → IsOf self.old session.value }
+        ensures whole { IsWholePool self.new }
+        ensures other { IfErr result (λ e. e.0 ≡ Refusal.OtherCache
+            → ¬ (session.value.home ≡ home)) }
+        ensures held { IfErr result (λ e. e.0 ≡ Refusal.HandlesOut
+            → 0 < held_by session.value.client) }
+        ensures may { OnOk result ((session.value.home ≡ home)
+            × (held_by session.value.client ≡ 0)) }
+        ensures nothing { IfErr result (λ e. (self.new.back.items ≡ self.old.back.items)
+            × (e.1 ≡ session)) }
+        ensures back { OnOk result (self.new.back.items
+            ≡ self.old.back.items ++ session.value.client ∷ []) }
+        ensures rest { self.new ≡ record self.old { back = self.new.back } }
+    {
+        if session.home != home {
+            return Err((Refusal::OtherCache, session));
+        }
+        if session.client.held() != 0 {
+            return Err((Refusal::HandlesOut, session));
+        }
+        if self.back.reserve(1).is_err() {
+            return Err((Refusal::OutOfMemory, session));
+        }
+        let Session { client, .. } = Box::into_inner(session);
+        let _ = self.back.push(client);
+        Ok(())
+    }
+
+    /// Ends the cache, once all its clients are back. Else it is handed back as it was.
+    pub fn close(self) -> Result<Totals, Pool>
+        requires { IsWholePool self }
+        ensures back { IfErr result (λ pool. pool ≡ self) }
+        ensures closed { IfOk result (λ totals. (closed : _)
+            × AreBack (arc_value self.cache) self.back.items
+            × IsClosed any (arc_value self.cache) self.back.items closed
+            × (totals ≡ totals_of closed)) }
+    {
+        if self.back.len() < self.config.clients as usize {
+            return Err(self);
+        }
+        let Pool {
+            cache,
+            back,
+            config,
+        } = self;
+        match Arc::try_unwrap(cache) {
+            Ok(cache) => Ok(totals(&closed(cache, back))),
+            Err(cache) => Err(Pool {
+                cache,
+                back,
+                config,
+            }),
+        }
+    }
+}
+
+/// What is left of a cache whose clients are back, with no handle.
+fn closed(cache: Cache<AnyBytes>, back: Vec<Client<AnyBytes>>) -> Closed
+    requires { AreBack cache back.items }
+    ensures { IsClosed any cache back.items result }
+{
+    match cache.close(back) {
+        Ok(closed) => closed,
+        Err(_) => unreachable!(),
+    }
+}
+
+/// What a closed cache tells.
+fn totals(closed: &Closed) -> Totals
+    ensures { result ≡ totals_of closed.now }
+{
+    Totals {
+        usage: closed.usage(),
+        occupied: closed.occupied(),
+        slot_charges: closed.slot_charges(),
+        slot_count: closed.slot_count(),
+    }
+}
+
+/// A cache in the hands of C: none once it is closed.
+#[derive(Drop)]
+pub struct Rack {
+    pub(crate) pool: Option<Pool>,
+}
+
+impl Rack {
+    /// Gives out a client, as its pool does.
+    pub fn take(&mut self, alloc: Global, home: usize) -> Result<Box<Session>, Refusal>
+        requires { IsWholeRack self.old }
+        ensures whole { IsWholeRack self.new }
+        ensures session { IfOk result (λ session. IsWhole session.value) }
+        ensures nothing { OnErr result (IsSameRack self.old self.new) }
+        ensures taken { IfOk result (λ session. GivesOut session.value home self.old self.new) }
+    {
+        match &mut self.pool {
+            Some(pool) => pool.take(alloc, home),
+            None => Err(Refusal::NoClient),
+        }
+    }
+
+    /// Takes a client back, as its pool does.
+    pub fn give_back(
+        &mut self,
+        home: usize,
+        session: Box<Session>,
+    ) -> Result<(), (Refusal, Box<Session>)>
+        requires whole { IsWholeRack self.old }
+        requires session { IsWhole session.value }
+        requires home { IsHome home session.value self.old }
+        ensures whole { IsWholeRack self.new }
+        ensures nothing { IfErr result (λ e. IsSameRack self.old self.new × (e.1 ≡ session)) }
+        ensures back { OnOk result (TakesBack session.value self.old self.new) }
+    {
+        match &mut self.pool {
+            Some(pool) => pool.give_back(home, session),
+            None => Err((Refusal::OtherCache, session)),
+        }
+    }
+
+    /// Ends the cache, as its pool does; else nothing is changed.
+    pub fn close(&mut self) -> Result<Totals, Refusal>
+        requires { IsWholeRack self.old }
+        ensures missing { IfErr result (λ e. (e ≡ Refusal.Missing) × (self.new ≡ self.old)) }
+        ensures closed { IfOk result (λ totals. Closes totals self.old) }
+    {
+        let Some(pool) = self.pool.take() else {
+            return Err(Refusal::Missing);
+        };
+        match pool.close() {
+            Ok(totals) => Ok(totals),
+            Err(pool) => {
+                self.pool = Some(pool);
+                Err(Refusal::Missing)
+            }
+        }
+    }
+}

@@ -1,0 +1,723 @@
+/*
+ * ferretgold.h - a block cache of fixed slots for many threads, without locks.
+ *
+ * A cache has keys of 16 bytes, values of bytes, charges and priorities. Its memory is taken when it
+ * is opened. Each call returns after a stated number of atomic steps at most, whatever other threads
+ * do. What the calls do is proved; docs/CACHE.md tells it at length, and how to choose the sizes.
+ *
+ *     ferretgold_config config = { .slots = 1024, .room = 512, .clients = 2, .handles = 16,
+ *                                  .shards = 2, .capacity = 4 << 20, .strict = true,
+ *                                  .serials = FERRETGOLD_MOST_SERIALS, .seed = 0x5eed };
+ *     ferretgold_cache *cache;
+ *     ferretgold_client *client;
+ *     if (ferretgold_open(&config, &cache) != FERRETGOLD_OK) ...
+ *     if (ferretgold_client_open(cache, &client) != FERRETGOLD_OK) ...
+ *     ... each thread works with a client of its own ...
+ *     ferretgold_client_close(cache, client);
+ *     ferretgold_close(cache, &totals);
+ *
+ * OBJECTS AND THREADS
+ *   A cache is opened with all its clients. A thread works through a client that
+ *   ferretgold_client_open gave out, and gives it back by ferretgold_client_close.
+ *   - A client is used by one thread at a time. It may go from thread to thread, if a lock, a join
+ *     or the like orders the calls.
+ *   - All clients of a cache may be used at the same time.
+ *   - The cache's own calls (ferretgold_open, _client_open, _client_close, _close) are made by one
+ *     thread at a time. Other threads may work with other clients meanwhile.
+ *   - No call is made from a signal handler, or from a child that a process with threads forked.
+ *
+ * HANDLES
+ *   A handle is a reference on an entry: while it is held, the entry keeps its key and its value. It
+ *   is a small value, copied freely, that its client knows by its index and serial. One that was
+ *   released, or that another client of the cache got, is refused by FERRETGOLD_NO_HANDLE, and stays
+ *   so: no serial comes twice. Caches don't know each other's handles apart: a program with several
+ *   keeps them apart.
+ *
+ * REFUSALS
+ *   A call that returns FERRETGOLD_OK did what it says. A call that returns anything else changed
+ *   nothing: no object, and nothing that a pointer of the caller's points to, but where it says so.
+ *   The first refusal that is due is told, in the order in which each call lists them; before them
+ *   all comes FERRETGOLD_NULL, where a pointer is null that may not be.
+ *
+ * NOT CHECKED
+ *   No call can tell that a pointer dangles (to a client or a cache that was closed, or to fewer
+ *   bytes than were said), that an output overlaps another argument, or that two threads are in one
+ *   client, or in one cache's own calls. Then behaviour is undefined.
+ *
+ * COSTS
+ *   L stands for the slots of a shard, W for the payload words of a slot, S for the shards. Bounds
+ *   are atomic steps, at most. Calls take no memory but where it is said.
+ *
+ * The calls are inline functions: each looks for null pointers, and hands the rest to the library.
+ * Other languages declare the functions of the library themselves (ferretgold_raw_*, at the end);
+ * these judge all but null pointers.
+ */
+#ifndef FERRETGOLD_H
+#define FERRETGOLD_H
+
+#include <stdbool.h>
+#include <stddef.h>
+#include <stdint.h>
+
+#ifdef __cplusplus
+extern "C" {
+#endif
+
+/* What a call answers. */
+typedef enum ferretgold_status {
+    FERRETGOLD_OK = 0,
+    /* Nothing of the key was found. Of ferretgold_lookup alone. */
+    FERRETGOLD_MISS = 1,
+
+    /* A pointer is null that may not be. */
+    FERRETGOLD_NULL = 16,
+    /* The handle is none that the client holds: it was released, or another client got it. */
+    FERRETGOLD_NO_HANDLE = 17,
+    /* The charge is 0. */
+    FERRETGOLD_NO_CHARGE = 18,
+    /* The value has more than 8 * room bytes. */
+    FERRETGOLD_TOO_LONG = 19,
+    /* The buffer has fewer bytes than the value. */
+    FERRETGOLD_TOO_SHORT = 20,
+    /* There is no such priority. */
+    FERRETGOLD_BAD_PRIORITY = 21,
+    /* There is no such shard, or no such slot. */
+    FERRETGOLD_OUT_OF_RANGE = 22,
+    /* The client holds as many handles as it may. */
+    FERRETGOLD_HANDLES_FULL = 23,
+    /* The client has used all its serials. */
+    FERRETGOLD_SPENT = 24,
+    /* The charge is above the capacity of a shard, which is strict. */
+    FERRETGOLD_TOO_LARGE = 25,
+    /* Strict alone: evictions freed too little of the charge. They stay made; a serial is used. */
+    FERRETGOLD_CAPACITY_FULL = 26,
+    /* Strict alone: the shard was full, and evictions freed no slot. They stay made; a serial is
+     * used. */
+    FERRETGOLD_OCCUPANCY_FULL = 27,
+    /* Memory was refused. */
+    FERRETGOLD_OUT_OF_MEMORY = 28,
+    /* A field of the configuration is out of its range. */
+    FERRETGOLD_BAD_SLOTS = 29,
+    FERRETGOLD_BAD_ROOM = 30,
+    FERRETGOLD_BAD_CLIENTS = 31,
+    FERRETGOLD_BAD_HANDLES = 32,
+    FERRETGOLD_BAD_SHARDS = 33,
+    FERRETGOLD_BAD_CAPACITY = 34,
+    FERRETGOLD_BAD_SERIALS = 35,
+    /* All clients of the cache are out. */
+    FERRETGOLD_NO_CLIENT = 36,
+    /* The client is one of another cache. */
+    FERRETGOLD_OTHER_CACHE = 37,
+    /* The client holds handles. */
+    FERRETGOLD_HANDLES_OUT = 38,
+    /* Clients of the cache are out. */
+    FERRETGOLD_MISSING = 39
+} ferretgold_status;
+
+/* How long the clock keeps a new entry that nobody looks up: it outlives 3, 2 or 1 of its visits. */
+typedef enum ferretgold_priority {
+    FERRETGOLD_HIGH = 0,
+    FERRETGOLD_LOW = 1,
+    FERRETGOLD_BOTTOM = 2
+} ferretgold_priority;
+
+/* What came of an insertion. */
+typedef enum ferretgold_inserted {
+    /* The entry is in the table. */
+    FERRETGOLD_PLACED = 0,
+    /* It is as if the entry had been placed and evicted at once. Without a handle alone. */
+    FERRETGOLD_DROPPED = 1,
+    /* The entry is in no table, and goes with its last handle. With a handle alone. */
+    FERRETGOLD_STANDALONE = 2
+} ferretgold_inserted;
+
+/* The most serials of a client: 2^54. */
+#define FERRETGOLD_MOST_SERIALS UINT64_C(0x40000000000000)
+
+/* How large a cache is, and how it behaves. */
+typedef struct ferretgold_config {
+    uint32_t slots;    /* of each shard: a power of two, 8 to 65,536 */
+    uint32_t room;     /* payload words of 8 bytes in each slot: 1 to 512 */
+    uint32_t clients;  /* 1 to 1,024 */
+    uint32_t handles;  /* that a client may hold at once: 1 to 16,384 */
+    uint32_t shards;   /* a power of two, 1 to 64 */
+    bool strict;       /* whether charges stay within the capacity, and insertions may be refused */
+    bool marks;        /* whether look-ups mark entries, for evicted_hit of the statistics */
+    uint64_t capacity; /* in charges, at most 2^40; each shard has an equal part, rounded up */
+    uint64_t serials;  /* of each client: 1 to 2^54; each insertion and each handle uses one */
+    uint64_t seed;     /* of the keys; 0 only where keys are spread already, as hashes are */
+} ferretgold_config;
+
+/* A key of 16 bytes. */
+typedef struct ferretgold_key {
+    uint64_t w0;
+    uint64_t w1;
+} ferretgold_key;
+
+/* A handle. Its fields are the library's. */
+typedef struct ferretgold_handle {
+    size_t index;
+    uint64_t serial;
+    uint32_t client;
+    uint32_t reserved;
+} ferretgold_handle;
+
+/* What the calls of a client did on all shards. A count at its end stays there. */
+typedef struct ferretgold_stats {
+    uint64_t probes;      /* slots that were visited for a key */
+    uint64_t boosts;      /* insertions that met their key */
+    uint64_t evicted;     /* entries that evictions freed */
+    uint64_t evicted_hit; /* those of them that were marked */
+    uint64_t freed;       /* the charges of those that evictions freed */
+    uint64_t turns;       /* turns of the clock's hand */
+    uint64_t corrections; /* of words whose uses were near their end */
+    uint64_t lost;        /* exchanges that another thread's step made lose */
+} ferretgold_stats;
+
+/* What was left of a cache that was closed: the charges of its entries in sum and their number, by
+ * the books (usage, occupied) and slot by slot (slot_charges, slot_count). They are equal. */
+typedef struct ferretgold_totals {
+    uint64_t usage;
+    uint64_t occupied;
+    uint64_t slot_charges;
+    uint64_t slot_count;
+} ferretgold_totals;
+
+/* A cache, and a client of one. */
+typedef struct ferretgold_cache ferretgold_cache;
+typedef struct ferretgold_client ferretgold_client;
+
+/* ---- The library's functions. Programs in C and C++ call the inline functions below. ---------- */
+
+/* A pointer to a cache or to a client, as a call takes it. It isn't null. */
+typedef struct ferretgold_object {
+    void *at;
+} ferretgold_object;
+
+/* None of these pointers is null, but for outputs of length 0. A value of length 0 has a pointer
+ * that isn't null. `home` is the address of the cache's object in both calls that take it. */
+uint32_t ferretgold_raw_open(const ferretgold_config *config, void **cache);
+uint32_t ferretgold_raw_client_open(ferretgold_object cache, size_t home, void **client);
+uint32_t ferretgold_raw_client_close(ferretgold_object cache, size_t home,
+                                     ferretgold_object client);
+uint32_t ferretgold_raw_close(ferretgold_object cache, ferretgold_totals *totals);
+uint32_t ferretgold_raw_lookup(ferretgold_object client, const ferretgold_key *key,
+                               ferretgold_handle *handle);
+uint32_t ferretgold_raw_reref(ferretgold_object client, const ferretgold_handle *handle,
+                              ferretgold_handle *more);
+uint32_t ferretgold_raw_release(ferretgold_object client, const ferretgold_handle *handle,
+                                bool useful, bool erase_if_last, bool *freed);
+uint32_t ferretgold_raw_insert(ferretgold_object client, const ferretgold_key *key,
+                               const uint8_t *value, size_t length, uint32_t charge,
+                               uint32_t priority, uint32_t *inserted);
+uint32_t ferretgold_raw_insert_pinned(ferretgold_object client, const ferretgold_key *key,
+                                      const uint8_t *value, size_t length, uint32_t charge,
+                                      uint32_t priority, uint32_t *inserted,
+                                      ferretgold_handle *handle);
+uint32_t ferretgold_raw_erase(ferretgold_object client, const ferretgold_key *key,
+                              uint32_t *hidden);
+uint32_t ferretgold_raw_key(ferretgold_object client, const ferretgold_handle *handle,
+                            ferretgold_key *key);
+uint32_t ferretgold_raw_value_len(ferretgold_object client, const ferretgold_handle *handle,
+                                  size_t *length);
+uint32_t ferretgold_raw_read_value(ferretgold_object client, const ferretgold_handle *handle,
+                                   uint8_t *buffer, size_t capacity, size_t *length);
+uint64_t ferretgold_raw_usage(ferretgold_object client);
+uint64_t ferretgold_raw_pinned_usage(ferretgold_object client);
+uint64_t ferretgold_raw_occupancy(ferretgold_object client);
+uint32_t ferretgold_raw_word(ferretgold_object client, uint32_t shard, uint32_t slot,
+                             uint64_t *word);
+uint32_t ferretgold_raw_displacement(ferretgold_object client, uint32_t shard, uint32_t slot,
+                                     uint64_t *displacement);
+uint32_t ferretgold_raw_number(ferretgold_object client);
+uint32_t ferretgold_raw_held(ferretgold_object client);
+uint64_t ferretgold_raw_serials_left(ferretgold_object client);
+bool ferretgold_raw_holds(ferretgold_object client, const ferretgold_handle *handle);
+void ferretgold_raw_stats(ferretgold_object client, ferretgold_stats *stats);
+
+static inline ferretgold_object ferretgold_object_of(void *at) {
+    ferretgold_object object;
+    object.at = at;
+    return object;
+}
+
+/* ---- Opening and closing --------------------------------------------------------------------- */
+
+/*
+ * Opens a cache with no entries, and with all its clients, of which none is out yet.
+ *
+ * Takes all memory that look-ups and insertions will use: for each slot 56 bytes and its room, for
+ * each client some 100 bytes for each handle that it may hold. Costs a store for each word.
+ *
+ * Refuses BAD_SLOTS, BAD_ROOM, BAD_CLIENTS, BAD_HANDLES, BAD_SHARDS, BAD_CAPACITY, BAD_SERIALS,
+ * then OUT_OF_MEMORY. Nothing remains then.
+ */
+static inline ferretgold_status ferretgold_open(const ferretgold_config *config,
+                                                ferretgold_cache **cache) {
+    if (config == NULL || cache == NULL) {
+        return FERRETGOLD_NULL;
+    }
+    void *opened = NULL;
+    uint32_t status = ferretgold_raw_open(config, &opened);
+    if (status == FERRETGOLD_OK) {
+        *cache = (ferretgold_cache *)opened;
+    }
+    return (ferretgold_status)status;
+}
+
+/*
+ * Gives out a client: one that holds no handle, new or given back before. One that was given back
+ * has the serials left that it had, and its statistics.
+ *
+ * Takes memory for the client's object and for 40 bytes a handle. Makes no atomic step on the
+ * cache's words.
+ *
+ * Refuses NO_CLIENT, OUT_OF_MEMORY.
+ */
+static inline ferretgold_status ferretgold_client_open(ferretgold_cache *cache,
+                                                       ferretgold_client **client) {
+    if (cache == NULL || client == NULL) {
+        return FERRETGOLD_NULL;
+    }
+    void *opened = NULL;
+    uint32_t status =
+        ferretgold_raw_client_open(ferretgold_object_of(cache), (size_t)cache, &opened);
+    if (status == FERRETGOLD_OK) {
+        *client = (ferretgold_client *)opened;
+    }
+    return (ferretgold_status)status;
+}
+
+/*
+ * Takes a client back. Its pointer stands for nothing from then on.
+ *
+ * Gives the memory of ferretgold_client_open back. Makes no atomic step on the cache's words.
+ *
+ * Refuses OTHER_CACHE, HANDLES_OUT: release them first. After a refusal the client works on.
+ */
+static inline ferretgold_status ferretgold_client_close(ferretgold_cache *cache,
+                                                        ferretgold_client *client) {
+    if (cache == NULL || client == NULL) {
+        return FERRETGOLD_NULL;
+    }
+    return (ferretgold_status)ferretgold_raw_client_close(
+        ferretgold_object_of(cache), (size_t)cache, ferretgold_object_of(client));
+}
+
+/*
+ * Ends a cache whose clients are all back, and tells what was left in it. Its pointer stands for
+ * nothing from then on, and all memory is given back. `totals` may be null.
+ *
+ * A cache of which a client was lost can't be closed: it stays.
+ *
+ * Costs a load for each client and shard, and two for each slot.
+ *
+ * Refuses MISSING. After a refusal the cache works on.
+ */
+static inline ferretgold_status ferretgold_close(ferretgold_cache *cache,
+                                                 ferretgold_totals *totals) {
+    if (cache == NULL) {
+        return FERRETGOLD_NULL;
+    }
+    ferretgold_totals told = {0, 0, 0, 0};
+    uint32_t status = ferretgold_raw_close(ferretgold_object_of(cache), &told);
+    if (status == FERRETGOLD_OK && totals != NULL) {
+        *totals = told;
+    }
+    return (ferretgold_status)status;
+}
+
+/* ---- Getting and giving back handles --------------------------------------------------------- */
+
+/*
+ * Looks for a visible entry of the key. FERRETGOLD_OK: the client has a handle on it, and a serial
+ * is used. FERRETGOLD_MISS: there was none that the client could see; nothing is changed.
+ *
+ * Never gives an entry that this client saw erased. Costs at a first hit a load, an add and two
+ * loads. Bound: 7*L.
+ *
+ * Refuses HANDLES_FULL, SPENT; also where the key isn't there.
+ */
+static inline ferretgold_status ferretgold_lookup(ferretgold_client *client,
+                                                  const ferretgold_key *key,
+                                                  ferretgold_handle *handle) {
+    if (client == NULL || key == NULL || handle == NULL) {
+        return FERRETGOLD_NULL;
+    }
+    ferretgold_handle found = {0, 0, 0, 0};
+    uint32_t status = ferretgold_raw_lookup(ferretgold_object_of(client), key, &found);
+    if (status == FERRETGOLD_OK) {
+        *handle = found;
+    }
+    return (ferretgold_status)status;
+}
+
+/*
+ * Gives one handle more on the very entry that a handle is on, also on a standalone one or an
+ * erased one. Uses a serial.
+ *
+ * Costs an add; of a standalone entry no step. Bound: 2.
+ *
+ * Refuses NO_HANDLE, HANDLES_FULL, SPENT.
+ */
+static inline ferretgold_status ferretgold_reref(ferretgold_client *client,
+                                                 ferretgold_handle handle,
+                                                 ferretgold_handle *more) {
+    if (client == NULL || more == NULL) {
+        return FERRETGOLD_NULL;
+    }
+    ferretgold_handle given = {0, 0, 0, 0};
+    uint32_t status = ferretgold_raw_reref(ferretgold_object_of(client), &handle, &given);
+    if (status == FERRETGOLD_OK) {
+        *more = given;
+    }
+    return (ferretgold_status)status;
+}
+
+/*
+ * Gives a handle back: as a use of its entry where `useful`, which is what keeps entries that are
+ * read. Where it was the last reference, and the entry was erased or `erase_if_last`, one try is
+ * made to free the entry. A standalone entry goes with its last handle. `freed` tells whether this
+ * call freed an entry; it may be null.
+ *
+ * Costs an add or a take; where it frees, a few steps and one for each slot of the entry's trail.
+ * Bound: L + 8.
+ *
+ * Refuses NO_HANDLE.
+ */
+static inline ferretgold_status ferretgold_release(ferretgold_client *client,
+                                                   ferretgold_handle handle, bool useful,
+                                                   bool erase_if_last, bool *freed) {
+    if (client == NULL) {
+        return FERRETGOLD_NULL;
+    }
+    bool told = false;
+    uint32_t status = ferretgold_raw_release(ferretgold_object_of(client), &handle, useful,
+                                             erase_if_last, &told);
+    if (status == FERRETGOLD_OK && freed != NULL) {
+        *freed = told;
+    }
+    return (ferretgold_status)status;
+}
+
+/* ---- Inserting and erasing ------------------------------------------------------------------- */
+
+/* Whether `length` bytes may be read at `value`; and a pointer to them that isn't null. */
+static inline bool ferretgold_is_readable(const void *value, size_t length) {
+    return value != NULL || length == 0;
+}
+
+static inline const uint8_t *ferretgold_bytes_of(const void *value) {
+    static const uint8_t none[1] = {0};
+    return value != NULL ? (const uint8_t *)value : none;
+}
+
+/*
+ * Inserts an entry of this key, value and charge, and keeps no handle on it. A place and the charge
+ * are reserved in the key's shard first, which may evict others. `value` may be null where `length`
+ * is 0, and `inserted` may be null.
+ *
+ * PLACED: the entry is in the table. DROPPED: the shard was full and no place was found, or an entry
+ * of the key was met first (it is used then, and its value stays), or as many slots as the shard has
+ * were seen taken. Uses a serial, also where it is refused by the last two.
+ *
+ * Costs the reservation, for each probe what a look-up costs, and a store for each word of the entry.
+ * Bound: (4*L + 25)*(3*L/4 + 1) + 8*L + W + 8.
+ *
+ * Refuses BAD_PRIORITY, NO_CHARGE, TOO_LONG, SPENT, TOO_LARGE; and under strict, after evictions
+ * that stay made, CAPACITY_FULL, OCCUPANCY_FULL.
+ */
+static inline ferretgold_status ferretgold_insert(ferretgold_client *client,
+                                                  const ferretgold_key *key, const void *value,
+                                                  size_t length, uint32_t charge,
+                                                  ferretgold_priority priority,
+                                                  ferretgold_inserted *inserted) {
+    if (client == NULL || key == NULL || !ferretgold_is_readable(value, length)) {
+        return FERRETGOLD_NULL;
+    }
+    uint32_t told = 0;
+    uint32_t status =
+        ferretgold_raw_insert(ferretgold_object_of(client), key, ferretgold_bytes_of(value), length,
+                              charge, (uint32_t)priority, &told);
+    if (status == FERRETGOLD_OK && inserted != NULL) {
+        *inserted = (ferretgold_inserted)told;
+    }
+    return (ferretgold_status)status;
+}
+
+/*
+ * Inserts an entry of this key, value and charge, and gives a handle on it. PLACED: it is in the
+ * table. STANDALONE: it isn't, for one of the reasons that ferretgold_insert drops one for; look-ups
+ * don't find it, its charge is in the usage, and it goes with its last handle. `value` may be null
+ * where `length` is 0, and `inserted` may be null.
+ *
+ * Takes memory for a copy of the value, which a standalone entry keeps. Costs what ferretgold_insert
+ * costs, and where the entry stands alone one step more. Bound: the same.
+ *
+ * Refuses BAD_PRIORITY, NO_CHARGE, TOO_LONG, OUT_OF_MEMORY, HANDLES_FULL, SPENT, TOO_LARGE; and under
+ * strict, after evictions that stay made, CAPACITY_FULL, OCCUPANCY_FULL.
+ */
+static inline ferretgold_status ferretgold_insert_pinned(ferretgold_client *client,
+                                                         const ferretgold_key *key,
+                                                         const void *value, size_t length,
+                                                         uint32_t charge,
+                                                         ferretgold_priority priority,
+                                                         ferretgold_inserted *inserted,
+                                                         ferretgold_handle *handle) {
+    if (client == NULL || key == NULL || handle == NULL ||
+        !ferretgold_is_readable(value, length)) {
+        return FERRETGOLD_NULL;
+    }
+    uint32_t told = 0;
+    ferretgold_handle given = {0, 0, 0, 0};
+    uint32_t status = ferretgold_raw_insert_pinned(ferretgold_object_of(client), key,
+                                                   ferretgold_bytes_of(value), length, charge,
+                                                   (uint32_t)priority, &told, &given);
+    if (status == FERRETGOLD_OK) {
+        *handle = given;
+        if (inserted != NULL) {
+            *inserted = (ferretgold_inserted)told;
+        }
+    }
+    return (ferretgold_status)status;
+}
+
+/*
+ * Hides each visible entry of the key: no look-up finds them from then on. Frees those that nobody
+ * else holds; the others go with their last reference, and handles show what they showed. `hidden`
+ * tells how many were hidden; it may be null.
+ *
+ * Costs for each probe what a look-up costs, and for each match what freeing costs.
+ * Bound: (L + 14)*L + 2.
+ */
+static inline ferretgold_status ferretgold_erase(ferretgold_client *client,
+                                                 const ferretgold_key *key, uint32_t *hidden) {
+    if (client == NULL || key == NULL) {
+        return FERRETGOLD_NULL;
+    }
+    uint32_t told = 0;
+    uint32_t status = ferretgold_raw_erase(ferretgold_object_of(client), key, &told);
+    if (hidden != NULL) {
+        *hidden = told;
+    }
+    return (ferretgold_status)status;
+}
+
+/* ---- Reading --------------------------------------------------------------------------------- */
+
+/*
+ * The key of the entry that a handle is on. Makes no atomic step.
+ *
+ * Refuses NO_HANDLE.
+ */
+static inline ferretgold_status ferretgold_handle_key(ferretgold_client *client,
+                                                      ferretgold_handle handle,
+                                                      ferretgold_key *key) {
+    if (client == NULL || key == NULL) {
+        return FERRETGOLD_NULL;
+    }
+    ferretgold_key told = {0, 0};
+    uint32_t status = ferretgold_raw_key(ferretgold_object_of(client), &handle, &told);
+    if (status == FERRETGOLD_OK) {
+        *key = told;
+    }
+    return (ferretgold_status)status;
+}
+
+/*
+ * How many bytes the value has. Costs a load; of a standalone entry none. Bound: 1.
+ *
+ * Refuses NO_HANDLE.
+ */
+static inline ferretgold_status ferretgold_value_len(ferretgold_client *client,
+                                                     ferretgold_handle handle, size_t *length) {
+    if (client == NULL || length == NULL) {
+        return FERRETGOLD_NULL;
+    }
+    size_t told = 0;
+    uint32_t status = ferretgold_raw_value_len(ferretgold_object_of(client), &handle, &told);
+    if (status == FERRETGOLD_OK) {
+        *length = told;
+    }
+    return (ferretgold_status)status;
+}
+
+/*
+ * Copies the value to the front of a buffer of `capacity` bytes, and tells its length. The rest of
+ * the buffer stays. `buffer` may be null where `capacity` is 0, and `length` may be null.
+ *
+ * Costs two loads for the length, and one for each eight bytes; of a standalone entry a copy.
+ * Bound: W + 2.
+ *
+ * Refuses NO_HANDLE; TOO_SHORT, where `length` tells how many bytes the value has.
+ */
+static inline ferretgold_status ferretgold_read_value(ferretgold_client *client,
+                                                      ferretgold_handle handle, void *buffer,
+                                                      size_t capacity, size_t *length) {
+    if (client == NULL || (buffer == NULL && capacity != 0)) {
+        return FERRETGOLD_NULL;
+    }
+    uint8_t none[1];
+    size_t told = 0;
+    uint32_t status = ferretgold_raw_read_value(ferretgold_object_of(client), &handle,
+                                                buffer != NULL ? (uint8_t *)buffer : none,
+                                                capacity, &told);
+    if ((status == FERRETGOLD_OK || status == FERRETGOLD_TOO_SHORT) && length != NULL) {
+        *length = told;
+    }
+    return (ferretgold_status)status;
+}
+
+/* ---- Totals ---------------------------------------------------------------------------------- */
+
+/* Each of the three goes through the shards while other threads work: it is no picture of one moment.
+ * Above 2^64 - 1 it says that. */
+
+/* What is charged, also for standalone entries and for what other clients have reserved. Under strict
+ * at most S times the capacity of a shard. Bound: S. */
+static inline ferretgold_status ferretgold_usage(ferretgold_client *client, uint64_t *usage) {
+    if (client == NULL || usage == NULL) {
+        return FERRETGOLD_NULL;
+    }
+    *usage = ferretgold_raw_usage(ferretgold_object_of(client));
+    return FERRETGOLD_OK;
+}
+
+/* What is charged for entries that are held, and for standalone ones. Bound: S*(5*L + 1). */
+static inline ferretgold_status ferretgold_pinned_usage(ferretgold_client *client,
+                                                        uint64_t *usage) {
+    if (client == NULL || usage == NULL) {
+        return FERRETGOLD_NULL;
+    }
+    *usage = ferretgold_raw_pinned_usage(ferretgold_object_of(client));
+    return FERRETGOLD_OK;
+}
+
+/* How many entries there are, with what other clients have in hand. Bound: S. */
+static inline ferretgold_status ferretgold_occupancy(ferretgold_client *client,
+                                                     uint64_t *occupancy) {
+    if (client == NULL || occupancy == NULL) {
+        return FERRETGOLD_NULL;
+    }
+    *occupancy = ferretgold_raw_occupancy(ferretgold_object_of(client));
+    return FERRETGOLD_OK;
+}
+
+/* The meta word of a slot, and how often it stands in trails: for tests and tools. Bound: 1.
+ * Refuse OUT_OF_RANGE. */
+static inline ferretgold_status ferretgold_word(ferretgold_client *client, uint32_t shard,
+                                                uint32_t slot, uint64_t *word) {
+    if (client == NULL || word == NULL) {
+        return FERRETGOLD_NULL;
+    }
+    uint64_t told = 0;
+    uint32_t status = ferretgold_raw_word(ferretgold_object_of(client), shard, slot, &told);
+    if (status == FERRETGOLD_OK) {
+        *word = told;
+    }
+    return (ferretgold_status)status;
+}
+
+static inline ferretgold_status ferretgold_displacement(ferretgold_client *client, uint32_t shard,
+                                                        uint32_t slot, uint64_t *displacement) {
+    if (client == NULL || displacement == NULL) {
+        return FERRETGOLD_NULL;
+    }
+    uint64_t told = 0;
+    uint32_t status = ferretgold_raw_displacement(ferretgold_object_of(client), shard, slot, &told);
+    if (status == FERRETGOLD_OK) {
+        *displacement = told;
+    }
+    return (ferretgold_status)status;
+}
+
+/* ---- Of a client, without an atomic step. A null client has nothing. --------------------------- */
+
+/* Its number among the cache's clients, from 0. */
+static inline uint32_t ferretgold_client_number(ferretgold_client *client) {
+    return client == NULL ? 0 : ferretgold_raw_number(ferretgold_object_of(client));
+}
+
+/* How many handles it holds. */
+static inline uint32_t ferretgold_held(ferretgold_client *client) {
+    return client == NULL ? 0 : ferretgold_raw_held(ferretgold_object_of(client));
+}
+
+/* How many serials it has left. */
+static inline uint64_t ferretgold_serials_left(ferretgold_client *client) {
+    return client == NULL ? 0 : ferretgold_raw_serials_left(ferretgold_object_of(client));
+}
+
+/* Whether it holds this handle. */
+static inline bool ferretgold_holds(ferretgold_client *client, ferretgold_handle handle) {
+    return client != NULL && ferretgold_raw_holds(ferretgold_object_of(client), &handle);
+}
+
+/* What its calls did on all shards. */
+static inline ferretgold_status ferretgold_statistics(ferretgold_client *client,
+                                                      ferretgold_stats *stats) {
+    if (client == NULL || stats == NULL) {
+        return FERRETGOLD_NULL;
+    }
+    ferretgold_stats told = {0, 0, 0, 0, 0, 0, 0, 0};
+    ferretgold_raw_stats(ferretgold_object_of(client), &told);
+    *stats = told;
+    return FERRETGOLD_OK;
+}
+
+/* ---- Texts ----------------------------------------------------------------------------------- */
+
+/* The name of a status; "unknown" where there is none. */
+static inline const char *ferretgold_status_text(ferretgold_status status) {
+    switch (status) {
+    case FERRETGOLD_OK: return "ok";
+    case FERRETGOLD_MISS: return "miss";
+    case FERRETGOLD_NULL: return "a pointer is null";
+    case FERRETGOLD_NO_HANDLE: return "the client holds no such handle";
+    case FERRETGOLD_NO_CHARGE: return "the charge is 0";
+    case FERRETGOLD_TOO_LONG: return "the value is longer than a slot has room for";
+    case FERRETGOLD_TOO_SHORT: return "the buffer is shorter than the value";
+    case FERRETGOLD_BAD_PRIORITY: return "there is no such priority";
+    case FERRETGOLD_OUT_OF_RANGE: return "there is no such shard or slot";
+    case FERRETGOLD_HANDLES_FULL: return "the client holds all the handles that it may";
+    case FERRETGOLD_SPENT: return "the client has used all its serials";
+    case FERRETGOLD_TOO_LARGE: return "the charge is above a shard's capacity";
+    case FERRETGOLD_CAPACITY_FULL: return "evictions freed too little of the charge";
+    case FERRETGOLD_OCCUPANCY_FULL: return "evictions freed no slot";
+    case FERRETGOLD_OUT_OF_MEMORY: return "memory was refused";
+    case FERRETGOLD_BAD_SLOTS: return "slots is no power of two from 8 to 65536";
+    case FERRETGOLD_BAD_ROOM: return "room is not 1 to 512";
+    case FERRETGOLD_BAD_CLIENTS: return "clients is not 1 to 1024";
+    case FERRETGOLD_BAD_HANDLES: return "handles is not 1 to 16384";
+    case FERRETGOLD_BAD_SHARDS: return "shards is no power of two from 1 to 64";
+    case FERRETGOLD_BAD_CAPACITY: return "capacity is above 2^40";
+    case FERRETGOLD_BAD_SERIALS: return "serials is not 1 to 2^54";
+    case FERRETGOLD_NO_CLIENT: return "all clients of the cache are out";
+    case FERRETGOLD_OTHER_CACHE: return "the client is one of another cache";
+    case FERRETGOLD_HANDLES_OUT: return "the client holds handles";
+    case FERRETGOLD_MISSING: return "clients of the cache are out";
+    }
+    return "unknown";
+}
+
+#ifdef __cplusplus
+}
+#endif
+
+#if defined(__cplusplus)
+#define FERRETGOLD_SIZE_IS(type, size) \
+    static_assert(sizeof(type) == (size), "ferretgold: " #type " has another size here")
+#else
+#define FERRETGOLD_SIZE_IS(type, size) \
+    _Static_assert(sizeof(type) == (size), "ferretgold: " #type " has another size here")
+#endif
+FERRETGOLD_SIZE_IS(void *, 8);
+FERRETGOLD_SIZE_IS(bool, 1);
+FERRETGOLD_SIZE_IS(ferretgold_config, 48);
+FERRETGOLD_SIZE_IS(ferretgold_key, 16);
+FERRETGOLD_SIZE_IS(ferretgold_handle, 24);
+FERRETGOLD_SIZE_IS(ferretgold_stats, 64);
+FERRETGOLD_SIZE_IS(ferretgold_totals, 32);
+#undef FERRETGOLD_SIZE_IS
+
+#endif
