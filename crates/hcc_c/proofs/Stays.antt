@@ -1,5 +1,5 @@
 -- A handle that a client holds stays held where it stands for what it stood for.
-use Rattle.std.proofs.Common.{◌≡◌, ℕ, Bool, true, false, Option, Some, None, IsSome, if◌then◌else◌, refl, sym, ap, ◌∙◌}
+use Rattle.std.proofs.Common.{◌≡◌, Bool, true, false, Option, Some, None, IsSome, if◌then◌else◌, refl, ap, ◌∙◌}
 use Rattle.slab.specs.Slab.{get}
 use Rattle.hcc_cache.specs.declared.cache.Cache.{Cache}
 use Rattle.hcc_cache.specs.declared.client.Client.{Client}

@@ -1,5 +1,5 @@
 -- A cache in the hands of C, with the clients that it has back.
-use Rattle.std.specs.Prelude.{◌≡◌, ℕ, ◌≤◌, ◌++◌, List, [], ◌∷◌, Option, Some, None, length}
+use Rattle.std.specs.Prelude.{◌≡◌, ℕ, ◌++◌, List, [], ◌∷◌, Option, Some, None, length}
 use Rattle.std.specs.Arc.{arc_value}
 use Rattle.hcc_rule.specs.Views.{Each}
 use Rattle.hcc_cache.specs.declared.cache.Cache.{Cache}

@@ -1,5 +1,4 @@
 -- The cache's values of what crosses to C.
-use Rattle.std.specs.Prelude.{ℕ}
 use Rattle.hcc_rule.specs.declared.key.Key.{Key as CacheKey}
 use Rattle.hcc_shard.specs.declared.seat.Stats.{Stats as CacheStats}
 use Rattle.hcc_cache.specs.declared.config.Config.{Config}
