@@ -118,7 +118,7 @@ pub fn core<R: AllocGlobal + Input + Print + Eprint>(rt: &R, setup: Setup) -> St
 }
 
 /// Plays a trace of calls from standard input to standard output.
-fn calls<R: AllocGlobal + Input + Print + Eprint>(rt: &R, config: Config) -> Status {
+pub fn calls<R: AllocGlobal + Input + Print + Eprint>(rt: &R, config: Config) -> Status {
     let mut reader = rt.reader();
     let mut writer = io::writer(rt);
     let options = Options { config, block: 1 };

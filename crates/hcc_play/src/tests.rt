@@ -1,5 +1,5 @@
 //! The program over a runtime in memory: what each input gives, and what each refusal tells.
-use crate::run::{Request, asked, core};
+use crate::run::{Request, asked, calls, core};
 use crate::status::Status;
 use std::alloc::{Allocator, Global};
 use std::cell::RefCell;
@@ -100,6 +100,7 @@ fn play(alloc: Global, words: &[&str], input: &'static [u8]) -> Result<Ran, Fail
     };
     let status = match asked(&fake, owned.as_slice()) {
         Request::Core(setup) => core(&fake, setup),
+        Request::Run(config) => calls(&fake, config),
         Request::Blocks(..) => Status::Done,
         Request::Nothing(status) => status,
     };
