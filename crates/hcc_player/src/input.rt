@@ -24,7 +24,7 @@ pub(crate) fn read_all<R: Read>(alloc: Global, reader: &mut R) -> Result<Vec<u8>
 }
 
 /// A buffer of this size.
-fn buffer(alloc: Global, size: usize) -> Result<Vec<u8>, AllocError>
+pub(crate) fn buffer(alloc: Global, size: usize) -> Result<Vec<u8>, AllocError>
     ensures { IfOk result (λ buffer. length buffer.items ≡ size) }
 {
     vec![in alloc; 0u8; size]

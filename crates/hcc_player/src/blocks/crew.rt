@@ -6,6 +6,7 @@ ghost use Rattle.hcc_player.specs.Work.{EachAt, IsSetUp};
 use super::line::BlockRead;
 use super::tally::ClientReport;
 use super::worker::{Done, Worker};
+use crate::input::buffer;
 use hcc_block::{BlockReader, BlockSource};
 use hcc_cache::Client;
 use std::alloc::{AllocError, Global};
@@ -50,13 +51,6 @@ fn taken<X>(left: &mut IntoIter<X>) -> X
     ensures { into_iter_items left.old ≡ result ∷ into_iter_items left.new }
 {
     left.next().unwrap()
-}
-
-/// A buffer of this size.
-fn buffer(alloc: Global, size: usize) -> Result<Vec<u8>, AllocError>
-    ensures { IfOk result (λ buffer. length buffer.items ≡ size) }
-{
-    vec![in alloc; 0u8; size]
 }
 
 /// The clients of workers that have ended, and what they report, in order.
