@@ -26,6 +26,10 @@ pub const CORRECTION: u64 = 1 << 29;
 /// How near to its end the use counter may come: from here on new references don't count.
 pub const NEAR: u64 = CORRECTION + 4;
 
+/// The most uses that an entry may begin with: with them and all references that may count, its
+/// counters stay in their 30 bits.
+pub const MOST_USES: u64 = NEAR + MOST_REFERENCES;
+
 /// The highest first countdown.
 pub const MOST_COUNTDOWN: u64 = 3;
 

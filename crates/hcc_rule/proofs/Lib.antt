@@ -2,6 +2,7 @@ pub mod Basics
 pub mod Parts
 pub mod Probes
 pub mod Seats
+pub mod Images
 pub mod References
 pub mod Entries
 pub mod Ledgers

@@ -2,3 +2,4 @@ pub mod Alone
 pub mod LedgerLimits
 pub mod SlotLimits
 pub mod Passed
+pub mod Beginnings

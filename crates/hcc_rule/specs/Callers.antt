@@ -1,14 +1,20 @@
 -- What callers say of a table, by its public value alone, and of the view of a seat at it.
 use Rattle.std.specs.Prelude.{◌≡◌, ℕ, ◌+◌, ◌^◌, ◌<◌, ◌≤◌, true, Bool, List, [], IsSomeAnd}
+use Rattle.atomic_table.specs.Table.{State}
 use Rattle.hcc_core.specs.declared.client.Client.{Client}
 use Rattle.hcc_core.specs.World.{owns_nothing}
 use Rattle.hcc_core.specs.Opening.{new_client}
 use Rattle.hcc_rule.specs.declared.geometry.Geometry.{Geometry}
+use Rattle.hcc_rule.specs.declared.image.ImageEntry.{ImageEntry}
+use Rattle.hcc_rule.specs.declared.key.Key.{Key}
 use Rattle.hcc_rule.specs.declared.layout.TheConstants.{META, DISPLACEMENT, DATA}
 use Rattle.hcc_rule.specs.declared.rule.Plan.{Plan}
 use Rattle.hcc_rule.specs.declared.table.RuleTable.{RuleTable}
+use Rattle.hcc_rule.specs.declared.view.Logged.{Logged}
 use Rattle.hcc_rule.specs.declared.view.View.{View}
-use Rattle.hcc_rule.specs.Seats.{SeatOf, IsSeatOf, AreNewSeats}
+use Rattle.hcc_rule.specs.Images.{BeginsWith}
+use Rattle.hcc_rule.specs.Logs.{HoldsLogged, moves_in}
+use Rattle.hcc_rule.specs.Seats.{SeatOf, IsSeatOf, AreNewSeats, AreSeatsWith}
 use Rattle.hcc_rule.specs.Views.{record_in}
 use Rattle.hcc_rule.specs.Words.{field_at, ledger_at}
 
@@ -56,6 +62,17 @@ module _ {T A : Type 0} where
   abbrev pub AreSeatsAt : RuleTable T A → ℕ → List (SeatOf T) → Type 0
   AreSeatsAt table client seats =
       AreNewSeats table.table.shared.table_id table.table.shared.key.tag client seats
+
+  -- the same, where client 0 made these entries
+  abbrev pub AreSeatsAtWith : RuleTable T A → List ImageEntry → List (SeatOf T) → Type 0
+  AreSeatsAtWith table es seats =
+      AreSeatsWith table.table.shared.table_id table.table.shared.key.tag es seats
+
+  -- until a seat of this table makes a step, its words are those of these entries
+  abbrev pub OpensWith : (T → Key → List ℕ → Type 0) → RuleTable T A → List ImageEntry → Type 0
+  OpensWith fits table es =
+      (s : State (Unit {0}) (Logged T)) → HoldsLogged fits (plan_of table) s → moves_in s ≡ 0
+      → BeginsWith table.geometry.slots table.geometry.room es s.words
 
   -- a slot of this table
   abbrev pub IsSlotOf : RuleTable T A → ℕ → Type 0

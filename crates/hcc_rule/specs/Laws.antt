@@ -6,6 +6,7 @@ use Rattle.hcc_core.specs.declared.slot.Entry.{Entry}
 use Rattle.hcc_core.specs.Sums.{total}
 use Rattle.hcc_rule.specs.declared.layout.TheConstants.{META, DISPLACEMENT, DATA}
 use Rattle.hcc_rule.specs.declared.rule.Plan.{Plan}
+use Rattle.hcc_rule.specs.declared.view.Logged.{Logged}
 use Rattle.hcc_rule.specs.declared.view.Record.{Record}
 use Rattle.hcc_rule.specs.declared.view.View.{View}
 use Rattle.hcc_rule.specs.ToldOwners.{IsDataWord}
@@ -15,6 +16,10 @@ use Rattle.hcc_rule.specs.Words.{field_at, ledger_at}
 -- the words of a shard and the views of all seats, without their logs
 abbrev pub StateOf : Type 0 → Type 0
 StateOf T = table.State (Unit {0}) (View T)
+
+-- and with them
+abbrev pub LoggedStateOf : Type 0 → Type 0
+LoggedStateOf T = table.State (Unit {0}) (Logged T)
 
 module _ {T : Type 0} (p : Plan T) (s : StateOf T) where
   abbrev pub ledger_word : ℕ → ℕ

@@ -2,6 +2,7 @@ pub mod Words
 pub mod Probes
 pub mod Views
 pub mod Rule
+pub mod Images
 pub mod Opening
 pub mod Seats
 pub mod Logs

@@ -1,14 +1,17 @@
--- A seat's view beside the list of its own atomic steps. The rule speaks of the views alone.
-use Rattle.std.specs.Prelude.{◌≡◌, ℕ, ◌+◌, List, [], ◌∷◌, ◌++◌, length, map}
+-- A seat's view beside the list of its own atomic steps. Of the views the rule says that they show
+-- a world with the words, and of the steps what the words are before there is one.
+use Rattle.std.specs.Prelude.{◌≡◌, ℕ, ◌+◌, List, [], ◌∷◌, ◌++◌, Some, None, length, map, slice_get}
 use Rattle.atomic_table.specs.Table as table
+use Rattle.hcc_core.specs.Sums.{total}
 use Rattle.hcc_rule.specs.declared.key.Key.{Key}
 use Rattle.hcc_rule.specs.declared.rule.Plan.{Plan}
 use Rattle.hcc_rule.specs.declared.view.Atomic.{Atomic}
 use Rattle.hcc_rule.specs.declared.view.Logged.{Logged}
 use Rattle.hcc_rule.specs.declared.view.View.{View}
+use Rattle.hcc_rule.specs.Images.{BeginsWith, entries_in}
 use Rattle.hcc_rule.specs.Opening.{opening_view, left_view, right_view, joined_view, spent_view}
 use Rattle.hcc_rule.specs.Rule.{Holds}
-use Rattle.hcc_rule.specs.Seats.{atomic}
+use Rattle.hcc_rule.specs.Seats.{atomic, moves_of}
 use Rattle.hcc_rule.specs.Told.{Held}
 
 module _ {T : Type 0} where
@@ -24,28 +27,45 @@ module _ {T : Type 0} where
     views = map (λ (l : Logged T). l.known) s.views;
   }
 
-  -- the words and the views meet the rule, whatever steps were made
-  abbrev pub HoldsLogged : (T → Key → List ℕ → Type 0) → Plan T
-      → table.State (Unit {0}) (Logged T) → Type 0
-  HoldsLogged fits p s = Holds fits p (unlogged s)
+  -- these are the words of the entries with which the shard begins
+  abbrev pub HasBegun : Plan T → (words : List ℕ) → Type 0
+  HasBegun p words = BeginsWith p.geometry.slots p.geometry.room (entries_in p.image) words
 
-  -- a view with these steps
+  -- how many steps all seats made
+  abbrev pub moves_in : table.State (Unit {0}) (Logged T) → ℕ
+  moves_in s = total moves_of s.views
+
+  -- Words and views meet the rule, whatever steps were made; and as long as there was none, the
+  -- words are those with which the shard began.
+  pub record HoldsLogged (fits : T → Key → List ℕ → Type 0) (p : Plan T)
+      (s : table.State (Unit {0}) (Logged T)) : Type 0 where
+    pub rule : Holds fits p (unlogged s)
+    pub begins : moves_in s ≡ 0 → HasBegun p s.words
+    -- the steps of a seat that was taken in count as those of the seat that took it in
+    pub spent : (j : ℕ) (l : Logged T) → slice_get s.views j ≡ Some l → l.known.tag ≡ None
+        → moves_of l ≡ 0
+
+  -- a view with these steps, of a seat that took in none
   abbrev pub logged : View T → List Atomic → Logged T
-  logged v steps = record { known = v; steps = steps }
+  logged v steps = record { known = v; steps = steps; taken_in = 0 }
 
   abbrev pub first_logged : Plan T → Logged T
   first_logged p = logged (opening_view p) []
 
   -- A seat that is split keeps its steps, and the new one has made none. A seat that takes in
-  -- another keeps its own.
+  -- another keeps its own, and counts the other's.
   abbrev pub left_logged : Logged T → Logged T
-  left_logged l = logged (left_view l.known) l.steps
+  left_logged l = record l { known = left_view l.known }
 
   abbrev pub right_logged : Logged T → Logged T
   right_logged l = logged (right_view l.known) []
 
   abbrev pub joined_logged : Logged T → Logged T → Logged T
-  joined_logged l m = logged (joined_view l.known m.known) l.steps
+  joined_logged l m = record {
+    known = joined_view l.known m.known;
+    steps = l.steps;
+    taken_in = l.taken_in + moves_of m;
+  }
 
   abbrev pub spent_logged : Logged T
   spent_logged = logged spent_view []

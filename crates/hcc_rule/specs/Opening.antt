@@ -8,6 +8,7 @@ use Rattle.hcc_rule.specs.declared.rule.Plan.{Plan}
 use Rattle.hcc_rule.specs.declared.view.Other.{Other}
 use Rattle.hcc_rule.specs.declared.view.Made.{Made}
 use Rattle.hcc_rule.specs.declared.view.View.{View}
+use Rattle.hcc_rule.specs.Images.{entries_in, maker_of}
 use Rattle.hcc_rule.specs.Rule.{resting}
 
 -- a client that was started with nothing in hand, after it showed and saw this
@@ -39,10 +40,11 @@ fresh_view tag o others = record {
   tight = [];
 }
 
--- the first seat of a shard stands for client 0, and may start all others
+-- the first seat of a shard stands for client 0, which made the entries of the image, and may start
+-- all others
 abbrev pub opening_view : {T : Type 0} → Plan T → View T
 opening_view p =
-    fresh_view (Some p.tag) (unstarted 0)
+    fresh_view (Some p.tag) (maker_of (entries_in p.image))
     (map unstarted (range_with_len 1 (p.geometry.clients - 1)))
 
 -- A seat is split: the new one stands for the first of the other clients.

@@ -4,6 +4,7 @@ use mathlib.Core.Option.{none}
 use Rattle.atomic_table.specs.Table.{Step, step, Allows}
 use Rattle.hcc_rule.specs.declared.key.Key.{Key}
 use Rattle.hcc_rule.specs.declared.table.RuleTable.{RuleTable}
+use Rattle.hcc_rule.specs.Callers.{IsSeatAt}
 use Rattle.hcc_rule.specs.Rule.{Holds}
 use Rattle.hcc_rule.specs.Logs.{known_of}
 use Rattle.hcc_rule.specs.Seats.{SeatOf, Makes}
@@ -25,7 +26,7 @@ module _ {T A : Type 0} where
   abbrev pub May : (T → Key → List ℕ → Type 0) → RuleTable T A → SeatOf T → (address : ℕ) → (ℕ → ℕ)
       → (ℕ → Held T → Type 0) → Type 0
   May fits table seat address f told =
-      (seat.table_id ≡ table.table.shared.table_id) × (address < table.table.shared.table_id.words)
+      IsSeatAt table seat × (address < table.table.shared.table_id.words)
       × Allows (Holds fits table.table.shared.key) table.table.shared.table_id.slots seat.id
       (known_of seat.me) address f told
 

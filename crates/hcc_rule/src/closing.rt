@@ -3,7 +3,8 @@ ghost use Rattle.std.specs.Prelude.{◌≡◌, ◌+◌, ◌<◌, ◌≤◌, slic
 ghost use Rattle.hcc_rule.specs.declared.layout.TheConstants.{SLOT_HEAD, LEDGER_WORDS, DISPLACEMENT, PAYLOAD, USAGE, OCCUPANCY, STANDING, HAND};
 ghost use Rattle.hcc_rule.specs.Closing.{words_of, meta_at, data_at, Shown, IsBack, Closes};
 ghost use Rattle.hcc_rule.specs.Callers.{plan_of, IsSeatAt};
-ghost use Rattle.hcc_rule.specs.Seats.{view};
+ghost use Rattle.hcc_rule.specs.Images.{BeginsWith, entries_in};
+ghost use Rattle.hcc_rule.specs.Seats.{moves, view};
 ghost use Rattle.hcc_rule.specs.Views.{named_by};
 ghost use Rattle.hcc_rule.specs.Words.{field_at, ledger_at, word_count};
 
@@ -19,7 +20,8 @@ impl<T: Tag, A: Allocator> RuleTable<T, A> {
     /// Where that view names every client and its own has nothing in hand, they tell more: the
     /// ledger words and the displacement words are those of the entries alone, each entry is one of
     /// the made lists and no two are the same, a slot without an entry has at most strays, and the
-    /// entries are as many as were made less those that were taken.
+    /// entries are as many as were made less those that were taken. Where neither the seat nor any
+    /// that it took in made a step, the words are those with which the shard began.
     ///
     /// It refuses nothing and takes no memory. It costs no pass over the words.
     pub fn close(self, seat: RuleSeat<T>) -> ClosedTable<A>
@@ -29,6 +31,9 @@ impl<T: Tag, A: Allocator> RuleTable<T, A> {
         ensures few { named_by (view seat) ≤ self.geometry.clients }
         ensures closes { IsBack self.geometry.clients (view seat)
             → Closes T.fits (plan_of self).tag self.geometry (words_of result) (view seat) }
+        ensures begins { IsBack self.geometry.clients (view seat) → moves seat ≡ 0
+            → BeginsWith self.geometry.slots self.geometry.room
+            (entries_in (plan_of self).image) (words_of result) }
     {
         let RuleTable {
             table,

@@ -1,20 +1,56 @@
 //! What holds of every state that keeps the rule: so between any two atomic steps of any threads.
 //!
 //! No function here does anything when it runs: its contract is the law. `h.world` is the lawful
-//! world that the words and the views of a state show. A state is meant without the seats' logs, of
-//! which the rule says nothing (`unlogged`).
-ghost use Rattle.std.specs.Prelude.{◌≡◌, ℕ, ◌+◌, ◌^◌, ◌<◌, ◌≤◌, true, Some, slice_get};
+//! world that the words and the views of a state show. A state is meant without the seats' logs
+//! (`unlogged`), but for what its words are before the first step (`HoldsLogged`).
+ghost use Rattle.std.specs.Prelude.{◌≡◌, ◌≢◌, ℕ, ◌+◌, ◌^◌, ◌<◌, ◌≤◌, true, false, List, [], Some, slice_get, slice_index};
+ghost use Rattle.atomic_table.specs.Table.{opening};
+ghost use Rattle.hcc_word.specs.declared.layout.TheConstants.{VISIBLE};
+ghost use Rattle.hcc_word.specs.Word.{word_of};
 ghost use Rattle.hcc_core.specs.declared.client.Client.{Client};
 ghost use Rattle.hcc_core.specs.Lawful.{real_in, taken_in};
 ghost use Rattle.hcc_core.specs.Sums.{total};
 ghost use Rattle.hcc_core.specs.World.{limit_of, occupancy_of, passed_by, standing_in};
-ghost use Rattle.hcc_rule.specs.declared.layout.TheConstants.{USAGE, OCCUPANCY, STANDING};
+ghost use Rattle.hcc_rule.specs.declared.image.ImageEntry.{ImageEntry};
+ghost use Rattle.hcc_rule.specs.declared.layout.TheConstants.{META, USAGE, OCCUPANCY, STANDING};
 ghost use Rattle.hcc_rule.specs.declared.rule.Plan.{Plan};
 ghost use Rattle.hcc_rule.specs.declared.view.View.{View};
-ghost use Rattle.hcc_rule.specs.Laws.{StateOf, ledger_word, displacement_word, has_entry, references_counted, references_held, HasWordsOfRecords};
+ghost use Rattle.hcc_rule.specs.Images.{AreRising, IsImageFor, entries_in};
+ghost use Rattle.hcc_rule.specs.Laws.{LoggedStateOf, StateOf, ledger_word, displacement_word, has_entry, references_counted, references_held, HasWordsOfRecords};
+ghost use Rattle.hcc_rule.specs.Logs.{HasBegun, HoldsLogged, first_logged, moves_in};
 ghost use Rattle.hcc_rule.specs.Rule.{setup_of, Holds};
+ghost use Rattle.hcc_rule.specs.Seats.{IsPlanned};
+ghost use Rattle.hcc_rule.specs.Words.{field_at};
 
 use crate::key::Tag;
+
+/// The words with which a shard begins, of the entries that its plan names.
+pub fn law_opening<T: Tag>()
+    // Words of these entries meet the rule, with the view of the first seat.
+    ensures opens { (p : Plan T) → IsPlanned p.geometry p.capacity
+        → IsImageFor T.fits p.tag p.geometry p.capacity p.strict (entries_in p.image)
+        → (words : List ℕ) → HasBegun p words
+        → HoldsLogged T.fits p (opening words [] (first_logged p)) }
+
+    // As long as no seat has made a step, the words are those of the entries.
+    ensures words { (p : Plan T) (s : LoggedStateOf T) → HoldsLogged T.fits p s → moves_in s ≡ 0
+        → HasBegun p s.words }
+
+    // In these words each entry is Visible in its slot, with its uses, no references and no hit
+    // bit.
+    ensures shown { (p : Plan T) (words : List ℕ) → HasBegun p words
+        → AreRising 0 p.geometry.slots (entries_in p.image) → (number : ℕ) (e : ImageEntry)
+        → slice_get (entries_in p.image) number ≡ Some e
+        → slice_index words (field_at p.geometry.room e.slot META)
+        ≡ word_of e.uses e.uses false VISIBLE }
+
+    // The word of any other slot is 0.
+    ensures others { (p : Plan T) (words : List ℕ) → HasBegun p words
+        → (slot : ℕ) → slot < p.geometry.slots
+        → ((number : ℕ) (e : ImageEntry) → slice_get (entries_in p.image) number ≡ Some e
+        → e.slot ≢ slot)
+        → slice_index words (field_at p.geometry.room slot META) ≡ 0 }
+{}
 
 /// The ledger words, and the limits that they keep.
 pub fn law_ledgers<T: Tag>()

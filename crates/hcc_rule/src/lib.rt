@@ -3,13 +3,16 @@
 //! step.
 #![tactic(auto)]
 
+mod beginning;
 mod closed;
 mod closing;
 mod geometry;
+mod image;
 mod key;
 pub mod laws;
 pub mod layout;
 mod opening;
+pub mod packing;
 mod rule;
 mod steps;
 mod table;
@@ -19,6 +22,7 @@ mod view;
 
 pub use closed::ClosedTable;
 pub use geometry::Geometry;
+pub use image::ImageEntry;
 pub use key::{Key, Tag};
 pub use rule::{Plan, ShardRule};
 pub use steps::Draft;

@@ -1,5 +1,5 @@
 //! What no clause says: that a shard is made where there is memory, that all its words are 0 where
-//! it is closed unused, and how a key's bytes are read.
+//! it is closed unused (no clause speaks of its data words), and how a key's bytes are read.
 use crate::{Geometry, Key, RuleTable, Tag};
 use std::alloc::{AllocError, Global};
 use std::process::Abort;
@@ -8,6 +8,7 @@ mod amounts;
 mod corrections;
 mod frees;
 mod hired;
+mod images;
 mod inserts;
 mod lookups;
 mod steps;

@@ -85,4 +85,6 @@ pub struct Atomic {
 pub struct Logged<T> {
     pub known: View<T>,
     pub steps: LinkedList<Atomic>,
+    /// How many steps the seats made that it took in, with those that they took in.
+    pub taken_in: u64,
 }

@@ -10,6 +10,7 @@ use Rattle.std.specs.Int.{to_le_bytes, from_le_bytes}
 use mir.Syntax.{w64}
 use Rattle.hcc_rule.specs.Views.{Each}
 use Rattle.hcc_rule.specs.Words.{payload, payload_word, words_for}
+use Rattle.hcc_rule.proofs.Images.Payloads.{word_padded}
 
 -- Of bytes are the first ones, and the rest.
 pub each_take : {A : Type 0} (P : A → Type 0) (n : ℕ) (xs : List A) → Each P xs → Each P (take n xs)
@@ -36,22 +37,6 @@ padded_bytes [] (suc n) h zero = omega arith
 padded_bytes [] (suc n) h (suc i) = padded_bytes [] n h i
 padded_bytes (x ∷ xs) n h zero = h.0
 padded_bytes (x ∷ xs) n h (suc i) = padded_bytes xs n h.1 i
-
--- Zeros behind a list change nothing that is read.
-padded_same : (xs : List ℕ) (n i : ℕ) → get_or (xs ++ replicate n 0) i 0 ≡ get_or xs i 0
-padded_same [] zero i = refl
-padded_same [] (suc n) zero = refl
-padded_same [] (suc n) (suc i) = padded_same [] n i
-padded_same (x ∷ xs) n zero = refl
-padded_same (x ∷ xs) n (suc i) = padded_same xs n i
-
--- Nor the word that they make.
-pub word_padded : (bs : List ℕ) (n : ℕ)
-    → from_le_bytes w64 (bs ++ replicate n 0) ≡ from_le_bytes w64 bs
-word_padded bs n = omega (arith, at 0, at 1, at 2, at 3, at 4, at 5, at 6, at 7)
-  where
-    at : (i : ℕ) → get_or (bs ++ replicate n 0) i 0 ≡ get_or bs i 0
-    at = padded_same bs n
 
 -- The word of at most eight bytes has these as its lowest, and zeros above.
 pub padded_word : (bs : List ℕ) → length bs ≤ 8 → Each (λ b. b < 256) bs

@@ -1,10 +1,8 @@
 -- The words of a payload, and the steps that write them.
-use Rattle.std.proofs.Common.{◌≡◌, ℕ, ◌+◌, ◌-◌, ◌<◌, ◌≤◌, List, [], ◌∷◌, ◌++◌, map, take, drop, replicate, length, refl, sym, ap, ◌∙◌, append-nil, arith}
-use Rattle.std.specs.Int.{from_le_bytes}
+use Rattle.std.proofs.Common.{◌≡◌, ℕ, ◌+◌, List, [], ◌∷◌, ◌++◌, map, length, refl, sym, ap, ◌∙◌, append-nil, arith}
 use Rattle.std.specs.List.{range_with_len}
-use Rattle.std.proofs.lemmas.List.{drop-replicate, length-append, length-drop, take_all, append_assoc}
+use Rattle.std.proofs.lemmas.List.{length-append, append_assoc}
 use Rattle.std.proofs.lemmas.List.FromFn.{length-map-range_with_len, map-range_with_len_more}
-use mir.Syntax.{w64}
 use Rattle.hcc_core.specs.declared.client.Owned.TheVariants as owned
 use Rattle.hcc_rule.specs.declared.layout.TheConstants.{PAYLOAD}
 use Rattle.hcc_rule.specs.declared.view.View.{View}
@@ -12,27 +10,7 @@ use Rattle.hcc_rule.specs.Seats.{SeatOf, IsSeatOf, IsSameSeat, view}
 use Rattle.hcc_rule.specs.ToldOwners.{after_write}
 use Rattle.hcc_rule.specs.Words.{words_for, payload_word, payload}
 use Rattle.hcc_table.specs.Inserted.{with_words}
-use Rattle.hcc_table.proofs.Bytes.{word_padded}
 use Rattle.hcc_table.proofs.Finds.{seat_then}
-
--- The word of bytes that were copied over the first of eight zeros is theirs.
-pub word_copied : (bytes copied : List ℕ) (n : ℕ) → copied ≡ bytes
-    → from_le_bytes w64 (copied ++ drop n (replicate 8 0)) ≡ from_le_bytes w64 bytes
-word_copied bytes copied n same =
-    ap (λ z. from_le_bytes w64 (z ++ drop n (replicate 8 0))) same
-    ∙ ap (λ z. from_le_bytes w64 (bytes ++ z)) (drop-replicate n 8 0)
-    ∙ word_padded bytes (8 - n)
-
--- The last word of a value has fewer than eight bytes.
-pub word_last : (value : List ℕ) (place : ℕ) → place ≤ length value
-    → length (take (length value - place) (drop place value)) < 8
-    → from_le_bytes w64 (take (length value - place) (drop place value))
-    ≡ from_le_bytes w64 (take 8 (drop place value))
-word_last value place inside short =
-    let left : length (drop place value) ≡ length value - place = length-drop place value in
-    let whole = take_all (length value - place) (drop place value) (omega arith) in
-    let same = ap length whole in
-    ap (from_le_bytes w64) (whole ∙ sym (take_all 8 (drop place value) (omega arith)))
 
 module _ {T : Type 0} where
   -- a seat whose tag stays is a seat of the table still

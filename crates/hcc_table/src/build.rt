@@ -1,7 +1,5 @@
 //! The words of a new entry: the owner of an empty slot writes them, and shows the entry.
-ghost use Rattle.std.specs.Prelude.{◌≡◌, ◌+◌, ◌*◌, ◌<◌, ◌≤◌, [], ◌∷◌, ◌++◌, take, drop, length};
-ghost use Rattle.std.specs.Int.{from_le_bytes};
-ghost use mir.Syntax.{w64};
+ghost use Rattle.std.specs.Prelude.{◌≡◌, ◌+◌, ◌*◌, ◌<◌, ◌≤◌, [], ◌∷◌, ◌++◌, length};
 ghost use Rattle.hcc_core.specs.declared.limits.TheConstants.{MOST_CLIENTS, STAMPS_PER_CLIENT};
 ghost use Rattle.hcc_core.specs.declared.client.Owned.TheVariants.{ForBuilding};
 ghost use Rattle.hcc_rule.specs.declared.layout.TheConstants.{PAYLOAD};
@@ -14,6 +12,7 @@ ghost use Rattle.hcc_table.specs.Steps.{Adds, Ends, MakesAtMost};
 
 use hcc_core::limits::STAMPS_PER_CLIENT;
 use hcc_rule::layout::{CHARGE, KEY0, KEY1, LENGTH, PAYLOAD, STAMP};
+use hcc_rule::packing::word_at;
 use hcc_rule::{Draft, RuleSeat, RuleTable, Tag};
 use std::alloc::Allocator;
 
@@ -97,26 +96,4 @@ fn write_payload<T: Tag, A: Allocator>(
     for k in 0..(value.len() + 7) / 8 {
         table.write_at(seat, slot, first, PAYLOAD + k, word_at(value, 8 * k));
     }
-}
-
-/// The word of the eight bytes from an offset on.
-fn word_at(value: &[u8], offset: usize) -> u64
-    requires { offset ≤ length value.now }
-    ensures { result ≡ from_le_bytes w64 (take 8 (drop offset value.now)) }
-{
-    let rest = &value[offset..];
-    match rest.first_chunk::<8>() {
-        Some(bytes) => u64::from_le_bytes(*bytes),
-        None => short_word(rest),
-    }
-}
-
-/// The word of at most eight bytes, the first lowest, with 0 for those that lack.
-fn short_word(bytes: &[u8]) -> u64
-    requires { length bytes.now ≤ 8 }
-    ensures { result ≡ from_le_bytes w64 bytes.now }
-{
-    let mut whole = [0u8; 8];
-    whole[..bytes.len()].copy_from_slice(bytes);
-    u64::from_le_bytes(whole)
 }

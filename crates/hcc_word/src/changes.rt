@@ -59,6 +59,16 @@ pub fn started(countdown: u32, keep: bool) -> u64
     packed(countdown, countdown - u32::from(keep), false, VISIBLE)
 }
 
+/// The word of a visible entry without references and without the hit bit, with so many uses, below
+/// 2^30.
+pub fn unreferenced(uses: u32) -> u64
+    requires { uses < 2 ^ COUNTER_BITS }
+    ensures fields { result ≡ word_of uses uses false VISIBLE }
+    ensures entry { result ≡ code_of_shareable uses 0 false true }
+{
+    packed(uses, uses, false, VISIBLE)
+}
+
 /// What the clock puts in place of this word: the countdown is one less, and at most 2. The hit bit
 /// is kept.
 ///

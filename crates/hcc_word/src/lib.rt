@@ -20,7 +20,7 @@ mod fields;
 pub mod layout;
 mod seeding;
 
-pub use changes::{acquired, clocked, corrected, given_back, released, started};
+pub use changes::{acquired, clocked, corrected, given_back, released, started, unreferenced};
 pub use fields::{acquires, hit, refs, releases, state};
 pub use seeding::{seeded, unseeded};
 

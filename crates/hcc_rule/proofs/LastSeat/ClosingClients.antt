@@ -54,7 +54,7 @@ module _ {T : Type 0} (fits : T → Key → List ℕ → Type 0) (p : Plan T) (s
   whole = r.seats.all ∙ (client_count ∙ sym back.all)
 
   -- no other view stands for a client
-  unseated : (j : ℕ) (u : View T) → j ≢ id → slice_get s.views j ≡ Some u → u.tag ≡ None
+  pub unseated : (j : ℕ) (u : View T) → j ≢ id → slice_get s.views j ≡ Some u → u.tag ≡ None
   unseated j u other there = by u.tag refl
       (else_nothing named_by s.views id v at whole j u other there)
     where

@@ -1,20 +1,26 @@
 -- What is left of a shard that was closed.
-use Rattle.std.proofs.Common.{◌≡◌, ℕ, zero, suc, true, List, [], ◌∷◌, Some, slice_get, slice_index, length, sym, ap, ◌∙◌, ◌≤◌, arith}
+use Rattle.std.proofs.Common.{◌≡◌, ℕ, zero, suc, true, List, [], ◌∷◌, Some, slice_get, slice_index, sym, ◌∙◌, ◌≤◌, arith}
 use mathlib.Core.Option.{some, some-injective, some-ne-none}
 use lib.ListN.{get_elem?}
 use Rattle.atomic_table.specs.Table as table
 use Rattle.hcc_rule.specs.declared.geometry.Geometry.{Geometry}
 use Rattle.hcc_rule.specs.declared.key.Key.{Key}
 use Rattle.hcc_rule.specs.declared.rule.Plan.{Plan}
+use Rattle.hcc_rule.specs.declared.view.Logged.{Logged}
 use Rattle.hcc_rule.specs.declared.view.View.{View}
 use Rattle.hcc_rule.specs.Closing.{Shown, IsBack, Closes}
+use Rattle.hcc_rule.specs.Images.{BeginsWith, entries_in}
+use Rattle.hcc_rule.specs.Logs.{HoldsLogged, unlogged}
 use Rattle.hcc_rule.specs.Rule.{Holds}
+use Rattle.hcc_rule.specs.Seats.{moves_of}
 use Rattle.hcc_rule.specs.Views.{is_seated, named_by}
 use Rattle.hcc_core.proofs.SumLemmas.{total-member}
-use Rattle.hcc_rule.proofs.Parts.Asides.{law_is}
+use Rattle.hcc_rule.proofs.Parts.Clients.{total-only}
 use Rattle.hcc_rule.proofs.Basics.Lists.{read_at}
+use Rattle.hcc_rule.proofs.LastSeat.ClosingClients.{unseated}
 use Rattle.hcc_rule.proofs.LastSeat.ClosingSlots.{settled, stamp_at, kept, apart, references, clear, strays, left}
 use Rattle.hcc_rule.proofs.Parts.SlotSteps.{Shard}
+use Rattle.hcc_rule.proofs.Seats.Lifts.{known_at, named_all}
 
 -- a word that was loaded
 pub word_read : (words : List ℕ) (i word : ℕ) → get_elem? words i ≡ some word
@@ -35,14 +41,28 @@ module _ {T : Type 0} (fits : T → Key → List ℕ → Type 0) (p : Plan T) wh
     seen = read_at final.0.views id v final.1.1;
   }
 
+  -- where no seat made a step, the words that are left are those with which the shard began
+  pub begins_last : (geometry : Geometry) (words : List ℕ) (homes : List (Unit {0})) (id : ℕ)
+      (l : Logged T) → p.geometry ≡ geometry
+      → table.Final (table.Seen (HoldsLogged fits p) id l) words homes
+      → is_seated l.known ≡ true → IsBack geometry.clients l.known → moves_of l ≡ 0
+      → BeginsWith geometry.slots geometry.room (entries_in p.image) words
+  begins_last geometry words homes id l same final seated back none =
+      let s = final.0 in
+      let holds : HoldsLogged fits p s = final.1.0 in
+      let at = read_at s.views id l final.1.1 in
+      let sum = total-only moves_of s.views id l at
+      (λ j m other there. holds.spent j m there (unseated fits p (unlogged s) holds.rule id l.known
+      (known_at fits p s id l at) seated (rw same back) j m.known other
+      (known_at fits p s j m there))) in
+      rw (sym same, sym final.2) (holds.begins (sum ∙ none))
+
   -- a view of a state names at most as many clients as there are
   pub named_within : (s : Shard fits p) (r : Holds fits p s) (id : ℕ) (v : View T)
       → slice_get s.views id ≡ Some v → named_by v ≤ p.geometry.clients
   named_within s r id v at =
       let mine = total-member named_by s.views id v at in
-      let all = r.seats.all in
-      let count : length r.world.clients ≡ p.geometry.clients =
-      (law_is fits p s r).sized.client_count ∙ ap (λ x. x.clients) r.setup in
+      let all = named_all fits p s r in
       omega arith
 
   -- so does that of the last seat

@@ -6,7 +6,7 @@ use Rattle.hcc_core.proofs.SumLemmas.{length-push}
 use Rattle.hcc_rule.specs.declared.view.Other.{Other}
 use Rattle.hcc_rule.specs.declared.view.View.{View}
 use Rattle.hcc_rule.specs.Opening.{fresh_view, unstarted, left_view, right_view}
-use Rattle.hcc_rule.specs.Seats.{SeatOf, steps, view, IsSameSeat, IsSeatOf, IsNewSeat, AreNewSeats}
+use Rattle.hcc_rule.specs.Seats.{SeatOf, moves, steps, view, IsSameSeat, IsSeatOf, IsNewSeat, IsStartedSeat, AreNewSeats}
 
 -- the clients from one number on that were not started yet
 abbrev pub unstarted_from : (next clients : ℕ) → List Other
@@ -19,12 +19,13 @@ next_unstarted next clients more =
     ap (λ n. map unstarted (range_with_len next n))
     (let g : clients - next ≡ suc (clients - (next + 1)) = omega arith in g)
 
-module _ {T : Type 0} (id : TableId) (tag : T) (clients : ℕ) where
-  -- the seats of the clients below `next` were dealt, but for the first
+module _ {T : Type 0} (id : TableId) (tag : T) (o : Other) (clients : ℕ) where
+  -- the seats of the clients below `next` were dealt, but for the first, of this client
   pub record Deals (next : ℕ) (first : SeatOf T) (seats : List (SeatOf T)) : Type 0 where
     pub seat_of : IsSeatOf id tag first
-    pub view_is : view first ≡ fresh_view (Some tag) (unstarted 0) (unstarted_from next clients)
+    pub view_is : view first ≡ fresh_view (Some tag) o (unstarted_from next clients)
     pub no_steps : steps first ≡ []
+    pub unmoved : moves first ≡ 0
     pub count : length seats + 1 ≡ next
     pub low : next ≤ clients
     pub dealt_seats : AreNewSeats id tag 1 seats
@@ -43,9 +44,9 @@ module _ {T : Type 0} (id : TableId) (tag : T) (clients : ℕ) where
       → Deals next first seats
       → next < clients → IsSameSeat first later → view later ≡ left_view (view first)
       → IsSeatOf id tag seat → view seat ≡ right_view (view first)
-      → steps later ≡ steps first → steps seat ≡ []
+      → steps later ≡ steps first → steps seat ≡ [] → moves later ≡ moves first → moves seat ≡ 0
       → Deals (next + 1) later (seats ++ seat ∷ [])
-  deal next first later seat seats d more same left new right kept none =
+  deal next first later seat seats d more same left new right kept none still unmoved =
       let others : (view first).others ≡ unstarted next ∷ unstarted_from (next + 1) clients =
       ap (λ (v : View T). v.others) d.view_is ∙ next_unstarted next clients more in
       let count = d.count in
@@ -57,6 +58,7 @@ module _ {T : Type 0} (id : TableId) (tag : T) (clients : ℕ) where
         };
         view_is = rw (left, d.view_is, next_unstarted next clients more) refl;
         no_steps = kept ∙ d.no_steps;
+        unmoved = still ∙ d.unmoved;
         count = let push = length-push seats seat in omega arith;
         low = omega arith;
         dealt_seats = push_seat 1 seats seat d.dealt_seats record {
@@ -65,12 +67,13 @@ module _ {T : Type 0} (id : TableId) (tag : T) (clients : ℕ) where
               (ap (λ k. fresh_view (Some tag) (unstarted k) [])
               (let g : next ≡ 1 + length seats = omega arith in g));
           no_steps = none;
+          unmoved = unmoved;
         };
       }
 
   -- all were dealt
   pub dealt : (next : ℕ) (first : SeatOf T) (seats : List (SeatOf T)) → Deals next first seats
-      → clients ≤ next → AreNewSeats id tag 0 (first ∷ seats)
+      → clients ≤ next → IsStartedSeat id tag o first × AreNewSeats id tag 1 seats
   dealt next first seats d all =
       let none : unstarted_from next clients ≡ [] =
       ap (λ n. map unstarted (range_with_len next n))
@@ -78,8 +81,9 @@ module _ {T : Type 0} (id : TableId) (tag : T) (clients : ℕ) where
         record {
           seat_of = d.seat_of;
           fresh =
-              d.view_is ∙ ap (fresh_view (Some tag) (unstarted 0)) none;
+              d.view_is ∙ ap (fresh_view (Some tag) o) none;
           no_steps = d.no_steps;
+          unmoved = d.unmoved;
         },
         d.dealt_seats,
       )

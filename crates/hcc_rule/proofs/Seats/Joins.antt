@@ -42,7 +42,7 @@ none_passes p [] h = refl
 none_passes p (x ∷ xs) h = rw (h 0 x refl) (none_passes p xs (λ i y at. h (suc i) y at))
 
 -- the sum over views where two were joined
-total_joined : {A : Type 0} (f : A → ℕ) (xs : List A) (i j : ℕ) (x y both spent : A)
+pub total_joined : {A : Type 0} (f : A → ℕ) (xs : List A) (i j : ℕ) (x y both spent : A)
     → slice_get xs i ≡ Some x → slice_get (slice_set xs i both) j ≡ Some y
     → f both + f spent ≡ f x + f y
     → total f (slice_set (slice_set xs i both) j spent) ≡ total f xs

@@ -1,9 +1,12 @@
 -- The seats of a new shard: by their index, and one after the other from the last.
-use Rattle.std.proofs.Common.{◌≡◌, ℕ, zero, suc, ◌+◌, List, [], ◌∷◌, ◌++◌, Option, Some, option_to_list, length, slice_get, refl, ap, ◌∙◌, arith}
+use Rattle.std.proofs.Common.{◌≡◌, ℕ, zero, suc, ◌+◌, List, [], ◌∷◌, ◌++◌, Option, Some, option_to_list, length, remove, slice_get, slice_index_or, refl, ap, ◌∙◌, arith}
 use Rattle.atomic_table.specs.Seated.{TableId}
+use Rattle.hcc_rule.specs.declared.image.ImageEntry.{ImageEntry}
 use Rattle.hcc_rule.specs.declared.view.View.{View}
 use Rattle.hcc_rule.specs.Benches.{IsReadySeat}
-use Rattle.hcc_rule.specs.Seats.{SeatOf, IsNewSeat, AreNewSeats}
+use Rattle.hcc_rule.specs.Closing.{IsBack}
+use Rattle.hcc_rule.specs.Opening.{joined_view}
+use Rattle.hcc_rule.specs.Seats.{SeatOf, moves, view, IsNewSeat, AreNewSeats, AreSeatsWith}
 
 module _ {T : Type 0} (id : TableId) (tag : T) where
   -- the seat of this index
@@ -39,6 +42,25 @@ module _ {T : Type 0} (id : TableId) (tag : T) where
   popped client before after last seat items is all =
       let whole : before ≡ after ++ seat ∷ [] = items ∙ ap (λ o. after ++ option_to_list o) is in
       last_new_seat client after seat (rw whole at all)
+
+  -- Two seats that are joined before any step name both clients, and have nothing in hand.
+  pub both_back : (es : List ImageEntry) (seats : List (SeatOf T)) (one two both : SeatOf T)
+      → length seats ≡ 2 → AreSeatsWith id tag es seats
+      → two ≡ slice_index_or seats 1 two → one ≡ slice_index_or (remove seats 1) 0 one
+      → view both ≡ joined_view (view one) (view two) → moves both ≡ moves one + moves two
+      → IsBack 2 (view both) × (moves both ≡ 0)
+  both_back es [] one two both count all second first joined moved = absurd (omega arith)
+  both_back es (a ∷ []) one two both count all second first joined moved = absurd (omega arith)
+  both_back es (a ∷ b ∷ c ∷ more) one two both count all second first joined moved =
+      absurd (omega arith)
+  both_back es (a ∷ b ∷ []) one two both count all second first joined moved =
+      let is_a : one ≡ a = first in
+      let is_b : two ≡ b = second in
+      let mine = all.0 in
+      let other = all.1.0 in (
+        rw (joined, is_a, is_b, mine.fresh, other.fresh) record { idle = refl; all = refl },
+        rw (moved, is_a, is_b, mine.unmoved, other.unmoved) refl,
+      )
 
   -- its client has nothing in hand
   pub new_is_ready : (client : ℕ) (seat : SeatOf T) → IsNewSeat id tag client seat

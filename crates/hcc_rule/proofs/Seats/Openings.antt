@@ -1,40 +1,45 @@
--- A table of zeros shows an opening world whose client 0 was started.
-use Rattle.std.proofs.Common.{◌≡◌, ℕ, zero, suc, ◌+◌, ◌-◌, ◌<◌, ◌≤◌, inl, inr, ◌==◌, nat_lt, List, [], ◌∷◌, map, Some, None, Ok, replicate, length, slice_get, slice_index, slice_set, sym, refl, ap, ◌∙◌, arith, ne_eqb}
+-- The words of a shard that begins with the entries of an image show a lawful world: that of these
+-- entries, in which client 0 was started.
+use Rattle.std.proofs.Common.{◌≡◌, ℕ, zero, suc, ◌+◌, ◌-◌, ◌*◌, ◌^◌, ◌<◌, ◌≤◌, inl, inr, ◌==◌, nat_lt, Bool, true, false, ◌≢◌, List, [], ◌∷◌, map, Option, Some, None, replicate, length, slice_get, slice_index, slice_set, sym, refl, ap, ◌∙◌, arith, ne_eqb}
+use Rattle.std.proofs.lemmas.Bool.{false≢true}
 use mathlib.Core.Logic.{dite}
 use native.Mathlib.Decide.{dec_le, ℕ_discrete}
+use Rattle.std.specs.Prelude.{if◌then◌else◌}
 use Rattle.std.specs.List.{range_with_len}
 use Rattle.std.specs.Option.{unwrap_or}
-use Rattle.std.proofs.lemmas.Bool.{lt-ltb, false_from_ne_true, ltb-true}
+use Rattle.std.proofs.lemmas.Bool.{cases_eq, lt-ltb, false_from_ne_true, ltb-true}
 use Rattle.std.proofs.lemmas.List.{length-set, length-replicate}
 use Rattle.std.proofs.lemmas.List.FromFn.{length-map-range_with_len}
 use Rattle.atomic_table.specs.Table.{opening}
-use Rattle.hcc_word.specs.Code.{code_of_empty}
 use Rattle.hcc_core.specs.declared.client.Client.{Client}
 use Rattle.hcc_core.specs.declared.slot.Entry.{Entry}
 use Rattle.hcc_core.specs.declared.slot.Stamp.{Stamp}
 use Rattle.hcc_core.specs.declared.slot.Slot.{Slot}
-use Rattle.hcc_core.specs.declared.event.Event.TheVariants as events
-use Rattle.hcc_core.specs.declared.event.Reply.TheVariants as replies
 use Rattle.hcc_core.specs.Sums.{when, total}
-use Rattle.hcc_core.specs.World.{State, taken_by_slot, charge_of, charged_to, occupied_by, standing_of, trail_of, times}
-use Rattle.hcc_core.specs.Steps.{outcome_of}
-use Rattle.hcc_core.specs.Opening.{new_client, new_slot, opening_of, CanOpen}
-use Rattle.hcc_core.specs.Lawful.{IsLawful}
-use Rattle.hcc_core.proofs.ListLemmas.{read_here, read_other, replicate_is, in_replicate, nothing_in}
+use Rattle.hcc_core.specs.World.{State, taken_by_slot, charge_of, charged_to, occupied_by, standing_of, strays_of, references_of, stamp_of, trail_of, times}
+use Rattle.hcc_core.specs.References.{looks_at}
+use Rattle.hcc_core.specs.Opening.{new_client, new_slot, CanOpen}
+use Rattle.hcc_core.specs.Lawful.{IsLawful, IsBounded, Ledgers as Limited, owner_of, owner_in, owned_slot, owned_by, stamp_in, stamps_by, dead_by, is_in, taken_by, real_to}
+use Rattle.hcc_core.proofs.ListLemmas.{read_here, read_other, replicate_is}
 use Rattle.hcc_core.proofs.SumLemmas.{total-set, total-zero}
-use Rattle.hcc_core.proofs.Keeps.{follows_lawful}
-use Rattle.hcc_core.proofs.Opening.{lawful_is, lawful_opening}
+use Rattle.hcc_core.proofs.Opening.{lawful_is}
+use Rattle.hcc_rule.specs.declared.image.ImageEntry.{ImageEntry}
 use Rattle.hcc_rule.specs.declared.key.Key.{Key}
-use Rattle.hcc_rule.specs.declared.layout.TheConstants.{META, DISPLACEMENT, USAGE, OCCUPANCY, STANDING, HAND}
 use Rattle.hcc_rule.specs.declared.rule.Plan.{Plan}
 use Rattle.hcc_rule.specs.declared.view.Made.{Made}
 use Rattle.hcc_rule.specs.declared.view.Other.{Other}
-use Rattle.hcc_rule.specs.Words.{field_at, ledger_at, word_count}
+use Rattle.hcc_rule.specs.Images.{entries_in, made_of_entry, made_from, charges_of, IsImageEntry, IsImageFor, resident_of, slots_with, BeginsWith}
+use Rattle.hcc_rule.specs.Probes.{probe_slot, probe_slots, before, trail_to}
 use Rattle.hcc_rule.specs.Views.{Each}
-use Rattle.hcc_rule.specs.Rule.{Books, book_of, made_at, entry_in, setup_of, Coded, IsDraft, IsHolding, IsNamed, IsSeated, Seats, Stamps, Ledgers, Trails, IsModest, Holds}
+use Rattle.hcc_rule.specs.Rule.{Books, book_of, made_at, entry_by, entry_in, setup_of, IsStored, IsDraft, IsHolding, IsNamed, IsRight, IsSeated, Seats, Stamps, Ledgers, Trails, IsTrailed, IsModest, Holds}
+use Rattle.hcc_rule.specs.Words.{entry_of}
+use Rattle.hcc_rule.specs.Logs.{HoldsLogged, first_logged}
 use Rattle.hcc_rule.specs.Opening.{started, unstarted, opening_view}
-use Rattle.hcc_rule.proofs.Basics.Lists.{each_set}
+use Rattle.hcc_rule.specs.Seats.{moves_of}
+use Rattle.hcc_rule.proofs.Basics.Bounds.{total-bound}
+use Rattle.hcc_rule.proofs.Basics.Lists.{each_set, within}
 use Rattle.hcc_rule.proofs.Parts.ViewParts.{when_is}
+use Rattle.hcc_rule.proofs.Images.Fillings.{each_get, made_length, made_get, made_only, filled_length, filled_each, filled_total, read_with}
 
 -- a list of one member over and over has it at each place
 pub replicate_at : {A : Type 0} (n i : ℕ) (x : A) → i < n → slice_get (replicate n x) i ≡ Some x
@@ -92,30 +97,79 @@ count_range c a (suc n) =
     ap (λ k. when (nat_lt c k) 1) (let g : a + suc n ≡ a + 1 + n = omega arith in g) in
     omega arith
 
-module _ {T : Type 0} (p : Plan T) (can : CanOpen (setup_of p)) where
+-- a trail is no longer than there are places
+before_short : (n : ℕ) (xs : List ℕ) → length (before n xs) ≤ length xs
+before_short n [] = omega arith
+before_short n (x ∷ xs) = by (x == n) (before_short n xs)
+  where
+    by : (b : Bool) → length (before n xs) ≤ length xs
+        → length (if b then [] else x ∷ before n xs) ≤ suc (length xs)
+    by true rest = omega arith
+    by false rest = omega arith
+
+trail_short : (size : ℕ) (key : Key) (slot : ℕ) → length (trail_to size key slot) ≤ size
+trail_short size key slot =
+    let short = before_short slot (probe_slots size key) in
+    let count : length (probe_slots size key) ≡ size =
+    length-map-range_with_len (probe_slot size key) 0 size in
+    omega arith
+
+module _ {T : Type 0} (fits : T → Key → List ℕ → Type 0) (p : Plan T) (can : CanOpen (setup_of p))
+    (image : IsImageFor fits p.tag p.geometry p.capacity p.strict (entries_in p.image)) where
   abbrev Clients : ℕ
   Clients = p.geometry.clients
 
+  abbrev Size : ℕ
+  Size = p.geometry.slots
+
+  abbrev entries : List ImageEntry
+  entries = entries_in p.image
+
+  -- what client 0 made of them
+  abbrev first_made : List Made
+  first_made = made_from 0 entries
+
+  abbrev first : Client
+  first = started first_made []
+
   abbrev first_clients : List Client
-  first_clients = slice_set (replicate p.geometry.clients new_client) 0 (started [] [])
+  first_clients = slice_set (replicate Clients new_client) 0 first
+
+  abbrev no_books : Books
+  no_books = replicate Clients []
 
   abbrev first_books : Books
-  first_books = replicate p.geometry.clients []
+  first_books = slice_set no_books 0 first_made
 
   -- client 0 is one of those that were made
-  some_there : slice_get (replicate p.geometry.clients new_client) 0 ≡ Some new_client
-  some_there = let some = can.some_client in replicate_at p.geometry.clients 0 new_client
-      (omega arith)
+  some_there : slice_get (replicate Clients new_client) 0 ≡ Some new_client
+  some_there = let some = can.some_client in replicate_at Clients 0 new_client (omega arith)
+
+  no_book : slice_get no_books 0 ≡ Some []
+  no_book = let some = can.some_client in replicate_at Clients 0 [] (omega arith)
+
+  first_there : slice_get first_clients 0 ≡ Some first
+  first_there = read_here (replicate Clients new_client) 0 new_client first some_there
+
+  book_there : slice_get first_books 0 ≡ Some first_made
+  book_there = read_here no_books 0 [] first_made no_book
+
+  -- what holds of a client that did nothing, and of client 0, holds of each
+  each_client : (P : ℕ → Client → Type 0) → ((c : ℕ) → P c new_client) → P 0 first
+      → (c : ℕ) (client : Client) → slice_get first_clients c ≡ Some client → P c client
+  each_client P new mine = each_set P (replicate Clients new_client) 0 first mine
+      (λ c client other at. rw (replicate_is Clients c new_client client at) (new c))
 
   -- the others rest
-  others_rest : (a n : ℕ) → 0 < a → a + n ≤ p.geometry.clients
+  others_rest : (a n : ℕ) → 0 < a → a + n ≤ Clients
       → Each (IsNamed first_clients first_books) (map unstarted (range_with_len a n))
   others_rest a zero some few = tt
   others_rest a (suc n) some few = (
     record {
-      there = read_other (replicate p.geometry.clients new_client) 0 a (started [] [])
-          (λ e. omega arith) ∙ replicate_at p.geometry.clients a new_client (omega arith);
-      book = replicate_at p.geometry.clients a [] (omega arith);
+      there = read_other (replicate Clients new_client) 0 a first (λ e. omega arith)
+          ∙ replicate_at Clients a new_client (omega arith);
+      book = read_other no_books 0 a first_made (λ e. omega arith)
+          ∙ replicate_at Clients a [] (omega arith);
     },
     others_rest (a + 1) n (omega arith) (omega arith),
   )
@@ -125,179 +179,343 @@ module _ {T : Type 0} (p : Plan T) (can : CanOpen (setup_of p)) where
       let some = can.some_client in
       record {
         tagged = refl;
-        work = λ sits. read_here (replicate p.geometry.clients new_client) 0 new_client
-            (started [] []) some_there;
+        work = λ sits. first_there;
         live = λ sits. refl;
-        book = λ sits. replicate_at p.geometry.clients 0 [] (omega arith);
-        others = others_rest 1 (p.geometry.clients - 1) (omega arith) (omega arith);
+        book = λ sits. book_there;
+        others = others_rest 1 (Clients - 1) (omega arith) (omega arith);
         spent = λ none. cc;
       }
+
+  client_count : length first_clients ≡ Clients
+  client_count = length-set (replicate Clients new_client) 0 first
+      ∙ length-replicate Clients new_client
 
   first_seats : Seats p.tag first_clients first_books (opening_view p ∷ [])
   first_seats =
       let some = can.some_client in
-      let size : length first_clients ≡ p.geometry.clients =
-      length-set (replicate p.geometry.clients new_client) 0 (started [] [])
-      ∙ length-replicate p.geometry.clients new_client in
+      let size = client_count in
       record {
         each = only (IsSeated p.tag first_clients first_books) (opening_view p) first_seated;
         once = λ c.
-            let all = count_range c 1 (p.geometry.clients - 1) in
-            let first = next_number c 0 in
+            let all = count_range c 1 (Clients - 1) in
+            let own = next_number c 0 in
             let none = above c 0 (omega arith) in
             let size_of : when (nat_lt c (length first_clients)) 1
-            ≡ when (nat_lt c (1 + (p.geometry.clients - 1))) 1 =
+            ≡ when (nat_lt c (1 + (Clients - 1))) 1 =
             ap (λ k. when (nat_lt c k) 1) (let g : length first_clients
-            ≡ 1 + (p.geometry.clients - 1) = omega arith in g) in
+            ≡ 1 + (Clients - 1) = omega arith in g) in
             omega arith;
         all =
-            let count : length (map unstarted (range_with_len 1 (p.geometry.clients - 1)))
-            ≡ p.geometry.clients - 1 =
-            length-map-range_with_len unstarted 1 (p.geometry.clients - 1) in
+            let count : length (map unstarted (range_with_len 1 (Clients - 1))) ≡ Clients - 1 =
+            length-map-range_with_len unstarted 1 (Clients - 1) in
             omega arith;
       }
 
   abbrev first_slots : List Slot
-  first_slots = replicate p.geometry.slots new_slot
+  first_slots = slots_with Size entries
 
-  abbrev first_words : List ℕ
-  first_words = replicate (word_count p.geometry.slots p.geometry.room) 0
-
-  -- the opening world, with client 0 started
+  -- the world of the entries, with client 0 started
   abbrev first_world : State
   first_world = record {
     setup = setup_of p;
     slots = first_slots;
     clients = first_clients;
-    hand =
-        0;
+    hand = 0;
   }
 
-  first_started : outcome_of (opening_of (setup_of p)) (events.Start 0)
-      ≡ Ok (replies.Ok, first_world)
-  unfolding outcome_of opening_of
-  first_started = rw some_there refl
+  entry_is : (k : ℕ) (e : ImageEntry) → slice_get entries k ≡ Some e
+      → IsImageEntry fits p.tag p.geometry.room e
+  entry_is k e at = each_get (IsImageEntry fits p.tag p.geometry.room) entries k e image.each at
 
-  first_lawful : IsLawful first_world
-  first_lawful =
-      follows_lawful (opening_of (setup_of p)) (events.Start 0) (Ok replies.Ok) first_world
-      (lawful_is (opening_of (setup_of p)) (lawful_opening (setup_of p) can)) first_started
+  -- what holds of an empty slot, and of each entry in its slot, holds of each slot
+  each_slot : (P : ℕ → Slot → Type 0) → ((s : ℕ) → P s new_slot)
+      → ((k : ℕ) (e : ImageEntry) → slice_get entries k ≡ Some e → P e.slot (resident_of Size k e))
+      → (s : ℕ) (slot : Slot) → slice_get first_slots s ≡ Some slot → P s slot
+  each_slot P empty mine = filled_each Size P 0 entries (replicate Size new_slot)
+      (λ s slot at. rw (replicate_is Size s new_slot slot at) (empty s))
+      (λ k e at. rw (let g : 0 + k ≡ k = omega arith in g) (mine k e at))
 
-  -- every slot of it is empty
-  slot_is : (s : ℕ) (slot : Slot) → slice_get first_slots s ≡ Some slot → slot ≡ new_slot
-  slot_is s slot at = replicate_is p.geometry.slots s new_slot slot at
-
-  first_coded : Coded p.geometry.room first_slots first_words
-  unfolding code_of_empty
-  first_coded = record {
-    wide = length-replicate (word_count p.geometry.slots p.geometry.room) 0
-        ∙ ap (λ n. word_count n p.geometry.room) (sym (length-replicate p.geometry.slots new_slot));
-    meta = λ s slot at. rw (slot_is s slot at)
-        (zero_at (word_count p.geometry.slots p.geometry.room) (field_at p.geometry.room s META));
-  }
-
-  -- and every word is 0
-  word_zero : (a : ℕ) → slice_index first_words a ≡ 0
-  word_zero a = zero_at (word_count p.geometry.slots p.geometry.room) a
-
-  ledger_zero : (k : ℕ) → slice_index first_words (ledger_at p.geometry.slots p.geometry.room k) ≡ 0
-  ledger_zero k = word_zero (ledger_at p.geometry.slots p.geometry.room k)
-
-  -- a sum over its clients, where a new one and the started one give nothing
-  nothing_of : (f : Client → ℕ) → f new_client ≡ 0 → f (started [] []) ≡ 0
-      → total f first_clients ≡ 0
-  nothing_of f none_new none_started =
-      let change = total-set f (replicate p.geometry.clients new_client) 0 new_client
-      (started [] []) some_there in
-      let none = total-zero f p.geometry.clients new_client none_new in
+  -- a sum over its slots is that over the entries
+  over_slots : (f : Slot → ℕ) (g : ImageEntry → ℕ) → f new_slot ≡ 0
+      → ((m : ℕ) (e : ImageEntry) → f (resident_of Size m e) ≡ g e)
+      → total f first_slots ≡ total g entries
+  over_slots f g none mine =
+      let sum = filled_total Size f g 0 0 entries (replicate Size new_slot) none mine image.rising
+      (length-replicate Size new_slot) (λ s x low at. replicate_is Size s new_slot x at) in
+      let zero_sum = total-zero f Size new_slot none in
       omega arith
 
-  first_modest : (c : ℕ) (client : Client) → slice_get first_clients c ≡ Some client
-      → IsModest client
-  first_modest = each_set (λ _ client. IsModest client) (replicate p.geometry.clients new_client) 0
-      (started [] [])
-      record { asked = omega arith; freed = omega arith; few = omega arith; small = tt }
-      (λ c client other at. rw (replicate_is p.geometry.clients c new_client client at)
-      record { asked = omega arith; freed = omega arith; few = omega arith; small = tt })
+  -- a sum over its clients, where a new one and the started one give nothing
+  nothing_of : (f : Client → ℕ) → f new_client ≡ 0 → f first ≡ 0 → total f first_clients ≡ 0
+  nothing_of f none_new none_started =
+      let change = total-set f (replicate Clients new_client) 0 new_client first some_there in
+      let none = total-zero f Clients new_client none_new in
+      omega arith
 
-  first_ledgers : Ledgers p.geometry.slots p.geometry.room first_world first_words
-  first_ledgers = record {
-    usage = let none = nothing_of charged_to refl refl in let no_slots =
-        total-zero charge_of p.geometry.slots new_slot refl in ledger_zero USAGE ∙ omega arith;
-    occupancy = let none = nothing_of occupied_by refl refl in let no_slots =
-        total-zero taken_by_slot p.geometry.slots new_slot refl in ledger_zero OCCUPANCY
-        ∙ omega arith;
-    standing = let none = nothing_of standing_of refl refl in ledger_zero STANDING ∙ sym none;
-    modest = first_modest;
-  }
+  charges : total charge_of first_slots ≡ charges_of entries
+  charges = over_slots charge_of (λ e. e.charge) refl (λ m e. refl)
 
-  first_trails : Trails p.geometry.slots p.geometry.room first_slots first_clients first_words
-  first_trails = record {
-    passed = λ s near.
-        let none = nothing_of (λ (c : Client). times s c.trail) refl refl in
-        let no_slots = total-zero (λ (z : Slot). times s (trail_of z)) p.geometry.slots new_slot
-        refl in
-        word_zero (field_at p.geometry.room s DISPLACEMENT) ∙ omega arith;
-    entries = λ s slot at. rw (slot_is s slot at) tt;
-  }
+  slots_taken : total taken_by_slot first_slots ≡ length entries
+  slots_taken = over_slots taken_by_slot (λ e. 1) refl (λ m e. refl) ∙ ones entries
+    where
+      ones : (es : List ImageEntry) → total (λ (e : ImageEntry). 1) es ≡ length es
+      ones [] = refl
+      ones (e ∷ es) = let rest = ones es in omega arith
 
-  no_books : (stamp : Stamp) (made : Made) → made_at first_books stamp ≡ Some made → ⊥
-  no_books stamp made listed = elim (in_replicate p.geometry.clients stamp.client []) [
-    | inl none ↦ let bad : None ≡ Some made =
-        ap (λ o. slice_get (unwrap_or o []) stamp.number) (sym none) ∙ listed in cc
-    | inr empty ↦ let bad : None ≡ Some made =
-        ap (λ o. slice_get (unwrap_or o []) stamp.number) (sym empty) ∙ listed in cc
-  ]
+  charges_small : charges_of entries ≤ 2 ^ 32 * length entries
+  charges_small = total-bound (λ (e : ImageEntry). e.charge) (2 ^ 32) entries
+      (λ k e at. let small = (entry_is k e at).sized.small in omega arith)
 
-  book_empty : (c : ℕ) → book_of first_books c ≡ []
-  book_empty c = elim (in_replicate p.geometry.clients c []) [
-    | inl none ↦ ap (λ o. unwrap_or o []) none
-    | inr empty ↦ ap (λ o. unwrap_or o []) empty
-  ]
+  -- It is lawful.
 
-  first_stamps : (fits : T → Key → List ℕ → Type 0)
-      → Stamps fits p.tag p.geometry.room first_slots first_clients first_books
-      (opening_view p ∷ [])
-  first_stamps fits = record {
-    sized = length-replicate p.geometry.clients []
-        ∙ sym (length-set (replicate p.geometry.clients new_client) 0 (started [] [])
-        ∙ length-replicate p.geometry.clients new_client);
-    counted = each_set (λ c client. client.stamps ≡ length (book_of first_books c))
-        (replicate p.geometry.clients new_client) 0 (started [] [])
-        (sym (ap length (book_empty 0)))
-        (λ c client other at. rw (replicate_is p.geometry.clients c new_client client at)
-        (sym (ap length (book_empty c))));
-    right = λ stamp made listed. absurd (no_books stamp made listed);
-    left =
-        let no_slots = total-zero taken_by_slot p.geometry.slots new_slot refl in
-        let no_lists : total length first_books ≡ 0 =
-        total-zero length p.geometry.clients [] refl in
+  nobody_owns : (s c : ℕ) → owner_in (slice_get first_slots s) ≡ Some c → ⊥
+  nobody_owns s c h =
+      let found = read_with Size owner_of entries s c refl h in
+      let none : owner_of found.0 ≡ None = ap owner_of found.1.same in
+      let bad : None ≡ Some c = sym none ∙ found.2 in cc
+
+  nothing_owned : (s c : ℕ) → owned_by (slice_get first_clients c) ≡ Some s → ⊥
+  nothing_owned s c h = by (slice_get first_clients c) refl h
+    where
+      by : (o : Option Client) → slice_get first_clients c ≡ o → owned_by o ≡ Some s → ⊥
+      by None at is = cc
+      by (Some client) at is =
+          let none : owned_slot client.owned ≡ None =
+          each_client (λ c x. owned_slot x.owned ≡ None) (λ c. refl) refl c client at in
+          let bad : None ≡ Some s = sym none ∙ is in cc
+
+  nobody_dead : (c : ℕ) (m : Stamp) → is_in m (dead_by (slice_get first_clients c)) ≡ true → ⊥
+  nobody_dead c m h = by (slice_get first_clients c) refl h
+    where
+      by : (o : Option Client) → slice_get first_clients c ≡ o → is_in m (dead_by o) ≡ true → ⊥
+      by None at is = false≢true is
+      by (Some client) at is =
+          let none : client.dead ≡ [] =
+          each_client (λ c x. x.dead ≡ []) (λ c. refl) refl c client at in
+          false≢true (sym (ap (is_in m) none) ∙ is)
+
+  -- the stamp of a slot's entry is client 0's, by the entry's number
+  stamp_is : (s : ℕ) (m : Stamp) → stamp_in (slice_get first_slots s) ≡ Some m
+      → (k : ℕ) × (e : ImageEntry) × (slice_get entries k ≡ Some e) × (e.slot ≡ s)
+      × (m ≡ record { client = 0; number = k })
+  stamp_is s m h =
+      let found = read_with Size stamp_of entries s m refl h in
+      let placed = found.1 in
+      let is : Some m ≡ Some (record { client = 0; number = placed.number }) =
+      sym found.2 ∙ ap stamp_of placed.same in
+      (placed.number, placed.entry, placed.listed, placed.here, (cc))
+
+  number_low : (s : ℕ) (m : Stamp) → stamp_in (slice_get first_slots s) ≡ Some m
+      → m.number < stamps_by (slice_get first_clients m.client)
+  number_low s m h =
+      let of = stamp_is s m h in
+      let low = within entries of.0 of.1 of.2 in
+      let count = made_length 0 entries in
+      let made : stamps_by (slice_get first_clients 0) ≡ length first_made =
+      ap stamps_by first_there in
+      rw of.4 (omega arith)
+
+  stamps_apart : (s t : ℕ) (m : Stamp) → stamp_in (slice_get first_slots s) ≡ Some m
+      → stamp_in (slice_get first_slots t) ≡ Some m → s ≡ t
+  stamps_apart s t m h k =
+      let a = stamp_is s m h in
+      let b = stamp_is t m k in
+      let same : a.0 ≡ b.0 = ap (λ (x : Stamp). x.number) (sym a.4 ∙ b.4) in
+      let one : Some a.1 ≡ Some b.1 = sym a.2 ∙ (ap (slice_get entries) same ∙ b.2) in
+      let is : a.1 ≡ b.1 = cc in
+      sym a.3 ∙ (ap (λ (e : ImageEntry). e.slot) is ∙ b.3)
+
+  first_limits : Limited first_world
+  first_limits = record {
+    usage =
+        let sum = charges in
+        let small = charges_small in
+        let few = image.few in
+        let slots = can.slots in
+        let none = nothing_of charged_to refl refl in
+        omega arith;
+    real = λ strict.
+        let sum = charges in
+        let low = image.within strict in
+        let none = nothing_of real_to refl refl in
+        omega arith;
+    places =
+        let sum = slots_taken in
+        let few = image.few in
+        let none = nothing_of taken_by refl refl in
         omega arith;
   }
 
-  entry_none : (s : ℕ) (entry : Entry) → entry_in (slice_get first_slots s) ≡ Some entry → ⊥
-  entry_none s entry h = nothing_in entry_in p.geometry.slots s new_slot entry refl refl h
-
-  -- The table of zeros shows it.
-  pub opens_rule : (fits : T → Key → List ℕ → Type 0) (words : List ℕ)
-      → words ≡ replicate (word_count p.geometry.slots p.geometry.room) 0
-      → Holds fits p (opening words [] (opening_view p))
-  opens_rule fits words zeros = rw zeros record {
-    world = first_world;
-    books = first_books;
-    setup = refl;
-    lawful = first_lawful;
-    coded = first_coded;
-    stored = λ s entry h. absurd (entry_none s entry h);
-    drafted = only (IsDraft p.geometry.room first_words) (opening_view p) record
-        { short = omega arith; lies = λ s owns. cc };
-    references = λ s slot at h. rw (slot_is s slot at) refl;
-    holding = only (IsHolding first_slots) (opening_view p) record
-        { recorded = tt; once = λ name. omega arith; few = omega arith };
-    seats = first_seats;
-    stamps = first_stamps fits;
-    ledgers = first_ledgers;
-    trails = first_trails;
-    turned = ledger_zero HAND;
-    turns = refl;
+  first_lawful : IsLawful first_world
+  first_lawful = lawful_is first_world record {
+    sized = record {
+      few_slots = can.slots;
+      few_clients = can.clients;
+      slot_count = filled_length Size 0 entries (replicate Size new_slot)
+          ∙ length-replicate Size new_slot;
+      client_count = client_count;
+    };
+    bounded = each_slot (λ s x. IsBounded (setup_of p) x)
+        (λ s. record { references = omega arith; uses = omega arith })
+        (λ k e at. let few = (entry_is k e at).sized.few in
+        record { references = omega arith; uses = omega arith });
+    strayed = λ s slot at.
+        let none = nothing_of (λ (c : Client). when (looks_at c s) 1) refl refl in
+        let no_strays = each_slot (λ s x. strays_of x ≡ 0) (λ s. refl) (λ k e at. refl) s slot at in
+        omega arith;
+    owners = record {
+      owns = λ s c h. absurd (nobody_owns s c h);
+      owned = λ s c h. absurd (nothing_owned s c h);
+    };
+    stamped = record { made = number_low; apart = stamps_apart };
+    dead = record {
+      made = λ c m h. absurd (nobody_dead c m h);
+      unshown = λ c s m h shown. absurd (nobody_dead c m h);
+    };
+    trailed = record {
+      entries = each_slot (λ s x. length (trail_of x) ≤ Size) (λ s. omega arith)
+          (λ k e at. trail_short Size e.key e.slot);
+      hands = each_client (λ c x. length x.trail ≤ Size) (λ c. omega arith) (omega arith);
+    };
+    ledgers = first_limits;
   }
+
+  -- What client 0 made.
+
+  book_is : (c : ℕ) → c ≢ 0 → book_of first_books c ≡ []
+  book_is c other = by (slice_get first_books c) refl
+    where
+      by : (o : Option (List Made)) → slice_get first_books c ≡ o → unwrap_or o [] ≡ []
+      by None at = refl
+      by (Some book) at = replicate_is Clients c [] book
+          (sym (read_other no_books 0 c first_made other) ∙ at)
+
+  book_first : book_of first_books 0 ≡ first_made
+  book_first = ap (λ o. unwrap_or o []) book_there
+
+  -- each member of a list was made of an entry
+  made_is : (stamp : Stamp) (made : Made) → made_at first_books stamp ≡ Some made
+      → IsRight fits p.tag p.geometry.room made
+  made_is stamp made listed = elim (cases_eq stamp.client 0) [
+    | inl mine ↦
+        let there : slice_get first_made stamp.number ≡ Some made =
+        ap (λ b. slice_get b stamp.number) (sym (ap (book_of first_books) mine ∙ book_first))
+        ∙ listed in
+        let of = made_only 0 entries stamp.number made there in
+        let right = entry_is stamp.number of.entry of.listed in
+        let low = within entries stamp.number of.entry of.listed in
+        let few = image.few in
+        let slots = can.slots in
+        rw of.same record {
+          fitting = right.fitting;
+          short = right.sized.short;
+          bytes = right.bytes;
+          numbered = omega arith;
+          small = right.sized.small;
+        }
+    | inr other ↦
+        let bad : None ≡ Some made =
+        ap (λ b. slice_get b stamp.number) (sym (book_is stamp.client other)) ∙ listed in cc
+  ]
+
+  first_stamps : Stamps fits p.tag p.geometry.room first_slots first_clients first_books
+      (opening_view p ∷ [])
+  first_stamps = record {
+    sized = length-set no_books 0 first_made ∙ (length-replicate Clients []
+        ∙ sym client_count);
+    counted = each_set (λ c client. client.stamps ≡ length (book_of first_books c))
+        (replicate Clients new_client) 0 first
+        (sym (ap length book_first))
+        (λ c client other at. rw (replicate_is Clients c new_client client at)
+        (sym (ap length (book_is c other))));
+    right = made_is;
+    left =
+        let sum = slots_taken in
+        let change = total-set length no_books 0 [] first_made no_book in
+        let none : total length no_books ≡ 0 = total-zero length Clients [] refl in
+        let count = made_length 0 entries in
+        omega arith;
+  }
+
+  module _ (words : List ℕ) (begins : BeginsWith Size p.geometry.room entries words) where
+    first_modest : (c : ℕ) (client : Client) → slice_get first_clients c ≡ Some client
+        → IsModest client
+    first_modest = each_client (λ c client. IsModest client)
+        (λ c. record { asked = omega arith; freed = omega arith; few = omega arith; small = tt })
+        record { asked = omega arith; freed = omega arith; few = omega arith; small = tt }
+
+    first_ledgers : Ledgers Size p.geometry.room first_world words
+    first_ledgers = record {
+      usage = let none = nothing_of charged_to refl refl in let sum = charges in
+          begins.usage ∙ omega arith;
+      occupancy = let none = nothing_of occupied_by refl refl in let sum = slots_taken in
+          begins.occupancy ∙ omega arith;
+      standing = let none = nothing_of standing_of refl refl in begins.standing ∙ sym none;
+      modest = first_modest;
+    }
+
+    first_trails : Trails Size p.geometry.room first_slots first_clients words
+    first_trails = record {
+      passed = λ s near.
+          let none = nothing_of (λ (c : Client). times s c.trail) refl refl in
+          let sum = over_slots (λ (z : Slot). times s (trail_of z))
+          (λ e. times s (trail_to Size e.key e.slot)) refl (λ m e. refl) in
+          begins.passed s near ∙ omega arith;
+      entries = each_slot (IsTrailed Size) (λ s. tt) (λ k e at. refl);
+    }
+
+    -- an entry of the image is stored in its slot
+    stored_at : (s k : ℕ) (e : ImageEntry) (entry : Entry) → slice_get entries k ≡ Some e
+        → e.slot ≡ s → entry ≡ entry_of (record { client = 0; number = k }) (made_of_entry k e)
+        → IsStored p.geometry.room words first_books s entry
+    stored_at s k e entry listed here same =
+        rw (same, ← here) record {
+          made = made_of_entry k e;
+          listed = ap (λ b. slice_get b k) book_first ∙ (made_get 0 entries k e listed
+              ∙ ap (λ m. Some (made_of_entry m e)) (let g : 0 + k ≡ k = omega arith in g));
+          same = refl;
+          lies = begins.entries k e listed;
+        }
+
+    first_stored : (s : ℕ) (entry : Entry) → entry_in (slice_get first_slots s) ≡ Some entry
+        → IsStored p.geometry.room words first_books s entry
+    first_stored s entry h =
+        let found = read_with Size entry_by entries s entry refl h in
+        let placed = found.1 in
+        let is : Some entry
+        ≡ Some (entry_of (record { client = 0; number = placed.number })
+        (made_of_entry placed.number placed.entry)) =
+        sym found.2 ∙ ap entry_by placed.same in
+        stored_at s placed.number placed.entry entry placed.listed placed.here (cc)
+
+    -- These words show it.
+    opens_rule : Holds fits p (opening words [] (opening_view p))
+    opens_rule = record {
+      world = first_world;
+      books = first_books;
+      setup = refl;
+      lawful = first_lawful;
+      coded = begins.coded;
+      stored = first_stored;
+      drafted = only (IsDraft p.geometry.room words) (opening_view p) record
+          { short = omega arith; lies = λ s owns. cc };
+      references = λ s slot at h.
+          ap (total h) (each_slot (λ s x. references_of x ≡ []) (λ s. refl) (λ k e at. refl) s slot
+          at);
+      holding = only (IsHolding first_slots) (opening_view p) record
+          { recorded = tt; once = λ name. omega arith; few = omega arith };
+      seats = first_seats;
+      stamps = first_stamps;
+      ledgers = first_ledgers;
+      trails = first_trails;
+      turned = begins.hand;
+      turns = refl;
+    }
+
+    -- So a shard may begin with them: no step was made.
+    pub opens_logged : HoldsLogged fits p (opening words [] (first_logged p))
+    opens_logged = record {
+      rule = opens_rule;
+      begins = λ none. begins;
+      spent = only (λ l. l.known.tag ≡ None → moves_of l ≡ 0) (first_logged p) (λ none. refl);
+    }

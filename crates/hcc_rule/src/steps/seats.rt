@@ -1,9 +1,9 @@
 //! Seats that are split and joined.
-ghost use Rattle.std.specs.Prelude.{◌≡◌, ◌∷◌, [], List};
+ghost use Rattle.std.specs.Prelude.{◌≡◌, ◌+◌, ◌∷◌, [], List};
 ghost use Rattle.hcc_rule.specs.declared.view.Other.{Other};
 ghost use Rattle.hcc_rule.specs.Callers.{IsSeatAt};
 ghost use Rattle.hcc_rule.specs.Opening.{IsIdle, joined_view, left_view, right_view};
-ghost use Rattle.hcc_rule.specs.Seats.{IsSameSeat, steps, view};
+ghost use Rattle.hcc_rule.specs.Seats.{IsSameSeat, moves, steps, view};
 
 use crate::key::Tag;
 use crate::table::{RuleSeat, RuleTable};
@@ -48,13 +48,15 @@ impl<T: Tag, A: Allocator> RuleTable<T, A> {
         ensures right { view result ≡ right_view (view seat.old) }
         ensures kept { steps seat.new ≡ steps seat.old }
         ensures none { steps result ≡ [] }
+        ensures moves { (moves seat.new ≡ moves seat.old) × (moves result ≡ 0) }
     {
         self.table.shared.split_seat::<Start>(seat)
     }
 
     /// Ends the client of another seat, which has nothing in hand and holds no reference. The seat
     /// that is left names that client from then on, with all that the other one named, and takes
-    /// over its hidden keys, its met keys, its answers and its counts. Its steps stay its own.
+    /// over its hidden keys, its met keys, its answers and its counts. Its steps stay its own; how
+    /// many the other one made is counted beside them.
     ///
     /// It takes no memory. It costs one load.
     pub fn join(&self, seat: &mut RuleSeat<T>, other: RuleSeat<T>)
@@ -64,6 +66,7 @@ impl<T: Tag, A: Allocator> RuleTable<T, A> {
         ensures seat { IsSameSeat seat.old seat.new }
         ensures both { view seat.new ≡ joined_view (view seat.old) (view other) }
         ensures kept { steps seat.new ≡ steps seat.old }
+        ensures moves { moves seat.new ≡ moves seat.old + moves other }
     {
         self.table.shared.join_seat::<End>(seat, other)
     }

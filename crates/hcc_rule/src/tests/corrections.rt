@@ -41,7 +41,7 @@ impl Worker<'_> {
 
     /// A look-up near the end of the counters, which takes them back. The words are those that the
     /// acquire and the correction found, and those after the correction and after the give.
-    fn correct(&mut self, rt: &impl Abort, slot: u32) -> [u64; 4]
+    pub(super) fn correct(&mut self, rt: &impl Abort, slot: u32) -> [u64; 4]
         requires ready { IsReady (view self.old.seat) }
         requires slot { slot < 8 }
         ensures same { (self.new.table ≡ self.old.table) × (self.new.client ≡ self.old.client)

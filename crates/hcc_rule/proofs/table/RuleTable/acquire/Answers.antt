@@ -7,7 +7,7 @@ fetch_add-requires g c =
     let planned = c.args.self.now.planned in
     let seat = c.requires.seat in
     let weight = c.requires.weight in (
-      seat.table,
+      seat,
       c.address.ensures.inside,
       rw (← planned.0) (acquire_step g.T.Tag.fits c.args.self.now.table.shared.key _ _ c.args.slot _
           c.args.weight c.args.name _

@@ -8,7 +8,7 @@ fetch_add-requires g c =
     let planned = c.args.self.now.planned in
     let seat = c.requires.seat in
     let spent = c.requires.spent in (
-      seat.table,
+      seat,
       c.ledger.ensures.inside,
       charge_step g.T.Tag.fits c.args.self.now.table.shared.key _ _ _ _
           (ap is_some seat.tagged) (rw planned.0 c.ledger.ensures.value)

@@ -6,7 +6,7 @@ pub compare_exchange-requires : goal.compare_exchange-requires
 compare_exchange-requires g c =
     let planned = c.args.self.now.planned in
     let seat = c.requires.seat in (
-      seat.table,
+      seat,
       c.address.ensures.inside,
       clock_step g.T.Tag.fits c.args.self.now.table.shared.key _ _ c.args.slot _ c.args.old
           c.args.new _

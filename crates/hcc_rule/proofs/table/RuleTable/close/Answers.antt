@@ -1,6 +1,6 @@
 use Rattle.std.proofs.Common.{ap, is_some}
 use Rattle.hcc_rule.specs.Seats.{view}
-use Rattle.hcc_rule.proofs.LastSeat.Closings.{shown_last, named_last, closes_last}
+use Rattle.hcc_rule.proofs.LastSeat.Closings.{shown_last, named_last, closes_last, begins_last}
 use Rattle.hcc_rule.proofs.Seats.Lifts.{final_unlogged}
 use Rattle.hcc_rule.proofs.table.RuleTable.close.Goals as goal
 
@@ -28,3 +28,10 @@ returns-clause-closes g c back =
     (final_unlogged g.T.Tag.fits c.args.self.table.shared.key _ _ _ c.args.seat.me.0
     c.close_with.ensures.values.2))
     (ap is_some c.requires.seat.tagged) back)
+
+pub returns-clause-begins : goal.returns-clause-begins
+returns-clause-begins g c back none =
+    rw c.of.ensures.closed
+    (begins_last g.T.Tag.fits c.args.self.table.shared.key c.args.self.geometry _ _ _
+    c.args.seat.me.0 c.args.self.planned.0 c.close_with.ensures.values.2
+    (ap is_some c.requires.seat.tagged) back none)

@@ -1,5 +1,6 @@
 use Rattle.std.proofs.Common.{◌+◌, ap, ◌∙◌}
 use Rattle.hcc_rule.specs.declared.view.View.{View}
+use Rattle.hcc_rule.specs.Images.{entries_in, maker_of}
 use Rattle.hcc_rule.specs.Opening.{unstarted}
 use Rattle.hcc_rule.proofs.Seats.Dealing.{unstarted_from, next_unstarted, deal}
 use Rattle.hcc_rule.proofs.table.RuleTable.dealt.Goals as goal
@@ -18,6 +19,7 @@ loop-preserved g c =
     let told = c.split.ensures in
     rw (c.in_ok-push.ensures.items)
     (deal c.args.self.now.table.shared.table_id c.args.self.now.table.shared.key.tag
+    (maker_of (entries_in c.args.self.now.table.shared.key.image))
     c.args.self.now.geometry.clients c.loop.counter c.loop.first c.split.new.seat c.split.result
     c.loop.seats.items c.loop.invariant c.loop-test.true told.seat told.left told.new told.right
-    told.kept told.none)
+    told.kept told.none told.moves.0 told.moves.1)

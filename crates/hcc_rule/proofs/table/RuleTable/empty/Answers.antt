@@ -6,7 +6,7 @@ pub store-requires : goal.store-requires
 store-requires g c =
     let planned = c.args.self.now.planned in
     let seat = c.requires.seat in (
-      seat.table,
+      seat,
       c.address.ensures.inside,
       empty_step g.T.Tag.fits c.args.self.now.table.shared.key _ _ c.args.slot _ _
           (rw planned.0 c.requires.slot) (ap is_some seat.tagged) c.requires.owned c.requires.back

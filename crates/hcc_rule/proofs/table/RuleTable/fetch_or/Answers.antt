@@ -1,9 +1,11 @@
+use Rattle.std.proofs.Common.{ap, is_some}
 use Rattle.hcc_rule.proofs.Seats.Lifts.{loaded, ored, lifted}
 use Rattle.hcc_rule.proofs.table.RuleTable.fetch_or.Goals as goal
 
 pub fetch_or-requires : goal.fetch_or-requires
 fetch_or-requires g c = (
-  c.requires.0,
+  c.requires.0.table,
   c.requires.1,
-  lifted g.T.Tag.fits c.args.self.now.table.shared.key (ored c.args.bits) loaded c.requires.2,
+  lifted g.T.Tag.fits c.args.self.now.table.shared.key (ored c.args.bits) loaded
+      (ap is_some c.requires.0.tagged) c.requires.2,
 )

@@ -6,7 +6,7 @@ pub fetch_and-requires : goal.fetch_and-requires
 fetch_and-requires g c =
     let planned = c.args.self.now.planned in
     let seat = c.requires.seat in (
-      seat.table,
+      seat,
       c.address.ensures.inside,
       hide_step g.T.Tag.fits c.args.self.now.table.shared.key _ _ c.args.slot c.args.name _ _
           (ap is_some seat.tagged) c.ranges.name.fits (rw planned.0 c.address.ensures.value)

@@ -1,9 +1,11 @@
+use Rattle.std.proofs.Common.{ap, is_some}
 use Rattle.hcc_rule.proofs.Seats.Lifts.{loaded, lifted}
 use Rattle.hcc_rule.proofs.table.RuleTable.load.Goals as goal
 
 pub load-requires : goal.load-requires
 load-requires g c = (
-  c.requires.0,
+  c.requires.0.table,
   c.requires.1,
-  lifted g.T.Tag.fits c.args.self.now.table.shared.key loaded loaded c.requires.2,
+  lifted g.T.Tag.fits c.args.self.now.table.shared.key loaded loaded
+      (ap is_some c.requires.0.tagged) c.requires.2,
 )

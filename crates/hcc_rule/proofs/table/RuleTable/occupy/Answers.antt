@@ -6,7 +6,7 @@ pub fetch_or-requires : goal.fetch_or-requires
 fetch_or-requires g c =
     let planned = c.args.self.now.planned in
     let seat = c.requires.seat in (
-      seat.table,
+      seat,
       c.address.ensures.inside,
       occupy_step g.T.Tag.fits c.args.self.now.table.shared.key _ _ c.args.slot _ _
           (rw planned.0 c.requires.slot) (ap is_some seat.tagged) c.requires.idle

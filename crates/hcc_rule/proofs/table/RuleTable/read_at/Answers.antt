@@ -7,7 +7,7 @@ pub load-requires : goal.load-requires
 load-requires g c =
     let planned = c.args.self.now.planned in
     let seat = c.requires.seat in (
-      seat.table,
+      seat,
       c.data_address.ensures.inside,
       read_step g.T.Tag.fits c.args.self.now.table.shared.key _ _ c.args.slot c.args.name
           c.args.index _ _

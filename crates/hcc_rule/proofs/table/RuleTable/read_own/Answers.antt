@@ -7,7 +7,7 @@ pub load-requires : goal.load-requires
 load-requires g c =
     let planned = c.args.self.now.planned in
     let seat = c.requires.seat in (
-      seat.table,
+      seat,
       c.address.ensures.inside,
       read_own_step g.T.Tag.fits c.args.self.now.table.shared.key _ _ c.args.slot c.args.index _ _
           c.requires.owned (ap is_some seat.tagged)

@@ -7,7 +7,7 @@ pub store-requires : goal.store-requires
 store-requires g c =
     let planned = c.args.self.now.planned in
     let seat = c.requires.seat in (
-      seat.table,
+      seat,
       c.address.ensures.inside,
       show_step g.T.Tag.fits c.args.self.now.table.shared.key _ _ c.args.slot c.args.draft.countdown
           _ _

@@ -7,7 +7,7 @@ fetch_sub-requires g c =
     let planned = c.args.self.now.planned in
     let seat = c.requires.seat in
     let count = c.requires.count in (
-      seat.table,
+      seat,
       c.ledger.ensures.inside,
       slots_step g.T.Tag.fits c.args.self.now.table.shared.key _ _ _ _
           (ap is_some seat.tagged) (rw planned.0 c.ledger.ensures.value)

@@ -6,7 +6,7 @@ pub fetch_add-requires : goal.fetch_add-requires
 fetch_add-requires g c =
     let planned = c.args.self.now.planned in
     let seat = c.requires.seat in (
-      seat.table,
+      seat,
       c.address.ensures.inside,
       spend_step g.T.Tag.fits c.args.self.now.table.shared.key _ _ c.args.slot c.args.name _
           c.args.weight _

@@ -6,7 +6,7 @@ pub fetch_add-requires : goal.fetch_add-requires
 fetch_add-requires g c =
     let planned = c.args.self.now.planned in
     let seat = c.requires.seat in (
-      seat.table,
+      seat,
       c.ledger.ensures.inside,
       stand_step g.T.Tag.fits c.args.self.now.table.shared.key _ _ _ _
           (ap is_some seat.tagged) (rw planned.0 c.ledger.ensures.value)

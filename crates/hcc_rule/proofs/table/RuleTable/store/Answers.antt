@@ -1,10 +1,11 @@
+use Rattle.std.proofs.Common.{ap, is_some}
 use Rattle.hcc_rule.proofs.Seats.Lifts.{stored, lifted}
 use Rattle.hcc_rule.proofs.table.RuleTable.store.Goals as goal
 
 pub store-requires : goal.store-requires
 store-requires g c = (
-  c.requires.0,
+  c.requires.0.table,
   c.requires.1,
   lifted g.T.Tag.fits c.args.self.now.table.shared.key (stored c.args.word) (stored c.args.word)
-      c.requires.2,
+      (ap is_some c.requires.0.tagged) c.requires.2,
 )

@@ -8,7 +8,7 @@ store-requires g c =
     let planned = c.args.self.now.planned in
     let seat = c.requires.seat in
     let next = c.requires.next in (
-      seat.table,
+      seat,
       c.data_address.ensures.inside,
       write_step g.T.Tag.fits c.args.self.now.table.shared.key _ _ c.args.slot _ _ _
           (rw planned.0 c.requires.slot) (ap is_some seat.tagged) c.requires.owned

@@ -1,6 +1,6 @@
 use Rattle.std.proofs.Common.{◌∙◌}
-use Rattle.hcc_table.proofs.InsertsWords.{word_last}
-use Rattle.hcc_table.proofs.build.word_at.Goals as goal
+use Rattle.hcc_rule.proofs.Images.Payloads.{word_last}
+use Rattle.hcc_rule.proofs.packing.word_at.Goals as goal
 
 pub returns-in-None : goal.returns-in-None
 returns-in-None c =

@@ -1,6 +1,6 @@
 use Rattle.std.proofs.Common.{◌∙◌, length}
-use Rattle.hcc_table.proofs.InsertsWords.{word_copied}
-use Rattle.hcc_table.proofs.build.short_word.Goals as goal
+use Rattle.hcc_rule.proofs.Images.Payloads.{word_copied}
+use Rattle.hcc_rule.proofs.packing.short_word.Goals as goal
 
 pub returns : goal.returns
 returns c =
