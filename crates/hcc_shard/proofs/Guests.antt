@@ -1,5 +1,5 @@
 -- What serves the tests alone: the pins and the standalone entries of their clients after a call.
-use Rattle.std.proofs.Common.{◌≡◌, ℕ, suc, ◌+◌, ◌<◌, ◌≤◌, ◌==◌, ◌++◌, cond, Bool, true, false, List, [], ◌∷◌, map, Option, Some, None, is_some, Result, Ok, Err, IfSome, IsSomeAnd, length, remove, position, slice_index, sym, subst, refl, ap, ◌∙◌, append-nil, arith, eqb-true}
+use Rattle.std.proofs.Common.{◌≡◌, ℕ, suc, ◌+◌, ◌<◌, ◌≤◌, ◌==◌, ◌++◌, cond, Bool, true, false, List, [], ◌∷◌, map, Option, Some, None, is_some, Result, Ok, Err, IfSome, IsSomeAnd, get_or, length, remove, position, slice_index, sym, subst, refl, ap, ◌∙◌, append-nil, arith, eqb-true}
 use Rattle.std.specs.List.{find}
 use Rattle.hcc_core.specs.declared.client.Standalone.{Standalone}
 use Rattle.hcc_core.specs.Ledgers.{is_standing}
@@ -7,14 +7,19 @@ use Rattle.hcc_core.specs.Outcomes.{dropped}
 use Rattle.hcc_core.specs.Sums.{total, when}
 use Rattle.hcc_core.proofs.DroppedLemmas.{remove_at}
 use Rattle.hcc_rule.specs.declared.geometry.Geometry.{Geometry}
+use Rattle.hcc_rule.specs.declared.image.ImageEntry.{ImageEntry}
 use Rattle.hcc_rule.specs.declared.key.Key.{Key}
 use Rattle.hcc_rule.specs.declared.rule.Plan.{Plan}
 use Rattle.hcc_rule.specs.declared.steps.shows.Draft.{Draft}
+use Rattle.hcc_rule.specs.declared.view.Other.{Other}
 use Rattle.hcc_rule.specs.declared.view.Record.{Record}
 use Rattle.hcc_rule.specs.declared.view.View.{View}
 use Rattle.hcc_rule.specs.Callers.{clients_of}
+use Rattle.hcc_rule.specs.Images.{made_from, maker_of}
+use Rattle.hcc_rule.specs.Opening.{unstarted}
 use Rattle.hcc_rule.specs.Seats.{view}
 use Rattle.hcc_rule.specs.Views.{Each, is_called, named_by, record_in}
+use Rattle.hcc_rule.proofs.Images.Fillings.{made_length}
 use Rattle.hcc_table.specs.declared.pins.Pin.{Pin}
 use Rattle.hcc_table.specs.Pins.{IsOf, IsPinned}
 use Rattle.hcc_table.specs.Searched.{IsFound, IsMissed, Searched}
@@ -28,7 +33,7 @@ use Rattle.hcc_shard.specs.Guests.{AreHome, FitsAny, IsCounted, IsDrafted, IsGue
 use Rattle.hcc_shard.specs.Closed.{AreBack, HoldsNothing}
 use Rattle.hcc_shard.specs.Inserted.{InsertedBy, IsInsertable, IsUnshown, RefusedBy, Shows, Tries, with_draft}
 use Rattle.hcc_shard.specs.Referred.{IsReleased}
-use Rattle.hcc_shard.specs.Seated.{AreNew, IsKept, IsNew, Rests}
+use Rattle.hcc_shard.specs.Seated.{AreBegun, AreNew, IsBegun, IsKept, IsNew, Rests}
 use Rattle.hcc_shard.specs.declared.inserting.Inserted.{Inserted}
 use Rattle.hcc_shard.specs.declared.inserting.Inserted.TheVariants as inserted
 use Rattle.hcc_shard.proofs.Names.{each_as, each_left, each_more, found_if, length_more}
@@ -446,16 +451,37 @@ last_new shard first (x ∷ xs) seat h =
     let same : first + 1 + length xs ≡ first + length (x ∷ xs) = omega arith in
     ((h.0, later.0), rw (← same) later.1)
 
--- A new seat is a guest's that holds nothing.
-pub guest_new : {T A : Type 0} (shard : Shard T A) (client : ℕ) (seat : ShardSeat T)
-    → IsNew shard client seat → IsGuest shard seat [] [] 0
-guest_new shard client seat n = record {
+-- The seat of a client that only made something is a guest's that holds nothing.
+pub guest_begun : {T A : Type 0} (shard : Shard T A) (o : Other) (next : ℕ) (seat : ShardSeat T)
+    → IsBegun shard o seat → length o.made ≤ next → IsGuest shard seat [] [] next
+guest_begun shard o next seat n past = record {
   rests = n.rests;
   single = ap (λ (z : View _). z.others) n.fresh;
   holds = sym (ap (λ (z : View _). map pin_of z.records) n.fresh);
   stands = sym (ap (λ (z : View _). z.work.standalones) n.fresh);
-  counted = rw n.fresh (record { records = tt; standalones = tt; made = omega arith });
+  counted = rw n.fresh (record { records = tt; standalones = tt; made = past });
 }
+
+-- A new seat is.
+pub guest_new : {T A : Type 0} (shard : Shard T A) (client : ℕ) (seat : ShardSeat T)
+    → IsNew shard client seat → IsGuest shard seat [] [] 0
+guest_new shard client seat n = guest_begun shard (unstarted client) 0 seat n (omega arith)
+
+-- So is that of the client that made the entries of an image.
+pub guest_maker : {T A : Type 0} (shard : Shard T A) (es : List ImageEntry)
+    (xs : List (ShardSeat T)) (seat : ShardSeat T) → AreBegun shard es xs → 0 < length xs
+    → seat ≡ get_or xs 0 seat → IsGuest shard seat [] [] (length es)
+guest_maker shard es [] seat all some is = absurd (omega arith)
+guest_maker shard es (x ∷ xs) seat all some is =
+    let few : length (made_from 0 es) ≤ length es =
+    let same = made_length 0 es in omega arith in
+    let same : seat ≡ x = is in
+    rw same (guest_begun shard (maker_of es) (length es) x all.0 few)
+
+-- any value is right for the tag of the tests
+pub all_fit : (es : List ImageEntry) → Each (λ (e : ImageEntry). Unit {0}) es
+all_fit [] = tt
+all_fit (e ∷ es) = (tt, all_fit es)
 
 no_records : (rs : List Record) (pins : List Pin) → pins ≡ map pin_of rs → length pins ≡ 0
     → rs ≡ []

@@ -1,5 +1,6 @@
 pub mod Names
 pub mod Seatings
+pub mod Reopenings
 pub mod Resting
 pub mod Settlings
 pub mod Pins
@@ -7,5 +8,6 @@ pub mod Insertions
 pub mod Joinings
 pub mod Lefts
 pub mod Values
+pub mod Imagings
 pub mod Guests
 pub mod Releases

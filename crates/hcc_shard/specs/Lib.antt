@@ -4,5 +4,7 @@ pub mod Referred
 pub mod Inserted
 pub mod Left
 pub mod Closed
+pub mod Reopened
+pub mod Imaged
 pub mod Callers
 pub mod Guests

@@ -3,11 +3,14 @@ use Rattle.std.specs.Prelude.{◌≡◌, ℕ, ◌+◌, ◌<◌, ◌≤◌, List,
 use Rattle.hcc_core.specs.declared.client.Standalone.{Standalone}
 use Rattle.hcc_core.specs.declared.limits.TheConstants.{MOST_CLIENTS, MOST_HANDLES, STAMPS_PER_CLIENT}
 use Rattle.hcc_rule.specs.declared.geometry.Geometry.{Geometry}
+use Rattle.hcc_rule.specs.declared.image.ImageEntry.{ImageEntry}
+use Rattle.hcc_rule.specs.declared.view.Other.{Other}
 use Rattle.hcc_rule.specs.declared.view.Record.{Record}
 use Rattle.hcc_rule.specs.declared.view.View.{View}
 use Rattle.hcc_rule.specs.Callers.{IsBetweenCalls, IsSeatAt, geometry_of, plan_of}
+use Rattle.hcc_rule.specs.Images.{maker_of}
 use Rattle.hcc_rule.specs.Opening.{fresh_view, unstarted}
-use Rattle.hcc_rule.specs.Seats.{steps, view}
+use Rattle.hcc_rule.specs.Seats.{SeatOf, moves, steps, view}
 use Rattle.hcc_rule.specs.Views.{Each}
 use Rattle.hcc_table.specs.Readings.{IsReadable}
 use Rattle.hcc_shard.specs.declared.seat.ShardSeat.{ShardSeat}
@@ -45,15 +48,39 @@ module _ {T A : Type 0} where
     pub known : seat.client < MOST_CLIENTS
     pub quiet : IsQuiet (geometry_of shard.table) (view seat.seat)
 
-  -- the seat of a client that did nothing yet
-  pub record IsNew (shard : Shard T A) (client : ℕ) (seat : ShardSeat T) : Type 0 where
+  -- the seat of a client that made this and did nothing else yet
+  pub record IsBegun (shard : Shard T A) (o : Other) (seat : ShardSeat T) : Type 0 where
     pub rests : Rests shard seat
-    pub number : seat.client ≡ client
-    pub fresh : view seat.seat ≡ fresh_view (Some (plan_of shard.table).tag) (unstarted client) []
+    pub number : seat.client ≡ o.client
+    pub fresh : view seat.seat ≡ fresh_view (Some (plan_of shard.table).tag) o []
     pub no_steps : steps seat.seat ≡ []
+    pub unmoved : moves seat.seat ≡ 0
     pub no_counts : CountsNothing seat
+
+  -- the seat of a client that did nothing yet
+  abbrev pub IsNew : Shard T A → (client : ℕ) → ShardSeat T → Type 0
+  IsNew shard client seat = IsBegun shard (unstarted client) seat
 
   -- such seats of clients in turn, from this one on
   abbrev pub AreNew : Shard T A → ℕ → List (ShardSeat T) → Type 0
   AreNew shard client [] = Unit {0}
   AreNew shard client (seat ∷ seats) = IsNew shard client seat × AreNew shard (client + 1) seats
+
+  -- the seats of all clients in turn, where client 0 made these entries
+  abbrev pub AreBegun : Shard T A → List ImageEntry → List (ShardSeat T) → Type 0
+  AreBegun shard es [] = Unit {0}
+  AreBegun shard es (seat ∷ seats) = IsBegun shard (maker_of es) seat × AreNew shard 1 seats
+
+module _ {T : Type 0} where
+  -- A seat of a table got the number of its client, and counts nothing yet.
+  pub record IsNumbered (client : ℕ) (seat : SeatOf T) (named : ShardSeat T) : Type 0 where
+    pub seat_is : named.seat ≡ seat
+    pub number : named.client ≡ client
+    pub no_counts : CountsNothing named
+
+  -- such seats, one for each, numbered from this client on
+  abbrev pub AreNumbered : (client : ℕ) → List (SeatOf T) → List (ShardSeat T) → Type 0
+  AreNumbered client [] [] = Unit {0}
+  AreNumbered client (seat ∷ seats) (named ∷ others) =
+      IsNumbered client seat named × AreNumbered (client + 1) seats others
+  AreNumbered client seats named = ⊥

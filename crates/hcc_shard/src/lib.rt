@@ -5,9 +5,11 @@
 mod closing;
 mod entries;
 mod erasing;
+mod imaging;
 mod inserting;
 mod reading;
 mod referring;
+mod reopening;
 mod seat;
 mod shard;
 #[cfg(test)]
@@ -16,5 +18,6 @@ mod totals;
 
 pub use entries::{ClosedEntry, ClosedShard};
 pub use inserting::{Inserted, Pinned};
+pub use reopening::ReopenError;
 pub use seat::{ShardSeat, Stats};
 pub use shard::Shard;

@@ -1,8 +1,9 @@
 //! A shard.
-ghost use Rattle.std.specs.Prelude.{◌≡◌, IfOk, length};
-ghost use Rattle.hcc_rule.specs.Callers.{capacity_of, clients_of, geometry_of, is_strict, plan_of, AreSeatsAt};
+ghost use Rattle.std.specs.Prelude.{◌≡◌, ◌≤◌, [], IfOk, length};
+ghost use Rattle.hcc_core.specs.declared.limits.TheConstants.{MOST_CLIENTS};
+ghost use Rattle.hcc_rule.specs.Callers.{capacity_of, geometry_of, is_strict, plan_of, OpensWith};
 ghost use Rattle.hcc_rule.specs.Seats.{IsPlanned};
-ghost use Rattle.hcc_shard.specs.Seated.{AreNew};
+ghost use Rattle.hcc_shard.specs.Seated.{AreNew, AreNumbered};
 
 use crate::seat::ShardSeat;
 use hcc_rule::{Geometry, RuleSeat, RuleTable, Tag};
@@ -17,8 +18,8 @@ pub struct Shard<T: Tag, A: Allocator> {
 
 impl<T: Tag, A: Allocator> Shard<T, A> {
     /// A shard with no entries, and the seats of all its clients, in order of their numbers. Each
-    /// client has nothing in hand, its lists are empty and its counts 0. Look-ups mark what they
-    /// find where `marks` says so.
+    /// client has nothing in hand, its lists are empty and its counts 0. Until one makes a step all
+    /// words but those of data are 0. Look-ups mark what they find where `marks` says so.
     ///
     /// The sizes and the capacity keep their limits. It takes memory for the words and for the
     /// seats, and is refused where that is refused alone. It costs as many stores as the shard has
@@ -40,32 +41,30 @@ impl<T: Tag, A: Allocator> Shard<T, A> {
             × (is_strict made.0.table ≡ strict)) }
         ensures marks { IfOk result (λ made. made.0.marks ≡ marks) }
         ensures tag { IfOk result (λ made. (plan_of made.0.table).tag ≡ tag) }
+        ensures words { IfOk result (λ made. OpensWith T.fits made.0.table []) }
         ensures count { IfOk result (λ made. length made.1.items ≡ geometry.clients) }
         ensures seats { IfOk result (λ made. AreNew made.0 0 made.1.items) }
     {
         let (table, seats) = RuleTable::new(alloc.clone()?, geometry, capacity, strict, tag)?;
         let shard = Shard { table, marks };
-        let seats = shard.seated(alloc, seats)?;
+        let seats = numbered(alloc, seats)?;
         Ok((shard, seats))
     }
+}
 
-    /// New seats of the shard's table, each with its client's number.
-    fn seated(
-        &self,
-        alloc: A,
-        seats: Vec<RuleSeat<T>, A>,
-    ) -> Result<Vec<ShardSeat<T>, A>, AllocError>
-        requires seats { AreSeatsAt self.now.table 0 seats.items }
-        requires count { length seats.items ≡ clients_of self.now.table }
-        ensures count { IfOk result (λ named. length named.items ≡ clients_of self.now.table) }
-        ensures seats { IfOk result (λ named. AreNew self.now 0 named.items) }
-    {
-        let mut named = Vec::new(alloc);
-        let mut client = 0;
-        for seat in seats {
-            named.push(ShardSeat::new(seat, client))?;
-            client += 1;
-        }
-        Ok(named)
+/// Seats of a shard's table, each with its client's number, from 0 on.
+pub(crate) fn numbered<T, A: Allocator>(
+    alloc: A,
+    seats: Vec<RuleSeat<T>, A>,
+) -> Result<Vec<ShardSeat<T>, A>, AllocError>
+    requires { length seats.items ≤ MOST_CLIENTS }
+    ensures { IfOk result (λ named. AreNumbered 0 seats.items named.items) }
+{
+    let mut named = Vec::new(alloc);
+    let mut client = 0;
+    for seat in seats {
+        named.push(ShardSeat::new(seat, client))?;
+        client += 1;
     }
+    Ok(named)
 }

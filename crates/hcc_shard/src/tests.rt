@@ -4,6 +4,7 @@ use hcc_rule::Tag;
 
 mod calls;
 mod guest;
+mod images;
 mod rows;
 mod threads;
 mod visit;

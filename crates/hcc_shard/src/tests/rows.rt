@@ -11,13 +11,13 @@ use std::process::Abort;
 
 /// Calls in order, with their answers. The first probe of a key whose upper word is 0 is the slot
 /// of the lower.
-type Row = &'static [(Call<'static>, Answer)];
+pub(super) type Row = &'static [(Call<'static>, Answer)];
 
 /// The word of an entry with a countdown of 1, 2 or 3, and of one with a countdown of 2 that its
 /// maker holds.
-const BOTTOM: u64 = 0xe000_0000_4000_0001;
+pub(super) const BOTTOM: u64 = 0xe000_0000_4000_0001;
 
-const LOW: u64 = 0xe000_0000_8000_0002;
+pub(super) const LOW: u64 = 0xe000_0000_8000_0002;
 
 const HIGH: u64 = 0xe000_0000_c000_0003;
 
@@ -28,10 +28,10 @@ const AA: [u8; 16] = [0xaa, 0, 0, 0, 0, 0, 0, 0, 0, 0, 0, 0, 0, 0, 0, 0];
 
 const BB: [u8; 16] = [0xbb, 0, 0, 0, 0, 0, 0, 0, 0, 0, 0, 0, 0, 0, 0, 0];
 
-const FULL: [u8; 16] = [0, 1, 2, 3, 4, 5, 6, 7, 8, 9, 10, 11, 12, 13, 14, 15];
+pub(super) const FULL: [u8; 16] = [0, 1, 2, 3, 4, 5, 6, 7, 8, 9, 10, 11, 12, 13, 14, 15];
 
 /// A shard of 8 slots with this capacity.
-fn of(capacity: u32, strict: bool) -> Start {
+pub(super) fn of(capacity: u32, strict: bool) -> Start {
     Start {
         large: false,
         capacity,
@@ -82,7 +82,7 @@ fn left_at(
 }
 
 /// An entry is placed in its key's first slot, with its countdown in its word.
-const PLACED: Row = &[
+pub(super) const PLACED: Row = &[
     (Call::Totals, Answer::Totals([0, 0, 0])),
     (Call::Insert(0, 1, 200, 2, &[]), Answer::Placed),
     (Call::Slot(1), Answer::Slot(LOW, 0)),

@@ -1,12 +1,12 @@
 //! How clients come to a new shard, and leave it before it is closed.
-ghost use Rattle.std.specs.Prelude.{◌≡◌, ◌≤◌, IfOk};
+ghost use Rattle.std.specs.Prelude.{◌≡◌, ◌≤◌, IfOk, if◌then◌else◌};
 ghost use Rattle.hcc_shard.specs.Guests.{AreHome, IsGuest};
-ghost use Rattle.hcc_shard.specs.Seated.{AreNew};
+ghost use Rattle.hcc_shard.specs.Seated.{AreBegun, AreNew};
 
 use super::AnyBytes;
 use super::guest::{Guest, Store};
-use crate::{ClosedShard, Shard, ShardSeat};
-use hcc_rule::Geometry;
+use crate::{ClosedShard, ReopenError, Shard, ShardSeat};
+use hcc_rule::{Geometry, ImageEntry};
 use hcc_table::{IfLast, Use};
 use std::alloc::{AllocError, Global};
 use std::process::Abort;
@@ -33,13 +33,38 @@ pub(super) fn opened(
     requires clients { (1 ≤ clients) × (clients ≤ 64) }
     ensures seats { IfOk result (λ made. AreNew made.0 0 made.1.items) }
 {
-    let sizes = Geometry {
+    let sizes = sizes(start, clients);
+    let capacity = start.capacity as u64;
+    Shard::new(alloc, sizes, capacity, start.strict, start.marks, AnyBytes)
+}
+
+/// A shard of one client that begins with an image, and the client's seat.
+pub(super) fn reopened(
+    alloc: Global,
+    start: Start,
+    image: &Vec<ImageEntry>,
+) -> Result<(Store, Seats), ReopenError>
+    ensures seats { IfOk result (λ made. AreBegun made.0 image.now.items made.1.items) }
+{
+    let sizes = sizes(start, 1);
+    let capacity = start.capacity as u64;
+    let (strict, marks) = (start.strict, start.marks);
+    Shard::reopen(alloc, sizes, capacity, strict, marks, image, AnyBytes)
+}
+
+/// The sizes of a shard.
+fn sizes(start: Start, clients: u32) -> Geometry
+    ensures { result ≡ record {
+      slots = if start.large then 64 else 8;
+      room = 2;
+      clients = clients;
+    } }
+{
+    Geometry {
         slots: if start.large { 64 } else { 8 },
         room: 2,
         clients,
-    };
-    let capacity = start.capacity as u64;
-    Shard::new(alloc, sizes, capacity, start.strict, start.marks, AnyBytes)
+    }
 }
 
 /// The client of the last seat, at its shard.
@@ -64,6 +89,33 @@ pub(super) fn comes<'a>(
         pins,
         standing,
         next: 0,
+    }
+}
+
+/// The only client of a shard that begins with an image, at its shard. Its next serial is the
+/// number of entries.
+pub(super) fn comes_back<'a>(
+    rt: &impl Abort,
+    alloc: Global,
+    shard: &'a Store,
+    seats: &mut Seats,
+    image: &Vec<ImageEntry>,
+) -> Guest<'a>
+    requires begun { AreBegun shard.now image.now.items seats.old.items }
+    ensures shard { result.shard ≡ shard.entry }
+    ensures keeps { IsGuest result.shard.now result.seat result.pins.items result.standing.items
+        result.next }
+{
+    assert!(rt; !seats.is_empty(), "no seat is left");
+    let seat = seats.remove(0);
+    let pins = Vec::new(alloc);
+    let standing = Vec::new(alloc);
+    Guest {
+        shard,
+        seat,
+        pins,
+        standing,
+        next: image.len() as u64,
     }
 }
 
