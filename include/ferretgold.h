@@ -189,51 +189,55 @@ typedef struct ferretgold_client ferretgold_client;
 
 /* ---- The library's functions. Programs in C and C++ call the inline functions below. ---------- */
 
-/* A pointer to a cache or to a client, as a call takes it. It isn't null. */
+/* A pointer to a cache or to a client, as a call takes it: by its address, and by value where the
+ * object ends. It isn't null, and a call leaves it as it was. Where a call gives an object, or hands
+ * back as `kept` one that it didn't end, the address is that of a null one before. */
 typedef struct ferretgold_object {
     void *at;
 } ferretgold_object;
 
 /* None of these pointers is null, but for outputs of length 0. A value of length 0 has a pointer
  * that isn't null. `home` is the address of the cache's object in both calls that take it. */
-uint32_t ferretgold_raw_open(const ferretgold_config *config, void **cache);
-uint32_t ferretgold_raw_client_open(ferretgold_object cache, size_t home, void **client);
-uint32_t ferretgold_raw_client_close(ferretgold_object cache, size_t home,
-                                     ferretgold_object client);
-uint32_t ferretgold_raw_close(ferretgold_object cache, ferretgold_totals *totals);
-uint32_t ferretgold_raw_lookup(ferretgold_object client, const ferretgold_key *key,
+uint32_t ferretgold_raw_open(const ferretgold_config *config, ferretgold_object *cache);
+uint32_t ferretgold_raw_client_open(ferretgold_object *cache, size_t home,
+                                    ferretgold_object *client);
+uint32_t ferretgold_raw_client_close(ferretgold_object *cache, size_t home,
+                                     ferretgold_object client, ferretgold_object *kept);
+uint32_t ferretgold_raw_close(ferretgold_object cache, ferretgold_totals *totals,
+                              ferretgold_object *kept);
+uint32_t ferretgold_raw_lookup(ferretgold_object *client, const ferretgold_key *key,
                                ferretgold_handle *handle);
-uint32_t ferretgold_raw_reref(ferretgold_object client, const ferretgold_handle *handle,
+uint32_t ferretgold_raw_reref(ferretgold_object *client, const ferretgold_handle *handle,
                               ferretgold_handle *more);
-uint32_t ferretgold_raw_release(ferretgold_object client, const ferretgold_handle *handle,
+uint32_t ferretgold_raw_release(ferretgold_object *client, const ferretgold_handle *handle,
                                 bool useful, bool erase_if_last, bool *freed);
-uint32_t ferretgold_raw_insert(ferretgold_object client, const ferretgold_key *key,
+uint32_t ferretgold_raw_insert(ferretgold_object *client, const ferretgold_key *key,
                                const uint8_t *value, size_t length, uint32_t charge,
                                uint32_t priority, uint32_t *inserted);
-uint32_t ferretgold_raw_insert_pinned(ferretgold_object client, const ferretgold_key *key,
+uint32_t ferretgold_raw_insert_pinned(ferretgold_object *client, const ferretgold_key *key,
                                       const uint8_t *value, size_t length, uint32_t charge,
                                       uint32_t priority, uint32_t *inserted,
                                       ferretgold_handle *handle);
-uint32_t ferretgold_raw_erase(ferretgold_object client, const ferretgold_key *key,
+uint32_t ferretgold_raw_erase(ferretgold_object *client, const ferretgold_key *key,
                               uint32_t *hidden);
-uint32_t ferretgold_raw_key(ferretgold_object client, const ferretgold_handle *handle,
+uint32_t ferretgold_raw_key(ferretgold_object *client, const ferretgold_handle *handle,
                             ferretgold_key *key);
-uint32_t ferretgold_raw_value_len(ferretgold_object client, const ferretgold_handle *handle,
+uint32_t ferretgold_raw_value_len(ferretgold_object *client, const ferretgold_handle *handle,
                                   size_t *length);
-uint32_t ferretgold_raw_read_value(ferretgold_object client, const ferretgold_handle *handle,
+uint32_t ferretgold_raw_read_value(ferretgold_object *client, const ferretgold_handle *handle,
                                    uint8_t *buffer, size_t capacity, size_t *length);
-uint64_t ferretgold_raw_usage(ferretgold_object client);
-uint64_t ferretgold_raw_pinned_usage(ferretgold_object client);
-uint64_t ferretgold_raw_occupancy(ferretgold_object client);
-uint32_t ferretgold_raw_word(ferretgold_object client, uint32_t shard, uint32_t slot,
+uint64_t ferretgold_raw_usage(ferretgold_object *client);
+uint64_t ferretgold_raw_pinned_usage(ferretgold_object *client);
+uint64_t ferretgold_raw_occupancy(ferretgold_object *client);
+uint32_t ferretgold_raw_word(ferretgold_object *client, uint32_t shard, uint32_t slot,
                              uint64_t *word);
-uint32_t ferretgold_raw_displacement(ferretgold_object client, uint32_t shard, uint32_t slot,
+uint32_t ferretgold_raw_displacement(ferretgold_object *client, uint32_t shard, uint32_t slot,
                                      uint64_t *displacement);
-uint32_t ferretgold_raw_number(ferretgold_object client);
-uint32_t ferretgold_raw_held(ferretgold_object client);
-uint64_t ferretgold_raw_serials_left(ferretgold_object client);
-bool ferretgold_raw_holds(ferretgold_object client, const ferretgold_handle *handle);
-void ferretgold_raw_stats(ferretgold_object client, ferretgold_stats *stats);
+uint32_t ferretgold_raw_number(ferretgold_object *client);
+uint32_t ferretgold_raw_held(ferretgold_object *client);
+uint64_t ferretgold_raw_serials_left(ferretgold_object *client);
+bool ferretgold_raw_holds(ferretgold_object *client, const ferretgold_handle *handle);
+void ferretgold_raw_stats(ferretgold_object *client, ferretgold_stats *stats);
 
 static inline ferretgold_object ferretgold_object_of(void *at) {
     ferretgold_object object;
@@ -257,10 +261,10 @@ static inline ferretgold_status ferretgold_open(const ferretgold_config *config,
     if (config == NULL || cache == NULL) {
         return FERRETGOLD_NULL;
     }
-    void *opened = NULL;
+    ferretgold_object opened = ferretgold_object_of(NULL);
     uint32_t status = ferretgold_raw_open(config, &opened);
     if (status == FERRETGOLD_OK) {
-        *cache = (ferretgold_cache *)opened;
+        *cache = (ferretgold_cache *)opened.at;
     }
     return (ferretgold_status)status;
 }
@@ -279,11 +283,11 @@ static inline ferretgold_status ferretgold_client_open(ferretgold_cache *cache,
     if (cache == NULL || client == NULL) {
         return FERRETGOLD_NULL;
     }
-    void *opened = NULL;
-    uint32_t status =
-        ferretgold_raw_client_open(ferretgold_object_of(cache), (size_t)cache, &opened);
+    ferretgold_object object = ferretgold_object_of(cache);
+    ferretgold_object opened = ferretgold_object_of(NULL);
+    uint32_t status = ferretgold_raw_client_open(&object, (size_t)cache, &opened);
     if (status == FERRETGOLD_OK) {
-        *client = (ferretgold_client *)opened;
+        *client = (ferretgold_client *)opened.at;
     }
     return (ferretgold_status)status;
 }
@@ -300,8 +304,10 @@ static inline ferretgold_status ferretgold_client_close(ferretgold_cache *cache,
     if (cache == NULL || client == NULL) {
         return FERRETGOLD_NULL;
     }
+    ferretgold_object object = ferretgold_object_of(cache);
+    ferretgold_object kept = ferretgold_object_of(NULL);
     return (ferretgold_status)ferretgold_raw_client_close(
-        ferretgold_object_of(cache), (size_t)cache, ferretgold_object_of(client));
+        &object, (size_t)cache, ferretgold_object_of(client), &kept);
 }
 
 /*
@@ -320,7 +326,8 @@ static inline ferretgold_status ferretgold_close(ferretgold_cache *cache,
         return FERRETGOLD_NULL;
     }
     ferretgold_totals told = {0, 0, 0, 0};
-    uint32_t status = ferretgold_raw_close(ferretgold_object_of(cache), &told);
+    ferretgold_object kept = ferretgold_object_of(NULL);
+    uint32_t status = ferretgold_raw_close(ferretgold_object_of(cache), &told, &kept);
     if (status == FERRETGOLD_OK && totals != NULL) {
         *totals = told;
     }
@@ -344,8 +351,9 @@ static inline ferretgold_status ferretgold_lookup(ferretgold_client *client,
     if (client == NULL || key == NULL || handle == NULL) {
         return FERRETGOLD_NULL;
     }
+    ferretgold_object object = ferretgold_object_of(client);
     ferretgold_handle found = {0, 0, 0, 0};
-    uint32_t status = ferretgold_raw_lookup(ferretgold_object_of(client), key, &found);
+    uint32_t status = ferretgold_raw_lookup(&object, key, &found);
     if (status == FERRETGOLD_OK) {
         *handle = found;
     }
@@ -366,8 +374,9 @@ static inline ferretgold_status ferretgold_reref(ferretgold_client *client,
     if (client == NULL || more == NULL) {
         return FERRETGOLD_NULL;
     }
+    ferretgold_object object = ferretgold_object_of(client);
     ferretgold_handle given = {0, 0, 0, 0};
-    uint32_t status = ferretgold_raw_reref(ferretgold_object_of(client), &handle, &given);
+    uint32_t status = ferretgold_raw_reref(&object, &handle, &given);
     if (status == FERRETGOLD_OK) {
         *more = given;
     }
@@ -391,8 +400,9 @@ static inline ferretgold_status ferretgold_release(ferretgold_client *client,
     if (client == NULL) {
         return FERRETGOLD_NULL;
     }
+    ferretgold_object object = ferretgold_object_of(client);
     bool told = false;
-    uint32_t status = ferretgold_raw_release(ferretgold_object_of(client), &handle, useful,
+    uint32_t status = ferretgold_raw_release(&object, &handle, useful,
                                              erase_if_last, &told);
     if (status == FERRETGOLD_OK && freed != NULL) {
         *freed = told;
@@ -435,9 +445,10 @@ static inline ferretgold_status ferretgold_insert(ferretgold_client *client,
     if (client == NULL || key == NULL || !ferretgold_is_readable(value, length)) {
         return FERRETGOLD_NULL;
     }
+    ferretgold_object object = ferretgold_object_of(client);
     uint32_t told = 0;
     uint32_t status =
-        ferretgold_raw_insert(ferretgold_object_of(client), key, ferretgold_bytes_of(value), length,
+        ferretgold_raw_insert(&object, key, ferretgold_bytes_of(value), length,
                               charge, (uint32_t)priority, &told);
     if (status == FERRETGOLD_OK && inserted != NULL) {
         *inserted = (ferretgold_inserted)told;
@@ -468,9 +479,10 @@ static inline ferretgold_status ferretgold_insert_pinned(ferretgold_client *clie
         !ferretgold_is_readable(value, length)) {
         return FERRETGOLD_NULL;
     }
+    ferretgold_object object = ferretgold_object_of(client);
     uint32_t told = 0;
     ferretgold_handle given = {0, 0, 0, 0};
-    uint32_t status = ferretgold_raw_insert_pinned(ferretgold_object_of(client), key,
+    uint32_t status = ferretgold_raw_insert_pinned(&object, key,
                                                    ferretgold_bytes_of(value), length, charge,
                                                    (uint32_t)priority, &told, &given);
     if (status == FERRETGOLD_OK) {
@@ -495,8 +507,9 @@ static inline ferretgold_status ferretgold_erase(ferretgold_client *client,
     if (client == NULL || key == NULL) {
         return FERRETGOLD_NULL;
     }
+    ferretgold_object object = ferretgold_object_of(client);
     uint32_t told = 0;
-    uint32_t status = ferretgold_raw_erase(ferretgold_object_of(client), key, &told);
+    uint32_t status = ferretgold_raw_erase(&object, key, &told);
     if (hidden != NULL) {
         *hidden = told;
     }
@@ -516,8 +529,9 @@ static inline ferretgold_status ferretgold_handle_key(ferretgold_client *client,
     if (client == NULL || key == NULL) {
         return FERRETGOLD_NULL;
     }
+    ferretgold_object object = ferretgold_object_of(client);
     ferretgold_key told = {0, 0};
-    uint32_t status = ferretgold_raw_key(ferretgold_object_of(client), &handle, &told);
+    uint32_t status = ferretgold_raw_key(&object, &handle, &told);
     if (status == FERRETGOLD_OK) {
         *key = told;
     }
@@ -534,8 +548,9 @@ static inline ferretgold_status ferretgold_value_len(ferretgold_client *client,
     if (client == NULL || length == NULL) {
         return FERRETGOLD_NULL;
     }
+    ferretgold_object object = ferretgold_object_of(client);
     size_t told = 0;
-    uint32_t status = ferretgold_raw_value_len(ferretgold_object_of(client), &handle, &told);
+    uint32_t status = ferretgold_raw_value_len(&object, &handle, &told);
     if (status == FERRETGOLD_OK) {
         *length = told;
     }
@@ -557,9 +572,10 @@ static inline ferretgold_status ferretgold_read_value(ferretgold_client *client,
     if (client == NULL || (buffer == NULL && capacity != 0)) {
         return FERRETGOLD_NULL;
     }
+    ferretgold_object object = ferretgold_object_of(client);
     uint8_t none[1];
     size_t told = 0;
-    uint32_t status = ferretgold_raw_read_value(ferretgold_object_of(client), &handle,
+    uint32_t status = ferretgold_raw_read_value(&object, &handle,
                                                 buffer != NULL ? (uint8_t *)buffer : none,
                                                 capacity, &told);
     if ((status == FERRETGOLD_OK || status == FERRETGOLD_TOO_SHORT) && length != NULL) {
@@ -579,7 +595,8 @@ static inline ferretgold_status ferretgold_usage(ferretgold_client *client, uint
     if (client == NULL || usage == NULL) {
         return FERRETGOLD_NULL;
     }
-    *usage = ferretgold_raw_usage(ferretgold_object_of(client));
+    ferretgold_object object = ferretgold_object_of(client);
+    *usage = ferretgold_raw_usage(&object);
     return FERRETGOLD_OK;
 }
 
@@ -589,7 +606,8 @@ static inline ferretgold_status ferretgold_pinned_usage(ferretgold_client *clien
     if (client == NULL || usage == NULL) {
         return FERRETGOLD_NULL;
     }
-    *usage = ferretgold_raw_pinned_usage(ferretgold_object_of(client));
+    ferretgold_object object = ferretgold_object_of(client);
+    *usage = ferretgold_raw_pinned_usage(&object);
     return FERRETGOLD_OK;
 }
 
@@ -599,7 +617,8 @@ static inline ferretgold_status ferretgold_occupancy(ferretgold_client *client,
     if (client == NULL || occupancy == NULL) {
         return FERRETGOLD_NULL;
     }
-    *occupancy = ferretgold_raw_occupancy(ferretgold_object_of(client));
+    ferretgold_object object = ferretgold_object_of(client);
+    *occupancy = ferretgold_raw_occupancy(&object);
     return FERRETGOLD_OK;
 }
 
@@ -610,8 +629,9 @@ static inline ferretgold_status ferretgold_word(ferretgold_client *client, uint3
     if (client == NULL || word == NULL) {
         return FERRETGOLD_NULL;
     }
+    ferretgold_object object = ferretgold_object_of(client);
     uint64_t told = 0;
-    uint32_t status = ferretgold_raw_word(ferretgold_object_of(client), shard, slot, &told);
+    uint32_t status = ferretgold_raw_word(&object, shard, slot, &told);
     if (status == FERRETGOLD_OK) {
         *word = told;
     }
@@ -623,8 +643,9 @@ static inline ferretgold_status ferretgold_displacement(ferretgold_client *clien
     if (client == NULL || displacement == NULL) {
         return FERRETGOLD_NULL;
     }
+    ferretgold_object object = ferretgold_object_of(client);
     uint64_t told = 0;
-    uint32_t status = ferretgold_raw_displacement(ferretgold_object_of(client), shard, slot, &told);
+    uint32_t status = ferretgold_raw_displacement(&object, shard, slot, &told);
     if (status == FERRETGOLD_OK) {
         *displacement = told;
     }
@@ -635,22 +656,26 @@ static inline ferretgold_status ferretgold_displacement(ferretgold_client *clien
 
 /* Its number among the cache's clients, from 0. */
 static inline uint32_t ferretgold_client_number(ferretgold_client *client) {
-    return client == NULL ? 0 : ferretgold_raw_number(ferretgold_object_of(client));
+    ferretgold_object object = ferretgold_object_of(client);
+    return client == NULL ? 0 : ferretgold_raw_number(&object);
 }
 
 /* How many handles it holds. */
 static inline uint32_t ferretgold_held(ferretgold_client *client) {
-    return client == NULL ? 0 : ferretgold_raw_held(ferretgold_object_of(client));
+    ferretgold_object object = ferretgold_object_of(client);
+    return client == NULL ? 0 : ferretgold_raw_held(&object);
 }
 
 /* How many serials it has left. */
 static inline uint64_t ferretgold_serials_left(ferretgold_client *client) {
-    return client == NULL ? 0 : ferretgold_raw_serials_left(ferretgold_object_of(client));
+    ferretgold_object object = ferretgold_object_of(client);
+    return client == NULL ? 0 : ferretgold_raw_serials_left(&object);
 }
 
 /* Whether it holds this handle. */
 static inline bool ferretgold_holds(ferretgold_client *client, ferretgold_handle handle) {
-    return client != NULL && ferretgold_raw_holds(ferretgold_object_of(client), &handle);
+    ferretgold_object object = ferretgold_object_of(client);
+    return client != NULL && ferretgold_raw_holds(&object, &handle);
 }
 
 /* What its calls did on all shards. */
@@ -659,8 +684,9 @@ static inline ferretgold_status ferretgold_statistics(ferretgold_client *client,
     if (client == NULL || stats == NULL) {
         return FERRETGOLD_NULL;
     }
+    ferretgold_object object = ferretgold_object_of(client);
     ferretgold_stats told = {0, 0, 0, 0, 0, 0, 0, 0};
-    ferretgold_raw_stats(ferretgold_object_of(client), &told);
+    ferretgold_raw_stats(&object, &told);
     *stats = told;
     return FERRETGOLD_OK;
 }

@@ -72,20 +72,29 @@ pub const NO_HANDLE: u32 = 17;
 pub const MISSING: u32 = 39;
 
 extern "C" {
-    fn ferretgold_raw_open(config: *const Config, cache: *mut *mut c_void) -> u32;
-    fn ferretgold_raw_client_open(cache: Object, home: usize, client: *mut *mut c_void) -> u32;
-    fn ferretgold_raw_client_close(cache: Object, home: usize, client: Object) -> u32;
-    fn ferretgold_raw_close(cache: Object, totals: *mut Totals) -> u32;
-    fn ferretgold_raw_lookup(client: Object, key: *const Key, handle: *mut Handle) -> u32;
-    fn ferretgold_raw_release(
+    fn ferretgold_raw_open(config: *const Config, cache: *mut Object) -> u32;
+    fn ferretgold_raw_client_open(
+        cache: *mut Object,
+        home: usize,
+        client: *mut Object,
+    ) -> u32;
+    fn ferretgold_raw_client_close(
+        cache: *mut Object,
+        home: usize,
         client: Object,
+        kept: *mut Object,
+    ) -> u32;
+    fn ferretgold_raw_close(cache: Object, totals: *mut Totals, kept: *mut Object) -> u32;
+    fn ferretgold_raw_lookup(client: *mut Object, key: *const Key, handle: *mut Handle) -> u32;
+    fn ferretgold_raw_release(
+        client: *mut Object,
         handle: *const Handle,
         useful: bool,
         erase_if_last: bool,
         freed: *mut bool,
     ) -> u32;
     fn ferretgold_raw_insert(
-        client: Object,
+        client: *mut Object,
         key: *const Key,
         value: *const u8,
         length: usize,
@@ -94,7 +103,7 @@ extern "C" {
         inserted: *mut u32,
     ) -> u32;
     fn ferretgold_raw_read_value(
-        client: Object,
+        client: *mut Object,
         handle: *const Handle,
         buffer: *mut u8,
         capacity: usize,
@@ -119,19 +128,20 @@ unsafe impl Sync for Cache {}
 
 impl Cache {
     pub fn open(config: &Config) -> Result<Cache, Refused> {
-        let mut at = std::ptr::null_mut();
-        judged(unsafe { ferretgold_raw_open(config, &mut at) })?;
+        let mut object = Object(std::ptr::null_mut());
+        judged(unsafe { ferretgold_raw_open(config, &mut object) })?;
         Ok(Cache {
-            object: Mutex::new(Object(at)),
+            object: Mutex::new(object),
         })
     }
 
     pub fn client(&self) -> Result<Client<'_>, Refused> {
-        let cache = self.object.lock().unwrap();
-        let mut at = std::ptr::null_mut();
-        judged(unsafe { ferretgold_raw_client_open(*cache, cache.0 as usize, &mut at) })?;
+        let mut cache = self.object.lock().unwrap();
+        let home = cache.0 as usize;
+        let mut object = Object(std::ptr::null_mut());
+        judged(unsafe { ferretgold_raw_client_open(&mut *cache, home, &mut object) })?;
         Ok(Client {
-            object: Object(at),
+            object,
             cache: self,
             one_thread: PhantomData,
         })
@@ -141,7 +151,8 @@ impl Cache {
     pub fn close(self) -> Result<Totals, (Refused, Cache)> {
         let mut totals = Totals::default();
         let cache = *self.object.lock().unwrap();
-        match judged(unsafe { ferretgold_raw_close(cache, &mut totals) }) {
+        let mut kept = Object(std::ptr::null_mut());
+        match judged(unsafe { ferretgold_raw_close(cache, &mut totals, &mut kept) }) {
             Ok(()) => Ok(totals),
             Err(why) => Err((why, self)),
         }
@@ -161,7 +172,7 @@ impl Client<'_> {
     /// A handle on an entry of the key, if there is one.
     pub fn lookup(&mut self, key: Key) -> Result<Option<Handle>, Refused> {
         let mut handle = Handle::default();
-        match unsafe { ferretgold_raw_lookup(self.object, &key, &mut handle) } {
+        match unsafe { ferretgold_raw_lookup(&mut self.object, &key, &mut handle) } {
             0 => Ok(Some(handle)),
             MISS => Ok(None),
             why => Err(Refused(why)),
@@ -178,7 +189,7 @@ impl Client<'_> {
         let mut inserted = 0;
         judged(unsafe {
             ferretgold_raw_insert(
-                self.object,
+                &mut self.object,
                 &key,
                 value.as_ptr(),
                 value.len(),
@@ -194,7 +205,7 @@ impl Client<'_> {
         let mut length = 0;
         judged(unsafe {
             ferretgold_raw_read_value(
-                self.object,
+                &mut self.object,
                 &handle,
                 buffer.as_mut_ptr(),
                 buffer.len(),
@@ -208,7 +219,7 @@ impl Client<'_> {
     pub fn release(&mut self, handle: Handle) -> Result<bool, Refused> {
         let mut freed = false;
         judged(unsafe {
-            ferretgold_raw_release(self.object, &handle, true, false, &mut freed)
+            ferretgold_raw_release(&mut self.object, &handle, true, false, &mut freed)
         })?;
         Ok(freed)
     }
@@ -216,7 +227,9 @@ impl Client<'_> {
 
 impl Drop for Client<'_> {
     fn drop(&mut self) {
-        let cache = self.cache.object.lock().unwrap();
-        unsafe { ferretgold_raw_client_close(*cache, cache.0 as usize, self.object) };
+        let mut cache = self.cache.object.lock().unwrap();
+        let home = cache.0 as usize;
+        let mut kept = Object(std::ptr::null_mut());
+        unsafe { ferretgold_raw_client_close(&mut *cache, home, self.object, &mut kept) };
     }
 }

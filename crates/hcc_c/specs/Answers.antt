@@ -1,5 +1,6 @@
 -- How C is told what a call answers: the status, and what each output is then.
-use Rattle.std.specs.Prelude.{ℕ, Option, Some, None, Result, Ok, Err}
+use Rattle.std.specs.Prelude.{ℕ, Option, Some, None, Result, Ok, Err, Box}
+use Rattle.std.specs.Global.{Global}
 use Rattle.hcc_rule.specs.declared.key.Key.{Key as CacheKey}
 use Rattle.hcc_cache.specs.declared.errors.InsertError.{InsertError}
 use Rattle.hcc_cache.specs.declared.errors.LookupError.{LookupError}
@@ -8,7 +9,9 @@ use Rattle.hcc_c.specs.declared.inserting.Unfit.{Unfit}
 use Rattle.hcc_c.specs.declared.refusal.Refusal.{Refusal}
 use Rattle.hcc_c.specs.declared.refusal.Refusal.TheVariants.{NoHandle, TooShort}
 use Rattle.hcc_c.specs.declared.shapes.Key.{Key}
+use Rattle.hcc_c.specs.declared.session.Session.{Session}
 use Rattle.hcc_c.specs.declared.shapes.Number.{Number}
+use Rattle.hcc_c.specs.declared.shapes.Totals.{Totals}
 use Rattle.hcc_c.specs.Refusals.{code_of, inserted_code, inserting_of, looking_of, unfit_of}
 use Rattle.hcc_c.specs.Shapes.{words_of}
 
@@ -86,3 +89,27 @@ abbrev pub length_of : Option (Result ℕ ℕ) → ℕ → ℕ
 length_of None old = old
 length_of (Some (Ok length)) old = length
 length_of (Some (Err need)) old = need
+
+-- what a call gives, or why it gives nothing
+module _ {A : Type 0} where
+  abbrev pub status_of_given : Result A Refusal → ℕ
+  status_of_given (Ok given) = 0
+  status_of_given (Err why) = code_of why
+
+  -- what the place has then for which it was asked
+  abbrev pub placed : Result (Box A Global) Refusal → Option A
+  placed (Ok given) = Some given.value
+  placed (Err why) = None
+
+abbrev pub totals_or : Result Totals Refusal → Totals → Totals
+totals_or (Ok totals) old = totals
+totals_or (Err why) old = old
+
+-- a client that is given back
+abbrev pub status_of_back : Result (Unit {0}) (Refusal × Box Session Global) → ℕ
+status_of_back (Ok done) = 0
+status_of_back (Err refused) = code_of refused.0
+
+abbrev pub kept_of : Result (Unit {0}) (Refusal × Box Session Global) → Option Session
+kept_of (Ok done) = None
+kept_of (Err refused) = Some refused.1.value

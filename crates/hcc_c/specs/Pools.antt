@@ -1,6 +1,7 @@
 -- A cache in the hands of C, with the clients that it has back.
-use Rattle.std.specs.Prelude.{◌≡◌, ℕ, ◌++◌, List, [], ◌∷◌, Option, Some, None, length}
+use Rattle.std.specs.Prelude.{◌≡◌, ℕ, ◌<◌, ◌≤◌, ◌==◌, ◌++◌, List, [], ◌∷◌, Option, Some, None, Result, Ok, Err, IfOk, IfErr, OnOk, OnErr, IsOkUnless, Box, length, if◌then◌else◌, vec_capacity}
 use Rattle.std.specs.Arc.{arc_value}
+use Rattle.std.specs.Global.{Global}
 use Rattle.hcc_rule.specs.Views.{Each}
 use Rattle.hcc_cache.specs.declared.cache.Cache.{Cache}
 use Rattle.hcc_cache.specs.declared.client.Client.{Client}
@@ -8,16 +9,20 @@ use Rattle.hcc_cache.specs.declared.config.Config.{Config}
 use Rattle.hcc_cache.specs.declared.closed.Closed.{Closed}
 use Rattle.hcc_cache.specs.declared.tags.AnyBytes.{AnyBytes}
 use Rattle.hcc_cache.specs.Clients.{held_by}
-use Rattle.hcc_cache.specs.Configs.{shard_geometry}
+use Rattle.hcc_cache.specs.Configs.{checked, shard_geometry}
 use Rattle.hcc_cache.specs.Known.{Knows}
 use Rattle.hcc_shard.specs.Left.{charges_left, slots_left}
 use Rattle.hcc_cache.specs.Left.{over_shards}
 use Rattle.hcc_cache.specs.Closings.{AreBack, IsClosed}
+use Rattle.hcc_cache.specs.Opened.{IsOpened}
+use Rattle.hcc_c.specs.declared.refusal.Refusal.{Refusal}
+use Rattle.hcc_c.specs.declared.refusal.Refusal.TheVariants.{HandlesOut, Missing, NoClient, OtherCache, OutOfMemory}
 use Rattle.hcc_c.specs.declared.shapes.Totals.{Totals}
 use Rattle.hcc_c.specs.declared.pool.Pool.{Pool}
 use Rattle.hcc_c.specs.declared.pool.Rack.{Rack}
 use Rattle.hcc_c.specs.declared.session.Session.{Session}
-use Rattle.hcc_c.specs.Sessions.{any}
+use Rattle.hcc_c.specs.Refusals.{opening_of}
+use Rattle.hcc_c.specs.Sessions.{IsWhole, any}
 
 -- The client is one of the cache's, and holds no handle.
 pub record IsBack (cache : Cache AnyBytes) (config : Config) (client : Client AnyBytes)
@@ -31,11 +36,30 @@ pub record IsSized (cache : Cache AnyBytes) (config : Config) : Type 0 where
   pub geometry : cache.geometry ≡ shard_geometry config
   pub shards : length cache.shards.items ≡ config.shards
 
--- What holds of a cache between any two calls: it is as configured, and each client that is back is
--- one of it, and holds no handle.
+-- What holds of a cache between any two calls: it is as configured, each client that is back is one
+-- of it and holds no handle, and there is room for all of them.
 pub record IsWholePool (pool : Pool) : Type 0 where
   pub sized : IsSized (arc_value pool.cache) pool.config
   pub clients : Each (IsBack (arc_value pool.cache) pool.config) pool.back.items
+  pub room : pool.config.clients ≤ vec_capacity pool.back
+
+-- a new cache as it was configured, with all its clients back
+pub record Opens (config : Config) (pool : Pool) : Type 0 where
+  pub tag : AnyBytes
+  pub opened : IsOpened config tag (arc_value pool.cache) pool.back.items
+  pub config_is : pool.config ≡ config
+
+-- the same cache, which has these clients back
+abbrev pub HasBack : List (Client AnyBytes) → (old new : Pool) → Type 0
+HasBack clients old new =
+    (new.back.items ≡ clients) × (new ≡ record old { back = new.back })
+
+-- why a client isn't taken back
+abbrev pub judged_back : (home : ℕ) → Session → Result (Unit {0}) Refusal
+judged_back home session =
+    if session.home == home
+    then (if held_by session.client == 0 then Ok tt else Err HandlesOut)
+    else Err OtherCache
 
 -- what the closed cache tells: the sums over its entries, twice
 abbrev pub totals_of : Closed → Totals
@@ -54,34 +78,42 @@ IfOpen None Holds = ⊥
 IfOpen (Some pool) Holds = Holds pool
 
 -- the same, of a cache that may be closed
+abbrev pub IfAny : Option Pool → (Pool → Type 0) → Type 0
+IfAny None Holds = Unit {0}
+IfAny (Some pool) Holds = Holds pool
+
 abbrev pub IsWholeRack : Rack → Type 0
-IsWholeRack rack = IfAny rack.pool
-  where
-    IfAny : Option Pool → Type 0
-    IfAny None = Unit {0}
-    IfAny (Some pool) = IsWholePool pool
+IsWholeRack rack = IfAny rack.pool IsWholePool
 
 -- the clients that are back
 abbrev pub backs : Option Pool → List (Client AnyBytes)
 backs None = []
 backs (Some pool) = pool.back.items
 
--- the same clients are back
+-- the cache is open as it was, and this holds of its pool before and after
+abbrev pub IfBoth : (old new : Option Pool) → (Pool → Pool → Type 0) → Type 0
+IfBoth None new Holds = ⊥
+IfBoth (Some was) None Holds = ⊥
+IfBoth (Some was) (Some is) Holds = Holds was is
+
+-- a cache that is closed stays so, and one that is open has the same clients back
 abbrev pub IsSameRack : (old new : Rack) → Type 0
-IsSameRack old new = backs new.pool ≡ backs old.pool
+IsSameRack old new = by old.pool new.pool
+  where
+    by : (old new : Option Pool) → Type 0
+    by None None = Unit {0}
+    by None (Some is) = ⊥
+    by (Some was) None = ⊥
+    by (Some was) (Some is) = HasBack was.back.items was is
 
 -- The client of this session was one of those that were back, and is out now: it works on the same
 -- cache, which it knows by this number, and no handle has a number.
-pub record GivesOutOf (session : Session) (home : ℕ) (old : Pool) (new : List (Client AnyBytes))
-    : Type 0 where
-  pub last : old.back.items ≡ new ++ session.client ∷ []
+pub record GivesOut (session : Session) (home : ℕ) (old new : Pool) : Type 0 where
+  pub last : old.back.items ≡ new.back.items ++ session.client ∷ []
   pub cache : arc_value session.cache ≡ arc_value old.cache
   pub home_is : session.home ≡ home
   pub unnumbered : session.numbers.slots ≡ []
-
-abbrev pub GivesOut : Session → (home : ℕ) → (old new : Rack) → Type 0
-GivesOut session home old new =
-    IfOpen old.pool (λ pool. GivesOutOf session home pool (backs new.pool))
+  pub rest : new ≡ record old { back = new.back }
 
 -- the session is one of this cache's
 abbrev pub IsOf : Pool → Session → Type 0
@@ -90,19 +122,60 @@ IsOf pool session =
 
 -- a session that knows its cache by this number is one of this cache's
 abbrev pub IsHome : (home : ℕ) → Session → Rack → Type 0
-IsHome home session rack = IsHomeOf rack.pool
-  where
-    IsHomeOf : Option Pool → Type 0
-    IsHomeOf None = Unit {0}
-    IsHomeOf (Some pool) = session.home ≡ home → IsOf pool session
+IsHome home session rack = IfAny rack.pool (λ pool. session.home ≡ home → IsOf pool session)
 
--- the session's client, which holds no handle, is back
-abbrev pub TakesBack : Session → (old new : Rack) → Type 0
-TakesBack session old new =
-    (backs new.pool ≡ backs old.pool ++ session.client ∷ []) × (held_by session.client ≡ 0)
+-- why a client isn't taken back by a cache that may be closed
+abbrev pub judged_at : (home : ℕ) → Session → Option Pool → Result (Unit {0}) Refusal
+judged_at home session None = Err OtherCache
+judged_at home session (Some pool) = judged_back home session
+
+-- the session's client is back
+abbrev pub TakesBack : Session → (old new : Pool) → Type 0
+TakesBack session old new = HasBack (old.back.items ++ session.client ∷ []) old new
+
+-- the cache is closed, or clients of it are out
+abbrev pub AreOut : Option Pool → Type 0
+AreOut None = Unit {0}
+AreOut (Some pool) = length pool.back.items < pool.config.clients
 
 -- the cache was closed by all its clients, and told this
-abbrev pub Closes : Totals → Rack → Type 0
-Closes totals old =
-    IfOpen old.pool (λ pool. (closed : Closed) × AreBack (arc_value pool.cache) pool.back.items
-    × IsClosed any (arc_value pool.cache) pool.back.items closed × (totals ≡ totals_of closed))
+pub record Closes (totals : Totals) (pool : Pool) : Type 0 where
+  pub closed : Closed
+  pub back : AreBack (arc_value pool.cache) pool.back.items
+  pub closes : IsClosed any (arc_value pool.cache) pool.back.items closed
+  pub told : totals ≡ totals_of closed
+
+-- What each call of a cache comes to: what it answers, and what it leaves.
+
+-- A cache is opened.
+pub record OpensAs (config : Config) (answer : Result (Box Rack Global) Refusal) : Type 0 where
+  pub refused : IfErr (checked config) (λ e. answer ≡ Err (opening_of e))
+  pub memory : OnOk (checked config) (IsOkUnless answer OutOfMemory)
+  pub opened : IfOk answer (λ rack. IfOpen rack.value.pool (Opens config))
+  pub whole : IfOk answer (λ rack. IsWholeRack rack.value)
+
+-- A client is given out.
+pub record TakesOut (home : ℕ) (answer : Result (Box Session Global) Refusal) (old new : Rack)
+    : Type 0 where
+  pub empty : length (backs old.pool) ≡ 0 → answer ≡ Err NoClient
+  pub memory : 0 < length (backs old.pool) → IsOkUnless answer OutOfMemory
+  pub nothing : OnErr answer (IsSameRack old new)
+  pub taken : IfOk answer (λ session. IfBoth old.pool new.pool (GivesOut session.value home))
+  pub whole : IfOk answer (λ session. IsWhole session.value)
+
+-- A client is taken back, or handed back as it was.
+pub record TakesIn (home : ℕ) (session : Box Session Global)
+    (answer : Result (Unit {0}) (Refusal × Box Session Global)) (old new : Rack) : Type 0 where
+  pub unfit : IfErr (judged_at home session.value old.pool) (λ why. answer ≡ Err (why, session))
+  pub memory : OnOk (judged_at home session.value old.pool) (IfErr answer (λ e.
+      (e.0 ≡ OutOfMemory)
+      × IfOpen old.pool (λ pool. pool.config.clients ≤ length pool.back.items)))
+  pub nothing : IfErr answer (λ e. IsSameRack old new × (e.1 ≡ session))
+  pub back : OnOk answer (IfBoth old.pool new.pool (TakesBack session.value))
+
+-- A cache is closed.
+pub record EndsAs (answer : Result Totals Refusal) (old new : Rack) : Type 0 where
+  pub out : AreOut old.pool → answer ≡ Err Missing
+  pub missing : IfErr answer (λ e. (e ≡ Missing) × (new ≡ old))
+  pub closed : IfOk answer (λ totals. IfOpen old.pool (Closes totals))
+  pub gone : OnOk answer (new.pool ≡ None)

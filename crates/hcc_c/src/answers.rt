@@ -1,14 +1,17 @@
 //! How C is told what a call answers: by a status, and by outputs that stay where it is refused.
-ghost use Rattle.std.specs.Prelude.{◌≡◌};
-ghost use Rattle.hcc_c.specs.Answers.{handle_of_pinned, inserted_of, inserted_of_pinned, key_or, length_of, more_of, number_of, status_of, status_of_insert, status_of_look, status_of_pinned, status_of_read, status_of_reref, value_or};
+ghost use Rattle.std.specs.Prelude.{◌≡◌, None};
+ghost use Rattle.hcc_c.specs.Answers.{handle_of_pinned, inserted_of, inserted_of_pinned, kept_of, key_or, length_of, more_of, number_of, placed, status_of, status_of_back, status_of_given, status_of_insert, status_of_look, status_of_pinned, status_of_read, status_of_reref, totals_or, value_or};
 
 use crate::inserting::Unfit;
+use crate::objects::{CachePlace, ClientPlace, Loose};
+use crate::pool::Rack;
 use crate::refusal::{Refusal, inserted_code};
-use crate::shapes::{Key, Number};
+use crate::session::Session;
+use crate::shapes::{Key, Number, Totals};
 use hcc_cache::{InsertError, Inserted, LookupError};
 
 /// The answers that are no refusals.
-const DONE: u32 = 0;
+pub(crate) const DONE: u32 = 0;
 
 const MISSED: u32 = 1;
 
@@ -124,5 +127,64 @@ pub(crate) fn told_read(answer: Option<Result<usize, usize>>, length: &mut usize
             Refusal::TooShort.code()
         }
         None => Refusal::NoHandle.code(),
+    }
+}
+
+/// Tells a new cache by the place that it has, or why there is none.
+pub(crate) fn told_cache(answer: Result<Box<Rack>, Refusal>, cache: &mut CachePlace) -> u32
+    requires { cache.old.value ≡ None }
+    ensures status { result ≡ status_of_given answer }
+    ensures place { cache.new.value ≡ placed answer }
+{
+    match answer {
+        Ok(rack) => {
+            *cache = CachePlace::of(Loose::of(rack));
+            DONE
+        }
+        Err(why) => why.code(),
+    }
+}
+
+/// Tells a client by the place that it has, or why there is none.
+pub(crate) fn told_client(answer: Result<Box<Session>, Refusal>, client: &mut ClientPlace) -> u32
+    requires { client.old.value ≡ None }
+    ensures status { result ≡ status_of_given answer }
+    ensures place { client.new.value ≡ placed answer }
+{
+    match answer {
+        Ok(session) => {
+            *client = ClientPlace::of(Loose::of(session));
+            DONE
+        }
+        Err(why) => why.code(),
+    }
+}
+
+/// Tells that a client is back; else why it isn't, and by its place which one it is.
+pub(crate) fn told_back(answer: Result<(), (Refusal, Box<Session>)>, kept: &mut ClientPlace) -> u32
+    requires { kept.old.value ≡ None }
+    ensures status { result ≡ status_of_back answer }
+    ensures kept { kept.new.value ≡ kept_of answer }
+{
+    match answer {
+        Ok(()) => DONE,
+        Err((why, session)) => {
+            *kept = ClientPlace::of(Loose::of(session));
+            why.code()
+        }
+    }
+}
+
+/// Tells what was left of a cache, or why it isn't closed.
+pub(crate) fn told_totals(answer: Result<Totals, Refusal>, totals: &mut Totals) -> u32
+    ensures status { result ≡ status_of_given answer }
+    ensures totals { totals.new ≡ totals_or answer totals.old }
+{
+    match answer {
+        Ok(left) => {
+            *totals = left;
+            DONE
+        }
+        Err(why) => why.code(),
     }
 }

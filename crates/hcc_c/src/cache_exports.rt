@@ -1,92 +1,90 @@
-//! The calls of a cache, as C has them.
-ghost use Rattle.hcc_c.specs.Pools.{IsHome, IsWholeRack};
+//! The calls of a cache, as C has them. Each says by its status and its outputs what the call of
+//! the cache behind the pointer answered, and comes to what that call comes to.
+ghost use Rattle.std.specs.Prelude.{◌≡◌, None, Some, OnErr, OnOk};
+ghost use Rattle.hcc_c.specs.Answers.{kept_of, placed, status_of_back, status_of_given, totals_or};
+ghost use Rattle.hcc_c.specs.Lending.{IsCacheThere};
+ghost use Rattle.hcc_c.specs.Pools.{EndsAs, IsHome, IsWholeRack, OpensAs, TakesIn, TakesOut};
 ghost use Rattle.hcc_c.specs.Sessions.{IsWhole};
+ghost use Rattle.hcc_c.specs.Shapes.{config_of};
 
-use crate::objects::{CacheObject, ClientObject, lend_cache, lend_client};
-use crate::pool::{Pool, Rack};
-use crate::refusal::Refusal;
+use crate::answers::{told_back, told_cache, told_client, told_totals};
+use crate::objects::{CacheObject, CachePlace, ClientObject, ClientPlace, Loose};
+use crate::pool::Rack;
 use crate::shapes::{Setup, Totals};
 use std::alloc::Global;
 
-/// The answer that is no refusal.
-const DONE: u32 = 0;
-
 #[unsafe(no_mangle)]
-pub extern "C" fn ferretgold_raw_open(alloc: Global, setup: &Setup, cache: &mut *mut u8) -> u32 {
-    let pool = match Pool::open(alloc, setup.config()) {
-        Ok(pool) => pool,
-        Err(why) => return Refusal::opening(why).code(),
-    };
-    let Ok(rack) = Box::new(alloc, Rack { pool: Some(pool) }) else {
-        return Refusal::OutOfMemory.code();
-    };
-    *cache = lend_cache(rack);
-    DONE
+pub extern "C" fn ferretgold_raw_open(alloc: Global, setup: &Setup, cache: &mut CachePlace) -> u32
+    requires { cache.old.value ≡ None }
+    ensures opens { (answer : _) × OpensAs (config_of setup.now) answer
+        × (result ≡ status_of_given answer) × (cache.new.value ≡ placed answer) }
+{
+    let answer = Rack::open(alloc, setup.config());
+    told_cache(answer, cache)
 }
 
 #[unsafe(no_mangle)]
 pub extern "C" fn ferretgold_raw_client_open(
     alloc: Global,
-    cache: CacheObject,
+    cache: &mut CacheObject,
     home: usize,
-    client: &mut *mut u8,
+    client: &mut ClientPlace,
 ) -> u32
-    requires { IsWholeRack cache.value }
+    requires cache { IsWholeRack cache.old.value }
+    requires client { client.old.value ≡ None }
+    ensures there { IsCacheThere cache.old cache.new }
+    ensures whole { IsWholeRack cache.new.value }
+    ensures takes { (answer : _) × TakesOut home answer cache.old.value cache.new.value
+        × (result ≡ status_of_given answer) × (client.new.value ≡ placed answer) }
 {
-    let mut cache = cache.cache(alloc);
-    let answer = cache.take(alloc, home);
-    lend_cache(cache);
-    match answer {
-        Ok(session) => {
-            *client = lend_client(session);
-            DONE
-        }
-        Err(why) => why.code(),
-    }
+    let answer = cache.rack().take(alloc, home);
+    told_client(answer, client)
 }
 
 /// The header gives the address of the cache's object as `home`: no two that are open have one.
+/// Where the client isn't taken back, `kept` has it as it was.
 #[unsafe(no_mangle)]
 pub extern "C" fn ferretgold_raw_client_close(
     alloc: Global,
-    cache: CacheObject,
+    cache: &mut CacheObject,
     home: usize,
     client: ClientObject,
+    kept: &mut ClientPlace,
 ) -> u32
-    requires cache { IsWholeRack cache.value }
+    requires cache { IsWholeRack cache.old.value }
     requires client { IsWhole client.value }
-    requires home { IsHome home client.value cache.value }
+    requires home { IsHome home client.value cache.old.value }
+    requires kept { kept.old.value ≡ None }
+    ensures there { IsCacheThere cache.old cache.new }
+    ensures whole { IsWholeRack cache.new.value }
+    ensures takes { (session : _) × (session.value ≡ client.value) × (answer : _)
+        × TakesIn home session answer cache.old.value cache.new.value
+        × (result ≡ status_of_back answer) × (kept.new.value ≡ kept_of answer) }
 {
-    let mut cache = cache.cache(alloc);
     let client = client.client(alloc);
-    let answer = cache.give_back(home, client);
-    lend_cache(cache);
-    match answer {
-        Ok(()) => DONE,
-        Err((why, client)) => {
-            lend_client(client);
-            why.code()
-        }
-    }
+    let answer = cache.rack().give_back(home, client);
+    told_back(answer, kept)
 }
 
+/// Where the cache isn't closed, `kept` has it as it was.
 #[unsafe(no_mangle)]
 pub extern "C" fn ferretgold_raw_close(
     alloc: Global,
     cache: CacheObject,
     totals: &mut Totals,
+    kept: &mut CachePlace,
 ) -> u32
-    requires { IsWholeRack cache.value }
+    requires cache { IsWholeRack cache.value }
+    requires kept { kept.old.value ≡ None }
+    ensures ends { (answer : _) × (left : _) × EndsAs answer cache.value left
+        × (result ≡ status_of_given answer) × (totals.new ≡ totals_or answer totals.old)
+        × OnErr answer (kept.new.value ≡ Some cache.value)
+        × OnOk answer (kept.new.value ≡ None) }
 {
     let mut cache = cache.cache(alloc);
-    match cache.close() {
-        Ok(told) => {
-            *totals = told;
-            DONE
-        }
-        Err(why) => {
-            lend_cache(cache);
-            why.code()
-        }
+    let answer = cache.close();
+    if answer.is_err() {
+        *kept = CachePlace::of(Loose::of(cache));
     }
+    told_totals(answer, totals)
 }

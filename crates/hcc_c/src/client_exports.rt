@@ -1,93 +1,105 @@
-//! The calls of a client, as C has them. Each takes the client behind its pointer for one call.
-ghost use Rattle.std.specs.Prelude.{◌≡◌, ◌+◌, ◌≤◌, true, false};
-ghost use Rattle.std.specs.Arc.{arc_value};
+//! The calls of a client, as C has them. Each says by its status and its outputs what the call of
+//! the session behind the pointer answered, and comes to what that call comes to.
+ghost use Rattle.std.specs.Prelude.{◌≡◌, None, IfSome, true, false};
 ghost use Rattle.hcc_cache.specs.Clients.{held_by};
-ghost use Rattle.hcc_cache.specs.Totals.{charge_by, entries_by, made_by, no_stats, stats_over, taken_by};
+ghost use Rattle.hcc_cache.specs.Totals.{no_stats, stats_over};
+ghost use Rattle.hcc_c.specs.Answers.{handle_of_pinned, inserted_of, inserted_of_pinned, key_or, length_of, more_of, number_of, status_of, status_of_insert, status_of_look, status_of_pinned, status_of_read, status_of_reref, value_or};
+ghost use Rattle.hcc_c.specs.Calls.{GivesBack, Hides, LooksUp, Puts, PutsPinned, ReadsValue, RefersAgain, TellsDisplacement, TellsKey, TellsLength, TellsOccupancy, TellsPinned, TellsUsage, TellsWord};
+ghost use Rattle.hcc_c.specs.Lending.{IsThere};
+ghost use Rattle.hcc_c.specs.Refusals.{code_of, priority_of};
 ghost use Rattle.hcc_c.specs.Sessions.{IsHandle, IsNone, IsWhole};
-ghost use Rattle.hcc_c.specs.Shapes.{stats_of};
+ghost use Rattle.hcc_c.specs.Shapes.{key_of, stats_of};
 
-use crate::answers::{told, told_insert, told_key, told_look, told_pinned, told_read, told_reref};
-use crate::objects::{ClientObject, lend_client};
+use crate::answers::{
+    DONE, told, told_insert, told_key, told_look, told_pinned, told_read, told_reref,
+};
+use crate::objects::ClientObject;
 use crate::refusal::{Refusal, priority_of};
 use crate::shapes::{Key, Number, Stats};
 use std::alloc::Global;
 
-/// The answer that is no refusal.
-const DONE: u32 = 0;
-
 #[unsafe(no_mangle)]
 pub extern "C" fn ferretgold_raw_lookup(
-    alloc: Global,
-    client: ClientObject,
+    client: &mut ClientObject,
     key: &Key,
     handle: &mut Number,
 ) -> u32
-    requires { IsWhole client.value }
+    requires { IsWhole client.old.value }
+    ensures there { IsThere client.old client.new }
+    ensures whole { IsWhole client.new.value }
+    ensures looks { (answer : _)
+        × LooksUp (key_of key.now) answer client.old.value client.new.value
+        × (result ≡ status_of_look answer) × (handle.new ≡ number_of answer handle.old) }
 {
-    let mut client = client.client(alloc);
-    let answer = client.lookup(key.key());
-    lend_client(client);
+    let answer = client.session().lookup(key.key());
     told_look(answer, handle)
 }
 
 #[unsafe(no_mangle)]
 pub extern "C" fn ferretgold_raw_reref(
-    alloc: Global,
-    client: ClientObject,
+    client: &mut ClientObject,
     handle: &Number,
     more: &mut Number,
 ) -> u32
-    requires { IsWhole client.value }
+    requires { IsWhole client.old.value }
+    ensures there { IsThere client.old client.new }
+    ensures whole { IsWhole client.new.value }
+    ensures again { (answer : _)
+        × RefersAgain handle.now answer client.old.value client.new.value
+        × (result ≡ status_of_reref answer) × (more.new ≡ more_of answer more.old) }
 {
-    let mut client = client.client(alloc);
-    let answer = client.reref(*handle);
-    lend_client(client);
+    let answer = client.session().reref(*handle);
     told_reref(answer, more)
 }
 
 #[unsafe(no_mangle)]
 pub extern "C" fn ferretgold_raw_release(
-    alloc: Global,
-    client: ClientObject,
+    client: &mut ClientObject,
     handle: &Number,
     useful: bool,
     erase_if_last: bool,
     freed: &mut bool,
 ) -> u32
-    requires { IsWhole client.value }
+    requires { IsWhole client.old.value }
+    ensures there { IsThere client.old client.new }
+    ensures whole { IsWhole client.new.value }
+    ensures released { (answer : _)
+        × GivesBack handle.now useful erase_if_last answer client.old.value client.new.value
+        × (result ≡ status_of answer Refusal.NoHandle) × (freed.new ≡ value_or answer freed.old) }
 {
-    let mut client = client.client(alloc);
-    let answer = client.release(*handle, useful, erase_if_last);
-    lend_client(client);
+    let answer = client.session().release(*handle, useful, erase_if_last);
     told(answer, Refusal::NoHandle, freed)
 }
 
 #[unsafe(no_mangle)]
 pub extern "C" fn ferretgold_raw_insert(
-    alloc: Global,
-    client: ClientObject,
+    client: &mut ClientObject,
     key: &Key,
     value: &[u8],
     charge: u32,
     priority: u32,
     inserted: &mut u32,
 ) -> u32
-    requires { IsWhole client.value }
+    requires { IsWhole client.old.value }
+    ensures there { IsThere client.old client.new }
+    ensures whole { IsWhole client.new.value }
+    ensures bad { priority_of priority ≡ None → (result ≡ code_of Refusal.BadPriority)
+        × (client.new.value ≡ client.old.value) × (inserted.new ≡ inserted.old) }
+    ensures puts { IfSome (priority_of priority) (λ known. (answer : _)
+        × Puts (key_of key.now) charge known value.now answer client.old.value client.new.value
+        × (result ≡ status_of_insert answer) × (inserted.new ≡ inserted_of answer inserted.old)) }
 {
-    let mut client = client.client(alloc);
     let Some(priority) = priority_of(priority) else {
-        lend_client(client);
         return Refusal::BadPriority.code();
     };
-    let answer = client.insert(key.key(), value, charge, priority);
-    lend_client(client);
+    let answer = client.session().insert(key.key(), value, charge, priority);
     told_insert(answer, inserted)
 }
 
 #[unsafe(no_mangle)]
 pub extern "C" fn ferretgold_raw_insert_pinned(
     alloc: Global,
-    client: ClientObject,
+    client: &mut ClientObject,
     key: &Key,
     value: &[u8],
     charge: u32,
@@ -95,199 +107,202 @@ pub extern "C" fn ferretgold_raw_insert_pinned(
     inserted: &mut u32,
     handle: &mut Number,
 ) -> u32
-    requires { IsWhole client.value }
+    requires { IsWhole client.old.value }
+    ensures there { IsThere client.old client.new }
+    ensures whole { IsWhole client.new.value }
+    ensures bad { priority_of priority ≡ None → (result ≡ code_of Refusal.BadPriority)
+        × (client.new.value ≡ client.old.value) × (inserted.new ≡ inserted.old)
+        × (handle.new ≡ handle.old) }
+    ensures puts { IfSome (priority_of priority) (λ known. (answer : _)
+        × PutsPinned (key_of key.now) charge known value.now answer
+        client.old.value client.new.value
+        × (result ≡ status_of_pinned answer)
+        × (inserted.new ≡ inserted_of_pinned answer inserted.old)
+        × (handle.new ≡ handle_of_pinned answer handle.old)) }
 {
-    let mut client = client.client(alloc);
     let Some(priority) = priority_of(priority) else {
-        lend_client(client);
         return Refusal::BadPriority.code();
     };
-    let answer = client.insert_pinned(alloc, key.key(), value, charge, priority);
-    lend_client(client);
+    let session = client.session();
+    let answer = session.insert_pinned(alloc, key.key(), value, charge, priority);
     told_pinned(answer, inserted, handle)
 }
 
 #[unsafe(no_mangle)]
 pub extern "C" fn ferretgold_raw_erase(
-    alloc: Global,
-    client: ClientObject,
+    client: &mut ClientObject,
     key: &Key,
     hidden: &mut u32,
 ) -> u32
-    requires { IsWhole client.value }
+    requires { IsWhole client.old.value }
+    ensures there { IsThere client.old client.new }
+    ensures whole { IsWhole client.new.value }
+    ensures hides { Hides (key_of key.now) hidden.new client.old.value client.new.value }
+    ensures done { result ≡ 0 }
 {
-    let mut client = client.client(alloc);
-    *hidden = client.erase(key.key());
-    lend_client(client);
+    *hidden = client.session().erase(key.key());
     DONE
 }
 
 #[unsafe(no_mangle)]
 pub extern "C" fn ferretgold_raw_key(
-    alloc: Global,
-    client: ClientObject,
+    client: &mut ClientObject,
     handle: &Number,
     key: &mut Key,
 ) -> u32
-    requires { IsWhole client.value }
+    requires { IsWhole client.old.value }
+    ensures there { IsThere client.old client.new }
+    ensures tells { (answer : _) × TellsKey handle.now answer client.old.value client.new.value
+        × (result ≡ status_of answer Refusal.NoHandle) × (key.new ≡ key_or answer key.old) }
 {
-    let mut client = client.client(alloc);
-    let answer = client.key(*handle);
-    lend_client(client);
+    let answer = client.session().key(*handle);
     told_key(answer, key)
 }
 
 #[unsafe(no_mangle)]
 pub extern "C" fn ferretgold_raw_value_len(
-    alloc: Global,
-    client: ClientObject,
+    client: &mut ClientObject,
     handle: &Number,
     length: &mut usize,
 ) -> u32
-    requires { IsWhole client.value }
+    requires { IsWhole client.old.value }
+    ensures there { IsThere client.old client.new }
+    ensures whole { IsWhole client.new.value }
+    ensures tells { (answer : _) × TellsLength handle.now answer client.old.value client.new.value
+        × (result ≡ status_of answer Refusal.NoHandle)
+        × (length.new ≡ value_or answer length.old) }
 {
-    let mut client = client.client(alloc);
-    let answer = client.value_len(*handle);
-    lend_client(client);
+    let answer = client.session().value_len(*handle);
     told(answer, Refusal::NoHandle, length)
 }
 
 #[unsafe(no_mangle)]
 pub extern "C" fn ferretgold_raw_read_value(
-    alloc: Global,
-    client: ClientObject,
+    client: &mut ClientObject,
     handle: &Number,
     buffer: &mut [u8],
     length: &mut usize,
 ) -> u32
-    requires { IsWhole client.value }
+    requires { IsWhole client.old.value }
+    ensures there { IsThere client.old client.new }
+    ensures whole { IsWhole client.new.value }
+    ensures reads { (answer : _)
+        × ReadsValue handle.now answer buffer.old buffer.new client.old.value client.new.value
+        × (result ≡ status_of_read answer) × (length.new ≡ length_of answer length.old) }
 {
-    let mut client = client.client(alloc);
-    let answer = client.read_value(*handle, buffer);
-    lend_client(client);
+    let answer = client.session().read_value(*handle, buffer);
     told_read(answer, length)
 }
 
 #[unsafe(no_mangle)]
-pub extern "C" fn ferretgold_raw_usage(alloc: Global, client: ClientObject) -> u64
-    requires { IsWhole client.value }
-    ensures { charge_by client.value.client ≤ result }
+pub extern "C" fn ferretgold_raw_usage(client: &mut ClientObject) -> u64
+    requires { IsWhole client.old.value }
+    ensures there { IsThere client.old client.new }
+    ensures whole { IsWhole client.new.value }
+    ensures tells { TellsUsage result client.old.value client.new.value }
 {
-    let mut client = client.client(alloc);
-    let answer = client.usage();
-    lend_client(client);
-    answer
+    client.session().usage()
 }
 
 #[unsafe(no_mangle)]
-pub extern "C" fn ferretgold_raw_pinned_usage(alloc: Global, client: ClientObject) -> u64
-    requires { IsWhole client.value }
-    ensures entries { charge_by client.value.client ≤ result }
-    ensures alone { (arc_value client.value.cache).geometry.clients ≡ 1
-        → result ≡ charge_by client.value.client }
+pub extern "C" fn ferretgold_raw_pinned_usage(client: &mut ClientObject) -> u64
+    requires { IsWhole client.old.value }
+    ensures there { IsThere client.old client.new }
+    ensures whole { IsWhole client.new.value }
+    ensures tells { TellsPinned result client.old.value client.new.value }
 {
-    let mut client = client.client(alloc);
-    let answer = client.pinned_usage();
-    lend_client(client);
-    answer
+    client.session().pinned_usage()
 }
 
 #[unsafe(no_mangle)]
-pub extern "C" fn ferretgold_raw_occupancy(alloc: Global, client: ClientObject) -> u64
-    requires { IsWhole client.value }
-    ensures entries { entries_by client.value.client ≤ result }
-    ensures alone { (arc_value client.value.cache).geometry.clients ≡ 1
-        → result + taken_by client.value.client ≡ made_by client.value.client }
+pub extern "C" fn ferretgold_raw_occupancy(client: &mut ClientObject) -> u64
+    requires { IsWhole client.old.value }
+    ensures there { IsThere client.old client.new }
+    ensures whole { IsWhole client.new.value }
+    ensures tells { TellsOccupancy result client.old.value client.new.value }
 {
-    let mut client = client.client(alloc);
-    let answer = client.occupancy();
-    lend_client(client);
-    answer
+    client.session().occupancy()
 }
 
 #[unsafe(no_mangle)]
 pub extern "C" fn ferretgold_raw_word(
-    alloc: Global,
-    client: ClientObject,
+    client: &mut ClientObject,
     shard: u32,
     slot: u32,
     word: &mut u64,
 ) -> u32
-    requires { IsWhole client.value }
+    requires { IsWhole client.old.value }
+    ensures there { IsThere client.old client.new }
+    ensures whole { IsWhole client.new.value }
+    ensures tells { (answer : _) × TellsWord shard slot answer client.old.value client.new.value
+        × (result ≡ status_of answer Refusal.OutOfRange) × (word.new ≡ value_or answer word.old) }
 {
-    let mut client = client.client(alloc);
-    let answer = client.word(shard, slot);
-    lend_client(client);
+    let answer = client.session().word(shard, slot);
     told(answer, Refusal::OutOfRange, word)
 }
 
 #[unsafe(no_mangle)]
 pub extern "C" fn ferretgold_raw_displacement(
-    alloc: Global,
-    client: ClientObject,
+    client: &mut ClientObject,
     shard: u32,
     slot: u32,
     displacement: &mut u64,
 ) -> u32
-    requires { IsWhole client.value }
+    requires { IsWhole client.old.value }
+    ensures there { IsThere client.old client.new }
+    ensures whole { IsWhole client.new.value }
+    ensures tells { (answer : _)
+        × TellsDisplacement shard slot answer client.old.value client.new.value
+        × (result ≡ status_of answer Refusal.OutOfRange)
+        × (displacement.new ≡ value_or answer displacement.old) }
 {
-    let mut client = client.client(alloc);
-    let answer = client.displacement(shard, slot);
-    lend_client(client);
+    let answer = client.session().displacement(shard, slot);
     told(answer, Refusal::OutOfRange, displacement)
 }
 
 #[unsafe(no_mangle)]
-pub extern "C" fn ferretgold_raw_number(alloc: Global, client: ClientObject) -> u32
-    requires { IsWhole client.value }
-    ensures { result ≡ client.value.client.number }
+pub extern "C" fn ferretgold_raw_number(client: &mut ClientObject) -> u32
+    ensures there { IsThere client.old client.new }
+    ensures same { client.new.value ≡ client.old.value }
+    ensures number { result ≡ client.old.value.client.number }
 {
-    let client = client.client(alloc);
-    let answer = client.number();
-    lend_client(client);
-    answer
+    client.session().number()
 }
 
 #[unsafe(no_mangle)]
-pub extern "C" fn ferretgold_raw_held(alloc: Global, client: ClientObject) -> u32
-    requires { IsWhole client.value }
-    ensures { result ≡ held_by client.value.client }
+pub extern "C" fn ferretgold_raw_held(client: &mut ClientObject) -> u32
+    ensures there { IsThere client.old client.new }
+    ensures same { client.new.value ≡ client.old.value }
+    ensures held { result ≡ held_by client.old.value.client }
 {
-    let client = client.client(alloc);
-    let answer = client.held();
-    lend_client(client);
-    answer
+    client.session().held()
 }
 
 #[unsafe(no_mangle)]
-pub extern "C" fn ferretgold_raw_serials_left(alloc: Global, client: ClientObject) -> u64
-    requires { IsWhole client.value }
-    ensures { result ≡ client.value.client.left }
+pub extern "C" fn ferretgold_raw_serials_left(client: &mut ClientObject) -> u64
+    ensures there { IsThere client.old client.new }
+    ensures same { client.new.value ≡ client.old.value }
+    ensures left { result ≡ client.old.value.client.left }
 {
-    let client = client.client(alloc);
-    let answer = client.serials_left();
-    lend_client(client);
-    answer
+    client.session().serials_left()
 }
 
 #[unsafe(no_mangle)]
-pub extern "C" fn ferretgold_raw_holds(alloc: Global, client: ClientObject, handle: &Number) -> bool
-    requires { IsWhole client.value }
-    ensures yes { result ≡ true → (it : _) × IsHandle client.value handle.now it }
-    ensures no { IsNone client.value handle.now → result ≡ false }
+pub extern "C" fn ferretgold_raw_holds(client: &mut ClientObject, handle: &Number) -> bool
+    ensures there { IsThere client.old client.new }
+    ensures same { client.new.value ≡ client.old.value }
+    ensures held { result ≡ true → (it : _) × IsHandle client.old.value handle.now it }
+    ensures yes { (it : _) → IsHandle client.old.value handle.now it → result ≡ true }
+    ensures no { IsNone client.old.value handle.now → result ≡ false }
 {
-    let client = client.client(alloc);
-    let answer = client.holds(*handle);
-    lend_client(client);
-    answer
+    client.session().holds(*handle)
 }
 
 #[unsafe(no_mangle)]
-pub extern "C" fn ferretgold_raw_stats(alloc: Global, client: ClientObject, stats: &mut Stats)
-    requires { IsWhole client.value }
-    ensures { stats.new ≡ stats_of (stats_over no_stats client.value.client.seats.items) }
+pub extern "C" fn ferretgold_raw_stats(client: &mut ClientObject, stats: &mut Stats)
+    ensures there { IsThere client.old client.new }
+    ensures same { client.new.value ≡ client.old.value }
+    ensures stats { stats.new ≡ stats_of (stats_over no_stats client.old.value.client.seats.items) }
 {
-    let client = client.client(alloc);
-    *stats = client.stats();
-    lend_client(client);
+    *stats = client.session().stats();
 }

@@ -1,11 +1,7 @@
 //! Insertions, whose charge and length are judged first.
-ghost use Rattle.std.specs.Prelude.{◌≡◌, ◌*◌, ◌<◌, ◌≤◌, ◌↔◌, true, IfOk, IfErr, OnOk, OnErr, IsOk, IsErrOf, IsOkUnless, MatchResult, length};
-ghost use Rattle.std.specs.Arc.{arc_value};
-ghost use Rattle.hcc_shard.specs.Inserted.{inserting};
-ghost use Rattle.hcc_cache.specs.Calls.{TakesAtMost};
-ghost use Rattle.hcc_cache.specs.Clients.{held_by};
-ghost use Rattle.hcc_cache.specs.Inserts.{Inserts, InsertsWith, RefusesWith};
-ghost use Rattle.hcc_c.specs.Sessions.{Gives, IsWhole, judged};
+ghost use Rattle.std.specs.Prelude.{◌≡◌};
+ghost use Rattle.hcc_c.specs.Calls.{Puts, PutsPinned};
+ghost use Rattle.hcc_c.specs.Sessions.{IsWhole, judged};
 
 use crate::referring::given;
 use crate::session::Session;
@@ -36,23 +32,7 @@ impl Session {
     ) -> Result<Result<Inserted, InsertError>, Unfit>
         requires { IsWhole self.old }
         ensures whole { IsWhole self.new }
-        ensures unfit { IfErr (judged (8 * (arc_value self.old.cache).geometry.room)
-            (length value.now) charge) (λ why. (result ≡ Err why) × (self.new ≡ self.old)) }
-        ensures fit { OnOk (judged (8 * (arc_value self.old.cache).geometry.room)
-            (length value.now) charge) (IsOk result) }
-        ensures spent { IfOk result (λ answer. IsErrOf answer InsertError.Spent
-            ↔ (self.old.client.left ≡ 0)) }
-        ensures large { IfOk result (λ answer. IsErrOf answer InsertError.TooLarge
-            ↔ ((0 < self.old.client.left) × ((arc_value self.old.cache).strict ≡ true)
-            × ((arc_value self.old.cache).capacity < charge))) }
-        ensures inserted { IfOk result (λ answer.
-            Inserts (arc_value self.old.cache) key charge priority value.now answer
-            self.old.client self.new.client) }
-        ensures rest { self.new ≡ record self.old { client = self.new.client } }
-        ensures steps { TakesAtMost
-            (inserting (arc_value self.old.cache).geometry.slots
-            (arc_value self.old.cache).geometry.room)
-            self.old.client self.new.client }
+        ensures puts { Puts key charge priority value.now result self.old self.new }
     {
         judge(self.cache.room(), value.len(), charge)?;
         Ok(
@@ -73,36 +53,7 @@ impl Session {
     ) -> Result<Result<(Number, Inserted), InsertError>, Unfit>
         requires { IsWhole self.old }
         ensures whole { IsWhole self.new }
-        ensures unfit { IfErr (judged (8 * (arc_value self.old.cache).geometry.room)
-            (length value.now) charge) (λ why. (result ≡ Err why) × (self.new ≡ self.old)) }
-        ensures memory { OnOk (judged (8 * (arc_value self.old.cache).geometry.room)
-            (length value.now) charge) (IsOkUnless result Unfit.OutOfMemory) }
-        ensures nothing { OnErr result (self.new ≡ self.old) }
-        ensures full { IfOk result (λ answer. IsErrOf answer InsertError.HandlesFull
-            ↔ (held_by self.old.client ≡ self.old.client.most)) }
-        ensures spent { IfOk result (λ answer. IsErrOf answer InsertError.Spent
-            ↔ ((held_by self.old.client < self.old.client.most)
-            × (self.old.client.left ≡ 0))) }
-        ensures large { IfOk result (λ answer. IsErrOf answer InsertError.TooLarge
-            ↔ ((held_by self.old.client < self.old.client.most) × (0 < self.old.client.left)
-            × ((arc_value self.old.cache).strict ≡ true)
-            × ((arc_value self.old.cache).capacity < charge))) }
-        ensures inserted { IfOk result (λ answer. MatchResult answer
-            (λ made. (handle : _)
-            × InsertsWith (arc_value self.old.cache) key charge priority value.now handle made.1
-            self.old.client self.new.client
-            × Gives made.0 handle self.old self.new)
-            (λ why. RefusesWith (arc_value self.old.cache) key charge priority value.now why
-            self.old.client self.new.client
-            × (self.new.numbers ≡ self.old.numbers))) }
-        ensures rest { self.new ≡ record self.old {
-          client = self.new.client;
-          numbers = self.new.numbers;
-        } }
-        ensures steps { TakesAtMost
-            (inserting (arc_value self.old.cache).geometry.slots
-            (arc_value self.old.cache).geometry.room)
-            self.old.client self.new.client }
+        ensures puts { PutsPinned key charge priority value.now result self.old self.new }
     {
         judge(self.cache.room(), value.len(), charge)?;
         let Ok(copy) = value.to_vec(alloc) else {

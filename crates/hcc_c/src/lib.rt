@@ -18,8 +18,6 @@ mod session;
 mod shapes;
 mod totals;
 
-pub use objects::{CacheObject, ClientObject, objects_cross};
-pub use pool::{Pool, Rack};
+pub use objects::{CacheObject, CachePlace, ClientObject, ClientPlace, objects_cross};
 pub use refusal::Refusal;
-pub use session::Session;
 pub use shapes::{Key, Number, Setup, Stats, Totals};

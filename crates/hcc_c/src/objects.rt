@@ -1,5 +1,6 @@
 //! The opaque objects: a cache or a client behind a pointer that C keeps.
-ghost use Rattle.std.specs.Prelude.{◌≡◌};
+ghost use Rattle.std.specs.Prelude.{◌≡◌, Option, Some};
+ghost use Rattle.std.specs.Borrow.{sem};
 ghost use Rattle.std_alloc.specs.Box.Ownership.{box_owns};
 ghost use Rattle.std_heap.specs.contracts.GlobalAllocator.TheImpl as heap;
 ghost use Rattle.std.specs.Global.{Global};
@@ -7,8 +8,7 @@ ghost use Rattle.hcc_c.specs.declared.pool.Rack.{Rack};
 ghost use Rattle.hcc_c.specs.declared.session.Session.{Session};
 ghost use Rattle.hcc_c.specs.contracts.pool.Rack.{the_row as rack_row};
 ghost use Rattle.hcc_c.specs.contracts.session.Session.{the_row as session_row};
-ghost use Rattle.hcc_c.specs.Pools.{IsWholeRack};
-ghost use Rattle.hcc_c.specs.Sessions.{IsWhole};
+ghost use Rattle.hcc_c.specs.Places.{owns_if};
 
 use crate::pool::Rack;
 use crate::session::Session;
@@ -29,7 +29,17 @@ impl Model for ClientObject {
 }
 
 impl ClientObject {
-    /// The client, for one call. [`lend_client`] gives it back to C.
+    ghost use Rattle.hcc_c.specs.Lending.{LendsSession};
+
+    /// The session behind the pointer, for one call.
+    pub(crate) fn session(&mut self) -> &mut Session
+        ensures* lends { sem 𝓛 (LendsSession self.entry result) }
+        ensures value { result.now ≡ self.old.value }
+    {
+        unsafe { &mut *(self.at as *mut Session) }
+    }
+
+    /// The client itself, which C has no more.
     pub(crate) fn client(self, alloc: Global) -> Box<Session>
         ensures { result.value ≡ self.value }
     {
@@ -39,13 +49,6 @@ impl ClientObject {
 }
 
 unsafe impl Send for ClientObject {}
-
-/// Hands a client to C: its pointer stands for it.
-pub(crate) fn lend_client(client: Box<Session>) -> *mut u8
-    requires { IsWhole client.value }
-{
-    Box::into_raw(client) as *mut u8
-}
 
 /// A cache behind a pointer.
 #[repr(C)]
@@ -61,7 +64,17 @@ impl Model for CacheObject {
 }
 
 impl CacheObject {
-    /// The cache, for one call. [`lend_cache`] gives it back to C.
+    ghost use Rattle.hcc_c.specs.Lending.{LendsRack};
+
+    /// The cache behind the pointer, for one call.
+    pub(crate) fn rack(&mut self) -> &mut Rack
+        ensures* lends { sem 𝓛 (LendsRack self.entry result) }
+        ensures value { result.now ≡ self.old.value }
+    {
+        unsafe { &mut *(self.at as *mut Rack) }
+    }
+
+    /// The cache itself, which C has no more.
     pub(crate) fn cache(self, alloc: Global) -> Box<Rack>
         ensures { result.value ≡ self.value }
     {
@@ -72,11 +85,72 @@ impl CacheObject {
 
 unsafe impl Send for CacheObject {}
 
-/// Hands a cache to C: its pointer stands for it.
-pub(crate) fn lend_cache(cache: Box<Rack>) -> *mut u8
-    requires { IsWholeRack cache.value }
-{
-    Box::into_raw(cache) as *mut u8
+/// A box as its pointer.
+pub(crate) struct Loose<T> {
+    at: *mut T,
+    ghost alloc: { Global },
+    ghost value: { T },
+}
+
+impl<T> Model for Loose<T> {
+    ghost also_owns = { λ l.
+        box_owns (heap.ghosts.dealloc_token l.alloc) T.row l.at l.value };
+}
+
+impl<T: Drop> Loose<T> {
+    pub(crate) fn of(value: Box<T>) -> Loose<T>
+        ensures { result.value ≡ value.value }
+    {
+        let at = Box::into_raw(value);
+        Loose { at }
+    }
+}
+
+/// A place for a client that C gets or keeps: none, or one behind a pointer, which is a
+/// [`ClientObject`] of it from then on.
+#[repr(C)]
+#[derive(Drop)]
+pub struct ClientPlace {
+    at: *mut u8,
+    ghost alloc: { Global },
+    ghost value: { Option Session },
+}
+
+impl Model for ClientPlace {
+    ghost also_owns = { λ p.
+        owns_if (heap.ghosts.dealloc_token p.alloc) session_row p.at p.value };
+}
+
+impl ClientPlace {
+    pub(crate) fn of(client: Loose<Session>) -> ClientPlace
+        ensures { result.value ≡ Some client.value }
+    {
+        let Loose { at } = client;
+        ClientPlace { at: at as *mut u8 }
+    }
+}
+
+/// The same for a cache.
+#[repr(C)]
+#[derive(Drop)]
+pub struct CachePlace {
+    at: *mut u8,
+    ghost alloc: { Global },
+    ghost value: { Option Rack },
+}
+
+impl Model for CachePlace {
+    ghost also_owns = { λ p.
+        owns_if (heap.ghosts.dealloc_token p.alloc) rack_row p.at p.value };
+}
+
+impl CachePlace {
+    pub(crate) fn of(cache: Loose<Rack>) -> CachePlace
+        ensures { result.value ≡ Some cache.value }
+    {
+        let Loose { at } = cache;
+        CachePlace { at: at as *mut u8 }
+    }
 }
 
 fn crosses<T: Send>(_x: &T) {}

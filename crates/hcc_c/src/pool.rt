@@ -1,11 +1,8 @@
 //! A cache in the hands of C, with the clients that it has back.
-ghost use Rattle.std.specs.Prelude.{◌≡◌, ◌+◌, ◌<◌, ◌≤◌, ◌++◌, ◌∷◌, [], Err, IfOk, IfErr, OnOk, OnErr, IsOkUnless, length};
-ghost use Rattle.std.specs.Arc.{arc_value};
-ghost use Rattle.hcc_cache.specs.Clients.{held_by};
+ghost use Rattle.std.specs.Prelude.{◌≡◌, ◌<◌, ◌≤◌, Err, IfOk, IfErr, OnOk, OnErr, IsOkUnless, length};
 ghost use Rattle.hcc_cache.specs.Closings.{AreBack, IsClosed};
 ghost use Rattle.hcc_cache.specs.Configs.{checked};
-ghost use Rattle.hcc_cache.specs.Opened.{IsOpened};
-ghost use Rattle.hcc_c.specs.Pools.{Closes, GivesOut, IsHome, IsOf, IsSameRack, IsWholePool, IsWholeRack, TakesBack, totals_of};
+ghost use Rattle.hcc_c.specs.Pools.{Closes, EndsAs, GivesOut, HasBack, IsHome, IsOf, IsWholePool, IsWholeRack, Opens, OpensAs, TakesBack, TakesIn, TakesOut, judged_back, totals_of};
 ghost use Rattle.hcc_c.specs.Sessions.{IsWhole, any};
 
 use crate::refusal::Refusal;
@@ -29,9 +26,7 @@ impl Pool {
     pub fn open(alloc: Global, config: Config) -> Result<Pool, NewError>
         ensures refused { IfErr (checked config) (λ e. result ≡ Err e) }
         ensures memory { OnOk (checked config) (IsOkUnless result NewError.OutOfMemory) }
-        ensures opened { IfOk result (λ pool. (tag : _)
-            × IsOpened config tag (arc_value pool.cache) pool.back.items) }
-        ensures config { IfOk result (λ pool. pool.config ≡ config) }
+        ensures opened { IfOk result (Opens config) }
         ensures whole { IfOk result IsWholePool }
     {
         let (cache, back) = Cache::new(alloc, config, AnyBytes)?;
@@ -54,14 +49,8 @@ impl Pool {
         ensures empty { length self.old.back.items ≡ 0 → result ≡ Err Refusal.NoClient }
         ensures memory { 0 < length self.old.back.items
             → IsOkUnless result Refusal.OutOfMemory }
-        ensures nothing { OnErr result (self.new.back.items ≡ self.old.back.items) }
-        ensures taken { IfOk result (λ session.
-            self.old.back.items ≡ self.new.back.items ++ session.value.client ∷ []) }
-        ensures cache { IfOk result (λ session.
-            arc_value session.value.cache ≡ arc_value self.old.cache) }
-        ensures home { IfOk result (λ session. session.value.home ≡ home) }
-        ensures unnumbered { IfOk result (λ session. session.value.numbers.slots ≡ []) }
-        ensures rest { self.new ≡ record self.old { back = self.new.back } }
+        ensures nothing { OnErr result (HasBack self.old.back.items self.old self.new) }
+        ensures taken { IfOk result (λ session. GivesOut session.value home self.old self.new) }
     {
         if self.back.is_empty() {
             return Err(Refusal::NoClient);
@@ -95,7 +84,8 @@ impl Pool {
     }
 
     /// Takes a client back. It is refused where the client's cache has another number, then where
-    /// the client holds a handle; nothing is changed then.
+    /// the client holds a handle, and else only where all clients of the cache are back already;
+    /// nothing is changed then.
     pub fn give_back(
         &mut self,
         home: usize,
@@ -105,17 +95,14 @@ impl Pool {
         requires session { IsWhole session.value }
         requires home { session.value.home ≡ home → IsOf self.old session.value }
         ensures whole { IsWholePool self.new }
-        ensures other { IfErr result (λ e. e.0 ≡ Refusal.OtherCache
-            → ¬ (session.value.home ≡ home)) }
-        ensures held { IfErr result (λ e. e.0 ≡ Refusal.HandlesOut
-            → 0 < held_by session.value.client) }
-        ensures may { OnOk result ((session.value.home ≡ home)
-            × (held_by session.value.client ≡ 0)) }
-        ensures nothing { IfErr result (λ e. (self.new.back.items ≡ self.old.back.items)
+        ensures unfit { IfErr (judged_back home session.value) (λ why.
+            result ≡ Err (why, session)) }
+        ensures memory { OnOk (judged_back home session.value) (IfErr result (λ e.
+            (e.0 ≡ Refusal.OutOfMemory)
+            × (self.old.config.clients ≤ length self.old.back.items))) }
+        ensures nothing { IfErr result (λ e. HasBack self.old.back.items self.old self.new
             × (e.1 ≡ session)) }
-        ensures back { OnOk result (self.new.back.items
-            ≡ self.old.back.items ++ session.value.client ∷ []) }
-        ensures rest { self.new ≡ record self.old { back = self.new.back } }
+        ensures back { OnOk result (TakesBack session.value self.old self.new) }
     {
         if session.home != home {
             return Err((Refusal::OtherCache, session));
@@ -134,11 +121,9 @@ impl Pool {
     /// Ends the cache, once all its clients are back. Else it is handed back as it was.
     pub fn close(self) -> Result<Totals, Pool>
         requires { IsWholePool self }
+        ensures out { length self.back.items < self.config.clients → result ≡ Err self }
         ensures back { IfErr result (λ pool. pool ≡ self) }
-        ensures closed { IfOk result (λ totals. (closed : _)
-            × AreBack (arc_value self.cache) self.back.items
-            × IsClosed any (arc_value self.cache) self.back.items closed
-            × (totals ≡ totals_of closed)) }
+        ensures closed { IfOk result (λ totals. Closes totals self) }
     {
         if self.back.len() < self.config.clients as usize {
             return Err(self);
@@ -189,13 +174,25 @@ pub struct Rack {
 }
 
 impl Rack {
-    /// Gives out a client, as its pool does.
+    /// A new cache, with all its clients. It refuses what the cache's `new` does.
+    pub fn open(alloc: Global, config: Config) -> Result<Box<Rack>, Refusal>
+        ensures opens { OpensAs config result }
+    {
+        let pool = match Pool::open(alloc, config) {
+            Ok(pool) => pool,
+            Err(why) => return Err(Refusal::opening(why)),
+        };
+        match Box::new(alloc, Rack { pool: Some(pool) }) {
+            Ok(rack) => Ok(rack),
+            Err(_) => Err(Refusal::OutOfMemory),
+        }
+    }
+
+    /// Gives out a client, as its pool does; none where the cache is closed.
     pub fn take(&mut self, alloc: Global, home: usize) -> Result<Box<Session>, Refusal>
         requires { IsWholeRack self.old }
         ensures whole { IsWholeRack self.new }
-        ensures session { IfOk result (λ session. IsWhole session.value) }
-        ensures nothing { OnErr result (IsSameRack self.old self.new) }
-        ensures taken { IfOk result (λ session. GivesOut session.value home self.old self.new) }
+        ensures takes { TakesOut home result self.old self.new }
     {
         match &mut self.pool {
             Some(pool) => pool.take(alloc, home),
@@ -203,7 +200,7 @@ impl Rack {
         }
     }
 
-    /// Takes a client back, as its pool does.
+    /// Takes a client back, as its pool does; one that is closed has no clients.
     pub fn give_back(
         &mut self,
         home: usize,
@@ -213,8 +210,7 @@ impl Rack {
         requires session { IsWhole session.value }
         requires home { IsHome home session.value self.old }
         ensures whole { IsWholeRack self.new }
-        ensures nothing { IfErr result (λ e. IsSameRack self.old self.new × (e.1 ≡ session)) }
-        ensures back { OnOk result (TakesBack session.value self.old self.new) }
+        ensures takes { TakesIn home session result self.old self.new }
     {
         match &mut self.pool {
             Some(pool) => pool.give_back(home, session),
@@ -225,8 +221,8 @@ impl Rack {
     /// Ends the cache, as its pool does; else nothing is changed.
     pub fn close(&mut self) -> Result<Totals, Refusal>
         requires { IsWholeRack self.old }
-        ensures missing { IfErr result (λ e. (e ≡ Refusal.Missing) × (self.new ≡ self.old)) }
-        ensures closed { IfOk result (λ totals. Closes totals self.old) }
+        ensures whole { IsWholeRack self.new }
+        ensures ends { EndsAs result self.old self.new }
     {
         let Some(pool) = self.pool.take() else {
             return Err(Refusal::Missing);

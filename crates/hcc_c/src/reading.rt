@@ -1,10 +1,6 @@
 //! What a client reads by the numbers of its handles.
-ghost use Rattle.std.specs.Prelude.{◌≡◌, ◌+◌, ◌<◌, ◌++◌, IfOk, IfErr, IfSome, IfNone, length, drop};
-ghost use Rattle.std.specs.Arc.{arc_value};
-ghost use Rattle.hcc_rule.specs.Words.{words_for};
-ghost use Rattle.hcc_cache.specs.Calls.{Reads, TakesAtMost};
-ghost use Rattle.hcc_cache.specs.Clients.{held_of};
-ghost use Rattle.hcc_c.specs.Sessions.{IsHandle, IsNone, IsWhole};
+ghost use Rattle.hcc_c.specs.Calls.{ReadsValue, TellsKey, TellsLength};
+ghost use Rattle.hcc_c.specs.Sessions.{IsWhole};
 
 use crate::session::Session;
 use crate::shapes::Number;
@@ -15,11 +11,7 @@ impl Session {
     pub fn key(&mut self, number: Number) -> Option<Key>
         requires { IsWhole self.old }
         ensures whole { IsWhole self.new }
-        ensures none { IfNone result (IsNone self.old number) }
-        ensures exact { IfSome result (λ key. (handle : _) × IsHandle self.old number handle
-            × IfSome (held_of (arc_value self.old.cache) self.old.client handle) (λ held.
-            key ≡ held.insertion.key)) }
-        ensures same { self.new ≡ self.old }
+        ensures tells { TellsKey number result self.old self.new }
     {
         let handle = self.handle(number)?;
         Some(self.cache.key(&mut self.client, handle))
@@ -29,14 +21,7 @@ impl Session {
     pub fn value_len(&mut self, number: Number) -> Option<usize>
         requires { IsWhole self.old }
         ensures whole { IsWhole self.new }
-        ensures none { IfNone result (IsNone self.old number × (self.new ≡ self.old)) }
-        ensures exact { IfSome result (λ len. (handle : _) × IsHandle self.old number handle
-            × IfSome (held_of (arc_value self.old.cache) self.old.client handle) (λ held.
-            len ≡ length held.insertion.value)) }
-        ensures reads { IfSome result (λ _.
-            Reads (arc_value self.old.cache) self.old.client self.new.client) }
-        ensures rest { self.new ≡ record self.old { client = self.new.client } }
-        ensures steps { TakesAtMost 1 self.old.client self.new.client }
+        ensures tells { TellsLength number result self.old self.new }
     {
         let handle = self.handle(number)?;
         Some(self.cache.value_len(&mut self.client, handle))
@@ -49,25 +34,7 @@ impl Session {
     pub fn read_value(&mut self, number: Number, buffer: &mut [u8]) -> Option<Result<usize, usize>>
         requires { IsWhole self.old }
         ensures whole { IsWhole self.new }
-        ensures none { IfNone result (IsNone self.old number × (self.new ≡ self.old)
-            × (buffer.new ≡ buffer.old)) }
-        ensures read { IfSome result (λ answer. IfOk answer (λ len. (handle : _)
-            × IsHandle self.old number handle
-            × IfSome (held_of (arc_value self.old.cache) self.old.client handle) (λ held.
-            (len ≡ length held.insertion.value)
-            × (buffer.new ≡ held.insertion.value ++ drop len buffer.old)))) }
-        ensures short { IfSome result (λ answer. IfErr answer (λ len. (handle : _)
-            × IsHandle self.old number handle
-            × IfSome (held_of (arc_value self.old.cache) self.old.client handle) (λ held.
-            len ≡ length held.insertion.value)
-            × (length buffer.old < len) × (buffer.new ≡ buffer.old))) }
-        ensures reads { IfSome result (λ _.
-            Reads (arc_value self.old.cache) self.old.client self.new.client) }
-        ensures rest { self.new ≡ record self.old { client = self.new.client } }
-        ensures steps { IfSome result (λ answer. IfOk answer (λ len.
-            TakesAtMost (words_for len + 2) self.old.client self.new.client)) }
-        ensures few { IfSome result (λ answer. IfErr answer (λ len.
-            TakesAtMost 1 self.old.client self.new.client)) }
+        ensures reads { ReadsValue number result buffer.old buffer.new self.old self.new }
     {
         let handle = self.handle(number)?;
         let len = self.cache.value_len(&mut self.client, handle);

@@ -1,11 +1,8 @@
 //! Handles that are given by their numbers, and given back.
-ghost use Rattle.std.specs.Prelude.{◌≡◌, ◌+◌, ◌*◌, ◌<◌, ◌↔◌, Some, IfOk, IfErr, IfSome, IfNone, OnErr, IsErrOf, length};
-ghost use Rattle.std.specs.Arc.{arc_value};
+ghost use Rattle.std.specs.Prelude.{◌≡◌, ◌+◌, Some, IfSome, IfNone};
 ghost use Rattle.slab.specs.Slab.{get, slab_len, HasRoomFor, Updates};
-ghost use Rattle.hcc_table.specs.Steps.{freeing};
-ghost use Rattle.hcc_cache.specs.Calls.{Erases, Finds, Misses, Releases, Rerefs, TakesAtMost};
-ghost use Rattle.hcc_cache.specs.Clients.{Holds, held_by};
-ghost use Rattle.hcc_c.specs.Sessions.{Ends, Gives, IsHandle, IsNone, IsWhole, any, numbered};
+ghost use Rattle.hcc_c.specs.Calls.{GivesBack, Hides, LooksUp, RefersAgain};
+ghost use Rattle.hcc_c.specs.Sessions.{IsHandle, IsNone, IsWhole, numbered};
 
 use crate::session::{Numbered, Session};
 use crate::shapes::Number;
@@ -18,23 +15,7 @@ impl Session {
     pub fn lookup(&mut self, key: Key) -> Result<Option<Number>, LookupError>
         requires { IsWhole self.old }
         ensures whole { IsWhole self.new }
-        ensures full { IsErrOf result LookupError.HandlesFull
-            ↔ (held_by self.old.client ≡ self.old.client.most) }
-        ensures spent { IsErrOf result LookupError.Spent
-            ↔ ((held_by self.old.client < self.old.client.most) × (self.old.client.left ≡ 0)) }
-        ensures refused { OnErr result (self.new ≡ self.old) }
-        ensures found { IfOk result (λ o. IfSome o (λ number. (handle : _)
-            × Finds (arc_value self.old.cache) any key handle self.old.client self.new.client
-            × Gives number handle self.old self.new)) }
-        ensures missed { IfOk result (λ o. IfNone o
-            (Misses (arc_value self.old.cache) key self.old.client self.new.client
-            × (self.new.numbers ≡ self.old.numbers))) }
-        ensures rest { self.new ≡ record self.old {
-          client = self.new.client;
-          numbers = self.new.numbers;
-        } }
-        ensures steps { TakesAtMost (7 * (arc_value self.old.cache).geometry.slots)
-            self.old.client self.new.client }
+        ensures looks { LooksUp key result self.old self.new }
     {
         let client = self.client.number();
         let serial = self.client.serials_left();
@@ -49,22 +30,7 @@ impl Session {
     pub fn reref(&mut self, number: Number) -> Option<Result<Number, LookupError>>
         requires { IsWhole self.old }
         ensures whole { IsWhole self.new }
-        ensures none { IfNone result (IsNone self.old number × (self.new ≡ self.old)) }
-        ensures full { IfSome result (λ answer. IsErrOf answer LookupError.HandlesFull
-            ↔ (held_by self.old.client ≡ self.old.client.most)) }
-        ensures spent { IfSome result (λ answer. IsErrOf answer LookupError.Spent
-            ↔ ((held_by self.old.client < self.old.client.most)
-            × (self.old.client.left ≡ 0))) }
-        ensures refused { IfSome result (λ answer. OnErr answer (self.new ≡ self.old)) }
-        ensures again { IfSome result (λ answer. IfOk answer (λ more. (was : _) × (handle : _)
-            × IsHandle self.old number was
-            × Rerefs (arc_value self.old.cache) was handle self.old.client self.new.client
-            × Gives more handle self.old self.new)) }
-        ensures rest { self.new ≡ record self.old {
-          client = self.new.client;
-          numbers = self.new.numbers;
-        } }
-        ensures steps { TakesAtMost 2 self.old.client self.new.client }
+        ensures again { RefersAgain number result self.old self.new }
     {
         let handle = self.handle(number)?;
         let client = self.client.number();
@@ -109,18 +75,7 @@ impl Session {
     pub fn release(&mut self, number: Number, useful: bool, erase_if_last: bool) -> Option<bool>
         requires { IsWhole self.old }
         ensures whole { IsWhole self.new }
-        ensures none { IfNone result (IsNone self.old number × (self.new ≡ self.old)) }
-        ensures released { IfSome result (λ freed. (handle : _)
-            × IsHandle self.old number handle
-            × Releases (arc_value self.old.cache) handle erase_if_last freed
-            self.old.client self.new.client
-            × Ends number self.old self.new) }
-        ensures rest { self.new ≡ record self.old {
-          client = self.new.client;
-          numbers = self.new.numbers;
-        } }
-        ensures steps { TakesAtMost (freeing (arc_value self.old.cache).geometry.slots + 3)
-            self.old.client self.new.client }
+        ensures released { GivesBack number useful erase_if_last result self.old self.new }
     {
         let handle = self.handle(number)?;
         let freed = self
@@ -134,13 +89,7 @@ impl Session {
     pub fn erase(&mut self, key: Key) -> u32
         requires { IsWhole self.old }
         ensures whole { IsWhole self.new }
-        ensures erased { Erases (arc_value self.old.cache) key result
-            self.old.client self.new.client }
-        ensures rest { self.new ≡ record self.old { client = self.new.client } }
-        ensures steps { TakesAtMost
-            ((freeing (arc_value self.old.cache).geometry.slots + 9)
-            * (arc_value self.old.cache).geometry.slots + 2)
-            self.old.client self.new.client }
+        ensures hides { Hides key result self.old self.new }
     {
         self.cache.erase(&mut self.client, key)
     }

@@ -1,11 +1,8 @@
 //! Totals, and words of the cache's shards.
-ghost use Rattle.std.specs.Prelude.{◌≡◌, ◌+◌, ◌*◌, ◌<◌, ◌≤◌, true, false, IfSome, IfNone};
-ghost use Rattle.std.specs.Arc.{arc_value};
-ghost use Rattle.hcc_rule.specs.Told.{Backs};
-ghost use Rattle.hcc_rule.specs.ToldTrails.{passed_held};
-ghost use Rattle.hcc_cache.specs.Calls.{KeepsAll, Reads, TakesAtMost};
-ghost use Rattle.hcc_cache.specs.Clients.{Holds, held_by, view_at};
-ghost use Rattle.hcc_cache.specs.Totals.{charge_by, entries_by, made_by, no_stats, stats_over, taken_by};
+ghost use Rattle.std.specs.Prelude.{◌≡◌, true, false};
+ghost use Rattle.hcc_cache.specs.Clients.{held_by};
+ghost use Rattle.hcc_cache.specs.Totals.{no_stats, stats_over};
+ghost use Rattle.hcc_c.specs.Calls.{TellsDisplacement, TellsOccupancy, TellsPinned, TellsUsage, TellsWord};
 ghost use Rattle.hcc_c.specs.Sessions.{IsHandle, IsNone, IsWhole};
 ghost use Rattle.hcc_c.specs.Shapes.{stats_of};
 
@@ -17,12 +14,7 @@ impl Session {
     pub fn usage(&mut self) -> u64
         requires { IsWhole self.old }
         ensures whole { IsWhole self.new }
-        ensures keeps { KeepsAll (arc_value self.old.cache) self.old.client self.new.client }
-        ensures entries { charge_by self.old.client ≤ result }
-        ensures strict { (arc_value self.old.cache).strict ≡ true
-            → result ≤ self.old.shards * (arc_value self.old.cache).capacity }
-        ensures rest { self.new ≡ record self.old { client = self.new.client } }
-        ensures steps { TakesAtMost self.old.shards self.old.client self.new.client }
+        ensures tells { TellsUsage result self.old self.new }
     {
         self.cache.usage(&mut self.client)
     }
@@ -31,13 +23,7 @@ impl Session {
     pub fn pinned_usage(&mut self) -> u64
         requires { IsWhole self.old }
         ensures whole { IsWhole self.new }
-        ensures keeps { KeepsAll (arc_value self.old.cache) self.old.client self.new.client }
-        ensures entries { charge_by self.old.client ≤ result }
-        ensures alone { (arc_value self.old.cache).geometry.clients ≡ 1
-            → result ≡ charge_by self.old.client }
-        ensures rest { self.new ≡ record self.old { client = self.new.client } }
-        ensures steps { TakesAtMost (self.old.shards * (5 * self.old.slots + 1))
-            self.old.client self.new.client }
+        ensures tells { TellsPinned result self.old self.new }
     {
         self.cache.pinned_usage(&mut self.client)
     }
@@ -46,12 +32,7 @@ impl Session {
     pub fn occupancy(&mut self) -> u64
         requires { IsWhole self.old }
         ensures whole { IsWhole self.new }
-        ensures reads { Reads (arc_value self.old.cache) self.old.client self.new.client }
-        ensures entries { entries_by self.old.client ≤ result }
-        ensures alone { (arc_value self.old.cache).geometry.clients ≡ 1
-            → result + taken_by self.old.client ≡ made_by self.old.client }
-        ensures rest { self.new ≡ record self.old { client = self.new.client } }
-        ensures steps { TakesAtMost self.old.shards self.old.client self.new.client }
+        ensures tells { TellsOccupancy result self.old self.new }
     {
         self.cache.occupancy(&mut self.client)
     }
@@ -60,15 +41,7 @@ impl Session {
     pub fn word(&mut self, shard: u32, slot: u32) -> Option<u64>
         requires { IsWhole self.old }
         ensures whole { IsWhole self.new }
-        ensures none { IfNone result ((shard < self.old.shards) × (slot < self.old.slots) → ⊥) }
-        ensures same { IfNone result (self.new ≡ self.old) }
-        ensures range { IfSome result (λ _.
-            (shard < self.old.shards) × (slot < self.old.slots)) }
-        ensures keeps { KeepsAll (arc_value self.old.cache) self.old.client self.new.client }
-        ensures backs { IfSome result (λ word.
-            Backs slot word (view_at shard self.old.client)) }
-        ensures rest { self.new ≡ record self.old { client = self.new.client } }
-        ensures steps { TakesAtMost 1 self.old.client self.new.client }
+        ensures tells { TellsWord shard slot result self.old self.new }
     {
         if shard < self.shards && slot < self.slots {
             Some(self.cache.word(&mut self.client, shard, slot))
@@ -81,16 +54,7 @@ impl Session {
     pub fn displacement(&mut self, shard: u32, slot: u32) -> Option<u64>
         requires { IsWhole self.old }
         ensures whole { IsWhole self.new }
-        ensures none { IfNone result ((shard < self.old.shards) × (slot < self.old.slots) → ⊥) }
-        ensures same { IfNone result (self.new ≡ self.old) }
-        ensures range { IfSome result (λ _.
-            (shard < self.old.shards) × (slot < self.old.slots)) }
-        ensures keeps { KeepsAll (arc_value self.old.cache) self.old.client self.new.client }
-        ensures entries { IfSome result (λ count.
-            passed_held (arc_value self.old.cache).geometry.slots slot
-            (view_at shard self.old.client).records ≤ count) }
-        ensures rest { self.new ≡ record self.old { client = self.new.client } }
-        ensures steps { TakesAtMost 1 self.old.client self.new.client }
+        ensures tells { TellsDisplacement shard slot result self.old self.new }
     {
         if shard < self.shards && slot < self.slots {
             Some(self.cache.displacement(&mut self.client, shard, slot))
@@ -122,7 +86,8 @@ impl Session {
 
     /// Whether this is the number of a handle that it holds.
     pub fn holds(&self, number: Number) -> bool
-        ensures yes { result ≡ true → (handle : _) × IsHandle self.now number handle }
+        ensures held { result ≡ true → (handle : _) × IsHandle self.now number handle }
+        ensures yes { (handle : _) → IsHandle self.now number handle → result ≡ true }
         ensures no { IsNone self.now number → result ≡ false }
     {
         self.handle(number).is_some()

@@ -1,0 +1,224 @@
+-- What each call of a client comes to: what it answers, and what it leaves of the session.
+use Rattle.std.specs.Prelude.{◌≡◌, ℕ, ◌+◌, ◌*◌, ◌<◌, ◌≤◌, ◌++◌, ◌↔◌, Bool, true, List, Option, Result, Err, IfOk, IfErr, IfSome, IfNone, OnOk, OnErr, IsOk, IsErrOf, IsOkUnless, MatchResult, drop, length}
+use Rattle.std.specs.Arc.{arc_value}
+use Rattle.hcc_rule.specs.declared.key.Key.{Key}
+use Rattle.hcc_rule.specs.Told.{Backs, after_look}
+use Rattle.hcc_rule.specs.ToldTrails.{passed_held}
+use Rattle.hcc_rule.specs.Words.{words_for}
+use Rattle.hcc_table.specs.Steps.{freeing}
+use Rattle.hcc_shard.specs.Inserted.{inserting}
+use Rattle.hcc_cache.specs.declared.errors.InsertError.{InsertError}
+use Rattle.hcc_cache.specs.declared.errors.InsertError.TheVariants as insert
+use Rattle.hcc_cache.specs.declared.errors.LookupError.{LookupError}
+use Rattle.hcc_cache.specs.declared.errors.LookupError.TheVariants as look
+use Rattle.hcc_cache.specs.declared.handle.Handle.{Handle}
+use Rattle.hcc_cache.specs.declared.inserting.Inserted.{Inserted}
+use Rattle.hcc_cache.specs.declared.priority.Priority.{Priority}
+use Rattle.hcc_cache.specs.Calls.{Erases, Finds, GivesUp, KeepsAll, Misses, Reads, Releases, Rerefs, TakesAtMost, Works}
+use Rattle.hcc_cache.specs.Clients.{held_by, held_of, view_at}
+use Rattle.hcc_cache.specs.Inserts.{Inserts, InsertsWith, RefusesWith}
+use Rattle.hcc_cache.specs.Totals.{LoadsUsages, SearchesAll, charge_by, entries_by, made_by, taken_by}
+use Rattle.hcc_c.specs.declared.inserting.Unfit.{Unfit}
+use Rattle.hcc_c.specs.declared.inserting.Unfit.TheVariants as reason
+use Rattle.hcc_c.specs.declared.session.Session.{Session}
+use Rattle.hcc_c.specs.declared.shapes.Number.{Number}
+use Rattle.hcc_c.specs.Sessions.{Ends, Gives, IsHandle, IsNone, any, judged}
+
+-- Nothing of the session changed but what its client knows, and maybe the numbers of its handles.
+abbrev pub KeepsRest : (old new : Session) → Type 0
+KeepsRest old new = new ≡ record old { client = new.client; numbers = new.numbers }
+
+abbrev pub KeepsNumbers : (old new : Session) → Type 0
+KeepsNumbers old new = new ≡ record old { client = new.client }
+
+-- A look-up for a key.
+pub record LooksUp (key : Key) (answer : Result (Option Number) LookupError) (old new : Session)
+    : Type 0 where
+  pub full : IsErrOf answer look.HandlesFull ↔ (held_by old.client ≡ old.client.most)
+  pub spent : IsErrOf answer look.Spent
+      ↔ ((held_by old.client < old.client.most) × (old.client.left ≡ 0))
+  pub refused : OnErr answer (new ≡ old)
+  pub found : IfOk answer (λ o. IfSome o (λ number. (handle : Handle)
+      × Finds (arc_value old.cache) any key handle old.client new.client
+      × Gives number handle old new))
+  pub missed : IfOk answer (λ o. IfNone o (Misses (arc_value old.cache) key old.client new.client
+      × (new.numbers ≡ old.numbers)))
+  pub rest : KeepsRest old new
+  pub steps : TakesAtMost (7 * (arc_value old.cache).geometry.slots) old.client new.client
+
+-- One handle more on the entry of the handle of this number; none where it is that of none.
+pub record RefersAgain (number : Number) (answer : Option (Result Number LookupError))
+    (old new : Session) : Type 0 where
+  pub none : IfNone answer (IsNone old number × (new ≡ old))
+  pub some : IfSome answer (λ _. (handle : Handle) × IsHandle old number handle)
+  pub full : IfSome answer (λ a. IsErrOf a look.HandlesFull
+      ↔ (held_by old.client ≡ old.client.most))
+  pub spent : IfSome answer (λ a. IsErrOf a look.Spent
+      ↔ ((held_by old.client < old.client.most) × (old.client.left ≡ 0)))
+  pub refused : IfSome answer (λ a. OnErr a (new ≡ old))
+  pub again : IfSome answer (λ a. IfOk a (λ more. (was : Handle) × (handle : Handle)
+      × IsHandle old number was
+      × Rerefs (arc_value old.cache) was handle old.client new.client
+      × Gives more handle old new))
+  pub rest : KeepsRest old new
+  pub steps : TakesAtMost 2 old.client new.client
+
+-- The handle of this number is given back; none where it is that of none.
+pub record GivesBack (number : Number) (useful erase : Bool) (answer : Option Bool)
+    (old new : Session) : Type 0 where
+  pub none : IfNone answer (IsNone old number × (new ≡ old))
+  pub released : IfSome answer (λ freed. (handle : Handle) × IsHandle old number handle
+      × Releases (arc_value old.cache) handle erase freed old.client new.client
+      × GivesUp (arc_value old.cache) handle useful erase freed old.client new.client
+      × Ends number old new)
+  pub rest : KeepsRest old new
+  pub steps : TakesAtMost (freeing (arc_value old.cache).geometry.slots + 3)
+      old.client new.client
+
+-- Each visible entry of a key is hidden.
+pub record Hides (key : Key) (hidden : ℕ) (old new : Session) : Type 0 where
+  pub erased : Erases (arc_value old.cache) key hidden old.client new.client
+  pub rest : KeepsNumbers old new
+  pub steps : TakesAtMost ((freeing (arc_value old.cache).geometry.slots + 9)
+      * (arc_value old.cache).geometry.slots + 2) old.client new.client
+
+module _ (key : Key) (charge : ℕ) (priority : Priority) (value : List ℕ) where
+  -- whether the cache is asked for this entry
+  abbrev pub judged_by : Session → Result (Unit {0}) Unfit
+  judged_by session =
+      judged (8 * (arc_value session.cache).geometry.room) (length value) charge
+
+  -- how many steps an insertion takes at most
+  abbrev pub InsertsWithin : (old new : Session) → Type 0
+  InsertsWithin old new = TakesAtMost (inserting (arc_value old.cache).geometry.slots
+      (arc_value old.cache).geometry.room) old.client new.client
+
+  -- An insertion without a handle.
+  pub record Puts (answer : Result (Result Inserted InsertError) Unfit) (old new : Session)
+      : Type 0 where
+    pub unfit : IfErr (judged_by old) (λ why. (answer ≡ Err why) × (new ≡ old))
+    pub fit : OnOk (judged_by old) (IsOk answer)
+    pub spent : IfOk answer (λ a. IsErrOf a insert.Spent ↔ (old.client.left ≡ 0))
+    pub large : IfOk answer (λ a. IsErrOf a insert.TooLarge
+        ↔ ((0 < old.client.left) × ((arc_value old.cache).strict ≡ true)
+        × ((arc_value old.cache).capacity < charge)))
+    pub inserted : IfOk answer (λ a.
+        Inserts (arc_value old.cache) key charge priority value a old.client new.client)
+    pub rest : KeepsNumbers old new
+    pub steps : InsertsWithin old new
+
+  -- An insertion with a handle.
+  pub record PutsPinned (answer : Result (Result (Number × Inserted) InsertError) Unfit)
+      (old new : Session) : Type 0 where
+    pub unfit : IfErr (judged_by old) (λ why. (answer ≡ Err why) × (new ≡ old))
+    pub memory : OnOk (judged_by old) (IsOkUnless answer reason.OutOfMemory)
+    pub nothing : OnErr answer (new ≡ old)
+    pub full : IfOk answer (λ a. IsErrOf a insert.HandlesFull
+        ↔ (held_by old.client ≡ old.client.most))
+    pub spent : IfOk answer (λ a. IsErrOf a insert.Spent
+        ↔ ((held_by old.client < old.client.most) × (old.client.left ≡ 0)))
+    pub large : IfOk answer (λ a. IsErrOf a insert.TooLarge
+        ↔ ((held_by old.client < old.client.most) × (0 < old.client.left)
+        × ((arc_value old.cache).strict ≡ true)
+        × ((arc_value old.cache).capacity < charge)))
+    pub inserted : IfOk answer (λ a. MatchResult a
+        (λ made. (handle : Handle)
+        × InsertsWith (arc_value old.cache) key charge priority value handle made.1
+        old.client new.client
+        × Gives made.0 handle old new)
+        (λ why. RefusesWith (arc_value old.cache) key charge priority value why
+        old.client new.client
+        × (new.numbers ≡ old.numbers)))
+    pub rest : KeepsRest old new
+    pub steps : InsertsWithin old new
+
+-- The key of the handle of this number is told; none where it is that of none.
+pub record TellsKey (number : Number) (answer : Option Key) (old new : Session) : Type 0 where
+  pub none : IfNone answer (IsNone old number)
+  pub exact : IfSome answer (λ key. (handle : Handle) × IsHandle old number handle
+      × IfSome (held_of (arc_value old.cache) old.client handle) (λ held.
+      key ≡ held.insertion.key))
+  pub same : new ≡ old
+
+-- And the length of its value.
+pub record TellsLength (number : Number) (answer : Option ℕ) (old new : Session) : Type 0 where
+  pub none : IfNone answer (IsNone old number × (new ≡ old))
+  pub exact : IfSome answer (λ len. (handle : Handle) × IsHandle old number handle
+      × IfSome (held_of (arc_value old.cache) old.client handle) (λ held.
+      len ≡ length held.insertion.value))
+  pub reads : IfSome answer (λ _. Reads (arc_value old.cache) old.client new.client)
+  pub rest : KeepsNumbers old new
+  pub steps : TakesAtMost 1 old.client new.client
+
+-- The value itself is copied to the front of a buffer, if it isn't longer.
+pub record ReadsValue (number : Number) (answer : Option (Result ℕ ℕ)) (before after : List ℕ)
+    (old new : Session) : Type 0 where
+  pub none : IfNone answer (IsNone old number × (new ≡ old) × (after ≡ before))
+  pub read : IfSome answer (λ a. IfOk a (λ len. (handle : Handle) × IsHandle old number handle
+      × IfSome (held_of (arc_value old.cache) old.client handle) (λ held.
+      (len ≡ length held.insertion.value)
+      × (after ≡ held.insertion.value ++ drop len before))))
+  pub short : IfSome answer (λ a. IfErr a (λ len. (handle : Handle)
+      × IsHandle old number handle
+      × IfSome (held_of (arc_value old.cache) old.client handle) (λ held.
+      len ≡ length held.insertion.value)
+      × (length before < len) × (after ≡ before)))
+  pub reads : IfSome answer (λ _. Reads (arc_value old.cache) old.client new.client)
+  pub rest : KeepsNumbers old new
+  pub steps : IfSome answer (λ a. IfOk a (λ len.
+      TakesAtMost (words_for len + 2) old.client new.client))
+  pub few : IfSome answer (λ a. IfErr a (λ len. TakesAtMost 1 old.client new.client))
+
+-- What is charged in all shards.
+pub record TellsUsage (usage : ℕ) (old new : Session) : Type 0 where
+  pub keeps : KeepsAll (arc_value old.cache) old.client new.client
+  pub views : LoadsUsages old.client new.client
+  pub entries : charge_by old.client ≤ usage
+  pub strict : (arc_value old.cache).strict ≡ true
+      → usage ≤ old.shards * (arc_value old.cache).capacity
+  pub rest : KeepsNumbers old new
+  pub steps : TakesAtMost old.shards old.client new.client
+
+-- What is charged for entries that are held, and for standalone ones.
+pub record TellsPinned (usage : ℕ) (old new : Session) : Type 0 where
+  pub keeps : KeepsAll (arc_value old.cache) old.client new.client
+  pub views : SearchesAll old.client new.client
+  pub entries : charge_by old.client ≤ usage
+  pub alone : (arc_value old.cache).geometry.clients ≡ 1 → usage ≡ charge_by old.client
+  pub rest : KeepsNumbers old new
+  pub steps : TakesAtMost (old.shards * (5 * old.slots + 1)) old.client new.client
+
+-- How many entries all shards have.
+pub record TellsOccupancy (occupancy : ℕ) (old new : Session) : Type 0 where
+  pub reads : Reads (arc_value old.cache) old.client new.client
+  pub entries : entries_by old.client ≤ occupancy
+  pub alone : (arc_value old.cache).geometry.clients ≡ 1
+      → occupancy + taken_by old.client ≡ made_by old.client
+  pub rest : KeepsNumbers old new
+  pub steps : TakesAtMost old.shards old.client new.client
+
+module _ (shard slot : ℕ) where
+  -- the cache has this shard, and the shard this slot
+  abbrev pub IsInRange : Session → Type 0
+  IsInRange session = (shard < session.shards) × (slot < session.slots)
+
+  -- The meta word of a slot; none where there is no such slot.
+  pub record TellsWord (answer : Option ℕ) (old new : Session) : Type 0 where
+    pub none : IfNone answer ((¬ IsInRange old) × (new ≡ old))
+    pub range : IfSome answer (λ _. IsInRange old)
+    pub keeps : KeepsAll (arc_value old.cache) old.client new.client
+    pub view : IfSome answer (λ word. Works shard old.client new.client
+        (view_at shard old.client) (after_look slot word (view_at shard old.client)))
+    pub backs : IfSome answer (λ word. Backs slot word (view_at shard old.client))
+    pub rest : KeepsNumbers old new
+    pub steps : TakesAtMost 1 old.client new.client
+
+  -- How often a slot stands in trails; none where there is no such slot.
+  pub record TellsDisplacement (answer : Option ℕ) (old new : Session) : Type 0 where
+    pub none : IfNone answer ((¬ IsInRange old) × (new ≡ old))
+    pub range : IfSome answer (λ _. IsInRange old)
+    pub reads : IfSome answer (λ _. Reads (arc_value old.cache) old.client new.client)
+    pub entries : IfSome answer (λ count. passed_held (arc_value old.cache).geometry.slots slot
+        (view_at shard old.client).records ≤ count)
+    pub rest : KeepsNumbers old new
+    pub steps : TakesAtMost 1 old.client new.client
