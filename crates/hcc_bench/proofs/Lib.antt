@@ -1,0 +1,6 @@
+pub mod Drawing
+pub mod Keeping
+pub mod Lists
+pub mod Measuring
+pub mod Texts
+pub mod Weights

@@ -1,0 +1,15 @@
+-- The names of cases.
+use Rattle.std.specs.Prelude.{ℕ, List, codes}
+use Rattle.hcc_bench.specs.declared.case.Case.{Case}
+use Rattle.hcc_bench.specs.declared.case.Case.TheVariants.{HitsZipf, HitsUniform, Mix, Evict, Pinned, Misses, Hot, BlocksSeeded, BlocksUnseeded}
+
+abbrev pub name_of : Case → List ℕ
+name_of HitsZipf = codes "hits-zipf"
+name_of HitsUniform = codes "hits-uniform"
+name_of Mix = codes "mix"
+name_of Evict = codes "evict"
+name_of Pinned = codes "pinned"
+name_of Misses = codes "misses"
+name_of Hot = codes "hot"
+name_of BlocksSeeded = codes "blocks-seeded"
+name_of BlocksUnseeded = codes "blocks-unseeded"

@@ -1,0 +1,16 @@
+pub mod Books
+pub mod Cases
+pub mod Counts
+pub mod Crews
+pub mod Draws
+pub mod Keepers
+pub mod Keys
+pub mod Lines
+pub mod Lists
+pub mod Options
+pub mod Plans
+pub mod Rows
+pub mod Sizes
+pub mod Stages
+pub mod Status
+pub mod Workers

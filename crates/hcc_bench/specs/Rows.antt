@@ -1,0 +1,35 @@
+-- What is measured, and what a row tells of it.
+use Rattle.std.specs.Prelude.{◌≡◌, ℕ, ◌*◌, ◌+◌, ◌≤◌, true}
+use Rattle.hcc_cache.specs.Configs.{is_within}
+use Rattle.hcc_bench.specs.declared.case.Case.{Case}
+use Rattle.hcc_bench.specs.declared.case.Case.TheVariants.{HitsZipf, HitsUniform, Mix, Evict, Pinned, Misses, Hot, BlocksSeeded, BlocksUnseeded}
+use Rattle.hcc_bench.specs.declared.limits.TheConstants.{MOST_SIZE, MOST_THREADS, MOST_NANOSECONDS}
+use Rattle.hcc_bench.specs.declared.measure.Row.{Row}
+use Rattle.hcc_bench.specs.declared.measure.Setting.{Setting}
+use Rattle.hcc_bench.specs.declared.options.Options.{Options}
+use Rattle.hcc_bench.specs.Books.{Agree}
+
+-- Of a setting, values and threads are as many as may be.
+pub record IsSetting (s : Setting) : Type 0 where
+  pub size : is_within 1 MOST_SIZE s.size ≡ true
+  pub threads : is_within 1 MOST_THREADS s.threads ≡ true
+
+-- how many look-ups so many operations of a case make
+abbrev pub lookups_in : Case → (operations : ℕ) → ℕ
+lookups_in HitsZipf operations = operations
+lookups_in HitsUniform operations = operations
+lookups_in Mix operations = operations
+lookups_in Evict operations = 0
+lookups_in Pinned operations = 0
+lookups_in Misses operations = operations
+lookups_in Hot operations = operations
+lookups_in BlocksSeeded operations = operations
+lookups_in BlocksUnseeded operations = operations
+
+-- A row tells of this setting. Each look-up is a hit or a miss, and the books agree.
+pub record IsRow (o : Options) (s : Setting) (row : Row) : Type 0 where
+  pub setting_is : row.setting ≡ s
+  pub operations : row.operations ≡ o.operations * s.threads
+  pub counted : row.counts.hits + row.counts.misses ≡ lookups_in s.case row.operations
+  pub agree : Agree row.books
+  pub busy : row.counts.busy ≤ s.threads * MOST_NANOSECONDS
