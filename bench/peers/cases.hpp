@@ -1,0 +1,224 @@
+// cases.hpp - what is measured: each case fills a cache, and then each of its threads makes so many
+// operations on it.
+#ifndef PEERS_CASES_HPP
+#define PEERS_CASES_HPP
+
+#include "caches.hpp"
+
+#include <algorithm>
+#include <atomic>
+#include <chrono>
+#include <cmath>
+#include <cstdint>
+#include <string>
+#include <thread>
+#include <vector>
+
+namespace peers {
+
+enum class kind { hits, misses, mix, evict, pinned, hot };
+
+struct named_case {
+    const char *name;
+    kind is;
+};
+
+constexpr named_case all_cases[] = {
+    {"hits-uniform", kind::hits}, {"misses", kind::misses}, {"mix", kind::mix},
+    {"evict", kind::evict},       {"pinned", kind::pinned}, {"hot", kind::hot},
+};
+
+// What came of a round: all threads' operations, and the seconds from the first to the last.
+struct outcome {
+    std::uint64_t operations = 0;
+    std::uint64_t hits = 0;
+    std::uint64_t misses = 0;
+    double seconds = 0;
+};
+
+// A generator of the splitmix family: the same numbers in every run.
+class numbers {
+  public:
+    explicit numbers(std::uint64_t seed) : state_(seed) {}
+    std::uint64_t next() {
+        state_ += 0x9e3779b97f4a7c15;
+        std::uint64_t z = state_;
+        z = (z ^ (z >> 30)) * 0xbf58476d1ce4e5b9;
+        z = (z ^ (z >> 27)) * 0x94d049bb133111eb;
+        return z ^ (z >> 31);
+    }
+    double fraction() { return static_cast<double>(next() >> 11) * 0x1p-53; }
+
+  private:
+    std::uint64_t state_;
+};
+
+// The key of a block: which file, and which of its blocks.
+inline ferretgold_key key_of(std::uint64_t file, std::uint64_t block) { return {file, block}; }
+
+// The key numbers that a thread asks for, drawn beforehand. They come round.
+class draws {
+  public:
+    static constexpr std::size_t count = std::size_t{1} << 16;
+
+    static draws uniform(std::uint64_t seed, std::uint32_t keys) {
+        numbers random(seed);
+        draws made;
+        for (std::uint32_t &draw : made.drawn_) {
+            draw = static_cast<std::uint32_t>(random.next() % keys);
+        }
+        return made;
+    }
+
+    // The k-th key with a weight of k^-0.99, and keys of like weight apart from one another.
+    static draws zipf(std::uint64_t seed, std::uint32_t keys) {
+        std::vector<double> sums(keys);
+        double sum = 0;
+        for (std::uint32_t k = 0; k < keys; ++k) {
+            sum += std::pow(k + 1.0, -0.99);
+            sums[k] = sum;
+        }
+        numbers random(seed);
+        draws made;
+        for (std::uint32_t &draw : made.drawn_) {
+            auto at = std::lower_bound(sums.begin(), sums.end(), random.fraction() * sum);
+            auto rank = std::min<std::size_t>(at - sums.begin(), keys - 1);
+            draw = static_cast<std::uint32_t>(rank);
+        }
+        return made;
+    }
+
+    std::uint32_t operator[](std::uint64_t number) const { return drawn_[number % count]; }
+
+  private:
+    draws() : drawn_(count) {}
+    std::vector<std::uint32_t> drawn_;
+};
+
+// The file numbers that keys are of: of entries that are there, of those that never are, and of new
+// ones, a file for each thread.
+constexpr std::uint64_t loaded_file = 1;
+constexpr std::uint64_t absent_file = 2;
+constexpr std::uint64_t first_new_file = 3;
+
+// A cache under one case: filled once, and then played on for as many rounds as are asked for.
+template <class Cache> class bench {
+  public:
+    bench(kind is, const sizes &sizes)
+        : is_(is), sizes_(sizes), value_(sizes.value_size, 0x5a), cache_(sizes) {
+        for (std::uint32_t thread = 0; thread < sizes.threads; ++thread) {
+            readers_.emplace_back(cache_, sizes);
+            draws_.push_back(is == kind::mix ? draws::zipf(thread, 4 * sizes.capacity)
+                                             : draws::uniform(thread, loaded()));
+        }
+        next_.assign(sizes.threads, 0);
+        fill();
+    }
+
+    // Each thread makes so many operations, all at once.
+    outcome play(std::uint64_t operations) {
+        std::vector<outcome> parts(sizes_.threads);
+        std::atomic<std::uint32_t> waiting{sizes_.threads};
+        std::vector<std::thread> threads;
+        std::vector<clock::time_point> begun(sizes_.threads), ended(sizes_.threads);
+        for (std::uint32_t thread = 0; thread < sizes_.threads; ++thread) {
+            threads.emplace_back([&, thread] {
+                std::vector<std::uint8_t> buffer(sizes_.value_size);
+                waiting.fetch_sub(1);
+                while (waiting.load() != 0) {
+                }
+                begun[thread] = clock::now();
+                parts[thread] = work(thread, operations, buffer.data());
+                ended[thread] = clock::now();
+            });
+        }
+        for (std::thread &thread : threads) {
+            thread.join();
+        }
+        outcome all;
+        for (const outcome &part : parts) {
+            all.operations += part.operations;
+            all.hits += part.hits;
+            all.misses += part.misses;
+        }
+        all.seconds = std::chrono::duration<double>(*std::max_element(ended.begin(), ended.end()) -
+                                                    *std::min_element(begun.begin(), begun.end()))
+                          .count();
+        return all;
+    }
+
+  private:
+    using clock = std::chrono::steady_clock;
+
+    // How many entries are there to be hit: half of the capacity, so that all have a place.
+    std::uint32_t loaded() const { return is_ == kind::hot ? 1 : sizes_.capacity / 2; }
+
+    void fill() {
+        switch (is_) {
+        case kind::hits:
+        case kind::misses:
+        case kind::hot:
+            for (std::uint32_t number = 0; number < loaded(); ++number) {
+                readers_[0].insert(key_of(loaded_file, number), value_.data());
+            }
+            break;
+        case kind::mix:
+        case kind::evict:
+            (void)play(2 * sizes_.slots / sizes_.threads);
+            break;
+        case kind::pinned:
+            for (std::uint32_t number = 0; number < sizes_.capacity; ++number) {
+                readers_[number % sizes_.threads].pin(key_of(loaded_file, number), value_.data());
+            }
+            break;
+        }
+    }
+
+    outcome work(std::uint32_t thread, std::uint64_t operations, std::uint8_t *buffer) {
+        typename Cache::reader &reader = readers_[thread];
+        const draws &drawn = draws_[thread];
+        std::uint64_t first = next_[thread];
+        outcome made;
+        made.operations = operations;
+        for (std::uint64_t number = first; number < first + operations; ++number) {
+            switch (is_) {
+            case kind::hits:
+            case kind::hot:
+                made.hits += reader.read(key_of(loaded_file, drawn[number]), buffer);
+                break;
+            case kind::misses:
+                made.hits += reader.read(key_of(absent_file, drawn[number]), buffer);
+                break;
+            case kind::mix: {
+                ferretgold_key key = key_of(loaded_file, drawn[number]);
+                if (reader.read(key, buffer)) {
+                    ++made.hits;
+                } else {
+                    reader.insert(key, value_.data());
+                }
+                break;
+            }
+            case kind::evict:
+            case kind::pinned:
+                reader.insert(key_of(first_new_file + thread, number), value_.data());
+                break;
+            }
+        }
+        next_[thread] = first + operations;
+        bool reads = is_ != kind::evict && is_ != kind::pinned;
+        made.misses = reads ? operations - made.hits : 0;
+        return made;
+    }
+
+    kind is_;
+    sizes sizes_;
+    std::vector<std::uint8_t> value_;
+    Cache cache_;
+    std::vector<typename Cache::reader> readers_;
+    std::vector<draws> draws_;
+    std::vector<std::uint64_t> next_;
+};
+
+} // namespace peers
+
+#endif

@@ -1,0 +1,214 @@
+// peers.cpp - plays the same operations on this project's cache and on RocksDB's, in turns, and
+// prints a JSON line for each round of each.
+//
+//   peers [--case NAME]... [--cache NAME]... [--value-size N]... [--threads N]...
+//         [--shards N] [--rounds N] [--operations N]
+//
+// An option that is left out stands for all there are. Each thread makes as many operations a round
+// as --operations says; by 0, the default, as many as take the first cache 40 ms, or another 200 ms.
+#include "cases.hpp"
+
+#include <algorithm>
+#include <cinttypes>
+#include <memory>
+
+#ifndef PEERS_BUILD
+#define PEERS_BUILD "unknown"
+#endif
+
+namespace {
+
+using namespace peers;
+
+constexpr std::uint32_t slots = 1 << 14;
+constexpr double round_seconds = 0.04;
+// A slower cache may take so many times as long.
+constexpr std::uint64_t longest = 5;
+constexpr std::uint64_t first_guess = 100;
+
+struct options {
+    std::vector<std::string> cases;
+    std::vector<std::string> caches;
+    std::vector<std::uint64_t> value_sizes;
+    std::vector<std::uint64_t> threads;
+    std::uint64_t shards = 1;
+    std::uint64_t rounds = 7;
+    std::uint64_t operations = 0;
+};
+
+[[noreturn]] void stop(const std::string &why) {
+    std::fprintf(stderr, "peers: %s\n", why.c_str());
+    std::exit(2);
+}
+
+std::uint64_t number_of(const std::string &word, std::uint64_t least, std::uint64_t most) {
+    char *end = nullptr;
+    std::uint64_t number = std::strtoull(word.c_str(), &end, 10);
+    if (word.empty() || *end != '\0' || number < least || number > most) {
+        stop("'" + word + "' is no number from " + std::to_string(least) + " to " +
+             std::to_string(most));
+    }
+    return number;
+}
+
+// How many words of 8 bytes a value has.
+std::uint64_t number_of_words(const std::string &word) {
+    std::uint64_t bytes = number_of(word, 8, 4096);
+    if (bytes % 8 != 0) {
+        stop("'" + word + "' is no multiple of 8");
+    }
+    return bytes / 8;
+}
+
+std::uint64_t power_of_two(const std::string &word, std::uint64_t most) {
+    std::uint64_t number = number_of(word, 1, most);
+    if ((number & (number - 1)) != 0) {
+        stop("'" + word + "' is no power of two");
+    }
+    return number;
+}
+
+options options_of(int count, char **words) {
+    options asked;
+    for (int at = 1; at + 1 < count; at += 2) {
+        std::string name = words[at], word = words[at + 1];
+        if (name == "--case") {
+            asked.cases.push_back(word);
+        } else if (name == "--cache") {
+            asked.caches.push_back(word);
+        } else if (name == "--value-size") {
+            asked.value_sizes.push_back(8 * number_of_words(word));
+        } else if (name == "--threads") {
+            asked.threads.push_back(number_of(word, 1, 64));
+        } else if (name == "--shards") {
+            asked.shards = power_of_two(word, 64);
+        } else if (name == "--rounds") {
+            asked.rounds = number_of(word, 1, 1000);
+        } else if (name == "--operations") {
+            asked.operations = number_of(word, 0, 1'000'000'000);
+        } else {
+            stop("there is no option " + name);
+        }
+    }
+    if (count % 2 == 0) {
+        stop(std::string(words[count - 1]) + " lacks its value");
+    }
+    return asked;
+}
+
+template <class Word> bool is_asked(const std::vector<Word> &asked, const Word &word) {
+    return asked.empty() || std::find(asked.begin(), asked.end(), word) != asked.end();
+}
+
+// A cache under a case, whichever it is.
+struct player {
+    virtual ~player() = default;
+    virtual outcome play(std::uint64_t operations) = 0;
+    std::string name;
+};
+
+template <class Cache> struct player_of : player {
+    player_of(kind is, const sizes &sizes) : bench_(is, sizes) { name = Cache::name(); }
+    outcome play(std::uint64_t operations) override { return bench_.play(operations); }
+
+  private:
+    bench<Cache> bench_;
+};
+
+template <class Cache>
+void add(std::vector<std::unique_ptr<player>> &players, const options &asked, kind is,
+         const sizes &sizes) {
+    if (is_asked(asked.caches, Cache::name())) {
+        players.push_back(std::make_unique<player_of<Cache>>(is, sizes));
+    }
+}
+
+// How many operations take a cache as long as a round should.
+std::uint64_t operations_of(player &of) {
+    std::uint64_t operations = first_guess;
+    for (;;) {
+        double seconds = of.play(operations).seconds;
+        if (seconds > round_seconds / 4) {
+            return std::max<std::uint64_t>(
+                1, static_cast<std::uint64_t>(static_cast<double>(operations) * round_seconds /
+                                              seconds));
+        }
+        operations *= 2;
+    }
+}
+
+// The same for all of them, where no round should take any of them much longer.
+std::uint64_t operations_of(const std::vector<std::unique_ptr<player>> &players) {
+    std::uint64_t operations = operations_of(*players.front());
+    for (const std::unique_ptr<player> &it : players) {
+        operations = std::min(operations, longest * operations_of(*it));
+    }
+    return operations;
+}
+
+void print(const player &of, const char *case_name, const sizes &sizes, std::uint64_t round,
+           const outcome &made) {
+    double operations = static_cast<double>(made.operations);
+    std::printf("{\"cache\":\"%s\",\"build\":\"%s\",\"case\":\"%s\",\"value_size\":%" PRIu32
+                ",\"threads\":%" PRIu32 ",\"shards\":%" PRIu32 ",\"round\":%" PRIu64
+                ",\"operations\":%" PRIu64 ",\"seconds\":%.6f,\"operations_per_second\":%.0f,"
+                "\"nanoseconds_per_operation\":%.2f,\"hits\":%" PRIu64 ",\"misses\":%" PRIu64
+                "}\n",
+                of.name.c_str(), of.name == ferret::name() ? "proved" : PEERS_BUILD, case_name,
+                sizes.value_size, sizes.threads, sizes.shards, round, made.operations,
+                made.seconds, operations / made.seconds,
+                made.seconds * 1e9 * sizes.threads / operations, made.hits, made.misses);
+}
+
+void compare(const options &asked, const named_case &of, const sizes &sizes) {
+    std::vector<std::unique_ptr<player>> players;
+    add<ferret>(players, asked, of.is, sizes);
+    add<hyper_clock>(players, asked, of.is, sizes);
+    add<lru>(players, asked, of.is, sizes);
+    if (players.empty()) {
+        stop("there is no such cache");
+    }
+    std::uint64_t operations =
+        asked.operations != 0 ? asked.operations : operations_of(players);
+    for (std::uint64_t round = 0; round < asked.rounds; ++round) {
+        for (const std::unique_ptr<player> &it : players) {
+            print(*it, of.name, sizes, round, it->play(operations));
+        }
+    }
+    std::fflush(stdout);
+}
+
+} // namespace
+
+int main(int count, char **words) {
+    options asked = options_of(count, words);
+    if (asked.value_sizes.empty()) {
+        asked.value_sizes = {16, 256, 4096};
+    }
+    if (asked.threads.empty()) {
+        asked.threads = {1, 2, 4};
+    }
+    bool is_known = false;
+    for (const named_case &of : all_cases) {
+        if (!is_asked(asked.cases, std::string(of.name))) {
+            continue;
+        }
+        is_known = true;
+        for (std::uint64_t value_size : asked.value_sizes) {
+            for (std::uint64_t threads : asked.threads) {
+                sizes sizes{};
+                sizes.slots = slots;
+                sizes.shards = static_cast<std::uint32_t>(asked.shards);
+                sizes.capacity = slots * 7 / 10;
+                sizes.value_size = static_cast<std::uint32_t>(value_size);
+                sizes.threads = static_cast<std::uint32_t>(threads);
+                sizes.handles = slots;
+                compare(asked, of, sizes);
+            }
+        }
+    }
+    if (!is_known) {
+        stop("there is no such case");
+    }
+    return 0;
+}
