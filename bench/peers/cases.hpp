@@ -70,7 +70,7 @@ class draws {
         return made;
     }
 
-    // The k-th key with a weight of k^-0.99, and keys of like weight apart from one another.
+    // The k-th key with a weight of k^-0.99.
     static draws zipf(std::uint64_t seed, std::uint32_t keys) {
         std::vector<double> sums(keys);
         double sum = 0;

@@ -51,13 +51,13 @@ std::uint64_t number_of(const std::string &word, std::uint64_t least, std::uint6
     return number;
 }
 
-// How many words of 8 bytes a value has.
-std::uint64_t number_of_words(const std::string &word) {
+// How many bytes a value has: those of whole words.
+std::uint64_t value_size_of(const std::string &word) {
     std::uint64_t bytes = number_of(word, 8, 4096);
     if (bytes % 8 != 0) {
         stop("'" + word + "' is no multiple of 8");
     }
-    return bytes / 8;
+    return bytes;
 }
 
 std::uint64_t power_of_two(const std::string &word, std::uint64_t most) {
@@ -77,7 +77,7 @@ options options_of(int count, char **words) {
         } else if (name == "--cache") {
             asked.caches.push_back(word);
         } else if (name == "--value-size") {
-            asked.value_sizes.push_back(8 * number_of_words(word));
+            asked.value_sizes.push_back(value_size_of(word));
         } else if (name == "--threads") {
             asked.threads.push_back(number_of(word, 1, 64));
         } else if (name == "--shards") {
