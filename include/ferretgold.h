@@ -1,12 +1,13 @@
 /*
  * ferretgold.h - a block cache of fixed slots for many threads, without locks.
  *
- * A cache has keys of 16 bytes, values of bytes, charges and priorities. Its memory is taken when it
+ * A cache has keys of 16 bytes, values of bytes, charges and priorities. Its table is taken when it
  * is opened. Each call returns after a stated number of atomic steps at most, whatever other threads
- * do. What the calls do is proved; docs/CACHE.md tells it at length, and how to choose the sizes.
+ * do. What the calls do is proved; docs/CACHE.md tells it at length, and how to choose the sizes. The
+ * header is for C11, C++11 and later.
  *
  *     ferretgold_config config = { .slots = 1024, .room = 512, .clients = 2, .handles = 16,
- *                                  .shards = 2, .capacity = 4 << 20, .strict = true,
+ *                                  .shards = 2, .strict = true, .capacity = 4 << 20,
  *                                  .serials = FERRETGOLD_MOST_SERIALS, .seed = 0x5eed };
  *     ferretgold_cache *cache;
  *     ferretgold_client *client;
@@ -19,8 +20,8 @@
  * OBJECTS AND THREADS
  *   A cache is opened with all its clients. A thread works through a client that
  *   ferretgold_client_open gave out, and gives it back by ferretgold_client_close.
- *   - A client is used by one thread at a time. It may go from thread to thread, if a lock, a join
- *     or the like orders the calls.
+ *   - A client is used by one thread at a time. It may go from thread to thread, if a lock, a
+ *     thread's start or join, or a sequentially consistent atomic orders the calls.
  *   - All clients of a cache may be used at the same time.
  *   - The cache's own calls (ferretgold_open, _client_open, _client_close, _close) are made by one
  *     thread at a time. Other threads may work with other clients meanwhile.
@@ -34,19 +35,21 @@
  *   keeps them apart.
  *
  * REFUSALS
- *   A call that returns FERRETGOLD_OK did what it says. A call that returns anything else changed
- *   nothing: no object, and nothing that a pointer of the caller's points to, but where it says so.
+ *   A call that returns FERRETGOLD_OK did what it says. A call that refuses changed nothing: no
+ *   object, and nothing that a pointer of the caller's points to, but where it says so.
  *   The first refusal that is due is told, in the order in which each call lists them; before them
  *   all comes FERRETGOLD_NULL, where a pointer is null that may not be.
  *
  * NOT CHECKED
  *   No call can tell that a pointer dangles (to a client or a cache that was closed, or to fewer
- *   bytes than were said), that an output overlaps another argument, or that two threads are in one
- *   client, or in one cache's own calls. Then behaviour is undefined.
+ *   bytes than were said), that an output overlaps another argument, that a bool is neither 0 nor 1
+ *   (set each field of a config), or that two threads are in one client, or in one cache's own calls.
+ *   Then behaviour is undefined.
  *
  * COSTS
  *   L stands for the slots of a shard, W for the payload words of a slot, S for the shards. Bounds
- *   are atomic steps, at most. Calls take no memory but where it is said.
+ *   are atomic steps on the cache's words, at most. Calls neither take memory nor give it back but
+ *   where it is said; what malloc and free cost there, which may wait for other threads, comes on top.
  *
  * The calls are inline functions: each looks for null pointers, and hands the rest to the library.
  * Other languages declare the functions of the library themselves (ferretgold_raw_*, at the end);
@@ -144,7 +147,8 @@ typedef struct ferretgold_config {
     bool strict;       /* whether charges stay within the capacity, and insertions may be refused */
     bool marks;        /* whether look-ups mark entries, for evicted_hit of the statistics */
     uint64_t capacity; /* in charges, at most 2^40; each shard has an equal part, rounded up */
-    uint64_t serials;  /* of each client: 1 to 2^54; each insertion and each handle uses one */
+    uint64_t serials;  /* of each client: 1 to 2^54; an insertion uses one, and so does a handle that
+                          ferretgold_lookup or ferretgold_reref gives */
     uint64_t seed;     /* of the keys; 0 only where keys are spread already, as hashes are */
 } ferretgold_config;
 
@@ -196,8 +200,8 @@ typedef struct ferretgold_object {
     void *at;
 } ferretgold_object;
 
-/* None of these pointers is null, but for outputs of length 0. A value of length 0 has a pointer
- * that isn't null. `home` is the address of the cache's object in both calls that take it. */
+/* None of these pointers is null, also where a length is 0. `home` is the address of the cache's
+ * object in both calls that take it. */
 uint32_t ferretgold_raw_open(const ferretgold_config *config, ferretgold_object *cache);
 uint32_t ferretgold_raw_client_open(ferretgold_object *cache, size_t home,
                                     ferretgold_object *client);
@@ -250,8 +254,9 @@ static inline ferretgold_object ferretgold_object_of(void *at) {
 /*
  * Opens a cache with no entries, and with all its clients, of which none is out yet.
  *
- * Takes all memory that look-ups and insertions will use: for each slot 56 bytes and its room, for
- * each client some 100 bytes for each handle that it may hold. Costs a store for each word.
+ * Takes the memory of the table and of all clients: for each slot 56 bytes and its room, for each
+ * client some 100 bytes for each handle that it may hold. ferretgold_client_open and
+ * ferretgold_insert_pinned take more. Costs a store for each word.
  *
  * Refuses BAD_SLOTS, BAD_ROOM, BAD_CLIENTS, BAD_HANDLES, BAD_SHARDS, BAD_CAPACITY, BAD_SERIALS,
  * then OUT_OF_MEMORY. Nothing remains then.
@@ -316,7 +321,8 @@ static inline ferretgold_status ferretgold_client_close(ferretgold_cache *cache,
  *
  * A cache of which a client was lost can't be closed: it stays.
  *
- * Costs a load for each client and shard, and two for each slot.
+ * Costs a load for each client and shard, two for each shard and for each slot, and one for each
+ * entry that is left.
  *
  * Refuses MISSING. After a refusal the cache works on.
  */
@@ -338,7 +344,8 @@ static inline ferretgold_status ferretgold_close(ferretgold_cache *cache,
 
 /*
  * Looks for a visible entry of the key. FERRETGOLD_OK: the client has a handle on it, and a serial
- * is used. FERRETGOLD_MISS: there was none that the client could see; nothing is changed.
+ * is used. FERRETGOLD_MISS: there was none that the client could see; nothing is changed but the
+ * client's statistics.
  *
  * Never gives an entry that this client saw erased. Costs at a first hit a load, an add and two
  * loads. Bound: 7*L.
@@ -386,8 +393,8 @@ static inline ferretgold_status ferretgold_reref(ferretgold_client *client,
 /*
  * Gives a handle back: as a use of its entry where `useful`, which is what keeps entries that are
  * read. Where it was the last reference, and the entry was erased or `erase_if_last`, one try is
- * made to free the entry. A standalone entry goes with its last handle. `freed` tells whether this
- * call freed an entry; it may be null.
+ * made to free the entry. A standalone entry goes with its last handle, and its copy by free. `freed`
+ * tells whether this call freed an entry; it may be null.
  *
  * Costs an add or a take; where it frees, a few steps and one for each slot of the entry's trail.
  * Bound: L + 8.
@@ -460,10 +467,12 @@ static inline ferretgold_status ferretgold_insert(ferretgold_client *client,
  * Inserts an entry of this key, value and charge, and gives a handle on it. PLACED: it is in the
  * table. STANDALONE: it isn't, for one of the reasons that ferretgold_insert drops one for; look-ups
  * don't find it, its charge is in the usage, and it goes with its last handle. `value` may be null
- * where `length` is 0, and `inserted` may be null.
+ * where `length` is 0, and `inserted` may be null. Uses one serial, also where it is refused by the
+ * last two.
  *
- * Takes memory for a copy of the value, which a standalone entry keeps. Costs what ferretgold_insert
- * costs, and where the entry stands alone one step more. Bound: the same.
+ * Takes memory for a copy of the value by malloc, and gives it back by free unless the entry stands
+ * alone, which keeps it. Costs what ferretgold_insert costs, the copy, and where no place was found
+ * two adds more. Bound: the same.
  *
  * Refuses BAD_PRIORITY, NO_CHARGE, TOO_LONG, OUT_OF_MEMORY, HANDLES_FULL, SPENT, TOO_LARGE; and under
  * strict, after evictions that stay made, CAPACITY_FULL, OCCUPANCY_FULL.
@@ -495,9 +504,10 @@ static inline ferretgold_status ferretgold_insert_pinned(ferretgold_client *clie
 }
 
 /*
- * Hides each visible entry of the key: no look-up finds them from then on. Frees those that nobody
- * else holds; the others go with their last reference, and handles show what they showed. `hidden`
- * tells how many were hidden; it may be null.
+ * Hides each visible entry of the key: no look-up finds them from then on. Frees those on which there
+ * is no handle, this client's neither, where the one exchange for it wins. The others go with their
+ * last reference, and handles show what they showed. `hidden` tells how many were hidden; it may be
+ * null.
  *
  * Costs for each probe what a look-up costs, and for each match what freeing costs.
  * Bound: (L + 14)*L + 2.
@@ -611,7 +621,8 @@ static inline ferretgold_status ferretgold_pinned_usage(ferretgold_client *clien
     return FERRETGOLD_OK;
 }
 
-/* How many entries there are, with what other clients have in hand. Bound: S. */
+/* How many entries the table has, with the places and freed slots that other clients have in hand;
+ * standalone ones don't count. Bound: S. */
 static inline ferretgold_status ferretgold_occupancy(ferretgold_client *client,
                                                      uint64_t *occupancy) {
     if (client == NULL || occupancy == NULL) {
@@ -652,7 +663,8 @@ static inline ferretgold_status ferretgold_displacement(ferretgold_client *clien
     return (ferretgold_status)status;
 }
 
-/* ---- Of a client, without an atomic step. A null client has nothing. --------------------------- */
+/* ---- Of a client, without an atomic step. A null client has no handle and no serial; its number is
+ * told as 0, and ferretgold_statistics refuses it. ------------------------------------------------ */
 
 /* Its number among the cache's clients, from 0. */
 static inline uint32_t ferretgold_client_number(ferretgold_client *client) {

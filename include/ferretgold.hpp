@@ -1,20 +1,22 @@
 // ferretgold.hpp - a small wrapper of ferretgold.h for C++17: objects that give themselves back.
 //
 // ferretgold.h says what each call does. Here a refusal is thrown as ferretgold::refused, but for a
-// miss, which is an empty handle, and for an insertion, whose status is returned. All objects of a
-// cache go before the cache: handles before their client, clients before the cache.
+// miss, which is an empty handle, and for insert, whose status is returned. Whether an entry was
+// placed isn't told: the calls of ferretgold.h tell it, by get(). All objects of a cache go before
+// the cache: handles before their client, clients before the cache.
 #ifndef FERRETGOLD_HPP
 #define FERRETGOLD_HPP
 
 #include "ferretgold.h"
 
 #include <cstddef>
+#include <cstdint>
 #include <stdexcept>
 #include <utility>
 
 namespace ferretgold {
 
-// Why a call did nothing.
+// Why a call was refused.
 class refused : public std::runtime_error {
   public:
     explicit refused(ferretgold_status why)

@@ -1,5 +1,5 @@
-// peers.cpp - plays the same operations on this project's cache and on RocksDB's, in turns, and
-// prints a JSON line for each round of each.
+// peers.cpp - plays the same kinds and numbers of operations on this project's cache and on RocksDB's,
+// in turns, and prints a JSON line for each round of each.
 //
 //   peers [--case NAME]... [--cache NAME]... [--value-size N]... [--threads N]...
 //         [--shards N] [--rounds N] [--operations N]

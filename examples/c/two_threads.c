@@ -94,7 +94,8 @@ int main(void) {
     pin_one(workers[0].client);
     for (int k = 0; k < THREADS; k++) {
         if (pthread_create(&threads[k], NULL, work, &workers[k]) != 0) {
-            return 1;
+            fprintf(stderr, "a thread can't be started\n");
+            exit(1);
         }
     }
     unsigned long hits = 0;

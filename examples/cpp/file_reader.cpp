@@ -6,6 +6,7 @@
 #include <cstdio>
 #include <fstream>
 #include <iostream>
+#include <stdexcept>
 #include <string>
 #include <vector>
 
@@ -43,6 +44,9 @@ class block_file {
         file_.clear();
         file_.seekg(static_cast<std::streamoff>(index * BLOCK));
         file_.read(block, static_cast<std::streamsize>(BLOCK));
+        if (file_.bad()) {
+            throw std::runtime_error("the file can't be read");
+        }
         return static_cast<std::size_t>(file_.gcount());
     }
 

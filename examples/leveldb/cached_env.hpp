@@ -90,12 +90,9 @@ class cached_file : public leveldb::RandomAccessFile {
     leveldb::Status block_at(ferretgold::client *client, std::uint64_t index, char *block,
                              std::size_t *has) const {
         const ferretgold_key key = {number_, index};
-        if (client != nullptr) {
-            if (ferretgold::handle found = client->lookup(key)) {
-                cache_.hits.fetch_add(1, std::memory_order_relaxed);
-                *has = found.read(block, BLOCK);
-                return leveldb::Status::OK();
-            }
+        if (client != nullptr && is_cached(*client, key, block, has)) {
+            cache_.hits.fetch_add(1, std::memory_order_relaxed);
+            return leveldb::Status::OK();
         }
         cache_.misses.fetch_add(1, std::memory_order_relaxed);
         leveldb::Slice read;
@@ -105,11 +102,24 @@ class cached_file : public leveldb::RandomAccessFile {
         if (status.ok()) {
             *has = read.size();
             std::memmove(block, read.data(), read.size());
-            if (client != nullptr && *has != 0) {
+            // A read may give fewer bytes than there are: such a block isn't kept.
+            if (client != nullptr && *has == length && *has != 0) {
                 (void)client->insert(key, block, *has, static_cast<std::uint32_t>(*has));
             }
         }
         return status;
+    }
+
+    // Reads a block from the cache, if it is there. A look-up that is refused counts as a miss, by the
+    // calls of ferretgold.h: LevelDB is built without exceptions.
+    static bool is_cached(ferretgold::client &client, const ferretgold_key &key, char *block,
+                          std::size_t *has) noexcept {
+        ferretgold_handle found{};
+        if (ferretgold_lookup(client.get(), &key, &found) != FERRETGOLD_OK) {
+            return false;
+        }
+        const ferretgold::handle held(client.get(), found);
+        return ferretgold_read_value(client.get(), found, block, BLOCK, has) == FERRETGOLD_OK;
     }
 
     std::unique_ptr<leveldb::RandomAccessFile> file_;
@@ -118,7 +128,8 @@ class cached_file : public leveldb::RandomAccessFile {
     block_cache &cache_;
 };
 
-// Numbers files, and reads them through the cache. A file that is written anew gets another number.
+// Numbers files, and reads them through the cache. A file that is written anew gets another number;
+// LevelDB doesn't open a file while it writes it.
 class cached_env : public leveldb::EnvWrapper {
   public:
     cached_env(leveldb::Env *target, block_cache &cache)
@@ -126,6 +137,7 @@ class cached_env : public leveldb::EnvWrapper {
 
     leveldb::Status NewRandomAccessFile(const std::string &name,
                                         leveldb::RandomAccessFile **result) override {
+        *result = nullptr;
         leveldb::RandomAccessFile *file = nullptr;
         std::uint64_t size = 0;
         leveldb::Status status = target()->GetFileSize(name, &size);

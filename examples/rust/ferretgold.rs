@@ -148,14 +148,31 @@ impl Cache {
     }
 
     /// Ends the cache. A client that went with handles makes it Missing; the cache is kept then.
-    pub fn close(self) -> Result<Totals, (Refused, Cache)> {
-        let mut totals = Totals::default();
-        let cache = *self.object.lock().unwrap();
-        let mut kept = Object(std::ptr::null_mut());
-        match judged(unsafe { ferretgold_raw_close(cache, &mut totals, &mut kept) }) {
-            Ok(()) => Ok(totals),
+    pub fn close(mut self) -> Result<Totals, (Refused, Cache)> {
+        match self.end() {
+            Ok(totals) => {
+                std::mem::forget(self);
+                Ok(totals)
+            }
             Err(why) => Err((why, self)),
         }
+    }
+
+    fn end(&mut self) -> Result<Totals, Refused> {
+        let cache = match self.object.get_mut() {
+            Ok(object) => *object,
+            Err(poisoned) => *poisoned.into_inner(),
+        };
+        let mut totals = Totals::default();
+        let mut kept = Object(std::ptr::null_mut());
+        judged(unsafe { ferretgold_raw_close(cache, &mut totals, &mut kept) })?;
+        Ok(totals)
+    }
+}
+
+impl Drop for Cache {
+    fn drop(&mut self) {
+        let _ = self.end();
     }
 }
 

@@ -1,5 +1,5 @@
-//! The cache for engines in C, C++ and Rust: every call of it by opaque pointers, and what a prover
-//! asks of callers judged at run time.
+//! The cache for engines in C, C++ and Rust: its calls by opaque pointers, and what a prover asks
+//! of callers judged at run time.
 //!
 //! `include/ferretgold.h` says what each call means. The exports hand each object to a function
 //! over plain values, whose contract says what the cache's says.

@@ -174,8 +174,8 @@ impl<T: Tag> Cache<T> {
     /// the value is handed back.
     ///
     /// The value fits the key by the tag and has at most [`Cache::room`] bytes, and the charge
-    /// isn't 0. It takes no memory. It costs what `insert` does, and where the entry stands alone
-    /// one add more.
+    /// isn't 0. It takes no memory. It costs what `insert` does, and where no place was found two
+    /// adds more.
     pub fn insert_pinned(
         &self,
         client: &mut Client<T>,

@@ -104,7 +104,7 @@ impl<T: Tag, A: Allocator> Shard<T, A> {
     ///
     /// The draft's name is its serial, which is above those before. The client holds fewer than
     /// 16,384 references, and has fewer standalone entries. It takes no memory. It costs what
-    /// `insert` does, and where the entry stands alone one add more.
+    /// `insert` does, and where no place was found two adds more.
     pub fn insert_pinned(
         &self,
         seat: &mut ShardSeat<T>,

@@ -54,9 +54,9 @@ impl<T: Tag, A: Allocator> Shard<T, A> {
     ///
     /// The sizes and the capacity keep their limits, and each value is right for its key. It
     /// refuses an image as [`ReopenError`] says, whichever memory there is, and nothing remains
-    /// then. It takes memory for the words, twice for a time, and for the seats. It costs as many
-    /// stores as the shard has words, and for each entry a few loads, three stores and one for each
-    /// slot of its trail.
+    /// then. It takes memory for the words, twice for a time, and for the seats. It costs two
+    /// stores for each word of the shard, for each entry a store for each of its words, an add for
+    /// each slot of its trail and two more, and a load for each client.
     pub fn reopen(
         alloc: A,
         geometry: Geometry,

@@ -18,6 +18,8 @@ use std::thread::{Threads, map_vec};
 /// What a client does.
 #[derive(Clone, Copy, Debug, PartialEq, Eq)]
 enum Work {
+    /// Inserts 1,000 keys of its own, with a charge of 30 each.
+    Fills,
     /// Inserts a key with a handle, by its number as the value, and reads it.
     Pins,
     /// Client 0 inserts and erases a key 10,000 times, the others look for it as often.
@@ -128,6 +130,7 @@ fn does(
     ensures { Knows cache.now client.new }
 {
     match work {
+        Work::Fills => fills(rt, cache, client),
         Work::Pins => {
             let (handle, inserted) = pins_own(rt, cache, client, value);
             return (Some(handle), inserted == Placed);
@@ -143,6 +146,17 @@ fn does(
         Work::Blocks => blocks(rt, cache, client),
     }
     (None, false)
+}
+
+/// Inserts 1,000 keys of its own.
+fn fills(rt: &impl Abort, cache: &Store, client: &mut Client<AnyBytes>)
+    requires { Knows cache.now client.old }
+    ensures { Knows cache.now client.new }
+{
+    let w0 = client.number() as u64;
+    for w1 in 0..1_000 {
+        stores(rt, cache, client, Key { w0, w1 }, &[], 30, Bottom);
+    }
 }
 
 /// Inserts the key with a handle, by the client's number as the value, and reads it.
@@ -366,6 +380,22 @@ fn leaves(
 /// A cache of so many clients.
 fn of(clients: u32) -> Config {
     Config { clients, ..SMALL }
+}
+
+/// Where four clients fill a strict cache, the charges are those of its entries, within the
+/// capacity.
+#[test]
+fn strict_capacity_is_kept_by_four(rt: HostRuntime) -> Result<(), Fail> {
+    let config = Config {
+        capacity: 100,
+        strict: true,
+        ..of(4)
+    };
+    let (after, closed) = at_once(&rt, rt.alloc(), config, Work::Fills)?;
+    assert_eq!(rt; after[0], after[1].wrapping_mul(30));
+    assert!(rt; after[0] <= 90);
+    assert_eq!(rt; closed.usage(), after[0]);
+    Ok(())
 }
 
 /// Of eight clients that insert one key and hold it, at least one places it, and as many as there
