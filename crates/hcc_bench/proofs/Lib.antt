@@ -1,4 +1,5 @@
 pub mod Drawing
+pub mod Joining
 pub mod Keeping
 pub mod Lists
 pub mod Measuring

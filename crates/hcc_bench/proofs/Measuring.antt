@@ -2,7 +2,7 @@
 use Rattle.std.proofs.Common.{◌≡◌, ◌∙◌, ℕ, ◌+◌, ◌*◌, ◌/◌, ◌^◌, ◌<◌, ◌≤◌, List, [], ◌∷◌, ◌++◌, length, map, slice_get, replicate, ap, sym, subst, arith}
 use Rattle.std.specs.Prelude.{sum_by}
 use Rattle.std.proofs.lemmas.List.{length_push, length-map, length-replicate}
-use Rattle.std.proofs.Common.{true, nat_le, ap₂, ◌&&◌}
+use Rattle.std.proofs.Common.{true, false, nat_le, ap₂, ◌&&◌}
 use Rattle.std.proofs.Math.Nat.{le_refl}
 use Rattle.std.proofs.Math.Nat.{mul_comm, mul-zero}
 use Rattle.std.proofs.lemmas.Nat.{mul-le}
@@ -31,40 +31,47 @@ use Rattle.hcc_bench.specs.Lists.{EachAt}
 use Rattle.hcc_bench.specs.Plans.{plan_of}
 use Rattle.hcc_bench.specs.Options.{IsAllowed}
 use Rattle.hcc_bench.specs.Rows.{lookups_in, IsRow, IsSetting}
-use Rattle.hcc_bench.specs.Workers.{lookups_of, Fits, HasWorked, IsIdle, IsReady}
+use Rattle.hcc_bench.specs.Workers.{lookups_of, Fits, HasWorked, IsFresh, IsIdle, IsReady}
 use Rattle.hcc_bench.proofs.Lists.{each_push, in_map, of_map, sum_alike}
 
 module _ (cache : Cache OfSize) where
   -- a value of this size fits a cache of such values
   pub value_fits : (size : ℕ) (value : List ℕ) → value ≡ replicate size FILLING
       → cache.tag.size ≡ size → 1 ≤ size → size < 2 ^ 32
-      → cache.geometry.room ≡ (size + 7) / 8 → Fits cache value
-  value_fits size value is tag some few room =
+      → cache.geometry.room ≡ (size + 7) / 8 → cache.strict ≡ false → Fits cache value
+  value_fits size value is tag some few room lax =
       let count : length value ≡ size = ap length is ∙ length-replicate size FILLING in
       record {
         some = omega arith;
         few = omega arith;
         size = count ∙ sym tag;
         room = omega arith;
+        charge = λ strict. cc;
       }
 
-  -- workers that were made for idle clients are ready
+  -- workers that were made for clients that did nothing yet are ready
   pub all_ready : (clients : List (Client OfSize)) (workers : List Worker) (plan : Plan)
-      (size count seed : ℕ) → map (λ w. w.client) workers ≡ clients
-      → EachAt (λ k client. IsIdle cache client) clients
+      (size count seed serials : ℕ) (job : Job) → map (λ w. w.client) workers ≡ clients
+      → EachAt (λ k client. IsFresh cache serials client) clients → job.operations ≤ serials
       → EachAt (IsCrewed plan size count seed) workers → 1 ≤ count
       → cache.tag.size ≡ size → 1 ≤ size → size < 2 ^ 32
-      → cache.geometry.room ≡ (size + 7) / 8 → EachAt (λ k w. IsReady cache w) workers
-  all_ready clients workers plan size count seed are idle crewed some tag one few room k w here =
+      → cache.geometry.room ≡ (size + 7) / 8 → cache.strict ≡ false
+      → EachAt (λ k w. IsReady cache job w) workers
+  all_ready clients workers plan size count seed serials job are fresh enough crewed some tag one
+      few room lax k w here =
       let crew = crewed k w here in
       let drawn = crew.some in
       let buffer = crew.equipped.buffer in
+      let client = fresh k w.client
+      (ap (λ l. slice_get l k) (sym are)
+      ∙ in_map (λ (w : Worker). w.client) workers w k here) in
+      let left = client.left in
       record {
-        idle = idle k w.client
-            (ap (λ l. slice_get l k) (sym are)
-            ∙ in_map (λ (w : Worker). w.client) workers w k here);
+        idle = client.idle;
+        used = client.used;
+        left = omega arith;
         some = omega arith;
-        value = value_fits size w.value.items crew.equipped.value tag one few room;
+        value = value_fits size w.value.items crew.equipped.value tag one few room lax;
         buffer = omega arith;
       }
 

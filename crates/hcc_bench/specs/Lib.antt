@@ -13,4 +13,5 @@ pub mod Rows
 pub mod Sizes
 pub mod Stages
 pub mod Status
+pub mod Times
 pub mod Workers

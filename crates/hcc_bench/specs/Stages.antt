@@ -10,7 +10,7 @@ use Rattle.hcc_bench.specs.declared.measure.TheConstants.{PINNED_SLOTS}
 use Rattle.hcc_bench.specs.declared.options.Options.{Options}
 use Rattle.hcc_bench.specs.declared.plan.Plan.{Plan}
 use Rattle.hcc_bench.specs.Lists.{EachAt}
-use Rattle.hcc_bench.specs.Workers.{IsIdle}
+use Rattle.hcc_bench.specs.Workers.{IsFresh, IsIdle}
 
 -- how many slots each shard has, where so many were asked for
 abbrev pub slots_of : Case → (slots : ℕ) → ℕ
@@ -33,12 +33,13 @@ config_of o s slots plan = record {
   seed = if plan.seeded then o.seed else 0;
 }
 
--- A new cache whose values have this size, and its clients: one for each thread, and one that fills
--- it. None holds anything.
+-- A new cache whose values have this size, and its clients: one for each thread, with all its
+-- serials left, and one that fills it. None holds anything.
 pub record IsStaged (config : Config) (size : ℕ) (stage : Stage) : Type 0 where
   pub tag_is : stage.cache.tag.size ≡ size
   pub room : stage.cache.geometry.room ≡ config.room
   pub seats : stage.cache.geometry.clients ≡ config.clients
+  pub strict : stage.cache.strict ≡ config.strict
   pub count : length stage.clients.items + 1 ≡ config.clients
-  pub clients : EachAt (λ k client. IsIdle stage.cache client) stage.clients.items
+  pub clients : EachAt (λ k client. IsFresh stage.cache config.serials client) stage.clients.items
   pub keeper : IsIdle stage.cache stage.keeper

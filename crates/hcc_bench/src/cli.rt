@@ -67,7 +67,7 @@ fn seed_arg<'a>(alloc: Global) -> Arg<'a> {
     Arg::new(alloc, "seed")
         .long("seed")
         .value_name("N")
-        .help("The seed of the keys, and of what is drawn at random")
+        .help("The seed of the keys and of what is drawn; by 0 no case has seeded keys")
         .value_parser(value_parser!(u64))
         .default_value("1")
 }

@@ -1,7 +1,8 @@
 //! What the operations of all workers came to.
-ghost use Rattle.std.specs.Prelude.{◌≡◌, ◌+◌, ◌*◌, ◌<◌, ◌≤◌, ◌^◌, length, sum_by};
+ghost use Rattle.std.specs.Prelude.{◌≡◌, ◌+◌, ◌*◌, ◌<◌, ◌≤◌, ◌^◌, ◌⊎◌, [], Any, IfNone, IfSome, IsNone, length, sum_by};
 ghost use Rattle.hcc_bench.specs.declared.limits.TheConstants.{MOST_NANOSECONDS};
 ghost use Rattle.hcc_bench.specs.Counts.{busy_of, counts_over, counts_with, lookups_by, no_counts};
+ghost use Rattle.hcc_bench.specs.Times.{IsWhole};
 
 use crate::times::Span;
 use crate::worker::Done;
@@ -65,7 +66,10 @@ fn nanoseconds(one: &Done) -> u64
 
 /// From the first worker's begin to the last one's end, if there is a worker and the clock told of
 /// each.
-pub fn whole_span(done: &[Done]) -> Option<Span> {
+pub fn whole_span(done: &[Done]) -> Option<Span>
+    ensures some { IfSome result (IsWhole done.now) }
+    ensures none { IfNone result ((done.now ≡ []) ⊎ Any (λ d. IsNone d.span) done.now) }
+{
     let mut whole = done.first()?.span?;
     for one in done {
         whole = whole.joined(one.span?);

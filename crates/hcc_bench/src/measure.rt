@@ -71,7 +71,7 @@ impl From<AllocError> for BenchError {
 }
 
 /// Makes a new cache, fills it as the case says, has the threads make their operations, and closes
-/// it. All memory is taken before the operations, and they take none.
+/// it. What the operations need of memory is taken before them, and they take none.
 pub fn measured<R: Threads + Clock + Sync>(
     rt: &R,
     alloc: Global,

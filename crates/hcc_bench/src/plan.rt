@@ -30,7 +30,8 @@ pub enum Shape {
 #[derive(Clone, Copy, Debug, PartialEq, Eq)]
 pub struct Plan {
     pub work: Work,
-    /// So many keys are inserted before, from the last number to 0.
+    /// So many keys are inserted before: from the last number to 0, or from 0 on where they are to
+    /// be held.
     pub filled: u32,
     /// The first key that is drawn, or inserted where each is a new one.
     pub first: u32,

@@ -2,6 +2,7 @@
 ghost use Rattle.std.specs.Prelude.{◌≡◌, ◌-◌, min, max};
 ghost use Rattle.std.specs.Time.{instant_nanos};
 ghost use Rattle.hcc_bench.specs.declared.limits.TheConstants.{MOST_NANOSECONDS};
+ghost use Rattle.hcc_bench.specs.Times.{span_of};
 
 use crate::limits::MOST_NANOSECONDS;
 use std::time::{Clock, Instant};
@@ -20,7 +21,9 @@ pub fn now(clock: &impl Clock) -> Option<Instant> {
 
 impl Span {
     /// The span between two times, if both are known.
-    pub fn of(begun: Option<Instant>, ended: Option<Instant>) -> Option<Span> {
+    pub fn of(begun: Option<Instant>, ended: Option<Instant>) -> Option<Span>
+        ensures { result ≡ span_of begun ended }
+    {
         Some(Span {
             begun: begun?,
             ended: ended?,

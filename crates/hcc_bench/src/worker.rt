@@ -1,8 +1,8 @@
 //! Workers: each makes its operations on a thread of its own.
-ghost use Rattle.std.specs.Prelude.{◌≡◌, ◌+◌, ◌≤◌, ◌<◌, ◌^◌, IfOk, IfSome, length};
+ghost use Rattle.std.specs.Prelude.{◌≡◌, ◌+◌, ◌-◌, ◌≤◌, ◌<◌, ◌^◌, IfOk, IfSome, if◌then◌else◌, length};
 ghost use Rattle.hcc_cache.specs.Known.{Knows};
 ghost use Rattle.hcc_bench.specs.Lists.{EachAt};
-ghost use Rattle.hcc_bench.specs.Workers.{Fits, HasWorked, HoldsSame, IsIdle, IsReady, lookups_of};
+ghost use Rattle.hcc_bench.specs.Workers.{Fits, HasWorked, HoldsSame, IsIdle, IsReady, Uses, lookups_of, serials_for, serials_of};
 
 use crate::keys::key_of;
 use crate::plan::Work;
@@ -61,7 +61,7 @@ pub fn work_all<R: Threads + Clock + Sync>(
     job: Job,
     workers: Vec<Worker>,
 ) -> Result<Vec<Done>, AllocError>
-    requires { EachAt (λ k w. IsReady cache.now w) workers.items }
+    requires { EachAt (λ k w. IsReady cache.now job w) workers.items }
     ensures count { IfOk result (λ done. length done.items ≡ length workers.items) }
     ensures each { IfOk result (λ done.
         EachAt (λ k d. HasWorked cache.now job d) done.items) }
@@ -70,7 +70,7 @@ pub fn work_all<R: Threads + Clock + Sync>(
         rt,
         workers,
         &move |worker: Worker| -> Done
-            requires { IsReady cache.now worker }
+            requires { IsReady cache.now job worker }
             ensures { HasWorked cache.entry.now job result }
         { work(rt, cache, job, worker) },
     )
@@ -78,7 +78,7 @@ pub fn work_all<R: Threads + Clock + Sync>(
 
 /// Has a worker make its operations, between two looks at the clock.
 fn work<R: Clock>(rt: &R, cache: &Cache<OfSize>, job: Job, worker: Worker) -> Done
-    requires { IsReady cache.now worker }
+    requires { IsReady cache.now job worker }
     ensures { HasWorked cache.now job result }
 {
     let mut worker = worker;
@@ -97,9 +97,11 @@ fn work<R: Clock>(rt: &R, cache: &Cache<OfSize>, job: Job, worker: Worker) -> Do
 
 /// Has a worker make its operations.
 fn operate(cache: &Cache<OfSize>, job: Job, worker: &mut Worker) -> Tally
-    requires { IsReady cache.now worker.old }
+    requires { IsReady cache.now job worker.old }
     ensures idle { IsIdle cache.now worker.new.client }
     ensures counted { result.hits + result.misses ≡ lookups_of job.work job.operations }
+    ensures uses { Uses (serials_of job.work result.hits job.operations)
+        worker.old.client worker.new.client }
 {
     let Worker {
         client,
@@ -129,8 +131,10 @@ fn reads(
     requires room { cache.now.tag.size ≤ length buffer.old }
     requires some { 1 ≤ length draws.now }
     requires fits { IfSome value (λ v. Fits cache.now v.now) }
+    requires left { operations ≤ client.old.left }
     ensures idle { IsIdle cache.now client.new }
     ensures all { result.hits + result.misses ≡ operations }
+    ensures uses { Uses (serials_for value.entry result.hits operations) client.old client.new }
 {
     let mut tally = Tally { hits: 0, misses: 0 };
     let mut left = operations;
@@ -162,10 +166,14 @@ fn read_round(
     requires room { cache.now.tag.size ≤ length buffer.old }
     requires fits { IfSome value (λ v. Fits cache.now v.now) }
     requires few { tally.old.hits + tally.old.misses + length numbers.now < 2 ^ 64 }
+    requires left { length numbers.now ≤ client.old.left }
     ensures idle { IsIdle cache.now client.new }
     ensures buffer { length buffer.new ≡ length buffer.old }
     ensures all { tally.new.hits + tally.new.misses
         ≡ tally.old.hits + tally.old.misses + length numbers.now }
+    ensures hits { tally.old.hits ≤ tally.new.hits }
+    ensures uses { let hits = tally.new.hits - tally.old.hits in
+        Uses (serials_for value.entry hits (length numbers.now)) client.old client.new }
 {
     for number in numbers {
         let key = key_of(u64::from(*number));
@@ -187,6 +195,7 @@ fn found(cache: &Cache<OfSize>, client: &mut Client<OfSize>, key: Key, buffer: &
     requires room { cache.now.tag.size ≤ length buffer.old }
     ensures idle { IsIdle cache.now client.new }
     ensures buffer { length buffer.new ≡ length buffer.old }
+    ensures uses { Uses (if result then 1 else 0) client.old client.new }
 {
     let Ok(Some(handle)) = cache.lookup(client, key) else {
         return false;
@@ -206,8 +215,10 @@ fn inserts(
 ) -> Tally
     requires idle { IsIdle cache.now client.old }
     requires fits { Fits cache.now value.now }
+    requires left { job.operations ≤ client.old.left }
     ensures idle { IsIdle cache.now client.new }
     ensures none { (result.hits ≡ 0) × (result.misses ≡ 0) }
+    ensures uses { Uses job.operations client.old client.new }
 {
     let mut number = first;
     for _ in 0..job.operations {
@@ -224,6 +235,7 @@ pub fn insert(cache: &Cache<OfSize>, client: &mut Client<OfSize>, key: Key, valu
     requires fits { Fits cache.now value.now }
     ensures known { Knows cache.now client.new }
     ensures held { HoldsSame cache.now client.old client.new }
+    ensures uses { 0 < client.old.left → Uses 1 client.old client.new }
 {
     // A value that is refused or dropped isn't read again either.
     let _ = cache.insert(client, key, value, value.len() as u32, Priority::Low);

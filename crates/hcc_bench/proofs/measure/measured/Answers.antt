@@ -1,12 +1,16 @@
 use Rattle.std.proofs.Common.{◌≡◌, ◌∙◌, ◌*◌, ◌+◌, ◌^◌, ◌≤◌, ℕ, length, ap, sym, subst, refl, arith}
 use Rattle.std.specs.Prelude.{sum_by}
 use Rattle.std.proofs.lemmas.List.{length-map}
+use Rattle.hcc_core.specs.declared.limits.TheConstants.{STAMPS_PER_CLIENT}
 use Rattle.hcc_bench.specs.declared.limits.TheConstants.{MOST_NANOSECONDS}
+use Rattle.hcc_bench.specs.declared.plan.Plan.{Plan}
 use Rattle.hcc_bench.specs.declared.worker.Job.{Job}
 use Rattle.hcc_bench.specs.declared.worker.Worker.{Worker}
-use Rattle.hcc_bench.specs.Counts.{lookups_by}
+use Rattle.hcc_bench.specs.Counts.{counts_over, lookups_by, no_counts}
 use Rattle.hcc_bench.specs.Crews.{count_of}
+use Rattle.hcc_bench.specs.Plans.{plan_of}
 use Rattle.hcc_bench.specs.Rows.{lookups_in}
+use Rattle.hcc_bench.specs.Times.{IsWhole}
 use Rattle.hcc_bench.specs.Workers.{lookups_of}
 use Rattle.hcc_bench.proofs.Measuring.{all_back, all_counted, all_few, all_ready, between, count_some, same_lookups}
 use Rattle.hcc_bench.proofs.measure.measured.Goals as goal
@@ -20,12 +24,24 @@ work_all-requires-after_bounds g c κs within =
     c.requires.options.operations in
     let low = size.low in
     let high = size.high in
+    let most = operations.high in
+    let exact = c.config_of-config.ensures.exact in
+    let config = c.config_of-config.result in
+    let serials : config.serials ≡ STAMPS_PER_CLIENT = ap (λ k. k.serials) exact in
+    let from = c.from.ensures in
+    let job : Job = record {
+      work = plan.work;
+      operations = c.from.result;
+      step = c.from-2.result;
+    } in
     all_ready c.in_ok-cache.field-0.cache c.in_ok-cache.field-0.clients.items
     c.in_ok-workers.workers.items plan c.args.setting.size
     (count_of plan.work c.args.options.now.operations) c.args.options.now.seed
-    c.in_ok-workers.ensures.clients staged.clients c.in_ok-workers.ensures.crewed
+    config.serials job c.in_ok-workers.ensures.clients staged.clients
+    (omega arith) c.in_ok-workers.ensures.crewed
     (count_some plan.work c.args.options.now.operations operations.low) staged.tag_is low
-    (omega arith) (staged.room ∙ ap (λ k. k.room) c.config_of-config.ensures.exact)
+    (omega arith) (staged.room ∙ ap (λ k. k.room) exact)
+    (staged.strict ∙ ap (λ k. k.strict) exact)
 
 -- there is a worker for each thread
 threads_are : (clients threads workers done : ℕ) → clients + 1 ≡ threads + 1 → workers ≡ clients
@@ -105,4 +121,20 @@ returns g c =
           ∙ ap (λ n. n * lookups_of work c.from.result) many ∙ cased);
       agree = c.of.ensures.agree;
       busy = subst (λ n. c.of-counts.result.busy ≤ n * MOST_NANOSECONDS) (counted ∙ many) busy;
+      measured = record {
+        cache = c.in_ok-cache.field-0.cache;
+        job = job;
+        work = ap (λ (p : Plan). p.work) c.plan_of-plan.ensures.exact
+            ∙ ap (λ n. (plan_of c.args.setting.case (n * c.args.options.now.shards)).work)
+            c.slots_of-slots.ensures.exact;
+        operations = c.from.ensures;
+        done = done;
+        threads = many;
+        worked = c.in_ok-done.ensures.each;
+        counts = c.of-counts.ensures.exact ∙ ap (counts_over no_counts) c.deref-3.ensures.value;
+        whole = c.in-Some.span;
+        spans = subst (λ l. IsWhole l c.in-Some.span) c.deref-2.ensures.value
+            c.in-Some.ensures.some;
+        nanoseconds = c.nanoseconds.ensures;
+      };
     }

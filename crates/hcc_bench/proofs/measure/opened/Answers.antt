@@ -1,6 +1,6 @@
-use Rattle.std.proofs.Common.{ℕ, ◌≡◌, ◌∙◌, ◌+◌, ◌++◌, ◌∷◌, [], Some, length, slice_get, ap, arith}
+use Rattle.std.proofs.Common.{ℕ, ◌≡◌, ◌∙◌, ◌++◌, ◌∷◌, [], Some, length, slice_get, ap, arith}
 use Rattle.std.proofs.lemmas.List.{length_push}
-use Rattle.hcc_bench.specs.Workers.{IsIdle}
+use Rattle.hcc_bench.specs.Workers.{IsFresh}
 use Rattle.hcc_bench.proofs.Lists.{in_push, last_push}
 use Rattle.hcc_bench.proofs.measure.opened.Goals as goal
 
@@ -14,17 +14,22 @@ returns c =
     let counted = made.dealt.count in
     let more = length_push left keeper in
     let same = ap length all in
-    let idle : (k : ℕ) (client : _) → slice_get (left ++ keeper ∷ []) k ≡ Some client
-    → IsIdle c.in-Ok.cache client =
-    λ k client here. record {
-      known = made.known k client (ap (λ l. slice_get l k) all ∙ here);
-      none = (made.dealt.each k client (ap (λ l. slice_get l k) all ∙ here)).unused.held;
+    let fresh : (k : ℕ) (client : _) → slice_get (left ++ keeper ∷ []) k ≡ Some client
+    → IsFresh c.in-Ok.cache c.args.config.serials client =
+    λ k client here.
+    let there = ap (λ l. slice_get l k) all ∙ here in
+    let unused = (made.dealt.each k client there).unused in
+    record {
+      idle = record { known = made.known k client there; none = unused.held };
+      used = unused.used;
+      left = unused.left;
     } in
     record {
       tag_is = ap (λ t. t.size) made.tag_is;
       room = ap (λ g. g.room) made.geometry;
       seats = ap (λ g. g.clients) made.geometry;
       count = omega arith;
-      clients = λ k client here. idle k client (in_push left keeper client k here);
-      keeper = idle (length left) keeper (last_push left keeper);
+      strict = made.strict;
+      clients = λ k client here. fresh k client (in_push left keeper client k here);
+      keeper = (fresh (length left) keeper (last_push left keeper)).idle;
     }

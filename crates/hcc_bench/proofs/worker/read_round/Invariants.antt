@@ -1,5 +1,5 @@
-use Rattle.std.proofs.Common.{◌≡◌, ◌+◌, length}
-use Rattle.hcc_bench.specs.Workers.{IsIdle}
+use Rattle.std.proofs.Common.{◌≡◌, ◌+◌, ◌-◌, ◌≤◌, length}
+use Rattle.hcc_bench.specs.Workers.{serials_for, IsIdle, Uses}
 use Rattle.hcc_bench.proofs.worker.read_round.Given as goal
 
 abbrev pub invariant-loop-number : goal.invariant-loop-number
@@ -8,4 +8,7 @@ invariant-loop-number l = record {
   buffer : length l.buffer ≡ length l.initial.buffer;
   all : l.tally.hits + l.tally.misses
       ≡ l.initial.tally.hits + l.initial.tally.misses + l.number-index;
+  hits : l.initial.tally.hits ≤ l.tally.hits;
+  uses : Uses (serials_for l.value (l.tally.hits - l.initial.tally.hits) l.number-index)
+      l.initial.client l.client;
 }
