@@ -8,7 +8,7 @@
 
 use std::ffi::c_void;
 use std::marker::PhantomData;
-use std::sync::Mutex;
+use std::sync::{Mutex, PoisonError};
 
 #[repr(C)]
 #[derive(Clone, Copy)]
@@ -159,10 +159,7 @@ impl Cache {
     }
 
     fn end(&mut self) -> Result<Totals, Refused> {
-        let cache = match self.object.get_mut() {
-            Ok(object) => *object,
-            Err(poisoned) => *poisoned.into_inner(),
-        };
+        let cache = *self.object.get_mut().unwrap_or_else(PoisonError::into_inner);
         let mut totals = Totals::default();
         let mut kept = Object(std::ptr::null_mut());
         judged(unsafe { ferretgold_raw_close(cache, &mut totals, &mut kept) })?;

@@ -1,5 +1,5 @@
 -- Spans that are joined one after another, up to the whole one of all workers.
-use Rattle.std.proofs.Common.{◌≡◌, ℕ, ◌+◌, ◌<◌, ◌≤◌, min, max, List, Option, Some, None, length, slice_get, slice_index_or, inl, inr, refl, sym, subst, arith}
+use Rattle.std.proofs.Common.{◌≡◌, ◌⊎◌, ℕ, ◌+◌, ◌<◌, ◌≤◌, min, max, List, Option, Some, None, length, slice_get, slice_index_or, inl, inr, refl, sym, subst, arith}
 use Rattle.std.specs.List.{AllWithin, Any}
 use Rattle.std.specs.Prelude.{IsSomeAnd}
 use Rattle.std.specs.Time.{instant_nanos}
@@ -61,42 +61,39 @@ module _ (a b whole : Span) (joined : IsJoined a b whole) where
       let ended = joined.ended in
       record { begun = omega arith; ended = omega arith }
 
-  -- A worker that began first still does, unless the second one began earlier; so of the end.
-  still_begins : (o : Option Span) → instant_nanos a.begun ≤ instant_nanos b.begun
-      → IsSomeAnd o (Begins a) → IsSomeAnd o (Begins whole)
-  still_begins None later begins = begins
-  still_begins (Some span) later begins = let begun = joined.begun in omega arith
-
-  still_ends : (o : Option Span) → instant_nanos b.ended ≤ instant_nanos a.ended
-      → IsSomeAnd o (Ends a) → IsSomeAnd o (Ends whole)
-  still_ends None earlier ends = ends
-  still_ends (Some span) earlier ends = let ended = joined.ended in omega arith
-
   module _ (count : ℕ) (done : List Done) (d : Done) (so_far : IsWholeTo count done a)
       (within : count < length done) (here : d ≡ slice_index_or done count d)
       (is : d.span ≡ Some b) where
+    -- some span is so: that of a worker before, if what held of it still does, or else this one's
+    some_of : (Was Is : Span → Type 0) → Any (λ (e : Done). IsSomeAnd e.span Was) done
+        → ((span : Span) → Was span → Is span) ⊎ Is b → Any (λ (e : Done). IsSomeAnd e.span Is) done
+    some_of Was Is was (inl still) =
+        (was.0, was.1, was.2, was.3, still_so was.1.span was.4)
+      where
+        still_so : (o : Option Span) → IsSomeAnd o Was → IsSomeAnd o Is
+        still_so None so = so
+        still_so (Some span) so = still span so
+    some_of Was Is was (inr so) =
+        (count, d, within, sym here, of_some Is d.span b is so)
+
     -- the worker that begins first, and the one that ends last
     first_of : Any (λ (e : Done). IsSomeAnd e.span (Begins whole)) done
     first_of =
         let begun = joined.begun in
-        let was = so_far.first in
-        elim (cases_lt (instant_nanos b.begun) (instant_nanos a.begun)) [
-          | inl earlier ↦
-              (count, d, within, sym here, of_some (Begins whole) d.span b is (omega arith))
-          | inr later ↦
-              (was.0, was.1, was.2, was.3, still_begins was.1.span later was.4)
-        ]
+        some_of (Begins a) (Begins whole) so_far.first
+        (elim (cases_lt (instant_nanos b.begun) (instant_nanos a.begun)) [
+          | inl earlier ↦ inr (omega arith)
+          | inr later ↦ inl (λ span begins. omega arith)
+        ])
 
     last_of : Any (λ (e : Done). IsSomeAnd e.span (Ends whole)) done
     last_of =
         let ended = joined.ended in
-        let was = so_far.last in
-        elim (cases_lt (instant_nanos a.ended) (instant_nanos b.ended)) [
-          | inl later ↦
-              (count, d, within, sym here, of_some (Ends whole) d.span b is (omega arith))
-          | inr earlier ↦
-              (was.0, was.1, was.2, was.3, still_ends was.1.span earlier was.4)
-        ]
+        some_of (Ends a) (Ends whole) so_far.last
+        (elim (cases_lt (instant_nanos a.ended) (instant_nanos b.ended)) [
+          | inl later ↦ inr (omega arith)
+          | inr earlier ↦ inl (λ span ends. omega arith)
+        ])
 
     -- one worker more
     pub whole_more : IsWholeTo (count + 1) done whole
