@@ -1,0 +1,128 @@
+"""An edit that the prover has to refuse: its file, what it changes, and in which functions.
+
+A file has lines 'file: PATH', and pairs of lines 'old: TEXT' and 'new: TEXT', each text in its file
+once. The crate's files are in rt fmt's layout: the first line of an item and its last have one
+indent."""
+import glob
+import os
+import re
+
+from crates import FOLDERS, FUNCTION
+
+IMPORT = re.compile(r"\s*(?:pub )?(?:ghost )?use ")
+
+
+def pairs_of(file):
+    """The edit's changes: path, old text and new text."""
+    path, old, found = "", None, []
+    with open(file, encoding="utf-8") as it:
+        for line in it.read().split("\n"):
+            if line.startswith("file: "):
+                path = line[6:].strip()
+            elif line.startswith("old: "):
+                old = line[5:]
+            elif line.startswith("new:") and old is not None:
+                found.append((path, old, line[4:].removeprefix(" ")))
+                old = None
+    return found
+
+
+def applied(pairs, texts):
+    """The texts with these changes, or None where an old text isn't in its file once."""
+    texts = dict(texts)
+    for path, old, new in pairs:
+        if texts.get(path, "").count(old) != 1:
+            return None
+        texts[path] = texts[path].replace(old, new)
+    return texts
+
+
+def owner_of(lines, top):
+    """The type whose methods the block has in which this line stands; None where it is a trait's."""
+    heads = (lines[n] for n in range(top, -1, -1))
+    head = next((it for it in heads if re.match(r"(unsafe )?impl\b|(pub )?trait ", it)), "")
+    if " for " in head or "trait " in head:
+        return None
+    named = re.match(r"(?:unsafe )?impl(?:<.*?>)? ([\w:]+)", head)
+    return named and named[1]
+
+
+def body_at(text, at):
+    """The function in whose body this place is, as its type and its name, or None."""
+    lines = text.split("\n")
+    row = text.count("\n", 0, at)
+    for top in range(row, -1, -1):
+        found = FUNCTION.match(lines[top])
+        if not found:
+            continue
+        indent = found[1]
+        end = next((n for n in range(top, len(lines)) if lines[n] == f"{indent}}}"), None)
+        if end is None or end < row:
+            continue
+        # The body opens behind the clauses: on the function's line, or on one of its own.
+        opens = top
+        if not lines[top].endswith("{"):
+            opens = next((n for n in range(top, end) if lines[n] == f"{indent}{{"), end)
+        if row <= opens:
+            return None
+        owner = owner_of(lines, top) if indent else ""
+        return None if owner is None else (owner, found[2])
+    return None
+
+
+def module_of(path):
+    """The module that a file of src/ is, as a path."""
+    words = path.removeprefix("src/").removesuffix(".rt").split("/")
+    if words in (["lib"], ["main"]):
+        return ""
+    return "::".join(words[:-1] if words[-1] == "mod" else words)
+
+
+class Edit:
+    """An edit, the functions whose bodies alone it changes (none: it changes more than bodies), and
+    what came of it."""
+
+    def __init__(self, file, crate):
+        self.file, self.crate = file, crate.name
+        self.name = os.path.basename(file).removesuffix(".edit")
+        self.key = f"{crate.name}/{self.name}"
+        self.is_of_gate = os.path.basename(os.path.dirname(file)) == "must-fail"
+        self.pairs, self.symbols, self.digest = pairs_of(file), [], ""
+        self.verdict, self.said = None, ""
+        self.texts = {}
+        for path in {it[0] for it in self.pairs}:
+            if os.path.isfile(f"{crate.folder}/{path}"):
+                self.texts[path] = crate.text(path)
+        if not self.pairs or applied(self.pairs, self.texts) is None:
+            self.verdict, self.said = "BAD EDIT", "an old text isn't in its file once"
+            return
+        self.symbols = self.found_symbols()
+
+    def found_symbols(self):
+        """The functions whose bodies the edit changes, as rattle names them (a method is found where
+        its type stands, and not its impl); none where it changes anything else. Imports beside a
+        body, and the functions' own proof files, are nothing else."""
+        found, now = [], dict(self.texts)
+        for path, old, new in self.pairs:
+            begin = now[path].index(old)
+            in_body = body_at(now[path], begin), body_at(now[path], begin + len(old) - 1)
+            line = now[path][now[path].rfind("\n", 0, begin) + 1 :].split("\n")[0]
+            now[path] = now[path].replace(old, new)
+            is_proof = any(f"/{it.replace('::', '/')}/" in path for it in found)
+            if is_proof or IMPORT.match(line) and path.startswith("src/"):
+                continue
+            if not path.startswith("src/") or not in_body[0] or in_body[0] != in_body[1]:
+                return []
+            owner, name = in_body[0]
+            symbol = f"{owner}::{name}" if owner else "::".join(filter(None, [module_of(path), name]))
+            found += [symbol] if symbol not in found else []
+        return found
+
+    def made(self):
+        return applied(self.pairs, self.texts)
+
+
+def edits_of(crate):
+    """The crate's edits, in the order of their names."""
+    files = [it for folder in FOLDERS for it in glob.glob(f"{crate.folder}/{folder}/*.edit")]
+    return [Edit(it, crate) for it in sorted(files, key=os.path.basename)]

@@ -1,0 +1,51 @@
+"""The record of verdicts, edits.txt: a line for each edit, in the order of their names.
+
+    CRATE/EDIT DIGEST COMMIT
+
+says that the prover refused the edit at that commit, where what its verdict rests on had this digest.
+An edit in must-fail/ has the words 'rt ci' in their place, which tries it."""
+import hashlib
+
+FILE = "edits.txt"
+HEAD = "# The verdicts of tests/try-edits, which writes this file: docs/GATE.md tells what they say.\n"
+OF_GATE = ("rt", "ci")
+
+
+def read():
+    """The record's lines: edit to digest and commit; and its head's line on the last run of all."""
+    found, last = {}, ""
+    try:
+        with open(FILE, encoding="utf-8") as it:
+            for line in it:
+                if line.startswith("# All"):
+                    last = line
+                elif not line.startswith("#") and line.strip():
+                    key, *rest = line.split()
+                    found[key] = tuple(rest)
+    except FileNotFoundError:
+        pass
+    return found, last
+
+
+def write(found, last):
+    with open(FILE, "w", encoding="utf-8") as it:
+        it.write(HEAD + last)
+        it.writelines(f"{key} {' '.join(found[key])}\n" for key in sorted(found))
+
+
+def faults(found, edits):
+    """What the record lacks, and what it has too much."""
+    keys = {it.key for it in edits}
+    lacking = [f"{it}: no line in {FILE}" for it in sorted(keys - set(found))]
+    return lacking + [f"{it}: a line in {FILE}, and no edit" for it in sorted(set(found) - keys)]
+
+
+def is_believed(found, edit):
+    """Whether the record has the edit's verdict, for all that it rests on now."""
+    return found.get(edit.key, ("",))[0] == edit.digest
+
+
+def is_drawn(edit, commit):
+    """Whether the commit draws the edit, as it does with one of ten."""
+    drawn = hashlib.sha256(f"{commit} {edit.key}".encode()).digest()
+    return int.from_bytes(drawn[:8], "big") % 10 == 0

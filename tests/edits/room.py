@@ -1,0 +1,119 @@
+"""A copy of a crate, in which texts are changed and checked, and what a check says of functions."""
+import os
+import re
+import shutil
+import subprocess
+import tempfile
+import time
+
+from crates import PARTS, RATTLE
+
+# What says nothing of a function's own contract: a proof file names what the edit took away, or a
+# proof that it cites wasn't admitted.
+NAMES = re.compile(r"was not admitted|has no field|is not in scope|has no `")
+UNREAD = re.compile(r"is not in scope|has no field|is no name|operand is missing|expected the end|cannot continue")
+GOAL = re.compile(r"note: (?:\./)?src/\S+: it is not proved that |note: (?:\./)?src/\S+: .*\(`\S+`\)")
+CALLEE = re.compile(r"it calls|it passes|a call of|wait for a callee")
+PROOF = re.compile(r"(?:\./)?(proofs/\S+?):\d+:\d+: error")
+FUNCTION = re.compile(r"fn (\S+): (.*)")
+CALLED = re.compile(r"`\w+?::(\S+)`")
+
+
+class Room:
+    """Where a crate's edits are checked, over work that is kept from check to check."""
+
+    def __init__(self, crate, folder, rlibs):
+        self.crate, self.folder, self.kept = crate, f"{folder}/crate", f"{folder}/kept"
+        self.words = crate.words(rlibs)
+        for part in PARTS:
+            if os.path.isdir(f"{crate.folder}/{part}"):
+                shutil.copytree(f"{crate.folder}/{part}", f"{self.folder}/{part}")
+        self.changed, self.checks, self.processor = {}, 0, 0.0
+
+    def check(self, texts, only=(), log=None):
+        """Checks the crate with these texts in place of its own: the functions that are named, or all.
+        Gives the status, what was said, and the seconds that it took."""
+        for path in set(self.changed) - set(texts):
+            shutil.copyfile(f"{self.crate.folder}/{path}", f"{self.folder}/{path}")
+        for path, text in texts.items():
+            with open(f"{self.folder}/{path}", "w", encoding="utf-8") as it:
+                it.write(text)
+        self.changed = dict(texts)
+        words = [RATTLE, "check", *self.words, "--short-goals", "--incremental", self.kept]
+        words += [it for name in only for it in ("--only", name)]
+        began = time.monotonic()
+        with tempfile.TemporaryFile("w+", errors="replace") as out:
+            how = {"stdin": subprocess.DEVNULL, "stdout": out, "stderr": subprocess.STDOUT}
+            ran = subprocess.Popen(words, cwd=self.folder, **how)
+            _, status, used = os.wait4(ran.pid, 0)
+            ran.returncode = os.waitstatus_to_exitcode(status)
+            out.seek(0)
+            said = out.read()
+        took = time.monotonic() - began
+        self.checks, self.processor = self.checks + 1, self.processor + used.ru_utime + used.ru_stime
+        if log:
+            log(f"== {self.crate.name}, {took:.0f} s, status {ran.returncode}: {' '.join(only)}\n{said}")
+        return ran.returncode, said, took
+
+
+def is_unread(line, changed):
+    """Whether a line says that a text can't be read, where a wrong body reads well."""
+    at = re.match(r"(?:\./)?(\S+?):\d+:\d+: error: (?:(`[^`]*`): )?(.*)", line)
+    if not at or at[1] not in changed and not at[1].startswith(("src/", "specs/")):
+        return False
+    return not at[2] or bool(UNREAD.search(re.sub(r"`[^`]*`", "", at[3])))
+
+
+def judged(said, symbols, changed):
+    """What a check that names these functions says of each: 'refused' by a goal of its own, 'names'
+    where only a proof file misses what the edit took away, 'proved', or 'doubt'; and the line that
+    tells why."""
+    lines = said.rstrip("\n").split("\n")
+    unread = next((it for it in lines if is_unread(it, changed)), None)
+    if unread or not lines[-1].startswith("only="):
+        return {it: ("doubt", unread or lines[-1]) for it in symbols}
+    found, notes = {}, []
+    for line in lines:
+        at = FUNCTION.match(line)
+        if line.startswith("note: "):
+            notes.append(line)
+        if at:
+            for it in symbols:
+                if at[1].endswith(f"::{it}"):
+                    found[it] = judged_alone(it, line, at[2], notes, lines)
+            notes = []
+    return {it: found.get(it, ("doubt", "no line of this function")) for it in symbols}
+
+
+def judged_alone(symbol, line, ended, notes, lines):
+    """What the lines on one function say of it."""
+    folder = f"/{symbol.replace('::', '/')}/"
+    errors = [it for it in lines if (at := PROOF.match(it)) and folder in f"/{at[1]}"]
+    goals = [it for it in notes if GOAL.match(it)]
+    goals.sort(key=lambda it: "requires holds at this call" in it)
+    own = [*goals, *(it for it in errors if not NAMES.search(it))]
+    if ended.startswith("proved"):
+        return "proved", line
+    if not ended.startswith(("not proved", "no proof")) or CALLEE.search(ended):
+        return "doubt", line
+    if own or "`search` did not prove `" in ended:
+        return "refused", (own or [line])[0]
+    return ("names", errors[0]) if errors else ("doubt", line)
+
+
+def judged_whole(status, said, changed):
+    """What a check of the whole crate says of an edit, as rt must-fail judges it."""
+    lines = said.rstrip("\n").split("\n")
+    unread = next((it for it in lines if is_unread(it, changed)), None)
+    if unread:
+        return "BAD EDIT", unread
+    if status == 0:
+        return "NOT REFUSED", "the crate is proved with it"
+    if status != 1 or not lines[-1].startswith("logic=not-proved"):
+        return "BAD EDIT", " / ".join(lines[:3])
+    told = [it for it in lines if re.match(r"(note: )?\S+:\d+:\d+:", it)]
+    told = [it for it in told if ": error" in it or it.startswith("note: ")] or told
+    own = [it for it in told if not (it.lstrip("./").startswith("proofs/") and NAMES.search(it))]
+    if told and not own:
+        return "names", told[0]
+    return "refused", (own or [lines[-1]])[0]

@@ -1,0 +1,174 @@
+"""Tries a crate's edits, many in a check.
+
+A function's proof rests on the contracts of what it calls, and not on their bodies. So edits of the
+bodies of different functions go into one check, a round, and each edited function has to have a goal
+of its own that isn't proved. What a round leaves in doubt, as a function that calls another one of
+the round, is tried again without that one, then alone, and then by a check of the whole crate. At
+the end the crate without an edit has to be proved over what the rounds kept, or nothing counts."""
+import os
+import re
+import shutil
+import tempfile
+import time
+
+from crates import FUNCTION
+from edit import applied
+from room import CALLED, Room, judged, judged_whole
+
+MOST = 20  # edits in a round
+
+
+def calls_of(crate):
+    """Which functions of the crate reach which, by their bare names, as the texts have them. A name
+    that stands for several reaches nothing: what it calls is learned from what a check says."""
+    called, times = {}, {}
+    for path in crate.files(".rt"):
+        lines = crate.text(path).split("\n")
+        for top, line in enumerate(lines):
+            found = FUNCTION.match(line)
+            if not found:
+                continue
+            end = next((n for n in range(top, len(lines)) if lines[n] == f"{found[1]}}}"), top)
+            code = (it for it in lines[top + 1 : end] if not it.lstrip().startswith(("//", "requires", "ensures")))
+            times[found[2]] = times.get(found[2], 0) + 1
+            called[found[2]] = set(re.findall(r"\b(\w+)(?:::<[^>]*>)?\(", "\n".join(code)))
+    only = {it for it, n in times.items() if n == 1}
+    reach = {}
+    for name in only:
+        todo, seen = list(called[name]), set()
+        while todo:
+            it = todo.pop()
+            if it in only and it not in seen:
+                seen.add(it)
+                todo += called[it]
+        reach[name] = seen - {name}
+    return reach
+
+
+class Rounds:
+    """Which edits may stand in one check."""
+
+    def __init__(self, crate):
+        self.reach, self.learned = calls_of(crate), {}
+
+    def learn(self, edit):
+        """Keeps what a check said that an edited function calls."""
+        if edit.verdict == "doubt":
+            for symbol in edit.symbols:
+                self.learned.setdefault(symbol, set()).update(CALLED.findall(edit.said))
+
+    def clash(self, one, other):
+        """Whether a function of one is that of the other, or reaches it."""
+        bare = lambda it: it.rpartition("::")[2]
+        for a in one.symbols:
+            for b in other.symbols:
+                near = bare(a) in self.reach.get(bare(b), ()) or bare(b) in self.reach.get(bare(a), ())
+                if a == b or near or a in self.learned.get(b, ()) or b in self.learned.get(a, ()):
+                    return True
+        return False
+
+    def of(self, edits, texts):
+        """The edits in rounds, each with the texts that it makes: first those of the functions that
+        have the most edits, since each of them needs a round."""
+        count = {}
+        for it in edits:
+            count[it.symbols[0]] = count.get(it.symbols[0], 0) + 1
+        left, rounds = list(edits), []
+        while left:
+            left.sort(key=lambda it: -count[it.symbols[0]])
+            now, rest, made = [], [], dict(texts)
+            for it in left:
+                clash = len(now) == MOST or any(self.clash(it, other) for other in now)
+                tried = None if clash else applied(it.pairs, made)
+                if tried is None:
+                    rest.append(it)
+                else:
+                    made, now = tried, [*now, it]
+                    count[it.symbols[0]] -= 1
+            rounds.append((now, {path: text for path, text in made.items() if text != texts[path]}))
+            left = rest
+        return rounds
+
+
+class Trying:
+    """A crate's edits that are being tried, in a room of their own."""
+
+    def __init__(self, crate, edits, folder, rlibs, say, log):
+        self.crate, self.edits, self.say, self.log = crate, edits, say, log
+        self.room = Room(crate, folder, rlibs)
+        self.texts = {path: text for it in edits for path, text in it.texts.items()}
+        self.rounds, self.wholes, self.tried = Rounds(crate), [], set()
+
+    def run(self):
+        began = time.monotonic()
+        many = [it for it in self.edits if it.symbols and not it.verdict]
+        self.wholes = [it for it in self.edits if not it.symbols and not it.verdict]
+        self.in_rounds(many)
+        self.in_rounds([it for it in many if it.verdict in ("doubt", "proved")])
+        for it in many:
+            if it.verdict in ("doubt", "proved"):
+                self.alone(it)
+        for it in self.wholes:
+            status, said, took = self.room.check(it.made(), log=self.log)
+            it.verdict, it.said = judged_whole(status, said, it.texts)
+            self.say(f"{it.key}: by a check of the whole crate: {it.verdict}, {took:.0f} s")
+        self.control(many)
+        for it in self.edits:
+            if it.verdict == "names":
+                it.verdict = "BAD EDIT"
+                it.said = f"only a proof file names what it took away: {it.said}"
+        self.say(
+            f"{self.crate.name}: {len(self.edits)} edits in {self.room.checks} checks,"
+            f" {time.monotonic() - began:.0f} s, {self.room.processor:.0f} of a processor"
+        )
+
+    def in_rounds(self, edits):
+        """Tries edits in rounds, but for a round that was tried before."""
+        for now, made in self.rounds.of(edits, self.texts):
+            keys = frozenset(it.key for it in now)
+            if keys in self.tried or (len(now) == 1 and now[0].verdict):
+                continue
+            self.tried.add(keys)
+            self.judge(now, made)
+
+    def judge(self, now, made):
+        """One check of some edits at once."""
+        symbols = [symbol for it in now for symbol in it.symbols]
+        _, said, took = self.room.check(made, symbols, self.log)
+        found = judged(said, symbols, made)
+        for it in now:
+            # Of an edit of several functions one has to be refused.
+            of = [found[symbol] for symbol in it.symbols]
+            first = {v: (v, why) for v, why in reversed(of)}
+            it.verdict, it.said = next(first[v] for v in ("refused", "names", "doubt", "proved") if v in first)
+            self.rounds.learn(it)
+        refused = sum(it.verdict == "refused" for it in now)
+        self.say(f"{self.crate.name}: a round of {len(now)}, {refused} refused, {took:.0f} s")
+
+    def alone(self, edit):
+        """Tries one edit alone, and leaves it to a check of the whole crate where that tells no more."""
+        if frozenset([edit.key]) not in self.tried:
+            self.judge([edit], edit.made())
+        if edit.verdict in ("doubt", "proved"):
+            self.wholes.append(edit)
+
+    def control(self, many):
+        """Sees that the crate itself is proved over the same work, without which no refusal counts."""
+        if not self.room.checks:
+            return
+        only = [] if self.wholes else sorted({symbol for it in many for symbol in it.symbols})
+        status, said, took = self.room.check({}, only, self.log)
+        self.say(f"{self.crate.name}: without an edit, status {status}, {took:.0f} s")
+        if status:
+            for it in self.edits:
+                it.verdict, it.said = "UNSOUND", "the crate isn't proved without it"
+
+
+def try_edits(crate, edits, rlibs, say, log):
+    """Tries a crate's edits, and leaves each one's verdict with it: 'refused' is well."""
+    temp = tempfile.mkdtemp(prefix=f"try-edits-{crate.name}-")
+    try:
+        os.mkdir(f"{temp}/crate")
+        Trying(crate, edits, temp, rlibs, say, log).run()
+    finally:
+        shutil.rmtree(temp, ignore_errors=True)
