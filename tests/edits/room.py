@@ -58,6 +58,8 @@ class Room:
 
 def is_unread(line, changed):
     """Whether a line says that a text can't be read, where a wrong body reads well."""
+    if re.match(r"(?:\./)?src/\S+:\d+:\d+: error\[", line):
+        return True
     at = re.match(r"(?:\./)?(\S+?):\d+:\d+: error: (?:(`[^`]*`): )?(.*)", line)
     if not at or at[1] not in changed and not at[1].startswith(("src/", "specs/")):
         return False
@@ -66,12 +68,14 @@ def is_unread(line, changed):
 
 def judged(said, symbols, changed):
     """What a check that names these functions says of each: 'refused' by a goal of its own, 'names'
-    where only a proof file misses what the edit took away, 'proved', or 'doubt'; and the line that
-    tells why."""
+    where only a proof file misses what the edit took away, 'proved', 'unread' where some text can't
+    be read, or 'doubt'; and the line that tells why."""
     lines = said.rstrip("\n").split("\n")
     unread = next((it for it in lines if is_unread(it, changed)), None)
-    if unread or not lines[-1].startswith("only="):
-        return {it: ("doubt", unread or lines[-1]) for it in symbols}
+    if unread:
+        return {it: ("unread", unread) for it in symbols}
+    if not lines[-1].startswith("only="):
+        return {it: ("doubt", lines[-1]) for it in symbols}
     found, notes = {}, []
     for line in lines:
         at = FUNCTION.match(line)

@@ -16,6 +16,8 @@ from edit import applied
 from room import CALLED, Room, judged, judged_whole
 
 MOST = 20  # edits in a round
+VERDICTS = ("refused", "names", "unread", "doubt", "proved")
+OPEN = ("doubt", "proved")  # of these an edit is tried again
 
 
 def calls_of(crate):
@@ -104,9 +106,9 @@ class Trying:
         many = [it for it in self.edits if it.symbols and not it.verdict]
         self.wholes = [it for it in self.edits if not it.symbols and not it.verdict]
         self.in_rounds(many)
-        self.in_rounds([it for it in many if it.verdict in ("doubt", "proved")])
+        self.in_rounds([it for it in many if it.verdict in OPEN])
         for it in many:
-            if it.verdict in ("doubt", "proved"):
+            if it.verdict in OPEN:
                 self.alone(it)
         for it in self.wholes:
             status, said, took = self.room.check(it.made(), log=self.log)
@@ -140,7 +142,9 @@ class Trying:
             # Of an edit of several functions one has to be refused.
             of = [found[symbol] for symbol in it.symbols]
             first = {v: (v, why) for v, why in reversed(of)}
-            it.verdict, it.said = next(first[v] for v in ("refused", "names", "doubt", "proved") if v in first)
+            it.verdict, it.said = next(first[v] for v in VERDICTS if v in first)
+            if it.verdict == "unread":
+                it.verdict = "doubt" if len(now) > 1 else "BAD EDIT"
             self.rounds.learn(it)
         refused = sum(it.verdict == "refused" for it in now)
         self.say(f"{self.crate.name}: a round of {len(now)}, {refused} refused, {took:.0f} s")
@@ -149,7 +153,7 @@ class Trying:
         """Tries one edit alone, and leaves it to a check of the whole crate where that tells no more."""
         if frozenset([edit.key]) not in self.tried:
             self.judge([edit], edit.made())
-        if edit.verdict in ("doubt", "proved"):
+        if edit.verdict in OPEN:
             self.wholes.append(edit)
 
     def control(self, many):
