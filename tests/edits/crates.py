@@ -76,3 +76,13 @@ def kit():
 FUNCTION = re.compile(
     r"^(\s*)(?:pub(?:\([^)]*\))? )?(?:final |const |unsafe |extern \"C\" )*fn (\w+)"
 )
+
+
+def owner_in(head):
+    """The type whose functions an impl has, by its first line; of a trait's impl type and trait, as
+    rattle names them. None where it is no impl."""
+    found = re.match(r"(?:unsafe )?impl(?:<.*?>)? (?:(.*) for )?&?(?:'\w+ )?(\w+)", head)
+    if not found:
+        return None
+    trait = re.sub(r"'\w+", "", found[1] or "")
+    return found[2] + "".join(re.findall(r"\w+", trait))

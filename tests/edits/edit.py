@@ -7,8 +7,9 @@ import glob
 import os
 import re
 
-from crates import FOLDERS, FUNCTION
+from crates import FOLDERS, FUNCTION, owner_in
 
+BLOCK = re.compile(r"(unsafe )?impl\b|(pub )?trait ")
 IMPORT = re.compile(r"\s*(?:pub )?(?:ghost )?use ")
 
 
@@ -37,16 +38,6 @@ def applied(pairs, texts):
     return texts
 
 
-def owner_of(lines, top):
-    """The type whose methods the block has in which this line stands; None where it is a trait's."""
-    heads = (lines[n] for n in range(top, -1, -1))
-    head = next((it for it in heads if re.match(r"(unsafe )?impl\b|(pub )?trait ", it)), "")
-    if " for " in head or "trait " in head:
-        return None
-    named = re.match(r"(?:unsafe )?impl(?:<.*?>)? ([\w:]+)", head)
-    return named and named[1]
-
-
 def body_at(text, at):
     """The function in whose body this place is, as its type and its name, or None."""
     lines = text.split("\n")
@@ -65,8 +56,11 @@ def body_at(text, at):
             opens = next((n for n in range(top, end) if lines[n] == f"{indent}{{"), end)
         if row <= opens:
             return None
-        owner = owner_of(lines, top) if indent else ""
-        return None if owner is None else (owner, found[2])
+        if not indent:
+            return "", found[2]
+        head = next((lines[n] for n in range(top, -1, -1) if BLOCK.match(lines[n])), "")
+        owner = owner_in(head)
+        return (owner, found[2]) if owner else None
     return None
 
 

@@ -12,7 +12,7 @@ import functools
 import hashlib
 import re
 
-from crates import FUNCTION, kit
+from crates import FUNCTION, kit, owner_in
 
 WORDS = re.compile(r"[^\s(){}\[\],;.⟦⟧`]+")
 IMPORT = re.compile(r"(?:pub |unfoldable |ghost )*use ([\w.+#-]+?)(?:\.\{(.*)\})?(?: as ([^\s;]+))?;?$")
@@ -23,11 +23,13 @@ CALL = re.compile(r"(?:\b([A-Z]\w*)::(?:<[^;()]*?>::)?|(self\.)|(\.))?\b(\w+)(?:
 
 
 class Item:
-    """A text that has names: what it is of, those that it stands under, and where names in it lead."""
+    """A text that has a name: a type, a function's contract (with its body, and the first line of
+    the impl that it stands in), a definition or statement, or a part of a proof."""
 
-    def __init__(self, kind, name, text, file, owner=None, body=""):
+    def __init__(self, kind, name, text, file, impl="", body=""):
         self.kind, self.name, self.text, self.file = kind, name, text, file
-        self.owner, self.body = owner, body
+        self.impl, self.body = impl, body
+        self.owner = owner_in(impl)
 
 
 class File:
@@ -83,8 +85,8 @@ class File:
                 self.add(Item("proof" if is_proof else "term", name, head + text, self))
                 last = name
 
-    def read_code(self, lines, owner):
-        """Reads the items of code; of an impl of a type's own, its functions."""
+    def read_code(self, lines, impl):
+        """Reads the items of code, those of an impl under its first line."""
         chunks, is_open = [], False
         for line in lines:
             if line and line[0] not in " }{)" and not is_open:
@@ -93,9 +95,9 @@ class File:
                 chunks[-1].append(line)
             is_open = line.startswith("#[") or (is_open and not line)
         for chunk in chunks:
-            self.read_item([it for it in chunk if it], owner)
+            self.read_item([it for it in chunk if it], impl)
 
-    def read_item(self, lines, owner):
+    def read_item(self, lines, impl):
         top = next((n for n, it in enumerate(lines) if not it.startswith("#")), 0)
         first, text = lines[top], "\n".join(lines)
         function, named = FUNCTION.match(first), TYPE.match(first)
@@ -106,15 +108,14 @@ class File:
             head, body = "\n".join(lines[:opens]), "\n".join(lines[opens:])
             if opens < len(lines) and lines[opens] != "{":
                 head += "\n" + lines[opens]
-            self.add(Item("fn", function[2], head, self, owner, body))
+            self.add(Item("fn", function[2], head, self, impl, body))
         elif named:
             self.add(Item("type", named[1], text, self))
         elif re.match(r"(unsafe )?impl\b", first):
-            of = re.match(r"(?:unsafe )?impl(?:<.*?>)? (?:.* for )?&?(?:'\w+ )?(\w+)", first)
-            if " for " in first or not of:
-                self.add(Item("type", of[1] if of else "impl", text, self))
-            else:
-                self.read_code([it.removeprefix("    ") for it in lines[top + 1 : -1]], of[1])
+            of = re.search(r"(?:.* for |impl(?:<.*?>)? )&?(?:'\w+ )?(\w+)", first)
+            if " for " in first:
+                self.add(Item("type", of[1], text, self))
+            self.read_code([it.removeprefix("    ") for it in lines[top + 1 : -1]], first)
 
 
 class Rests:
@@ -183,7 +184,7 @@ class Rests:
         for word in set(WORDS.findall(text)):
             found += self.named(item.file, word)
         if item.kind in ("type", "fn"):
-            for word in {*re.findall(r"\b[A-Z]\w*", text), item.owner}:
+            for word in set(re.findall(r"\b[A-Z]\w*", item.impl + text)):
                 for crate in self.scope(item.file.crate):
                     found += self.types[crate].get(word, [])
         return found + (self.called(item) if with_body else [])
