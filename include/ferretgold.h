@@ -1,10 +1,10 @@
 /*
  * ferretgold.h - a block cache of fixed slots for many threads, without locks.
  *
- * A cache has keys of 16 bytes, values of bytes, charges and priorities. Its table is taken when it
- * is opened. Each call returns after a stated number of atomic steps at most, whatever other threads
- * do. What the calls do is proved; docs/CACHE.md tells it at length, and how to choose the sizes. The
- * header is for C11, C++11 and later.
+ * A cache has keys of 16 bytes, values of at most 4,096 bytes, charges and priorities. Its table is
+ * allocated when it is opened. Each call returns after at most a stated number of atomic steps,
+ * whatever other threads do. What the calls do is proved; docs/GUIDE.md says how to use them and how
+ * to choose the sizes. The header is for C11, C++11 and later.
  *
  *     ferretgold_config config = { .slots = 1024, .room = 512, .clients = 2, .handles = 16,
  *                                  .shards = 2, .strict = true, .capacity = 4 << 20,
@@ -36,9 +36,9 @@
  *
  * REFUSALS
  *   A call that returns FERRETGOLD_OK did what it says. A call that refuses changed nothing: no
- *   object, and nothing that a pointer of the caller's points to, but where it says so.
- *   The first refusal that is due is told, in the order in which each call lists them; before them
- *   all comes FERRETGOLD_NULL, where a pointer is null that may not be.
+ *   object, and nothing that a pointer of the caller's points to, except where it says so.
+ *   The first refusal that is due is returned, in the order in which each call lists them; before
+ *   them all comes FERRETGOLD_NULL, if a pointer is null that may not be.
  *
  * NOT CHECKED
  *   No call can tell that a pointer dangles (to a client or a cache that was closed, or to fewer
@@ -48,8 +48,8 @@
  *
  * COSTS
  *   L stands for the slots of a shard, W for the payload words of a slot, S for the shards. Bounds
- *   are atomic steps on the cache's words, at most. Calls neither take memory nor give it back but
- *   where it is said; what malloc and free cost there, which may wait for other threads, comes on top.
+ *   are the most atomic steps on the cache's words. Calls neither allocate nor free, except where it
+ *   is said; what malloc and free cost there, which may wait for other threads, comes on top.
  *
  * The calls are inline functions: each looks for null pointers, and hands the rest to the library.
  * Other languages declare the functions of the library themselves (ferretgold_raw_*, at the end);
@@ -66,10 +66,10 @@
 extern "C" {
 #endif
 
-/* What a call answers. */
+/* What a call returns. */
 typedef enum ferretgold_status {
     FERRETGOLD_OK = 0,
-    /* Nothing of the key was found. Of ferretgold_lookup alone. */
+    /* Nothing of the key was found. Of ferretgold_lookup only. */
     FERRETGOLD_MISS = 1,
 
     /* A pointer is null that may not be. */
@@ -92,9 +92,9 @@ typedef enum ferretgold_status {
     FERRETGOLD_SPENT = 24,
     /* The charge is above the capacity of a shard, which is strict. */
     FERRETGOLD_TOO_LARGE = 25,
-    /* Strict alone: evictions freed too little of the charge. They stay made; a serial is used. */
+    /* Strict only: evictions freed too little of the charge. They stay made; a serial is used. */
     FERRETGOLD_CAPACITY_FULL = 26,
-    /* Strict alone: the shard was full, and evictions freed no slot. They stay made; a serial is
+    /* Strict only: the shard was full, and evictions freed no slot. They stay made; a serial is
      * used. */
     FERRETGOLD_OCCUPANCY_FULL = 27,
     /* Memory was refused. */
@@ -128,9 +128,9 @@ typedef enum ferretgold_priority {
 typedef enum ferretgold_inserted {
     /* The entry is in the table. */
     FERRETGOLD_PLACED = 0,
-    /* It is as if the entry had been placed and evicted at once. Without a handle alone. */
+    /* As if the entry had been placed and evicted at once. Of ferretgold_insert only. */
     FERRETGOLD_DROPPED = 1,
-    /* The entry is in no table, and goes with its last handle. With a handle alone. */
+    /* The entry is in no table, and goes with its last handle. Of ferretgold_insert_pinned only. */
     FERRETGOLD_STANDALONE = 2
 } ferretgold_inserted;
 
@@ -149,7 +149,7 @@ typedef struct ferretgold_config {
     uint64_t capacity; /* in charges, at most 2^40; each shard has an equal part, rounded up */
     uint64_t serials;  /* of each client: 1 to 2^54; an insertion uses one, and so does a handle that
                           ferretgold_lookup or ferretgold_reref gives */
-    uint64_t seed;     /* of the keys; 0 only where keys are spread already, as hashes are */
+    uint64_t seed;     /* of the keys; 0 only if keys are spread already, as hashes are */
 } ferretgold_config;
 
 /* A key of 16 bytes. */
@@ -166,7 +166,7 @@ typedef struct ferretgold_handle {
     uint32_t reserved;
 } ferretgold_handle;
 
-/* What the calls of a client did on all shards. A count at its end stays there. */
+/* What the calls of a client did on all shards. Counts saturate. */
 typedef struct ferretgold_stats {
     uint64_t probes;      /* slots that were visited for a key */
     uint64_t boosts;      /* insertions that met their key */
@@ -175,7 +175,7 @@ typedef struct ferretgold_stats {
     uint64_t freed;       /* the charges of those that evictions freed */
     uint64_t turns;       /* turns of the clock's hand */
     uint64_t corrections; /* of words whose uses were near their end */
-    uint64_t lost;        /* exchanges that another thread's step made lose */
+    uint64_t lost;        /* compare-exchanges that lost to another thread's step */
 } ferretgold_stats;
 
 /* What was left of a cache that was closed: the charges of its entries in sum and their number, by
@@ -194,13 +194,13 @@ typedef struct ferretgold_client ferretgold_client;
 /* ---- The library's functions. Programs in C and C++ call the inline functions below. ---------- */
 
 /* A pointer to a cache or to a client, as a call takes it: by its address, and by value where the
- * object ends. It isn't null, and a call leaves it as it was. Where a call gives an object, or hands
+ * object ends. It isn't null, and a call leaves it as it was. If a call gives an object, or hands
  * back as `kept` one that it didn't end, the address is that of a null one before. */
 typedef struct ferretgold_object {
     void *at;
 } ferretgold_object;
 
-/* None of these pointers is null, also where a length is 0. `home` is the address of the cache's
+/* None of these pointers is null, even if a length is 0. `home` is the address of the cache's
  * object in both calls that take it. */
 uint32_t ferretgold_raw_open(const ferretgold_config *config, ferretgold_object *cache);
 uint32_t ferretgold_raw_client_open(ferretgold_object *cache, size_t home,
@@ -254,9 +254,9 @@ static inline ferretgold_object ferretgold_object_of(void *at) {
 /*
  * Opens a cache with no entries, and with all its clients, of which none is out yet.
  *
- * Takes the memory of the table and of all clients: for each slot 56 bytes and its room, for each
- * client some 100 bytes for each handle that it may hold. ferretgold_client_open and
- * ferretgold_insert_pinned take more. Costs a store for each word.
+ * Allocates the table and all clients: for each slot 56 bytes and its room, for each client some 100
+ * bytes for each handle that it may hold. ferretgold_client_open and ferretgold_insert_pinned
+ * allocate more. Costs a store for each word.
  *
  * Refuses BAD_SLOTS, BAD_ROOM, BAD_CLIENTS, BAD_HANDLES, BAD_SHARDS, BAD_CAPACITY, BAD_SERIALS,
  * then OUT_OF_MEMORY. Nothing remains then.
@@ -278,8 +278,7 @@ static inline ferretgold_status ferretgold_open(const ferretgold_config *config,
  * Gives out a client: one that holds no handle, new or given back before. One that was given back
  * has the serials left that it had, and its statistics.
  *
- * Takes memory for the client's object and for 40 bytes a handle. Makes no atomic step on the
- * cache's words.
+ * Allocates the client's object and 40 bytes a handle. Makes no atomic step on the cache's words.
  *
  * Refuses NO_CLIENT, OUT_OF_MEMORY.
  */
@@ -300,7 +299,7 @@ static inline ferretgold_status ferretgold_client_open(ferretgold_cache *cache,
 /*
  * Takes a client back. Its pointer stands for nothing from then on.
  *
- * Gives the memory of ferretgold_client_open back. Makes no atomic step on the cache's words.
+ * Frees what ferretgold_client_open allocated. Makes no atomic step on the cache's words.
  *
  * Refuses OTHER_CACHE, HANDLES_OUT: release them first. After a refusal the client works on.
  */
@@ -316,8 +315,8 @@ static inline ferretgold_status ferretgold_client_close(ferretgold_cache *cache,
 }
 
 /*
- * Ends a cache whose clients are all back, and tells what was left in it. Its pointer stands for
- * nothing from then on, and all memory is given back. `totals` may be null.
+ * Ends a cache whose clients are all back, and returns what was left in it. Its pointer stands for
+ * nothing from then on, and all memory is freed. `totals` may be null.
  *
  * A cache of which a client was lost can't be closed: it stays.
  *
@@ -331,11 +330,11 @@ static inline ferretgold_status ferretgold_close(ferretgold_cache *cache,
     if (cache == NULL) {
         return FERRETGOLD_NULL;
     }
-    ferretgold_totals told = {0, 0, 0, 0};
+    ferretgold_totals answer = {0, 0, 0, 0};
     ferretgold_object kept = ferretgold_object_of(NULL);
-    uint32_t status = ferretgold_raw_close(ferretgold_object_of(cache), &told, &kept);
+    uint32_t status = ferretgold_raw_close(ferretgold_object_of(cache), &answer, &kept);
     if (status == FERRETGOLD_OK && totals != NULL) {
-        *totals = told;
+        *totals = answer;
     }
     return (ferretgold_status)status;
 }
@@ -344,13 +343,13 @@ static inline ferretgold_status ferretgold_close(ferretgold_cache *cache,
 
 /*
  * Looks for a visible entry of the key. FERRETGOLD_OK: the client has a handle on it, and a serial
- * is used. FERRETGOLD_MISS: there was none that the client could see; nothing is changed but the
- * client's statistics.
+ * is used. FERRETGOLD_MISS: there was none that the client could see; nothing is changed except
+ * the client's statistics.
  *
  * Never gives an entry that this client saw erased. Costs at a first hit a load, an add and two
  * loads. Bound: 7*L.
  *
- * Refuses HANDLES_FULL, SPENT; also where the key isn't there.
+ * Refuses HANDLES_FULL, SPENT; also if the key isn't there.
  */
 static inline ferretgold_status ferretgold_lookup(ferretgold_client *client,
                                                   const ferretgold_key *key,
@@ -391,12 +390,12 @@ static inline ferretgold_status ferretgold_reref(ferretgold_client *client,
 }
 
 /*
- * Gives a handle back: as a use of its entry where `useful`, which is what keeps entries that are
- * read. Where it was the last reference, and the entry was erased or `erase_if_last`, one try is
- * made to free the entry. A standalone entry goes with its last handle, and its copy by free. `freed`
- * tells whether this call freed an entry; it may be null.
+ * Gives a handle back: as a use of its entry if `useful`, which is what keeps entries that are read.
+ * If it was the last reference, and the entry was erased or `erase_if_last` is set, one try is made
+ * to free the entry. A standalone entry goes with its last handle, and its copy by free. `freed` gets
+ * whether this call freed an entry; it may be null.
  *
- * Costs an add or a take; where it frees, a few steps and one for each slot of the entry's trail.
+ * Costs an add or a subtraction; if it frees, a few steps and one for each slot of the entry's trail.
  * Bound: L + 8.
  *
  * Refuses NO_HANDLE.
@@ -408,11 +407,11 @@ static inline ferretgold_status ferretgold_release(ferretgold_client *client,
         return FERRETGOLD_NULL;
     }
     ferretgold_object object = ferretgold_object_of(client);
-    bool told = false;
+    bool answer = false;
     uint32_t status = ferretgold_raw_release(&object, &handle, useful,
-                                             erase_if_last, &told);
+                                             erase_if_last, &answer);
     if (status == FERRETGOLD_OK && freed != NULL) {
-        *freed = told;
+        *freed = answer;
     }
     return (ferretgold_status)status;
 }
@@ -431,17 +430,17 @@ static inline const uint8_t *ferretgold_bytes_of(const void *value) {
 
 /*
  * Inserts an entry of this key, value and charge, and keeps no handle on it. A place and the charge
- * are reserved in the key's shard first, which may evict others. `value` may be null where `length`
- * is 0, and `inserted` may be null.
+ * are reserved in the key's shard first, which may evict others. `value` may be null if `length` is
+ * 0, and `inserted` may be null.
  *
  * PLACED: the entry is in the table. DROPPED: the shard was full and no place was found, or an entry
  * of the key was met first (it is used then, and its value stays), or as many slots as the shard has
- * were seen taken. Uses a serial, also where it is refused by the last two.
+ * were seen taken. Uses a serial, also if it is refused by the last two.
  *
  * Costs the reservation, for each probe what a look-up costs, and a store for each word of the entry.
  * Bound: (4*L + 25)*(3*L/4 + 1) + 8*L + W + 8.
  *
- * Refuses BAD_PRIORITY, NO_CHARGE, TOO_LONG, SPENT, TOO_LARGE; and under strict, after evictions
+ * Refuses BAD_PRIORITY, NO_CHARGE, TOO_LONG, SPENT, TOO_LARGE; and if strict, after evictions
  * that stay made, CAPACITY_FULL, OCCUPANCY_FULL.
  */
 static inline ferretgold_status ferretgold_insert(ferretgold_client *client,
@@ -453,12 +452,12 @@ static inline ferretgold_status ferretgold_insert(ferretgold_client *client,
         return FERRETGOLD_NULL;
     }
     ferretgold_object object = ferretgold_object_of(client);
-    uint32_t told = 0;
+    uint32_t answer = 0;
     uint32_t status =
         ferretgold_raw_insert(&object, key, ferretgold_bytes_of(value), length,
-                              charge, (uint32_t)priority, &told);
+                              charge, (uint32_t)priority, &answer);
     if (status == FERRETGOLD_OK && inserted != NULL) {
-        *inserted = (ferretgold_inserted)told;
+        *inserted = (ferretgold_inserted)answer;
     }
     return (ferretgold_status)status;
 }
@@ -467,14 +466,14 @@ static inline ferretgold_status ferretgold_insert(ferretgold_client *client,
  * Inserts an entry of this key, value and charge, and gives a handle on it. PLACED: it is in the
  * table. STANDALONE: it isn't, for one of the reasons that ferretgold_insert drops one for; look-ups
  * don't find it, its charge is in the usage, and it goes with its last handle. `value` may be null
- * where `length` is 0, and `inserted` may be null. Uses one serial, also where it is refused by the
- * last two.
+ * if `length` is 0, and `inserted` may be null. Uses one serial, also if it is refused by the last
+ * two.
  *
- * Takes memory for a copy of the value by malloc, and gives it back by free unless the entry stands
- * alone, which keeps it. Costs what ferretgold_insert costs, the copy, and where no place was found
- * two adds more. Bound: the same.
+ * Allocates a copy of the value by malloc, and frees it unless the entry is standalone, which keeps
+ * it. Costs what ferretgold_insert costs, the copy, and if no place was found two adds more. Bound:
+ * the same.
  *
- * Refuses BAD_PRIORITY, NO_CHARGE, TOO_LONG, OUT_OF_MEMORY, HANDLES_FULL, SPENT, TOO_LARGE; and under
+ * Refuses BAD_PRIORITY, NO_CHARGE, TOO_LONG, OUT_OF_MEMORY, HANDLES_FULL, SPENT, TOO_LARGE; and if
  * strict, after evictions that stay made, CAPACITY_FULL, OCCUPANCY_FULL.
  */
 static inline ferretgold_status ferretgold_insert_pinned(ferretgold_client *client,
@@ -489,15 +488,15 @@ static inline ferretgold_status ferretgold_insert_pinned(ferretgold_client *clie
         return FERRETGOLD_NULL;
     }
     ferretgold_object object = ferretgold_object_of(client);
-    uint32_t told = 0;
+    uint32_t answer = 0;
     ferretgold_handle given = {0, 0, 0, 0};
     uint32_t status = ferretgold_raw_insert_pinned(&object, key,
                                                    ferretgold_bytes_of(value), length, charge,
-                                                   (uint32_t)priority, &told, &given);
+                                                   (uint32_t)priority, &answer, &given);
     if (status == FERRETGOLD_OK) {
         *handle = given;
         if (inserted != NULL) {
-            *inserted = (ferretgold_inserted)told;
+            *inserted = (ferretgold_inserted)answer;
         }
     }
     return (ferretgold_status)status;
@@ -505,9 +504,9 @@ static inline ferretgold_status ferretgold_insert_pinned(ferretgold_client *clie
 
 /*
  * Hides each visible entry of the key: no look-up finds them from then on. Frees those on which there
- * is no handle, this client's neither, where the one exchange for it wins. The others go with their
- * last reference, and handles show what they showed. `hidden` tells how many were hidden; it may be
- * null.
+ * is no handle, not this client's either, if its one compare-exchange for it wins. The others go with
+ * their last reference, and handles show what they showed. `hidden` gets how many were hidden; it may
+ * be null.
  *
  * Costs for each probe what a look-up costs, and for each match what freeing costs.
  * Bound: (L + 14)*L + 2.
@@ -518,10 +517,10 @@ static inline ferretgold_status ferretgold_erase(ferretgold_client *client,
         return FERRETGOLD_NULL;
     }
     ferretgold_object object = ferretgold_object_of(client);
-    uint32_t told = 0;
-    uint32_t status = ferretgold_raw_erase(&object, key, &told);
+    uint32_t answer = 0;
+    uint32_t status = ferretgold_raw_erase(&object, key, &answer);
     if (hidden != NULL) {
-        *hidden = told;
+        *hidden = answer;
     }
     return (ferretgold_status)status;
 }
@@ -540,10 +539,10 @@ static inline ferretgold_status ferretgold_handle_key(ferretgold_client *client,
         return FERRETGOLD_NULL;
     }
     ferretgold_object object = ferretgold_object_of(client);
-    ferretgold_key told = {0, 0};
-    uint32_t status = ferretgold_raw_key(&object, &handle, &told);
+    ferretgold_key answer = {0, 0};
+    uint32_t status = ferretgold_raw_key(&object, &handle, &answer);
     if (status == FERRETGOLD_OK) {
-        *key = told;
+        *key = answer;
     }
     return (ferretgold_status)status;
 }
@@ -559,22 +558,22 @@ static inline ferretgold_status ferretgold_value_len(ferretgold_client *client,
         return FERRETGOLD_NULL;
     }
     ferretgold_object object = ferretgold_object_of(client);
-    size_t told = 0;
-    uint32_t status = ferretgold_raw_value_len(&object, &handle, &told);
+    size_t answer = 0;
+    uint32_t status = ferretgold_raw_value_len(&object, &handle, &answer);
     if (status == FERRETGOLD_OK) {
-        *length = told;
+        *length = answer;
     }
     return (ferretgold_status)status;
 }
 
 /*
- * Copies the value to the front of a buffer of `capacity` bytes, and tells its length. The rest of
- * the buffer stays. `buffer` may be null where `capacity` is 0, and `length` may be null.
+ * Copies the value to the front of a buffer of `capacity` bytes; `length` gets its length. The rest
+ * of the buffer stays. `buffer` may be null if `capacity` is 0, and `length` may be null.
  *
  * Costs two loads for the length, and one for each eight bytes; of a standalone entry a copy.
  * Bound: W + 2.
  *
- * Refuses NO_HANDLE; TOO_SHORT, where `length` tells how many bytes the value has.
+ * Refuses NO_HANDLE; TOO_SHORT, and then `length` gets how many bytes the value has.
  */
 static inline ferretgold_status ferretgold_read_value(ferretgold_client *client,
                                                       ferretgold_handle handle, void *buffer,
@@ -584,12 +583,12 @@ static inline ferretgold_status ferretgold_read_value(ferretgold_client *client,
     }
     ferretgold_object object = ferretgold_object_of(client);
     uint8_t none[1];
-    size_t told = 0;
+    size_t answer = 0;
     uint32_t status = ferretgold_raw_read_value(&object, &handle,
                                                 buffer != NULL ? (uint8_t *)buffer : none,
-                                                capacity, &told);
+                                                capacity, &answer);
     if ((status == FERRETGOLD_OK || status == FERRETGOLD_TOO_SHORT) && length != NULL) {
-        *length = told;
+        *length = answer;
     }
     return (ferretgold_status)status;
 }
@@ -621,8 +620,8 @@ static inline ferretgold_status ferretgold_pinned_usage(ferretgold_client *clien
     return FERRETGOLD_OK;
 }
 
-/* How many entries the table has, with the places and freed slots that other clients have in hand;
- * standalone ones don't count. Bound: S. */
+/* How many entries the table has, with the places and freed slots that other clients have in hand: at
+ * most 84 of a hundred slots, and a place for each client. Standalone ones don't count. Bound: S. */
 static inline ferretgold_status ferretgold_occupancy(ferretgold_client *client,
                                                      uint64_t *occupancy) {
     if (client == NULL || occupancy == NULL) {
@@ -641,10 +640,10 @@ static inline ferretgold_status ferretgold_word(ferretgold_client *client, uint3
         return FERRETGOLD_NULL;
     }
     ferretgold_object object = ferretgold_object_of(client);
-    uint64_t told = 0;
-    uint32_t status = ferretgold_raw_word(&object, shard, slot, &told);
+    uint64_t answer = 0;
+    uint32_t status = ferretgold_raw_word(&object, shard, slot, &answer);
     if (status == FERRETGOLD_OK) {
-        *word = told;
+        *word = answer;
     }
     return (ferretgold_status)status;
 }
@@ -655,16 +654,16 @@ static inline ferretgold_status ferretgold_displacement(ferretgold_client *clien
         return FERRETGOLD_NULL;
     }
     ferretgold_object object = ferretgold_object_of(client);
-    uint64_t told = 0;
-    uint32_t status = ferretgold_raw_displacement(&object, shard, slot, &told);
+    uint64_t answer = 0;
+    uint32_t status = ferretgold_raw_displacement(&object, shard, slot, &answer);
     if (status == FERRETGOLD_OK) {
-        *displacement = told;
+        *displacement = answer;
     }
     return (ferretgold_status)status;
 }
 
 /* ---- Of a client, without an atomic step. A null client has no handle and no serial; its number is
- * told as 0, and ferretgold_statistics refuses it. ------------------------------------------------ */
+ * 0, and ferretgold_statistics refuses it. ------------------------------------------------ */
 
 /* Its number among the cache's clients, from 0. */
 static inline uint32_t ferretgold_client_number(ferretgold_client *client) {
@@ -697,15 +696,15 @@ static inline ferretgold_status ferretgold_statistics(ferretgold_client *client,
         return FERRETGOLD_NULL;
     }
     ferretgold_object object = ferretgold_object_of(client);
-    ferretgold_stats told = {0, 0, 0, 0, 0, 0, 0, 0};
-    ferretgold_raw_stats(&object, &told);
-    *stats = told;
+    ferretgold_stats answer = {0, 0, 0, 0, 0, 0, 0, 0};
+    ferretgold_raw_stats(&object, &answer);
+    *stats = answer;
     return FERRETGOLD_OK;
 }
 
 /* ---- Texts ----------------------------------------------------------------------------------- */
 
-/* The name of a status; "unknown" where there is none. */
+/* A status as a sentence; "unknown" if it is none. */
 static inline const char *ferretgold_status_text(ferretgold_status status) {
     switch (status) {
     case FERRETGOLD_OK: return "ok";
@@ -715,21 +714,21 @@ static inline const char *ferretgold_status_text(ferretgold_status status) {
     case FERRETGOLD_NO_CHARGE: return "the charge is 0";
     case FERRETGOLD_TOO_LONG: return "the value is longer than a slot has room for";
     case FERRETGOLD_TOO_SHORT: return "the buffer is shorter than the value";
-    case FERRETGOLD_BAD_PRIORITY: return "there is no such priority";
+    case FERRETGOLD_BAD_PRIORITY: return "the priority is unknown";
     case FERRETGOLD_OUT_OF_RANGE: return "there is no such shard or slot";
-    case FERRETGOLD_HANDLES_FULL: return "the client holds all the handles that it may";
+    case FERRETGOLD_HANDLES_FULL: return "the client holds as many handles as it may";
     case FERRETGOLD_SPENT: return "the client has used all its serials";
     case FERRETGOLD_TOO_LARGE: return "the charge is above a shard's capacity";
     case FERRETGOLD_CAPACITY_FULL: return "evictions freed too little of the charge";
     case FERRETGOLD_OCCUPANCY_FULL: return "evictions freed no slot";
-    case FERRETGOLD_OUT_OF_MEMORY: return "memory was refused";
-    case FERRETGOLD_BAD_SLOTS: return "slots is no power of two from 8 to 65536";
-    case FERRETGOLD_BAD_ROOM: return "room is not 1 to 512";
-    case FERRETGOLD_BAD_CLIENTS: return "clients is not 1 to 1024";
-    case FERRETGOLD_BAD_HANDLES: return "handles is not 1 to 16384";
-    case FERRETGOLD_BAD_SHARDS: return "shards is no power of two from 1 to 64";
-    case FERRETGOLD_BAD_CAPACITY: return "capacity is above 2^40";
-    case FERRETGOLD_BAD_SERIALS: return "serials is not 1 to 2^54";
+    case FERRETGOLD_OUT_OF_MEMORY: return "an allocation failed";
+    case FERRETGOLD_BAD_SLOTS: return "slots must be a power of two from 8 to 65,536";
+    case FERRETGOLD_BAD_ROOM: return "room must be 1 to 512";
+    case FERRETGOLD_BAD_CLIENTS: return "clients must be 1 to 1,024";
+    case FERRETGOLD_BAD_HANDLES: return "handles must be 1 to 16,384";
+    case FERRETGOLD_BAD_SHARDS: return "shards must be a power of two from 1 to 64";
+    case FERRETGOLD_BAD_CAPACITY: return "capacity must be at most 2^40";
+    case FERRETGOLD_BAD_SERIALS: return "serials must be 1 to 2^54";
     case FERRETGOLD_NO_CLIENT: return "all clients of the cache are out";
     case FERRETGOLD_OTHER_CACHE: return "the client is one of another cache";
     case FERRETGOLD_HANDLES_OUT: return "the client holds handles";

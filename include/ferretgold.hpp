@@ -1,8 +1,8 @@
 // ferretgold.hpp - a small wrapper of ferretgold.h for C++17: objects that give themselves back.
 //
-// ferretgold.h says what each call does. Here a refusal is thrown as ferretgold::refused, but for a
-// miss, which is an empty handle, and for insert, whose status is returned. Whether an entry was
-// placed isn't told: the calls of ferretgold.h tell it, by get(). All objects of a cache go before
+// ferretgold.h says what each call does. Here a refusal is thrown as ferretgold::refused, except a
+// miss, which is an empty handle, and insert's, whose status is returned. Whether an entry was placed
+// only the calls of ferretgold.h say, by get(). All objects of a cache go before
 // the cache: handles before their client, clients before the cache.
 #ifndef FERRETGOLD_HPP
 #define FERRETGOLD_HPP
@@ -56,7 +56,7 @@ class handle {
         return length;
     }
 
-    // Copies the value to a buffer that has room for it, and tells how many bytes it has.
+    // Copies the value to a buffer that has room for it, and returns how many bytes it has.
     std::size_t read(void *buffer, std::size_t capacity) const {
         std::size_t length = 0;
         must(ferretgold_read_value(client_, held_, buffer, capacity, &length));
@@ -91,7 +91,7 @@ class client {
         }
     }
 
-    // A handle on an entry of the key; none where there is none.
+    // A handle on an entry of the key; none if there is none.
     handle lookup(const ferretgold_key &key) {
         ferretgold_handle found{};
         ferretgold_status status = ferretgold_lookup(client_, &key, &found);
