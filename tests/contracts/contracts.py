@@ -93,7 +93,8 @@ def contract_at(lines, row, indent):
             above.append(line)
         elif not clauses and line.strip():
             signature.append(line.removesuffix(" {"))
-        if line.endswith(" {") and not clauses or line.endswith(";"):
+        is_open = clauses and clauses[-1].depth > 0
+        if not is_open and (line.endswith(";") or line.endswith(" {") and not clauses):
             break
     return signature, clauses
 
@@ -124,8 +125,9 @@ class Exports:
             path = next(it for it in paths if os.path.isfile(f"{crate.folder}/{it}"))
             self.files.add(path)
             self.names.update(TYPE.findall(crate.text(path)))
-        for many, one in EXPORTED.findall(head):
-            self.names.update(re.findall(r"\w+", many or one))
+        for text in [head] + [crate.text(it) for it in self.files]:
+            for many, one in EXPORTED.findall(text):
+                self.names.update(re.findall(r"\w+", many or one))
 
     def has(self, function):
         """Whether a function can be called from outside."""

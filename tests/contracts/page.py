@@ -17,13 +17,13 @@ GENERATED = "<!-- tests/guarantees writes this page: change docs/guarantees.fron
 
 
 class Source:
-    """The functions and definitions of all crates."""
+    """The functions and definitions of the crates of ORDER."""
 
     def __init__(self, all_crates):
-        self.crates = all_crates
-        self.functions = {name: functions_of(it) for name, it in all_crates.items()}
-        self.exports = {name: Exports(it) for name, it in all_crates.items()}
-        self.definitions = {name: self.defined(it) for name, it in all_crates.items()}
+        self.crates = {name: all_crates[name] for name in ORDER}
+        self.functions = {name: functions_of(it) for name, it in self.crates.items()}
+        self.exports = {name: Exports(it) for name, it in self.crates.items()}
+        self.definitions = {name: self.defined(it) for name, it in self.crates.items()}
 
     def defined(self, crate):
         """The definitions of a crate's specs, by their file's name."""
