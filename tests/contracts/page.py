@@ -43,11 +43,16 @@ def block(lines):
     return f"```text\n{textwrap.dedent(chr(10).join(lines))}\n```"
 
 
+def quote(links, lines):
+    """What was found of a quote, under links to its parts."""
+    return f"{', '.join(links)}:\n\n{block(lines)}" if links else ""
+
+
 def clauses_quoted(source, crate, function, names):
     """Clauses of a function, under links to each; or what isn't found."""
     found = [it for it in source.functions.get(crate, []) if it.is_named(function)]
     if len(found) != 1:
-        return None, [f"{crate} has {len(found)} functions {function}"]
+        return "", [f"{crate} has {len(found)} functions {function}"]
     links, lines, faults = [], [], []
     for name in names:
         clause = next((it for it in found[0].clauses if it.is_called(name)), None)
@@ -56,22 +61,22 @@ def clauses_quoted(source, crate, function, names):
             continue
         links.append(f"[`{found[0].label}` (`{name}`)]({found[0].place(clause.row)})")
         lines += clause.lines
-    return f"{', '.join(links)}:\n\n{block(lines)}", faults
+    return quote(links, lines), faults
 
 
 def specs_quoted(source, crate, file, names):
     """Definitions of a file, under links to each; or what isn't found."""
     there = source.definitions.get(crate, {}).get(file)
     if there is None:
-        return None, [f"{crate} has no specs/{file}.antt"]
+        return "", [f"{crate} has no specs/{file}.antt"]
     faults = [f"{crate}: {file} has no definition {it}" for it in names if it not in there]
     found = [(it, there[it]) for it in names if it in there]
-    links = ", ".join(f"[`{name}`]({it.place()})" for name, it in found)
+    links = [f"[`{name}`]({it.place()})" for name, it in found]
     lines, modules = [], []
     for number, (_, it) in enumerate(found):
         lines += [""] * (number > 0) + [head for head in it.modules if head not in modules] + it.lines
         modules = it.modules
-    return f"{links}:\n\n{block(lines)}", faults
+    return quote(links, lines), faults
 
 
 def quoted(source, front):
@@ -84,9 +89,9 @@ def quoted(source, front):
         if not mark:
             lines.append(line)
             continue
-        quote = clauses_quoted if mark[1] == "clause" else specs_quoted
-        text, missing = quote(source, mark[2], mark[3], mark[4].split())
-        lines.append(text or "")
+        find = clauses_quoted if mark[1] == "clause" else specs_quoted
+        text, missing = find(source, mark[2], mark[3], mark[4].split())
+        lines.append(text)
         faults += [f"front, line {number}: {it}" for it in missing]
     return f"{GENERATED}\n" + "\n".join(lines), faults
 

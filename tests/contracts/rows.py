@@ -1,9 +1,9 @@
 """What the rows of the README's guarantees name, and whether it is there.
 
-A row's last cell names functions, and behind them their clauses in parentheses: `f`, `Type::g`
-(`clause`, `other`). In parentheses a name with a great letter first is a definition, and `f`: `c`
-behind a semicolon is a clause of another function. In place of a function a crate or a type may
-stand: then one of its functions has the clauses."""
+A row names functions, and behind them their clauses in parentheses: `f`, `Type::g` (`clause`,
+`other`). In parentheses a name with a capital first is a definition, and `f`: `c` behind a semicolon
+is a clause of another function. A crate or a type in a function's place means that one of its
+functions has the clauses. A function may be called CRATE::Type::name, and a name may be a link."""
 import re
 
 SECTION = re.compile(r"^## [^\n]*guarantee[^\n]*\n(.*?)(?=^## |\Z)", re.M | re.S | re.I)
@@ -12,21 +12,20 @@ NAME = re.compile(r"`([\w:]+)`")
 GROUP = re.compile(r"((?:`[\w:]+`(?:, (?:and )?| and )?)+) ?\(((?:`[\w:]+`[,;:]? ?)+)\)")
 
 
-def cells(page):
-    """The last cells of the rows of the README's guarantees, each with its line."""
+def rows_of(page):
+    """The rows of the README's guarantees, of tables and of lists, each with its line."""
     section = SECTION.search(page)
     if not section:
         return None
     first = page.count("\n", 0, section.start(1)) + 1
     rows = enumerate(section[1].split("\n"), first)
-    return [(line, LINK.sub(r"\1", row).rstrip(" |").rsplit("|", 1)[-1]) for line, row in rows
-            if row.startswith("|") and not row.startswith("|--")]
+    return [(line, LINK.sub(r"\1", row)) for line, row in rows if row.startswith(("|", "- "))]
 
 
-def pairs_in(cell):
+def pairs_in(row):
     """Functions and the clauses that they are said to have."""
     found = []
-    for outer, inner in GROUP.findall(cell):
+    for outer, inner in GROUP.findall(row):
         for part in inner.split(";"):
             whose, _, names = part.rpartition(":")
             for function in NAME.findall(whose or outer):
@@ -58,11 +57,11 @@ def fault_of(source, function, names):
 
 def faults_of(source, page):
     """What the README's guarantees name that isn't there."""
-    rows = cells(page)
+    rows = rows_of(page)
     if rows is None:
         return ["no section of guarantees"]
     faults = []
-    for line, cell in rows:
-        found = [fault_of(source, *it) for it in pairs_in(cell)]
+    for line, row in rows:
+        found = [fault_of(source, *it) for it in pairs_in(row)]
         faults += [f"line {line}: {it}" for it in found if it]
     return faults
