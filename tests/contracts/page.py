@@ -93,13 +93,14 @@ def quoted(source, front):
         text, missing = find(source, mark[2], mark[3], mark[4].split())
         lines.append(text)
         faults += [f"front, line {number}: {it}" for it in missing]
-    return f"{GENERATED}\n" + "\n".join(lines), faults
+    return f"{GENERATED}\n" + "\n".join(lines) + "\n", faults
 
 
 def head_of(crate, path):
-    """The first paragraph of a file's head comment, on one line."""
+    """A file's head comment, each paragraph on one line."""
     told = [it[3:].strip() for it in crate.text(path).split("\n") if it.startswith("//!")]
-    return " ".join(told[: told.index("") if "" in told else len(told)])
+    paragraphs = "\n".join(told).split("\n\n")
+    return "\n\n".join(it.replace("\n", " ") for it in paragraphs)
 
 
 def entry(function):
@@ -115,7 +116,7 @@ def entry(function):
 
 def listed(source):
     """Each crate's public functions, file by file."""
-    parts = []
+    parts = [f"By crate: {', '.join(f'[{it}](#{it})' for it in ORDER)}.\n"]
     for name in ORDER:
         crate, path = source.crates[name], ""
         main = "src/main.rt" if crate.is_program else "src/lib.rt"
