@@ -59,7 +59,8 @@ def clauses_quoted(source, crate, function, names):
         if not clause:
             faults.append(f"{crate}: {function} has no clause {name}")
             continue
-        links.append(f"[`{found[0].label}` (`{name}`)]({found[0].place(clause.row)})")
+        called = name.replace(":", " ")
+        links.append(f"[`{found[0].label}` (`{called}`)]({found[0].place(clause.row)})")
         lines += clause.lines
     return quote(links, lines), faults
 
