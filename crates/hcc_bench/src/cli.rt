@@ -98,7 +98,7 @@ pub fn command<'a>(alloc: Global) -> Result<Command<'a>, AllocError> {
         .arg(check_arg(alloc))
 }
 
-/// The options that were told. Whether they can be is judged later.
+/// The options that were given. Whether they can be is judged later.
 pub fn options_of(alloc: Global, told: &ArgMatches<'_>) -> Result<Option<Options>, AllocError> {
     let cases = cases_of(alloc, told)?;
     let sizes = sizes_of(alloc, told)?;
@@ -118,7 +118,7 @@ fn numbers_of(told: &ArgMatches<'_>, cases: Vec<Case>, sizes: Vec<u32>) -> Optio
     })
 }
 
-/// The cases that were told, in order; all where none was.
+/// The cases that were given, in order; all where none was.
 fn cases_of(alloc: Global, told: &ArgMatches<'_>) -> Result<Vec<Case>, AllocError> {
     let Some(names) = told.get_strs("case") else {
         return Vec::from_slice(alloc, &CASES);
@@ -133,7 +133,7 @@ fn cases_of(alloc: Global, told: &ArgMatches<'_>) -> Result<Vec<Case>, AllocErro
     Ok(cases)
 }
 
-/// The sizes that were told, in order; 16, 256 and 4,096 where none was.
+/// The sizes that were given, in order; 16, 256 and 4,096 where none was.
 fn sizes_of(alloc: Global, told: &ArgMatches<'_>) -> Result<Vec<u32>, AllocError> {
     let Some(told) = told.get_many::<u32>("value-size") else {
         return Vec::from_slice(alloc, &[16, 256, 4096]);

@@ -64,7 +64,7 @@ fn nanoseconds(one: &Done) -> u64
     }
 }
 
-/// From the first worker's begin to the last one's end, if there is a worker and the clock told of
+/// From the first worker's begin to the last one's end, if there is a worker and the clock gave
 /// each.
 pub fn whole_span(done: &[Done]) -> Option<Span>
     ensures some { IfSome result (IsWhole done.now) }

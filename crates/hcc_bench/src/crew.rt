@@ -25,7 +25,7 @@ pub fn bytes(alloc: Global, count: u32, byte: u8) -> Result<Vec<u8>, AllocError>
 }
 
 /// A worker for each client, in order. The keys of all are drawn by one generator from this seed,
-/// one worker's after another's. It takes memory for them and for two values of each worker.
+/// one worker's after another's. It allocates memory for them and for two values of each worker.
 pub fn crew(
     alloc: Global,
     clients: Vec<Client<OfSize>>,

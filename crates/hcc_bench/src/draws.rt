@@ -19,7 +19,7 @@ pub enum Drum {
 }
 
 impl Drum {
-    /// What the numbers of a plan are drawn from. It takes memory for ranks with weights.
+    /// What the numbers of a plan are drawn from. It allocates memory for ranks with weights.
     pub fn new(alloc: Global, plan: Plan) -> Result<Drum, AllocError>
         requires { IsWithin plan }
         ensures { IfOk result (IsMadeFor plan) }
@@ -42,7 +42,7 @@ impl Drum {
         }
     }
 
-    /// So many numbers, drawn by the next words of a generator. It takes memory for them.
+    /// So many numbers, drawn by the next words of a generator. It allocates memory for them.
     pub fn draws(
         &self,
         alloc: Global,

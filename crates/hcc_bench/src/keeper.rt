@@ -10,8 +10,8 @@ use crate::worker::insert;
 use hcc_cache::{Cache, Client, Handle, Key};
 use std::alloc::{AllocError, Global};
 
-/// Fills a cache as a plan says. The answer are the handles on all entries, where they are to be
-/// held, for which it takes memory.
+/// Fills a cache as a plan says. It returns the handles on all entries, where they are to be held,
+/// for which it allocates memory.
 pub fn prepare(
     alloc: Global,
     cache: &Cache<OfSize>,

@@ -12,7 +12,7 @@ pub const MOST_OPERATIONS: u32 = 1 << 26;
 /// The most keys that are drawn for one thread. It plays them again where it makes more operations.
 pub const MOST_DRAWS: u32 = 1 << 20;
 
-/// The most nanoseconds that are told of one thread: nearly ten hours.
+/// The most nanoseconds that are reported of one thread: nearly ten hours.
 pub const MOST_NANOSECONDS: u64 = 1 << 45;
 
 /// The most slots of a cache in all.

@@ -25,11 +25,11 @@ pub struct Options {
     pub shards: u32,
     /// The seed of the keys, and of the numbers that are drawn.
     pub seed: u64,
-    /// Whether only that is told which every run gives.
+    /// Whether only what every run gives is reported.
     pub check: bool,
 }
 
-/// Why options are refused. The first that is due is told.
+/// Why options are refused. The first that is due is returned.
 #[derive(Clone, Copy, Debug, PartialEq, Eq, Error)]
 pub enum BadOption {
     #[error("a value has 1 to 4096 bytes")]
@@ -45,8 +45,8 @@ pub enum BadOption {
 }
 
 impl Options {
-    /// Whether these can be measured: each number is in its range. Else the first at fault is told,
-    /// in the order of [`BadOption`]. It takes no memory.
+    /// Whether these can be measured: each number is in its range. Else the first at fault is
+    /// returned, in the order of [`BadOption`]. It allocates nothing.
     pub fn check(&self) -> Result<(), BadOption>
         ensures exact { result ≡ checked self.now }
         ensures allowed { OnOk result (IsAllowed self.now) }

@@ -127,13 +127,13 @@ fn one<R: AllocGlobal + Print + Eprint + Threads + Clock + Sync>(
     written(rt, rt.write_all(text.as_bytes()))
 }
 
-/// Tells why nothing was measured.
+/// Reports why nothing was measured.
 fn told<R: Eprint>(rt: &R, error: BenchError) -> Status {
     let _ = rt.eprintln(error);
     status_of(error)
 }
 
-/// Tells whether a write failed.
+/// Reports whether a write failed.
 fn written<R: Eprint>(rt: &R, write: io::Result<()>) -> Status {
     match write {
         Ok(()) => Status::Done,
@@ -144,7 +144,7 @@ fn written<R: Eprint>(rt: &R, write: io::Result<()>) -> Status {
     }
 }
 
-/// Tells what `clap` says of wrong arguments, or the help that was asked for.
+/// Writes what `clap` says of wrong arguments, or the help that was asked for.
 fn refused<R: Print + Eprint>(rt: &R, error: &Error) -> Status {
     if error.kind() == ErrorKind::OutOfMemory {
         return told(rt, BenchError::OutOfMemory);

@@ -1,4 +1,4 @@
-//! What the program's exit status tells.
+//! What the program's exit status means.
 ghost use Rattle.std.specs.Prelude.{◌≡◌};
 ghost use Rattle.hcc_bench.specs.Status.{code_of, status_of};
 

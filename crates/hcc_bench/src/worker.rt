@@ -44,7 +44,7 @@ pub struct Tally {
 }
 
 /// A client that has made its operations, what they came to, and when they began and ended, if the
-/// clock told it.
+/// clock gave it.
 #[derive(Drop)]
 pub struct Done {
     pub client: Client<OfSize>,
@@ -188,7 +188,7 @@ fn read_round(
     }
 }
 
-/// Looks a key up, and reads and releases what it finds. The answer says whether it found one.
+/// Looks a key up, and reads and releases what it finds. It returns whether it found one.
 #[inline]
 fn found(cache: &Cache<OfSize>, client: &mut Client<OfSize>, key: Key, buffer: &mut [u8]) -> bool
     requires idle { IsIdle cache.now client.old }

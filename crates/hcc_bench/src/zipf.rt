@@ -16,7 +16,7 @@ pub struct Zipf {
 }
 
 impl Zipf {
-    /// So many ranks. It takes memory for a word for each, and costs a division for each.
+    /// So many ranks. It allocates memory for a word for each, and costs a division for each.
     pub fn new(alloc: Global, ranks: u32) -> Result<Zipf, AllocError>
         requires { ranks ≤ MOST_KEYS }
         ensures count { IfOk result (λ zipf. length zipf.sums.items ≡ ranks) }

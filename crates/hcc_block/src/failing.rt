@@ -13,7 +13,7 @@ pub struct FailingSource<S> {
 }
 
 impl<S: BlockSource> FailingSource<S> {
-    /// A source of the same files that fails once, after so many reads. It takes no memory.
+    /// A source of the same files that fails once, after so many reads. It allocates nothing.
     pub fn new(source: S, before: u64) -> Self
         ensures content { ⟦<FailingSource<S> as BlockSource>⟧.content result ≡ S.content source }
         ensures failed { ⟦<FailingSource<S> as BlockSource>⟧.failed result

@@ -11,7 +11,7 @@ pub struct MemorySource<'a> {
 }
 
 impl<'a> MemorySource<'a> {
-    /// A source of these files, which are fewer than 2^32. It takes no memory.
+    /// A source of these files, which are fewer than 2^32. It allocates nothing.
     pub fn new(files: &'a [Vec<u8>]) -> Self
         requires { length files.now < 2 ^ 32 }
         ensures content { ⟦<MemorySource<'a> as BlockSource>⟧.content result

@@ -16,7 +16,7 @@ pub struct BlockReader<S> {
 
 impl<S: BlockSource> BlockReader<S> {
     /// A reader of a source in blocks of so many bytes, at least 1, which has counted nothing. It
-    /// takes no memory.
+    /// allocates nothing.
     pub fn new(source: S, block: u32) -> Self
         requires { 1 ≤ block }
         ensures source { result.source ≡ source }

@@ -17,7 +17,7 @@ use hcc_rule::{Key, Tag};
 
 impl<S: BlockSource> BlockReader<S> {
     /// Reads a block to the front of the buffer, by the numbers of its file and of the block in it.
-    /// The answer is how many bytes it has; the rest of the buffer stays.
+    /// It returns how many bytes it has; the rest of the buffer stays.
     ///
     /// A block that the cache has is copied out of it, and counts as a hit. Else, or where the
     /// cache refuses to look, it counts as a miss: it is read from the source, and inserted with
@@ -25,8 +25,8 @@ impl<S: BlockSource> BlockReader<S> {
     ///
     /// What fits a key by the cache's tag is the block of the source that the key names, and
     /// nothing else. The block size is at most [`Cache::room`], and the buffer has room for a
-    /// block. It takes no memory. A hit costs a look-up, the reading of the value and a release; a
-    /// miss a look-up, a read of the source and an insertion.
+    /// block. It allocates nothing. A hit costs a look-up, the reading of the value and a release;
+    /// a miss a look-up, a read of the source and an insertion.
     pub fn read<T: Tag>(
         &mut self,
         cache: &Cache<T>,
@@ -162,7 +162,7 @@ struct Place {
     count: u32,
 }
 
-/// Copies the value of a key to the front of the buffer, and answers its length, where the cache
+/// Copies the value of a key to the front of the buffer, and returns its length, where the cache
 /// has one and may look.
 fn copied<T: Tag>(
     cache: &Cache<T>,

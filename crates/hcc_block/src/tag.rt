@@ -5,7 +5,7 @@ ghost use Rattle.hcc_block.specs.Blocks.{key_of};
 use hcc_rule::{Key, Tag};
 
 /// The tag of a cache of blocks: it names the files, and the size of their blocks in bytes. A value
-/// fits a key just where it is the block that the key names.
+/// fits a key exactly if it is the block that the key names.
 #[derive(Clone, Copy, Debug)]
 pub struct FilesTag<'a> {
     pub files: &'a [Vec<u8>],

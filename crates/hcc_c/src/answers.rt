@@ -1,4 +1,4 @@
-//! How C is told what a call answers: by a status, and by outputs that stay where it is refused.
+//! How a call's result reaches C: by a status, and by outputs that stay if it is refused.
 ghost use Rattle.std.specs.Prelude.{◌≡◌, None};
 ghost use Rattle.hcc_c.specs.Answers.{handle_of_pinned, inserted_of, inserted_of_pinned, kept_of, key_or, length_of, more_of, number_of, placed, status_of, status_of_back, status_of_given, status_of_insert, status_of_look, status_of_pinned, status_of_read, status_of_reref, totals_or, value_or};
 
@@ -15,7 +15,7 @@ pub(crate) const DONE: u32 = 0;
 
 const MISSED: u32 = 1;
 
-/// Tells a value, or why there is none.
+/// Gives C a value, or why there is none.
 pub(crate) fn told<T: Copy>(answer: Option<T>, why: Refusal, out: &mut T) -> u32
     ensures status { result ≡ status_of answer why }
     ensures value { out.new ≡ value_or answer out.old }
@@ -29,7 +29,7 @@ pub(crate) fn told<T: Copy>(answer: Option<T>, why: Refusal, out: &mut T) -> u32
     }
 }
 
-/// Tells the key of an entry, or that there is no such handle.
+/// Gives C the key of an entry, or that there is no such handle.
 pub(crate) fn told_key(answer: Option<hcc_cache::Key>, key: &mut Key) -> u32
     ensures status { result ≡ status_of answer Refusal.NoHandle }
     ensures key { key.new ≡ key_or answer key.old }
@@ -43,7 +43,7 @@ pub(crate) fn told_key(answer: Option<hcc_cache::Key>, key: &mut Key) -> u32
     }
 }
 
-/// Tells what a look-up answered.
+/// Gives C what a look-up returned.
 pub(crate) fn told_look(answer: Result<Option<Number>, LookupError>, handle: &mut Number) -> u32
     ensures status { result ≡ status_of_look answer }
     ensures handle { handle.new ≡ number_of answer handle.old }
@@ -58,7 +58,7 @@ pub(crate) fn told_look(answer: Result<Option<Number>, LookupError>, handle: &mu
     }
 }
 
-/// Tells one handle more, or why there is none.
+/// Gives C one handle more, or why there is none.
 pub(crate) fn told_reref(answer: Option<Result<Number, LookupError>>, more: &mut Number) -> u32
     ensures status { result ≡ status_of_reref answer }
     ensures more { more.new ≡ more_of answer more.old }
@@ -73,7 +73,7 @@ pub(crate) fn told_reref(answer: Option<Result<Number, LookupError>>, more: &mut
     }
 }
 
-/// Tells what came of an insertion.
+/// Gives C what came of an insertion.
 pub(crate) fn told_insert(
     answer: Result<Result<Inserted, InsertError>, Unfit>,
     inserted: &mut u32,
@@ -91,7 +91,7 @@ pub(crate) fn told_insert(
     }
 }
 
-/// Tells what came of an insertion with a handle.
+/// Gives C what came of an insertion with a handle.
 pub(crate) fn told_pinned(
     answer: Result<Result<(Number, Inserted), InsertError>, Unfit>,
     inserted: &mut u32,
@@ -112,7 +112,7 @@ pub(crate) fn told_pinned(
     }
 }
 
-/// Tells how many bytes were read, or how many the value has that the buffer is too short for.
+/// Gives C how many bytes were read, or how many the value has that the buffer is too short for.
 pub(crate) fn told_read(answer: Option<Result<usize, usize>>, length: &mut usize) -> u32
     ensures status { result ≡ status_of_read answer }
     ensures length { length.new ≡ length_of answer length.old }
@@ -130,7 +130,7 @@ pub(crate) fn told_read(answer: Option<Result<usize, usize>>, length: &mut usize
     }
 }
 
-/// Tells a new cache by the place that it has, or why there is none.
+/// Gives C a new cache by the place that it has, or why there is none.
 pub(crate) fn told_cache(answer: Result<Box<Rack>, Refusal>, cache: &mut CachePlace) -> u32
     requires { cache.old.value ≡ None }
     ensures status { result ≡ status_of_given answer }
@@ -145,7 +145,7 @@ pub(crate) fn told_cache(answer: Result<Box<Rack>, Refusal>, cache: &mut CachePl
     }
 }
 
-/// Tells a client by the place that it has, or why there is none.
+/// Gives C a client by the place that it has, or why there is none.
 pub(crate) fn told_client(answer: Result<Box<Session>, Refusal>, client: &mut ClientPlace) -> u32
     requires { client.old.value ≡ None }
     ensures status { result ≡ status_of_given answer }
@@ -160,7 +160,7 @@ pub(crate) fn told_client(answer: Result<Box<Session>, Refusal>, client: &mut Cl
     }
 }
 
-/// Tells that a client is back; else why it isn't, and by its place which one it is.
+/// Reports to C that a client is back; else why it isn't, and by its place which one it is.
 pub(crate) fn told_back(answer: Result<(), (Refusal, Box<Session>)>, kept: &mut ClientPlace) -> u32
     requires { kept.old.value ≡ None }
     ensures status { result ≡ status_of_back answer }
@@ -175,7 +175,7 @@ pub(crate) fn told_back(answer: Result<(), (Refusal, Box<Session>)>, kept: &mut 
     }
 }
 
-/// Tells what was left of a cache, or why it isn't closed.
+/// Gives C what was left of a cache, or why it isn't closed.
 pub(crate) fn told_totals(answer: Result<Totals, Refusal>, totals: &mut Totals) -> u32
     ensures status { result ≡ status_of_given answer }
     ensures totals { totals.new ≡ totals_or answer totals.old }

@@ -16,7 +16,7 @@ pub enum Unfit {
     NoCharge,
     /// The value has more bytes than a slot has room for.
     TooLong,
-    /// Memory for a copy of the value was refused; of insertions that give a handle alone.
+    /// A copy of the value couldn't be allocated; only of insertions that give a handle.
     OutOfMemory,
 }
 
@@ -41,8 +41,8 @@ impl Session {
         )
     }
 
-    /// The same with a handle on what was inserted, which is told by its number. Memory is taken
-    /// for a copy of the value.
+    /// The same with a handle on what was inserted, which is given by its number. Memory is
+    /// allocated for a copy of the value.
     pub fn insert_pinned(
         &mut self,
         alloc: Global,

@@ -155,7 +155,7 @@ fn closed(cache: Cache<AnyBytes>, back: Vec<Client<AnyBytes>>) -> Closed
     }
 }
 
-/// What a closed cache tells.
+/// What is read of a closed cache.
 fn totals(closed: &Closed) -> Totals
     ensures { result ≡ totals_of closed.now }
 {

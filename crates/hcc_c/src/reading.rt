@@ -28,8 +28,8 @@ impl Session {
     }
 
     /// Copies the value to the front of the buffer: how many bytes it has. Where the buffer has
-    /// fewer, the same number is told as an error, and the buffer stays. None where the number is
-    /// that of no handle.
+    /// fewer, the same number is returned as an error, and the buffer stays. None where the number
+    /// is that of no handle.
     #[tactic(auto, using(crate::proofs::Stays::reads_twice))]
     pub fn read_value(&mut self, number: Number, buffer: &mut [u8]) -> Option<Result<usize, usize>>
         requires { IsWhole self.old }

@@ -10,8 +10,8 @@ use hcc_cache::{Handle, Key, LookupError};
 use slab::Slab;
 
 impl Session {
-    /// Looks for a visible entry of the key, as the cache does. The handle that it gives is told by
-    /// its number.
+    /// Looks for a visible entry of the key, as the cache does. The handle that it gives is named
+    /// by its number.
     pub fn lookup(&mut self, key: Key) -> Result<Option<Number>, LookupError>
         requires { IsWhole self.old }
         ensures whole { IsWhole self.new }

@@ -1,11 +1,11 @@
-//! Why a call does nothing, and the numbers by which C is told so.
+//! Why a call does nothing, and their numbers in C.
 ghost use Rattle.std.specs.Prelude.{◌≡◌};
 ghost use Rattle.hcc_c.specs.Refusals.{code_of, inserted_code, inserting_of, looking_of, opening_of, priority_of, unfit_of};
 
 use crate::inserting::Unfit;
 use hcc_cache::{InsertError, Inserted, LookupError, NewError, Priority};
 
-/// Why a call does nothing. The first that is due is told.
+/// Why a call does nothing. The first that is due is returned.
 #[derive(Clone, Copy, Debug, PartialEq, Eq)]
 pub enum Refusal {
     /// The number is that of no handle that the client holds.

@@ -14,7 +14,7 @@ use std::alloc::Global;
 #[derive(Drop)]
 pub struct Closed {
     pub(crate) seed: u64,
-    // They stand in the value itself, so that closing takes no memory.
+    // They stand in the value itself, so that closing allocates nothing.
     pub(crate) shards: ArrayVec<Option<ClosedShard<Global>>, 64>,
     ghost whole: { AreWhole shards.items },
 }
@@ -99,8 +99,8 @@ impl Closed {
         })
     }
 
-    /// Copies the value of a slot's entry to the front of a buffer that has room for it. The answer
-    /// is how many bytes it has. The rest of the buffer stays.
+    /// Copies the value of a slot's entry to the front of a buffer that has room for it. It returns
+    /// how many bytes it has. The rest of the buffer stays.
     ///
     /// It costs a load for the length, and one for each eight bytes, the last ones too.
     pub fn value(&self, shard: usize, slot: u32, buffer: &mut [u8]) -> usize

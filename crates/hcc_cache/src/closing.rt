@@ -18,12 +18,12 @@ use std::alloc::Global;
 
 impl<T: Tag + Copy> Cache<T> {
     /// Ends the cache, once all its clients are back and none holds a handle: the entries that are
-    /// left are told by what it gives.
+    /// left are read from what it gives.
     ///
     /// It is refused where fewer clients come than the cache has, then where one of them holds a
-    /// handle, of which the least number is told. Nothing is changed then, and all is handed back.
-    /// A client that was dropped makes each close Missing. It takes no memory. It costs a load for
-    /// each client and shard.
+    /// handle, of which the least number is returned. Nothing is changed then, and all is handed
+    /// back. A client that was dropped makes each close Missing. It allocates nothing. It costs a
+    /// load for each client and shard.
     pub fn close(
         self,
         clients: Vec<Client<T>>,

@@ -40,9 +40,9 @@ pub struct Config {
 
 impl Config {
     /// Whether a cache can be made so: each number is in its range. Else the first field at fault
-    /// is told, in the order of [`NewError`].
+    /// is returned, in the order of [`NewError`].
     ///
-    /// It takes no memory, and costs a few comparisons.
+    /// It allocates nothing, and costs a few comparisons.
     pub fn check(&self) -> Result<(), NewError>
         ensures exact { result ≡ checked self.now }
         ensures allowed { OnOk result (IsAllowed self.now) }

@@ -11,13 +11,13 @@ use hcc_rule::{Key, Tag};
 
 impl<T: Tag> Cache<T> {
     /// Hides each visible entry of the key: look-ups find none of them from then on. Those on which
-    /// there is no handle, this client's neither, are freed, where the one exchange for it wins.
-    /// The answer is how many were hidden.
+    /// there is no handle, this client's neither, are freed, where the one compare-exchange for it
+    /// wins. It returns how many were hidden.
     ///
     /// Each entry of the key that the client holds has been seen dead afterwards; its handles show
-    /// what they showed. It refuses nothing and takes no memory. Each probe costs what it costs a
-    /// look-up; each match an atomic and, an exchange where nobody holds the entry, and the freeing
-    /// where that wins, else a take. Two takes follow where any was freed.
+    /// what they showed. It refuses nothing and allocates nothing. Each probe costs what it costs a
+    /// look-up; each match an atomic and, a compare-exchange where nobody holds the entry, and the
+    /// freeing where that wins, else a subtraction. Two subtractions follow where any was freed.
     pub fn erase(&self, client: &mut Client<T>, key: Key) -> u32
         requires { Knows self.now client.old }
         ensures known { Knows self.now client.new }

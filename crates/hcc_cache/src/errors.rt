@@ -1,4 +1,4 @@
-//! Why a call is refused. In each list the first that is due is told.
+//! Why a call is refused. In each list the first that is due is returned.
 
 use thiserror::Error;
 
@@ -44,10 +44,10 @@ pub enum LookupError {
 }
 
 /// Why nothing is inserted. After the first three nothing is changed. The last two come under
-/// strict capacity alone, and after evictions that stay made; a serial is used.
+/// strict capacity only, and after evictions that stay made; a serial is used.
 #[derive(Clone, Copy, Debug, PartialEq, Eq, Error)]
 pub enum InsertError {
-    /// The client holds as many handles as it may; of insertions that give a handle alone.
+    /// The client holds as many handles as it may; only of insertions that give a handle.
     #[error("HandlesFull")]
     HandlesFull,
     /// The client has used all its serials.

@@ -102,7 +102,7 @@ impl<T> Client<T> {
         self.handles[handle.index]
     }
 
-    /// Lets go of a handle that it holds, and tells what it kept of it.
+    /// Lets go of a handle that it holds, and returns what it kept of it.
     pub(crate) fn let_go(&mut self, handle: Handle) -> Hold
         requires holds { Holds self.old handle }
         requires some { 0 < self.old.held }

@@ -25,10 +25,10 @@ use hcc_shard::Pinned;
 pub enum Inserted {
     /// The entry is in the table.
     Placed,
-    /// It is as if the entry had been placed and evicted at once; of insertions without a handle
-    /// alone.
+    /// It is as if the entry had been placed and evicted at once; only of insertions without a
+    /// handle.
     Dropped,
-    /// The entry is in no table: it goes with its last handle; of insertions with a handle alone.
+    /// The entry is in no table: it goes with its last handle; only of insertions with a handle.
     Standalone,
 }
 
@@ -57,8 +57,8 @@ impl<T: Tag> Cache<T> {
     /// too little, or no place: they stay made, and a serial is used.
     ///
     /// The value fits the key by the tag and has at most [`Cache::room`] bytes, and the charge
-    /// isn't 0. It takes no memory. It costs a reservation, and each probe of the key as a look-up
-    /// does, and a store for each word of the entry.
+    /// isn't 0. It allocates nothing. It costs a reservation, and each probe of the key as a
+    /// look-up does, and a store for each word of the entry.
     pub fn insert(
         &self,
         client: &mut Client<T>,
@@ -137,7 +137,7 @@ impl<T: Tag> Cache<T> {
     }
 }
 
-/// What a shard answered, as the caller is told it.
+/// What a shard returned, as the caller gets it.
 fn answered(told: Result<hcc_shard::Inserted, Refused>) -> Result<Inserted, InsertError>
     ensures { result ≡ answer_of told }
 {
@@ -167,14 +167,14 @@ impl<T> Client<T> {
 
 impl<T: Tag> Cache<T> {
     /// Inserts an entry of this key, value and charge, and gives a handle on it. Where it isn't put
-    /// into the table, for one of the reasons that `insert` has, it stands alone: look-ups don't
+    /// into the table, for one of the reasons that `insert` has, it is standalone: look-ups don't
     /// find it, its charge is in the usage, and it goes with its last handle.
     ///
     /// It is refused where the client holds all the handles that it may, and then as `insert` is;
     /// the value is handed back.
     ///
     /// The value fits the key by the tag and has at most [`Cache::room`] bytes, and the charge
-    /// isn't 0. It takes no memory. It costs what `insert` does, and where no place was found two
+    /// isn't 0. It allocates nothing. It costs what `insert` does, and where no place was found two
     /// adds more.
     pub fn insert_pinned(
         &self,

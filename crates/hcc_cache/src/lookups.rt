@@ -21,7 +21,7 @@ impl<T: Tag> Cache<T> {
     /// client holds what it held, and has seen dead each entry of the key that it holds.
     ///
     /// It is refused where the client holds all the handles that it may, then where it has used all
-    /// its serials; nothing is changed then. A handle uses a serial. It takes no memory. It costs
+    /// its serials; nothing is changed then. A handle uses a serial. It allocates nothing. It costs
     /// what a look-up in the key's shard costs: at a first hit a load, an add and two loads.
     pub fn lookup(&self, client: &mut Client<T>, key: Key) -> Result<Option<Handle>, LookupError>
         requires { Knows self.now client.old }
@@ -70,8 +70,9 @@ impl<T: Tag> Cache<T> {
 
     /// One handle more on the very entry that a handle is on, a standalone one too.
     ///
-    /// It is refused as a look-up is. It uses a serial. It takes no memory. It costs an atomic add,
-    /// and an exchange where the reference doesn't count; a standalone entry costs no atomic step.
+    /// It is refused as a look-up is. It uses a serial. It allocates nothing. It costs an atomic
+    /// add, and a compare-exchange where the reference doesn't count; a standalone entry costs no
+    /// atomic step.
     pub fn reref(&self, client: &mut Client<T>, handle: Handle) -> Result<Handle, LookupError>
         requires known { Knows self.now client.old }
         requires holds { Holds client.old handle }

@@ -19,9 +19,9 @@ impl<T: Tag + Copy> Cache<T> {
     /// nothing, has made nothing, and has all its serials left.
     ///
     /// It refuses what [`Config::check`] refuses, and else only where memory is refused; nothing
-    /// remains then. It is the only call of a cache that takes memory: for the words of all shards,
-    /// and for each client its seats, and room for its handles and standalone entries. It costs
-    /// as many stores as there are words, and a load for each client and shard.
+    /// remains then. It is the only call of a cache that allocates memory: for the words of all
+    /// shards, and for each client its seats, and room for its handles and standalone entries. It
+    /// costs as many stores as there are words, and a load for each client and shard.
     pub fn new(
         alloc: Global,
         config: Config,

@@ -16,7 +16,7 @@ use hcc_table::Pin;
 impl<T: Tag> Cache<T> {
     /// The key of the entry that a handle is on, as its insertion gave it.
     ///
-    /// It refuses nothing, takes no memory and makes no atomic step. It costs a look at the
+    /// It refuses nothing, allocates nothing and makes no atomic step. It costs a look at the
     /// handle's index.
     pub fn key(&self, client: &mut Client<T>, handle: Handle) -> Key
         requires known { Knows self.now client.old }
@@ -30,7 +30,7 @@ impl<T: Tag> Cache<T> {
 
     /// How many bytes the value has of the entry that a handle is on.
     ///
-    /// It refuses nothing and takes no memory. It costs one load; of a standalone entry none.
+    /// It refuses nothing and allocates nothing. It costs one load; of a standalone entry none.
     pub fn value_len(&self, client: &mut Client<T>, handle: Handle) -> usize
         requires known { Knows self.now client.old }
         requires holds { Holds client.old handle }
@@ -56,9 +56,9 @@ impl<T: Tag> Cache<T> {
     }
 
     /// Copies the value of the entry that a handle is on to the front of a buffer, which has room
-    /// for it. The answer is how many bytes it has. The rest of the buffer stays.
+    /// for it. It returns how many bytes it has. The rest of the buffer stays.
     ///
-    /// It refuses nothing and takes no memory. It costs a load for the length, and one for each
+    /// It refuses nothing and allocates nothing. It costs a load for the length, and one for each
     /// eight bytes, the last ones too; of a standalone entry a copy and no load.
     pub fn read_value(&self, client: &mut Client<T>, handle: Handle, buffer: &mut [u8]) -> usize
         requires known { Knows self.now client.old }

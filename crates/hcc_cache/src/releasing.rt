@@ -16,12 +16,13 @@ use hcc_table::{IfLast, Pin, Use};
 impl<T: Tag> Cache<T> {
     /// Gives a handle back: as a use of its entry where it is useful. Where it was the last
     /// reference on an entry that was erased, or `erase_if_last` asks for it, freeing the entry is
-    /// tried once; a standalone entry goes with its last handle. The answer says whether this call
-    /// freed an entry.
+    /// tried once; a standalone entry goes with its last handle. It returns whether this call freed
+    /// an entry.
     ///
     /// The handle is none that the client holds from then on, and no other changes. It refuses
-    /// nothing and takes no memory. It costs an atomic add or take; where nobody holds the entry
-    /// and it may go an exchange, and where that wins what freeing the slot costs and two takes.
+    /// nothing and allocates nothing. It costs an atomic add or subtraction; where nobody holds the
+    /// entry and it may go a compare-exchange, and where that wins what freeing the slot costs and
+    /// two subtractions.
     pub fn release(
         &self,
         client: &mut Client<T>,

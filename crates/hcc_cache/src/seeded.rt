@@ -1,4 +1,4 @@
-//! Keys under a seed. The shards know seeded keys alone, and values by a tag that has the seed.
+//! Keys under a seed. The shards know seeded keys only, and values by a tag that has the seed.
 ghost use Rattle.std.specs.Prelude.{◌≡◌, ◌%◌, ◌<◌, ◌≤◌};
 ghost use Rattle.hcc_cache.specs.declared.limits.TheConstants.{MOST_SHARDS};
 ghost use Rattle.hcc_cache.specs.Keys.{key_from, key_to, shard_of};
@@ -6,7 +6,7 @@ ghost use Rattle.hcc_cache.specs.Keys.{key_from, key_to, shard_of};
 use hcc_rule::{Key, Tag};
 use hcc_word::{seeded, unseeded};
 
-/// The caller's tag with the seed: a value fits a seeded key just where it fits the caller's key.
+/// The caller's tag with the seed: a value fits a seeded key exactly if it fits the caller's key.
 #[derive(Clone, Copy, Debug, PartialEq, Eq)]
 pub(crate) struct Seeded<T> {
     pub(crate) tag: T,

@@ -20,7 +20,7 @@ impl<T: Tag> Cache<T> {
     /// strict. It is at least the charges of the different entries that the client holds, with its
     /// standalone ones. Above 2^64 - 1 it says that.
     ///
-    /// It refuses nothing and takes no memory. It costs a load for each shard.
+    /// It refuses nothing and allocates nothing. It costs a load for each shard.
     pub fn usage(&self, client: &mut Client<T>) -> u64
         requires { Knows self.now client.old }
         ensures known { Knows self.now client.new }
@@ -58,8 +58,8 @@ impl<T: Tag> Cache<T> {
     /// the other. It is at least the charges of the different entries that the client holds; in a
     /// cache of one client it is these. Above 2^64 - 1 it says that.
     ///
-    /// It refuses nothing and takes no memory. It costs a load for each shard and for each slot;
-    /// where that finds an entry held an add, a load and a take more.
+    /// It refuses nothing and allocates nothing. It costs a load for each shard and for each slot;
+    /// where that finds an entry held an add, a load and a subtraction more.
     pub fn pinned_usage(&self, client: &mut Client<T>) -> u64
         requires { Knows self.now client.old }
         ensures known { Knows self.now client.new }
@@ -101,7 +101,7 @@ impl<T: Tag> Cache<T> {
     /// that other clients have in hand: at least the different entries that the client holds. In a
     /// cache of one client it is exact: those that it made, less those that it took.
     ///
-    /// It refuses nothing and takes no memory. It costs a load for each shard.
+    /// It refuses nothing and allocates nothing. It costs a load for each shard.
     pub fn occupancy(&self, client: &mut Client<T>) -> u64
         requires { Knows self.now client.old }
         ensures known { Knows self.now client.new }
@@ -138,7 +138,8 @@ impl<T: Tag> Cache<T> {
     /// The meta word of a slot of a shard.
     ///
     /// Where the client holds references on the slot, the word is that of an entry with at least
-    /// these. Both numbers are in range. It refuses nothing and takes no memory. It costs one load.
+    /// these. Both numbers are in range. It refuses nothing and allocates nothing. It costs one
+    /// load.
     pub fn word(&self, client: &mut Client<T>, shard: u32, slot: u32) -> u64
         requires known { Knows self.now client.old }
         requires shard { shard < length self.now.shards.items }
@@ -158,7 +159,7 @@ impl<T: Tag> Cache<T> {
     /// How often a slot of a shard stands in the trails of entries and of clients: at least the
     /// number of entries that the client holds, each once, whose trail has the slot.
     ///
-    /// Both numbers are in range. It refuses nothing and takes no memory. It costs one load.
+    /// Both numbers are in range. It refuses nothing and allocates nothing. It costs one load.
     pub fn displacement(&self, client: &mut Client<T>, shard: u32, slot: u32) -> u64
         requires known { Knows self.now client.old }
         requires shard { shard < length self.now.shards.items }

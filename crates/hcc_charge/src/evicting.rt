@@ -26,14 +26,14 @@ pub const PINNED_PER_SLOT: u64 = 30;
 /// counted down, and freed once its countdown is 0. After each turn the eviction ends where the
 /// freed charge is at least `ask`, where the visits that found an entry with references are at
 /// least 30 for each slot that was freed and one more, or where `3·L/4 + 1` turns were made in a
-/// table of L slots. It counts its own turns and visits alone.
+/// table of L slots. It counts only its own turns and visits.
 ///
 /// The client owns no slot, has an empty trail and no freed charge to settle; it asks for less than
 /// `2^34`. The places and the charges of what it freed are its to settle. None of the entries had
 /// uses left. It may have looked at slots and seen entries dead; the rest of what it has stays.
-/// What it did is added to the tally, and exchanges that lost to the effort.
+/// What it did is added to the tally, and compare-exchanges that lost to the effort.
 ///
-/// It takes no memory. Each turn costs an atomic add, and four visits.
+/// It allocates nothing. Each turn costs an atomic add, and four visits.
 pub fn evict<T: Tag, A: Allocator>(
     table: &RuleTable<T, A>,
     seat: &mut RuleSeat<T>,

@@ -57,14 +57,14 @@ pub enum Refused {
 /// Reserved: the client has a granted place and the charge granted, and what it freed is settled.
 /// Not strict, and no place found: nothing is granted or charged. Under strict capacity, where less
 /// charge was freed than needed, or no place was found: the place, the charge and what was freed
-/// are given back. It evicts just where the shard was full, where the charge didn't fit, or where
-/// under strict capacity not all of it was granted at once. So CapacityFull, OccupancyFull and
-/// NoPlace come after an eviction that has ended, and the last two only where it freed nothing.
+/// are given back. It evicts exactly where the shard was full, where the charge didn't fit, or
+/// where under strict capacity not all of it was granted at once. So CapacityFull, OccupancyFull
+/// and NoPlace come after an eviction that has ended, and the last two only where it freed nothing.
 ///
 /// The client has nothing in hand but its references and standalone entries, and the charge isn't
-/// 0. What evictions did is added to the tally, and exchanges that lost to the effort. It takes no
-/// memory. Where nothing is evicted it costs an atomic add, and a load with an atomic add, or under
-/// strict capacity one more atomic add.
+/// 0. What evictions did is added to the tally, and compare-exchanges that lost to the effort. It
+/// allocates nothing. Where nothing is evicted it costs an atomic add, and a load with an atomic
+/// add, or under strict capacity one more atomic add.
 pub fn reserve<T: Tag, A: Allocator>(
     table: &RuleTable<T, A>,
     seat: &mut RuleSeat<T>,
@@ -162,7 +162,7 @@ fn reserve_strict<T: Tag, A: Allocator>(
     Ok(Reservation::Reserved)
 }
 
-/// Asks for a place. The answer says whether one has to be freed first.
+/// Asks for a place. It returns whether one has to be freed first.
 fn enter<T: Tag, A: Allocator>(table: &RuleTable<T, A>, seat: &mut RuleSeat<T>) -> bool
     requires seat { IsSeatAt table.now seat.old }
     requires absent { (view seat.old).work.place ≡ Absent }

@@ -13,7 +13,7 @@ use std::alloc::Allocator;
 /// needed. Nothing of either is left, what was needed is granted, and an open place is granted
 /// where a slot was freed. A word is not touched where nothing is to be taken from it.
 ///
-/// It takes no memory. It costs at most two atomic subtractions.
+/// It allocates nothing. It costs at most two atomic subtractions.
 pub fn settle<T: Tag, A: Allocator>(
     table: &RuleTable<T, A>,
     seat: &mut RuleSeat<T>,
@@ -35,7 +35,7 @@ pub fn settle<T: Tag, A: Allocator>(
 
 /// Gives up what was reserved, the place and the charge, which isn't 0.
 ///
-/// It takes no memory. It costs two atomic subtractions.
+/// It allocates nothing. It costs two atomic subtractions.
 pub fn give_up<T: Tag, A: Allocator>(table: &RuleTable<T, A>, seat: &mut RuleSeat<T>, charge: u32)
     requires seat { IsSeatAt table.now seat.old }
     requires placed { is_placed (view seat.old).work.place ≡ true }
@@ -52,7 +52,7 @@ pub fn give_up<T: Tag, A: Allocator>(table: &RuleTable<T, A>, seat: &mut RuleSea
 
 /// Gives up the place that was reserved, and keeps the charge.
 ///
-/// It takes no memory. It costs one atomic subtraction.
+/// It allocates nothing. It costs one atomic subtraction.
 pub fn keep_charge<T: Tag, A: Allocator>(table: &RuleTable<T, A>, seat: &mut RuleSeat<T>)
     requires seat { IsSeatAt table.now seat.old }
     requires placed { is_placed (view seat.old).work.place ≡ true }

@@ -17,7 +17,8 @@ use std::alloc::Allocator;
 /// to the usage first, and nothing is evicted for it: under strict capacity it must be granted.
 ///
 /// The client has no place, nothing needed, this charge granted or nothing, fewer than 16,384
-/// standalone entries, and none of this name. It takes no memory. It costs one atomic add, or two.
+/// standalone entries, and none of this name. It allocates nothing. It costs one atomic add, or
+/// two.
 pub fn standalone_in<T: Tag, A: Allocator>(
     table: &RuleTable<T, A>,
     seat: &mut RuleSeat<T>,
@@ -42,10 +43,10 @@ pub fn standalone_in<T: Tag, A: Allocator>(
     table.stand(seat, name, charge);
 }
 
-/// Lets go of the standalone entry of this name, whose charge this is, and takes the charge from
-/// the usage.
+/// Lets go of the standalone entry of this name, whose charge this is, and subtracts the charge
+/// from the usage.
 ///
-/// The client has nothing needed and no freed charge to settle. It takes no memory. It costs two
+/// The client has nothing needed and no freed charge to settle. It allocates nothing. It costs two
 /// atomic subtractions.
 pub fn standalone_out<T: Tag, A: Allocator>(
     table: &RuleTable<T, A>,

@@ -17,7 +17,7 @@ pub struct Swept {
     pub hits: u64,
     /// Visits that found an entry with references.
     pub pinned: u64,
-    /// Visits whose exchange lost.
+    /// Visits whose compare-exchange lost.
     pub lost: u64,
 }
 

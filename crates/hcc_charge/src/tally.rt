@@ -4,7 +4,7 @@ ghost use Rattle.hcc_charge.specs.Swept.{Tallied};
 use crate::swept::Swept;
 
 /// What a client's evictions did in all, for statistics. A count that has come to its end stays
-/// there. Exchanges that lost are counted by `hcc_table`'s `Effort`.
+/// there. Compare-exchanges that lost are counted by `hcc_table`'s `Effort`.
 #[derive(Clone, Copy, Debug, PartialEq, Eq)]
 pub struct Tally {
     /// Turns of the hand.

@@ -15,8 +15,8 @@ use std::rt::Files;
 use std::thread::Threads;
 use std::{fs, io};
 
-/// Plays the trace of block reads on standard input over the files of these paths. On a terminal
-/// it tells how far it is.
+/// Plays the trace of block reads on standard input over the files of these paths. On a terminal it
+/// reports how far it is.
 pub fn blocks<R: AllocGlobal + Input + Print + Eprint + Files + Threads + Sync>(
     rt: &R,
     options: &Options,
@@ -75,7 +75,7 @@ fn files_of<R: AllocGlobal + Eprint + Files>(rt: &R, paths: &[&str]) -> Result<V
     Ok(files)
 }
 
-/// Tells that a file couldn't be read, or that memory was refused for it.
+/// Reports that a file couldn't be read, or that an allocation failed for it.
 fn unreadable<R: AllocGlobal + Eprint>(rt: &R, number: usize, error: &io::Error) -> Status {
     if error.kind() == ErrorKind::OutOfMemory {
         return told(rt, PlayError::OutOfMemory);

@@ -46,7 +46,7 @@ fn file_arg<'a>(alloc: Global) -> Arg<'a> {
         .num_args(0..)
 }
 
-/// The options that were told. Whether they can be is judged later.
+/// The options that were given. Whether they can be is judged later.
 pub fn options_of(options: &ArgMatches<'_>) -> Option<Options> {
     Some(Options {
         config: config_of(options)?,

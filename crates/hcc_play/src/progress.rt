@@ -1,12 +1,12 @@
-//! How far a long play is, told on a terminal.
+//! How far a long play is, shown on a terminal.
 
 use hcc_player::blocks::Gate;
 use std::sync::atomic::{AtomicU64, Ordering};
 
-/// After so many reads it is told how many there were.
+/// After so many reads it is shown how many there were.
 const STEP: u64 = 1 << 20;
 
-/// Counts the reads of all clients where standard error is a terminal, and tells there how many
+/// Counts the reads of all clients where standard error is a terminal, and shows there how many
 /// there were after each 2^20 of them.
 #[derive(Drop)]
 pub struct Progress<'a, R> {

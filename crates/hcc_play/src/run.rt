@@ -34,7 +34,7 @@ pub enum Request<'a> {
     Nothing(Status),
 }
 
-/// Does what the words ask for: the first is the program's name. On a terminal a long play tells
+/// Does what the words ask for: the first is the program's name. On a terminal a long play shows
 /// how far it is.
 pub fn run<R: AllocGlobal + Input + Print + Eprint + Files + Threads + Sync>(
     rt: &R,
@@ -99,7 +99,7 @@ fn asked_by<'a>(alloc: Global, matches: &ArgMatches<'a>) -> Result<Option<Reques
     Ok(Some(Request::Blocks(found, paths)))
 }
 
-/// Tells why a play ended.
+/// Reports why a play ended.
 pub fn told<R: Eprint>(rt: &R, error: PlayError) -> Status {
     let _ = rt.eprintln(error);
     status_of(error)
@@ -128,7 +128,7 @@ pub fn calls<R: AllocGlobal + Input + Print + Eprint>(rt: &R, config: Config) ->
     }
 }
 
-/// Tells what `clap` says of wrong arguments, or the help that was asked for.
+/// Writes what `clap` says of wrong arguments, or the help that was asked for.
 fn refused<R: Print + Eprint>(rt: &R, error: &Error) -> Status {
     if error.kind() == ErrorKind::OutOfMemory {
         let _ = rt.eprintln("out of memory");

@@ -9,7 +9,7 @@ use thiserror::Error;
 
 /// What is wrong with a line of a script or a trace.
 ///
-/// The first fault of the first line at fault is told. The faults of a line stand here in the
+/// The first fault of the first line at fault is reported. The faults of a line stand here in the
 /// order in which they are looked for; from [`TextFault::BadNumber`] on, the words are looked at
 /// one after another from the left, and the first of them that is at fault decides.
 #[derive(Clone, Copy, Debug, PartialEq, Eq, Error)]
@@ -33,7 +33,7 @@ pub enum TextFault {
     /// A number is outside the range that it has in this place.
     #[error("OutOfRange")]
     OutOfRange,
-    /// A word is none of those that may stand in its place; of traces alone, since no word of a
+    /// A word is none of those that may stand in its place; only of traces, since no word of a
     /// script is a choice.
     #[error("BadChoice")]
     BadChoice,
@@ -96,7 +96,7 @@ pub enum ScriptError {
     OutOfMemory,
 }
 
-/// Why a play ended early. Each is shown as the program tells it.
+/// Why a play ended early. Each is shown as the program writes it.
 #[derive(Clone, Copy, Debug, PartialEq, Eq, Error)]
 pub enum PlayError {
     /// The reader failed; nothing was written.

@@ -15,8 +15,8 @@ pub(crate) trait Grammar {
     // What a line says that a line feed ends, or its first fault.
     ghost says: { Self → List ℕ → Result Self.Line TextFault };
 
-    /// Reads a line, given without its line feed. It takes memory for the words, and for what the
-    /// line says.
+    /// Reads a line, given without its line feed. It allocates memory for the words, and for what
+    /// the line says.
     fn line(&self, alloc: Global, line: &[u8]) -> Result<Self::Line, LineError>
         ensures { Gives result (says self.now line.now) };
 }

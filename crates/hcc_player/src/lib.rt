@@ -2,7 +2,7 @@
 //!
 //! A script is a text of lines, one event each; [`play::play_core`] reads it from any reader,
 //! judges all of it, and writes one line for each event to any writer. What a text means, which
-//! fault of it is told, and what is written stand in this crate's definitions, apart from the
+//! fault of it is reported, and what is written stand in this crate's definitions, apart from the
 //! code that reads and writes.
 #![tactic(auto)]
 

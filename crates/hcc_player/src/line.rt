@@ -33,7 +33,7 @@ impl Grammar for Events {
     }
 }
 
-/// Reads the event of a line, given without its line feed. It takes memory for the words and
+/// Reads the event of a line, given without its line feed. It allocates memory for the words and
 /// for the value, and gives back all but the value.
 #[tactic(auto, unfolding(crate::specs::Line::line_event))]
 fn line_event(alloc: Global, line: &[u8]) -> Result<Event, LineError>

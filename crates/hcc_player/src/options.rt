@@ -9,14 +9,14 @@ use hcc_cache::Config;
 #[derive(Clone, Copy, Debug, PartialEq, Eq)]
 pub struct Options {
     pub config: Config,
-    /// How many bytes a block has, the last of a file alone fewer: 1 to eight times the payload
+    /// How many bytes a block has, only the last of a file fewer: 1 to eight times the payload
     /// words of a slot. A trace of calls has no blocks.
     pub block: u32,
 }
 
 impl Options {
     /// Refuses what the config's check refuses, and else a block size that is 0 or above the most
-    /// bytes of a value. It takes no memory, and costs a few comparisons.
+    /// bytes of a value. It allocates nothing, and costs a few comparisons.
     pub fn check(&self) -> Result<(), PlayError>
         ensures { result ≡ options_check self.now }
     {

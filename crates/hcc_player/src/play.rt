@@ -111,8 +111,8 @@ fn play_text<W: Write>(
 /// fails or memory is refused in the middle of a script, a front of the output is out. The writer
 /// is flushed at the end.
 ///
-/// The setup has 1 to 65,536 slots and 1 to 1,024 clients. It takes memory for the text, for the
-/// world and for a part of the output; its time is linear in the text but for the steps.
+/// The setup has 1 to 65,536 slots and 1 to 1,024 clients. It allocates memory for the text, for
+/// the world and for a part of the output; its time is linear in the text except for the steps.
 pub fn play_core<R: Read, W: Write>(
     alloc: Global,
     reader: &mut R,

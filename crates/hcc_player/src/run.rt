@@ -35,15 +35,15 @@ mod tag;
 /// 67,108,864 bytes by `TooLarge`; nothing is written then. Where the writer fails or memory is
 /// refused in the middle of a trace, a front of an output is out. The writer is flushed at the end.
 ///
-/// It takes memory for the text, for the cache, for the registers that are used, for a part of the
-/// output and for the value of one line. Its time is linear in the text but for the calls.
+/// It allocates memory for the text, for the cache, for the registers that are used, for a part of
+/// the output and for the value of one line. Its time is linear in the text except for the calls.
 pub fn play_run<R: Read, W: Write>(
     alloc: Global,
     reader: &mut R,
     writer: &mut W,
     options: &Options,
 ) -> Result<(), PlayError>
-    // Sizes that are refused are told before anything is read.
+    // Sizes that are refused are reported before anything is read.
     ensures refused { IfErr (config_check options.now.config) (λ error. (result ≡ Err error)
         × (reader.new ≡ reader.old) × (writer.new ≡ writer.old)) }
 

@@ -10,8 +10,8 @@ use crate::grammar::Grammar;
 use crate::limits::MOST_LINE;
 use std::alloc::Global;
 
-/// Judges a whole text by a grammar: each line says something, or the first fault is told. It takes
-/// the memory of one line at a time, and time in proportion to the text.
+/// Judges a whole text by a grammar: each line says something, or the first fault is reported. It
+/// takes the memory of one line at a time, and time in proportion to the text.
 #[tactic(auto, using(crate::proofs::ScriptLaws::first_fault, crate::proofs::ScriptLaws::all_say))]
 pub(crate) fn judge_all<G: Grammar>(
     alloc: Global,

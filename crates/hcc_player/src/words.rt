@@ -8,7 +8,7 @@ use crate::fault::{LineError, TextFault};
 use crate::limits::MOST_LINE;
 use std::alloc::{AllocError, Global};
 
-/// The words of a line, given without its line feed. It takes memory for the list of them.
+/// The words of a line, given without its line feed. It allocates memory for the list of them.
 #[tactic(auto, unfolding(crate::specs::Words::plain_words))]
 pub fn plain_words<'a>(alloc: Global, line: &'a [u8]) -> Result<Vec<&'a [u8]>, LineError>
     ensures words { GivesAs (λ words. map (λ w. w.now) words.items) result (plain_words line.now) }

@@ -2,7 +2,7 @@
 //!
 //! No function here does anything when it runs: its contract is the law. `h.world` is the lawful
 //! world that the words and the views of a state show. A state is meant without the seats' logs
-//! (`unlogged`), but for what its words are before the first step (`HoldsLogged`).
+//! (`unlogged`), except what its words are before the first step (`HoldsLogged`).
 ghost use Rattle.std.specs.Prelude.{◌≡◌, ◌≢◌, ℕ, ◌+◌, ◌^◌, ◌<◌, ◌≤◌, true, false, List, [], Some, slice_get, slice_index};
 ghost use Rattle.atomic_table.specs.Table.{opening};
 ghost use Rattle.hcc_word.specs.declared.layout.TheConstants.{VISIBLE};

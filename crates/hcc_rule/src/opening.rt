@@ -21,7 +21,7 @@ impl<T: Tag, A: Allocator> RuleTable<T, A> {
     /// client has nothing in hand, its lists and counts are empty, and no seat has made a step.
     /// Until one does, the meta words, the displacement words and the ledger words are 0.
     ///
-    /// The sizes and the capacity keep their limits. It takes memory for the words, twice for a
+    /// The sizes and the capacity keep their limits. It allocates memory for the words, twice for a
     /// time, and for the seats. It costs two stores for each word, and a load for each client.
     pub fn new(
         alloc: A,
@@ -57,16 +57,16 @@ impl<T: Tag, A: Allocator> RuleTable<T, A> {
     /// A shard with the entries of an image, and the seats of all its clients, in order of their
     /// numbers. Each entry is shown in its slot, with its uses, no references and no hit bit.
     /// Client 0 made them, in their order, under serials from 0 on. Beyond that each client is as
-    /// in a new shard. Until a seat makes a step the words are those of the entries alone.
+    /// in a new shard. Until a seat makes a step the words are only those of the entries.
     ///
     /// The sizes and the capacity keep their limits. Each slot of an entry is above that of the one
     /// before it, each value is right for its key and fits its slot, and no entry has more uses
     /// than [`MOST_USES`](hcc_core::limits::MOST_USES). There are no more entries than 84 of a
     /// hundred slots, and under strict their charges in sum are within the capacity.
     ///
-    /// It takes memory for the words, twice for a time, and for the seats. It costs two stores for
-    /// each word; for each entry a store for each of its words, an add for each slot of its trail
-    /// and two adds more; and a load for each client.
+    /// It allocates memory for the words, twice for a time, and for the seats. It costs two stores
+    /// for each word; for each entry a store for each of its words, an add for each slot of its
+    /// trail and two adds more; and a load for each client.
     pub fn with_image(
         alloc: A,
         geometry: Geometry,

@@ -7,7 +7,8 @@ ghost use mir.Syntax.{w64};
 /// payload word of a value, where the offset is eight times its number. The offset is at most the
 /// number of bytes.
 ///
-/// It takes no memory. It costs a load where there are eight bytes, and else a copy of those left.
+/// It allocates nothing. It costs a load where there are eight bytes, and else a copy of those
+/// left.
 #[inline(always)]
 pub fn word_at(value: &[u8], offset: usize) -> u64
     requires { offset ≤ length value.now }

@@ -1,4 +1,4 @@
-//! The rule of a shard's table, and what the table is told once.
+//! The rule of a shard's table, and what the table is given once.
 use crate::geometry::Geometry;
 use crate::image::ImageEntry;
 use crate::key::Tag;
@@ -7,7 +7,7 @@ use atomic_table::TableRule;
 use std::marker::PhantomData;
 use std::snapshot::Snapshot;
 
-/// What a shard is told once: its size, its rule of capacity, the tag of its values, and the
+/// What a shard is given once: its size, its rule of capacity, the tag of its values, and the
 /// entries with which it begins, if any.
 #[derive(Drop)]
 pub struct Plan<T> {
@@ -15,7 +15,7 @@ pub struct Plan<T> {
     pub capacity: u64,
     pub strict: bool,
     pub tag: T,
-    /// For contracts alone: it takes no bytes.
+    /// Only for contracts: it takes no bytes.
     pub image: Option<Snapshot<Vec<ImageEntry>>>,
 }
 

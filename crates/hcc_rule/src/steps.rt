@@ -1,4 +1,4 @@
-//! One function for each kind of step, and what it tells its seat.
+//! One function for each kind of step, and what it shows its seat.
 mod frees;
 mod hand;
 mod ledgers;

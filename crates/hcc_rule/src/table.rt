@@ -12,7 +12,7 @@ use crate::view::Logged;
 use atomic_table::{Seat, Table};
 use std::alloc::Allocator;
 
-/// The words of a shard, which change by the steps of its seats alone.
+/// The words of a shard, which change only by the steps of its seats.
 #[derive(Drop)]
 pub struct RuleTable<T: Tag, A: Allocator> {
     pub(crate) table: Table<(), Logged<T>, Plan<T>, ShardRule<T>, A>,

@@ -71,9 +71,9 @@ pub struct View<T> {
 }
 
 /// An atomic step that a seat made: the address of its word, its operands (0 where it has fewer),
-/// and the word that it found. A load has no operand, a store, an add, a take, an and or an or has
-/// one, and an exchange has the word that it asks for and the one that it would leave. Of a store,
-/// what it found is the word that it stored.
+/// and the word that it found. A load has no operand, a store, an add, a subtraction, an and or an
+/// or has one, and a compare-exchange has the word that it asks for and the one that it would
+/// leave. Of a store, what it found is the word that it stored.
 pub struct Atomic {
     pub address: u64,
     pub first: u64,

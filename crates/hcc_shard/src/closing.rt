@@ -16,12 +16,12 @@ use std::alloc::Allocator;
 
 impl<T: Tag, A: Allocator> Shard<T, A> {
     /// Ends the shard, once the seats of all its clients are back, each at rest and with nothing
-    /// held. The words that are left are those of the entries alone: the usage, the occupancy and
+    /// held. The words that are left are only those of the entries: the usage, the occupancy and
     /// the displacements are sums over them. Each entry is one that its maker made, in no two
     /// slots, and nobody holds it; they are as many as were made less those that were taken. The
     /// value that is left of it is the one that it was made with.
     ///
-    /// It refuses nothing and takes no memory. It costs a load for each seat.
+    /// It refuses nothing and allocates nothing. It costs a load for each seat.
     pub fn close<B: Allocator>(self, seats: Vec<ShardSeat<T>, B>) -> ClosedShard<A>
         requires back { AreBack self seats.items }
         ensures size { result.table.geometry ≡ geometry_of self.table }
@@ -43,7 +43,7 @@ impl<T: Tag, A: Allocator> Shard<T, A> {
     /// Joins another seat to a seat: the first names the clients of both from now on. Both are at
     /// rest, and their clients hold nothing. The counts of the other's calls go.
     ///
-    /// It refuses nothing and takes no memory. It costs a load.
+    /// It refuses nothing and allocates nothing. It costs a load.
     pub fn join(&self, seat: &mut ShardSeat<T>, other: ShardSeat<T>)
         requires seat { HoldsNothing self.now seat.old }
         requires other { HoldsNothing self.now other }
@@ -56,7 +56,7 @@ impl<T: Tag, A: Allocator> Shard<T, A> {
     /// Ends the shard as `close` does, by the one seat to which those of all other clients were
     /// joined.
     ///
-    /// It refuses nothing and takes no memory. It costs nothing.
+    /// It refuses nothing and allocates nothing. It costs nothing.
     pub fn close_joined(self, last: ShardSeat<T>) -> ClosedShard<A>
         requires back { HoldsNothing self last }
         requires all { clients_of self.table ≤ named_by (view last.seat) }

@@ -16,14 +16,14 @@ use hcc_word::state;
 use std::alloc::Allocator;
 
 /// What is left of a shard that was closed: its words, which change no more. They are those of its
-/// entries alone. Dropping it gives their memory back.
+/// entries only. Dropping it gives their memory back.
 #[derive(Drop)]
 pub struct ClosedShard<A: Allocator> {
     pub(crate) table: ClosedTable<A>,
     ghost left: { AreLeft table.geometry.slots table.geometry.room (words_of table) },
 }
 
-/// What a slot of a closed shard tells of its entry.
+/// What a slot of a closed shard says of its entry.
 #[derive(Clone, Copy, Debug, PartialEq, Eq)]
 pub struct ClosedEntry {
     pub key: Key,
@@ -107,10 +107,10 @@ impl<A: Allocator> ClosedShard<A> {
         })
     }
 
-    /// Copies the value of a slot's entry to the front of a buffer that has room for it. The answer
-    /// is how many bytes it has. The rest of the buffer stays.
+    /// Copies the value of a slot's entry to the front of a buffer that has room for it. It returns
+    /// how many bytes it has. The rest of the buffer stays.
     ///
-    /// It refuses nothing and takes no memory. It costs a load for the length, and one for each
+    /// It refuses nothing and allocates nothing. It costs a load for the length, and one for each
     /// eight bytes, the last ones too.
     pub fn value(&self, slot: u32, buffer: &mut [u8]) -> usize
         requires slot { slot < self.now.table.geometry.slots }

@@ -21,13 +21,13 @@ pub const IN_FLIGHT: u64 = u64::MAX;
 
 impl<T: Tag, A: Allocator> Shard<T, A> {
     /// Hides each visible entry of the key: look-ups find none of them from then on. Those that
-    /// nobody holds, this client neither, are freed, where the one exchange for it wins. The answer
-    /// is how many were hidden.
+    /// nobody holds, this client neither, are freed, where the one compare-exchange for it wins. It
+    /// returns how many were hidden.
     ///
-    /// Each entry of the key that the client holds has been seen dead afterwards. It takes no
-    /// memory. Each probe costs what it costs a look-up; each match an atomic and, an exchange
-    /// where nobody holds the entry, and the freeing where that wins, else a take. Two takes follow
-    /// where any was freed.
+    /// Each entry of the key that the client holds has been seen dead afterwards. It allocates
+    /// nothing. Each probe costs what it costs a look-up; each match an atomic and, a
+    /// compare-exchange where nobody holds the entry, and the freeing where that wins, else a
+    /// subtraction. Two subtractions follow where any was freed.
     pub fn erase(&self, seat: &mut ShardSeat<T>, key: Key) -> u32
         requires seat { Rests self.now seat.old }
         ensures seat { Rests self.now seat.new }

@@ -15,8 +15,8 @@ impl<A: Allocator> ClosedShard<A> {
     /// may be opened with them again: no slot and no length is bad in one of the same size. Hidden
     /// entries and marks are left out.
     ///
-    /// It refuses nothing but for memory, which it takes for the list and for each value. It costs
-    /// a load for each slot, and for each entry five more and one for each eight bytes.
+    /// It fails only if it can't allocate the list and each value. It costs a load for each slot,
+    /// and for each entry five more and one for each eight bytes.
     pub fn image(&self, alloc: Global) -> Result<Vec<ImageEntry>, AllocError>
         ensures exact { IfOk result (λ image.
             AreShown self.now.table self.now.table.geometry.slots image.items) }

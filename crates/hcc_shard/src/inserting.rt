@@ -43,7 +43,7 @@ pub enum Pinned {
 
 impl<T: Tag, A: Allocator> Shard<T, A> {
     /// Inserts an entry and keeps no reference on it. A place and the charge are reserved first,
-    /// which may evict others; that is refused under strict capacity alone. Then it is put into the
+    /// which may evict others; that is refused only under strict capacity. Then it is put into the
     /// first slot of its key that is empty.
     ///
     /// It is dropped only where the shard was full and no place was found, where an entry of the
@@ -51,9 +51,9 @@ impl<T: Tag, A: Allocator> Shard<T, A> {
     /// the client what it held and made, with nothing in hand, and evictions stay made. TooLarge
     /// makes no step.
     ///
-    /// The draft has no name, and its serial is above those before. It takes no memory. It costs a
-    /// reservation, and where that is granted each probe of the key as a search does, a store for
-    /// each word of the entry, and two takes where it is dropped.
+    /// The draft has no name, and its serial is above those before. It allocates nothing. It costs
+    /// a reservation, and where that is granted each probe of the key as a search does, a store for
+    /// each word of the entry, and two subtractions where it is dropped.
     pub fn insert(
         &self,
         seat: &mut ShardSeat<T>,
@@ -103,7 +103,7 @@ impl<T: Tag, A: Allocator> Shard<T, A> {
     /// that name: its charge is in the usage, and the caller keeps its value.
     ///
     /// The draft's name is its serial, which is above those before. The client holds fewer than
-    /// 16,384 references, and has fewer standalone entries. It takes no memory. It costs what
+    /// 16,384 references, and has fewer standalone entries. It allocates nothing. It costs what
     /// `insert` does, and where no place was found two adds more.
     pub fn insert_pinned(
         &self,
@@ -166,8 +166,8 @@ impl<T: Tag, A: Allocator> Shard<T, A> {
         }
     }
 
-    /// Puts an entry into the table whose place and charge are granted. The answer is its slot;
-    /// where there is none, they are granted still.
+    /// Puts an entry into the table whose place and charge are granted. It returns its slot; where
+    /// there is none, they are granted still.
     fn put(&self, seat: &mut ShardSeat<T>, draft: Draft, value: &[u8]) -> Option<u32>
         requires seat { IsSeatAt self.now.table seat.old.seat }
         requires may { MayInsert T.fits (plan_of self.now.table) draft value.now seat.old.client

@@ -25,8 +25,8 @@ impl<T: Tag, A: Allocator> Shard<T, A> {
     /// The meta word of a slot, whose fields `hcc_word` reads.
     ///
     /// Where the client holds references on the slot, the word is that of an entry with at least
-    /// these; in a shard of one client, with just these. It refuses nothing and takes no memory. It
-    /// costs one load.
+    /// these; in a shard of one client, with just these. It refuses nothing and allocates nothing.
+    /// It costs one load.
     pub fn word(&self, seat: &mut ShardSeat<T>, slot: u32) -> u64
         requires seat { Rests self.now seat.old }
         requires slot { IsSlotOf self.now.table slot }
@@ -45,8 +45,8 @@ impl<T: Tag, A: Allocator> Shard<T, A> {
     /// It is at least the number of entries that the client holds, each once, whose trail has the
     /// slot. Any other entry has the slot in its trail once at most, and any other client as often
     /// as there are slots. In a shard of one client the others are those that it made and did not
-    /// take: so it is exact where the client holds all of these. It refuses nothing and takes no
-    /// memory. It costs one load.
+    /// take: so it is exact where the client holds all of these. It refuses nothing and allocates
+    /// nothing. It costs one load.
     pub fn displacement(&self, seat: &mut ShardSeat<T>, slot: u32) -> u64
         requires seat { Rests self.now seat.old }
         requires slot { IsSlotOf self.now.table slot }
@@ -71,7 +71,7 @@ impl<T: Tag, A: Allocator> Shard<T, A> {
 
     /// The key of the entry of a pin that the client holds.
     ///
-    /// It refuses nothing and takes no memory. It costs two loads.
+    /// It refuses nothing and allocates nothing. It costs two loads.
     pub fn key(&self, seat: &mut ShardSeat<T>, pin: Pin) -> Key
         requires seat { Rests self.now seat.old }
         requires slot { IsSlotOf self.now.table pin.slot }
@@ -88,7 +88,7 @@ impl<T: Tag, A: Allocator> Shard<T, A> {
 
     /// How many bytes the value has of the entry of a pin that the client holds.
     ///
-    /// It refuses nothing and takes no memory. It costs one load.
+    /// It refuses nothing and allocates nothing. It costs one load.
     pub fn value_len(&self, seat: &mut ShardSeat<T>, pin: Pin) -> usize
         requires seat { Rests self.now seat.old }
         requires slot { IsSlotOf self.now.table pin.slot }
@@ -104,9 +104,9 @@ impl<T: Tag, A: Allocator> Shard<T, A> {
     }
 
     /// Copies the value of the entry of a pin that the client holds to the front of a buffer, which
-    /// has room for it. The answer is how many bytes it has. The rest of the buffer stays.
+    /// has room for it. It returns how many bytes it has. The rest of the buffer stays.
     ///
-    /// It refuses nothing and takes no memory. It costs a load for the length, and one for each
+    /// It refuses nothing and allocates nothing. It costs a load for the length, and one for each
     /// eight bytes, the last ones too.
     pub fn read_value(&self, seat: &mut ShardSeat<T>, pin: Pin, buffer: &mut [u8]) -> usize
         requires seat { Rests self.now seat.old }

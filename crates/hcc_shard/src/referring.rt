@@ -34,9 +34,9 @@ impl<T: Tag, A: Allocator> Shard<T, A> {
     /// holds what it held, and has seen dead each entry of the key that it holds. In a shard that
     /// marks, the entry that it finds has the hit bit then.
     ///
-    /// It takes no memory. Each probe costs a load and one of the displacement word, and where the
-    /// slot is visible an add, a load of each half of the key that is compared, and a take. A hit
-    /// at the first probe is one load, one add and two loads.
+    /// It allocates nothing. Each probe costs a load and one of the displacement word, and where
+    /// the slot is visible an add, a load of each half of the key that is compared, and a
+    /// subtraction. A hit at the first probe is one load, one add and two loads.
     #[inline(always)]
     pub fn lookup(&self, seat: &mut ShardSeat<T>, key: Key, serial: u64) -> Option<Pin>
         requires seat { Rests self.now seat.old }
@@ -71,10 +71,10 @@ impl<T: Tag, A: Allocator> Shard<T, A> {
 
     /// One reference more on the entry of a pin that the client holds, named by the serial that the
     /// call is handed: it is above the names that the client has, which holds fewer than 16,384
-    /// references. The answer is the pin of it.
+    /// references. It returns the pin of it.
     ///
-    /// The record of it is behind the client's others, on the very same entry. It takes no memory.
-    /// It costs one atomic add, and an exchange where the reference doesn't count.
+    /// The record of it is behind the client's others, on the very same entry. It allocates
+    /// nothing. It costs one atomic add, and a compare-exchange where the reference doesn't count.
     pub fn reref(&self, seat: &mut ShardSeat<T>, pin: Pin, serial: u64) -> Pin
         requires seat { Rests self.now seat.old }
         requires slot { IsSlotOf self.now.table pin.slot }
@@ -97,12 +97,12 @@ impl<T: Tag, A: Allocator> Shard<T, A> {
 
     /// Gives the reference of a pin that the client holds back: as a use, where it is useful and
     /// counts. Where no reference is left then, and the entry is hidden or `last` asks for it,
-    /// taking the entry is tried once, and it is freed. The answer says whether this call freed an
+    /// taking the entry is tried once, and it is freed. It returns whether this call freed an
     /// entry.
     ///
-    /// The record of the pin is gone afterwards, and no other. It takes no memory. It costs one
-    /// atomic add or take; where nobody holds the entry and it may go an exchange, and where that
-    /// wins what freeing the slot costs and two takes.
+    /// The record of the pin is gone afterwards, and no other. It allocates nothing. It costs one
+    /// atomic add or subtraction; where nobody holds the entry and it may go a compare-exchange,
+    /// and where that wins what freeing the slot costs and two subtractions.
     #[inline(always)]
     pub fn release(&self, seat: &mut ShardSeat<T>, pin: Pin, usage: Use, last: IfLast) -> bool
         requires seat { Rests self.now seat.old }
@@ -137,7 +137,7 @@ impl<T: Tag, A: Allocator> Shard<T, A> {
     /// Lets go of a standalone entry of the client, whose charge this is: its last reference is
     /// gone.
     ///
-    /// It takes no memory. It costs two atomic subtractions.
+    /// It allocates nothing. It costs two atomic subtractions.
     pub fn release_standalone(&self, seat: &mut ShardSeat<T>, name: u64, charge: u32)
         requires seat { Rests self.now seat.old }
         requires stands { find (is_standing name) (view seat.old.seat).work.standalones

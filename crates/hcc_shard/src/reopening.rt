@@ -18,7 +18,7 @@ use hcc_rule::{Geometry, ImageEntry, RuleTable, Tag};
 use std::alloc::{AllocError, Allocator};
 
 /// Why a shard isn't opened with an image. Each is judged over all entries before the next one; the
-/// first that is due is told.
+/// first that is due is returned.
 #[derive(Clone, Copy, Debug, PartialEq, Eq)]
 pub enum ReopenError {
     /// An entry's slot is none of the shard's, or not above that of the entry before it.
@@ -54,7 +54,7 @@ impl<T: Tag, A: Allocator> Shard<T, A> {
     ///
     /// The sizes and the capacity keep their limits, and each value is right for its key. It
     /// refuses an image as [`ReopenError`] says, whichever memory there is, and nothing remains
-    /// then. It takes memory for the words, twice for a time, and for the seats. It costs two
+    /// then. It allocates memory for the words, twice for a time, and for the seats. It costs two
     /// stores for each word of the shard, for each entry a store for each of its words, an add for
     /// each slot of its trail and two more, and a load for each client.
     pub fn reopen(
@@ -106,7 +106,7 @@ impl<T: Tag, A: Allocator> Shard<T, A> {
     }
 }
 
-/// Why no shard is opened with these entries, but for memory.
+/// Why no shard is opened with these entries, apart from memory.
 fn refusal(
     geometry: Geometry,
     capacity: u64,

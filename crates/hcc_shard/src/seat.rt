@@ -24,7 +24,7 @@ pub struct Stats {
     pub turns: u64,
     /// Corrections of counters that were made.
     pub corrections: u64,
-    /// Exchanges that lost.
+    /// Compare-exchanges that lost.
     pub lost: u64,
 }
 

@@ -21,9 +21,9 @@ impl<T: Tag, A: Allocator> Shard<T, A> {
     /// client has nothing in hand, its lists are empty and its counts 0. Until one makes a step all
     /// words but those of data are 0. Look-ups mark what they find where `marks` says so.
     ///
-    /// The sizes and the capacity keep their limits. It takes memory for the words, twice for a
-    /// time, and for the seats, and is refused where that is refused alone. It costs two stores for
-    /// each word of the shard, and a load for each client.
+    /// The sizes and the capacity keep their limits. It allocates memory for the words, twice for a
+    /// time, and for the seats, and is refused only if that is. It costs two stores for each word
+    /// of the shard, and a load for each client.
     pub fn new(
         alloc: A,
         geometry: Geometry,

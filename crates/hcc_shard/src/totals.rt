@@ -25,7 +25,7 @@ impl<T: Tag, A: Allocator> Shard<T, A> {
     /// an open place for each client. In a shard of one client it is exact: those that it made,
     /// less those that it took.
     ///
-    /// It refuses nothing and takes no memory. It costs one load.
+    /// It refuses nothing and allocates nothing. It costs one load.
     pub fn occupancy(&self, seat: &mut ShardSeat<T>) -> u64
         requires seat { Rests self.now seat.old }
         ensures seat { Rests self.now seat.new }
@@ -45,7 +45,7 @@ impl<T: Tag, A: Allocator> Shard<T, A> {
     /// charges of the entries that the client holds, each once, and of its standalone entries. The
     /// usage that was loaded joins the client's seen list.
     ///
-    /// It refuses nothing and takes no memory. It costs one load.
+    /// It refuses nothing and allocates nothing. It costs one load.
     pub fn usage(&self, seat: &mut ShardSeat<T>) -> u64
         requires seat { Rests self.now seat.old }
         ensures seat { Rests self.now seat.new }
@@ -70,9 +70,9 @@ impl<T: Tag, A: Allocator> Shard<T, A> {
     /// the entries that the client holds, each once, and of its standalone entries; in a shard of
     /// one client it is these.
     ///
-    /// It refuses nothing and takes no memory. It costs a load, and one for each slot; where that
-    /// finds an entry held an add, a load and a take more, with an exchange where the reference
-    /// doesn't count.
+    /// It refuses nothing and allocates nothing. It costs a load, and one for each slot; where that
+    /// finds an entry held an add, a load and a subtraction more, with a compare-exchange where the
+    /// reference doesn't count.
     pub fn pinned_usage(&self, seat: &mut ShardSeat<T>) -> u64
         requires seat { Rests self.now seat.old }
         ensures seat { Rests self.now seat.new }

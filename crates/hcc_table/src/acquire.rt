@@ -21,10 +21,10 @@ use hcc_word::corrected;
 use std::alloc::Allocator;
 
 /// Acquires one more reference on the entry of a pin that the client holds, under this name, which
-/// it doesn't hold; it has room for one more. The answer is the pin of it.
+/// it doesn't hold; it has room for one more. It returns the pin of it.
 ///
-/// The record of it is behind the client's others, on the very same entry. It takes no memory. It
-/// costs one atomic add, and an exchange where the reference doesn't count.
+/// The record of it is behind the client's others, on the very same entry. It allocates nothing. It
+/// costs one atomic add, and a compare-exchange where the reference doesn't count.
 pub fn again<T: Tag, A: Allocator>(
     table: &RuleTable<T, A>,
     seat: &mut RuleSeat<T>,

@@ -9,7 +9,7 @@ pub struct Effort {
     pub probes: u64,
     /// Corrections of counters that were made.
     pub corrections: u64,
-    /// Exchanges that lost: of the clock, to free an entry, and of corrections.
+    /// Compare-exchanges that lost: of the clock, to free an entry, and of corrections.
     pub lost: u64,
 }
 
@@ -40,7 +40,7 @@ impl Effort {
         self.corrections = self.corrections.saturating_add(1);
     }
 
-    /// An exchange lost.
+    /// A compare-exchange lost.
     pub(crate) fn lose(&mut self)
         ensures lost { Rose 1 1 self.old.lost self.new.lost }
         ensures probes { self.new.probes ≡ self.old.probes }

@@ -18,10 +18,11 @@ use hcc_rule::{Key, RuleSeat, RuleTable, Tag};
 use std::alloc::Allocator;
 
 /// Frees the slot whose entry the client took: takes back the displacements of the key's probes
-/// before the slot, and empties it. The answer is the entry's charge, which the client has to
-/// settle with its place.
+/// before the slot, and empties it. It returns the entry's charge, which the client has to settle
+/// with its place.
 ///
-/// It takes no memory. It costs three loads, a take for each probe before the slot, and a store.
+/// It allocates nothing. It costs three loads, a subtraction for each probe before the slot, and a
+/// store.
 pub fn free_taken<T: Tag, A: Allocator>(
     table: &RuleTable<T, A>,
     seat: &mut RuleSeat<T>,
@@ -74,7 +75,7 @@ pub(crate) fn take_back<T: Tag, A: Allocator>(
 }
 
 /// Tries once to take the entry of a slot whose word was `word`, with no reference or with the
-/// client's last one, and frees it. The answer is its charge; none where the exchange lost.
+/// client's last one, and frees it. It returns its charge; none where the compare-exchange lost.
 pub(crate) fn try_free<T: Tag, A: Allocator>(
     table: &RuleTable<T, A>,
     seat: &mut RuleSeat<T>,

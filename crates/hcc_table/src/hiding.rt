@@ -60,14 +60,14 @@ impl Erased {
 
 /// Hides each visible entry of the key: look-ups find none of them from then on. Each probe of the
 /// key in turn is looked at, as in a search that doesn't stop at a match. An entry that only this
-/// call holds then is taken by one exchange and freed; where that loses it stays hidden.
+/// call holds then is taken by one compare-exchange and freed; where that loses it stays hidden.
 ///
 /// The name is one that the client doesn't hold, and there is room for one more reference. The
 /// client owns no slot, has an empty trail, and no freed charge to settle. Each entry of the key
 /// that it holds has been seen dead afterwards. It frees no more entries than it met of the key,
-/// each of a charge below 2^32. It takes no memory. Each probe costs what it costs a search; each
-/// match an atomic and, an exchange where nobody else holds the entry, and the freeing where that
-/// wins, else a take.
+/// each of a charge below 2^32. It allocates nothing. Each probe costs what it costs a search; each
+/// match an atomic and, a compare-exchange where nobody else holds the entry, and the freeing where
+/// that wins, else a subtraction.
 pub fn hide<T: Tag, A: Allocator>(
     table: &RuleTable<T, A>,
     seat: &mut RuleSeat<T>,

@@ -56,10 +56,10 @@ pub enum Insertion {
 /// case it may have looked at slots, seen entries dead and met keys, and counted slots that weren't
 /// empty: so many as the trail is long, at least one, or all of them.
 ///
-/// It takes no memory. Each probe costs an or, an add to the displacement word where another probe
-/// follows, and where the slot shows an entry an add, a load of each half of the key and a take,
-/// with an exchange where references don't count. An entry that is placed costs a store for each of
-/// its words and one more; else each slot that was passed costs a take.
+/// It allocates nothing. Each probe costs an or, an add to the displacement word where another
+/// probe follows, and where the slot shows an entry an add, a load of each half of the key and a
+/// subtraction, with a compare-exchange where references don't count. An entry that is placed costs
+/// a store for each of its words and one more; else each slot that was passed costs a subtraction.
 pub fn insert<T: Tag, A: Allocator>(
     table: &RuleTable<T, A>,
     seat: &mut RuleSeat<T>,

@@ -1,5 +1,5 @@
 //! Keys in one shard: a client looks for a key's entry, holds it, reads it and gives it back. Each
-//! call is a bounded number of atomic steps by one seat, and each exchange is tried once.
+//! call is a bounded number of atomic steps by one seat, and each compare-exchange is tried once.
 #![tactic(auto)]
 
 mod acquire;

@@ -22,9 +22,9 @@ use std::alloc::Allocator;
 ///
 /// Where the client holds a reference there, it is the charge of that entry. In a shard of one
 /// client there is none elsewhere. The name is one that the client doesn't hold, and there is room
-/// for one more reference. What the client has stays, as a search leaves it. It takes no memory. It
-/// costs a load, and where that finds the entry held an add, a load and a take, with an exchange
-/// where the reference doesn't count.
+/// for one more reference. What the client has stays, as a search leaves it. It allocates nothing.
+/// It costs a load, and where that finds the entry held an add, a load and a subtraction, with a
+/// compare-exchange where the reference doesn't count.
 pub fn pinned_charge<T: Tag, A: Allocator>(
     table: &RuleTable<T, A>,
     seat: &mut RuleSeat<T>,

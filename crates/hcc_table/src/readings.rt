@@ -28,7 +28,7 @@ use std::alloc::Allocator;
 /// Where the client holds references on the slot, the word is that of an entry with at least these,
 /// and they all are on that entry; in a shard of one client, with just these. The client has looked
 /// at the slot where the word is an entry's, and has seen an entry dead that it holds and that is
-/// hidden; the rest of what it has stays. It refuses nothing and takes no memory. It costs one
+/// hidden; the rest of what it has stays. It refuses nothing and allocates nothing. It costs one
 /// load.
 pub fn word<T: Tag, A: Allocator>(table: &RuleTable<T, A>, seat: &mut RuleSeat<T>, slot: u32) -> u64
     requires seat { IsSeatAt table.now seat.old }
@@ -48,7 +48,7 @@ pub fn word<T: Tag, A: Allocator>(table: &RuleTable<T, A>, seat: &mut RuleSeat<T
 /// each of these is on a slot of the table. Any other entry has the slot in its trail once at most,
 /// and any other client as often as there are slots. In a shard of one client the other entries are
 /// those that it showed and did not take: so the answer is exact where it holds all of these. What
-/// the client has stays. It refuses nothing and takes no memory. It costs one load.
+/// the client has stays. It refuses nothing and allocates nothing. It costs one load.
 pub fn displacement<T: Tag, A: Allocator>(
     table: &RuleTable<T, A>,
     seat: &mut RuleSeat<T>,
@@ -82,8 +82,8 @@ pub fn displacement<T: Tag, A: Allocator>(
 
 /// How many bytes the value has of the entry of a pin.
 ///
-/// The client holds the pin's reference. What the client has stays. It refuses nothing and takes no
-/// memory. It costs one load.
+/// The client holds the pin's reference. What the client has stays. It refuses nothing and
+/// allocates nothing. It costs one load.
 pub fn read_len<T: Tag, A: Allocator>(
     table: &RuleTable<T, A>,
     seat: &mut RuleSeat<T>,
@@ -104,8 +104,8 @@ pub fn read_len<T: Tag, A: Allocator>(
 /// The key of the entry of a pin.
 ///
 /// The client holds the pin's reference. Where it got the entry as Shown, the key joins the keys
-/// that it met; the rest of what it has stays. It refuses nothing and takes no memory. It costs two
-/// loads.
+/// that it met; the rest of what it has stays. It refuses nothing and allocates nothing. It costs
+/// two loads.
 pub fn read_key<T: Tag, A: Allocator>(
     table: &RuleTable<T, A>,
     seat: &mut RuleSeat<T>,
@@ -126,12 +126,12 @@ pub fn read_key<T: Tag, A: Allocator>(
     }
 }
 
-/// Copies the value of the entry of a pin to the front of a buffer. The answer is how many bytes it
+/// Copies the value of the entry of a pin to the front of a buffer. It returns how many bytes it
 /// has. The rest of the buffer stays as it is.
 ///
 /// The client holds the pin's reference, on an entry whose value fits its slot and is of bytes, and
-/// the buffer has room for the value. What the client has stays. It refuses nothing and takes no
-/// memory. It costs one load for the length, and one for each eight bytes, the last ones too.
+/// the buffer has room for the value. What the client has stays. It refuses nothing and allocates
+/// nothing. It costs one load for the length, and one for each eight bytes, the last ones too.
 pub fn read_bytes<T: Tag, A: Allocator>(
     table: &RuleTable<T, A>,
     seat: &mut RuleSeat<T>,

@@ -22,14 +22,14 @@ use std::alloc::Allocator;
 
 /// Gives the reference of a pin back: as a use, where it is useful and counts, else by taking it
 /// from the acquires. Where no reference is left then, and the entry is hidden or `last` asks for
-/// it, taking the entry is tried once, and its slot is freed. The answer is the charge of the entry
+/// it, taking the entry is tried once, and its slot is freed. It returns the charge of the entry
 /// that was freed; it and a place are the client's to settle. Another entry that came into the slot
 /// meanwhile may be the one that goes.
 ///
 /// The client holds the pin's reference, and may free an entry. Its record is gone afterwards, and
-/// no other. A visible entry is taken only where `last` asks for it. It takes no memory. It costs
-/// one atomic add or take; where nobody holds the entry and it may go an exchange, and where that
-/// wins what `free_taken` costs.
+/// no other. A visible entry is taken only where `last` asks for it. It allocates nothing. It costs
+/// one atomic add or subtraction; where nobody holds the entry and it may go a compare-exchange,
+/// and where that wins what `free_taken` costs.
 #[inline(always)]
 pub fn release<T: Tag, A: Allocator>(
     table: &RuleTable<T, A>,
@@ -71,7 +71,7 @@ pub fn release<T: Tag, A: Allocator>(
     }
 }
 
-/// Gives the references of this name back, as uses or not, and tells the word that is left.
+/// Gives the references of this name back, as uses or not, and returns the word that is left.
 #[inline(always)]
 pub(crate) fn let_go<T: Tag, A: Allocator>(
     table: &RuleTable<T, A>,

@@ -31,12 +31,12 @@ use std::alloc::Allocator;
 /// Where it finds one, the client has one record more, behind its others: of an entry of this key,
 /// with a value that fits it, which the client hadn't seen dead. Where it finds none, it holds what
 /// it held, and has seen dead each entry of the key that it holds. In both the rest of what it has
-/// stays, but for the slot that it looked at last, entries that it saw dead, and keys that it met.
+/// stays, except the slot that it looked at last, entries that it saw dead, and keys that it met.
 ///
-/// It takes no memory. Each probe costs a load and one of the displacement word, and where the slot
-/// is visible an add, a load of each half of the key that is compared, and a take. A hit at the
-/// first probe is one load, one add and two loads, with the mark's or where that is asked for and
-/// lacks. A reference that doesn't count costs one exchange more.
+/// It allocates nothing. Each probe costs a load and one of the displacement word, and where the
+/// slot is visible an add, a load of each half of the key that is compared, and a subtraction. A
+/// hit at the first probe is one load, one add and two loads, with the mark's or where that is
+/// asked for and lacks. A reference that doesn't count costs one compare-exchange more.
 #[inline(always)]
 pub fn find<T: Tag, A: Allocator>(
     table: &RuleTable<T, A>,

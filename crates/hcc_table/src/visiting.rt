@@ -23,7 +23,7 @@ pub enum ClockVisit {
     Pinned,
     /// Its countdown is one less, and at most 2.
     Counted,
-    /// Another step came between the load and the exchange.
+    /// Another step came between the load and the compare-exchange.
     Lost,
     /// Its entry was freed: its charge and its place are the client's to settle. `hit` says whether
     /// a look-up had marked it.
@@ -31,11 +31,11 @@ pub enum ClockVisit {
 }
 
 /// Visits a slot as the clock does: a visible entry with no references and a countdown above 0 is
-/// counted down by one exchange; one with countdown 0, or a hidden one, is taken by one exchange
-/// and freed.
+/// counted down by one compare-exchange; one with countdown 0, or a hidden one, is taken by one
+/// compare-exchange and freed.
 ///
-/// The client may free an entry. It takes no memory. It costs a load, an exchange where the entry
-/// has no references, and where it frees what `free_taken` costs.
+/// The client may free an entry. It allocates nothing. It costs a load, a compare-exchange where
+/// the entry has no references, and where it frees what `free_taken` costs.
 pub fn visit<T: Tag, A: Allocator>(
     table: &RuleTable<T, A>,
     seat: &mut RuleSeat<T>,

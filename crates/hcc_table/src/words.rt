@@ -1,4 +1,4 @@
-//! What a meta word that was found tells.
+//! What a meta word that was found says.
 ghost use Rattle.std.specs.Prelude.{◌≡◌};
 ghost use Rattle.hcc_word.specs.Word.{is_shareable, is_visible, is_counting};
 

@@ -9,7 +9,7 @@ use crate::script::{judged_line, next_line};
 use std::alloc::{AllocError, Global};
 
 /// The reads of each client, in order: each line of a text that was judged is dealt to its client,
-/// in one pass. It takes memory for all reads.
+/// in one pass. It allocates memory for all reads.
 pub fn dealt(alloc: Global, clients: u32, text: &[u8]) -> Result<Vec<Vec<BlockRead>>, PlayError>
     requires { IsOk (reads_in clients text.now) }
     ensures dealt { IfOk result (λ lists.

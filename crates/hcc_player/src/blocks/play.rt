@@ -43,9 +43,9 @@ use std::thread::Threads;
 /// report is written whole, at the end; where the writer fails, a front of it is out. The writer is
 /// flushed at the end.
 ///
-/// There is a source for each client, and its content are the files. It takes memory for the text,
-/// for the reads that it says, for the cache and for the report; its time is linear in the text but
-/// for the reads.
+/// There is a source for each client, and its content are the files. It allocates memory for the
+/// text, for the reads that it says, for the cache and for the report; its time is linear in the
+/// text except for the reads.
 pub fn play_blocks<
     R: Read,
     W: Write,
@@ -66,7 +66,8 @@ pub fn play_blocks<
     requires content { All (λ source. S.content source ≡ map (λ file. file.items) files.now)
         sources.items }
 
-    // Options are refused just where their check refuses them, and nothing is read or written then.
+    // Options are refused exactly where their check refuses them, and nothing is read or written
+    // then.
     ensures refused { IfErr (options_check options.now) (λ error.
         (result ≡ Err error) × (reader.new ≡ reader.old) × (writer.new ≡ writer.old)) }
 

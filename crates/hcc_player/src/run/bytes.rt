@@ -18,14 +18,14 @@ impl Model for Bytes {
 }
 
 impl Bytes {
-    /// These bytes. It takes no memory.
+    /// These bytes. It allocates nothing.
     pub(crate) fn from_vec(bytes: Vec<u8>) -> Self
         ensures { result ≡ bytes.items }
     {
         Bytes { bytes }
     }
 
-    /// The bytes themselves. It takes no memory.
+    /// The bytes themselves. It allocates nothing.
     pub(crate) fn into_vec(self) -> Vec<u8>
         ensures { result.items ≡ self }
     {

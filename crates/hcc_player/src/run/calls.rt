@@ -15,8 +15,8 @@ use crate::run::registers::Registers;
 use hcc_cache::{Cache, Client, InsertError, Inserted, Key, LookupError, Priority, Tag};
 use std::alloc::{AllocError, Global};
 
-/// Makes a call, whose values fit their keys, and answers it. It takes memory for registers that
-/// were not needed yet, and for a value that is read.
+/// Makes a call, whose values fit their keys, and answers it. It allocates memory for registers
+/// that were not needed yet, and for a value that is read.
 pub(crate) fn answer<T: Tag>(
     alloc: Global,
     cache: &Cache<T>,

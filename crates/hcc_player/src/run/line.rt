@@ -35,8 +35,8 @@ impl Grammar for Calls {
     }
 }
 
-/// Reads a line, given without its line feed. It takes memory for the words and for the value, and
-/// gives back all but the value.
+/// Reads a line, given without its line feed. It allocates memory for the words and for the value,
+/// and gives back all but the value.
 #[tactic(auto, unfolding(crate::specs::RunLine::run_line))]
 pub(crate) fn run_line(alloc: Global, config: &Config, line: &[u8]) -> Result<RunLine, LineError>
     ensures says { Gives result (run_line config.now line.now) }

@@ -13,7 +13,7 @@ pub(crate) struct Registers {
 }
 
 impl Registers {
-    /// Empty registers. It takes no memory.
+    /// Empty registers. It allocates nothing.
     pub(crate) fn new(alloc: Global) -> Self
         ensures { result.handles.items ≡ [] }
     {

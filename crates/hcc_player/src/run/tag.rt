@@ -2,7 +2,7 @@
 
 use hcc_cache::{Config, Tag};
 
-/// The tag names the trace: a value fits a key just where some line of the trace inserts it under
+/// The tag names the trace: a value fits a key exactly if some line of the trace inserts it under
 /// that key.
 #[derive(Clone, Copy, Debug)]
 pub(crate) struct TraceTag<'a> {

@@ -1,4 +1,4 @@
-//! The exchange that takes an entry to free it.
+//! The compare-exchange that takes an entry to free it.
 ghost use Rattle.std.specs.Prelude.{◌≡◌, ◌+◌, ◌^◌, ◌<◌, ◌≤◌, [], true};
 ghost use Rattle.hcc_word.specs.declared.layout.TheConstants.{CONSTRUCTION_WORD};
 ghost use Rattle.hcc_word.specs.Word.{is_shareable};
@@ -16,13 +16,13 @@ use std::marker::Brand;
 
 impl<T: Tag, A: Allocator> RuleTable<T, A> {
     /// Tries to take the entry of a slot to free it: `old` is its word, with no reference, or with
-    /// the client's own last one, of weight 1, which has the name. The answer is the slot's meta
-    /// word as it was before. Where it is `old`, the entry is gone, with that reference: the client
-    /// owns the slot, has its trail to take back and its charge and its place to settle, and knows
-    /// its words. Else the step was a look.
+    /// the client's own last one, of weight 1, which has the name. It returns the slot's meta word
+    /// as it was before. Where it is `old`, the entry is gone, with that reference: the client owns
+    /// the slot, has its trail to take back and its charge and its place to settle, and knows its
+    /// words. Else the step was a look.
     ///
     /// The client owns no slot, has an empty trail, and has freed at most `2^49 - 2^32` that isn't
-    /// settled. It takes no memory. It costs one compare-exchange.
+    /// settled. It allocates nothing. It costs one compare-exchange.
     pub fn free(&self, seat: &mut RuleSeat<T>, slot: u32, old: u64, name: Option<u64>) -> u64
         requires seat { IsSeatAt self.now seat.old }
         requires slot { slot < self.now.geometry.slots }

@@ -14,7 +14,7 @@ use atomic_table::Play;
 use hcc_core::limits::SLOTS_PER_TURN;
 use std::alloc::Allocator;
 
-/// What a turn of the hand tells.
+/// What a turn of the hand shows.
 pub struct Turn;
 
 impl<T: Tag> Play<(), View<T>> for Turn {
@@ -28,7 +28,7 @@ impl<T: Tag, A: Allocator> RuleTable<T, A> {
     /// that the hand has moved by four slots for each turn that the views count: no other move
     /// keeps it.
     ///
-    /// It answers where the hand was. It takes no memory. It costs one atomic add.
+    /// It returns where the hand was. It allocates nothing. It costs one atomic add.
     pub fn turn(&self, seat: &mut RuleSeat<T>) -> u64
         requires seat { IsSeatAt self.now seat.old }
         ensures seat { IsSameSeat seat.old seat.new }

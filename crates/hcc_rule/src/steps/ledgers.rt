@@ -19,7 +19,7 @@ use atomic_table::Play;
 use std::alloc::Allocator;
 use std::marker::Brand;
 
-/// What a take of the freed charge tells.
+/// What a subtraction of the freed charge shows.
 pub struct Settle;
 
 impl<T: Tag> Play<(), View<T>> for Settle {
@@ -28,7 +28,7 @@ impl<T: Tag> Play<(), View<T>> for Settle {
     ghost then = { settles };
 }
 
-/// What a take of all of a client's amounts tells.
+/// What a subtraction of all of a client's amounts shows.
 pub struct Waive;
 
 impl<T: Tag> Play<(), View<T>> for Waive {
@@ -57,7 +57,7 @@ impl<T: Tag, A: Allocator> RuleTable<T, A> {
     /// usage is above that by what clients still need at most: less than 2^32 for each other
     /// client.
     ///
-    /// It takes no memory. It costs one load.
+    /// It allocates nothing. It costs one load.
     pub fn usage(&self, seat: &mut RuleSeat<T>) -> u64
         requires seat { IsSeatAt self.now seat.old }
         ensures seat { IsSameSeat seat.old seat.new }
@@ -84,9 +84,9 @@ impl<T: Tag, A: Allocator> RuleTable<T, A> {
     /// leaves of the capacity. The rest is needed: the client has to free as much before it may use
     /// any, and the charge joins the view's tight list.
     ///
-    /// It answers the usage before: below 2^60, and at least what stood for the client with the
+    /// It returns the usage before: below 2^60, and at least what stood for the client with the
     /// charges of all entries that it holds references on. Under strict capacity it is above the
-    /// capacity by what other clients still need at most. It takes no memory. It costs one atomic
+    /// capacity by what other clients still need at most. It allocates nothing. It costs one atomic
     /// add.
     pub fn charge(&self, seat: &mut RuleSeat<T>, amount: u32) -> u64
         requires seat { IsSeatAt self.now seat.old }
@@ -110,7 +110,7 @@ impl<T: Tag, A: Allocator> RuleTable<T, A> {
     /// Takes the charge that the client freed from the usage. It must be some, and cover what the
     /// client still needed, which is granted then.
     ///
-    /// It takes no memory. It costs one atomic subtraction.
+    /// It allocates nothing. It costs one atomic subtraction.
     pub fn settle(&self, seat: &mut RuleSeat<T>, amount: u64)
         requires seat { IsSeatAt self.now seat.old }
         requires amount { ((view seat.old).work.freed ≡ amount) × (0 < amount) }
@@ -125,7 +125,7 @@ impl<T: Tag, A: Allocator> RuleTable<T, A> {
     /// Takes all that the client was granted, needed or freed from the usage, which is `amount` and
     /// isn't 0: the client has none of it then.
     ///
-    /// It takes no memory. It costs one atomic subtraction.
+    /// It allocates nothing. It costs one atomic subtraction.
     pub fn waive(&self, seat: &mut RuleSeat<T>, amount: u64)
         requires seat { IsSeatAt self.now seat.old }
         requires amount { (waived (view seat.old).work ≡ amount) × (0 < amount) }

@@ -18,7 +18,7 @@ impl<T: Tag, A: Allocator> RuleTable<T, A> {
     /// that of an entry with at least these, and they all are on that entry; where the shard has
     /// one client, with just these.
     ///
-    /// It takes no memory. It costs one load.
+    /// It allocates nothing. It costs one load.
     pub fn look(&self, seat: &mut RuleSeat<T>, slot: u32) -> u64
         requires seat { IsSeatAt self.now seat.old }
         requires slot { slot < self.now.geometry.slots }

@@ -18,11 +18,11 @@ use std::marker::Brand;
 
 impl<T: Tag, A: Allocator> RuleTable<T, A> {
     /// Hides the entry on which the client has a record of this name, on this slot: no look-up
-    /// finds it from then on. The answer is the slot's meta word as it was before, that of an
-    /// entry. The client has seen the entry dead, and where the word was visible, the entry's key
-    /// joins the keys that it hid.
+    /// finds it from then on. It returns the slot's meta word as it was before, that of an entry.
+    /// The client has seen the entry dead, and where the word was visible, the entry's key joins
+    /// the keys that it hid.
     ///
-    /// It takes no memory. It costs one atomic and.
+    /// It allocates nothing. It costs one atomic and.
     pub fn hide(&self, seat: &mut RuleSeat<T>, slot: u32, name: u64) -> u64
         requires seat { IsSeatAt self.now seat.old }
         requires slot { slot < self.now.geometry.slots }
@@ -37,10 +37,10 @@ impl<T: Tag, A: Allocator> RuleTable<T, A> {
     }
 
     /// Sets the hit bit of the entry on which the client has a record of this name, on this slot.
-    /// The answer is the slot's meta word as it was before, that of an entry. Where the entry is
+    /// It returns the slot's meta word as it was before, that of an entry. Where the entry is
     /// hidden, the client has seen it dead.
     ///
-    /// It takes no memory. It costs one atomic or.
+    /// It allocates nothing. It costs one atomic or.
     pub fn mark(&self, seat: &mut RuleSeat<T>, slot: u32, name: u64) -> u64
         requires seat { IsSeatAt self.now seat.old }
         requires slot { slot < self.now.geometry.slots }
@@ -55,10 +55,10 @@ impl<T: Tag, A: Allocator> RuleTable<T, A> {
 
     /// Tries to count a visible entry with no references and a countdown above 0 down by one, and
     /// to 2 at most: `old` is the word of such an entry, and `new` what the clock puts in its
-    /// place. The answer is the slot's meta word as it was before. Where it is `old`, the exchange
-    /// was made, and the client knows what it knew. Else the step was a look.
+    /// place. It returns the slot's meta word as it was before. Where it is `old`, the
+    /// compare-exchange was made, and the client knows what it knew. Else the step was a look.
     ///
-    /// It takes no memory. It costs one compare-exchange.
+    /// It allocates nothing. It costs one compare-exchange.
     pub fn clock(&self, seat: &mut RuleSeat<T>, slot: u32, old: u64, new: u64) -> u64
         requires seat { IsSeatAt self.now seat.old }
         requires slot { slot < self.now.geometry.slots }
@@ -71,13 +71,13 @@ impl<T: Tag, A: Allocator> RuleTable<T, A> {
         self.compare_exchange::<Brand, _>(seat, self.address(slot, META), old, new, slot)
     }
 
-    /// Tries to take 2^29 from both counters of a slot near its end, on which the client has a
+    /// Tries to subtract 2^29 from both counters of a slot near its end, on which the client has a
     /// record of this name that doesn't count: `old` is a word near its end, and `new` what a
-    /// correction puts in its place. The answer is the slot's meta word as it was before. Where it
-    /// is `old`, the exchange was made, and where the entry is hidden, the client has seen it dead.
-    /// Else the step was a look.
+    /// correction puts in its place. It returns the slot's meta word as it was before. Where it is
+    /// `old`, the compare-exchange was made, and where the entry is hidden, the client has seen it
+    /// dead. Else the step was a look.
     ///
-    /// It takes no memory. It costs one compare-exchange.
+    /// It allocates nothing. It costs one compare-exchange.
     pub fn correct(&self, seat: &mut RuleSeat<T>, slot: u32, name: u64, old: u64, new: u64) -> u64
         requires seat { IsSeatAt self.now seat.old }
         requires slot { slot < self.now.geometry.slots }

@@ -17,7 +17,7 @@ use atomic_table::Play;
 use std::alloc::Allocator;
 use std::marker::Brand;
 
-/// What a take of the freed slots tells.
+/// What a subtraction of the freed slots shows.
 pub struct GiveSlots;
 
 impl<T: Tag> Play<(), View<T>> for GiveSlots {
@@ -26,7 +26,7 @@ impl<T: Tag> Play<(), View<T>> for GiveSlots {
     ghost then = { gives_slots };
 }
 
-/// What a take of a place and of the freed slots tells.
+/// What a subtraction of a place and of the freed slots shows.
 pub struct Quit;
 
 impl<T: Tag> Play<(), View<T>> for Quit {
@@ -42,7 +42,7 @@ impl<T: Tag, A: Allocator> RuleTable<T, A> {
     /// place for each client. Where the shard has one client it is exact: what the client showed
     /// and didn't take, with what it has in hand.
     ///
-    /// It takes no memory. It costs one load.
+    /// It allocates nothing. It costs one load.
     pub fn occupancy(&self, seat: &mut RuleSeat<T>) -> u64
         requires seat { IsSeatAt self.now seat.old }
         ensures seat { IsSameSeat seat.old seat.new }
@@ -63,9 +63,9 @@ impl<T: Tag, A: Allocator> RuleTable<T, A> {
     /// occupancy is below 84 of a hundred slots, rounded down; else it is open, and the view counts
     /// one more open place.
     ///
-    /// It answers the occupancy before: below the limit with an open place for each client, and at
+    /// It returns the occupancy before: below the limit with an open place for each client, and at
     /// least the client's freed slots with the entries that it holds references on, each once.
-    /// Where the shard has one client it is exact, as a load is. It takes no memory. It costs one
+    /// Where the shard has one client it is exact, as a load is. It allocates nothing. It costs one
     /// atomic add.
     pub fn enter(&self, seat: &mut RuleSeat<T>) -> u64
         requires seat { IsSeatAt self.now seat.old }
@@ -87,7 +87,7 @@ impl<T: Tag, A: Allocator> RuleTable<T, A> {
     /// Gives back the slots that the client freed, `count` of them, at least one. An open place of
     /// the client is granted then.
     ///
-    /// It takes no memory. It costs one atomic subtraction.
+    /// It allocates nothing. It costs one atomic subtraction.
     pub fn slots(&self, seat: &mut RuleSeat<T>, count: u64)
         requires seat { IsSeatAt self.now seat.old }
         requires count { ((view seat.old).work.freed_slots ≡ count) × (0 < count) }
@@ -101,7 +101,7 @@ impl<T: Tag, A: Allocator> RuleTable<T, A> {
     /// Gives back the place of the client, granted or open, with the slots that it freed: `count`
     /// is one more than these.
     ///
-    /// It takes no memory. It costs one atomic subtraction.
+    /// It allocates nothing. It costs one atomic subtraction.
     pub fn quit(&self, seat: &mut RuleSeat<T>, count: u64)
         requires seat { IsSeatAt self.now seat.old }
         requires placed { is_placed (view seat.old).work.place ≡ true }

@@ -19,7 +19,7 @@ use hcc_word::layout::{EMPTY_WORD, OCCUPIED_BIT};
 use std::alloc::Allocator;
 use std::marker::Brand;
 
-/// What a store of a data word tells.
+/// What a store of a data word shows.
 pub struct Write;
 
 impl<T: Tag> Play<(), View<T>> for Write {
@@ -28,7 +28,7 @@ impl<T: Tag> Play<(), View<T>> for Write {
     ghost then = { writes };
 }
 
-/// What the store that empties a slot tells.
+/// What the store that empties a slot shows.
 pub struct Empty;
 
 impl<T: Tag> Play<(), View<T>> for Empty {
@@ -42,7 +42,7 @@ impl<T: Tag, A: Allocator> RuleTable<T, A> {
     /// client's to build from now on; any other was looked at, and its word stays.
     ///
     /// The client owns no slot. Where it holds references on the slot, the word is that of an entry
-    /// with at least these. It takes no memory. It costs one atomic or.
+    /// with at least these. It allocates nothing. It costs one atomic or.
     pub fn occupy(&self, seat: &mut RuleSeat<T>, slot: u32) -> u64
         requires seat { IsSeatAt self.now seat.old }
         requires slot { slot < self.now.geometry.slots }
@@ -60,7 +60,7 @@ impl<T: Tag, A: Allocator> RuleTable<T, A> {
     /// wrote.
     ///
     /// `index` is how many it wrote, below the five words before the payload and the payload words
-    /// of a slot. It takes no memory. It costs one atomic store.
+    /// of a slot. It allocates nothing. It costs one atomic store.
     pub fn write(&self, seat: &mut RuleSeat<T>, slot: u32, index: usize, word: u64)
         requires seat { IsSeatAt self.now seat.old }
         requires slot { slot < self.now.geometry.slots }
@@ -91,7 +91,7 @@ impl<T: Tag, A: Allocator> RuleTable<T, A> {
 
     /// Empties the slot that the client took to free, once its trail was taken back.
     ///
-    /// It takes no memory. It costs one atomic store.
+    /// It allocates nothing. It costs one atomic store.
     pub fn empty(&self, seat: &mut RuleSeat<T>, slot: u32)
         requires seat { IsSeatAt self.now seat.old }
         requires slot { slot < self.now.geometry.slots }

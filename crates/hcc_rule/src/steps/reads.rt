@@ -16,10 +16,10 @@ use std::marker::Brand;
 
 impl<T: Tag, A: Allocator> RuleTable<T, A> {
     /// Loads a data word of the entry that the record of a name is on: of the key, the charge, the
-    /// length and the value. Of the word that has the maker's serial nothing is told.
+    /// length and the value. Of the word that has the maker's serial nothing is said.
     ///
     /// The record is of that slot. Once the second key word of an entry was read that was got as
-    /// Shown, its key joins the met keys. It takes no memory. It costs one load.
+    /// Shown, its key joins the met keys. It allocates nothing. It costs one load.
     pub fn read(&self, seat: &mut RuleSeat<T>, slot: u32, index: usize, name: u64) -> u64
         requires seat { IsSeatAt self.now seat.old }
         requires slot { slot < self.now.geometry.slots }
@@ -60,7 +60,7 @@ impl<T: Tag, A: Allocator> RuleTable<T, A> {
     /// Loads a data word of the slot that the client owns: one that it wrote, or one of the entry
     /// that it took to free.
     ///
-    /// It takes no memory. It costs one load.
+    /// It allocates nothing. It costs one load.
     pub fn read_own(&self, seat: &mut RuleSeat<T>, slot: u32, index: usize) -> u64
         requires seat { IsSeatAt self.now seat.old }
         requires slot { slot < self.now.geometry.slots }

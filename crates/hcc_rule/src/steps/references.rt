@@ -17,7 +17,7 @@ use std::marker::Brand;
 
 impl<T: Tag, A: Allocator> RuleTable<T, A> {
     /// Acquires references on a slot, under a name that the client doesn't hold: their weight, 1 to
-    /// 3, is added to the slot's meta word, which is the answer as it was before. The client looked
+    /// 3, is added to the slot's meta word, which is returned as it was before. The client looked
     /// at the slot, or holds a reference there, and all its references weigh at most
     /// `REFERENCES_PER_CLIENT` then. The look is spent.
     ///
@@ -28,7 +28,7 @@ impl<T: Tag, A: Allocator> RuleTable<T, A> {
     /// word is no entry's, the acquires stray and no record is made; the client holds nothing there
     /// then.
     ///
-    /// It takes no memory. It costs one atomic add.
+    /// It allocates nothing. It costs one atomic add.
     pub fn acquire(&self, seat: &mut RuleSeat<T>, slot: u32, weight: u32, name: u64) -> u64
         requires seat { IsSeatAt self.now seat.old }
         requires slot { slot < self.now.geometry.slots }
@@ -44,13 +44,13 @@ impl<T: Tag, A: Allocator> RuleTable<T, A> {
         self.fetch_add::<Brand, _>(seat, self.address(slot, META), weight as u64, (slot, name))
     }
 
-    /// Gives the references of this name back: their weight is taken from the acquires of the
-    /// slot's meta word, which is the answer as it was before. The client needs a record of that
+    /// Gives the references of this name back: their weight is subtracted from the acquires of the
+    /// slot's meta word, which is returned as it was before. The client needs a record of that
     /// name, on this slot and of this weight, and it goes. Where the entry is hidden, the client
     /// has seen it dead.
     ///
-    /// The word that is found is that of an entry, with at least these references. It takes no
-    /// memory. It costs one atomic take.
+    /// The word that is found is that of an entry, with at least these references. It allocates
+    /// nothing. It costs one atomic subtraction.
     pub fn give(&self, seat: &mut RuleSeat<T>, slot: u32, weight: u32, name: u64) -> u64
         requires seat { IsSeatAt self.now seat.old }
         requires slot { slot < self.now.geometry.slots }
@@ -66,12 +66,12 @@ impl<T: Tag, A: Allocator> RuleTable<T, A> {
     }
 
     /// Releases the references of this name as uses: their weight is added to the releases of the
-    /// slot's meta word, which is the answer as it was before. The client needs a record of that
+    /// slot's meta word, which is returned as it was before. The client needs a record of that
     /// name, on this slot, of this weight and counting, and it goes. Where the entry is hidden, the
     /// client has seen it dead.
     ///
-    /// The word that is found is that of an entry, with at least these references. It takes no
-    /// memory. It costs one atomic add.
+    /// The word that is found is that of an entry, with at least these references. It allocates
+    /// nothing. It costs one atomic add.
     pub fn spend(&self, seat: &mut RuleSeat<T>, slot: u32, weight: u32, name: u64) -> u64
         requires seat { IsSeatAt self.now seat.old }
         requires slot { slot < self.now.geometry.slots }

@@ -1,5 +1,5 @@
-//! The atomic operations of steps, with what is said to a step for its proof alone: of which slot
-//! it is, by which name, and the like. What is said is no part of the program that runs.
+//! The atomic operations of steps, with what is said to a step only for its proof: of which slot it
+//! is, by which name, and the like. What is said is no part of the program that runs.
 ghost use Rattle.std.specs.Prelude.{◌≡◌, ◌+◌, ◌-◌, ◌%◌, ◌^◌, ◌==◌, bit_and, bit_or};
 ghost use prog.Atomic.{either};
 ghost use Rattle.hcc_rule.specs.Said.{tells, May, Did};
@@ -11,7 +11,7 @@ use atomic_table::Play;
 use std::alloc::Allocator;
 use std::marker::{Brand, PhantomData};
 
-/// What a step tells its seat. Each call picks it; it is for the proofs alone.
+/// What a step shows its seat. Each call picks it; it is only for the proofs.
 impl<T> Play<(), View<T>> for Brand {
     ghost use Rattle.hcc_rule.specs.Told.{nothing};
 

@@ -38,7 +38,7 @@ impl<T: Tag, A: Allocator> RuleTable<T, A> {
     /// It has nothing in hand; its made list and its dead list are those it had when it last ended.
     /// The seat that is split keeps its steps, and the new one has made none.
     ///
-    /// It takes no memory. It costs one load.
+    /// It allocates nothing. It costs one load.
     pub fn split(&self, seat: &mut RuleSeat<T>) -> RuleSeat<T>
         requires seat { IsSeatAt self.now seat.old }
         requires another { (o : Other) × (os : List Other) × ((view seat.old).others ≡ o ∷ os) }
@@ -58,7 +58,7 @@ impl<T: Tag, A: Allocator> RuleTable<T, A> {
     /// over its hidden keys, its met keys, its answers and its counts. Its steps stay its own; how
     /// many the other one made is counted beside them.
     ///
-    /// It takes no memory. It costs one load.
+    /// It allocates nothing. It costs one load.
     pub fn join(&self, seat: &mut RuleSeat<T>, other: RuleSeat<T>)
         requires seat { IsSeatAt self.now seat.old }
         requires other { IsSeatAt self.now other }

@@ -31,7 +31,7 @@ impl<T: Tag, A: Allocator> RuleTable<T, A> {
     ///
     /// The draft and the value say which entry it is; its words were all written. Its place and its
     /// charge were granted, and nothing is needed. The client's trail is the probes of the key
-    /// before the slot, and becomes the entry's. It takes no memory. It costs one atomic store.
+    /// before the slot, and becomes the entry's. It allocates nothing. It costs one atomic store.
     pub fn show(&self, seat: &mut RuleSeat<T>, slot: u32, draft: Draft, value: &[u8])
         requires seat { IsSeatAt self.now seat.old }
         requires slot { slot < self.now.geometry.slots }

@@ -24,7 +24,7 @@ impl<T: Tag, A: Allocator> RuleTable<T, A> {
     /// capacity, with what the client was granted and freed and the entries that it holds, each
     /// once.
     ///
-    /// It takes no memory. It costs one load.
+    /// It allocates nothing. It costs one load.
     pub fn standing(&self, seat: &mut RuleSeat<T>) -> u64
         requires seat { IsSeatAt self.now seat.old }
         ensures seat { IsSameSeat seat.old seat.new }
@@ -43,7 +43,7 @@ impl<T: Tag, A: Allocator> RuleTable<T, A> {
     /// Makes a standalone entry of this name, with a charge that the client was granted. The client
     /// has no place, fewer than 16,384 standalone entries, and none of this name.
     ///
-    /// It takes no memory. It costs one atomic add.
+    /// It allocates nothing. It costs one atomic add.
     pub fn stand(&self, seat: &mut RuleSeat<T>, name: u64, charge: u32)
         requires seat { IsSeatAt self.now seat.old }
         requires absent { (view seat.old).work.place ≡ Absent }
@@ -60,7 +60,7 @@ impl<T: Tag, A: Allocator> RuleTable<T, A> {
     /// Lets go of the standalone entry of this name, whose charge this is. The charge is freed
     /// then; what the client has freed stays below 2^49.
     ///
-    /// It takes no memory. It costs one atomic subtraction.
+    /// It allocates nothing. It costs one atomic subtraction.
     pub fn fall(&self, seat: &mut RuleSeat<T>, name: u64, charge: u64)
         requires seat { IsSeatAt self.now seat.old }
         requires stood { find (is_standing name) (view seat.old).work.standalones

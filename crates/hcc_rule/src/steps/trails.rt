@@ -26,7 +26,7 @@ impl<T: Tag, A: Allocator> RuleTable<T, A> {
     /// are slots; in a shard of one client the other entries are those that it showed and did not
     /// take, so the answer is exact where it holds all of these.
     ///
-    /// It takes no memory. It costs one load.
+    /// It allocates nothing. It costs one load.
     pub fn count(&self, seat: &mut RuleSeat<T>, slot: u32) -> u64
         requires seat { IsSeatAt self.now seat.old }
         requires slot { slot < self.now.geometry.slots }
@@ -58,7 +58,7 @@ impl<T: Tag, A: Allocator> RuleTable<T, A> {
     /// Adds 1 to a slot's displacement word: the slot joins the client's trail, which has fewer
     /// members than the shard has slots.
     ///
-    /// It takes no memory. It costs one atomic add.
+    /// It allocates nothing. It costs one atomic add.
     pub fn pass(&self, seat: &mut RuleSeat<T>, slot: u32)
         requires seat { IsSeatAt self.now seat.old }
         requires slot { slot < self.now.geometry.slots }
@@ -70,10 +70,10 @@ impl<T: Tag, A: Allocator> RuleTable<T, A> {
         self.fetch_add::<Brand, _>(seat, self.address(slot, DISPLACEMENT), 1, slot);
     }
 
-    /// Takes 1 from the displacement word of a slot in the client's trail: the slot leaves the
+    /// Subtracts 1 from the displacement word of a slot in the client's trail: the slot leaves the
     /// trail once.
     ///
-    /// It takes no memory. It costs one atomic subtraction.
+    /// It allocates nothing. It costs one atomic subtraction.
     pub fn unpass(&self, seat: &mut RuleSeat<T>, slot: u32)
         requires seat { IsSeatAt self.now seat.old }
         requires slot { slot < self.now.geometry.slots }
