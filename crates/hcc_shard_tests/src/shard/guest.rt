@@ -4,13 +4,14 @@ ghost use Rattle.hcc_core.specs.Ledgers.{is_standing};
 ghost use Rattle.hcc_rule.specs.Callers.{IsSlotOf, plan_of};
 ghost use Rattle.hcc_rule.specs.Seats.{view};
 ghost use Rattle.hcc_shard_tests.specs.ShardGuests.{IsDrafted, IsGuest, is_pin};
+ghost use Rattle.hcc_shard.specs.Callers.{geometry_of};
 ghost use Rattle.hcc_shard.specs.Seated.{IsNext};
 ghost use Rattle.hcc_table.specs.Pins.{IsPinned};
 
 use crate::any::AnyBytes;
 use hcc_charge::Refused;
 use hcc_core::client::Standalone;
-use hcc_rule::{Draft, Key};
+use hcc_rule::{Draft, Geometry, Key};
 use hcc_shard::{Inserted, Pinned, Shard, ShardSeat};
 use hcc_table::{IfLast, Pin, Use};
 use std::alloc::{AllocError, Global};
@@ -26,6 +27,8 @@ const MOST: u64 = 1_000_000;
 #[derive(Drop)]
 pub(super) struct Guest<'a> {
     pub(super) shard: &'a Store,
+    /// The shard's sizes.
+    pub(super) sizes: Geometry,
     pub(super) seat: ShardSeat<AnyBytes>,
     /// The references that it holds.
     pub(super) pins: Vec<Pin, Global>,
@@ -33,6 +36,7 @@ pub(super) struct Guest<'a> {
     pub(super) standing: Vec<Standalone, Global>,
     /// The serial that its next call is handed.
     pub(super) next: u64,
+    ghost sized: { sizes ≡ geometry_of shard.now },
 }
 
 impl Guest<'_> {
@@ -192,10 +196,7 @@ impl Guest<'_> {
         ensures keeps { IsGuest self.new.shard.now self.new.seat self.new.pins.items
             self.new.standing.items self.new.next }
     {
-        assert!(rt;
-            self.shard.table.geometry().room <= 2,
-            "values are too long"
-        );
+        assert!(rt; self.sizes.room <= 2, "values are too long");
         let pin = self.pin(rt, name);
         let mut bytes = [0; 16];
         let key = self.shard.key(&mut self.seat, pin);
@@ -227,7 +228,7 @@ impl Guest<'_> {
         ensures keeps { IsGuest self.new.shard.now self.new.seat self.new.pins.items
             self.new.standing.items self.new.next }
     {
-        assert!(rt; slot < self.shard.table.geometry().slots, "no such slot");
+        assert!(rt; slot < self.sizes.slots, "no such slot");
         let word = self.shard.word(&mut self.seat, slot);
         (word, self.shard.displacement(&mut self.seat, slot))
     }
@@ -249,7 +250,7 @@ impl Guest<'_> {
         assert!(rt; charge > 0, "no charge");
         assert!(rt; countdown > 0, "no countdown");
         assert!(rt; countdown < 4, "the countdown is too long");
-        let room = self.shard.table.geometry().room as usize;
+        let room = self.sizes.room as usize;
         assert!(rt; value.len() <= 8 * room, "the value is too long");
         Draft {
             key,

@@ -52,12 +52,12 @@ fn row(
     image: &Vec<ImageEntry>,
     calls: &[(Call, Answer)],
 ) -> Result<ClosedShard<Global>, ReopenError> {
-    let (shard, mut seats) = reopened(alloc, start, image)?;
-    let mut me = comes_back(rt, alloc, &shard, &mut seats, image);
+    let (shard, mut seats, sizes) = reopened(alloc, start, image)?;
+    let mut me = comes_back(rt, alloc, &shard, sizes, &mut seats, image);
     plays(rt, &mut me, calls)?;
     let mut back = Vec::new(alloc);
     leaves(rt, me, &mut back)?;
-    Ok(closes(rt, shard, back))
+    Ok(closes(rt, shard, sizes, back))
 }
 
 /// An entry near the end of its counters: the next look-up leaves them alone, and the one behind it

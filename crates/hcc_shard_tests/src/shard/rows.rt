@@ -49,8 +49,8 @@ fn row(
     kept: u32,
     calls: &[(Call, Answer)],
 ) -> Result<ClosedShard<Global>, AllocError> {
-    let (shard, mut seats) = opened(alloc, start, 1)?;
-    let mut me = comes(rt, alloc, &shard, &mut seats);
+    let (shard, mut seats, sizes) = opened(alloc, start, 1)?;
+    let mut me = comes(rt, alloc, &shard, sizes, &mut seats);
     for slot in 0..kept {
         let pin = Call::Pin(0, slot as u64, 1, 2, &[]);
         plays(rt, &mut me, &[(pin, Answer::At(slot))])?;
@@ -58,7 +58,7 @@ fn row(
     plays(rt, &mut me, calls)?;
     let mut back = Vec::new(alloc);
     leaves(rt, me, &mut back)?;
-    Ok(closes(rt, shard, back))
+    Ok(closes(rt, shard, sizes, back))
 }
 
 /// A slot's word that is left, and how often it stands in trails.
@@ -417,14 +417,14 @@ const NEXT: Row = &[
 
 #[test]
 fn clients_share_the_hand(rt: HostRuntime) -> Result<(), AllocError> {
-    let (shard, mut seats) = opened(rt.alloc(), of(600, false), 2)?;
-    let mut second = comes(&rt, rt.alloc(), &shard, &mut seats);
-    let mut first = comes(&rt, rt.alloc(), &shard, &mut seats);
+    let (shard, mut seats, sizes) = opened(rt.alloc(), of(600, false), 2)?;
+    let mut second = comes(&rt, rt.alloc(), &shard, sizes, &mut seats);
+    let mut first = comes(&rt, rt.alloc(), &shard, sizes, &mut seats);
     plays(&rt, &mut first, EVICTED)?;
     plays(&rt, &mut second, NEXT)?;
     let mut back = Vec::new(rt.alloc());
     leaves(&rt, first, &mut back)?;
     leaves(&rt, second, &mut back)?;
-    assert_eq!(rt; closes(&rt, shard, back).hand(), 40);
+    assert_eq!(rt; closes(&rt, shard, sizes, back).hand(), 40);
     Ok(())
 }

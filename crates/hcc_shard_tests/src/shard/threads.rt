@@ -3,11 +3,12 @@ ghost use Rattle.std.specs.Prelude.{◌≡◌, ◌≤◌, IfOk};
 ghost use Rattle.std.specs.Thread.{IsSync};
 ghost use Rattle.hcc_rule.specs.Views.{Each};
 ghost use Rattle.hcc_shard_tests.specs.ShardGuests.{AreHome, IsGuest};
+ghost use Rattle.hcc_shard.specs.Callers.{geometry_of};
 ghost use Rattle.hcc_shard.specs.Seated.{AreNew};
 
 use super::guest::{Guest, Store};
 use super::visit::{Seats, Start, closes, comes, leaves, opened};
-use hcc_rule::Key;
+use hcc_rule::{Geometry, Key};
 use hcc_shard::ClosedShard;
 use hcc_table::{IfLast, Use};
 use std::alloc::{AllocError, Global};
@@ -36,15 +37,17 @@ fn at_once<'a, R: Abort + Threads + Sync>(
     rt: &R,
     alloc: Global,
     shard: &'a Store,
+    sizes: Geometry,
     seats: &mut Seats,
     work: Work,
     back: &mut Seats,
 ) -> Result<[u64; 4], AllocError>
+    requires sizes { sizes ≡ geometry_of shard.now }
     requires new { AreNew shard.now 0 seats.old.items }
     requires back { AreHome shard.now back.old.items }
     ensures back { IfOk result (λ _. AreHome shard.now back.new.items) }
 {
-    let guests = all_come(rt, alloc, shard, seats)?;
+    let guests = all_come(rt, alloc, shard, sizes, seats)?;
     let mut after = [0, 0, 0, 0];
     for done in all_work(rt, shard, guests, work)? {
         after = ends(rt, shard, done, work, after, back)?;
@@ -101,15 +104,17 @@ fn all_come<'a>(
     rt: &impl Abort,
     alloc: Global,
     shard: &'a Store,
+    sizes: Geometry,
     seats: &mut Seats,
 ) -> Result<Vec<Guest<'a>, Global>, AllocError>
+    requires sizes { sizes ≡ geometry_of shard.now }
     requires new { AreNew shard.now 0 seats.old.items }
     ensures each { IfOk result (λ all. Each (λ g. (g.shard.now ≡ shard.now)
         × IsGuest g.shard.now g.seat g.pins.items g.standing.items g.next) all.items) }
 {
     let mut all = Vec::new(alloc);
     for number in 0..seats.len() {
-        let guest = comes(rt, alloc, shard, seats);
+        let guest = comes(rt, alloc, shard, sizes, seats);
         all.push(guest)?;
     }
     Ok(all)
@@ -302,10 +307,10 @@ fn worked<R: Abort + Threads + Sync>(
         strict,
         marks: false,
     };
-    let (shard, mut seats) = opened(alloc, start, clients)?;
+    let (shard, mut seats, sizes) = opened(alloc, start, clients)?;
     let mut back = Vec::new(alloc);
-    let after = at_once(rt, alloc, &shard, &mut seats, work, &mut back)?;
-    Ok((after, closes(rt, shard, back)))
+    let after = at_once(rt, alloc, &shard, sizes, &mut seats, work, &mut back)?;
+    Ok((after, closes(rt, shard, sizes, back)))
 }
 
 /// Under strict capacity the usage is the charges of the entries, and within it.

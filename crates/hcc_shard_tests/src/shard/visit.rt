@@ -1,6 +1,7 @@
 //! How clients come to a new shard, and leave it before it is closed.
 ghost use Rattle.std.specs.Prelude.{◌≡◌, ◌≤◌, IfOk, if◌then◌else◌};
 ghost use Rattle.hcc_shard_tests.specs.ShardGuests.{AreHome, IsGuest};
+ghost use Rattle.hcc_shard.specs.Callers.{geometry_of};
 ghost use Rattle.hcc_shard.specs.Seated.{AreBegun, AreNew};
 
 use super::guest::{Guest, Store};
@@ -24,32 +25,37 @@ pub(super) struct Start {
 /// The seats of a shard's clients.
 pub(super) type Seats = Vec<ShardSeat<AnyBytes>, Global>;
 
-/// A new shard of so many clients, with values of at most 16 bytes, and the clients' seats.
+/// A new shard of so many clients, with values of at most 16 bytes, the clients' seats, and its
+/// sizes.
 pub(super) fn opened(
     alloc: Global,
     start: Start,
     clients: u32,
-) -> Result<(Store, Seats), AllocError>
+) -> Result<(Store, Seats, Geometry), AllocError>
     requires clients { (1 ≤ clients) × (clients ≤ 64) }
     ensures seats { IfOk result (λ made. AreNew made.0 0 made.1.items) }
+    ensures sizes { IfOk result (λ made. made.2 ≡ geometry_of made.0) }
 {
     let sizes = sizes(start, clients);
     let capacity = start.capacity as u64;
-    Shard::new(alloc, sizes, capacity, start.strict, start.marks, AnyBytes)
+    let (shard, seats) = Shard::new(alloc, sizes, capacity, start.strict, start.marks, AnyBytes)?;
+    Ok((shard, seats, sizes))
 }
 
-/// A shard of one client that begins with an image, and the client's seat.
+/// A shard of one client that begins with an image, the client's seat, and the shard's sizes.
 pub(super) fn reopened(
     alloc: Global,
     start: Start,
     image: &Vec<ImageEntry>,
-) -> Result<(Store, Seats), ReopenError>
+) -> Result<(Store, Seats, Geometry), ReopenError>
     ensures seats { IfOk result (λ made. AreBegun made.0 image.now.items made.1.items) }
+    ensures sizes { IfOk result (λ made. made.2 ≡ geometry_of made.0) }
 {
     let sizes = sizes(start, 1);
     let capacity = start.capacity as u64;
     let (strict, marks) = (start.strict, start.marks);
-    Shard::reopen(alloc, sizes, capacity, strict, marks, image, AnyBytes)
+    let (shard, seats) = Shard::reopen(alloc, sizes, capacity, strict, marks, image, AnyBytes)?;
+    Ok((shard, seats, sizes))
 }
 
 /// The sizes of a shard.
@@ -72,8 +78,10 @@ pub(super) fn comes<'a>(
     rt: &impl Abort,
     alloc: Global,
     shard: &'a Store,
+    sizes: Geometry,
     seats: &mut Seats,
 ) -> Guest<'a>
+    requires sizes { sizes ≡ geometry_of shard.now }
     requires new { AreNew shard.now 0 seats.old.items }
     ensures new { AreNew shard.now 0 seats.new.items }
     ensures shard { result.shard ≡ shard.entry }
@@ -85,6 +93,7 @@ pub(super) fn comes<'a>(
     let standing = Vec::new(alloc);
     Guest {
         shard,
+        sizes,
         seat,
         pins,
         standing,
@@ -98,9 +107,11 @@ pub(super) fn comes_back<'a>(
     rt: &impl Abort,
     alloc: Global,
     shard: &'a Store,
+    sizes: Geometry,
     seats: &mut Seats,
     image: &Vec<ImageEntry>,
 ) -> Guest<'a>
+    requires sizes { sizes ≡ geometry_of shard.now }
     requires begun { AreBegun shard.now image.now.items seats.old.items }
     ensures shard { result.shard ≡ shard.entry }
     ensures keeps { IsGuest result.shard.now result.seat result.pins.items result.standing.items
@@ -112,6 +123,7 @@ pub(super) fn comes_back<'a>(
     let standing = Vec::new(alloc);
     Guest {
         shard,
+        sizes,
         seat,
         pins,
         standing,
@@ -143,13 +155,16 @@ pub(super) fn leaves(rt: &impl Abort, me: Guest, back: &mut Seats) -> Result<(),
 }
 
 /// Closes the shard, once all clients are back. The sums are those of the slots.
-pub(super) fn closes(rt: &impl Abort, shard: Store, back: Seats) -> ClosedShard<Global>
+pub(super) fn closes(
+    rt: &impl Abort,
+    shard: Store,
+    sizes: Geometry,
+    back: Seats,
+) -> ClosedShard<Global>
+    requires sizes { sizes ≡ geometry_of shard }
     requires back { AreHome shard back.items }
 {
-    assert!(rt;
-        back.len() == shard.table.geometry().clients as usize,
-        "a client is missing"
-    );
+    assert!(rt; back.len() == sizes.clients as usize, "a client is missing");
     let closed = shard.close(back);
     assert_eq!(rt; closed.usage(), closed.slot_charges());
     assert_eq!(rt; closed.occupied(), closed.slot_count());
