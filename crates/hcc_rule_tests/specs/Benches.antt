@@ -1,4 +1,4 @@
--- What serves the tests alone: a small table, and seats of clients with nothing in hand.
+-- A small table, and seats of clients with nothing in hand.
 use Rattle.std.specs.Prelude.{◌≡◌, ℕ, false, [], length}
 use Rattle.atomic_table.specs.Seated.{TableId}
 use Rattle.hcc_core.specs.Opening.{new_client}

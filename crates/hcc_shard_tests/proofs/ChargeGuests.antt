@@ -1,4 +1,4 @@
--- The clients of tests, from call to call.
+-- The clients of `hcc_charge`, from call to call.
 use Rattle.std.proofs.Common.{◌≡◌, ℕ, ◌+◌, ◌-◌, ◌<◌, ◌≤◌, ◌++◌, cond, List, [], ◌∷◌, Option, Some, None, IfSome, length, sym, subst, refl, ap, ◌∙◌, arith}
 use Rattle.std.proofs.lemmas.Bool.{ne_eqb}
 use Rattle.hcc_core.specs.declared.client.Place.TheVariants as places

@@ -1,4 +1,4 @@
--- What serves the tests alone: the pins and the standalone entries of their clients after a call.
+-- The pins and the standalone entries of the clients of `hcc_shard` after a call.
 use Rattle.std.proofs.Common.{◌≡◌, ℕ, suc, ◌+◌, ◌<◌, ◌≤◌, ◌==◌, ◌++◌, cond, Bool, true, false, List, [], ◌∷◌, map, Option, Some, None, is_some, Result, Ok, Err, IfSome, IsSomeAnd, get_or, length, remove, position, slice_index, sym, subst, refl, ap, ◌∙◌, append-nil, arith, eqb-true}
 use Rattle.std.specs.List.{find}
 use Rattle.hcc_core.specs.declared.client.Standalone.{Standalone}

@@ -1,4 +1,4 @@
--- What serves the tests alone: what their clients have between calls.
+-- What clients have between calls of `hcc_charge`.
 use Rattle.std.specs.Prelude.{◌≡◌, ℕ, ◌^◌, ◌<◌, ◌≤◌, true, IfSome, length}
 use Rattle.hcc_core.specs.declared.client.Place.{Place}
 use Rattle.hcc_rule.specs.declared.steps.shows.Draft.{Draft}

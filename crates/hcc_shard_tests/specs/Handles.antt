@@ -1,4 +1,4 @@
--- What serves the tests alone: a small shard, and what their clients have between calls.
+-- A small shard, and what clients have between calls of `hcc_table`.
 use Rattle.std.specs.Prelude.{◌≡◌, ℕ, ◌<◌, ◌≤◌, false, [], ◌∷◌, Option, Some, None}
 use Rattle.hcc_core.specs.Opening.{new_client}
 use Rattle.hcc_rule.specs.declared.rule.Plan.{Plan}

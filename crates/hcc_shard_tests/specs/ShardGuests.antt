@@ -1,4 +1,4 @@
--- What serves the tests alone: what their clients have between calls.
+-- What clients have between calls of `hcc_shard`.
 use Rattle.std.specs.Prelude.{◌≡◌, ℕ, ◌*◌, ◌^◌, ◌<◌, ◌≤◌, ◌==◌, Bool, [], List, map, length}
 use Rattle.hcc_core.specs.declared.client.Standalone.{Standalone}
 use Rattle.hcc_rule.specs.declared.key.Key.{Key}
