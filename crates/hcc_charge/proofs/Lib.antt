@@ -3,4 +3,3 @@ pub mod Visitings
 pub mod Turnings
 pub mod Reservings
 pub mod Answered
-pub mod Guests

@@ -2,4 +2,3 @@ pub mod Swept
 pub mod Evicted
 pub mod Settled
 pub mod Reserved
-pub mod Guests

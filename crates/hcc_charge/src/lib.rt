@@ -9,8 +9,6 @@ mod settling;
 mod standing;
 mod swept;
 mod tally;
-#[cfg(test)]
-mod tests;
 
 pub use evicting::evict;
 pub use reserving::{Refused, Reservation, reserve};

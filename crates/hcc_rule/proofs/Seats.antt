@@ -3,6 +3,4 @@ pub mod Openings
 pub mod Splits
 pub mod Dealing
 pub mod Joins
-pub mod NewSeats
 pub mod Newest
-pub mod Hands

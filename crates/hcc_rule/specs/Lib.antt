@@ -15,5 +15,4 @@ pub mod Closing
 pub mod Laws
 pub mod Said
 pub mod Work
-pub mod Benches
 pub mod Callers

@@ -16,8 +16,6 @@ pub mod packing;
 mod rule;
 mod steps;
 mod table;
-#[cfg(test)]
-mod tests;
 mod view;
 
 pub use closed::ClosedTable;

@@ -9,5 +9,4 @@ pub mod Joinings
 pub mod Lefts
 pub mod Values
 pub mod Imagings
-pub mod Guests
 pub mod Releases

@@ -7,4 +7,3 @@ pub mod Closed
 pub mod Reopened
 pub mod Imaged
 pub mod Callers
-pub mod Guests

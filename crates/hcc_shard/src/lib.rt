@@ -12,8 +12,6 @@ mod referring;
 mod reopening;
 mod seat;
 mod shard;
-#[cfg(test)]
-mod tests;
 mod totals;
 
 pub use entries::{ClosedEntry, ClosedShard};

@@ -6,5 +6,4 @@ pub mod Visited
 pub mod Erased
 pub mod Readings
 pub mod Inserted
-pub mod Handles
 pub mod Steps

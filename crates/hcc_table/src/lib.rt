@@ -13,8 +13,6 @@ mod pins;
 mod readings;
 mod releasing;
 mod search;
-#[cfg(test)]
-mod tests;
 mod visiting;
 mod walk;
 mod words;

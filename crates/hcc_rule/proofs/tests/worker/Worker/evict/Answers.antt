@@ -1,9 +1,0 @@
-use Rattle.std.proofs.Common.{rules, ◌≡◌, [], None, refl}
-use Rattle.hcc_rule.proofs.Seats.Hands.{taken}
-use Rattle.hcc_rule.proofs.tests.worker.Worker.evict.Goals as goal
-
-pub taken_charge-charge-requires-clause-took : goal.taken_charge-charge-requires-clause-took
-taken_charge-charge-requires-clause-took g c =
-    let sized : c.args.self.now.table.now.geometry.slots ≡ 8 = search rules in
-    taken _ _ _ 8 c.args.slot _ _ None [] _ _ sized (search rules) refl c.free-found.ensures.view
-    (search rules)

@@ -1,0 +1,2 @@
+pub mod NewSeats
+pub mod Hands

@@ -1,0 +1,34 @@
+-- A small table, and seats of clients with nothing in hand.
+use Rattle.std.specs.Prelude.{◌≡◌, ℕ, false, [], length}
+use Rattle.atomic_table.specs.Seated.{TableId}
+use Rattle.hcc_core.specs.Opening.{new_client}
+use Rattle.hcc_rule.specs.declared.rule.Plan.{Plan}
+use Rattle.hcc_rule.specs.declared.table.RuleTable.{RuleTable}
+use Rattle.hcc_rule.specs.declared.view.View.{View}
+use Rattle.hcc_rule.specs.Seats.{SeatOf, IsSeatOf, view}
+use Rattle.hcc_rule.specs.Work.{Carries}
+
+module _ {T : Type 0} where
+  -- nothing in hand, and no reference
+  abbrev pub IsReady : View T → Type 0
+  IsReady v = Carries new_client [] v
+
+  -- a seat of this client, which has nothing in hand, after it showed so many entries
+  pub record IsReadySeat (id : TableId) (tag : T) (client shown : ℕ)
+      (seat : SeatOf T) : Type 0 where
+    pub seat_of : IsSeatOf id tag seat
+    pub client_is : (view seat).client ≡ client
+    pub made : length (view seat).made ≡ shown
+    pub ready : IsReady (view seat)
+
+  -- a table of 8 slots, with 2 payload words for each, that is not strict
+  pub record IsBench (p : Plan T) : Type 0 where
+    pub slots : p.geometry.slots ≡ 8
+    pub room : p.geometry.room ≡ 2
+    pub lax : p.strict ≡ false
+
+module _ {T A : Type 0} where
+  -- a seat of this client at this table, in the same way
+  abbrev pub IsReadySeatAt : RuleTable T A → (client shown : ℕ) → SeatOf T → Type 0
+  IsReadySeatAt table client shown seat =
+      IsReadySeat table.table.shared.table_id table.table.shared.key.tag client shown seat

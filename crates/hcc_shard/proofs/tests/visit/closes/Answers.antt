@@ -1,8 +1,0 @@
-use Rattle.std.proofs.Common.{rules}
-use Rattle.hcc_shard.proofs.Guests.{all_home}
-use Rattle.hcc_shard.proofs.tests.visit.closes.Goals as goal
-
-pub close-closed-requires : goal.close-closed-requires
-close-closed-requires g c = record {
-  back = all_home c.args.shard c.args.back.items c.requires.back (search rules);
-}

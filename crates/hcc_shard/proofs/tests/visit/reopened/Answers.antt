@@ -1,5 +1,0 @@
-use Rattle.hcc_shard.proofs.Guests.{all_fit}
-use Rattle.hcc_shard.proofs.tests.visit.reopened.Goals as goal
-
-pub reopen-requires-clause-fitting : goal.reopen-requires-clause-fitting
-reopen-requires-clause-fitting c = all_fit c.args.image.now.items

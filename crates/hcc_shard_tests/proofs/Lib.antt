@@ -1,0 +1,2 @@
+pub mod ChargeGuests
+pub mod ShardGuests
