@@ -11,8 +11,6 @@ mod reader;
 mod reading;
 mod source;
 mod tag;
-#[cfg(test)]
-mod tests;
 
 pub use failing::FailingSource;
 pub use memory::MemorySource;

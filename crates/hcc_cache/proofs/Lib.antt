@@ -33,4 +33,3 @@ pub mod MadeLists
 pub mod Emptied
 pub mod Ended
 pub mod Lefts
-pub mod Staged

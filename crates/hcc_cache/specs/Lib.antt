@@ -9,4 +9,3 @@ pub mod Left
 pub mod Closings
 pub mod Inserts
 pub mod Totals
-pub mod Staged

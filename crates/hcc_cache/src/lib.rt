@@ -19,8 +19,6 @@ mod reading;
 mod releasing;
 mod seeded;
 mod tags;
-#[cfg(test)]
-mod tests;
 mod totals;
 
 pub use cache::Cache;

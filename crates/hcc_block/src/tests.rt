@@ -1,6 +1,0 @@
-//! What no clause says: the texts of errors, and what is read through a cache, counted and left.
-
-mod errors;
-mod example;
-mod played;
-mod rows;

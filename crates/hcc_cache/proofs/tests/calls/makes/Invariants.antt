@@ -1,7 +1,0 @@
-use Rattle.hcc_cache.specs.Known.{Knows}
-use Rattle.hcc_cache.proofs.tests.calls.makes.Given as goal
-
-abbrev pub invariant-loop-step : goal.invariant-loop-step
-invariant-loop-step g l = record {
-  known : Knows l.cache l.client;
-}

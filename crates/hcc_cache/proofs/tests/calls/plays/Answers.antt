@@ -1,8 +1,0 @@
-use Rattle.hcc_cache.proofs.Staged.{known_set}
-use Rattle.hcc_cache.proofs.tests.calls.plays.Goals as goal
-
-pub returns-clause-known : goal.returns-clause-known
-returns-clause-known g c =
-    let stage = c.args.stage.now in
-    known_set stage.cache stage.clients.items c.args.number c.makes.new.client c.requires
-    c.makes.ensures

@@ -1,7 +1,0 @@
-use Rattle.hcc_cache.specs.Staged.{AllKnown}
-use Rattle.hcc_cache.proofs.tests.shared.the_most_shards.Given as goal
-
-abbrev pub invariant-loop-shard : goal.invariant-loop-shard
-invariant-loop-shard g l = record {
-  known : AllKnown l.stage.cache l.stage.clients.items;
-}

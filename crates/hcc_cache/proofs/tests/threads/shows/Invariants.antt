@@ -1,7 +1,0 @@
-use Rattle.hcc_cache.specs.Known.{Knows}
-use Rattle.hcc_cache.proofs.tests.threads.shows.Given as goal
-
-abbrev pub invariant-loop-round : goal.invariant-loop-round
-invariant-loop-round g l = record {
-  known : Knows l.cache l.client;
-}

@@ -1,0 +1,7 @@
+use Rattle.hcc_cache.specs.Known.{Knows}
+use Rattle.hcc_cache_tests.proofs.cache.calls.makes.Given as goal
+
+abbrev pub invariant-loop-step : goal.invariant-loop-step
+invariant-loop-step g l = record {
+  known : Knows l.cache l.client;
+}

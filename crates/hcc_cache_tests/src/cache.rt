@@ -1,0 +1,16 @@
+//! Of the cache: the limits as numbers, the texts of errors, keys from outside, that a cache
+//! is made where there is memory, that entries are placed and found where they can be, and the very
+//! words, turns and totals that stand after each call.
+
+mod calls;
+mod configs;
+mod errors;
+mod example;
+mod full;
+mod hits;
+mod keys;
+mod opening;
+mod rows;
+mod shared;
+pub(crate) mod stage;
+mod threads;
