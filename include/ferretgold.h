@@ -3,8 +3,8 @@
  *
  * A cache has keys of 16 bytes, values of at most 4,096 bytes, charges and priorities. Its table is
  * allocated when it is opened. Each call returns after at most a stated number of atomic steps,
- * whatever other threads do. What the calls do is proved; docs/GUIDE.md says how to use them and how
- * to choose the sizes. The header is for C11, C++11 and later.
+ * whatever other threads do. What the calls do is proved; docs/GUIDE.md says how to use them and
+ * how to choose the sizes. The header is for C11, C++11 and later.
  *
  *     ferretgold_config config = { .slots = 1024, .room = 512, .clients = 2, .handles = 16,
  *                                  .shards = 2, .strict = true, .capacity = 4 << 20,
@@ -28,32 +28,32 @@
  *   - No call is made from a signal handler, or from a child that a process with threads forked.
  *
  * HANDLES
- *   A handle is a reference on an entry: while it is held, the entry keeps its key and its value. It
- *   is a small value, copied freely, that its client knows by its index and serial. One that was
- *   released, or that another client of the cache got, is refused by FERRETGOLD_NO_HANDLE, and stays
- *   so: no serial comes twice. Caches don't know each other's handles apart: a program with several
- *   keeps them apart.
+ *   A handle is a reference on an entry: while it is held, the entry keeps its key and its value.
+ *   It is a small value, copied freely, that its client knows by its index and serial. One that was
+ *   released, or that another client of the cache got, is refused by FERRETGOLD_NO_HANDLE, and
+ *   stays so: no serial comes twice. Caches don't know each other's handles apart: a program with
+ *   several keeps them apart.
  *
  * REFUSALS
  *   A call that returns FERRETGOLD_OK did what it says. A call that refuses changed nothing: no
- *   object, and nothing that a pointer of the caller's points to, except where it says so.
+ *   object, and nothing that a pointer of the caller's points to, except where its comment says so.
  *   The first refusal that is due is returned, in the order in which each call lists them; before
  *   them all comes FERRETGOLD_NULL, if a pointer is null that may not be.
  *
  * NOT CHECKED
  *   No call can tell that a pointer dangles (to a client or a cache that was closed, or to fewer
  *   bytes than were said), that an output overlaps another argument, that a bool is neither 0 nor 1
- *   (set each field of a config), or that two threads are in one client, or in one cache's own calls.
- *   Then behaviour is undefined.
+ *   (set each field of a config), or that two threads are in one client, or in one cache's own
+ *   calls. Then behaviour is undefined.
  *
  * COSTS
  *   L stands for the slots of a shard, W for the payload words of a slot, S for the shards. Bounds
- *   are the most atomic steps on the cache's words. Calls neither allocate nor free, except where it
- *   is said; what malloc and free cost there, which may wait for other threads, comes on top.
+ *   are the most atomic steps on the cache's words. Calls neither allocate nor free, except where
+ *   it is said; what malloc and free cost there, which may wait for other threads, comes on top.
  *
  * The calls are inline functions: each looks for null pointers, and hands the rest to the library.
- * Other languages declare the functions of the library themselves (ferretgold_raw_*, at the end);
- * these judge all but null pointers.
+ * Other languages declare the functions of the library themselves (ferretgold_raw_*, below); these
+ * refuse whatever is refused except null pointers.
  */
 #ifndef FERRETGOLD_H
 #define FERRETGOLD_H
@@ -117,7 +117,7 @@ typedef enum ferretgold_status {
     FERRETGOLD_MISSING = 39
 } ferretgold_status;
 
-/* How long the clock keeps a new entry that nobody looks up: it outlives 3, 2 or 1 of its visits. */
+/* How many visits of the clock a new entry that nobody looks up survives: 3, 2 or 1. */
 typedef enum ferretgold_priority {
     FERRETGOLD_HIGH = 0,
     FERRETGOLD_LOW = 1,
@@ -147,8 +147,8 @@ typedef struct ferretgold_config {
     bool strict;       /* whether charges stay within the capacity, and insertions may be refused */
     bool marks;        /* whether look-ups mark entries, for evicted_hit of the statistics */
     uint64_t capacity; /* in charges, at most 2^40; each shard has an equal part, rounded up */
-    uint64_t serials;  /* of each client: 1 to 2^54; an insertion uses one, and so does a handle that
-                          ferretgold_lookup or ferretgold_reref gives */
+    uint64_t serials;  /* of each client: 1 to 2^54; an insertion uses one, and so does a handle
+                          that ferretgold_lookup or ferretgold_reref gives */
     uint64_t seed;     /* of the keys; 0 only if keys are spread already, as hashes are */
 } ferretgold_config;
 
@@ -191,7 +191,7 @@ typedef struct ferretgold_totals {
 typedef struct ferretgold_cache ferretgold_cache;
 typedef struct ferretgold_client ferretgold_client;
 
-/* ---- The library's functions. Programs in C and C++ call the inline functions below. ---------- */
+/* ---- The library's functions. Programs in C and C++ call the inline functions below. --------- */
 
 /* A pointer to a cache or to a client, as a call takes it: by its address, and by value where the
  * object ends. It isn't null, and a call leaves it as it was. If a call gives an object, or hands
@@ -252,10 +252,10 @@ static inline ferretgold_object ferretgold_object_of(void *at) {
 /* ---- Opening and closing --------------------------------------------------------------------- */
 
 /*
- * Opens a cache with no entries, and with all its clients, of which none is out yet.
+ * Opens a cache with no entries, and with all its clients. None is out yet.
  *
- * Allocates the table and all clients: for each slot 56 bytes and its room, for each client some 100
- * bytes for each handle that it may hold. ferretgold_client_open and ferretgold_insert_pinned
+ * Allocates the table and all clients: for each slot 56 bytes and its room, for each client some
+ * 100 bytes for each handle that it may hold. ferretgold_client_open and ferretgold_insert_pinned
  * allocate more. Costs a store for each word.
  *
  * Refuses BAD_SLOTS, BAD_ROOM, BAD_CLIENTS, BAD_HANDLES, BAD_SHARDS, BAD_CAPACITY, BAD_SERIALS,
@@ -346,8 +346,8 @@ static inline ferretgold_status ferretgold_close(ferretgold_cache *cache,
  * is used. FERRETGOLD_MISS: there was none that the client could see; nothing is changed except
  * the client's statistics.
  *
- * Never gives an entry that this client saw erased. Costs at a first hit a load, an add and two
- * loads. Bound: 7*L.
+ * Never returns an entry that this client saw erased. A hit at the first probe costs a load, an add
+ * and two loads. Bound: 7*L.
  *
  * Refuses HANDLES_FULL, SPENT; also if the key isn't there.
  */
@@ -390,13 +390,13 @@ static inline ferretgold_status ferretgold_reref(ferretgold_client *client,
 }
 
 /*
- * Gives a handle back: as a use of its entry if `useful`, which is what keeps entries that are read.
- * If it was the last reference, and the entry was erased or `erase_if_last` is set, one try is made
- * to free the entry. A standalone entry goes with its last handle, and its copy by free. `freed` gets
- * whether this call freed an entry; it may be null.
+ * Gives a handle back: as a use of its entry if `useful`, which is what keeps entries that are
+ * read. If it was the last reference, and the entry was erased or `erase_if_last` is set, one try
+ * is made to free the entry. A standalone entry goes with its last handle, and its copy by free.
+ * `freed` gets whether this call freed an entry; it may be null.
  *
- * Costs an add or a subtraction; if it frees, a few steps and one for each slot of the entry's trail.
- * Bound: L + 8.
+ * Costs an add or a subtraction; if it frees, a few steps and one for each slot of the entry's
+ * trail. Bound: L + 8.
  *
  * Refuses NO_HANDLE.
  */
@@ -433,12 +433,12 @@ static inline const uint8_t *ferretgold_bytes_of(const void *value) {
  * are reserved in the key's shard first, which may evict others. `value` may be null if `length` is
  * 0, and `inserted` may be null.
  *
- * PLACED: the entry is in the table. DROPPED: the shard was full and no place was found, or an entry
- * of the key was met first (it is used then, and its value stays), or as many slots as the shard has
- * were seen taken. Uses a serial, also if it is refused by the last two.
+ * PLACED: the entry is in the table. DROPPED: the shard was full and no place was found, or an
+ * entry of the key was met first (it is used then, and its value stays), or none of L probes found
+ * an empty slot. Uses a serial, also if it is refused by the last two.
  *
- * Costs the reservation, for each probe what a look-up costs, and a store for each word of the entry.
- * Bound: (4*L + 25)*(3*L/4 + 1) + 8*L + W + 8.
+ * Costs the reservation, for each probe what a look-up costs, and a store for each word of the
+ * entry. Bound: (4*L + 25)*(3*L/4 + 1) + 8*L + W + 8.
  *
  * Refuses BAD_PRIORITY, NO_CHARGE, TOO_LONG, SPENT, TOO_LARGE; and if strict, after evictions
  * that stay made, CAPACITY_FULL, OCCUPANCY_FULL.
@@ -464,10 +464,10 @@ static inline ferretgold_status ferretgold_insert(ferretgold_client *client,
 
 /*
  * Inserts an entry of this key, value and charge, and gives a handle on it. PLACED: it is in the
- * table. STANDALONE: it isn't, for one of the reasons that ferretgold_insert drops one for; look-ups
- * don't find it, its charge is in the usage, and it goes with its last handle. `value` may be null
- * if `length` is 0, and `inserted` may be null. Uses one serial, also if it is refused by the last
- * two.
+ * table. STANDALONE: it isn't, for one of the reasons that ferretgold_insert drops one for;
+ * look-ups don't find it, its charge is in the usage, and it goes with its last handle. `value` may
+ * be null if `length` is 0, and `inserted` may be null. Uses one serial, also if it is refused by
+ * the last two.
  *
  * Allocates a copy of the value by malloc, and frees it unless the entry is standalone, which keeps
  * it. Costs what ferretgold_insert costs, the copy, and if no place was found two adds more. Bound:
@@ -503,10 +503,10 @@ static inline ferretgold_status ferretgold_insert_pinned(ferretgold_client *clie
 }
 
 /*
- * Hides each visible entry of the key: no look-up finds them from then on. Frees those on which there
- * is no handle, not this client's either, if its one compare-exchange for it wins. The others go with
- * their last reference, and handles show what they showed. `hidden` gets how many were hidden; it may
- * be null.
+ * Hides each visible entry of the key: no look-up finds them from then on. Makes one try to free
+ * each of them that nobody holds, this client included. Those that are held stay until their last
+ * release, and handles on them show what they showed; the clock frees one whose try failed.
+ * `hidden` gets how many were hidden; it may be null.
  *
  * Costs for each probe what a look-up costs, and for each match what freeing costs.
  * Bound: (L + 14)*L + 2.
@@ -595,11 +595,11 @@ static inline ferretgold_status ferretgold_read_value(ferretgold_client *client,
 
 /* ---- Totals ---------------------------------------------------------------------------------- */
 
-/* Each of the three goes through the shards while other threads work: it is no picture of one moment.
- * Above 2^64 - 1 it says that. */
+/* Each of the three goes through the shards while other threads work: it is no picture of one
+ * moment. The first two saturate at 2^64 - 1. */
 
-/* What is charged, also for standalone entries and for what other clients have reserved. Under strict
- * at most S times the capacity of a shard. Bound: S. */
+/* What is charged, also for standalone entries and for what other clients have reserved. Under
+ * strict at most S times the capacity of a shard. Bound: S. */
 static inline ferretgold_status ferretgold_usage(ferretgold_client *client, uint64_t *usage) {
     if (client == NULL || usage == NULL) {
         return FERRETGOLD_NULL;
@@ -620,8 +620,9 @@ static inline ferretgold_status ferretgold_pinned_usage(ferretgold_client *clien
     return FERRETGOLD_OK;
 }
 
-/* How many entries the table has, with the places and freed slots that other clients have in hand: at
- * most 84 of a hundred slots, and a place for each client. Standalone ones don't count. Bound: S. */
+/* How many entries the table has, with the places and freed slots that other clients have in hand:
+ * of each shard at most 84 of a hundred slots, and a place for each client. Standalone ones don't
+ * count. Bound: S. */
 static inline ferretgold_status ferretgold_occupancy(ferretgold_client *client,
                                                      uint64_t *occupancy) {
     if (client == NULL || occupancy == NULL) {
@@ -633,7 +634,7 @@ static inline ferretgold_status ferretgold_occupancy(ferretgold_client *client,
 }
 
 /* The meta word of a slot, and how often it stands in trails: for tests and tools. Bound: 1.
- * Refuse OUT_OF_RANGE. */
+ * Both refuse OUT_OF_RANGE. */
 static inline ferretgold_status ferretgold_word(ferretgold_client *client, uint32_t shard,
                                                 uint32_t slot, uint64_t *word) {
     if (client == NULL || word == NULL) {
@@ -662,8 +663,8 @@ static inline ferretgold_status ferretgold_displacement(ferretgold_client *clien
     return (ferretgold_status)status;
 }
 
-/* ---- Of a client, without an atomic step. A null client has no handle and no serial; its number is
- * 0, and ferretgold_statistics refuses it. ------------------------------------------------ */
+/* ---- Of a client, without an atomic step. A null client has no handle and no serial; its number
+ * is 0, and ferretgold_statistics refuses it. ---------------------------------------------- */
 
 /* Its number among the cache's clients, from 0. */
 static inline uint32_t ferretgold_client_number(ferretgold_client *client) {
