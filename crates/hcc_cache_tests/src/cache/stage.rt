@@ -89,14 +89,20 @@ pub(super) fn opened(alloc: Global, config: Config, values: Vec<Vec<u8>>) -> Res
 
 /// Closes the cache, once the clients let go of the handles that have numbers. The sums are those
 /// of the slots.
-pub(super) fn closes(rt: &impl Abort, mut stage: Stage) -> Closed
+pub(super) fn closes(rt: &impl Abort, stage: Stage) -> Closed
     requires { AllKnown stage.cache stage.clients.items }
 {
-    for number in 0..stage.clients.len() {
-        assert!(rt; number < stage.clients.len(), "a client is missing");
-        lets_go(rt, &stage.cache, &mut stage.clients[number], &stage.hand);
+    let Stage {
+        cache,
+        config: _,
+        mut clients,
+        hand,
+    } = stage;
+    for number in 0..clients.len() {
+        assert!(rt; number < clients.len(), "a client is missing");
+        lets_go(rt, &cache, &mut clients[number], &hand);
     }
-    match stage.cache.close(stage.clients) {
+    match cache.close(clients) {
         Ok(closed) => {
             assert_eq!(rt; closed.usage(), closed.slot_charges());
             assert_eq!(rt; closed.occupied(), closed.slot_count());
