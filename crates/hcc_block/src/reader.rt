@@ -1,5 +1,6 @@
 //! A reader of blocks, and what it counts.
 ghost use Rattle.std.specs.Prelude.{◌≡◌, ◌≤◌};
+ghost use Rattle.hcc_block.specs.Texts.{text_of};
 
 use crate::source::BlockSource;
 use thiserror::Error;
@@ -57,4 +58,16 @@ pub enum ReadError {
     /// The source failed. Nothing is inserted, and the bytes of the buffer are open.
     #[error("SourceFault")]
     SourceFault,
+}
+
+impl ReadError {
+    /// The refusal as a sentence.
+    pub fn text(self) -> &'static str
+        ensures { result.now ≡ text_of self }
+    {
+        match self {
+            ReadError::NoSuchBlock => "there is no such file, or the block lies at or past its end",
+            ReadError::SourceFault => "the source failed",
+        }
+    }
 }

@@ -9,3 +9,4 @@ pub mod Left
 pub mod Closings
 pub mod Inserts
 pub mod Totals
+pub mod Texts

@@ -1,4 +1,6 @@
 //! Why a call is refused. In each list the first that is due is returned.
+ghost use Rattle.std.specs.Prelude.{◌≡◌};
+ghost use Rattle.hcc_cache.specs.Texts.{new_text, lookup_text, insert_text, close_text};
 
 use thiserror::Error;
 
@@ -31,6 +33,24 @@ pub enum NewError {
     OutOfMemory,
 }
 
+impl NewError {
+    /// The refusal as a sentence.
+    pub fn text(self) -> &'static str
+        ensures { result.now ≡ new_text self }
+    {
+        match self {
+            NewError::BadSlots => "slots must be a power of two from 8 to 65,536",
+            NewError::BadRoom => "room must be 1 to 512",
+            NewError::BadClients => "clients must be 1 to 1,024",
+            NewError::BadHandles => "handles must be 1 to 16,384",
+            NewError::BadShards => "shards must be a power of two from 1 to 64",
+            NewError::BadCapacity => "capacity must be at most 2^40",
+            NewError::BadSerials => "serials must be 1 to 2^54",
+            NewError::OutOfMemory => "an allocation failed",
+        }
+    }
+}
+
 /// Why a handle isn't given. It is judged before anything else: nothing is changed, and no step is
 /// made.
 #[derive(Clone, Copy, Debug, PartialEq, Eq, Error)]
@@ -41,6 +61,18 @@ pub enum LookupError {
     /// The client has used all its serials.
     #[error("Spent")]
     Spent,
+}
+
+impl LookupError {
+    /// The refusal as a sentence.
+    pub fn text(self) -> &'static str
+        ensures { result.now ≡ lookup_text self }
+    {
+        match self {
+            LookupError::HandlesFull => "the client holds as many handles as it may",
+            LookupError::Spent => "the client has used all its serials",
+        }
+    }
 }
 
 /// Why nothing is inserted. After the first three nothing is changed. The last two come under
@@ -64,6 +96,21 @@ pub enum InsertError {
     OccupancyFull,
 }
 
+impl InsertError {
+    /// The refusal as a sentence.
+    pub fn text(self) -> &'static str
+        ensures { result.now ≡ insert_text self }
+    {
+        match self {
+            InsertError::HandlesFull => "the client holds as many handles as it may",
+            InsertError::Spent => "the client has used all its serials",
+            InsertError::TooLarge => "the charge is above a shard's capacity",
+            InsertError::CapacityFull => "evictions freed too little of the charge",
+            InsertError::OccupancyFull => "evictions freed no slot",
+        }
+    }
+}
+
 /// Why a cache isn't closed. Nothing is changed.
 #[derive(Clone, Copy, Debug, PartialEq, Eq, Error)]
 pub enum CloseError {
@@ -73,4 +120,16 @@ pub enum CloseError {
     /// A client holds a handle. Of those that do, it is the one with the least number.
     #[error("client {client} holds a handle")]
     HandlesOut { client: u32 },
+}
+
+impl CloseError {
+    /// The refusal as a sentence without its numbers.
+    pub fn text(self) -> &'static str
+        ensures { result.now ≡ close_text self }
+    {
+        match self {
+            CloseError::Missing { .. } => "clients of the cache are out",
+            CloseError::HandlesOut { .. } => "a client holds handles",
+        }
+    }
 }

@@ -10,3 +10,4 @@ pub mod Steps
 pub mod Opening
 pub mod Lawful
 pub mod Runs
+pub mod Texts

@@ -114,9 +114,9 @@ impl Client {
         }
     }
 
-    /// Its dead list with this stamp, where that is new.
+    /// Its dead list with this stamp, if that is new.
     ///
-    /// It takes memory for the new list and leaves the client as it is.
+    /// It allocates the new list and leaves the client as it is.
     pub(crate) fn with_dead(
         &self,
         alloc: Global,
@@ -138,7 +138,7 @@ impl Client {
         Ok(Some(all))
     }
 
-    /// Puts a new dead list in the place of the old one, where there is one.
+    /// Puts a new dead list in the place of the old one, if there is one.
     pub(crate) fn note(&mut self, dead: Option<Listed<Stamp>>)
         ensures { self.new ≡ record self.old { dead = unwrap_or dead self.old.dead } }
     {
@@ -213,7 +213,7 @@ impl Owned {
 #[derive(Clone, Copy, Debug, PartialEq, Eq)]
 pub enum Place {
     Absent,
-    /// Asked for where the table was full.
+    /// Asked for when the table was full.
     Open,
     Granted,
 }

@@ -1,4 +1,7 @@
 //! The events that step a world, and the replies to them.
+ghost use Rattle.std.specs.Prelude.{◌≡◌};
+ghost use Rattle.hcc_core.specs.Texts.{text_of};
+
 use crate::listed::Listed;
 
 /// One action of one client.
@@ -13,7 +16,7 @@ pub enum Event {
         client: u32,
         slot: u32,
     },
-    /// It adds to a slot's acquires: a reference where the slot has an entry, else strays.
+    /// It adds to a slot's acquires: a reference if the slot has an entry, else strays.
     Acquire {
         client: u32,
         slot: u32,
@@ -35,7 +38,7 @@ pub enum Event {
         client: u32,
         slot: u32,
     },
-    /// It shows the entry that it has built, and keeps a reference where a name is given.
+    /// It shows the entry that it has built, and keeps a reference if a name is given.
     Show {
         client: u32,
         key0: u64,
@@ -51,7 +54,7 @@ pub enum Event {
         name: u64,
     },
     /// It takes a slot with an entry, to free it: one that is not referenced or, with a name, one
-    /// with that reference of weight 1 alone.
+    /// whose only reference is that one, of weight 1.
     Free {
         client: u32,
         slot: u32,
@@ -83,7 +86,7 @@ pub enum Event {
     Slots {
         client: u32,
     },
-    /// It spends what it freed on what it needs, and gives up the rest.
+    /// It spends what it freed on what it needs, and gives back the rest.
     Settle {
         client: u32,
     },
@@ -101,16 +104,16 @@ pub enum Event {
         client: u32,
         name: u64,
     },
-    /// It takes the uses of an entry back from their bound.
+    /// It corrects the uses of an entry that are near their bound.
     Correct {
         client: u32,
         name: u64,
     },
-    /// It gives up all that it was granted, needs and freed.
+    /// It gives back all that it was granted, needs and freed.
     Waive {
         client: u32,
     },
-    /// It gives up its place and the slots that it freed.
+    /// It gives back its place and the slots that it freed.
     Quit {
         client: u32,
     },
@@ -122,7 +125,7 @@ pub enum Event {
     Occupancy {
         client: u32,
     },
-    /// It asks what stands in standalone entries.
+    /// It asks for the charges of standalone entries.
     Standing {
         client: u32,
     },
@@ -167,7 +170,7 @@ pub enum Phase {
     Hidden,
 }
 
-/// What an event answers.
+/// What an event returns.
 #[derive(Drop)]
 pub enum Reply {
     Ok,
@@ -219,4 +222,18 @@ pub enum CoreError {
     NoSuchClient,
     NotAllowed,
     OutOfMemory,
+}
+
+impl CoreError {
+    /// The refusal as a sentence.
+    pub fn text(self) -> &'static str
+        ensures { result.now ≡ text_of self }
+    {
+        match self {
+            CoreError::NoSuchSlot => "there is no such slot",
+            CoreError::NoSuchClient => "there is no such client",
+            CoreError::NotAllowed => "the protocol doesn't allow the event now",
+            CoreError::OutOfMemory => "an allocation failed",
+        }
+    }
 }

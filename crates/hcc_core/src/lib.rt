@@ -2,7 +2,7 @@
 //!
 //! A world has slots, which hold entries, and clients, which hold named references on slots.
 //! Each event is one atomic action of one client. What an event may do, and what the world is
-//! after it, stands in this crate's definitions; [`world::World::step`] does just that.
+//! after it, is in this crate's definitions; [`world::World::step`] does exactly that.
 #![tactic(auto)]
 
 pub mod client;

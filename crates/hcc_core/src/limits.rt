@@ -20,7 +20,7 @@ pub const REFERENCES_PER_CLIENT: u64 = MOST_HANDLES as u64 + MOST_WEIGHT;
 /// so that the counters of a slot stay in their 30 bits.
 pub const MOST_REFERENCES: u64 = MOST_CLIENTS as u64 * REFERENCES_PER_CLIENT;
 
-/// What a correction takes from the use counter: half of its 30 bits.
+/// What a correction subtracts from the use counter: half of its 30 bits.
 pub const CORRECTION: u64 = 1 << 29;
 
 /// How near to its end the use counter may come: from here on new references don't count.

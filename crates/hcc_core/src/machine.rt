@@ -1,6 +1,6 @@
 //! The slots and clients of a world, what is read of them, and how a step finds its own.
 //!
-//! The steps stand in the modules below, by what they are about.
+//! The steps are in the modules below, by what they are about.
 ghost use Rattle.std.specs.Prelude.{◌≡◌, ◌<◌, IfOk, MatchResult, length, replicate, slice_get};
 ghost use Rattle.std.specs.Prelude.{true};
 ghost use Rattle.hcc_core.specs.declared.event.CoreError.TheVariants.{NoSuchSlot, NoSuchClient};
@@ -245,14 +245,14 @@ fn new_client(alloc: Global) -> Client
     }
 }
 
-/// A name that was given is in its range. It only tells contracts what the type says.
+/// A name that was given is in its range. It only lets contracts know what the type says.
 fn name_fits(name: Option<u64>)
     ensures { name_fits name ≡ true }
 {
     if let Some(_name) = name {}
 }
 
-/// The bytes of a value are bytes. It only tells contracts what the type says.
+/// The bytes of a value are bytes. It only lets contracts know what the type says.
 fn bytes_fit(bytes: &[u8])
     ensures { list_all (fits 8) bytes.now ≡ true }
 {

@@ -254,14 +254,14 @@ impl Slot {
         }
     }
 
-    /// Whether it has no reference but perhaps this client's, of weight 1 and this name.
+    /// Whether it has no reference, or only this client's of this name, of weight 1.
     pub(crate) fn is_free_for(&self, client: u32, name: Option<u64>) -> bool
         ensures { result ≡ is_free_for client name (references_of self.now) }
     {
         is_free_for(self.references(), client, name)
     }
 
-    /// Adds a reference, or strays. Where memory runs out the slot is unchanged.
+    /// Adds a reference, or strays. If memory runs out the slot is unchanged.
     pub(crate) fn acquire(&mut self, reference: Reference) -> Result<(), AllocError>
         requires { strays_of self.old + reference.weight < 2 ^ 64 }
         ensures ok { OnOk result (self.new ≡ slot_acquired self.old reference) }

@@ -43,7 +43,7 @@ impl From<AllocError> for CoreError {
 impl World {
     /// A new world: all slots are empty, and no client is live.
     ///
-    /// It keeps the allocator, and takes memory for the slots and clients. The setup has 1 to
+    /// It keeps the allocator, and allocates the slots and clients. The setup has 1 to
     /// 65,536 slots and 1 to 1,024 clients.
     pub fn opening(alloc: Global, setup: Setup) -> Result<World, CoreError>
         requires { CanOpen setup }
@@ -56,13 +56,13 @@ impl World {
 
     /// Makes one step, or refuses it by the first name that is due: `NoSuchSlot`,
     /// `NoSuchClient`, `NotAllowed`. The world is unchanged after each refusal, and after
-    /// `OutOfMemory` too, which only events that may take memory answer: `Look`, `Acquire`,
+    /// `OutOfMemory` too, which only events that may allocate return: `Look`, `Acquire`,
     /// `Give`, `Use`, `Occupy`, `Hide`, `Read`, `Mark`, `Correct`, `Stand` and `Pass`, and with a
     /// name `Show` and `Free`.
     ///
     /// It costs at most a pass over the slots, their references and the clients, and of its own
-    /// client over the trail, the standalone entries and the dead list. That list is copied where
-    /// an entry joins it, and `Read` copies the value.
+    /// client over the trail, the standalone entries and the dead list. That list is copied if an
+    /// entry joins it, and `Read` copies the value.
     pub fn step(&mut self, event: Event) -> Result<Reply, CoreError>
         ensures { Follows (outcome_of self.old event) (takes_memory event)
             self.old result self.new }
@@ -70,8 +70,8 @@ impl World {
         self.machine.step(event)
     }
 
-    /// The slot of this number, or `None` where there is none. Beside it the contract tells callers
-    /// that count slots how many there are at most.
+    /// The slot of this number, or `None` if there is none. Its contract also says how many slots
+    /// there are at most.
     pub fn slot(&self, slot: u32) -> Option<&Slot>
         ensures slot { option_copied result ≡ slice_get self.now.slots slot }
         ensures few { length self.now.slots ≤ MOST_SLOTS }
@@ -109,7 +109,7 @@ impl World {
         self.machine.hand
     }
 
-    /// How often the slot of this number stands in trails, or 0 where there is none. A pass
+    /// How often the slot of this number stands in trails, or 0 if there is none. A pass
     /// over all trails.
     pub fn passed(&self, slot: u32) -> u64
         ensures { result ≡ passed_at self.now slot }

@@ -22,3 +22,4 @@ pub mod Deal
 pub mod Work
 pub mod BlocksReport
 pub mod PlayBlocks
+pub mod Texts

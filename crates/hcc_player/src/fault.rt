@@ -2,6 +2,7 @@
 ghost use Rattle.std.specs.Prelude.{◌≡◌};
 ghost use Rattle.hcc_player.specs.declared.fault.LineError.TheVariants as lines;
 ghost use Rattle.hcc_player.specs.declared.fault.PlayError.TheVariants as plays;
+ghost use Rattle.hcc_player.specs.Texts.{text_of};
 
 use hcc_cache::NewError;
 use std::alloc::{AllocError, AllocFailed};
@@ -44,6 +45,27 @@ pub enum TextFault {
     /// in a trace.
     #[error("ValueTooLong")]
     ValueTooLong,
+}
+
+impl TextFault {
+    /// The fault as a sentence.
+    pub fn text(self) -> &'static str
+        ensures { result.now ≡ text_of self }
+    {
+        match self {
+            TextFault::TooLong => "the line has more than 8,400 bytes",
+            TextFault::Unended => "no line feed ends the line",
+            TextFault::NotAscii => "a byte is neither a space nor a visible character of ASCII",
+            TextFault::BadWord => "a word is empty or unknown, or there are too few or too many",
+            TextFault::BadNumber => "a word is no decimal number below 2^64 without leading zeros",
+            TextFault::OutOfRange => "a number is outside the range that it has in its place",
+            TextFault::BadChoice => "a word is none of those that may stand in its place",
+            TextFault::BadValue => {
+                "a value is neither - nor pairs of lower-case hexadecimal digits"
+            }
+            TextFault::ValueTooLong => "a value has more bytes than it may have",
+        }
+    }
 }
 
 /// Why it isn't known what a line says.

@@ -10,6 +10,7 @@ ghost use Rattle.hcc_rule.specs.Views.{Each};
 ghost use Rattle.hcc_shard.specs.declared.reopening.ReopenError.TheVariants.{OutOfMemory};
 ghost use Rattle.hcc_shard.specs.Reopened.{AreFitting, HasBytes, HasTypes, IsSmall, is_free, is_long, is_rising, is_worn, refusal_of};
 ghost use Rattle.hcc_shard.specs.Seated.{AreBegun};
+ghost use Rattle.hcc_shard.specs.Texts.{text_of};
 
 use crate::seat::ShardSeat;
 use crate::shard::{Shard, numbered};
@@ -35,6 +36,25 @@ pub enum ReopenError {
     TooLarge,
     /// Memory was refused.
     OutOfMemory,
+}
+
+impl ReopenError {
+    /// The refusal as a sentence.
+    pub fn text(self) -> &'static str
+        ensures { result.now ≡ text_of self }
+    {
+        match self {
+            ReopenError::BadSlot => {
+                "an entry's slot is none of the shard's, or not above the one before it"
+            }
+            ReopenError::BadLength => "an entry's value is longer than a slot has room for",
+            ReopenError::BadUses => "an entry has more than 553,651,204 uses",
+            ReopenError::BadCharge => "an entry's charge is 0",
+            ReopenError::TooMany => "the entries are more than 84 of 100 slots",
+            ReopenError::TooLarge => "the charges in sum are above the capacity",
+            ReopenError::OutOfMemory => "an allocation failed",
+        }
+    }
 }
 
 impl From<AllocError> for ReopenError {

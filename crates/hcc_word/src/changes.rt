@@ -25,9 +25,9 @@ pub fn acquired(word: u64, n: u32) -> u64
     word.wrapping_add(u64::from(n))
 }
 
-/// The word that giving `n` references back leaves of this one: they are taken from acquires.
+/// The word that giving `n` references back leaves of this one: they are subtracted from acquires.
 ///
-/// It borrows from no other field where they are there.
+/// It borrows from no other field if the word has as many.
 pub fn given_back(word: u64, n: u32) -> u64
     ensures difference { result ≡ (word + (2 ^ 64 - n)) % 2 ^ 64 }
     ensures no_borrow { n ≤ acquires_of word → SetsAcquires word result (acquires_of word - n) }
@@ -72,8 +72,8 @@ pub fn unreferenced(uses: u32) -> u64
 /// What the clock puts in place of this word: the countdown is one less, and at most 2. The hit bit
 /// is kept.
 ///
-/// `None` exactly where the clock does not count: a slot that is not visible, or is referenced, or
-/// has countdown 0.
+/// `None` exactly if the clock does not count: a slot that is not visible, or is referenced, or has
+/// countdown 0.
 pub fn clocked(word: u64) -> Option<u64>
     ensures { SomeIff result (IsClockable word) (clocked_word word) }
 {
@@ -88,7 +88,7 @@ pub fn clocked(word: u64) -> Option<u64>
 /// What a correction puts in place of this word: 2^29 less in both counters, which are near
 /// overflow. The references stay the same.
 ///
-/// `None` exactly where releases are below [`NEAR`] or acquires below 2^29.
+/// `None` exactly if releases are below [`NEAR`] or acquires below 2^29.
 pub fn corrected(word: u64) -> Option<u64>
     ensures { SomeIff result (IsCorrectable word) (corrected_word word) }
 {

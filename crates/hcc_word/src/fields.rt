@@ -25,7 +25,7 @@ pub fn releases(word: u64) -> u32
 
 /// Acquires less releases, modulo 2^30: the references on a shareable slot.
 ///
-/// Where there are none, both counters are the entry's countdown.
+/// If there are none, both counters are the entry's countdown.
 pub fn refs(word: u64) -> u32
     ensures field { result ≡ refs_of word }
     ensures in_range { result < 2 ^ COUNTER_BITS }
@@ -33,7 +33,7 @@ pub fn refs(word: u64) -> u32
     acquires(word).wrapping_sub(releases(word)) & COUNTER_MASK as u32
 }
 
-/// The hit bit, bit 60: whether a lookup marked the entry.
+/// The hit bit, bit 60: whether a look-up marked the entry.
 pub fn hit(word: u64) -> bool
     ensures { result ≡ hit_of word }
 {

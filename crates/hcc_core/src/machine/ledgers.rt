@@ -1,5 +1,5 @@
-//! The steps on the ledgers: enter, quit, slots, charge, settle, waive, stand and fall, and what
-//! the ledgers tell.
+//! The steps on the ledgers: enter, quit, slots, charge, settle, waive, stand and fall, and the
+//! loads.
 ghost use Rattle.std.specs.Prelude.{◌≡◌, ◌<◌, ◌≤◌, ◌+◌, ◌^◌, true, false};
 ghost use Rattle.hcc_core.specs.Ledgers.{enter_of, slots_of, charge_by, grant_of, may_charge};
 ghost use Rattle.hcc_core.specs.Ledgers.{settle_of, may_settle, waive_of, may_waive, quit_of};

@@ -1,0 +1,35 @@
+-- The sentences of refusals.
+use Rattle.std.specs.Prelude.{ℕ, List, codes}
+use Rattle.hcc_cache.specs.declared.errors.NewError.{NewError}
+use Rattle.hcc_cache.specs.declared.errors.LookupError.{LookupError}
+use Rattle.hcc_cache.specs.declared.errors.InsertError.{InsertError}
+use Rattle.hcc_cache.specs.declared.errors.CloseError.{CloseError}
+use Rattle.hcc_cache.specs.declared.errors.NewError.TheVariants as news
+use Rattle.hcc_cache.specs.declared.errors.LookupError.TheVariants as lookups
+use Rattle.hcc_cache.specs.declared.errors.InsertError.TheVariants as inserts
+use Rattle.hcc_cache.specs.declared.errors.CloseError.TheVariants as closes
+
+abbrev pub new_text : NewError → List ℕ
+new_text news.BadSlots = codes "slots must be a power of two from 8 to 65,536"
+new_text news.BadRoom = codes "room must be 1 to 512"
+new_text news.BadClients = codes "clients must be 1 to 1,024"
+new_text news.BadHandles = codes "handles must be 1 to 16,384"
+new_text news.BadShards = codes "shards must be a power of two from 1 to 64"
+new_text news.BadCapacity = codes "capacity must be at most 2^40"
+new_text news.BadSerials = codes "serials must be 1 to 2^54"
+new_text news.OutOfMemory = codes "an allocation failed"
+
+abbrev pub lookup_text : LookupError → List ℕ
+lookup_text lookups.HandlesFull = codes "the client holds as many handles as it may"
+lookup_text lookups.Spent = codes "the client has used all its serials"
+
+abbrev pub insert_text : InsertError → List ℕ
+insert_text inserts.HandlesFull = codes "the client holds as many handles as it may"
+insert_text inserts.Spent = codes "the client has used all its serials"
+insert_text inserts.TooLarge = codes "the charge is above a shard's capacity"
+insert_text inserts.CapacityFull = codes "evictions freed too little of the charge"
+insert_text inserts.OccupancyFull = codes "evictions freed no slot"
+
+abbrev pub close_text : CloseError → List ℕ
+close_text (closes.Missing have want) = codes "clients of the cache are out"
+close_text (closes.HandlesOut client) = codes "a client holds handles"
