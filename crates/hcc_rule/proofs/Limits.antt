@@ -2,4 +2,5 @@ pub mod Alone
 pub mod LedgerLimits
 pub mod SlotLimits
 pub mod Passed
+pub mod Rounds
 pub mod Beginnings

@@ -11,14 +11,14 @@ use Rattle.hcc_core.specs.World.{times}
 use Rattle.hcc_rule.specs.declared.closed.ClosedTable.{ClosedTable}
 use Rattle.hcc_rule.specs.declared.geometry.Geometry.{Geometry}
 use Rattle.hcc_rule.specs.declared.key.Key.{Key}
-use Rattle.hcc_rule.specs.declared.layout.TheConstants.{META, DISPLACEMENT, DATA, KEY0, KEY1, CHARGE, USAGE, OCCUPANCY, STANDING}
+use Rattle.hcc_rule.specs.declared.layout.TheConstants.{META, DISPLACEMENT, DATA, KEY0, KEY1, CHARGE, USAGE, OCCUPANCY, STANDING, HAND}
 use Rattle.hcc_rule.specs.declared.rule.Plan.{Plan}
 use Rattle.hcc_rule.specs.declared.view.Made.{Made}
 use Rattle.hcc_rule.specs.declared.view.Other.{Other}
 use Rattle.hcc_rule.specs.declared.view.View.{View}
 use Rattle.hcc_rule.specs.Opening.{IsIdle}
 use Rattle.hcc_rule.specs.Probes.{trail_to}
-use Rattle.hcc_rule.specs.Rule.{Holds, IsRight}
+use Rattle.hcc_rule.specs.Rule.{hand_at, Holds, IsRight}
 use Rattle.hcc_rule.specs.Views.{named_by, weight_on}
 use Rattle.hcc_rule.specs.Words.{field_at, ledger_at, made_words}
 
@@ -119,3 +119,5 @@ pub record Closes {T : Type 0} (fits : T → Key → List ℕ → Type 0) (tag :
   -- the entries are as many as were made less those that were taken
   pub left : over_entries geometry.room words geometry.slots (λ s. 1) + v.takings
       ≡ length v.made + total (λ (o : Other). length o.made) v.others
+  -- the hand is where the turns of all clients left it
+  pub hand : slice_index words (ledger_at geometry.slots geometry.room HAND) ≡ hand_at v.turns

@@ -1,7 +1,9 @@
 -- The words of a state, by their names, for what holds of every state that keeps the rule.
-use Rattle.std.specs.Prelude.{◌≡◌, ℕ, ◌+◌, Bool, slice_index}
+use Rattle.std.specs.Prelude.{◌≡◌, ℕ, zero, suc, ◌+◌, ◌%◌, ◌^◌, Bool, List, [], ◌++◌, map, slice_index}
+use Rattle.std.specs.List.{range_with_len}
 use Rattle.atomic_table.specs.Table as table
 use Rattle.hcc_word.specs.Word.{is_shareable, refs_of}
+use Rattle.hcc_core.specs.declared.limits.TheConstants.{SLOTS_PER_TURN}
 use Rattle.hcc_core.specs.declared.slot.Entry.{Entry}
 use Rattle.hcc_core.specs.Sums.{total}
 use Rattle.hcc_rule.specs.declared.layout.TheConstants.{META, DISPLACEMENT, DATA}
@@ -53,3 +55,16 @@ module _ {T : Type 0} (p : Plan T) (s : StateOf T) where
   abbrev pub HasWordsOfRecords : (slot : ℕ) → View T → Type 0
   HasWordsOfRecords slot v = Each (λ (r : Record). r.slot ≡ slot → HasWordsOf slot r.entry)
       v.records
+
+-- The slots of turns.
+
+-- those of a turn that finds the hand at this number
+abbrev pub due_at : (slots hand : ℕ) → List ℕ
+due_at slots hand = map (λ i. (hand + i) % slots) (range_with_len 0 SLOTS_PER_TURN)
+
+-- those of so many turns, of which the first finds the hand there, and each other where the one
+-- before it left it
+abbrev pub due_in : (slots hand turns : ℕ) → List ℕ
+due_in slots hand zero = []
+due_in slots hand (suc turns) =
+    due_at slots hand ++ due_in slots ((hand + SLOTS_PER_TURN) % 2 ^ 64) turns

@@ -19,9 +19,10 @@ impl<T: Tag, A: Allocator> RuleTable<T, A> {
     /// the rule and has the seat's view, which names at most as many clients as the shard has.
     /// Where that view names every client and its own has nothing in hand, they tell more: the
     /// ledger words and the displacement words are only those of the entries, each entry is one of
-    /// the made lists and no two are the same, a slot without an entry has at most strays, and the
-    /// entries are as many as were made less those that were taken. Where neither the seat nor any
-    /// that it took in made a step, the words are those with which the shard began.
+    /// the made lists and no two are the same, a slot without an entry has at most strays, the
+    /// entries are as many as were made less those that were taken, and the hand is where all
+    /// turns left it. Where neither the seat nor any that it took in made a step, the words are
+    /// those with which the shard began.
     ///
     /// It refuses nothing and allocates nothing. It costs no pass over the words.
     pub fn close(self, seat: RuleSeat<T>) -> ClosedTable<A>

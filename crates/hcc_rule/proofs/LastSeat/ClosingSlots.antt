@@ -17,18 +17,18 @@ use Rattle.hcc_core.specs.declared.slot.Slot.TheVariants as slots
 use Rattle.hcc_core.specs.declared.slot.Stamp.{Stamp}
 use Rattle.hcc_core.specs.Sums.{when, total}
 use Rattle.hcc_core.specs.World.{taken_by_slot, charge_of, charged_to, occupied_by, standing_of, trail_of, times, is_shareable as slot_has_entry}
-use Rattle.hcc_core.specs.Lawful.{Lawful, owned_by, owned_slot, owner_in, stamp_in}
+use Rattle.hcc_core.specs.Lawful.{Lawful, owned_by, owner_in, stamp_in}
 use Rattle.hcc_rule.specs.declared.key.Key.{Key}
-use Rattle.hcc_rule.specs.declared.layout.TheConstants.{KEY0, KEY1, CHARGE}
+use Rattle.hcc_rule.specs.declared.layout.TheConstants.{KEY0, KEY1, CHARGE, HAND}
 use Rattle.hcc_rule.specs.declared.rule.Plan.{Plan}
 use Rattle.hcc_rule.specs.declared.view.Made.{Made}
 use Rattle.hcc_rule.specs.declared.view.Other.{Other}
 use Rattle.hcc_rule.specs.declared.view.View.{View}
 use Rattle.hcc_rule.specs.Closing.{meta_at, data_at, key_at, has_entry, over_entries, list_by, IsBack, IsSettled, IsKept}
 use Rattle.hcc_rule.specs.Probes.{trail_to}
-use Rattle.hcc_rule.specs.Rule.{resting, entry_in, IsNamed, IsStored, Holds}
+use Rattle.hcc_rule.specs.Rule.{resting, entry_in, hand_at, IsNamed, IsSpent, IsStored, Holds}
 use Rattle.hcc_rule.specs.Views.{is_seated, held, weight_on, Each}
-use Rattle.hcc_rule.specs.Words.{key_of, made_words}
+use Rattle.hcc_rule.specs.Words.{key_of, ledger_at, made_words}
 use Rattle.hcc_rule.proofs.Parts.Addresses.{data_field}
 use Rattle.hcc_rule.proofs.Parts.Clients.{total-nothing, total-only}
 use Rattle.hcc_rule.proofs.LastSeat.ClosingClients.{IsQuiet, made_of, lawful, client_count, slot_count, spent, known, book_known}
@@ -86,8 +86,7 @@ module _ {T : Type 0} (fits : T → Key → List ℕ → Type 0) (p : Plan T) (s
 
   -- a sum over the views is what this view gives, where spent ones give nothing
   of_view : (f : View T → ℕ)
-      → ((u : View T) → (u.records ≡ []) × (u.others ≡ []) × (owned_slot u.work.owned ≡ None)
-      × (u.takings ≡ 0) → f u ≡ 0)
+      → ((u : View T) → IsSpent u → f u ≡ 0)
       → total f s.views ≡ f v
   of_view f none =
       total-only f s.views id v at
@@ -371,3 +370,9 @@ module _ {T : Type 0} (fits : T → Key → List ℕ → Type 0) (p : Plan T) (s
       let paid = r.stamps.left in
       let made = all_made in
       omega arith
+
+  -- The hand.
+
+  -- it is where this view's turns left it
+  pub hand : slice_index s.words (ledger_at size room HAND) ≡ hand_at v.turns
+  hand = r.turned ∙ (r.turns ∙ ap hand_at (of_view (λ (u : View T). u.turns) (λ u none. none.4)))

@@ -18,7 +18,7 @@ use Rattle.hcc_core.proofs.SumLemmas.{total-member}
 use Rattle.hcc_rule.proofs.Parts.Clients.{total-only}
 use Rattle.hcc_rule.proofs.Basics.Lists.{read_at}
 use Rattle.hcc_rule.proofs.LastSeat.ClosingClients.{unseated}
-use Rattle.hcc_rule.proofs.LastSeat.ClosingSlots.{settled, stamp_at, kept, apart, references, clear, strays, left}
+use Rattle.hcc_rule.proofs.LastSeat.ClosingSlots.{settled, stamp_at, kept, apart, references, clear, strays, left, hand}
 use Rattle.hcc_rule.proofs.Parts.SlotSteps.{Shard}
 use Rattle.hcc_rule.proofs.Seats.Lifts.{known_at, named_all}
 
@@ -83,6 +83,7 @@ module _ {T : Type 0} (fits : T → Key → List ℕ → Type 0) (p : Plan T) wh
     clear = clear fits p s r id v at seated back;
     strays = strays fits p s r id v at seated back;
     left = left fits p s r id v at seated back;
+    hand = hand fits p s r id v at seated back;
   }
 
   -- and once all clients are back they tell more
