@@ -3,4 +3,5 @@ pub mod LedgerLimits
 pub mod SlotLimits
 pub mod Passed
 pub mod Rounds
+pub mod MadeEntries
 pub mod Beginnings

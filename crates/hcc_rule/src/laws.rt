@@ -17,7 +17,7 @@ ghost use Rattle.hcc_rule.specs.declared.layout.TheConstants.{META, USAGE, OCCUP
 ghost use Rattle.hcc_rule.specs.declared.rule.Plan.{Plan};
 ghost use Rattle.hcc_rule.specs.declared.view.View.{View};
 ghost use Rattle.hcc_rule.specs.Images.{AreRising, IsImageFor, entries_in};
-ghost use Rattle.hcc_rule.specs.Laws.{LoggedStateOf, StateOf, due_in, ledger_word, displacement_word, has_entry, references_counted, references_held, HasWordsOfRecords};
+ghost use Rattle.hcc_rule.specs.Laws.{LoggedStateOf, StateOf, due_in, ledger_word, displacement_word, has_entry, references_counted, references_held, AreMade, AreOfMade, HasWordsOfRecords};
 ghost use Rattle.hcc_rule.specs.Logs.{HasBegun, HoldsLogged, first_logged, moves_in};
 ghost use Rattle.hcc_rule.specs.Rule.{hand_after, setup_of, Holds};
 ghost use Rattle.hcc_rule.specs.Seats.{IsPlanned};
@@ -98,6 +98,17 @@ pub fn law_hand<T: Tag>()
     ensures due { (p : Plan T) → IsPlanned p.geometry p.capacity → (hand slot : ℕ)
         → slot < p.geometry.slots
         → times slot (due_in p.geometry.slots hand (p.geometry.slots / SLOTS_PER_TURN)) ≡ 1 }
+{}
+
+/// The entries, and what clients made.
+pub fn law_made<T: Tag>()
+    // In each slot with an entry stands one insertion, whoever holds it: its key, its value, its
+    // charge and its serial are a member of its maker's list. No two slots have the same.
+    ensures slots { (p : Plan T) (s : StateOf T) → Holds T.fits p s → AreMade T.fits p s }
+
+    // So is the entry of each record of each view.
+    ensures records { (p : Plan T) (s : StateOf T) → Holds T.fits p s → (number : ℕ) (v : View T)
+        → slice_get s.views number ≡ Some v → AreOfMade T.fits p s v }
 {}
 
 /// The words of a slot.

@@ -14,10 +14,9 @@ use Rattle.hcc_core.specs.declared.slot.Resident.{Resident}
 use Rattle.hcc_core.specs.declared.setup.Setup.{Setup}
 use Rattle.hcc_core.specs.declared.slot.Slot.{Slot}
 use Rattle.hcc_core.specs.declared.slot.Slot.TheVariants as slots
-use Rattle.hcc_core.specs.declared.slot.Stamp.{Stamp}
 use Rattle.hcc_core.specs.Sums.{when, total}
 use Rattle.hcc_core.specs.World.{taken_by_slot, charge_of, charged_to, occupied_by, standing_of, trail_of, times, is_shareable as slot_has_entry}
-use Rattle.hcc_core.specs.Lawful.{Lawful, owned_by, owner_in, stamp_in}
+use Rattle.hcc_core.specs.Lawful.{Lawful, owned_by, owner_in}
 use Rattle.hcc_rule.specs.declared.key.Key.{Key}
 use Rattle.hcc_rule.specs.declared.layout.TheConstants.{KEY0, KEY1, CHARGE, HAND}
 use Rattle.hcc_rule.specs.declared.rule.Plan.{Plan}
@@ -35,6 +34,7 @@ use Rattle.hcc_rule.proofs.LastSeat.ClosingClients.{IsQuiet, made_of, lawful, cl
 use Rattle.hcc_rule.proofs.LastSeat.ClosingSums.{total_range, total_both, one_at, made_by_client}
 use Rattle.hcc_rule.proofs.Parts.Codes.{few_strays, is_near, tells_entry}
 use Rattle.hcc_rule.proofs.Basics.Lists.{there, within, each_map}
+use Rattle.hcc_rule.proofs.Limits.MadeEntries.{resident_at, stamp_at, stamp_told}
 use Rattle.hcc_rule.proofs.Parts.SlotSteps.{Shard}
 
 -- an empty slot's word is its strays
@@ -104,19 +104,6 @@ module _ {T : Type 0} (fits : T → Key → List ℕ → Type 0) (p : Plan T) (s
   entry_told k slot is =
       ap is_shareable (r.coded.meta k slot is)
       ∙ tells_entry r.world world k slot is
-
-  -- the entry of a slot whose word tells that it has one
-  resident_at : (k : ℕ) → k < size → has_entry room s.words k ≡ true
-      → (e : Resident) × (slice_get r.world.slots k ≡ Some (slots.Shareable e))
-  resident_at k near has = by (slot_at k near).0 (slot_at k near).1
-    where
-      by : (slot : Slot) → slice_get r.world.slots k ≡ Some slot
-          → (e : Resident) × (slice_get r.world.slots k ≡ Some (slots.Shareable e))
-      by (slots.Empty strays) is = let bad : true ≡ false =
-          sym has ∙ entry_told k (slots.Empty strays) is in cc
-      by (slots.Building client strays) is = let bad : true ≡ false =
-          sym has ∙ entry_told k (slots.Building client strays) is in cc
-      by (slots.Shareable e) is = (e, is)
 
   -- a sum over the slots is one over the entries
   over_slots : (f : Slot → ℕ) (g : ℕ → ℕ)
@@ -220,49 +207,26 @@ module _ {T : Type 0} (fits : T → Key → List ℕ → Type 0) (p : Plan T) (s
 
   -- The entries.
 
-  -- the stamp of a slot's entry
-  abbrev pub stamp_at : ℕ → Stamp
-  stamp_at k = unwrap_or (stamp_in (slice_get r.world.slots k)) record { client = 0; number = 0 }
-
-  stamp_told : (k : ℕ) (e : Resident) → slice_get r.world.slots k ≡ Some (slots.Shareable e)
-      → stamp_at k ≡ e.entry.stamp
-  stamp_told k e is = ap (λ o. unwrap_or (stamp_in o) record { client = 0; number = 0 }) is
-
   -- the entry is a member of the list that its stamp names
   pub kept : (k : ℕ) → k < size → has_entry room s.words k ≡ true
-      → IsKept fits p.tag room s.words v k (stamp_at k)
-  kept k near has = by (resident_at k near has).0 (resident_at k near has).1
+      → IsKept fits p.tag room s.words v k (stamp_at fits p s r k)
+  kept k near has = let e = resident_at fits p s r k near has in by e.0 e.1
     where
       by : (e : Resident) → slice_get r.world.slots k ≡ Some (slots.Shareable e)
-          → IsKept fits p.tag room s.words v k (stamp_at k)
+          → IsKept fits p.tag room s.words v k (stamp_at fits p s r k)
       by e is =
           let own = stored k e is in
-          rw (stamp_told k e is) record {
+          rw (stamp_told fits p s r k e is) record {
             made = own.made;
             listed = listed k e is;
             says = λ i near. ap (slice_index s.words) (sym (data_field room k i)) ∙ own.lies i near;
             right = r.stamps.right e.entry.stamp own.made own.listed;
           }
 
-  -- its stamp is the world's
-  stamped : (k : ℕ) → k < size → has_entry room s.words k ≡ true
-      → stamp_in (slice_get r.world.slots k) ≡ Some (stamp_at k)
-  stamped k near has =
-      let e = resident_at k near has in
-      ap stamp_in e.1 ∙ ap Some (sym (stamp_told k e.0 e.1))
-
-  -- which has each stamp once
-  pub apart : (k t : ℕ) → k < size → t < size
-      → has_entry room s.words k ≡ true → has_entry room s.words t ≡ true
-      → stamp_at k ≡ stamp_at t → k ≡ t
-  apart k t near_k near_t has_k has_t same =
-      world.stamped.apart k t (stamp_at k) (stamped k near_k has_k)
-      (stamped t near_t has_t ∙ ap Some (sym same))
-
   -- its references are the view's records
   pub references : (k : ℕ) → k < size → has_entry room s.words k ≡ true
       → refs_of (meta_at room s.words k) ≡ weight_on k v.records
-  references k near has = by (resident_at k near has).0 (resident_at k near has).1
+  references k near has = let e = resident_at fits p s r k near has in by e.0 e.1
     where
       weighs : Reference → ℕ
       weighs x = x.weight

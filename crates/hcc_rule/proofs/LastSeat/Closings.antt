@@ -18,7 +18,8 @@ use Rattle.hcc_core.proofs.SumLemmas.{total-member}
 use Rattle.hcc_rule.proofs.Parts.Clients.{total-only}
 use Rattle.hcc_rule.proofs.Basics.Lists.{read_at}
 use Rattle.hcc_rule.proofs.LastSeat.ClosingClients.{unseated}
-use Rattle.hcc_rule.proofs.LastSeat.ClosingSlots.{settled, stamp_at, kept, apart, references, clear, strays, left, hand}
+use Rattle.hcc_rule.proofs.LastSeat.ClosingSlots.{settled, kept, references, clear, strays, left, hand}
+use Rattle.hcc_rule.proofs.Limits.MadeEntries.{stamp_at, apart}
 use Rattle.hcc_rule.proofs.Parts.SlotSteps.{Shard}
 use Rattle.hcc_rule.proofs.Seats.Lifts.{known_at, named_all}
 
@@ -76,9 +77,9 @@ module _ {T : Type 0} (fits : T → Key → List ℕ → Type 0) (p : Plan T) wh
       → IsBack p.geometry.clients v → Closes fits p.tag p.geometry s.words v
   closes_state s r id v at seated back = record {
     settled = settled fits p s r id v at seated back;
-    stamp_at = stamp_at fits p s r id v at seated back;
+    stamp_at = stamp_at fits p s r;
     kept = kept fits p s r id v at seated back;
-    apart = apart fits p s r id v at seated back;
+    apart = apart fits p s r;
     held = references fits p s r id v at seated back;
     clear = clear fits p s r id v at seated back;
     strays = strays fits p s r id v at seated back;
