@@ -140,14 +140,15 @@ pub record Seats {T : Type 0} (tag : T) (clients : List Client) (books : Books)
 
 -- Stamps.
 
--- what a client may show: a value of bytes that fits the key and the slot, a charge below 2^32, and
--- a serial of its own range
+-- what a client may show: a value of bytes that fits the key and the slot, a charge above 0 and
+-- below 2^32, and a serial of its own range
 pub record IsRight {T : Type 0} (fits : T → Key → List ℕ → Type 0) (tag : T) (room : ℕ)
     (made : Made) : Type 0 where
   pub fitting : fits tag made.key made.value
   pub short : length made.value ≤ 8 * room
   pub bytes : Each (λ b. b < 256) made.value
   pub numbered : made.serial < STAMPS_PER_CLIENT
+  pub paid : 0 < made.charge
   pub small : made.charge < 2 ^ 32
 
 -- each client's count of stamps is the length of its list, and the entries are as many as were

@@ -1,12 +1,12 @@
 -- Once all clients are back, the words tell the slots of the last world, and the entries there are
 -- what the clients made.
-use Rattle.std.proofs.Common.{◌≡◌, ℕ, ◌+◌, ◌*◌, ◌<◌, ◌≤◌, ◌==◌, true, false, List, [], Option, Some, None, length, slice_get, slice_index, sym, refl, ap, ◌∙◌, arith}
+use Rattle.std.proofs.Common.{◌≡◌, ℕ, ◌+◌, ◌*◌, ◌/◌, ◌<◌, ◌≤◌, ◌==◌, true, false, List, [], Option, Some, None, length, slice_get, slice_index, sym, refl, ap, ◌∙◌, arith}
 use Rattle.std.specs.Option.{unwrap_or}
 use Rattle.std.specs.List.{range_with_len}
 use Rattle.hcc_word.specs.Code.{code_of_empty}
-use Rattle.hcc_word.specs.Word.{is_empty, is_shareable, refs_of}
-use Rattle.hcc_word.proofs.CodeLaws.{is_empty-empty, refs_of-shareable}
-use Rattle.hcc_core.specs.declared.limits.TheConstants.{MOST_WEIGHT}
+use Rattle.hcc_word.specs.Word.{is_empty, is_shareable, refs_of, releases_of}
+use Rattle.hcc_word.proofs.CodeLaws.{is_empty-empty, refs_of-shareable, releases_of-shareable}
+use Rattle.hcc_core.specs.declared.limits.TheConstants.{MOST_USES, MOST_WEIGHT, OCCUPANCY_PERCENT}
 use Rattle.hcc_core.specs.declared.client.Client.{Client}
 use Rattle.hcc_core.specs.declared.slot.Entry.{Entry}
 use Rattle.hcc_core.specs.declared.slot.Reference.{Reference}
@@ -23,7 +23,7 @@ use Rattle.hcc_rule.specs.declared.rule.Plan.{Plan}
 use Rattle.hcc_rule.specs.declared.view.Made.{Made}
 use Rattle.hcc_rule.specs.declared.view.Other.{Other}
 use Rattle.hcc_rule.specs.declared.view.View.{View}
-use Rattle.hcc_rule.specs.Closing.{meta_at, data_at, key_at, has_entry, over_entries, list_by, IsBack, IsSettled, IsKept}
+use Rattle.hcc_rule.specs.Closing.{meta_at, data_at, key_at, has_entry, over_entries, list_by, IsBack, IsSettled, IsKept, IsWithin}
 use Rattle.hcc_rule.specs.Probes.{trail_to}
 use Rattle.hcc_rule.specs.Rule.{resting, entry_in, hand_at, IsNamed, IsSpent, IsStored, Holds}
 use Rattle.hcc_rule.specs.Views.{is_seated, held, weight_on, Each}
@@ -34,6 +34,7 @@ use Rattle.hcc_rule.proofs.LastSeat.ClosingClients.{IsQuiet, made_of, lawful, cl
 use Rattle.hcc_rule.proofs.LastSeat.ClosingSums.{total_range, total_both, one_at, made_by_client}
 use Rattle.hcc_rule.proofs.Parts.Codes.{few_strays, is_near, tells_entry}
 use Rattle.hcc_rule.proofs.Basics.Lists.{there, within, each_map}
+use Rattle.hcc_rule.proofs.Limits.LedgerLimits.{places_limit, real_limit}
 use Rattle.hcc_rule.proofs.Limits.MadeEntries.{resident_at, stamp_at, stamp_told}
 use Rattle.hcc_rule.proofs.Parts.SlotSteps.{Shard}
 
@@ -238,6 +239,35 @@ module _ {T : Type 0} (fits : T → Key → List ℕ → Type 0) (p : Plan T) (s
           ∙ (refs_of-shareable e.hit e.shown (is_near r.world world k e is)
           ∙ (r.references k (slots.Shareable e) is weighs
           ∙ of_view (held k weighs) (λ u none. rw none.0 refl)))
+
+  -- its uses are few
+  pub uses : (k : ℕ) → k < size → has_entry room s.words k ≡ true
+      → releases_of (meta_at room s.words k) ≤ MOST_USES
+  uses k near has = let e = resident_at fits p s r k near has in by e.0 e.1
+    where
+      by : (e : Resident) → slice_get r.world.slots k ≡ Some (slots.Shareable e)
+          → releases_of (meta_at room s.words k) ≤ MOST_USES
+      by e is =
+          let word = ap releases_of (r.coded.meta k (slots.Shareable e) is)
+          ∙ releases_of-shareable e.hit e.shown (is_near r.world world k e is) in
+          let few = (world.bounded k (slots.Shareable e) is).uses in
+          omega arith
+
+  -- The limits.
+
+  -- the entries are within the limit of places
+  pub places : over_entries room s.words size (λ k. 1) ≤ size * OCCUPANCY_PERCENT / 100
+  places =
+      let sum = over_slots taken_by_slot (λ k. 1) one_each in
+      let most = places_limit fits p s r in
+      omega arith
+
+  -- and under strict their charges within the capacity
+  pub within_capacity : IsWithin p.geometry p.capacity p.strict s.words
+  within_capacity strict =
+      let sum = over_slots charge_of (λ k. data_at room s.words k CHARGE) charges_are in
+      let most = real_limit fits p s r strict in
+      omega arith
 
   -- The other slots.
 
