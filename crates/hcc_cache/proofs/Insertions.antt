@@ -193,6 +193,7 @@ module _ {T : Type 0} where
             short = rw room short;
             bytes = each_read (λ b. b < 256) value bytes;
             numbered = rw serial (next.low);
+            paid = paid.0;
             small = paid.1;
           };
           paid = paid.0;

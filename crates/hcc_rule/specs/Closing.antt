@@ -1,24 +1,24 @@
 -- What the words of a shard tell once it is closed.
-use Rattle.std.specs.Prelude.{◌≡◌, ℕ, ◌+◌, ◌*◌, ◌<◌, ◌≤◌, Bool, true, false, ◌==◌, List, [], Option, Some, None, find, length, slice_get, slice_index, if◌then◌else◌}
+use Rattle.std.specs.Prelude.{◌≡◌, ℕ, ◌+◌, ◌*◌, ◌/◌, ◌<◌, ◌≤◌, Bool, true, false, ◌==◌, List, [], Option, Some, None, find, length, slice_get, slice_index, if◌then◌else◌}
 use Rattle.std.specs.List.{range_with_len}
 use Rattle.std.specs.Slots.{slots_items}
 use Rattle.atomic_table.specs.Table as table
-use Rattle.hcc_word.specs.Word.{is_empty, is_shareable, refs_of}
-use Rattle.hcc_core.specs.declared.limits.TheConstants.{MOST_WEIGHT}
+use Rattle.hcc_word.specs.Word.{is_empty, is_shareable, refs_of, releases_of}
+use Rattle.hcc_core.specs.declared.limits.TheConstants.{MOST_USES, MOST_WEIGHT, OCCUPANCY_PERCENT}
 use Rattle.hcc_core.specs.declared.slot.Stamp.{Stamp}
 use Rattle.hcc_core.specs.Sums.{when, total}
 use Rattle.hcc_core.specs.World.{times}
 use Rattle.hcc_rule.specs.declared.closed.ClosedTable.{ClosedTable}
 use Rattle.hcc_rule.specs.declared.geometry.Geometry.{Geometry}
 use Rattle.hcc_rule.specs.declared.key.Key.{Key}
-use Rattle.hcc_rule.specs.declared.layout.TheConstants.{META, DISPLACEMENT, DATA, KEY0, KEY1, CHARGE, USAGE, OCCUPANCY, STANDING}
+use Rattle.hcc_rule.specs.declared.layout.TheConstants.{META, DISPLACEMENT, DATA, KEY0, KEY1, CHARGE, USAGE, OCCUPANCY, STANDING, HAND}
 use Rattle.hcc_rule.specs.declared.rule.Plan.{Plan}
 use Rattle.hcc_rule.specs.declared.view.Made.{Made}
 use Rattle.hcc_rule.specs.declared.view.Other.{Other}
 use Rattle.hcc_rule.specs.declared.view.View.{View}
 use Rattle.hcc_rule.specs.Opening.{IsIdle}
 use Rattle.hcc_rule.specs.Probes.{trail_to}
-use Rattle.hcc_rule.specs.Rule.{Holds, IsRight}
+use Rattle.hcc_rule.specs.Rule.{hand_at, Holds, IsRight}
 use Rattle.hcc_rule.specs.Views.{named_by, weight_on}
 use Rattle.hcc_rule.specs.Words.{field_at, ledger_at, made_words}
 
@@ -111,6 +111,9 @@ pub record Closes {T : Type 0} (fits : T → Key → List ℕ → Type 0) (tag :
   -- the references on an entry are the view's records
   pub held : (s : ℕ) → s < geometry.slots → has_entry geometry.room words s ≡ true
       → refs_of (meta_at geometry.room words s) ≡ weight_on s v.records
+  -- no entry has more uses than one may begin with
+  pub uses : (s : ℕ) → s < geometry.slots → has_entry geometry.room words s ≡ true
+      → releases_of (meta_at geometry.room words s) ≤ MOST_USES
   -- a slot without an entry is empty, but for a few strays
   pub clear : (s : ℕ) → s < geometry.slots → has_entry geometry.room words s ≡ false
       → is_empty (meta_at geometry.room words s) ≡ true
@@ -119,3 +122,15 @@ pub record Closes {T : Type 0} (fits : T → Key → List ℕ → Type 0) (tag :
   -- the entries are as many as were made less those that were taken
   pub left : over_entries geometry.room words geometry.slots (λ s. 1) + v.takings
       ≡ length v.made + total (λ (o : Other). length o.made) v.others
+  -- they are within the limit
+  pub places : over_entries geometry.room words geometry.slots (λ s. 1)
+      ≤ geometry.slots * OCCUPANCY_PERCENT / 100
+  -- the hand is where the turns of all clients left it
+  pub hand : slice_index words (ledger_at geometry.slots geometry.room HAND) ≡ hand_at v.turns
+
+-- Under strict capacity the charges of all entries are within it.
+abbrev pub IsWithin : Geometry → (capacity : ℕ) → (strict : Bool) → (words : List ℕ) → Type 0
+IsWithin geometry capacity strict words =
+    strict ≡ true
+    → over_entries geometry.room words geometry.slots (λ s. data_at geometry.room words s CHARGE)
+    ≤ capacity

@@ -48,9 +48,10 @@ abbrev pub AreRising : (low size : ℕ) → List ImageEntry → Type 0
 AreRising low size [] = Unit {0}
 AreRising low size (e ∷ es) = (low ≤ e.slot) × (e.slot < size) × AreRising (e.slot + 1) size es
 
--- a value that fits its slot, and not too many uses
+-- a value that fits its slot, a charge that isn't 0, and not too many uses
 pub record IsSized (room : ℕ) (e : ImageEntry) : Type 0 where
   pub short : length e.value.items ≤ 8 * room
+  pub paid : 0 < e.charge
   pub small : e.charge < 2 ^ 32
   pub few : e.uses ≤ MOST_USES
 

@@ -1,17 +1,22 @@
 -- The words of a state, by their names, for what holds of every state that keeps the rule.
-use Rattle.std.specs.Prelude.{◌≡◌, ℕ, ◌+◌, Bool, slice_index}
+use Rattle.std.specs.Prelude.{◌≡◌, ℕ, zero, suc, ◌+◌, ◌%◌, ◌^◌, ◌<◌, Bool, true, List, [], ◌++◌, Some, map, slice_get, slice_index}
+use Rattle.std.specs.List.{range_with_len}
 use Rattle.atomic_table.specs.Table as table
 use Rattle.hcc_word.specs.Word.{is_shareable, refs_of}
+use Rattle.hcc_core.specs.declared.limits.TheConstants.{SLOTS_PER_TURN}
 use Rattle.hcc_core.specs.declared.slot.Entry.{Entry}
+use Rattle.hcc_core.specs.declared.slot.Stamp.{Stamp}
 use Rattle.hcc_core.specs.Sums.{total}
+use Rattle.hcc_rule.specs.declared.key.Key.{Key}
 use Rattle.hcc_rule.specs.declared.layout.TheConstants.{META, DISPLACEMENT, DATA}
 use Rattle.hcc_rule.specs.declared.rule.Plan.{Plan}
 use Rattle.hcc_rule.specs.declared.view.Logged.{Logged}
 use Rattle.hcc_rule.specs.declared.view.Record.{Record}
 use Rattle.hcc_rule.specs.declared.view.View.{View}
+use Rattle.hcc_rule.specs.Closing.{IsKept}
 use Rattle.hcc_rule.specs.ToldOwners.{IsDataWord}
-use Rattle.hcc_rule.specs.Views.{weight_on, Each}
-use Rattle.hcc_rule.specs.Words.{field_at, ledger_at}
+use Rattle.hcc_rule.specs.Views.{names, weight_on, Each}
+use Rattle.hcc_rule.specs.Words.{entry_of, field_at, ledger_at}
 
 -- the words of a shard and the views of all seats, without their logs
 abbrev pub StateOf : Type 0 → Type 0
@@ -53,3 +58,44 @@ module _ {T : Type 0} (p : Plan T) (s : StateOf T) where
   abbrev pub HasWordsOfRecords : (slot : ℕ) → View T → Type 0
   HasWordsOfRecords slot v = Each (λ (r : Record). r.slot ≡ slot → HasWordsOf slot r.entry)
       v.records
+
+module _ {T : Type 0} (fits : T → Key → List ℕ → Type 0) (p : Plan T) (s : StateOf T) where
+  -- In this slot stands what its maker made under this stamp: a view of the state names that
+  -- client, and its list has a member of the stamp's number, whose data words are the slot's, the
+  -- serial among them.
+  pub record IsMade (slot : ℕ) (stamp : Stamp) : Type 0 where
+    pub number : ℕ
+    pub maker : View T
+    pub seen : slice_get s.views number ≡ Some maker
+    pub named : names stamp.client maker ≡ 1
+    pub kept : IsKept fits p.tag p.geometry.room s.words maker slot stamp
+
+  -- in each slot with an entry stands what was made, and no two have the same
+  pub record AreMade : Type 0 where
+    pub stamp_at : ℕ → Stamp
+    pub made : (slot : ℕ) → slot < p.geometry.slots → has_entry p s slot ≡ true
+        → IsMade slot (stamp_at slot)
+    pub apart : (i j : ℕ) → i < p.geometry.slots → j < p.geometry.slots
+        → has_entry p s i ≡ true → has_entry p s j ≡ true
+        → stamp_at i ≡ stamp_at j → i ≡ j
+
+  -- the entry of a record is what was made that stands in its slot
+  pub record IsOfMade (r : Record) : Type 0 where
+    pub made : IsMade r.slot r.entry.stamp
+    pub same : r.entry ≡ entry_of r.entry.stamp made.kept.made
+
+  abbrev pub AreOfMade : View T → Type 0
+  AreOfMade v = Each IsOfMade v.records
+
+-- The slots of turns.
+
+-- those of a turn that finds the hand at this number
+abbrev pub due_at : (slots hand : ℕ) → List ℕ
+due_at slots hand = map (λ i. (hand + i) % slots) (range_with_len 0 SLOTS_PER_TURN)
+
+-- those of so many turns, of which the first finds the hand there, and each other where the one
+-- before it left it
+abbrev pub due_in : (slots hand turns : ℕ) → List ℕ
+due_in slots hand zero = []
+due_in slots hand (suc turns) =
+    due_at slots hand ++ due_in slots ((hand + SLOTS_PER_TURN) % 2 ^ 64) turns

@@ -114,6 +114,12 @@ pub record IsNamed (clients : List Client) (books : Books) (o : Other) : Type 0 
   pub there : slice_get clients o.client ≡ Some (resting o.made o.dead)
   pub book : slice_get books o.client ≡ Some o.made
 
+-- a view that holds nothing, names no other client and counts nothing as its own
+abbrev pub IsSpent : {T : Type 0} → View T → Type 0
+IsSpent v =
+    (v.records ≡ []) × (v.others ≡ []) × (owned_slot v.work.owned ≡ None) × (v.takings ≡ 0)
+    × (v.turns ≡ 0)
+
 -- A view that stands for a client has the table's tag, and that client's work in hand and list are
 -- its own. One that stands for none names none and holds nothing.
 pub record IsSeated {T : Type 0} (tag : T) (clients : List Client) (books : Books)
@@ -123,8 +129,7 @@ pub record IsSeated {T : Type 0} (tag : T) (clients : List Client) (books : Book
   pub live : is_seated v ≡ true → v.work.live ≡ true
   pub book : is_seated v ≡ true → slice_get books v.client ≡ Some v.made
   pub others : Each (IsNamed clients books) v.others
-  pub spent : v.tag ≡ None → (v.records ≡ []) × (v.others ≡ []) × (owned_slot v.work.owned ≡ None)
-      × (v.takings ≡ 0)
+  pub spent : v.tag ≡ None → IsSpent v
 
 -- each client is named by just one view
 pub record Seats {T : Type 0} (tag : T) (clients : List Client) (books : Books)
@@ -135,14 +140,15 @@ pub record Seats {T : Type 0} (tag : T) (clients : List Client) (books : Books)
 
 -- Stamps.
 
--- what a client may show: a value of bytes that fits the key and the slot, a charge below 2^32, and
--- a serial of its own range
+-- what a client may show: a value of bytes that fits the key and the slot, a charge above 0 and
+-- below 2^32, and a serial of its own range
 pub record IsRight {T : Type 0} (fits : T → Key → List ℕ → Type 0) (tag : T) (room : ℕ)
     (made : Made) : Type 0 where
   pub fitting : fits tag made.key made.value
   pub short : length made.value ≤ 8 * room
   pub bytes : Each (λ b. b < 256) made.value
   pub numbered : made.serial < STAMPS_PER_CLIENT
+  pub paid : 0 < made.charge
   pub small : made.charge < 2 ^ 32
 
 -- each client's count of stamps is the length of its list, and the entries are as many as were
@@ -174,9 +180,13 @@ pub record Ledgers (slots room : ℕ) (w : State) (words : List ℕ) : Type 0 wh
 
 -- The hand.
 
--- where the hand is once it moved by a turn's slots for each turn that these views count
+-- where the hand is once it moved by a turn's slots so many times
+abbrev pub hand_at : (turns : ℕ) → ℕ
+hand_at turns = (SLOTS_PER_TURN * turns) % 2 ^ 64
+
+-- and once it did for each turn that these views count
 abbrev pub hand_after : {T : Type 0} → List (View T) → ℕ
-hand_after {T} views = (SLOTS_PER_TURN * total (λ (v : View T). v.turns) views) % 2 ^ 64
+hand_after {T} views = hand_at (total (λ (v : View T). v.turns) views)
 
 -- Trails.
 

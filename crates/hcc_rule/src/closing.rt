@@ -1,7 +1,7 @@
 //! Closing a shard, and loads of the words that are left.
 ghost use Rattle.std.specs.Prelude.{◌≡◌, ◌+◌, ◌<◌, ◌≤◌, slice_index};
 ghost use Rattle.hcc_rule.specs.declared.layout.TheConstants.{SLOT_HEAD, LEDGER_WORDS, DISPLACEMENT, PAYLOAD, USAGE, OCCUPANCY, STANDING, HAND};
-ghost use Rattle.hcc_rule.specs.Closing.{words_of, meta_at, data_at, Shown, IsBack, Closes};
+ghost use Rattle.hcc_rule.specs.Closing.{words_of, meta_at, data_at, Shown, IsBack, IsWithin, Closes};
 ghost use Rattle.hcc_rule.specs.Callers.{plan_of, IsSeatAt};
 ghost use Rattle.hcc_rule.specs.Images.{BeginsWith, entries_in};
 ghost use Rattle.hcc_rule.specs.Seats.{moves, view};
@@ -19,9 +19,11 @@ impl<T: Tag, A: Allocator> RuleTable<T, A> {
     /// the rule and has the seat's view, which names at most as many clients as the shard has.
     /// Where that view names every client and its own has nothing in hand, they tell more: the
     /// ledger words and the displacement words are only those of the entries, each entry is one of
-    /// the made lists and no two are the same, a slot without an entry has at most strays, and the
-    /// entries are as many as were made less those that were taken. Where neither the seat nor any
-    /// that it took in made a step, the words are those with which the shard began.
+    /// the made lists and no two are the same, a slot without an entry has at most strays, the
+    /// entries are as many as were made less those that were taken, and the hand is where all turns
+    /// left it. Uses and places are within the limits of an image, and under strict capacity so are
+    /// the charges. Where neither the seat nor any that it took in made a step, the words are those
+    /// with which the shard began.
     ///
     /// It refuses nothing and allocates nothing. It costs no pass over the words.
     pub fn close(self, seat: RuleSeat<T>) -> ClosedTable<A>
@@ -31,6 +33,8 @@ impl<T: Tag, A: Allocator> RuleTable<T, A> {
         ensures few { named_by (view seat) ≤ self.geometry.clients }
         ensures closes { IsBack self.geometry.clients (view seat)
             → Closes T.fits (plan_of self).tag self.geometry (words_of result) (view seat) }
+        ensures within { IsBack self.geometry.clients (view seat)
+            → IsWithin self.geometry self.capacity self.strict (words_of result) }
         ensures begins { IsBack self.geometry.clients (view seat) → moves seat ≡ 0
             → BeginsWith self.geometry.slots self.geometry.room
             (entries_in (plan_of self).image) (words_of result) }

@@ -8,6 +8,7 @@ pub struct ImageEntry {
     pub key: Key,
     /// At most eight times as many bytes as the shard has payload words for each slot.
     pub value: Vec<u8>,
+    /// Above 0.
     pub charge: u32,
     /// At most [`MOST_USES`](hcc_core::limits::MOST_USES).
     pub uses: u32,

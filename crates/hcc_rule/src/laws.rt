@@ -3,22 +3,23 @@
 //! No function here does anything when it runs: its contract is the law. `h.world` is the lawful
 //! world that the words and the views of a state show. A state is meant without the seats' logs
 //! (`unlogged`), except what its words are before the first step (`HoldsLogged`).
-ghost use Rattle.std.specs.Prelude.{◌≡◌, ◌≢◌, ℕ, ◌+◌, ◌^◌, ◌<◌, ◌≤◌, true, false, List, [], Some, slice_get, slice_index};
+ghost use Rattle.std.specs.Prelude.{◌≡◌, ◌≢◌, ℕ, ◌+◌, ◌/◌, ◌^◌, ◌<◌, ◌≤◌, true, false, List, [], Some, slice_get, slice_index};
 ghost use Rattle.atomic_table.specs.Table.{opening};
 ghost use Rattle.hcc_word.specs.declared.layout.TheConstants.{VISIBLE};
 ghost use Rattle.hcc_word.specs.Word.{word_of};
 ghost use Rattle.hcc_core.specs.declared.client.Client.{Client};
+ghost use Rattle.hcc_core.specs.declared.limits.TheConstants.{SLOTS_PER_TURN};
 ghost use Rattle.hcc_core.specs.Lawful.{real_in, taken_in};
 ghost use Rattle.hcc_core.specs.Sums.{total};
-ghost use Rattle.hcc_core.specs.World.{limit_of, occupancy_of, passed_by, standing_in};
+ghost use Rattle.hcc_core.specs.World.{limit_of, occupancy_of, passed_by, standing_in, times};
 ghost use Rattle.hcc_rule.specs.declared.image.ImageEntry.{ImageEntry};
-ghost use Rattle.hcc_rule.specs.declared.layout.TheConstants.{META, USAGE, OCCUPANCY, STANDING};
+ghost use Rattle.hcc_rule.specs.declared.layout.TheConstants.{META, USAGE, OCCUPANCY, STANDING, HAND};
 ghost use Rattle.hcc_rule.specs.declared.rule.Plan.{Plan};
 ghost use Rattle.hcc_rule.specs.declared.view.View.{View};
 ghost use Rattle.hcc_rule.specs.Images.{AreRising, IsImageFor, entries_in};
-ghost use Rattle.hcc_rule.specs.Laws.{LoggedStateOf, StateOf, ledger_word, displacement_word, has_entry, references_counted, references_held, HasWordsOfRecords};
+ghost use Rattle.hcc_rule.specs.Laws.{LoggedStateOf, StateOf, due_in, ledger_word, displacement_word, has_entry, references_counted, references_held, AreMade, AreOfMade, HasWordsOfRecords};
 ghost use Rattle.hcc_rule.specs.Logs.{HasBegun, HoldsLogged, first_logged, moves_in};
-ghost use Rattle.hcc_rule.specs.Rule.{setup_of, Holds};
+ghost use Rattle.hcc_rule.specs.Rule.{hand_after, setup_of, Holds};
 ghost use Rattle.hcc_rule.specs.Seats.{IsPlanned};
 ghost use Rattle.hcc_rule.specs.Words.{field_at};
 
@@ -83,6 +84,31 @@ pub fn law_ledgers<T: Tag>()
     ensures standing { (p : Plan T) (s : StateOf T) (h : Holds T.fits p s)
         → (ledger_word p s STANDING ≡ standing_in h.world)
         × (ledger_word p s STANDING ≤ ledger_word p s USAGE) }
+{}
+
+/// The hand, and the slots that are due to be visited.
+pub fn law_hand<T: Tag>()
+    // The hand word is the slots of a turn for each turn that all views count, modulo 2^64.
+    ensures hand { (p : Plan T) (s : StateOf T) → Holds T.fits p s
+        → ledger_word p s HAND ≡ hand_after s.views }
+
+    // Turns that follow in the hand's order, as many as there are fours of slots, have each slot
+    // once, from wherever the hand is. Visits are due then, not made: a client that is stalled
+    // makes its own late.
+    ensures due { (p : Plan T) → IsPlanned p.geometry p.capacity → (hand slot : ℕ)
+        → slot < p.geometry.slots
+        → times slot (due_in p.geometry.slots hand (p.geometry.slots / SLOTS_PER_TURN)) ≡ 1 }
+{}
+
+/// The entries, and what clients made.
+pub fn law_made<T: Tag>()
+    // In each slot with an entry stands one insertion, whoever holds it: its key, its value, its
+    // charge and its serial are a member of its maker's list. No two slots have the same.
+    ensures slots { (p : Plan T) (s : StateOf T) → Holds T.fits p s → AreMade T.fits p s }
+
+    // So is the entry of each record of each view.
+    ensures records { (p : Plan T) (s : StateOf T) → Holds T.fits p s → (number : ℕ) (v : View T)
+        → slice_get s.views number ≡ Some v → AreOfMade T.fits p s v }
 {}
 
 /// The words of a slot.

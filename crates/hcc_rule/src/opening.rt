@@ -60,9 +60,9 @@ impl<T: Tag, A: Allocator> RuleTable<T, A> {
     /// in a new shard. Until a seat makes a step the words are only those of the entries.
     ///
     /// The sizes and the capacity keep their limits. Each slot of an entry is above that of the one
-    /// before it, each value is right for its key and fits its slot, and no entry has more uses
-    /// than [`MOST_USES`](hcc_core::limits::MOST_USES). There are no more entries than 84 of a
-    /// hundred slots, and under strict their charges in sum are within the capacity.
+    /// before it, each value is right for its key and fits its slot, no charge is 0, and no entry
+    /// has more uses than [`MOST_USES`](hcc_core::limits::MOST_USES). There are no more entries
+    /// than 84 of a hundred slots, and under strict their charges in sum are within the capacity.
     ///
     /// It allocates memory for the words, twice for a time, and for the seats. It costs two stores
     /// for each word; for each entry a store for each of its words, an add for each slot of its

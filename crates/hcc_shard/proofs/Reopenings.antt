@@ -1,7 +1,7 @@
 -- Entries for which a shard isn't refused.
-use Rattle.std.proofs.Common.{◌≡◌, ℕ, ◌+◌, ◌*◌, ◌/◌, ◌&&◌, ◌||◌, Bool, true, false, not, nat_le, nat_lt, if◌then◌else◌, List, [], ◌∷◌, Option, Some, None, length, refl}
+use Rattle.std.proofs.Common.{◌≡◌, ◌≢◌, ℕ, ◌+◌, ◌*◌, ◌/◌, ◌&&◌, ◌||◌, Bool, true, false, not, nat_le, nat_lt, if◌then◌else◌, List, [], ◌∷◌, Option, Some, None, length, refl, arith}
 use Rattle.std.specs.List.{list_any}
-use Rattle.std.proofs.lemmas.Bool.{leb-true, ltb-true, ltb-false}
+use Rattle.std.proofs.lemmas.Bool.{eqb-false, leb-true, ltb-true, ltb-false}
 use Rattle.hcc_core.specs.declared.limits.TheConstants.{OCCUPANCY_PERCENT}
 use Rattle.hcc_rule.specs.declared.geometry.Geometry.{Geometry}
 use Rattle.hcc_rule.specs.declared.image.ImageEntry.{ImageEntry}
@@ -44,22 +44,24 @@ rises low size (e ∷ es) h =
 module _ {T : Type 0} (fits : T → Key → List ℕ → Type 0) (tag : T) where
   -- each entry is right where no value is too long and no entry too worn
   each_sized : (room : ℕ) (es : List ImageEntry) → list_any (is_long room) es ≡ false
-      → list_any is_worn es ≡ false → Each HasTypes es → AreFitting fits tag es
-      → Each (IsImageEntry fits tag room) es
-  each_sized room [] short few types fitting = tt
-  each_sized room (e ∷ es) short few types fitting =
+      → list_any is_worn es ≡ false → list_any is_free es ≡ false → Each HasTypes es
+      → AreFitting fits tag es → Each (IsImageEntry fits tag room) es
+  each_sized room [] short few paid types fitting = tt
+  each_sized room (e ∷ es) short few paid types fitting =
       let long = neither (is_long room e) (list_any (is_long room) es) short in
-      let worn = neither (is_worn e) (list_any is_worn es) few in (
+      let worn = neither (is_worn e) (list_any is_worn es) few in
+      let free = neither (is_free e) (list_any is_free es) paid in (
         record {
           sized = record {
             short = ltb-false _ _ long.0;
+            paid = let some : e.charge ≢ 0 = eqb-false e.charge 0 free.0 in omega arith;
             small = types.0.small;
             few = ltb-false _ _ worn.0;
           };
           fitting = fitting.0;
           bytes = types.0.bytes;
         },
-        each_sized room es long.1 worn.1 types.1 fitting.1,
+        each_sized room es long.1 worn.1 free.1 types.1 fitting.1,
       )
 
   -- They are an image of the shard.
@@ -75,7 +77,7 @@ module _ {T : Type 0} (fits : T → Key → List ℕ → Type 0) (tag : T) where
       (nat_lt (geometry.slots * OCCUPANCY_PERCENT / 100) (length es)) _ _ charges.1 in
       let large = not_due (strict && nat_lt capacity (charges_of es)) _ _ many.1 in record {
         rising = rises 0 geometry.slots es (not_false _ slots.0);
-        each = each_sized geometry.room es lengths.0 uses.0 types fitting;
+        each = each_sized geometry.room es lengths.0 uses.0 charges.0 types fitting;
         few = ltb-false _ _ many.0;
         within = λ is. ltb-false capacity (charges_of es)
             (let same : (true && nat_lt capacity (charges_of es)) ≡ false = rw is at large.0 in

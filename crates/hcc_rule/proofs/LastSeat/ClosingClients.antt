@@ -13,7 +13,7 @@ use Rattle.hcc_rule.specs.declared.rule.Plan.{Plan}
 use Rattle.hcc_rule.specs.declared.view.Other.{Other}
 use Rattle.hcc_rule.specs.declared.view.View.{View}
 use Rattle.hcc_rule.specs.Closing.{IsBack, list_by}
-use Rattle.hcc_rule.specs.Rule.{resting, IsNamed, Holds}
+use Rattle.hcc_rule.specs.Rule.{resting, IsNamed, IsSpent, Holds}
 use Rattle.hcc_rule.specs.Views.{is_seated, names, named_by}
 use Rattle.hcc_rule.proofs.Parts.Clients.{total-only}
 use Rattle.hcc_rule.proofs.LastSeat.ClosingSums.{else_nothing}
@@ -66,7 +66,7 @@ module _ {T : Type 0} (fits : T → Key → List ℕ → Type 0) (p : Plan T) (s
 
   -- so each other view holds nothing
   pub spent : (j : ℕ) (u : View T) → j ≢ id → slice_get s.views j ≡ Some u
-      → (u.records ≡ []) × (u.others ≡ []) × (owned_slot u.work.owned ≡ None) × (u.takings ≡ 0)
+      → IsSpent u
   spent j u other there = (r.seats.each j u there).spent (unseated j u other there)
 
   -- so this view names each client once

@@ -1,12 +1,12 @@
 -- Once all clients are back, the words tell the slots of the last world, and the entries there are
 -- what the clients made.
-use Rattle.std.proofs.Common.{◌≡◌, ℕ, ◌+◌, ◌*◌, ◌<◌, ◌≤◌, ◌==◌, true, false, List, [], Option, Some, None, length, slice_get, slice_index, sym, refl, ap, ◌∙◌, arith}
+use Rattle.std.proofs.Common.{◌≡◌, ℕ, ◌+◌, ◌*◌, ◌/◌, ◌<◌, ◌≤◌, ◌==◌, true, false, List, [], Option, Some, None, length, slice_get, slice_index, sym, refl, ap, ◌∙◌, arith}
 use Rattle.std.specs.Option.{unwrap_or}
 use Rattle.std.specs.List.{range_with_len}
 use Rattle.hcc_word.specs.Code.{code_of_empty}
-use Rattle.hcc_word.specs.Word.{is_empty, is_shareable, refs_of}
-use Rattle.hcc_word.proofs.CodeLaws.{is_empty-empty, refs_of-shareable}
-use Rattle.hcc_core.specs.declared.limits.TheConstants.{MOST_WEIGHT}
+use Rattle.hcc_word.specs.Word.{is_empty, is_shareable, refs_of, releases_of}
+use Rattle.hcc_word.proofs.CodeLaws.{is_empty-empty, refs_of-shareable, releases_of-shareable}
+use Rattle.hcc_core.specs.declared.limits.TheConstants.{MOST_USES, MOST_WEIGHT, OCCUPANCY_PERCENT}
 use Rattle.hcc_core.specs.declared.client.Client.{Client}
 use Rattle.hcc_core.specs.declared.slot.Entry.{Entry}
 use Rattle.hcc_core.specs.declared.slot.Reference.{Reference}
@@ -14,27 +14,28 @@ use Rattle.hcc_core.specs.declared.slot.Resident.{Resident}
 use Rattle.hcc_core.specs.declared.setup.Setup.{Setup}
 use Rattle.hcc_core.specs.declared.slot.Slot.{Slot}
 use Rattle.hcc_core.specs.declared.slot.Slot.TheVariants as slots
-use Rattle.hcc_core.specs.declared.slot.Stamp.{Stamp}
 use Rattle.hcc_core.specs.Sums.{when, total}
 use Rattle.hcc_core.specs.World.{taken_by_slot, charge_of, charged_to, occupied_by, standing_of, trail_of, times, is_shareable as slot_has_entry}
-use Rattle.hcc_core.specs.Lawful.{Lawful, owned_by, owned_slot, owner_in, stamp_in}
+use Rattle.hcc_core.specs.Lawful.{Lawful, owned_by, owner_in}
 use Rattle.hcc_rule.specs.declared.key.Key.{Key}
-use Rattle.hcc_rule.specs.declared.layout.TheConstants.{KEY0, KEY1, CHARGE}
+use Rattle.hcc_rule.specs.declared.layout.TheConstants.{KEY0, KEY1, CHARGE, HAND}
 use Rattle.hcc_rule.specs.declared.rule.Plan.{Plan}
 use Rattle.hcc_rule.specs.declared.view.Made.{Made}
 use Rattle.hcc_rule.specs.declared.view.Other.{Other}
 use Rattle.hcc_rule.specs.declared.view.View.{View}
-use Rattle.hcc_rule.specs.Closing.{meta_at, data_at, key_at, has_entry, over_entries, list_by, IsBack, IsSettled, IsKept}
+use Rattle.hcc_rule.specs.Closing.{meta_at, data_at, key_at, has_entry, over_entries, list_by, IsBack, IsSettled, IsKept, IsWithin}
 use Rattle.hcc_rule.specs.Probes.{trail_to}
-use Rattle.hcc_rule.specs.Rule.{resting, entry_in, IsNamed, IsStored, Holds}
+use Rattle.hcc_rule.specs.Rule.{resting, entry_in, hand_at, IsNamed, IsSpent, IsStored, Holds}
 use Rattle.hcc_rule.specs.Views.{is_seated, held, weight_on, Each}
-use Rattle.hcc_rule.specs.Words.{key_of, made_words}
+use Rattle.hcc_rule.specs.Words.{key_of, ledger_at, made_words}
 use Rattle.hcc_rule.proofs.Parts.Addresses.{data_field}
 use Rattle.hcc_rule.proofs.Parts.Clients.{total-nothing, total-only}
 use Rattle.hcc_rule.proofs.LastSeat.ClosingClients.{IsQuiet, made_of, lawful, client_count, slot_count, spent, known, book_known}
 use Rattle.hcc_rule.proofs.LastSeat.ClosingSums.{total_range, total_both, one_at, made_by_client}
 use Rattle.hcc_rule.proofs.Parts.Codes.{few_strays, is_near, tells_entry}
 use Rattle.hcc_rule.proofs.Basics.Lists.{there, within, each_map}
+use Rattle.hcc_rule.proofs.Limits.LedgerLimits.{places_limit, real_limit}
+use Rattle.hcc_rule.proofs.Limits.MadeEntries.{resident_at, stamp_at, stamp_told}
 use Rattle.hcc_rule.proofs.Parts.SlotSteps.{Shard}
 
 -- an empty slot's word is its strays
@@ -86,8 +87,7 @@ module _ {T : Type 0} (fits : T → Key → List ℕ → Type 0) (p : Plan T) (s
 
   -- a sum over the views is what this view gives, where spent ones give nothing
   of_view : (f : View T → ℕ)
-      → ((u : View T) → (u.records ≡ []) × (u.others ≡ []) × (owned_slot u.work.owned ≡ None)
-      × (u.takings ≡ 0) → f u ≡ 0)
+      → ((u : View T) → IsSpent u → f u ≡ 0)
       → total f s.views ≡ f v
   of_view f none =
       total-only f s.views id v at
@@ -105,19 +105,6 @@ module _ {T : Type 0} (fits : T → Key → List ℕ → Type 0) (p : Plan T) (s
   entry_told k slot is =
       ap is_shareable (r.coded.meta k slot is)
       ∙ tells_entry r.world world k slot is
-
-  -- the entry of a slot whose word tells that it has one
-  resident_at : (k : ℕ) → k < size → has_entry room s.words k ≡ true
-      → (e : Resident) × (slice_get r.world.slots k ≡ Some (slots.Shareable e))
-  resident_at k near has = by (slot_at k near).0 (slot_at k near).1
-    where
-      by : (slot : Slot) → slice_get r.world.slots k ≡ Some slot
-          → (e : Resident) × (slice_get r.world.slots k ≡ Some (slots.Shareable e))
-      by (slots.Empty strays) is = let bad : true ≡ false =
-          sym has ∙ entry_told k (slots.Empty strays) is in cc
-      by (slots.Building client strays) is = let bad : true ≡ false =
-          sym has ∙ entry_told k (slots.Building client strays) is in cc
-      by (slots.Shareable e) is = (e, is)
 
   -- a sum over the slots is one over the entries
   over_slots : (f : Slot → ℕ) (g : ℕ → ℕ)
@@ -221,49 +208,26 @@ module _ {T : Type 0} (fits : T → Key → List ℕ → Type 0) (p : Plan T) (s
 
   -- The entries.
 
-  -- the stamp of a slot's entry
-  abbrev pub stamp_at : ℕ → Stamp
-  stamp_at k = unwrap_or (stamp_in (slice_get r.world.slots k)) record { client = 0; number = 0 }
-
-  stamp_told : (k : ℕ) (e : Resident) → slice_get r.world.slots k ≡ Some (slots.Shareable e)
-      → stamp_at k ≡ e.entry.stamp
-  stamp_told k e is = ap (λ o. unwrap_or (stamp_in o) record { client = 0; number = 0 }) is
-
   -- the entry is a member of the list that its stamp names
   pub kept : (k : ℕ) → k < size → has_entry room s.words k ≡ true
-      → IsKept fits p.tag room s.words v k (stamp_at k)
-  kept k near has = by (resident_at k near has).0 (resident_at k near has).1
+      → IsKept fits p.tag room s.words v k (stamp_at fits p s r k)
+  kept k near has = let e = resident_at fits p s r k near has in by e.0 e.1
     where
       by : (e : Resident) → slice_get r.world.slots k ≡ Some (slots.Shareable e)
-          → IsKept fits p.tag room s.words v k (stamp_at k)
+          → IsKept fits p.tag room s.words v k (stamp_at fits p s r k)
       by e is =
           let own = stored k e is in
-          rw (stamp_told k e is) record {
+          rw (stamp_told fits p s r k e is) record {
             made = own.made;
             listed = listed k e is;
             says = λ i near. ap (slice_index s.words) (sym (data_field room k i)) ∙ own.lies i near;
             right = r.stamps.right e.entry.stamp own.made own.listed;
           }
 
-  -- its stamp is the world's
-  stamped : (k : ℕ) → k < size → has_entry room s.words k ≡ true
-      → stamp_in (slice_get r.world.slots k) ≡ Some (stamp_at k)
-  stamped k near has =
-      let e = resident_at k near has in
-      ap stamp_in e.1 ∙ ap Some (sym (stamp_told k e.0 e.1))
-
-  -- which has each stamp once
-  pub apart : (k t : ℕ) → k < size → t < size
-      → has_entry room s.words k ≡ true → has_entry room s.words t ≡ true
-      → stamp_at k ≡ stamp_at t → k ≡ t
-  apart k t near_k near_t has_k has_t same =
-      world.stamped.apart k t (stamp_at k) (stamped k near_k has_k)
-      (stamped t near_t has_t ∙ ap Some (sym same))
-
   -- its references are the view's records
   pub references : (k : ℕ) → k < size → has_entry room s.words k ≡ true
       → refs_of (meta_at room s.words k) ≡ weight_on k v.records
-  references k near has = by (resident_at k near has).0 (resident_at k near has).1
+  references k near has = let e = resident_at fits p s r k near has in by e.0 e.1
     where
       weighs : Reference → ℕ
       weighs x = x.weight
@@ -275,6 +239,35 @@ module _ {T : Type 0} (fits : T → Key → List ℕ → Type 0) (p : Plan T) (s
           ∙ (refs_of-shareable e.hit e.shown (is_near r.world world k e is)
           ∙ (r.references k (slots.Shareable e) is weighs
           ∙ of_view (held k weighs) (λ u none. rw none.0 refl)))
+
+  -- its uses are few
+  pub uses : (k : ℕ) → k < size → has_entry room s.words k ≡ true
+      → releases_of (meta_at room s.words k) ≤ MOST_USES
+  uses k near has = let e = resident_at fits p s r k near has in by e.0 e.1
+    where
+      by : (e : Resident) → slice_get r.world.slots k ≡ Some (slots.Shareable e)
+          → releases_of (meta_at room s.words k) ≤ MOST_USES
+      by e is =
+          let word = ap releases_of (r.coded.meta k (slots.Shareable e) is)
+          ∙ releases_of-shareable e.hit e.shown (is_near r.world world k e is) in
+          let few = (world.bounded k (slots.Shareable e) is).uses in
+          omega arith
+
+  -- The limits.
+
+  -- the entries are within the limit of places
+  pub places : over_entries room s.words size (λ k. 1) ≤ size * OCCUPANCY_PERCENT / 100
+  places =
+      let sum = over_slots taken_by_slot (λ k. 1) one_each in
+      let most = places_limit fits p s r in
+      omega arith
+
+  -- and under strict their charges within the capacity
+  pub within_capacity : IsWithin p.geometry p.capacity p.strict s.words
+  within_capacity strict =
+      let sum = over_slots charge_of (λ k. data_at room s.words k CHARGE) charges_are in
+      let most = real_limit fits p s r strict in
+      omega arith
 
   -- The other slots.
 
@@ -371,3 +364,9 @@ module _ {T : Type 0} (fits : T → Key → List ℕ → Type 0) (p : Plan T) (s
       let paid = r.stamps.left in
       let made = all_made in
       omega arith
+
+  -- The hand.
+
+  -- it is where this view's turns left it
+  pub hand : slice_index s.words (ledger_at size room HAND) ≡ hand_at v.turns
+  hand = r.turned ∙ (r.turns ∙ ap hand_at (of_view (λ (u : View T). u.turns) (λ u none. none.4)))

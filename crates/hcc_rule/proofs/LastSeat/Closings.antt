@@ -1,5 +1,5 @@
 -- What is left of a shard that was closed.
-use Rattle.std.proofs.Common.{◌≡◌, ℕ, zero, suc, true, List, [], ◌∷◌, Some, slice_get, slice_index, sym, ◌∙◌, ◌≤◌, arith}
+use Rattle.std.proofs.Common.{◌≡◌, ℕ, zero, suc, Bool, true, List, [], ◌∷◌, Some, slice_get, slice_index, sym, ◌∙◌, ◌≤◌, arith}
 use mathlib.Core.Option.{some, some-injective, some-ne-none}
 use lib.ListN.{get_elem?}
 use Rattle.atomic_table.specs.Table as table
@@ -8,7 +8,7 @@ use Rattle.hcc_rule.specs.declared.key.Key.{Key}
 use Rattle.hcc_rule.specs.declared.rule.Plan.{Plan}
 use Rattle.hcc_rule.specs.declared.view.Logged.{Logged}
 use Rattle.hcc_rule.specs.declared.view.View.{View}
-use Rattle.hcc_rule.specs.Closing.{Shown, IsBack, Closes}
+use Rattle.hcc_rule.specs.Closing.{Shown, IsBack, IsWithin, Closes}
 use Rattle.hcc_rule.specs.Images.{BeginsWith, entries_in}
 use Rattle.hcc_rule.specs.Logs.{HoldsLogged, unlogged}
 use Rattle.hcc_rule.specs.Rule.{Holds}
@@ -18,7 +18,8 @@ use Rattle.hcc_core.proofs.SumLemmas.{total-member}
 use Rattle.hcc_rule.proofs.Parts.Clients.{total-only}
 use Rattle.hcc_rule.proofs.Basics.Lists.{read_at}
 use Rattle.hcc_rule.proofs.LastSeat.ClosingClients.{unseated}
-use Rattle.hcc_rule.proofs.LastSeat.ClosingSlots.{settled, stamp_at, kept, apart, references, clear, strays, left}
+use Rattle.hcc_rule.proofs.LastSeat.ClosingSlots.{settled, kept, references, uses, clear, strays, left, places, hand, within_capacity}
+use Rattle.hcc_rule.proofs.Limits.MadeEntries.{stamp_at, apart}
 use Rattle.hcc_rule.proofs.Parts.SlotSteps.{Shard}
 use Rattle.hcc_rule.proofs.Seats.Lifts.{known_at, named_all}
 
@@ -76,13 +77,16 @@ module _ {T : Type 0} (fits : T → Key → List ℕ → Type 0) (p : Plan T) wh
       → IsBack p.geometry.clients v → Closes fits p.tag p.geometry s.words v
   closes_state s r id v at seated back = record {
     settled = settled fits p s r id v at seated back;
-    stamp_at = stamp_at fits p s r id v at seated back;
+    stamp_at = stamp_at fits p s r;
     kept = kept fits p s r id v at seated back;
-    apart = apart fits p s r id v at seated back;
+    apart = apart fits p s r;
     held = references fits p s r id v at seated back;
+    uses = uses fits p s r id v at seated back;
     clear = clear fits p s r id v at seated back;
     strays = strays fits p s r id v at seated back;
     left = left fits p s r id v at seated back;
+    places = places fits p s r id v at seated back;
+    hand = hand fits p s r id v at seated back;
   }
 
   -- and once all clients are back they tell more
@@ -92,3 +96,13 @@ module _ {T : Type 0} (fits : T → Key → List ℕ → Type 0) (p : Plan T) wh
   closes_last geometry words v same shown seated back =
       rw (sym same, sym shown.same)
       (closes_state shown.state shown.holds shown.number v shown.seen seated (rw same back))
+
+  -- the charges are within the capacity
+  pub within_last : (geometry : Geometry) (capacity : ℕ) (strict : Bool) (words : List ℕ)
+      (v : View T) → p.geometry ≡ geometry → p.capacity ≡ capacity → p.strict ≡ strict
+      → Shown fits p words v → is_seated v ≡ true → IsBack geometry.clients v
+      → IsWithin geometry capacity strict words
+  within_last geometry capacity strict words v sizes capacities rules shown seated back =
+      rw (sym sizes, sym capacities, sym rules, sym shown.same)
+      (within_capacity fits p shown.state shown.holds shown.number v shown.seen seated
+      (rw sizes back))

@@ -35,7 +35,7 @@ before_at f (suc n) (suc i) a p inside at others =
     ∙ ap (λ l. f a ∷ l) rest
 
 -- A number that a function gives comes among all that it gives.
-times_given : (f : ℕ → ℕ) (n i a : ℕ) → a ≤ i → i < a + n
+pub times_given : (f : ℕ → ℕ) (n i a : ℕ) → a ≤ i → i < a + n
     → 1 ≤ times (f i) (map f (range_with_len a n))
 times_given f zero i a low high = absurd (omega arith)
 times_given f (suc n) i a low high = elim (cases_eq a i) [
@@ -58,7 +58,7 @@ times_later f (suc n) a p others =
     omega arith
 
 -- A number stands once at most among those of a function that gives no number twice.
-times_once : (f : ℕ → ℕ) (n a p : ℕ)
+pub times_once : (f : ℕ → ℕ) (n a p : ℕ)
     → ((i j : ℕ) → a ≤ i → i < j → j < a + n → f i ≢ f j)
     → times p (map f (range_with_len a n)) ≤ 1
 times_once f zero a p apart = omega arith

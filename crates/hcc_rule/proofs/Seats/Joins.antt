@@ -180,7 +180,7 @@ module _ {T : Type 0} (fits : T → Key → List ℕ → Type 0) (p : Plan T) wh
       live = λ still. cc;
       book = λ still. cc;
       others = tt;
-      spent = λ gone. (refl, refl, refl, refl);
+      spent = λ gone. (refl, refl, refl, refl, refl);
     }
 
     theirs : (j : ℕ) (u : View T) → j ≢ other → slice_get s.views j ≡ Some u

@@ -411,6 +411,7 @@ module _ {T : Type 0} (fits : T → Key → List ℕ → Type 0) (p : Plan T) (c
           short = right.sized.short;
           bytes = right.bytes;
           numbered = omega arith;
+          paid = right.sized.paid;
           small = right.sized.small;
         }
     | inr other ↦

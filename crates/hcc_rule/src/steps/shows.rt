@@ -15,7 +15,7 @@ use std::marker::Brand;
 #[derive(Clone, Copy, Debug, PartialEq, Eq)]
 pub struct Draft {
     pub key: Key,
-    /// The charge, which the client has granted.
+    /// The charge, above 0, which the client has granted.
     pub charge: u32,
     /// The serial that its maker gives it, below `2^54`.
     pub serial: u64,

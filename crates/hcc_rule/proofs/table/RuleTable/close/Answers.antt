@@ -1,6 +1,6 @@
 use Rattle.std.proofs.Common.{ap, is_some}
 use Rattle.hcc_rule.specs.Seats.{view}
-use Rattle.hcc_rule.proofs.LastSeat.Closings.{shown_last, named_last, closes_last, begins_last}
+use Rattle.hcc_rule.proofs.LastSeat.Closings.{shown_last, named_last, closes_last, within_last, begins_last}
 use Rattle.hcc_rule.proofs.Seats.Lifts.{final_unlogged}
 use Rattle.hcc_rule.proofs.table.RuleTable.close.Goals as goal
 
@@ -24,6 +24,17 @@ returns-clause-closes g c back =
     rw c.of.ensures.closed
     (closes_last g.T.Tag.fits c.args.self.table.shared.key c.args.self.geometry _ (view c.args.seat)
     c.args.self.planned.0
+    (shown_last g.T.Tag.fits c.args.self.table.shared.key _ _ _ (view c.args.seat)
+    (final_unlogged g.T.Tag.fits c.args.self.table.shared.key _ _ _ c.args.seat.me.0
+    c.close_with.ensures.values.2))
+    (ap is_some c.requires.seat.tagged) back)
+
+pub returns-clause-within : goal.returns-clause-within
+returns-clause-within g c back =
+    rw c.of.ensures.closed
+    (within_last g.T.Tag.fits c.args.self.table.shared.key c.args.self.geometry
+    c.args.self.capacity c.args.self.strict _ (view c.args.seat)
+    c.args.self.planned.0 c.args.self.planned.1 c.args.self.planned.2
     (shown_last g.T.Tag.fits c.args.self.table.shared.key _ _ _ (view c.args.seat)
     (final_unlogged g.T.Tag.fits c.args.self.table.shared.key _ _ _ c.args.seat.me.0
     c.close_with.ensures.values.2))
