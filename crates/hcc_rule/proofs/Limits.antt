@@ -5,3 +5,4 @@ pub mod Passed
 pub mod Rounds
 pub mod MadeEntries
 pub mod Beginnings
+pub mod TrailLimits

@@ -13,12 +13,15 @@ ghost use Rattle.hcc_core.specs.Lawful.{real_in, taken_in};
 ghost use Rattle.hcc_core.specs.Sums.{total};
 ghost use Rattle.hcc_core.specs.World.{limit_of, occupancy_of, passed_by, standing_in, times};
 ghost use Rattle.hcc_rule.specs.declared.image.ImageEntry.{ImageEntry};
+ghost use Rattle.hcc_rule.specs.declared.key.Key.{Key};
 ghost use Rattle.hcc_rule.specs.declared.layout.TheConstants.{META, USAGE, OCCUPANCY, STANDING, HAND};
 ghost use Rattle.hcc_rule.specs.declared.rule.Plan.{Plan};
 ghost use Rattle.hcc_rule.specs.declared.view.View.{View};
+ghost use Rattle.hcc_rule.specs.Closing.{key_at};
 ghost use Rattle.hcc_rule.specs.Images.{AreRising, IsImageFor, entries_in};
 ghost use Rattle.hcc_rule.specs.Laws.{LoggedStateOf, StateOf, due_in, ledger_word, displacement_word, has_entry, references_counted, references_held, AreMade, AreOfMade, HasWordsOfRecords};
 ghost use Rattle.hcc_rule.specs.Logs.{HasBegun, HoldsLogged, first_logged, moves_in};
+ghost use Rattle.hcc_rule.specs.Probes.{probe_slot};
 ghost use Rattle.hcc_rule.specs.Rule.{hand_after, setup_of, Holds};
 ghost use Rattle.hcc_rule.specs.Seats.{IsPlanned};
 ghost use Rattle.hcc_rule.specs.Words.{field_at};
@@ -109,6 +112,17 @@ pub fn law_made<T: Tag>()
     // So is the entry of each record of each view.
     ensures records { (p : Plan T) (s : StateOf T) → Holds T.fits p s → (number : ℕ) (v : View T)
         → slice_get s.views number ≡ Some v → AreOfMade T.fits p s v }
+{}
+
+/// The trails of entries, by which searches end.
+pub fn law_trails<T: Tag>()
+    // Where an entry of a key is at one of its probes, visible or not, the displacement word of
+    // each probe before is at least 1.
+    ensures { (p : Plan T) (s : StateOf T) → Holds T.fits p s → IsPlanned p.geometry p.capacity
+        → (key : Key) (i j : ℕ) → j < i → i < p.geometry.slots
+        → has_entry p s (probe_slot p.geometry.slots key i) ≡ true
+        → key_at p.geometry.room s.words (probe_slot p.geometry.slots key i) ≡ key
+        → 1 ≤ displacement_word p s (probe_slot p.geometry.slots key j) }
 {}
 
 /// The words of a slot.

@@ -35,7 +35,7 @@ use Rattle.hcc_rule.proofs.LastSeat.ClosingSums.{total_range, total_both, one_at
 use Rattle.hcc_rule.proofs.Parts.Codes.{few_strays, is_near, tells_entry}
 use Rattle.hcc_rule.proofs.Basics.Lists.{there, within, each_map}
 use Rattle.hcc_rule.proofs.Limits.LedgerLimits.{places_limit, real_limit}
-use Rattle.hcc_rule.proofs.Limits.MadeEntries.{resident_at, stamp_at, stamp_told}
+use Rattle.hcc_rule.proofs.Limits.MadeEntries.{charge_is, key_is, resident_at, stamp_at, stamp_told}
 use Rattle.hcc_rule.proofs.Parts.SlotSteps.{Shard}
 
 -- an empty slot's word is its strays
@@ -123,24 +123,6 @@ module _ {T : Type 0} (fits : T → Key → List ℕ → Type 0) (p : Plan T) (s
     stored : IsStored room s.words r.books k e.entry
     stored = r.stored k e.entry (ap entry_in is)
 
-    -- the five words before the payload
-    data_is : (i : ℕ) → i < 5
-        → data_at room s.words k i ≡ slice_index (made_words e.entry.stamp.client stored.made) i
-    data_is i near = ap (slice_index s.words) (sym (data_field room k i))
-        ∙ stored.lies i (omega arith)
-
-    -- the charge, and the key
-    charge_is : data_at room s.words k CHARGE ≡ e.entry.charge
-    charge_is = data_is CHARGE (omega arith) ∙ ap (λ (x : Entry). x.charge) (sym stored.same)
-
-    key_is : key_of e.entry ≡ key_at room s.words k
-    key_is =
-        let first : e.entry.key0 ≡ data_at room s.words k KEY0 =
-        ap (λ (x : Entry). x.key0) stored.same ∙ sym (data_is KEY0 (omega arith)) in
-        let second : e.entry.key1 ≡ data_at room s.words k KEY1 =
-        ap (λ (x : Entry). x.key1) stored.same ∙ sym (data_is KEY1 (omega arith)) in
-        rw (first, second) refl
-
     -- its client's list has it
     listed : slice_get (list_by v e.entry.stamp.client) e.entry.stamp.number ≡ Some stored.made
     listed = by (slice_get r.books e.entry.stamp.client) refl
@@ -167,7 +149,7 @@ module _ {T : Type 0} (fits : T → Key → List ℕ → Type 0) (p : Plan T) (s
       → charge_of slot ≡ when (slot_has_entry slot) (data_at room s.words k CHARGE)
   charges_are k (slots.Empty strays) is = refl
   charges_are k (slots.Building client strays) is = refl
-  charges_are k (slots.Shareable e) is = sym (charge_is k e is)
+  charges_are k (slots.Shareable e) is = sym (charge_is fits p s r k e.entry (ap entry_in is))
 
   one_each : (k : ℕ) (slot : Slot) → slice_get r.world.slots k ≡ Some slot
       → taken_by_slot slot ≡ when (slot_has_entry slot) 1
@@ -182,7 +164,7 @@ module _ {T : Type 0} (fits : T → Key → List ℕ → Type 0) (p : Plan T) (s
   trails_are j k (slots.Building client strays) is = refl
   trails_are j k (slots.Shareable e) is =
       ap (times j) (r.trails.entries k (slots.Shareable e) is)
-      ∙ ap (λ key. times j (trail_to size key k)) (key_is k e is)
+      ∙ ap (λ key. times j (trail_to size key k)) (key_is fits p s r k e.entry (ap entry_in is))
 
   -- the sums over the words
   pub settled : IsSettled size room s.words

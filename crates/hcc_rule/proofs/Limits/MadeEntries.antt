@@ -18,11 +18,12 @@ use Rattle.hcc_rule.specs.declared.view.Made.{Made}
 use Rattle.hcc_rule.specs.declared.view.Other.{Other}
 use Rattle.hcc_rule.specs.declared.view.Record.{Record}
 use Rattle.hcc_rule.specs.declared.view.View.{View}
-use Rattle.hcc_rule.specs.Closing.{list_by}
+use Rattle.hcc_rule.specs.declared.layout.TheConstants.{CHARGE, KEY0, KEY1}
+use Rattle.hcc_rule.specs.Closing.{data_at, key_at, list_by}
 use Rattle.hcc_rule.specs.Laws.{has_entry, IsMade, AreMade, IsOfMade, AreOfMade}
 use Rattle.hcc_rule.specs.Rule.{entry_in, IsNamed, IsRecorded, IsSeated, IsStored, Holds}
 use Rattle.hcc_rule.specs.Views.{is_seated, names}
-use Rattle.hcc_rule.specs.Words.{entry_of}
+use Rattle.hcc_rule.specs.Words.{entry_of, key_of, made_words}
 use Rattle.hcc_rule.proofs.Basics.Findings.{find_each, find_passes, some_found}
 use Rattle.hcc_rule.proofs.Basics.Lists.{each_map, within}
 use Rattle.hcc_rule.proofs.Parts.Addresses.{data_field}
@@ -91,6 +92,25 @@ module _ {T : Type 0} (fits : T → Key → List ℕ → Type 0) (p : Plan T) (s
       (here : entry_in (slice_get r.world.slots slot) ≡ Some entry) where
     stored : IsStored p.geometry.room s.words r.books slot entry
     stored = r.stored slot entry here
+
+    -- the five words before the payload are its maker's,
+    data_is : (i : ℕ) → i < 5 → data_at p.geometry.room s.words slot i
+        ≡ slice_index (made_words entry.stamp.client stored.made) i
+    data_is i near = ap (slice_index s.words) (sym (data_field p.geometry.room slot i))
+        ∙ stored.lies i (omega arith)
+
+    -- so the charge is there,
+    pub charge_is : data_at p.geometry.room s.words slot CHARGE ≡ entry.charge
+    charge_is = data_is CHARGE (omega arith) ∙ ap (λ (x : Entry). x.charge) (sym stored.same)
+
+    -- and the key
+    pub key_is : key_of entry ≡ key_at p.geometry.room s.words slot
+    key_is =
+        let first : entry.key0 ≡ data_at p.geometry.room s.words slot KEY0 =
+        ap (λ (x : Entry). x.key0) stored.same ∙ sym (data_is KEY0 (omega arith)) in
+        let second : entry.key1 ≡ data_at p.geometry.room s.words slot KEY1 =
+        ap (λ (x : Entry). x.key1) stored.same ∙ sym (data_is KEY1 (omega arith)) in
+        rw (first, second) refl
 
     -- an entry's maker is a client
     maker_near : entry.stamp.client < length r.world.clients
