@@ -4,6 +4,7 @@ pub mod Keys
 pub mod Clients
 pub mod Known
 pub mod Opened
+pub mod Moments
 pub mod Calls
 pub mod Left
 pub mod Closings

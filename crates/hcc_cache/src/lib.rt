@@ -11,6 +11,7 @@ mod errors;
 mod handle;
 mod holding;
 mod inserting;
+pub mod laws;
 pub mod limits;
 mod lookups;
 mod opening;

@@ -1,0 +1,32 @@
+-- What a shard of a cache may be between any two atomic steps of any threads.
+use Rattle.std.specs.Prelude.{◌≡◌, ℕ, List, Some, slice_get}
+use Rattle.std.specs.declared.alloc.Global.{Global}
+use Rattle.hcc_rule.specs.declared.key.Key.{Key}
+use Rattle.hcc_rule.specs.declared.rule.Plan.{Plan}
+use Rattle.hcc_rule.specs.Laws.{StateOf}
+use Rattle.hcc_rule.specs.Rule.{Holds}
+use Rattle.hcc_shard.specs.declared.shard.Shard.{Shard}
+use Rattle.hcc_shard.specs.Callers.{plan_of}
+use Rattle.hcc_cache.specs.declared.cache.Cache.{Cache}
+use Rattle.hcc_cache.specs.declared.client.Client.{Client}
+use Rattle.hcc_cache.specs.declared.config.Config.{Config}
+use Rattle.hcc_cache.specs.declared.seeded.Seeded.{Seeded}
+use Rattle.hcc_cache.specs.Keys.{fits_seeded}
+use Rattle.hcc_cache.specs.Opened.{IsOpened}
+
+-- The words of a shard of a cache that was made so, and what all clients know of it, as they may
+-- be between two steps: they meet the rule of that shard.
+pub record IsMoment {T : Type 0} (fits : T → Key → List ℕ → Type 0) (config : Config) (tag : T)
+    (s : StateOf (Seeded T)) : Type 0 where
+  pub cache : Cache T
+  pub clients : List (Client T)
+  pub opened : IsOpened config tag cache clients
+  pub number : ℕ
+  pub shard : Shard (Seeded T) Global
+  pub there : slice_get cache.shards.items number ≡ Some shard
+  pub holds : Holds (fits_seeded fits) (plan_of shard) s
+
+-- what that shard was given once
+abbrev pub plan_in : {T : Type 0} {fits : T → Key → List ℕ → Type 0} {config : Config} {tag : T}
+    {s : StateOf (Seeded T)} → IsMoment fits config tag s → Plan (Seeded T)
+plan_in m = plan_of m.shard
