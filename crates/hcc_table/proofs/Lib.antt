@@ -3,6 +3,7 @@ pub mod Logs
 pub mod Searches
 pub mod Reaches
 pub mod Probes
+pub mod Probings
 pub mod Finds
 pub mod TakesBack
 pub mod Gives

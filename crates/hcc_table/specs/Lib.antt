@@ -7,3 +7,4 @@ pub mod Erased
 pub mod Readings
 pub mod Inserted
 pub mod Steps
+pub mod Probed
