@@ -10,6 +10,7 @@ pub mod Gives
 pub mod Pinnings
 pub mod Erasures
 pub mod Hidings
+pub mod HideSteps
 pub mod Bytes
 pub mod Values
 pub mod InsertsWords

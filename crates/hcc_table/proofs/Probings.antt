@@ -76,7 +76,7 @@ module _ {T P : Type 0} (slots : ℕ) (key : Key)
       pub probes : AtProbes slots key At 0 seen before after old now
       pub goes_on : Each Goes seen
 
-    pub seen_none : (effort : Effort) (seat : SeatOf T) → HasSeen 0 effort effort seat seat
+    abbrev pub seen_none : (effort : Effort) (seat : SeatOf T) → HasSeen 0 effort effort seat seat
     seen_none effort seat =
         record { seen = []; long = refl; probes = (refl, refl); goes_on = tt }
 
@@ -91,7 +91,7 @@ module _ {T P : Type 0} (slots : ℕ) (key : Key)
           at : i ≡ 0 + length h.seen
           at = omega (arith, h.long)
 
-      pub seen_then : Goes p → HasSeen (i + 1) e g a c
+      abbrev pub seen_then : Goes p → HasSeen (i + 1) e g a c
       seen_then goes = record {
         seen = h.seen ++ p ∷ [];
         long = one_longer h.seen p ∙ ap (λ n. n + 1) h.long;

@@ -8,3 +8,4 @@ pub mod Readings
 pub mod Inserted
 pub mod Steps
 pub mod Probed
+pub mod Hides

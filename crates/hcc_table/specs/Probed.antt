@@ -98,8 +98,8 @@ module _ {T A : Type 0} (fits : T → Key → List ℕ → Type 0) (table : Rule
     pub unshown : is_visible seen ≡ false → (word ≡ seen) × (after ≡ before) × (new ≡ mid)
     pub shown : is_visible seen ≡ true → PassesEntry slot weight word before after mid new
 
-  -- References were acquired on a slot, and kept: the first step there and the add found it visible,
-  -- with an entry of the key, and loads of both halves of its key told so.
+  -- References were acquired on a slot, and kept: the first step there and the add found it
+  -- visible, with an entry of the key, and loads of both halves of its key told so.
   pub record Catches (First : (seen : ℕ) → SeatOf T → SeatOf T → Type 0) (slot weight word : ℕ)
       (before after : Effort) (old new : SeatOf T) : Type 0 where
     pub seen : ℕ
