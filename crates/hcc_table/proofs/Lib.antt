@@ -3,12 +3,14 @@ pub mod Logs
 pub mod Searches
 pub mod Reaches
 pub mod Probes
+pub mod Probings
 pub mod Finds
 pub mod TakesBack
 pub mod Gives
 pub mod Pinnings
 pub mod Erasures
 pub mod Hidings
+pub mod HideSteps
 pub mod Bytes
 pub mod Values
 pub mod InsertsWords

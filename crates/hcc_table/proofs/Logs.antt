@@ -1,9 +1,23 @@
 -- The steps of calls, one after the other.
-use Rattle.std.proofs.Common.{◌≡◌, [], ◌∷◌, ◌++◌, sym, ap, ◌∙◌}
+use Rattle.std.proofs.Common.{◌≡◌, ℕ, ◌≤◌, [], ◌∷◌, ◌++◌, sym, subst, ap, ◌∙◌, arith}
 use Rattle.std.proofs.lemmas.List.{append_assoc, append-nil}
+use Rattle.hcc_word.specs.declared.layout.TheConstants.{HIT_BIT, NEAR}
+use Rattle.hcc_word.specs.Changes.{IsCorrectable}
+use Rattle.hcc_word.specs.Word.{releases_of}
+use Rattle.hcc_core.specs.declared.limits.TheConstants.{MOST_WEIGHT}
 use Rattle.hcc_rule.specs.declared.view.Atomic.{Atomic}
-use Rattle.hcc_rule.specs.Seats.{SeatOf, steps}
-use Rattle.hcc_table.specs.Steps.{Adds, Among, Begins, BeginsWithTwo, Ends, MakesTwo, after}
+use Rattle.hcc_rule.specs.Seats.{SeatOf, Makes, atomic, steps}
+use Rattle.hcc_rule.proofs.Basics.Lists.{each_append}
+use Rattle.hcc_table.specs.Steps.{Adds, AddsUnmarked, Among, Begins, BeginsWithTwo, Ends, MakesTwo, after}
+
+-- a weight isn't the hit bit, and neither is a word near its end
+pub light : (weight : ℕ) → weight ≤ MOST_WEIGHT → ¬ (weight ≡ HIT_BIT)
+light weight few same = omega arith
+
+pub unlike_hit : (word : ℕ) → IsCorrectable word → ¬ (word ≡ HIT_BIT)
+unfolding releases_of
+unlike_hit word worn same =
+    let near : NEAR ≤ 0 = subst (λ (w : ℕ). NEAR ≤ releases_of w) same worn.near in omega arith
 
 module _ {T : Type 0} where
   -- no step
@@ -19,6 +33,30 @@ module _ {T : Type 0} where
     h.0 ++ g.0,
     g.1 ∙ ap (λ xs. xs ++ g.0) h.1 ∙ append_assoc (steps a) h.0 g.0,
   )
+
+  -- The same of steps that set no hit bit.
+  pub unmarked_none : (a b : SeatOf T) → steps b ≡ steps a → AddsUnmarked a b
+  unmarked_none a b same = ([], same ∙ sym (append-nil (steps a)), tt)
+
+  pub unmarked_one : (one : Atomic) (a b : SeatOf T) → steps b ≡ after (steps a) one
+      → ¬ (one.first ≡ HIT_BIT) → AddsUnmarked a b
+  unmarked_one one a b is other = (one ∷ [], is, (other, tt))
+
+  pub unmarked_then : (a b c : SeatOf T) → AddsUnmarked a b → AddsUnmarked b c → AddsUnmarked a c
+  unmarked_then a b c h g = (
+    h.0 ++ g.0,
+    g.1 ∙ ap (λ xs. xs ++ g.0) h.1 ∙ append_assoc (steps a) h.0 g.0,
+    each_append (λ (step : Atomic). ¬ (step.first ≡ HIT_BIT)) h.0 g.0 h.2 g.2,
+  )
+
+  pub unmarked_adds : (a b : SeatOf T) → AddsUnmarked a b → Adds a b
+  unmarked_adds a b h = (h.0, h.1)
+
+  -- a load that found something, a give, and the like
+  pub unmarked_zero : (address found : ℕ) (a b : SeatOf T)
+      → Makes address 0 0 found a b → AddsUnmarked a b
+  unmarked_zero address found a b h =
+      unmarked_one (atomic address 0 0 found) a b h.step (light 0 (omega arith))
 
   -- one step after another
   pub makes_two : (one two : Atomic) (a b c : SeatOf T) → steps b ≡ after (steps a) one

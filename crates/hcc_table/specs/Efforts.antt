@@ -20,3 +20,15 @@ abbrev pub Lost : (least most : ℕ) → Effort → Effort → Type 0
 Lost least most old new =
     (new.probes ≡ old.probes) × (new.corrections ≡ old.corrections)
     × Rose least most old.lost new.lost
+
+-- Nothing rose but the corrections that were made, by one.
+abbrev pub Corrected : Effort → Effort → Type 0
+Corrected old new =
+    Rose 1 1 old.corrections new.corrections
+    × (new.probes ≡ old.probes) × (new.lost ≡ old.lost)
+
+-- Nothing rose but the slots that were visited, by so many.
+abbrev pub VisitedSlots : (slots : ℕ) → Effort → Effort → Type 0
+VisitedSlots slots old new =
+    Rose slots slots old.probes new.probes
+    × (new.corrections ≡ old.corrections) × (new.lost ≡ old.lost)

@@ -7,3 +7,5 @@ pub mod Erased
 pub mod Readings
 pub mod Inserted
 pub mod Steps
+pub mod Probed
+pub mod Hides

@@ -5,10 +5,11 @@ use Rattle.hcc_word.specs.Changes.{IsCorrectable, corrected_word}
 use Rattle.hcc_word.specs.Word.{hit_of, is_counting, is_shareable}
 use Rattle.hcc_rule.specs.declared.view.Atomic.{Atomic}
 use Rattle.hcc_rule.specs.Seats.{SeatOf, atomic, made, steps, Makes}
+use Rattle.hcc_rule.specs.Views.{Each}
 use Rattle.hcc_table.specs.declared.efforts.Effort.{Effort}
 use Rattle.hcc_table.specs.declared.inserting.Insertion.{Insertion}
 use Rattle.hcc_table.specs.declared.inserting.Insertion.TheVariants.{Placed, Matched, NoSlot}
-use Rattle.hcc_table.specs.Efforts.{Rose}
+use Rattle.hcc_table.specs.Efforts.{Corrected, Lost, Rose}
 
 -- these steps, and then this one
 abbrev pub after : List Atomic → Atomic → List Atomic
@@ -55,6 +56,12 @@ module _ {T : Type 0} where
   abbrev pub Adds : (old new : SeatOf T) → Type 0
   Adds old new = (more : List Atomic) × (steps new ≡ steps old ++ more)
 
+  -- The same, and none of them sets the hit bit of an entry.
+  abbrev pub AddsUnmarked : (old new : SeatOf T) → Type 0
+  AddsUnmarked old new =
+      (more : List Atomic) × (steps new ≡ steps old ++ more)
+      × Each (λ (step : Atomic). ¬ (step.first ≡ HIT_BIT)) more
+
   -- this step first, and others behind it, or none
   abbrev pub Begins : (first : Atomic) → (old new : SeatOf T) → Type 0
   Begins first old new = (more : List Atomic) × (steps new ≡ after (steps old) first ++ more)
@@ -96,6 +103,19 @@ module _ {T : Type 0} where
         → (other : ℕ) × MakesTwo (atomic address weight 0 found)
         (atomic address (acquired weight found) (corrected_word (acquired weight found)) other)
         old new
+
+  -- The one try to correct both counters of a slot, once references of this weight were acquired on
+  -- this word: it was made where it was due. It is counted as a correction where it found the word
+  -- that the add left, and as an exchange that lost where it found another.
+  pub record Corrects (address weight found : ℕ) (before after : Effort) (old new : SeatOf T)
+      : Type 0 where
+    pub none : ¬ IsWorn weight found → after ≡ before
+    pub tried : IsWorn weight found
+        → (other : ℕ) × MakesTwo (atomic address weight 0 found)
+        (atomic address (acquired weight found) (corrected_word (acquired weight found)) other)
+        old new
+        × (other ≡ acquired weight found → Corrected before after)
+        × (¬ (other ≡ acquired weight found) → Lost 1 1 before after)
 
   -- References of this weight were acquired, and released as uses where they counted, else given
   -- back.

@@ -8,10 +8,10 @@ ghost use Rattle.hcc_rule.specs.Callers.{room_of, IsSeatAt, IsSlotOf, address_of
 ghost use Rattle.hcc_rule.specs.Seats.{IsSameSeat, view, Makes};
 ghost use Rattle.hcc_rule.specs.ToldReferences.{may_reach};
 ghost use Rattle.hcc_rule.specs.Views.{load_of, record_in};
-ghost use Rattle.hcc_table.specs.Efforts.{Took};
+ghost use Rattle.hcc_table.specs.Efforts.{Corrected, Lost, Took};
 ghost use Rattle.hcc_table.specs.Pins.{IsOf, IsPinned};
 ghost use Rattle.hcc_table.specs.Searched.{Searched, Sought, Reached};
-ghost use Rattle.hcc_table.specs.Steps.{Acquires, Adds, MakesAtMost, MakesNone};
+ghost use Rattle.hcc_table.specs.Steps.{Acquires, AddsUnmarked, Corrects, MakesAtMost, MakesNone};
 
 use crate::efforts::Effort;
 use crate::pins::Pin;
@@ -45,7 +45,9 @@ pub fn again<T: Tag, A: Allocator>(
         × IsOf result r × (r.name ≡ name)
         × IfSome (record_in pin.name (view seat.old).records) (λ q. r.entry ≡ q.entry) }
     ensures acquires { (found : ℕ) × (result.counting ≡ is_counting found)
-        × Acquires (address_of_meta table.now pin.slot) 1 found seat.old seat.new }
+        × Acquires (address_of_meta table.now pin.slot) 1 found seat.old seat.new
+        × Corrects (address_of_meta table.now pin.slot) 1 found effort.old effort.new
+        seat.old seat.new }
     ensures steps { MakesAtMost 2 seat.old seat.new }
 {
     let found = reach(table, seat, pin.slot, 1, name, effort);
@@ -78,6 +80,9 @@ pub(crate) fn reach<T: Tag, A: Allocator>(
     ensures view { Reached T.fits (room_of table.now) slot weight name result
         (view seat.old) (view seat.new) }
     ensures acquires { Acquires (address_of_meta table.now slot) weight result seat.old seat.new }
+    ensures corrects { Corrects (address_of_meta table.now slot) weight result
+        effort.old effort.new seat.old seat.new }
+    ensures adds { AddsUnmarked seat.old seat.new }
     ensures steps { MakesAtMost 2 seat.old seat.new }
 {
     let found = table.acquire(seat, slot, weight, name);
@@ -114,9 +119,11 @@ fn relieve<T: Tag, A: Allocator>(
     ensures view { Sought (view seat.old) (view seat.new) }
     ensures corrects { IsCorrectable word → (other : ℕ)
         × Makes (address_of_meta table.now slot) word (corrected_word word) other
-        seat.old seat.new }
-    ensures passes { ¬ (IsCorrectable word) → MakesNone seat.old seat.new }
-    ensures adds { Adds seat.old seat.new }
+        seat.old seat.new × (other ≡ word → Corrected effort.old effort.new)
+        × (¬ (other ≡ word) → Lost 1 1 effort.old effort.new) }
+    ensures passes { ¬ (IsCorrectable word)
+        → MakesNone seat.old seat.new × (effort.new ≡ effort.old) }
+    ensures adds { AddsUnmarked seat.old seat.new }
     ensures steps { MakesAtMost 1 seat.old seat.new }
 {
     let Some(next) = corrected(word) else {

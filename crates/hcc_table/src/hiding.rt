@@ -1,14 +1,16 @@
 //! Hiding the entries of a key.
-ghost use Rattle.std.specs.Prelude.{◌≡◌, ◌+◌, ◌-◌, ◌*◌, ◌^◌, ◌<◌, ◌≤◌, [], true, None, IfSome, IfNone, IsSomeAnd, replicate};
+ghost use Rattle.std.specs.Prelude.{◌≡◌, ◌+◌, ◌-◌, ◌*◌, ◌^◌, ◌<◌, ◌≤◌, [], true, None, IfSome, IfNone, IsSomeAnd, replicate, ℕ};
 ghost use Rattle.hcc_core.specs.declared.limits.TheConstants.{REFERENCES_PER_CLIENT};
 ghost use Rattle.hcc_core.specs.Lawful.{is_in};
 ghost use Rattle.hcc_core.specs.Outcomes.{dropped};
-ghost use Rattle.hcc_rule.specs.Callers.{slots_of, IsSeatAt, IsSlotOf};
+ghost use Rattle.hcc_rule.specs.Callers.{address_of_meta, slots_of, IsSeatAt, IsSlotOf};
 ghost use Rattle.hcc_rule.specs.Seats.{IsSameSeat, view};
 ghost use Rattle.hcc_rule.specs.Views.{is_called, load_of, record_in};
 ghost use Rattle.hcc_rule.specs.Words.{key_of};
 ghost use Rattle.hcc_table.specs.Efforts.{Lost, Took};
 ghost use Rattle.hcc_table.specs.Erased.{Erases, IsAtRest, IsErased};
+ghost use Rattle.hcc_table.specs.Freed.{TriedWhereDue};
+ghost use Rattle.hcc_table.specs.Hides.{HidesAll, HidesHeld, PassesOrHides, is_alone};
 ghost use Rattle.hcc_table.specs.Searched.{Sought, Buried, AllDead};
 ghost use Rattle.hcc_table.specs.Steps.{MakesFor, freeing, MakesAtMost};
 
@@ -65,9 +67,16 @@ impl Erased {
 /// The name is one that the client doesn't hold, and there is room for one more reference. The
 /// client owns no slot, has an empty trail, and no freed charge to settle. Each entry of the key
 /// that it holds has been seen dead afterwards. It frees no more entries than it met of the key,
-/// each of a charge below 2^32. It allocates nothing. Each probe costs what it costs a search; each
-/// match an atomic and, a compare-exchange where nobody else holds the entry, and the freeing where
-/// that wins, else a subtraction.
+/// each of a charge below 2^32.
+///
+/// At least one slot is visited. Each that was found visible with an entry of the key was hidden,
+/// and each other one was found not visible, by its load or by the add, or with another key. It
+/// ends where the displacement word of the last slot is 0, or after all slots. To take an entry is
+/// tried exactly where this call's reference is the only one once it is hidden.
+///
+/// It allocates nothing. Each probe costs what it costs a search; each match an atomic and, a
+/// compare-exchange where nobody else holds the entry, and the freeing where that wins, else a
+/// subtraction.
 pub fn hide<T: Tag, A: Allocator>(
     table: &RuleTable<T, A>,
     seat: &mut RuleSeat<T>,
@@ -87,6 +96,10 @@ pub fn hide<T: Tag, A: Allocator>(
     ensures dead { AllDead key (view seat.old) (view seat.new) }
     ensures few { (result.hidden ≤ slots_of table.now) × (result.slots ≤ slots_of table.now) }
     ensures charge { result.charge ≤ result.slots * (2 ^ 32 - 1) }
+    ensures hides { HidesAll T.fits table.now key name result effort.old effort.new
+        seat.old seat.new }
+    ensures frees { MakesFor 9 ((slots_of table.now + 4) * result.slots) (slots_of table.now)
+        effort.old effort.new seat.old seat.new }
     ensures steps { MakesFor (freeing (slots_of table.now) + 9) 0 (slots_of table.now)
         effort.old effort.new seat.old seat.new }
 {
@@ -128,7 +141,9 @@ fn hide_at<T: Tag, A: Allocator>(
     ensures dead { Buried key (λ s. s ≡ slot) (view seat.old) (view seat.new) }
     ensures few { (result.hidden ≤ 1) × (result.slots ≤ 1)
         × (result.charge ≤ result.slots * (2 ^ 32 - 1)) }
-    ensures steps { MakesAtMost (freeing (slots_of table.now) + 8) seat.old seat.new }
+    ensures does { (word : ℕ) × PassesOrHides T.fits table.now key name slot word result
+        effort.old effort.new seat.old seat.new }
+    ensures steps { MakesAtMost ((slots_of table.now + 4) * result.slots + 8) seat.old seat.new }
 {
     match hold(table, seat, slot, key, name, effort) {
         Some(_) => hide_held(table, seat, slot, name, effort),
@@ -160,7 +175,9 @@ fn hide_held<T: Tag, A: Allocator>(
     ensures records { (view seat.new).records ≡ dropped (is_called name) (view seat.old).records }
     ensures few { (result.hidden ≤ 1) × (result.slots ≤ 1)
         × (result.charge ≤ result.slots * (2 ^ 32 - 1)) }
-    ensures steps { MakesAtMost (freeing (slots_of table.now) + 2) seat.old seat.new }
+    ensures hides { HidesHeld (address_of_meta table.now slot) result effort.old effort.new
+        seat.old seat.new }
+    ensures steps { MakesAtMost ((slots_of table.now + 4) * result.slots + 3) seat.old seat.new }
 {
     let found = table.hide(seat, slot, name);
     let left = found & HIDING_MASK;
@@ -182,8 +199,8 @@ fn hide_held<T: Tag, A: Allocator>(
     }
 }
 
-/// Tries to take the entry whose word is `word` by the client's last reference, which has this
-/// name.
+/// Tries to take the entry whose word is `word`, where it's hidden and has one reference: the
+/// client's, which has this name.
 fn free_last<T: Tag, A: Allocator>(
     table: &RuleTable<T, A>,
     seat: &mut RuleSeat<T>,
@@ -204,7 +221,10 @@ fn free_last<T: Tag, A: Allocator>(
     ensures freed { IfSome result (λ charge. (charge < 2 ^ 32)
         × Erases [] 1 charge (view seat.old) (view seat.new)
         × ((view seat.new).records ≡ dropped (is_called name) (view seat.old).records)) }
+    ensures tried { TriedWhereDue (address_of_meta table.now slot) word (is_alone word) result
+        effort.old effort.new seat.old seat.new }
     ensures steps { MakesAtMost (freeing (slots_of table.now)) seat.old seat.new }
+    ensures fewer { IfNone result (MakesAtMost 1 seat.old seat.new) }
 {
     if has_entry(word) && !is_shown(word) && refs(word) == 1 {
         try_free(table, seat, slot, word, Some(name), effort)

@@ -5,10 +5,10 @@ ghost use mir.Syntax.{w64};
 ghost use Rattle.hcc_core.specs.World.{limit_of, times};
 ghost use Rattle.hcc_rule.specs.declared.layout.TheConstants.{DATA, KEY1};
 ghost use Rattle.hcc_rule.specs.declared.view.Record.{Record};
-ghost use Rattle.hcc_rule.specs.Callers.{clients_of, plan_of, slots_of, room_of, IsSeatAt, IsSlotOf, HasOn};
+ghost use Rattle.hcc_rule.specs.Callers.{address_of_displacement, address_of_meta, clients_of, plan_of, slots_of, room_of, IsSeatAt, IsSlotOf, HasOn};
 ghost use Rattle.hcc_rule.specs.Probes.{trail_to};
 ghost use Rattle.hcc_rule.specs.Rule.{setup_of};
-ghost use Rattle.hcc_rule.specs.Seats.{IsSameSeat, view};
+ghost use Rattle.hcc_rule.specs.Seats.{IsSameSeat, Makes, view};
 ghost use Rattle.hcc_rule.specs.Told.{after_look, Alone, Backs};
 ghost use Rattle.hcc_rule.specs.ToldOwners.{after_read};
 ghost use Rattle.hcc_rule.specs.ToldTrails.{passed_held};
@@ -23,7 +23,7 @@ use hcc_rule::layout::{KEY0, KEY1, LENGTH, PAYLOAD};
 use hcc_rule::{Key, RuleSeat, RuleTable, Tag};
 use std::alloc::Allocator;
 
-/// The meta word of a slot. `hcc_word` reads its fields.
+/// The meta word of a slot, as its load found it. `hcc_word` reads its fields.
 ///
 /// Where the client holds references on the slot, the word is that of an entry with at least these,
 /// and they all are on that entry; in a shard of one client, with just these. The client has looked
@@ -35,6 +35,7 @@ pub fn word<T: Tag, A: Allocator>(table: &RuleTable<T, A>, seat: &mut RuleSeat<T
     requires slot { IsSlotOf table.now slot }
     ensures seat { IsSameSeat seat.old seat.new }
     ensures view { view seat.new ≡ after_look slot result (view seat.old) }
+    ensures loads { Makes (address_of_meta table.now slot) 0 0 result seat.old seat.new }
     ensures backs { Backs slot result (view seat.old) }
     ensures alone { Alone (setup_of (plan_of table.now)) slot result (view seat.old) }
     ensures steps { MakesAtMost 1 seat.old seat.new }
@@ -42,7 +43,8 @@ pub fn word<T: Tag, A: Allocator>(table: &RuleTable<T, A>, seat: &mut RuleSeat<T
     table.look(seat, slot)
 }
 
-/// How often a slot stands in the trails of entries and of clients.
+/// How often a slot stands in the trails of entries and of clients, as a load of its displacement
+/// word found it.
 ///
 /// The client's own trail is among them, and so is that of each entry that it holds a reference on;
 /// each of these is on a slot of the table. Any other entry has the slot in its trail once at most,
@@ -58,6 +60,7 @@ pub fn displacement<T: Tag, A: Allocator>(
     requires slot { IsSlotOf table.now slot }
     ensures seat { IsSameSeat seat.old seat.new }
     ensures view { view seat.new ≡ view seat.old }
+    ensures loads { Makes (address_of_displacement table.now slot) 0 0 result seat.old seat.new }
     ensures own { times slot (view seat.old).work.trail ≤ result }
     ensures held { Each (λ (r : Record).
         times slot (trail_to (slots_of table.now) (key_of r.entry) r.slot) ≤ result)

@@ -10,8 +10,9 @@ ghost use Rattle.hcc_rule.specs.ToldOwners.{with_met};
 ghost use Rattle.hcc_rule.specs.Views.{load_of, record_in};
 ghost use Rattle.hcc_rule.specs.Words.{key_of};
 ghost use Rattle.hcc_table.specs.Efforts.{Took};
+ghost use Rattle.hcc_table.specs.Probed.{Catches, LoadsKey, LoadsOther, Looks, Passes, Searches};
 ghost use Rattle.hcc_table.specs.Searched.{Sought, IsFound, IsMissed, Buried};
-ghost use Rattle.hcc_table.specs.Steps.{Adds, Among, MakesAtMost, MakesFor, MakesNone, Marks};
+ghost use Rattle.hcc_table.specs.Steps.{AddsUnmarked, Among, MakesAtMost, MakesFor, MakesNone, Marks};
 
 use crate::acquire::reach;
 use crate::efforts::Effort;
@@ -37,6 +38,10 @@ use std::alloc::Allocator;
 /// slot is visible an add, a load of each half of the key that is compared, and a subtraction. A
 /// hit at the first probe is one load, one add and two loads, with the mark's or where that is
 /// asked for and lacks. A reference that doesn't count costs one compare-exchange more.
+///
+/// It misses only what it didn't find: at least one slot is visited, and each slot that was passed
+/// was found not visible, by its load or by the add, or with an entry of another key. It ends where
+/// the displacement word of the last slot is 0, or after all slots.
 #[inline(always)]
 pub fn find<T: Tag, A: Allocator>(
     table: &RuleTable<T, A>,
@@ -56,8 +61,14 @@ pub fn find<T: Tag, A: Allocator>(
         × IsFound T.fits (room_of table.now) pin.slot name key (view seat.old) (view seat.new) r
         × (r.counting ≡ pin.counting)) }
     ensures missed { IfNone result (IsMissed key (view seat.old) (view seat.new)) }
+    ensures searches { Searches T.fits table.now key name marks result effort.old effort.new
+        seat.old seat.new }
+    ensures acquired { IfSome result (λ pin. (found : ℕ) × (is_visible found ≡ true)
+        × (pin.counting ≡ is_counting found)
+        × Among (atomic (address_of_meta table.now pin.slot) 1 0 found) seat.old seat.new) }
     ensures marked { marks ≡ true → IfSome result (λ pin.
         Marks (address_of_meta table.now pin.slot) seat.old seat.new) }
+    ensures unmarked { marks ≡ false → AddsUnmarked seat.old seat.new }
     ensures steps { MakesFor 7 0 (slots_of table.now) effort.old effort.new seat.old seat.new }
 {
     let slots = table.geometry().slots;
@@ -104,12 +115,18 @@ pub(crate) fn hold<T: Tag, A: Allocator>(
         × (r.counting ≡ is_counting word)) }
     ensures missed { IfNone result (Sought (view seat.old) (view seat.new)
         × Buried key (λ s. s ≡ slot) (view seat.old) (view seat.new)) }
+    ensures passes { IfNone result ((word : ℕ) × Passes T.fits table.now key name
+        (Looks table.now slot) slot 1 word effort.old effort.new seat.old seat.new) }
+    ensures catches { IfSome result (λ word. Catches T.fits table.now key name
+        (Looks table.now slot) slot 1 word effort.old effort.new seat.old seat.new) }
     ensures acquired { IfSome result (λ word.
         Among (atomic (address_of_meta table.now slot) 1 0 word) seat.old seat.new) }
-    ensures adds { Adds seat.old seat.new }
+    ensures adds { AddsUnmarked seat.old seat.new }
     ensures steps { MakesAtMost 6 seat.old seat.new }
+    ensures fewer { IfSome result (λ _. MakesAtMost 5 seat.old seat.new) }
 {
-    if !is_shown(table.look(seat, slot)) {
+    let seen = table.look(seat, slot);
+    if !is_shown(seen) {
         return None;
     }
     let found = reach(table, seat, slot, 1, name, effort);
@@ -145,7 +162,10 @@ pub(crate) fn matches<T: Tag, A: Allocator>(
         → IfSome (record_in name (view seat.old).records) (λ r. ¬ (key_of r.entry ≡ key)) }
     ensures met { result ≡ true → (view seat.new).met
         ≡ with_met (record_in name (view seat.old).records) (view seat.old).met }
-    ensures adds { Adds seat.old seat.new }
+    ensures loads { result ≡ true → LoadsKey table.now key slot seat.old seat.new }
+    ensures differs { result ≡ false → is_visible found ≡ true
+        → LoadsOther table.now key slot seat.old seat.new }
+    ensures adds { AddsUnmarked seat.old seat.new }
     ensures steps { MakesAtMost 2 seat.old seat.new }
 {
     is_shown(found) && has_key(table, seat, slot, key, name)
@@ -172,7 +192,9 @@ fn has_key<T: Tag, A: Allocator>(
         → IfSome (record_in name (view seat.old).records) (λ r. ¬ (key_of r.entry ≡ key)) }
     ensures met { result ≡ true → (view seat.new).met
         ≡ with_met (record_in name (view seat.old).records) (view seat.old).met }
-    ensures adds { Adds seat.old seat.new }
+    ensures loads { result ≡ true → LoadsKey table.now key slot seat.old seat.new }
+    ensures differs { result ≡ false → LoadsOther table.now key slot seat.old seat.new }
+    ensures adds { AddsUnmarked seat.old seat.new }
     ensures steps { MakesAtMost 2 seat.old seat.new }
 {
     let first = table.data_of(slot);
@@ -198,6 +220,7 @@ fn mark_if<T: Tag, A: Allocator>(
     ensures marked { marks ≡ true → hit_of found ≡ false → (other : ℕ)
         × Makes (address_of_meta table.now slot) HIT_BIT 0 other seat.old seat.new }
     ensures unmarked { hit_of found ≡ true → MakesNone seat.old seat.new }
+    ensures unasked { marks ≡ false → MakesNone seat.old seat.new }
     ensures steps { MakesAtMost 1 seat.old seat.new }
 {
     if marks && !hit(found) {

@@ -2,7 +2,7 @@ use Rattle.std.proofs.Common.{length, ap, sym, ◌∙◌}
 use Rattle.hcc_rule.specs.declared.view.Atomic.{Atomic}
 use Rattle.hcc_rule.specs.Callers.{address_of_meta}
 use Rattle.hcc_rule.specs.Seats.{Makes, atomic}
-use Rattle.hcc_table.proofs.Logs.{begins_then, makes_two}
+use Rattle.hcc_table.proofs.Logs.{begins_then, light, makes_two, unmarked_adds, unmarked_one, unmarked_then}
 use Rattle.hcc_table.proofs.Reaches.{relieves}
 use Rattle.hcc_table.proofs.acquire.reach.Goals as goal
 
@@ -14,14 +14,14 @@ relieve-requires-clause-holds g c =
 pub returns-then-not-counts-clause-acquires : goal.returns-then-not-counts-clause-acquires
 returns-then-not-counts-clause-acquires g c = record {
   first = begins_then got c.args.seat.now c.acquire-found.new.seat c.relieve.new.seat
-      added.step c.relieve.ensures.adds;
+      added.step (unmarked_adds c.acquire-found.new.seat c.relieve.new.seat c.relieve.ensures.adds);
   once = λ fresh.
       let none = c.relieve.ensures.passes (λ worn. fresh (
         sym c.if-has_entry.ensures,
         sym c.if-not-counts.ensures,
         worn,
       )) in
-      record { step = none ∙ added.step; one = ap length none ∙ added.one };
+      record { step = none.0 ∙ added.step; one = ap length none.0 ∙ added.one };
   worn = λ worn.
       let corrected = c.relieve.ensures.corrects worn.2 in (
         corrected.0,
@@ -38,3 +38,26 @@ returns-then-not-counts-clause-acquires g c = record {
     added : Makes (address_of_meta c.args.table.now c.args.slot) c.args.weight 0
         c.acquire-found.result c.args.seat.now c.acquire-found.new.seat
     added = c.acquire-found.ensures.step
+
+pub returns-then-not-counts-clause-corrects : goal.returns-then-not-counts-clause-corrects
+returns-then-not-counts-clause-corrects g c = record {
+  none = λ fresh. (c.relieve.ensures.passes (λ worn. fresh (
+    sym c.if-has_entry.ensures,
+    sym c.if-not-counts.ensures,
+    worn,
+  ))).1;
+  tried = λ worn.
+      let corrected = c.relieve.ensures.corrects worn.2 in (
+        corrected.0,
+        makes_two _ _ c.args.seat.now c.acquire-found.new.seat c.relieve.new.seat
+            c.acquire-found.ensures.step.step corrected.1.step,
+        corrected.2,
+        corrected.3,
+      );
+}
+
+pub returns-then-not-counts-clause-adds : goal.returns-then-not-counts-clause-adds
+returns-then-not-counts-clause-adds g c =
+    unmarked_then c.args.seat.now c.acquire-found.new.seat c.relieve.new.seat
+    (unmarked_one _ c.args.seat.now c.acquire-found.new.seat c.acquire-found.ensures.step.step
+    (light c.args.weight c.requires.weight.1)) c.relieve.ensures.adds

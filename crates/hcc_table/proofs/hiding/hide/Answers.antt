@@ -1,10 +1,14 @@
-use Rattle.std.proofs.Common.{mul-suc, ◌+◌, ◌*◌, ◌<◌, ◌≤◌, refl, arith}
+use Rattle.std.proofs.Common.{◌≡◌, ℕ, ◌+◌, ◌*◌, ◌<◌, ◌≤◌, refl, ap, ◌∙◌, arith}
+use Rattle.std.proofs.Math.Nat.{mul-le-mul_left}
 use Rattle.hcc_table.specs.Efforts.{Took}
-use Rattle.hcc_table.specs.Steps.{freeing}
 use Rattle.hcc_table.proofs.Rises.{took_none, took_next, took_within}
 use Rattle.hcc_rule.proofs.Probes.ProbeLaws.{some_slots}
+use Rattle.hcc_table.proofs.HideSteps.{hid_none, hid_then, hides_every, hides_here}
 use Rattle.hcc_table.proofs.Hidings.{hides_none, both, hides_on, hides_last, hides_all}
 use Rattle.hcc_table.proofs.hiding.hide.Goals as goal
+
+sum_of : (m a b c : ℕ) → c ≡ a + b → m * c ≡ m * a + m * b
+sum_of m a b c is = ap (λ (n : ℕ). m * n) is ∙ omega arith
 
 pub loop-init : goal.loop-init
 loop-init g c =
@@ -15,6 +19,7 @@ loop-init g c =
           told.stride (rw (← c.geometry-slots.ensures) told.mask) refl,
       took_none c.args.effort.now,
       omega arith,
+      hid_none g.T.Tag.fits table c.args.key c.args.name c.args.effort.now c.args.seat.now,
     )
 
 pub returns-then-count-eq0-clause-view : goal.returns-then-count-eq0-clause-view
@@ -56,7 +61,17 @@ loop-preserved g c =
       visited,
       (let so_far = c.loop.invariant.2 in let hid = c.hide_at-here.ensures.steps in
           let one = told.step.one in
-          omega (arith, mul-suc (freeing c.args.table.now.geometry.slots + 9) c.loop.counter)),
+          let both = sum_of (c.args.table.now.geometry.slots + 4) c.loop.all.slots
+          c.hide_at-here.result.slots c.with-all.result.slots all.slots in
+          omega arith),
+      hid_then g.T.Tag.fits c.args.table.now c.args.key c.args.name c.loop.counter
+          c.slot-slot.result here.does.0 c.count.result c.loop.all c.hide_at-here.result
+          c.with-all.result c.args.effort.now c.probes.new.self c.loop.effort c.args.seat.now
+          c.loop.seat c.hide_at-here.new.seat c.count.new.seat c.loop.invariant.3
+          (c.slot-slot.ensures ∙ c.loop.invariant.0.walking.probe) c.hide_at-here.new.effort
+          (c.probes.ensures.probes, c.probes.ensures.corrections, c.probes.ensures.lost)
+          here.does.1 (all.hidden, all.slots, all.charge) told.step told.view
+          c.if-count-eq0.false,
     )
   where
     visited : Took (c.loop.counter + 1) (c.loop.counter + 1) (2 * (c.loop.counter + 1))
@@ -97,14 +112,41 @@ returns-clause-effort g c =
     took_within c.loop.counter (2 * c.loop.counter) 1 slots (2 * slots) c.args.effort.now
     c.loop.effort (omega arith) (omega arith) (omega arith) c.loop.invariant.1
 
-pub returns-then-count-eq0-clause-steps : goal.returns-then-count-eq0-clause-steps
-returns-then-count-eq0-clause-steps g c =
+pub returns-then-count-eq0-clause-hides : goal.returns-then-count-eq0-clause-hides
+returns-then-count-eq0-clause-hides g c =
+    let here = c.hide_at-here.ensures in
+    let all = c.with-all.ensures in
+    let told = c.count.ensures in
+    hides_here g.T.Tag.fits c.args.table.now c.args.key c.args.name c.loop.counter
+    c.slot-slot.result here.does.0 c.count.result c.loop.all c.hide_at-here.result
+    c.with-all.result c.args.effort.now c.probes.new.self c.loop.effort c.args.seat.now
+    c.loop.seat c.hide_at-here.new.seat c.count.new.seat c.loop.invariant.3
+    (c.slot-slot.ensures ∙ c.loop.invariant.0.walking.probe) c.hide_at-here.new.effort
+    (c.probes.ensures.probes, c.probes.ensures.corrections, c.probes.ensures.lost)
+    here.does.1 (all.hidden, all.slots, all.charge) told.step told.view c.if-count-eq0.true
+
+pub returns-clause-hides : goal.returns-clause-hides
+returns-clause-hides g c =
+    let size = c.geometry-slots.ensures in
+    let slots = c.args.table.now.geometry.slots in
+    let past : slots ≤ c.loop.counter = rw (← size) c.loop-test.false in
+    let most : c.loop.counter ≤ slots = rw (← size) c.loop.auto.counter-end in
+    let some : 0 < slots = some_slots slots c.args.table.now.limits.power in
+    hides_every g.T.Tag.fits c.args.table.now c.args.key c.args.name c.loop.counter c.loop.all
+    c.args.effort.now c.loop.effort c.args.seat.now c.loop.seat c.loop.invariant.3 (omega arith)
+    (omega arith)
+
+pub returns-then-count-eq0-clause-frees : goal.returns-then-count-eq0-clause-frees
+returns-then-count-eq0-clause-frees g c =
     let probe = c.probes.ensures in
     let size = c.geometry-slots.ensures in
-    let low : c.loop.counter < c.args.table.now.geometry.slots = rw (← size) c.loop-test.true in
+    let slots = c.args.table.now.geometry.slots in
+    let low : c.loop.counter < slots = rw (← size) c.loop-test.true in
     let so_far = c.loop.invariant.2 in
     let hid = c.hide_at-here.ensures.steps in
     let one = c.count.ensures.step.one in
+    let both = sum_of (slots + 4) c.loop.all.slots c.hide_at-here.result.slots
+    c.with-all.result.slots c.with-all.ensures.slots in
     record {
       visited = c.loop.counter + 1;
       within = omega arith;
@@ -112,5 +154,56 @@ returns-then-count-eq0-clause-steps g c =
           c.args.effort.now c.loop.effort c.probes.new.self c.hide_at-here.new.effort
           c.loop.invariant.1 probe.probes probe.corrections probe.lost c.hide_at-here.ensures.effort
           (omega arith)).0;
-      steps = omega (arith, mul-suc (freeing c.args.table.now.geometry.slots + 9) c.loop.counter);
+      steps = omega arith;
+    }
+
+pub returns-clause-frees : goal.returns-clause-frees
+returns-clause-frees g c =
+    let size = c.geometry-slots.ensures in
+    let most : c.loop.counter ≤ c.args.table.now.geometry.slots =
+    rw (← size) c.loop.auto.counter-end in
+    record {
+      visited = c.loop.counter;
+      within = most;
+      counted = c.loop.invariant.1.0;
+      steps = c.loop.invariant.2;
+    }
+
+pub returns-then-count-eq0-clause-steps : goal.returns-then-count-eq0-clause-steps
+returns-then-count-eq0-clause-steps g c =
+    let probe = c.probes.ensures in
+    let size = c.geometry-slots.ensures in
+    let slots = c.args.table.now.geometry.slots in
+    let low : c.loop.counter < slots = rw (← size) c.loop-test.true in
+    let so_far = c.loop.invariant.2 in
+    let hid = c.hide_at-here.ensures.steps in
+    let one = c.count.ensures.step.one in
+    let both = sum_of (slots + 4) c.loop.all.slots c.hide_at-here.result.slots
+    c.with-all.result.slots c.with-all.ensures.slots in
+    let few : c.with-all.result.slots ≤ c.loop.counter + 1 =
+    (let old = c.loop.invariant.0.fewer in let here = c.hide_at-here.ensures.few.1 in
+    let all = c.with-all.ensures.slots in omega arith) in
+    let most = mul-le-mul_left (slots + 4) few in
+    record {
+      visited = c.loop.counter + 1;
+      within = omega arith;
+      counted = (took_next c.loop.counter (2 * c.loop.counter) 2 (2 * (c.loop.counter + 1))
+          c.args.effort.now c.loop.effort c.probes.new.self c.hide_at-here.new.effort
+          c.loop.invariant.1 probe.probes probe.corrections probe.lost c.hide_at-here.ensures.effort
+          (omega arith)).0;
+      steps = omega arith;
+    }
+
+pub returns-clause-steps : goal.returns-clause-steps
+returns-clause-steps g c =
+    let size = c.geometry-slots.ensures in
+    let slots = c.args.table.now.geometry.slots in
+    let within : c.loop.counter ≤ slots = rw (← size) c.loop.auto.counter-end in
+    let so_far = c.loop.invariant.2 in
+    let most = mul-le-mul_left (slots + 4) c.loop.invariant.0.fewer in
+    record {
+      visited = c.loop.counter;
+      within = within;
+      counted = c.loop.invariant.1.0;
+      steps = omega arith;
     }

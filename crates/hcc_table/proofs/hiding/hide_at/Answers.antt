@@ -1,3 +1,4 @@
+use Rattle.std.proofs.Common.{inl, inr, refl}
 use Rattle.hcc_table.proofs.Erasures.{erased_none, erased_there, buried_there}
 use Rattle.hcc_rule.specs.Seats.{view}
 use Rattle.hcc_table.proofs.Probes.{found_holds}
@@ -25,6 +26,21 @@ returns-in-Some-clause-dead g c =
     buried_there g.T.Tag.fits c.args.table.now.geometry.room c.args.slot c.args.name all.hidden
     all.slots all.charge c.args.key (view c.args.seat.now) (view c.hold.new.seat)
     (view c.hide_held.new.seat) found.0 c.requires.fresh found.1 c.hide_held.ensures.view
+
+pub returns-in-Some-clause-does : goal.returns-in-Some-clause-does
+returns-in-Some-clause-does g c = (
+  c.in-Some.field-0,
+  inr (record {
+    between = c.hold.new.effort;
+    held = c.hold.new.seat;
+    catches = c.in-Some.ensures.catches;
+    hides = c.hide_held.ensures.hides;
+  }),
+)
+
+pub returns-in-None-clause-does : goal.returns-in-None-clause-does
+returns-in-None-clause-does g c =
+    (c.in-None.ensures.passes.0, inl (c.in-None.ensures.passes.1, refl))
 
 pub returns-in-None-clause-view : goal.returns-in-None-clause-view
 returns-in-None-clause-view g c =

@@ -1,10 +1,36 @@
-use Rattle.std.proofs.Common.{ap, ◌∙◌}
+use Rattle.std.proofs.Common.{Some, None, ap, refl, ◌∙◌}
 use Rattle.hcc_rule.specs.Seats.{view}
 use Rattle.std.specs.Int.{from_bool}
 use Rattle.hcc_table.proofs.Erasures.{hidden_then}
 use Rattle.hcc_table.proofs.Probes.{given_at}
 use Rattle.hcc_table.proofs.Searches.{searched_then}
 use Rattle.hcc_table.proofs.hiding.hide_held.Goals as goal
+
+pub returns-in-Some-clause-hides : goal.returns-in-Some-clause-hides
+returns-in-Some-clause-hides g c = record {
+  found = c.hide-found.result;
+  hid = c.hide-found.new.seat;
+  hides = c.hide-found.ensures.step;
+  hidden = c.from-hidden.ensures ∙ ap from_bool c.is_shown.ensures;
+  freed = Some c.in-Some.charge;
+  tried = c.free_last.new.seat;
+  tries = c.in-Some.ensures.tried;
+  won = (refl, refl, refl);
+  given = tt;
+}
+
+pub returns-in-None-clause-hides : goal.returns-in-None-clause-hides
+returns-in-None-clause-hides g c = record {
+  found = c.hide-found.result;
+  hid = c.hide-found.new.seat;
+  hides = c.hide-found.ensures.step;
+  hidden = c.from-hidden.ensures ∙ ap from_bool c.is_shown.ensures;
+  freed = None;
+  tried = c.free_last.new.seat;
+  tries = c.in-None.ensures.tried;
+  won = tt;
+  given = (c.give.result, c.give.ensures.step, refl, refl);
+}
 
 pub returns-in-None-clause-view : goal.returns-in-None-clause-view
 returns-in-None-clause-view g c =

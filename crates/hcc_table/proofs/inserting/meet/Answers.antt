@@ -3,7 +3,7 @@ use Rattle.hcc_rule.specs.declared.view.Atomic.{Atomic}
 use Rattle.hcc_rule.specs.Callers.{address_of_meta}
 use Rattle.hcc_rule.specs.Seats.{atomic, view}
 use Rattle.hcc_table.specs.Steps.{Adds}
-use Rattle.hcc_table.proofs.Logs.{adds_none, adds_one, adds_then, among_at, among_first, among_then, begins_adds}
+use Rattle.hcc_table.proofs.Logs.{adds_none, adds_one, adds_then, among_at, among_first, among_then, begins_adds, unmarked_adds}
 use Rattle.hcc_rule.specs.Words.{key_of}
 use Rattle.hcc_table.proofs.Searches.{searched_refl}
 use Rattle.hcc_table.proofs.Probes.{strayed, holds, holds_slot, holds_used, told_key, given_back, met_there, missed_there}
@@ -109,7 +109,7 @@ returns-then-matches-clause-matched g c _ = (
   among_then got c.args.seat.now c.matches.new.seat c.let_go.new.seat
       (among_then got c.args.seat.now c.reach-found.new.seat c.matches.new.seat
       (among_first got c.args.seat.now c.reach-found.new.seat c.reach-found.ensures.acquires.first)
-      c.matches.ensures.adds)
+      (unmarked_adds c.reach-found.new.seat c.matches.new.seat c.matches.ensures.adds))
       (adds_one _ c.matches.new.seat c.let_go.new.seat c.let_go.ensures.left.step.step),
   rw (← c.counts.ensures) (among_at _ c.args.seat.now c.matches.new.seat c.let_go.new.seat
       c.let_go.new.seat before c.let_go.ensures.left.step.step
@@ -124,13 +124,15 @@ returns-then-matches-clause-matched g c _ = (
     before =
         adds_then c.args.seat.now c.reach-found.new.seat c.matches.new.seat
         (begins_adds got c.args.seat.now c.reach-found.new.seat
-        c.reach-found.ensures.acquires.first) c.matches.ensures.adds
+        c.reach-found.ensures.acquires.first)
+        (unmarked_adds c.reach-found.new.seat c.matches.new.seat c.matches.ensures.adds)
 
 pub returns-then-matches-clause-adds : goal.returns-then-matches-clause-adds
 returns-then-matches-clause-adds g c =
     adds_then c.args.seat.now c.reach-found.new.seat c.let_go.new.seat
     (begins_adds _ c.args.seat.now c.reach-found.new.seat c.reach-found.ensures.acquires.first)
-    (adds_then c.reach-found.new.seat c.matches.new.seat c.let_go.new.seat c.matches.ensures.adds
+    (adds_then c.reach-found.new.seat c.matches.new.seat c.let_go.new.seat
+    (unmarked_adds c.reach-found.new.seat c.matches.new.seat c.matches.ensures.adds)
     (adds_one _ c.matches.new.seat c.let_go.new.seat c.let_go.ensures.left.step.step))
 
 pub returns-then-not-has_entry-clause-adds : goal.returns-then-not-has_entry-clause-adds
@@ -141,5 +143,6 @@ pub returns-clause-adds : goal.returns-clause-adds
 returns-clause-adds g c =
     adds_then c.args.seat.now c.reach-found.new.seat c.give.new.seat
     (begins_adds _ c.args.seat.now c.reach-found.new.seat c.reach-found.ensures.acquires.first)
-    (adds_then c.reach-found.new.seat c.matches.new.seat c.give.new.seat c.matches.ensures.adds
+    (adds_then c.reach-found.new.seat c.matches.new.seat c.give.new.seat
+    (unmarked_adds c.reach-found.new.seat c.matches.new.seat c.matches.ensures.adds)
     (adds_one _ c.matches.new.seat c.give.new.seat c.give.ensures.step.step))

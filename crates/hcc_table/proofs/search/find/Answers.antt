@@ -1,15 +1,17 @@
-use Rattle.std.proofs.Common.{◌+◌, ◌<◌, ◌≤◌, ap, refl, sym, ◌∙◌, arith}
-use Rattle.hcc_table.specs.Efforts.{Took}
+use Rattle.std.proofs.Common.{◌≡◌, ◌+◌, ◌<◌, ◌≤◌, ap, refl, subst, sym, ◌∙◌, arith}
+use Rattle.hcc_word.specs.Word.{hit_of}
+use Rattle.hcc_table.specs.Efforts.{Took, VisitedSlots}
 use Rattle.hcc_rule.specs.declared.view.Atomic.{Atomic}
 use Rattle.hcc_rule.specs.Callers.{address_of_meta}
 use Rattle.hcc_rule.specs.Seats.{atomic, view}
 use Rattle.hcc_table.specs.Steps.{Adds}
-use Rattle.hcc_table.proofs.Logs.{adds_none, adds_one, adds_then, among_after, among_then, ends_after}
+use Rattle.hcc_table.proofs.Logs.{adds_none, among_after, among_then, ends_after, unmarked_adds, unmarked_none, unmarked_then, unmarked_zero}
 use Rattle.hcc_table.proofs.Rises.{counted_probes, took_none, took_then, took_probes}
 use Rattle.hcc_rule.specs.Views.{record_in}
 use Rattle.hcc_rule.proofs.Probes.ProbeLaws.{some_slots}
 use Rattle.hcc_table.proofs.Finds.{begins, goes_on, ends, ends_all}
 use Rattle.hcc_table.proofs.Probes.{found_stands, found_then}
+use Rattle.hcc_table.proofs.Probings.{finds_here, marks_add, misses_all, misses_here, passed_none, passed_then}
 use Rattle.hcc_table.proofs.search.find.Goals as goal
 
 pub loop-probe-init : goal.loop-probe-init
@@ -21,7 +23,9 @@ loop-probe-init g c =
           c.args.seat.now told.probe told.stride (rw (← size) told.mask),
       took_none c.args.effort.now,
       omega arith,
-      adds_none c.args.seat.now c.args.seat.now refl,
+      unmarked_none c.args.seat.now c.args.seat.now refl,
+      passed_none g.T.Tag.fits c.args.table.now c.args.key c.args.name c.args.effort.now
+          c.args.seat.now,
     )
 
 pub returns-then-count-eq0-clause-missed : goal.returns-then-count-eq0-clause-missed
@@ -47,9 +51,14 @@ loop-probe-preserved g c =
       visited,
       (let so_far = c.loop-probe.invariant.2 in let held = c.hold.ensures.steps in
           let one = told.step.one in omega arith),
-      adds_then c.args.seat.now c.hold.new.seat c.count.new.seat
-          (adds_then c.args.seat.now c.loop-probe.seat c.hold.new.seat c.loop-probe.invariant.3
-          c.hold.ensures.adds) (adds_one _ c.hold.new.seat c.count.new.seat told.step.step),
+      unmarked_then c.args.seat.now c.hold.new.seat c.count.new.seat
+          (unmarked_then c.args.seat.now c.loop-probe.seat c.hold.new.seat c.loop-probe.invariant.3
+          c.hold.ensures.adds) (unmarked_zero _ _ c.hold.new.seat c.count.new.seat told.step),
+      passed_then g.T.Tag.fits table c.args.key c.args.name c.loop-probe.probe c.slot-slot.result
+          c.in_default.ensures.passes.0 c.count.result c.args.effort.now c.loop-probe.effort
+          c.hold.new.effort c.args.seat.now c.loop-probe.seat c.hold.new.seat c.count.new.seat
+          c.loop-probe.invariant.4 (c.slot-slot.ensures ∙ c.loop-probe.invariant.0.walking.probe)
+          c.in_default.ensures.passes.1 told.step told.view c.if-count-eq0.false,
     )
   where
     visited : Took 0 0 (c.loop-probe.probe + 1) c.args.effort.now c.hold.new.effort
@@ -183,7 +192,8 @@ returns-in-Some-clause-marked g c asked = (
     ends_after _ c.args.seat.now c.hold.new.seat c.mark_if.new.seat before set.1.step,
   ),
   λ hit. among_then got c.args.seat.now c.hold.new.seat c.mark_if.new.seat
-      (among_after got c.args.seat.now c.loop-probe.seat c.hold.new.seat c.loop-probe.invariant.3
+      (among_after got c.args.seat.now c.loop-probe.seat c.hold.new.seat
+      (unmarked_adds c.args.seat.now c.loop-probe.seat c.loop-probe.invariant.3)
       c.in-Some.ensures.acquired)
       (adds_none c.hold.new.seat c.mark_if.new.seat (c.mark_if.ensures.unmarked hit)),
 )
@@ -193,5 +203,82 @@ returns-in-Some-clause-marked g c asked = (
 
     before : Adds c.args.seat.now c.hold.new.seat
     before =
-        adds_then c.args.seat.now c.loop-probe.seat c.hold.new.seat c.loop-probe.invariant.3
-        c.hold.ensures.adds
+        unmarked_adds c.args.seat.now c.hold.new.seat
+        (unmarked_then c.args.seat.now c.loop-probe.seat c.hold.new.seat c.loop-probe.invariant.3
+        c.hold.ensures.adds)
+
+pub returns-in-Some-clause-acquired : goal.returns-in-Some-clause-acquired
+returns-in-Some-clause-acquired g c = (
+  c.in-Some.found,
+  c.in-Some.ensures.catches.visible,
+  c.counts.ensures,
+  among_then got c.args.seat.now c.hold.new.seat c.mark_if.new.seat
+      (among_after got c.args.seat.now c.loop-probe.seat c.hold.new.seat
+      (unmarked_adds c.args.seat.now c.loop-probe.seat c.loop-probe.invariant.3)
+      c.in-Some.ensures.acquired)
+      (marks_add (address_of_meta c.args.table.now c.slot-slot.result) c.hold.new.seat
+      c.mark_if.new.seat c.args.marks (hit_of c.in-Some.found) c.mark_if.ensures.marked
+      c.mark_if.ensures.unmarked c.mark_if.ensures.unasked),
+)
+  where
+    got : Atomic
+    got = atomic (address_of_meta c.args.table.now c.slot-slot.result) 1 0 c.in-Some.found
+
+pub returns-in-Some-clause-unmarked : goal.returns-in-Some-clause-unmarked
+returns-in-Some-clause-unmarked g c unasked =
+    unmarked_then c.args.seat.now c.hold.new.seat c.mark_if.new.seat
+    (unmarked_then c.args.seat.now c.loop-probe.seat c.hold.new.seat c.loop-probe.invariant.3
+    c.hold.ensures.adds)
+    (unmarked_none c.hold.new.seat c.mark_if.new.seat (c.mark_if.ensures.unasked unasked))
+
+pub returns-then-count-eq0-clause-unmarked : goal.returns-then-count-eq0-clause-unmarked
+returns-then-count-eq0-clause-unmarked g c _ =
+    unmarked_then c.args.seat.now c.hold.new.seat c.count.new.seat
+    (unmarked_then c.args.seat.now c.loop-probe.seat c.hold.new.seat c.loop-probe.invariant.3
+    c.hold.ensures.adds)
+    (unmarked_zero _ _ c.hold.new.seat c.count.new.seat c.count.ensures.step)
+
+pub returns-clause-unmarked : goal.returns-clause-unmarked
+returns-clause-unmarked g c _ = c.loop-probe.invariant.3
+
+pub returns-in-Some-clause-searches : goal.returns-in-Some-clause-searches
+returns-in-Some-clause-searches g c =
+    let counted = c.probes.ensures in (
+      c.in-Some.found,
+      finds_here g.T.Tag.fits c.args.table.now c.args.key c.args.name c.args.marks
+          c.loop-probe.probe c.slot-slot.result c.in-Some.found c.args.effort.now
+          c.loop-probe.effort c.hold.new.effort c.probes.new.self c.args.seat.now
+          c.loop-probe.seat c.hold.new.seat c.mark_if.new.seat c.loop-probe.invariant.4
+          (c.slot-slot.ensures ∙ c.loop-probe.invariant.0.walking.probe) c.in-Some.ensures.catches
+          (counted.probes, counted.corrections, counted.lost) c.mark_if.ensures.marked
+          c.mark_if.ensures.unmarked c.mark_if.ensures.unasked,
+      c.counts.ensures,
+    )
+
+pub returns-then-count-eq0-clause-searches : goal.returns-then-count-eq0-clause-searches
+returns-then-count-eq0-clause-searches g c =
+    let counted = c.probes-then-count-eq0.ensures in
+    let told = c.count.ensures in
+    misses_here g.T.Tag.fits c.args.table.now c.args.key c.args.name c.loop-probe.probe
+    c.slot-slot.result c.in_default.ensures.passes.0 c.count.result c.args.effort.now
+    c.loop-probe.effort c.hold.new.effort c.args.seat.now c.loop-probe.seat c.hold.new.seat
+    c.count.new.seat c.loop-probe.invariant.4
+    (c.slot-slot.ensures ∙ c.loop-probe.invariant.0.walking.probe) c.in_default.ensures.passes.1
+    told.step told.view c.probes-then-count-eq0.new.self c.if-count-eq0.true
+    (counted.probes, counted.corrections, counted.lost)
+
+pub returns-clause-searches : goal.returns-clause-searches
+returns-clause-searches g c =
+    let counted = c.probes-2.ensures in
+    let size = c.geometry-slots.ensures in
+    let slots = c.args.table.now.geometry.slots in
+    let past : slots ≤ c.loop-probe.probe = rw (← size) c.loop-probe-test.false in
+    let most : c.loop-probe.probe ≤ slots = rw (← size) c.loop-probe.auto.probe-end in
+    let some : 0 < slots = some_slots slots c.args.table.now.limits.power in
+    let all : c.loop-probe.probe ≡ slots = omega arith in
+    let visited : VisitedSlots slots c.loop-probe.effort c.probes-2.new.self =
+    (rw (← size) counted.probes, counted.corrections, counted.lost) in
+    misses_all g.T.Tag.fits c.args.table.now c.args.key c.args.name c.loop-probe.probe
+    c.args.effort.now c.loop-probe.effort c.probes-2.new.self c.args.seat.now c.loop-probe.seat
+    c.loop-probe.invariant.4 (omega arith) all
+    (subst (λ n. VisitedSlots n c.loop-probe.effort c.probes-2.new.self) (sym all) visited)

@@ -1,33 +1,38 @@
-use Rattle.std.proofs.Common.{◌≡◌, refl, sym}
+use Rattle.std.proofs.Common.{◌≡◌, refl, sym, arith}
+use Rattle.hcc_word.specs.Word.{is_shareable, is_visible}
 use Rattle.hcc_rule.specs.Callers.{address_of_meta}
 use Rattle.hcc_rule.specs.Seats.{atomic, view}
 use Rattle.hcc_rule.specs.Words.{key_of}
-use Rattle.hcc_table.proofs.Logs.{adds_one, adds_then, among_after, among_first, among_then, begins_adds}
-use Rattle.hcc_table.proofs.Probes.{looked_at, buried_by_look, strayed, holds, holds_slot, told_key, missed_there, found_there, got_record}
+use Rattle.hcc_table.specs.Steps.{Adds}
+use Rattle.hcc_table.proofs.Logs.{adds_none, adds_one, adds_then, among_after, among_first, among_then, light, unmarked_adds, unmarked_one, unmarked_then, unmarked_zero}
+use Rattle.hcc_table.proofs.Probes.{looked_at, buried_by_look, strayed, holds, holds_slot, told_key, missed_there, found_there, got_record, on_other, on_same}
+use Rattle.hcc_table.proofs.Probings.{neither, other_then, visible_has}
 use Rattle.hcc_table.proofs.Searches.{searched_refl}
 use Rattle.hcc_table.proofs.search.hold.Goals as goal
 
 pub returns-then-not-is_shown-clause-missed : goal.returns-then-not-is_shown-clause-missed
 returns-then-not-is_shown-clause-missed g c =
-    let told = c.look.ensures in (
-      looked_at c.args.slot c.look.result _ _ told.view,
-      buried_by_look c.args.key c.args.slot c.look.result _ _ (sym c.if-not-is_shown.ensures)
+    let told = c.look-seen.ensures in (
+      looked_at c.args.slot c.look-seen.result _ _ told.view,
+      buried_by_look c.args.key c.args.slot c.look-seen.result _ _ (sym c.if-not-is_shown.ensures)
           told.backs told.view,
     )
 
 pub returns-then-not-has_entry-clause-missed : goal.returns-then-not-has_entry-clause-missed
 returns-then-not-has_entry-clause-missed g c =
     strayed g.T.Tag.fits c.args.table.now.geometry.room c.args.slot 1 c.args.name
-    c.reach-found.result c.args.key (view c.args.seat.now) (view c.look.new.seat)
-    (view c.reach-found.new.seat) (looked_at c.args.slot c.look.result _ _ c.look.ensures.view)
+    c.reach-found.result c.args.key (view c.args.seat.now) (view c.look-seen.new.seat)
+    (view c.reach-found.new.seat)
+    (looked_at c.args.slot c.look-seen.result _ _ c.look-seen.ensures.view)
     c.reach-found.ensures.view
     (sym c.if-not-has_entry.ensures)
 
 pub matches-requires-clause-holds : goal.matches-requires-clause-holds
 matches-requires-clause-holds g c =
     holds_slot g.T.Tag.fits c.args.table.now.geometry.room c.args.slot 1 c.args.name
-    c.reach-found.result c.args.key (view c.args.seat.now) (view c.look.new.seat)
-    (view c.reach-found.new.seat) (looked_at c.args.slot c.look.result _ _ c.look.ensures.view)
+    c.reach-found.result c.args.key (view c.args.seat.now) (view c.look-seen.new.seat)
+    (view c.reach-found.new.seat)
+    (looked_at c.args.slot c.look-seen.result _ _ c.look-seen.ensures.view)
     c.reach-found.ensures.view (sym c.if-not-has_entry.ensures) c.requires.fresh
     (view c.reach-found.new.seat) (searched_refl (view c.reach-found.new.seat))
 
@@ -35,18 +40,19 @@ pub returns-then-matches-clause-found : goal.returns-then-matches-clause-found
 returns-then-matches-clause-found g c = (
   got_record g.T.Tag.fits c.args.table.now.geometry.room c.args.slot 1 c.args.name
       c.reach-found.result c.args.key
-      (view c.args.seat.now) (view c.look.new.seat) (view c.reach-found.new.seat)
-      (looked_at c.args.slot c.look.result _ _ c.look.ensures.view)
+      (view c.args.seat.now) (view c.look-seen.new.seat) (view c.reach-found.new.seat)
+      (looked_at c.args.slot c.look-seen.result _ _ c.look-seen.ensures.view)
       c.reach-found.ensures.view (sym c.if-not-has_entry.ensures) c.requires.fresh,
   found_there g.T.Tag.fits c.args.table.now.geometry.room c.args.slot 1 c.args.name
       c.reach-found.result c.args.key
-      (view c.args.seat.now) (view c.look.new.seat) (view c.reach-found.new.seat)
-      (looked_at c.args.slot c.look.result _ _ c.look.ensures.view)
+      (view c.args.seat.now) (view c.look-seen.new.seat) (view c.reach-found.new.seat)
+      (looked_at c.args.slot c.look-seen.result _ _ c.look-seen.ensures.view)
       c.reach-found.ensures.view (sym c.if-not-has_entry.ensures) c.requires.fresh
       (view c.matches.new.seat) refl (c.matches.ensures.shown c.if-matches.true)
       (told_key g.T.Tag.fits c.args.table.now.geometry.room c.args.slot 1 c.args.name
-      c.reach-found.result c.args.key (view c.args.seat.now) (view c.look.new.seat)
-      (view c.reach-found.new.seat) (looked_at c.args.slot c.look.result _ _ c.look.ensures.view)
+      c.reach-found.result c.args.key (view c.args.seat.now) (view c.look-seen.new.seat)
+      (view c.reach-found.new.seat)
+      (looked_at c.args.slot c.look-seen.result _ _ c.look-seen.ensures.view)
       c.reach-found.ensures.view (sym c.if-not-has_entry.ensures) c.requires.fresh
       (λ e. key_of e ≡ c.args.key) (c.matches.ensures.equal c.if-matches.true))
       c.matches.ensures.view (c.matches.ensures.met c.if-matches.true),
@@ -56,52 +62,163 @@ returns-then-matches-clause-found g c = (
 pub give-requires-clause-holds : goal.give-requires-clause-holds
 give-requires-clause-holds g c =
     holds g.T.Tag.fits c.args.table.now.geometry.room c.args.slot 1 c.args.name c.reach-found.result
-    c.args.key (view c.args.seat.now) (view c.look.new.seat) (view c.reach-found.new.seat)
-    (looked_at c.args.slot c.look.result _ _ c.look.ensures.view)
+    c.args.key (view c.args.seat.now) (view c.look-seen.new.seat) (view c.reach-found.new.seat)
+    (looked_at c.args.slot c.look-seen.result _ _ c.look-seen.ensures.view)
     c.reach-found.ensures.view (sym c.if-not-has_entry.ensures) c.requires.fresh
     (view c.matches.new.seat) c.matches.ensures.view
 
 pub returns-clause-missed : goal.returns-clause-missed
 returns-clause-missed g c =
     missed_there g.T.Tag.fits c.args.table.now.geometry.room c.args.slot 1 c.args.name
-    c.reach-found.result c.args.key (view c.args.seat.now) (view c.look.new.seat)
-    (view c.reach-found.new.seat) (looked_at c.args.slot c.look.result _ _ c.look.ensures.view)
+    c.reach-found.result c.args.key (view c.args.seat.now) (view c.look-seen.new.seat)
+    (view c.reach-found.new.seat)
+    (looked_at c.args.slot c.look-seen.result _ _ c.look-seen.ensures.view)
     c.reach-found.ensures.view (sym c.if-not-has_entry.ensures) c.requires.fresh
     c.give.result (view c.matches.new.seat) (view c.give.new.seat) c.matches.ensures.view
     c.give.ensures.view (λ shown. told_key g.T.Tag.fits c.args.table.now.geometry.room c.args.slot 1
-    c.args.name c.reach-found.result c.args.key (view c.args.seat.now) (view c.look.new.seat)
-    (view c.reach-found.new.seat) (looked_at c.args.slot c.look.result _ _ c.look.ensures.view)
+    c.args.name c.reach-found.result c.args.key (view c.args.seat.now) (view c.look-seen.new.seat)
+    (view c.reach-found.new.seat)
+    (looked_at c.args.slot c.look-seen.result _ _ c.look-seen.ensures.view)
     c.reach-found.ensures.view (sym c.if-not-has_entry.ensures) c.requires.fresh
     (λ e. ¬ (key_of e ≡ c.args.key)) (c.matches.ensures.other c.if-matches.false shown))
 
 pub returns-then-matches-clause-acquired : goal.returns-then-matches-clause-acquired
 returns-then-matches-clause-acquired g c =
     let one = atomic (address_of_meta c.args.table.now c.args.slot) 1 0 c.reach-found.result in
-    among_after one c.args.seat.now c.look.new.seat c.matches.new.seat
-    (adds_one _ c.args.seat.now c.look.new.seat c.look.ensures.step.step)
-    (among_then one c.look.new.seat c.reach-found.new.seat c.matches.new.seat
-    (among_first one c.look.new.seat c.reach-found.new.seat c.reach-found.ensures.acquires.first)
-    c.matches.ensures.adds)
+    among_after one c.args.seat.now c.look-seen.new.seat c.matches.new.seat
+    (adds_one _ c.args.seat.now c.look-seen.new.seat c.look-seen.ensures.step.step)
+    (among_then one c.look-seen.new.seat c.reach-found.new.seat c.matches.new.seat
+    (among_first one c.look-seen.new.seat c.reach-found.new.seat
+    c.reach-found.ensures.acquires.first)
+    (unmarked_adds c.reach-found.new.seat c.matches.new.seat c.matches.ensures.adds))
+
+pub returns-then-not-is_shown-clause-adds : goal.returns-then-not-is_shown-clause-adds
+returns-then-not-is_shown-clause-adds g c =
+    unmarked_zero _ _ c.args.seat.now c.look-seen.new.seat c.look-seen.ensures.step
 
 pub returns-then-not-has_entry-clause-adds : goal.returns-then-not-has_entry-clause-adds
 returns-then-not-has_entry-clause-adds g c =
-    adds_then c.args.seat.now c.look.new.seat c.reach-found.new.seat
-    (adds_one _ c.args.seat.now c.look.new.seat c.look.ensures.step.step)
-    (begins_adds _ c.look.new.seat c.reach-found.new.seat c.reach-found.ensures.acquires.first)
+    unmarked_then c.args.seat.now c.look-seen.new.seat c.reach-found.new.seat
+    (unmarked_zero _ _ c.args.seat.now c.look-seen.new.seat c.look-seen.ensures.step)
+    c.reach-found.ensures.adds
 
 pub returns-then-matches-clause-adds : goal.returns-then-matches-clause-adds
 returns-then-matches-clause-adds g c =
-    adds_then c.args.seat.now c.look.new.seat c.matches.new.seat
-    (adds_one _ c.args.seat.now c.look.new.seat c.look.ensures.step.step)
-    (adds_then c.look.new.seat c.reach-found.new.seat c.matches.new.seat
-    (begins_adds _ c.look.new.seat c.reach-found.new.seat c.reach-found.ensures.acquires.first)
-    c.matches.ensures.adds)
+    unmarked_then c.args.seat.now c.look-seen.new.seat c.matches.new.seat
+    (unmarked_zero _ _ c.args.seat.now c.look-seen.new.seat c.look-seen.ensures.step)
+    (unmarked_then c.look-seen.new.seat c.reach-found.new.seat c.matches.new.seat
+    c.reach-found.ensures.adds c.matches.ensures.adds)
 
 pub returns-clause-adds : goal.returns-clause-adds
 returns-clause-adds g c =
-    adds_then c.args.seat.now c.look.new.seat c.give.new.seat
-    (adds_one _ c.args.seat.now c.look.new.seat c.look.ensures.step.step)
-    (adds_then c.look.new.seat c.reach-found.new.seat c.give.new.seat
-    (begins_adds _ c.look.new.seat c.reach-found.new.seat c.reach-found.ensures.acquires.first)
-    (adds_then c.reach-found.new.seat c.matches.new.seat c.give.new.seat c.matches.ensures.adds
-    (adds_one _ c.matches.new.seat c.give.new.seat c.give.ensures.step.step)))
+    unmarked_then c.args.seat.now c.look-seen.new.seat c.give.new.seat
+    (unmarked_zero _ _ c.args.seat.now c.look-seen.new.seat c.look-seen.ensures.step)
+    (unmarked_then c.look-seen.new.seat c.reach-found.new.seat c.give.new.seat
+    c.reach-found.ensures.adds
+    (unmarked_then c.reach-found.new.seat c.matches.new.seat c.give.new.seat c.matches.ensures.adds
+    (unmarked_one _ c.matches.new.seat c.give.new.seat c.give.ensures.step.step
+    (light 1 (omega arith)))))
+
+pub returns-then-not-is_shown-clause-passes : goal.returns-then-not-is_shown-clause-passes
+returns-then-not-is_shown-clause-passes g c = (
+  c.look-seen.result,
+  record {
+    seen = c.look-seen.result;
+    mid = c.look-seen.new.seat;
+    first = (c.look-seen.ensures.step, c.look-seen.ensures.view);
+    unshown = λ _. (refl, refl, refl);
+    shown = λ shown. neither (is_visible c.look-seen.result) shown (sym c.if-not-is_shown.ensures);
+  },
+)
+
+pub returns-then-not-has_entry-clause-passes : goal.returns-then-not-has_entry-clause-passes
+returns-then-not-has_entry-clause-passes g c = (
+  c.reach-found.result,
+  record {
+    seen = c.look-seen.result;
+    mid = c.look-seen.new.seat;
+    first = (c.look-seen.ensures.step, c.look-seen.ensures.view);
+    unshown = λ unseen. neither (is_visible c.look-seen.result) (sym c.if-not-is_shown.ensures)
+        unseen;
+    shown = λ _. record {
+      mid = c.reach-found.new.seat;
+      reaches = record {
+        reached = c.reach-found.ensures.view;
+        acquires = c.reach-found.ensures.acquires;
+        corrects = c.reach-found.ensures.corrects;
+      };
+      adds = adds_none c.reach-found.new.seat c.reach-found.new.seat refl;
+      other = λ shown. neither (is_shareable c.reach-found.result)
+          (visible_has c.reach-found.result shown) (sym c.if-not-has_entry.ensures);
+      loads = λ shown. neither (is_shareable c.reach-found.result)
+          (visible_has c.reach-found.result shown) (sym c.if-not-has_entry.ensures);
+    };
+  },
+)
+
+pub returns-clause-passes : goal.returns-clause-passes
+returns-clause-passes g c = (
+  c.reach-found.result,
+  record {
+    seen = c.look-seen.result;
+    mid = c.look-seen.new.seat;
+    first = (c.look-seen.ensures.step, c.look-seen.ensures.view);
+    unshown = λ unseen. neither (is_visible c.look-seen.result) (sym c.if-not-is_shown.ensures)
+        unseen;
+    shown = λ _. record {
+      mid = c.reach-found.new.seat;
+      reaches = record {
+        reached = c.reach-found.ensures.view;
+        acquires = c.reach-found.ensures.acquires;
+        corrects = c.reach-found.ensures.corrects;
+      };
+      adds = adds_then c.reach-found.new.seat c.matches.new.seat c.give.new.seat
+          (unmarked_adds c.reach-found.new.seat c.matches.new.seat c.matches.ensures.adds) given;
+      other = λ shown. on_other g.T.Tag.fits c.args.table.now.geometry.room c.args.slot 1
+          c.args.name c.reach-found.result c.args.key (view c.args.seat.now)
+          (view c.look-seen.new.seat) (view c.reach-found.new.seat)
+          (looked_at c.args.slot c.look-seen.result _ _ c.look-seen.ensures.view)
+          c.reach-found.ensures.view (sym c.if-not-has_entry.ensures) c.requires.fresh
+          (told_key g.T.Tag.fits c.args.table.now.geometry.room c.args.slot 1 c.args.name
+          c.reach-found.result c.args.key (view c.args.seat.now) (view c.look-seen.new.seat)
+          (view c.reach-found.new.seat)
+          (looked_at c.args.slot c.look-seen.result _ _ c.look-seen.ensures.view)
+          c.reach-found.ensures.view (sym c.if-not-has_entry.ensures) c.requires.fresh
+          (λ e. ¬ (key_of e ≡ c.args.key))
+          (c.matches.ensures.other c.if-matches.false shown));
+      loads = λ shown. other_then c.args.table.now c.args.key c.args.slot c.reach-found.new.seat
+          c.matches.new.seat c.give.new.seat
+          (c.matches.ensures.differs c.if-matches.false shown) given;
+    };
+  },
+)
+  where
+    given : Adds c.matches.new.seat c.give.new.seat
+    given = adds_one _ c.matches.new.seat c.give.new.seat c.give.ensures.step.step
+
+pub returns-then-matches-clause-catches : goal.returns-then-matches-clause-catches
+returns-then-matches-clause-catches g c = record {
+  seen = c.look-seen.result;
+  looked = c.look-seen.new.seat;
+  first = (c.look-seen.ensures.step, c.look-seen.ensures.view);
+  shown = sym c.if-not-is_shown.ensures;
+  mid = c.reach-found.new.seat;
+  reaches = record {
+    reached = c.reach-found.ensures.view;
+    acquires = c.reach-found.ensures.acquires;
+    corrects = c.reach-found.ensures.corrects;
+  };
+  visible = c.matches.ensures.shown c.if-matches.true;
+  same = on_same g.T.Tag.fits c.args.table.now.geometry.room c.args.slot 1 c.args.name
+      c.reach-found.result c.args.key (view c.args.seat.now) (view c.look-seen.new.seat)
+      (view c.reach-found.new.seat)
+      (looked_at c.args.slot c.look-seen.result _ _ c.look-seen.ensures.view)
+      c.reach-found.ensures.view (sym c.if-not-has_entry.ensures) c.requires.fresh
+      (told_key g.T.Tag.fits c.args.table.now.geometry.room c.args.slot 1 c.args.name
+      c.reach-found.result c.args.key (view c.args.seat.now) (view c.look-seen.new.seat)
+      (view c.reach-found.new.seat)
+      (looked_at c.args.slot c.look-seen.result _ _ c.look-seen.ensures.view)
+      c.reach-found.ensures.view (sym c.if-not-has_entry.ensures) c.requires.fresh
+      (λ e. key_of e ≡ c.args.key) (c.matches.ensures.equal c.if-matches.true));
+  loads = c.matches.ensures.loads c.if-matches.true;
+}

@@ -1,0 +1,92 @@
+-- What hiding the entries of a key does at each of its probes, step by step.
+use Rattle.std.specs.Prelude.{◌≡◌, ◌⊎◌, ℕ, ◌+◌, ◌==◌, ◌&&◌, not, Bool, List, [], ◌∷◌, ◌++◌, Option, IfSome, IfNone, length, bit_and}
+use Rattle.std.specs.Int.{from_bool}
+use Rattle.hcc_word.specs.declared.layout.TheConstants.{HIDING_MASK}
+use Rattle.hcc_word.specs.Word.{is_shareable, is_visible, refs_of}
+use Rattle.hcc_core.specs.Sums.{total}
+use Rattle.hcc_rule.specs.declared.key.Key.{Key}
+use Rattle.hcc_rule.specs.declared.table.RuleTable.{RuleTable}
+use Rattle.hcc_rule.specs.Callers.{address_of_displacement, address_of_meta, slots_of}
+use Rattle.hcc_rule.specs.Seats.{SeatOf, Makes, view}
+use Rattle.hcc_rule.specs.Views.{Each}
+use Rattle.hcc_table.specs.declared.efforts.Effort.{Effort}
+use Rattle.hcc_table.specs.declared.hiding.Erased.{Erased}
+use Rattle.hcc_table.specs.Efforts.{VisitedSlots}
+use Rattle.hcc_table.specs.Freed.{TriedWhereDue}
+use Rattle.hcc_table.specs.Probed.{AtProbes, Catches, Looks, Passes, Probe}
+
+-- whether this is the word of a hidden entry with one reference
+abbrev pub is_alone : (left : ℕ) → Bool
+is_alone left = is_shareable left && not (is_visible left) && (refs_of left == 1)
+
+abbrev pub nothing_erased : Erased
+nothing_erased = record { hidden = 0; slots = 0; charge = 0 }
+
+-- What was found at one probe of a key, and what was done there.
+pub record HideProbe : Type 0 where
+  pub found : Probe
+  pub done : Erased
+
+-- At each of these probes a trail went on: no displacement word was 0.
+abbrev pub HidingGoesOn : List HideProbe → Type 0
+HidingGoesOn = Each (λ (p : HideProbe). ¬ (p.found.displacement ≡ 0))
+
+module _ {T : Type 0} where
+  -- The entry of a reference was hidden by one step, and counts as hidden where that found it
+  -- visible. To take the entry was tried where the reference was left alone there: it was freed, or
+  -- one exchange more lost. Where it wasn't freed the reference was given back.
+  pub record HidesHeld (address : ℕ) (done : Erased) (before after : Effort) (old new : SeatOf T)
+      : Type 0 where
+    pub found : ℕ
+    pub hid : SeatOf T
+    pub hides : Makes address HIDING_MASK 0 found old hid
+    pub hidden : done.hidden ≡ from_bool (is_visible found)
+    pub freed : Option ℕ
+    pub tried : SeatOf T
+    pub tries : TriedWhereDue address (bit_and found HIDING_MASK)
+        (is_alone (bit_and found HIDING_MASK)) freed before after hid tried
+    pub won : IfSome freed (λ charge.
+        (new ≡ tried) × (done.slots ≡ 1) × (done.charge ≡ charge))
+    pub given : IfNone freed ((left : ℕ) × Makes address 1 0 left tried new
+        × (done.slots ≡ 0) × (done.charge ≡ 0))
+
+module _ {T A : Type 0} (fits : T → Key → List ℕ → Type 0) (table : RuleTable T A) (key : Key)
+    (name : ℕ) where
+  -- The slot was found visible with an entry of the key, and that was hidden.
+  pub record Hides (slot word : ℕ) (done : Erased) (before after : Effort) (old new : SeatOf T)
+      : Type 0 where
+    pub between : Effort
+    pub held : SeatOf T
+    pub catches : Catches fits table key name (Looks table slot) slot 1 word before between old held
+    pub hides : HidesHeld (address_of_meta table slot) done between after held new
+
+  -- it was passed, and nothing was done, or its entry was hidden
+  abbrev pub PassesOrHides : (slot word : ℕ) → (done : Erased) → (before after : Effort)
+      → (old new : SeatOf T) → Type 0
+  PassesOrHides slot word done before after old new =
+      (Passes fits table key name (Looks table slot) slot 1 word before after old new
+      × (done ≡ nothing_erased))
+      ⊎ Hides slot word done before after old new
+
+  -- one slot of the key's probes, which was counted first
+  pub record HidAt (slot : ℕ) (p : HideProbe) (before after : Effort) (old new : SeatOf T)
+      : Type 0 where
+    pub between : Effort
+    pub visited : VisitedSlots 1 before between
+    pub mid : SeatOf T
+    pub does : PassesOrHides slot p.found.word p.done between after old mid
+    pub counts : Makes (address_of_displacement table slot) 0 0 p.found.displacement mid new
+    pub kept : view new ≡ view mid
+
+  -- Each slot that was visited and found visible with the key was hidden, and each other one was
+  -- passed. There was at least one; at the last no trail went on, or it was that of the last probe.
+  -- All that was done is the sum of what was done at each.
+  pub record HidesAll (all : Erased) (before after : Effort) (old new : SeatOf T) : Type 0 where
+    pub earlier : List HideProbe
+    pub last : HideProbe
+    pub probes : AtProbes (slots_of table) key HidAt 0 (earlier ++ last ∷ []) before after old new
+    pub goes_on : HidingGoesOn earlier
+    pub ends : (last.found.displacement ≡ 0) ⊎ (length earlier + 1 ≡ slots_of table)
+    pub hidden : all.hidden ≡ total (λ (p : HideProbe). p.done.hidden) (earlier ++ last ∷ [])
+    pub slots : all.slots ≡ total (λ (p : HideProbe). p.done.slots) (earlier ++ last ∷ [])
+    pub charge : all.charge ≡ total (λ (p : HideProbe). p.done.charge) (earlier ++ last ∷ [])
