@@ -1,8 +1,7 @@
 use native.Mathlib.Omega.{arith}
-use Rattle.std.proofs.Common.{◌≡◌, true, ap, ◌∙◌}
-use Rattle.hcc_core.specs.World.{limit_of}
+use Rattle.std.proofs.Common.{◌≡◌, ◌*◌, ◌/◌, true, ap, ◌∙◌}
+use Rattle.hcc_core.specs.declared.limits.TheConstants.{OCCUPANCY_PERCENT}
 use Rattle.hcc_rule.specs.declared.geometry.Geometry.{Geometry}
-use Rattle.hcc_rule.specs.Rule.{setup_of}
 use Rattle.hcc_shard.specs.Callers.{plan_of}
 use Rattle.hcc_cache.specs.Configs.{shard_capacity}
 use Rattle.hcc_cache.proofs.laws.law_limits.Goals as goal
@@ -21,6 +20,6 @@ pub returns-clause-places : goal.returns-clause-places
 returns-clause-places g c = λ config tag s m.
   let made = m.opened.shards m.number m.shard m.there in
   let places = c.law_ledgers.ensures.places (plan_of m.shard) s m.holds in
-  let limit = ap (λ (g : Geometry). limit_of (setup_of (record (plan_of m.shard) { geometry = g })))
+  let limit = ap (λ (x : Geometry). x.slots * OCCUPANCY_PERCENT / 100)
       (m.shard.table.planned.0 ∙ made.geometry) in
   omega (arith, places, limit)
