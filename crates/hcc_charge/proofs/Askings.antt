@@ -12,7 +12,7 @@ use Rattle.hcc_charge.specs.declared.swept.Swept.{Swept}
 use Rattle.hcc_charge.specs.declared.tally.Tally.{Tally}
 use Rattle.hcc_charge.specs.Asked.{added, is_full, lacked, Enters, EvictsAsAsked, EvictsNothing}
 use Rattle.hcc_charge.specs.Evicted.{EvictsFor, Sweeps, sweeping}
-use Rattle.hcc_charge.specs.Reserved.{asked, entered, needed_by, still_needed, sweeping_between}
+use Rattle.hcc_charge.specs.Reserved.{ask_of, asked, at_least_one, entered, needed_by, still_needed, sweeping_between}
 use Rattle.hcc_charge.specs.Swept.{Tallied}
 
 module _ {T : Type 0} where
@@ -43,6 +43,20 @@ module _ {T : Type 0} where
 
       by_takings : w.takings - v.takings ≡ taken
       by_takings = omega arith
+
+-- What the code asks eviction for is what is asked for, without strict capacity
+pub asked_lax : (capacity given used charge ask least : ℕ) (full : Bool) → given ≡ capacity
+    → ask ≡ ask_of given used charge → least ≡ at_least_one full ask
+    → least ≡ asked false capacity charge full used
+asked_lax capacity given used charge ask least full within is at_least =
+    at_least ∙ ap (at_least_one full) (is ∙ ap (λ n. ask_of n used charge) within)
+
+-- and under it.
+pub asked_strict : (capacity given used charge needed least : ℕ) (full : Bool) → given ≡ capacity
+    → needed ≡ still_needed given used charge → least ≡ at_least_one full needed
+    → least ≡ asked true capacity charge full used
+asked_strict capacity given used charge needed least full within is at_least =
+    at_least ∙ ap (at_least_one full) (is ∙ ap (λ n. still_needed n used charge) within)
 
 module _ {T A : Type 0} (table : RuleTable T A) (charge used : ℕ) where
   -- what is lacked under strict capacity,

@@ -90,7 +90,8 @@ module _ {T A : Type 0} (fits : T → Key → List ℕ → Type 0) (table : Rule
       → Sweeps 1 here.slots here.charge (view now) (view new)
       → Turned fits table here now new → here.turns ≡ 1 → IsModest 4 here
       → Lost here.lost here.lost last then → next ≡ both all here
-      → MakesAtMost (sweeping (slots_of table) 1 here.slots) now new → HasTurned next old new first then
+      → MakesAtMost (sweeping (slots_of table) 1 here.slots) now new
+      → HasTurned next old new first then
   going_turned all here next old now new first last then g same swept turned one modest effort sum
       few =
       subst (λ z. HasTurned z old new first then) (sym sum) (record {

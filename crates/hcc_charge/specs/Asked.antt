@@ -43,40 +43,41 @@ module _ {T A : Type 0} (table : RuleTable T A) where
   abbrev pub Enters : (taken : ℕ) → SeatOf T → SeatOf T → Type 0
   Enters = Makes (address_of_ledger table OCCUPANCY) 1 0
 
-module _ {T A : Type 0} (fits : T → Key → List ℕ → Type 0) (table : RuleTable T A) (charge : ℕ) where
-  -- A reservation found so many places taken, and this usage, and evicted just for what it asks for
-  -- then. What gives back or settles came behind it. The client's view counts the turns, what they
-  -- took and the open place, and its tally all that they did.
-  pub record EvictsAsAsked (before after : Tally) (a d : SeatOf T) : Type 0 where
-    pub taken : ℕ
-    pub used : ℕ
-    pub swept : Swept
-    pub u : SeatOf T
-    pub b : SeatOf T
-    pub c : SeatOf T
-    pub enters : Enters table taken a u
-    pub finds : Makes (address_of_ledger table USAGE) (added (is_strict table) charge) 0 used u b
-    pub evicts : EvictsFor fits table
-        (asked (is_strict table) (capacity_of table) charge (is_full table taken) used) swept b c
-    pub rest : Adds c d
-    pub turns : (view d).turns ≡ (view a).turns + swept.turns
-    pub takings : (view d).takings ≡ (view a).takings + swept.slots
-    pub opened : (view d).open_places ≡ (view a).open_places + when (is_full table taken) 1
-    pub tallied : Tallied swept before after
+module _ {T A : Type 0} (fits : T → Key → List ℕ → Type 0) (table : RuleTable T A) (charge : ℕ)
+  where
+    -- A reservation found so many places taken, and this usage, and evicted just for what it asks for
+    -- then. What gives back or settles came behind it. The client's view counts the turns, what they
+    -- took and the open place, and its tally all that they did.
+    pub record EvictsAsAsked (before after : Tally) (a d : SeatOf T) : Type 0 where
+      pub taken : ℕ
+      pub used : ℕ
+      pub swept : Swept
+      pub u : SeatOf T
+      pub b : SeatOf T
+      pub c : SeatOf T
+      pub enters : Enters table taken a u
+      pub finds : Makes (address_of_ledger table USAGE) (added (is_strict table) charge) 0 used u b
+      pub evicts : EvictsFor fits table
+          (asked (is_strict table) (capacity_of table) charge (is_full table taken) used) swept b c
+      pub rest : Adds c d
+      pub turns : (view d).turns ≡ (view a).turns + swept.turns
+      pub takings : (view d).takings ≡ (view a).takings + swept.slots
+      pub opened : (view d).open_places ≡ (view a).open_places + when (is_full table taken) 1
+      pub tallied : Tallied swept before after
 
-  -- What a reservation found and evicted, by its answer: what was lacked was freed, and a slot
-  -- where the shard was full; no slot was freed in a full shard; or less charge was than was
-  -- lacked.
-  abbrev pub EvictsBy : Result Reservation Refused → (before after : Tally)
-      → (a d : SeatOf T) → Type 0
-  EvictsBy (Ok Reserved) before after a d =
-      (e : EvictsAsAsked before after a d) × (is_full table e.taken ≡ true → 0 < e.swept.slots)
-      × (lacked table charge e.used ≤ e.swept.charge)
-  EvictsBy (Ok NoPlace) before after a d =
-      (e : EvictsAsAsked before after a d) × (is_full table e.taken ≡ true) × (e.swept.slots ≡ 0)
-  EvictsBy (Err TooLarge) before after a d = (after ≡ before) × MakesNone a d
-  EvictsBy (Err CapacityFull) before after a d =
-      (e : EvictsAsAsked before after a d) × (e.swept.charge < lacked table charge e.used)
-  EvictsBy (Err OccupancyFull) before after a d =
-      (e : EvictsAsAsked before after a d) × (is_full table e.taken ≡ true) × (e.swept.slots ≡ 0)
-      × (lacked table charge e.used ≡ 0)
+    -- What a reservation found and evicted, by its answer: what was lacked was freed, and a slot
+    -- where the shard was full; no slot was freed in a full shard; or less charge was than was
+    -- lacked.
+    abbrev pub EvictsBy : Result Reservation Refused → (before after : Tally)
+        → (a d : SeatOf T) → Type 0
+    EvictsBy (Ok Reserved) before after a d =
+        (e : EvictsAsAsked before after a d) × (is_full table e.taken ≡ true → 0 < e.swept.slots)
+        × (lacked table charge e.used ≤ e.swept.charge)
+    EvictsBy (Ok NoPlace) before after a d =
+        (e : EvictsAsAsked before after a d) × (is_full table e.taken ≡ true) × (e.swept.slots ≡ 0)
+    EvictsBy (Err TooLarge) before after a d = (after ≡ before) × MakesNone a d
+    EvictsBy (Err CapacityFull) before after a d =
+        (e : EvictsAsAsked before after a d) × (e.swept.charge < lacked table charge e.used)
+    EvictsBy (Err OccupancyFull) before after a d =
+        (e : EvictsAsAsked before after a d) × (is_full table e.taken ≡ true) × (e.swept.slots ≡ 0)
+        × (lacked table charge e.used ≡ 0)

@@ -44,5 +44,8 @@ returns-then-has_ended-clause-steps g c =
     let more = c.turn-here.ensures.steps in
     let one = c.turn-here.ensures.turns in
     rw c.with-all.ensures
-    (omega (arith, mul-add (slots_of c.args.table.now + 4) c.loop-tally.all.slots
-    c.turn-here.result.slots))
+    (omega (
+      arith,
+      mul-add (slots_of c.args.table.now + 4) c.loop-tally.all.slots
+          c.turn-here.result.slots,
+    ))
