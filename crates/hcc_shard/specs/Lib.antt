@@ -7,3 +7,4 @@ pub mod Closed
 pub mod Reopened
 pub mod Imaged
 pub mod Callers
+pub mod Reserving
