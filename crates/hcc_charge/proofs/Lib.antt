@@ -3,3 +3,4 @@ pub mod Visitings
 pub mod Turnings
 pub mod Reservings
 pub mod Answered
+pub mod Askings

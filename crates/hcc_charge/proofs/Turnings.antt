@@ -1,5 +1,6 @@
 -- An eviction, turn by turn.
-use Rattle.std.proofs.Common.{mul-suc, ◌≡◌, ℕ, ◌+◌, ◌*◌, ◌^◌, ◌<◌, ◌≤◌, ◌==◌, ◌++◌, true, false, List, [], ◌∷◌, subst, sym, refl, ap, ◌∙◌, arith}
+use Rattle.std.proofs.Common.{◌≡◌, ℕ, ◌+◌, ◌*◌, ◌^◌, ◌<◌, ◌≤◌, ◌==◌, ◌++◌, true, false, List, [], ◌∷◌, subst, sym, refl, ap, ◌∙◌, arith}
+use Rattle.std.proofs.Math.Nat.{mul-add}
 use Rattle.std.proofs.lemmas.Bool.{eqb-false, leb-false, or_parts}
 use Rattle.hcc_rule.specs.declared.key.Key.{Key}
 use Rattle.hcc_rule.specs.declared.table.RuleTable.{RuleTable}
@@ -11,7 +12,7 @@ use Rattle.hcc_table.specs.Erased.{IsAtRest}
 use Rattle.hcc_table.specs.Steps.{MakesAtMost}
 use Rattle.hcc_table.proofs.Finds.{seat_then}
 use Rattle.hcc_charge.specs.declared.swept.Swept.{Swept}
-use Rattle.hcc_charge.specs.Evicted.{Evicts, GoesOn, Sweeps, Turned, Turns, has_ended, is_enough, most_turns, turning}
+use Rattle.hcc_charge.specs.Evicted.{Evicts, GoesOn, Sweeps, Turned, Turns, has_ended, is_enough, most_turns, sweeping}
 use Rattle.hcc_charge.specs.Swept.{IsModest, both, nothing_swept, with_turns}
 use Rattle.hcc_charge.proofs.Sweepings.{modest_both, modest_idle, sweeps_none, sweeps_then}
 use Rattle.hcc_charge.proofs.Visitings.{lost_none, lost_then}
@@ -49,7 +50,7 @@ module _ {T A : Type 0} (fits : T → Key → List ℕ → Type 0) (table : Rule
     pub before : List Swept
     pub turns : Turns fits table before old now
     pub sum : all ≡ with_turns nothing_swept before
-    pub steps : made now ≤ made old + turning (slots_of table) * all.turns
+    pub steps : made now ≤ made old + sweeping (slots_of table) all.turns all.slots
     pub goes_on : GoesOn ask nothing_swept before
 
   -- One that made a turn more.
@@ -65,7 +66,7 @@ module _ {T A : Type 0} (fits : T → Key → List ℕ → Type 0) (table : Rule
     pub last : Swept
     pub turns : Turns fits table (before ++ last ∷ []) old now
     pub sum : all ≡ with_turns nothing_swept (before ++ last ∷ [])
-    pub steps : made now ≤ made old + turning (slots_of table) * all.turns
+    pub steps : made now ≤ made old + sweeping (slots_of table) all.turns all.slots
     pub goes_on : GoesOn ask nothing_swept before
 
   pub going_begins : (seat : SeatOf T) (effort : Effort) → IsAtRest (view seat)
@@ -89,7 +90,8 @@ module _ {T A : Type 0} (fits : T → Key → List ℕ → Type 0) (table : Rule
       → Sweeps 1 here.slots here.charge (view now) (view new)
       → Turned fits table here now new → here.turns ≡ 1 → IsModest 4 here
       → Lost here.lost here.lost last then → next ≡ both all here
-      → MakesAtMost (turning (slots_of table)) now new → HasTurned next old new first then
+      → MakesAtMost (sweeping (slots_of table) 1 here.slots) now new
+      → HasTurned next old new first then
   going_turned all here next old now new first last then g same swept turned one modest effort sum
       few =
       subst (λ z. HasTurned z old new first then) (sym sum) (record {
@@ -117,9 +119,7 @@ module _ {T A : Type 0} (fits : T → Key → List ℕ → Type 0) (table : Rule
             ap (λ (z : Swept). both z here) g.sum ∙ sym (with_one nothing_swept g.before here);
         steps =
             let was = g.steps in
-            let more = mul-suc (turning (slots_of table)) all.turns in
-            subst (λ n. made new ≤ made old + turning (slots_of table) * (all.turns + n)) (sym one)
-            (omega (arith, more));
+            omega (arith, mul-add (slots_of table + 4) all.slots here.slots);
         goes_on = g.goes_on;
       })
     where

@@ -1,14 +1,17 @@
 -- A turn of the hand, visit by visit.
-use Rattle.std.proofs.Common.{mul-suc, ◌*◌, ◌≤◌, ◌≡◌, ℕ, ◌+◌, ◌%◌, ◌++◌, List, [], ◌∷◌, length, subst, sym, refl, ap, ◌∙◌, arith}
+use Rattle.std.proofs.Common.{◌*◌, ◌≤◌, ◌≡◌, ℕ, ◌+◌, ◌%◌, ◌++◌, List, [], ◌∷◌, length, subst, sym, refl, ap, ◌∙◌, arith}
+use Rattle.std.proofs.Math.Nat.{mul-add}
 use Rattle.hcc_rule.specs.declared.key.Key.{Key}
+use Rattle.hcc_rule.specs.declared.view.Atomic.{Atomic}
 use Rattle.hcc_rule.specs.declared.table.RuleTable.{RuleTable}
 use Rattle.hcc_rule.specs.Callers.{slots_of}
-use Rattle.hcc_rule.specs.Seats.{SeatOf, IsSameSeat, made, view}
+use Rattle.hcc_rule.specs.Seats.{SeatOf, IsSameSeat, made, steps, view}
 use Rattle.hcc_table.specs.declared.efforts.Effort.{Effort}
 use Rattle.hcc_table.specs.declared.visiting.ClockVisit.{ClockVisit}
+use Rattle.hcc_table.specs.declared.visiting.ClockVisit.TheVariants as visits
 use Rattle.hcc_table.specs.Efforts.{Lost}
 use Rattle.hcc_table.specs.Erased.{IsAtRest}
-use Rattle.hcc_table.specs.Steps.{MakesAtMost, freeing}
+use Rattle.hcc_table.specs.Steps.{MakesAtMost, MakesTwo, freeing}
 use Rattle.hcc_table.proofs.Finds.{seat_then}
 use Rattle.hcc_table.proofs.Rises.{rose_then}
 use Rattle.hcc_charge.specs.declared.swept.Swept.{Swept}
@@ -38,7 +41,30 @@ pub one_longer : {A : Type 0} (xs : List A) (x : A) → length (xs ++ x ∷ []) 
 one_longer [] x = refl
 one_longer (y ∷ ys) x = let rest = one_longer ys x in omega arith
 
+-- two steps are two more
+two_more : {T : Type 0} (one two : Atomic) (a b : SeatOf T) → MakesTwo one two a b
+    → made b ≡ made a + 2
+two_more one two a b both =
+    let first = one_longer (steps a) one in
+    let second = one_longer (steps a ++ one ∷ []) two in
+    let all : made b ≡ length ((steps a ++ one ∷ []) ++ two ∷ []) = ap length both in
+    omega arith
+
 module _ {T A : Type 0} (fits : T → Key → List ℕ → Type 0) (table : RuleTable T A) where
+  -- A visit makes two steps at most, but where it frees a slot.
+  pub visit_few : (slot : ℕ) (answer : ClockVisit) (a b : SeatOf T)
+      → VisitedAt fits table slot answer a b → MakesAtMost (freeing (slots_of table) + 1) a b
+      → MakesAtMost (2 + (slots_of table + 4) * (swept_of answer).slots) a b
+  visit_few slot visits.Passed a b h few = let one = h.1.one in omega arith
+  visit_few slot visits.Pinned a b h few = let one = h.1.one in omega arith
+  visit_few slot visits.Counted a b h few =
+      let two = two_more _ _ a b h.1 in
+      omega arith
+  visit_few slot visits.Lost a b h few =
+      let two = two_more _ _ a b h.4 in
+      omega arith
+  visit_few slot (visits.Freed charge hit) a b h few = omega arith
+
   visits_then : (from : ℕ) (answers : List ClockVisit) (answer : ClockVisit) (a b c : SeatOf T)
       → Visits fits table from answers a b
       → VisitedAt fits table ((from + length answers) % slots_of table) answer b c
@@ -76,7 +102,7 @@ module _ {T A : Type 0} (fits : T → Key → List ℕ → Type 0) (table : Rule
     pub count : length answers ≡ k
     pub visits : Visits fits table (hand % slots_of table) answers turned now
     pub sum : all ≡ with_visits one_turn answers
-    pub few : made now ≤ made old + (freeing (slots_of table) + 1) * k + 1
+    pub few : made now ≤ made old + 2 * k + (slots_of table + 4) * all.slots + 1
 
   -- It begins,
   pub turning_begins : (hand : ℕ) (old now : SeatOf T) (effort : Effort) → IsSameSeat old now
@@ -104,7 +130,7 @@ module _ {T A : Type 0} (fits : T → Key → List ℕ → Type 0) (table : Rule
       → Sweeps 0 here.slots here.charge (view now) (view new)
       → VisitedBy fits table slot here now new → here.turns ≡ 0
       → IsModest 1 here → Lost here.lost here.lost after then → next ≡ both all here
-      → MakesAtMost (freeing (slots_of table) + 1) now new
+      → MakesAtMost (2 + (slots_of table + 4) * here.slots) now new
       → IsTurning hand (k + 1) next old new before then
   turning_on hand k slot all here next old now new before after then t at same swept visited none
       modest effort sum steps =
@@ -127,7 +153,9 @@ module _ {T A : Type 0} (fits : T → Key → List ℕ → Type 0) (table : Rule
             ap (λ (z : Swept). both z here) t.sum
             ∙ (ap (both (with_visits one_turn t.answers)) visited.is
             ∙ sym (with_one one_turn t.answers visited.answer));
-        few = let was = t.few in omega (arith, mul-suc (freeing (slots_of table) + 1) k);
+        few =
+            let was = t.few in
+            omega (arith, mul-add (slots_of table + 4) all.slots here.slots);
       })
     where
       place : slot ≡ (hand % slots_of table + length t.answers) % slots_of table

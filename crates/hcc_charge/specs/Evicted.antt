@@ -11,7 +11,6 @@ use Rattle.hcc_rule.specs.Seats.{SeatOf, Makes, view}
 use Rattle.hcc_rule.specs.ToldLedgers.{after_turn}
 use Rattle.hcc_table.specs.declared.visiting.ClockVisit.{ClockVisit}
 use Rattle.hcc_table.specs.Searched.{Grows}
-use Rattle.hcc_table.specs.Steps.{freeing}
 use Rattle.hcc_table.specs.Visited.{Visited}
 use Rattle.hcc_charge.specs.declared.evicting.TheConstants.{PINNED_PER_SLOT}
 use Rattle.hcc_charge.specs.declared.swept.Swept.{Swept}
@@ -21,18 +20,24 @@ use Rattle.hcc_charge.specs.Swept.{IsModest, both, nothing_swept, one_turn, swep
 abbrev pub most_turns : ℕ → ℕ
 most_turns slots = 3 * slots / 4 + 1
 
--- the most atomic steps of a turn: one that moves the hand, and four visits
-abbrev pub turning : ℕ → ℕ
-turning slots = SLOTS_PER_TURN * (freeing slots + 1) + 1
+-- the most atomic steps of so many turns that freed so many slots: one that moves the hand and two
+-- for each of the four slots, and for a slot that is freed those that give its trail back and empty
+-- it
+abbrev pub sweeping : (slots turns freed : ℕ) → ℕ
+sweeping slots turns freed = 9 * turns + (slots + 4) * freed
 
--- the most atomic steps of an eviction
+-- of an eviction, whatever it frees
 abbrev pub evicting : ℕ → ℕ
-evicting slots = turning slots * most_turns slots
+evicting slots = sweeping slots (most_turns slots) (SLOTS_PER_TURN * most_turns slots)
 
--- the most atomic steps of a reservation: it asks for a place and for the charge, evicts, and tells
+-- of a reservation, beside those of its eviction: it asks for a place and for the charge, and tells
 -- the ledgers what it got or gives back
+abbrev pub asking : ℕ
+asking = 5
+
+-- and of a reservation, whatever it frees
 abbrev pub reserving : ℕ → ℕ
-reserving slots = evicting slots + 5
+reserving slots = evicting slots + asking
 
 -- as much charge was freed as was asked for, or too many visits found an entry that is held
 abbrev pub is_enough : ℕ → Swept → Bool
@@ -106,6 +111,11 @@ module _ {T A : Type 0} (fits : T → Key → List ℕ → Type 0) (table : Rule
     pub sum : all ≡ with_turns nothing_swept (before ++ last ∷ [])
     pub goes_on : GoesOn ask nothing_swept before
     pub ends : has_ended (slots_of table) ask all ≡ true
+
+  -- An eviction was made just where something is asked for, and for that; else nothing was done.
+  pub record EvictsFor (ask : ℕ) (all : Swept) (a b : SeatOf T) : Type 0 where
+    pub none : ask ≡ 0 → (all ≡ nothing_swept) × (b ≡ a)
+    pub some : 0 < ask → Evicts ask all a b
 
 module _ {T : Type 0} where
   -- The client made so many turns of the hand, and took so many entries with this charge in sum,

@@ -5,15 +5,13 @@ use Rattle.hcc_core.specs.declared.client.Place.{Place}
 use Rattle.hcc_core.specs.declared.client.Place.TheVariants as places
 use Rattle.hcc_core.specs.Sums.{when}
 use Rattle.hcc_rule.specs.declared.view.View.{View}
-use Rattle.hcc_table.specs.Efforts.{Rose}
 use Rattle.hcc_table.specs.Searched.{Grows}
 use Rattle.hcc_charge.specs.declared.reserving.Reservation.{Reservation}
 use Rattle.hcc_charge.specs.declared.reserving.Reservation.TheVariants.{Reserved, NoPlace}
 use Rattle.hcc_charge.specs.declared.reserving.Refused.{Refused}
 use Rattle.hcc_charge.specs.declared.reserving.Refused.TheVariants.{TooLarge, CapacityFull, OccupancyFull}
-use Rattle.hcc_charge.specs.declared.tally.Tally.{Tally}
 use Rattle.hcc_charge.specs.declared.swept.Swept.{Swept}
-use Rattle.hcc_charge.specs.Evicted.{IsSweptFor}
+use Rattle.hcc_charge.specs.Evicted.{IsSweptFor, sweeping}
 
 -- How much is asked for.
 
@@ -142,10 +140,6 @@ module _ {T : Type 0} where
       Reserves slots capacity strict charge places.Absent 0 v w × (strict ≡ true)
       × (v.open_places < w.open_places) × (w.takings ≡ v.takings) × (w.tight ≡ v.tight)
 
-  -- The counts of a client's evictions rose with its view's: by its turns and its takings, of which
-  -- some had a hit bit, each with a charge below 2^32.
-  pub record RoseWith (v w : View T) (old new : Tally) : Type 0 where
-    pub turns : Rose (w.turns - v.turns) (w.turns - v.turns) old.turns new.turns
-    pub evicted : Rose (w.takings - v.takings) (w.takings - v.takings) old.evicted new.evicted
-    pub evicted_hit : Rose 0 (w.takings - v.takings) old.evicted_hit new.evicted_hit
-    pub freed : Rose 0 ((w.takings - v.takings) * 2 ^ 32) old.freed new.freed
+  -- the most atomic steps of the turns that a view counts between, by what they took
+  abbrev pub sweeping_between : (slots : ℕ) → View T → View T → ℕ
+  sweeping_between slots v w = sweeping slots (w.turns - v.turns) (w.takings - v.takings)

@@ -6,8 +6,8 @@ ghost use Rattle.hcc_rule.specs.Callers.{slots_of, IsSeatAt, IsSlotOf};
 ghost use Rattle.hcc_rule.specs.Seats.{IsSameSeat, view};
 ghost use Rattle.hcc_table.specs.Efforts.{Lost};
 ghost use Rattle.hcc_table.specs.Erased.{IsAtRest};
-ghost use Rattle.hcc_table.specs.Steps.{freeing, MakesAtMost};
-ghost use Rattle.hcc_charge.specs.Evicted.{has_ended, is_enough, most_turns, turning, Evicts, Sweeps, Turned, VisitedBy};
+ghost use Rattle.hcc_table.specs.Steps.{MakesAtMost};
+ghost use Rattle.hcc_charge.specs.Evicted.{has_ended, is_enough, most_turns, sweeping, Evicts, Sweeps, Turned, VisitedBy};
 ghost use Rattle.hcc_charge.specs.Swept.{IsModest, Tallied};
 
 use crate::swept::Swept;
@@ -33,7 +33,8 @@ pub const PINNED_PER_SLOT: u64 = 30;
 /// uses left. It may have looked at slots and seen entries dead; the rest of what it has stays.
 /// What it did is added to the tally, and compare-exchanges that lost to the effort.
 ///
-/// It allocates nothing. Each turn costs an atomic add, and four visits.
+/// It allocates nothing. Each turn costs at most nine steps, an atomic add and a load with a
+/// compare-exchange for each of four slots; and each slot that is freed L + 4 more.
 pub fn evict<T: Tag, A: Allocator>(
     table: &RuleTable<T, A>,
     seat: &mut RuleSeat<T>,
@@ -53,7 +54,8 @@ pub fn evict<T: Tag, A: Allocator>(
     ensures modest { IsModest (4 * result.turns) result }
     ensures tally { Tallied result tally.old tally.new }
     ensures effort { Lost result.lost result.lost effort.old effort.new }
-    ensures steps { MakesAtMost (turning (slots_of table.now) * result.turns) seat.old seat.new }
+    ensures steps { MakesAtMost (sweeping (slots_of table.now) result.turns result.slots)
+        seat.old seat.new }
 {
     let slots = table.geometry().slots;
     let mut all = Swept::NOTHING;
@@ -82,7 +84,7 @@ fn turn<T: Tag, A: Allocator>(
     ensures turns { result.turns ≡ 1 }
     ensures modest { IsModest 4 result }
     ensures effort { Lost result.lost result.lost effort.old effort.new }
-    ensures steps { MakesAtMost (turning (slots_of table.now)) seat.old seat.new }
+    ensures steps { MakesAtMost (sweeping (slots_of table.now) 1 result.slots) seat.old seat.new }
 {
     let slots = table.geometry().slots as u64;
     let hand = table.turn(seat);
@@ -113,7 +115,7 @@ fn visit_slot<T: Tag, A: Allocator>(
     ensures turns { result.turns ≡ 0 }
     ensures modest { IsModest 1 result }
     ensures effort { Lost result.lost result.lost effort.old effort.new }
-    ensures steps { MakesAtMost (freeing (slots_of table.now) + 1) seat.old seat.new }
+    ensures steps { MakesAtMost (2 + (slots_of table.now + 4) * result.slots) seat.old seat.new }
 {
     Swept::of(visit(table, seat, slot, effort))
 }

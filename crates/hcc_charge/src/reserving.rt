@@ -1,5 +1,5 @@
 //! Reserving a place and a charge for an entry.
-ghost use Rattle.std.specs.Prelude.{◌≡◌, ◌≢◌, ◌+◌, ◌*◌, ◌^◌, ◌<◌, ◌≤◌, false, true, Ok, Err};
+ghost use Rattle.std.specs.Prelude.{◌≡◌, ◌≢◌, ℕ, ◌+◌, ◌*◌, ◌^◌, ◌<◌, ◌≤◌, false, true, Ok, Err};
 ghost use Rattle.hcc_core.specs.declared.client.Place.TheVariants.{Absent};
 ghost use Rattle.hcc_core.specs.World.{is_placed};
 ghost use Rattle.hcc_rule.specs.Callers.{capacity_of, is_strict, slots_of, IsBetweenCalls, IsSeatAt};
@@ -8,10 +8,11 @@ ghost use Rattle.hcc_rule.specs.ToldLedgers.{waived};
 ghost use Rattle.hcc_table.specs.Efforts.{Lost};
 ghost use Rattle.hcc_table.specs.Erased.{IsAtRest};
 ghost use Rattle.hcc_charge.specs.declared.reserving.Refused.TheVariants.{TooLarge};
-ghost use Rattle.hcc_charge.specs.Evicted.{most_turns, IsSweptFor, Sweeps, evicting, reserving};
-ghost use Rattle.hcc_charge.specs.Reserved.{entered, settled_as, ReservedBy, RoseWith};
+ghost use Rattle.hcc_charge.specs.Asked.{is_full, Enters, EvictsBy};
+ghost use Rattle.hcc_charge.specs.Evicted.{asking, most_turns, sweeping, EvictsFor, IsSweptFor, Sweeps};
+ghost use Rattle.hcc_charge.specs.Reserved.{entered, settled_as, sweeping_between, ReservedBy};
 ghost use Rattle.hcc_charge.specs.Swept.{Tallied};
-ghost use Rattle.hcc_table.specs.Steps.{MakesAtMost};
+ghost use Rattle.hcc_table.specs.Steps.{Adds, MakesAtMost};
 
 use crate::asking::{ask, at_least_one, needed};
 use crate::evicting::evict;
@@ -61,10 +62,14 @@ pub enum Refused {
 /// where under strict capacity not all of it was granted at once. So CapacityFull, OccupancyFull
 /// and NoPlace come after an eviction that has ended, and the last two only where it freed nothing.
 ///
+/// The eviction is for just what is asked for, by the words that the first two steps found: before
+/// its last turn less than that was freed, and the last turn frees at most four entries more.
+///
 /// The client has nothing in hand but its references and standalone entries, and the charge isn't
-/// 0. What evictions did is added to the tally, and compare-exchanges that lost to the effort. It
-/// allocates nothing. Where nothing is evicted it costs an atomic add, and a load with an atomic
-/// add, or under strict capacity one more atomic add.
+/// 0. What the eviction did is added to the tally, and compare-exchanges that lost to the effort.
+/// It allocates nothing. It costs at most five steps beside those of its eviction. Where nothing is
+/// evicted it costs an atomic add, and a load with an atomic add, or under strict capacity one more
+/// atomic add.
 pub fn reserve<T: Tag, A: Allocator>(
     table: &RuleTable<T, A>,
     seat: &mut RuleSeat<T>,
@@ -80,9 +85,11 @@ pub fn reserve<T: Tag, A: Allocator>(
         charge result (view seat.old) (view seat.new) }
     ensures large { is_strict table.now ≡ true → capacity_of table.now < charge
         → result ≡ Err TooLarge }
-    ensures tally { RoseWith (view seat.old) (view seat.new) tally.old tally.new }
+    ensures evicts { EvictsBy T.fits table.now charge result tally.old tally.new seat.old seat.new }
     ensures effort { Lost 0 (4 * most_turns (slots_of table.now)) effort.old effort.new }
-    ensures steps { MakesAtMost (reserving (slots_of table.now)) seat.old seat.new }
+    ensures steps { MakesAtMost (asking
+        + sweeping_between (slots_of table.now) (view seat.old) (view seat.new))
+        seat.old seat.new }
 {
     if !table.strict() {
         return Ok(reserve_lax(table, seat, charge, tally, effort));
@@ -108,9 +115,12 @@ fn reserve_lax<T: Tag, A: Allocator>(
     ensures seat { IsSameSeat seat.old seat.new }
     ensures view { ReservedBy (slots_of table.now) (capacity_of table.now) false
         charge (Ok result) (view seat.old) (view seat.new) }
-    ensures tally { RoseWith (view seat.old) (view seat.new) tally.old tally.new }
+    ensures evicts { EvictsBy T.fits table.now charge (Ok result) tally.old tally.new
+        seat.old seat.new }
     ensures effort { Lost 0 (4 * most_turns (slots_of table.now)) effort.old effort.new }
-    ensures steps { MakesAtMost (reserving (slots_of table.now)) seat.old seat.new }
+    ensures steps { MakesAtMost (asking
+        + sweeping_between (slots_of table.now) (view seat.old) (view seat.new))
+        seat.old seat.new }
 {
     let full = enter(table, seat);
     let used = table.usage(seat);
@@ -142,9 +152,11 @@ fn reserve_strict<T: Tag, A: Allocator>(
     ensures view { ReservedBy (slots_of table.now) (capacity_of table.now) true
         charge result (view seat.old) (view seat.new) }
     ensures not_large { result ≢ Err TooLarge }
-    ensures tally { RoseWith (view seat.old) (view seat.new) tally.old tally.new }
+    ensures evicts { EvictsBy T.fits table.now charge result tally.old tally.new seat.old seat.new }
     ensures effort { Lost 0 (4 * most_turns (slots_of table.now)) effort.old effort.new }
-    ensures steps { MakesAtMost (reserving (slots_of table.now)) seat.old seat.new }
+    ensures steps { MakesAtMost (asking
+        + sweeping_between (slots_of table.now) (view seat.old) (view seat.new))
+        seat.old seat.new }
 {
     let full = enter(table, seat);
     let used = table.charge(seat, charge);
@@ -168,7 +180,8 @@ fn enter<T: Tag, A: Allocator>(table: &RuleTable<T, A>, seat: &mut RuleSeat<T>) 
     requires absent { (view seat.old).work.place ≡ Absent }
     ensures seat { IsSameSeat seat.old seat.new }
     ensures view { view seat.new ≡ entered result (view seat.old) }
-    ensures steps { MakesAtMost 1 seat.old seat.new }
+    ensures enters { (taken : ℕ) × (result ≡ is_full table.now taken)
+        × Enters table.now taken seat.old seat.new }
 {
     let limit = table.geometry().slots as u64 * OCCUPANCY_PERCENT / 100;
     table.enter(seat) >= limit
@@ -189,9 +202,11 @@ fn evict_for<T: Tag, A: Allocator>(
     ensures seat { IsSameSeat seat.old seat.new }
     ensures view { Sweeps result.turns result.slots result.charge (view seat.old) (view seat.new) }
     ensures swept { IsSweptFor (slots_of table.now) ask result }
+    ensures evicts { EvictsFor T.fits table.now ask result seat.old seat.new }
     ensures tally { Tallied result tally.old tally.new }
     ensures effort { Lost result.lost result.lost effort.old effort.new }
-    ensures steps { MakesAtMost (evicting (slots_of table.now)) seat.old seat.new }
+    ensures steps { MakesAtMost (sweeping (slots_of table.now) result.turns result.slots)
+        seat.old seat.new }
 {
     if ask == 0 {
         return Swept::NOTHING;
@@ -214,6 +229,7 @@ fn refuse<T: Tag, A: Allocator>(
     requires some { 0 < charge }
     ensures seat { IsSameSeat seat.old seat.new }
     ensures view { view seat.new ≡ settled_as Absent 0 (view seat.old) }
+    ensures adds { Adds seat.old seat.new }
     ensures steps { MakesAtMost 2 seat.old seat.new }
 {
     table.quit(seat, 1 + swept.slots);

@@ -44,6 +44,7 @@ pub fn give_up<T: Tag, A: Allocator>(table: &RuleTable<T, A>, seat: &mut RuleSea
     requires some { 0 < charge }
     ensures seat { IsSameSeat seat.old seat.new }
     ensures view { view seat.new ≡ without_place 0 (view seat.old) }
+    ensures adds { Adds seat.old seat.new }
     ensures steps { MakesAtMost 2 seat.old seat.new }
 {
     keep_charge(table, seat);
@@ -59,6 +60,7 @@ pub fn keep_charge<T: Tag, A: Allocator>(table: &RuleTable<T, A>, seat: &mut Rul
     requires none { (view seat.old).work.freed_slots ≡ 0 }
     ensures seat { IsSameSeat seat.old seat.new }
     ensures view { view seat.new ≡ without_place (view seat.old).work.granted (view seat.old) }
+    ensures adds { Adds seat.old seat.new }
     ensures steps { MakesAtMost 1 seat.old seat.new }
 {
     table.quit(seat, 1);

@@ -7,7 +7,7 @@ ghost use Rattle.hcc_core.specs.Ledgers.{is_standing};
 ghost use Rattle.hcc_rule.specs.Callers.{is_strict, IsSeatAt};
 ghost use Rattle.hcc_rule.specs.Seats.{IsSameSeat, view};
 ghost use Rattle.hcc_charge.specs.Settled.{fallen, stood};
-ghost use Rattle.hcc_table.specs.Steps.{MakesAtMost};
+ghost use Rattle.hcc_table.specs.Steps.{Adds, MakesAtMost};
 
 use crate::settling::give_charge;
 use hcc_rule::{RuleSeat, RuleTable, Tag};
@@ -35,6 +35,7 @@ pub fn standalone_in<T: Tag, A: Allocator>(
     requires few { length (view seat.old).work.standalones < MOST_HANDLES }
     ensures seat { IsSameSeat seat.old seat.new }
     ensures view { view seat.new ≡ stood name charge (view seat.old) }
+    ensures adds { Adds seat.old seat.new }
     ensures steps { MakesAtMost 2 seat.old seat.new }
 {
     if !granted {

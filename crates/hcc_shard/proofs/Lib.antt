@@ -10,3 +10,4 @@ pub mod Lefts
 pub mod Values
 pub mod Imagings
 pub mod Releases
+pub mod Reservings

@@ -46,4 +46,5 @@ module _ {T A : Type 0} where
   abbrev pub GivesBackAt : Shard T A → (slot : ℕ) → (used erase freed : Bool)
       → (old new : ShardSeat T) → Type 0
   GivesBackAt shard slot used erase freed old new =
-      GivesBack (table.address_of_meta shard.table slot) used erase freed old.seat new.seat
+      GivesBack (table.address_of_meta shard.table slot) used erase freed old.effort new.effort
+      old.seat new.seat

@@ -18,18 +18,22 @@ use Rattle.hcc_table.specs.Inserted.{IsPlaced, Tried}
 use Rattle.hcc_table.specs.Searched.{Grows, is_key}
 use Rattle.hcc_charge.specs.declared.reserving.Refused.{Refused}
 use Rattle.hcc_charge.specs.declared.reserving.Refused.TheVariants.{TooLarge, CapacityFull, OccupancyFull}
-use Rattle.hcc_charge.specs.Evicted.{reserving}
-use Rattle.hcc_charge.specs.Reserved.{Shortage, loaded, needed_by, short_of, still_needed}
+use Rattle.hcc_charge.specs.Evicted.{asking, reserving}
+use Rattle.hcc_charge.specs.Reserved.{Shortage, loaded, needed_by, short_of, still_needed, sweeping_between}
 use Rattle.hcc_shard.specs.declared.inserting.Inserted.{Inserted}
 use Rattle.hcc_shard.specs.declared.inserting.Inserted.TheVariants as inserted
 use Rattle.hcc_shard.specs.declared.inserting.Pinned.{Pinned}
 use Rattle.hcc_shard.specs.declared.inserting.Pinned.TheVariants as pinned
 use Rattle.hcc_shard.specs.Seated.{IsNext}
 
--- the most atomic steps of an insertion: the reservation, the search for a slot, and what gives
--- back or keeps what was reserved
+-- the most atomic steps of an insertion, whatever it frees: the reservation, the search for a slot,
+-- and what gives back or keeps what was reserved
 abbrev pub inserting : (slots room : ℕ) → ℕ
 inserting slots room = reserving slots + 8 * slots + room + 3
+
+-- the most of its steps, beside 7 for each probe, by what the view counts as turned and taken
+abbrev pub inserting_between : {T : Type 0} → (slots room : ℕ) → View T → View T → ℕ
+inserting_between slots room v w = sweeping_between slots v w + slots + room + asking + 3
 
 -- What a client has that may insert an entry: a value that is right for the key, a charge that
 -- isn't 0, a countdown of 1 to 3, and a serial above those before.

@@ -4,11 +4,13 @@ use Rattle.std.specs.Int.{to_le_bytes}
 use Rattle.std.specs.List.{flat_map, range_with_len}
 use mir.Syntax.{w64}
 use Rattle.hcc_core.specs.declared.slot.Stamp.{Stamp}
+use Rattle.hcc_core.specs.World.{times}
 use Rattle.hcc_rule.specs.declared.closed.ClosedTable.{ClosedTable}
 use Rattle.hcc_rule.specs.declared.key.Key.{Key}
 use Rattle.hcc_rule.specs.declared.layout.TheConstants.{CHARGE, LENGTH, PAYLOAD}
 use Rattle.hcc_rule.specs.declared.view.View.{View}
 use Rattle.hcc_rule.specs.Closing.{IsKept, IsSettled, data_at, has_entry, key_at, meta_at, over_entries, words_of}
+use Rattle.hcc_rule.specs.Probes.{trail_to}
 use Rattle.hcc_rule.specs.Words.{words_for}
 use Rattle.hcc_shard.specs.declared.entries.ClosedEntry.{ClosedEntry}
 
@@ -52,6 +54,12 @@ module _ {A : Type 0} (table : ClosedTable A) where
 
   abbrev pub charges_left : ℕ
   charges_left = over_slots (λ s. data_at table.geometry.room (words_of table) s CHARGE)
+
+  -- how often this slot stands in the trails of the entries
+  abbrev pub passed_left : (slot : ℕ) → ℕ
+  passed_left slot =
+      over_slots (λ s. times slot (trail_to table.geometry.slots
+      (key_at table.geometry.room (words_of table) s) s))
 
   -- what the slot tells of its entry, if it has one
   abbrev pub EntryAt : (slot : ℕ) → Option ClosedEntry → Type 0

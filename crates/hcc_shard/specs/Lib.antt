@@ -8,3 +8,4 @@ pub mod Reopened
 pub mod Imaged
 pub mod Callers
 pub mod Texts
+pub mod Reserving

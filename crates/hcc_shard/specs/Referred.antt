@@ -1,5 +1,5 @@
 -- What a release and an erasure leave of a view.
-use Rattle.std.specs.Prelude.{◌≡◌, ℕ, ◌+◌, ◌≤◌, ◌++◌, Bool, true, false, List, replicate}
+use Rattle.std.specs.Prelude.{◌≡◌, ℕ, ◌+◌, ◌≤◌, ◌++◌, ◌&&◌, not, Bool, true, false, List, replicate}
 use Rattle.hcc_word.specs.declared.layout.TheConstants.{CONSTRUCTION_WORD}
 use Rattle.hcc_word.specs.Word.{is_shareable, refs_of}
 use Rattle.hcc_core.specs.Outcomes.{dropped}
@@ -9,6 +9,8 @@ use Rattle.hcc_rule.specs.declared.view.Atomic.{Atomic}
 use Rattle.hcc_rule.specs.declared.view.View.{View}
 use Rattle.hcc_rule.specs.Seats.{SeatOf, Makes, atomic}
 use Rattle.hcc_rule.specs.Views.{is_called}
+use Rattle.hcc_table.specs.declared.efforts.Effort.{Effort}
+use Rattle.hcc_table.specs.Efforts.{Lost}
 use Rattle.hcc_table.specs.Freed.{is_due, left_of}
 use Rattle.hcc_table.specs.Searched.{Grows, times_met}
 use Rattle.hcc_table.specs.Steps.{BeginsWithTwo, MakesTwo, amount_of}
@@ -20,6 +22,10 @@ giving address used found = atomic address (amount_of used 1) 0 found
 -- the exchange that takes the entry of the word that is left, by what it finds
 abbrev pub taking : (address : ℕ) → (used : Bool) → (found other : ℕ) → Atomic
 taking address used found other = atomic address (left_of used 1 found) CONSTRUCTION_WORD other
+
+-- how many exchanges lost: one that was due, where no entry was freed
+abbrev pub lost_of : (due freed : Bool) → ℕ
+lost_of due freed = when (due && not freed) 1
 
 module _ {T : Type 0} where
   -- The record of this name is gone and no other, and an entry was freed or not: one that was Shown
@@ -55,9 +61,10 @@ module _ {T : Type 0} where
 
   -- The first step of a release gave its reference back, as a use or not, and found the word of an
   -- entry with references. Where nobody held the entry then, and it was hidden or to be erased, the
-  -- next step was the exchange that takes it: that won just where an entry was freed. Else the
-  -- release made no other step.
-  pub record GivesBack (address : ℕ) (used erase freed : Bool) (old new : SeatOf T) : Type 0 where
+  -- next step was the exchange that takes it: that won just where an entry was freed, and else one
+  -- that lost is counted. Else the release made no other step.
+  pub record GivesBack (address : ℕ) (used erase freed : Bool) (before after : Effort)
+      (old new : SeatOf T) : Type 0 where
     pub found : ℕ
     pub entry : is_shareable found ≡ true
     pub enough : 1 ≤ refs_of found
@@ -69,3 +76,5 @@ module _ {T : Type 0} where
     pub won : is_due erase (left_of used 1 found) ≡ true → freed ≡ true
         → BeginsWithTwo (giving address used found)
         (taking address used found (left_of used 1 found)) old new
+    pub counted : Lost (lost_of (is_due erase (left_of used 1 found)) freed)
+        (lost_of (is_due erase (left_of used 1 found)) freed) before after

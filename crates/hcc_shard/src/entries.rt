@@ -7,7 +7,7 @@ ghost use Rattle.hcc_core.specs.Sums.{when};
 ghost use Rattle.hcc_rule.specs.Closing.{data_at, has_entry, meta_at, words_of};
 ghost use Rattle.hcc_rule.specs.Words.{field_at, ledger_at};
 ghost use Rattle.hcc_word.specs.Word.{is_shareable};
-ghost use Rattle.hcc_shard.specs.Left.{AreLeft, EntryAt, charges_left, length_at, slots_left, value_at};
+ghost use Rattle.hcc_shard.specs.Left.{AreLeft, EntryAt, charges_left, length_at, passed_left, slots_left, value_at};
 
 use hcc_rule::layout::{CHARGE, KEY0, KEY1, LENGTH, PAYLOAD};
 use hcc_rule::{ClosedTable, Geometry, Key};
@@ -80,7 +80,8 @@ impl<A: Allocator> ClosedShard<A> {
     /// How often a slot stands in the trails of the entries that are left. It costs one load.
     pub fn displacement(&self, slot: u32) -> u64
         requires { slot < self.now.table.geometry.slots }
-        ensures { result ≡ slice_index (words_of self.now.table)
+        ensures sum { result ≡ passed_left self.now.table slot }
+        ensures word { result ≡ slice_index (words_of self.now.table)
             (field_at self.now.table.geometry.room slot DISPLACEMENT) }
     {
         self.table.displacement(slot)

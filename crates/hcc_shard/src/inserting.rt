@@ -1,19 +1,22 @@
 //! Insertions.
-ghost use Rattle.std.specs.Prelude.{◌≡◌, ◌+◌, ◌*◌, ◌<◌, false, true, None, Some, Err, [], length};
+ghost use Rattle.std.specs.Prelude.{◌≡◌, ◌+◌, ◌*◌, ◌<◌, Bool, false, true, None, Some, Err, IfSome, IfNone, [], length};
 ghost use Rattle.std.specs.List.{list_any};
 ghost use Rattle.hcc_core.specs.declared.client.Place.TheVariants.{Granted};
 ghost use Rattle.hcc_core.specs.declared.limits.TheConstants.{MOST_HANDLES};
 ghost use Rattle.hcc_core.specs.Ledgers.{is_standing};
-ghost use Rattle.hcc_rule.specs.Callers.{capacity_of, is_strict, plan_of, room_of, slots_of, IsSeatAt};
-ghost use Rattle.hcc_rule.specs.Seats.{IsSameSeat, view};
+ghost use Rattle.hcc_core.specs.Sums.{when};
+ghost use Rattle.hcc_rule.specs.Callers.{address_of_meta, capacity_of, is_strict, plan_of, room_of, slots_of, IsSeatAt};
+ghost use Rattle.hcc_rule.specs.Seats.{atomic, IsSameSeat, view};
+ghost use Rattle.hcc_rule.specs.ToldOwners.{first_word};
 ghost use Rattle.hcc_table.specs.Efforts.{Rose, Took};
 ghost use Rattle.hcc_table.specs.Inserted.{MayInsert};
-ghost use Rattle.hcc_table.specs.Steps.{MakesAtMost};
+ghost use Rattle.hcc_table.specs.Steps.{Adds, Ends, MakesAtMost, MakesFor};
 ghost use Rattle.hcc_charge.specs.declared.reserving.Refused.TheVariants.{TooLarge};
+ghost use Rattle.hcc_charge.specs.declared.reserving.Reservation.TheVariants.{Reserved};
 ghost use Rattle.hcc_charge.specs.Evicted.{most_turns};
-ghost use Rattle.hcc_charge.specs.Reserved.{RoseWith};
 ghost use Rattle.hcc_charge.specs.Settled.{HasFreedNothing, stood, without_place};
-ghost use Rattle.hcc_shard.specs.Inserted.{InsertedBy, IsInsertable, PinnedBy, PutBy, inserting};
+ghost use Rattle.hcc_shard.specs.Inserted.{InsertedBy, IsInsertable, PinnedBy, PutBy, inserting, inserting_between};
+ghost use Rattle.hcc_shard.specs.Reserving.{InsertedAs, IsLeftFor, PinnedAs};
 ghost use Rattle.hcc_shard.specs.Seated.{Rests};
 
 use crate::seat::ShardSeat;
@@ -51,9 +54,17 @@ impl<T: Tag, A: Allocator> Shard<T, A> {
     /// the client what it held and made, with nothing in hand, and evictions stay made. TooLarge
     /// makes no step.
     ///
+    /// It evicts only where the reservation asks for something, and for just that: before the
+    /// eviction's last turn less than that was freed, and the last turn frees at most four entries
+    /// more. CapacityFull says that less charge was freed than the reservation lacked; where an
+    /// entry is refused or dropped for want of a place, no slot was freed. Only an entry of the key
+    /// that was met is counted among the boosts.
+    ///
     /// The draft has no name, and its serial is above those before. It allocates nothing. It costs
     /// a reservation, and where that is granted each probe of the key as a search does, a store for
-    /// each word of the entry, and two subtractions where it is dropped.
+    /// each word of the entry, and two subtractions where it is dropped. With L slots and values of
+    /// W words that is at most 9 steps a turn, L + 4 for each slot that turns free, 7 a probe, and
+    /// L + W + 8.
     pub fn insert(
         &self,
         seat: &mut ShardSeat<T>,
@@ -73,9 +84,11 @@ impl<T: Tag, A: Allocator> Shard<T, A> {
         ensures effort { Took 0 (slots_of self.now.table)
             (4 * most_turns (slots_of self.now.table) + slots_of self.now.table)
             seat.old.effort seat.new.effort }
-        ensures tally { RoseWith (view seat.old.seat) (view seat.new.seat)
-            seat.old.tally seat.new.tally }
-        ensures boosts { Rose 0 1 seat.old.boosts seat.new.boosts }
+        ensures evicts { InsertedAs T.fits self.now draft result seat.old seat.new }
+        ensures frees { MakesFor 7 (inserting_between (slots_of self.now.table)
+            (room_of self.now.table) (view seat.old.seat) (view seat.new.seat))
+            (slots_of self.now.table) seat.old.effort seat.new.effort
+            seat.old.seat seat.new.seat }
         ensures steps { MakesAtMost (inserting (slots_of self.now.table) (room_of self.now.table))
             seat.old.seat seat.new.seat }
     {
@@ -126,9 +139,11 @@ impl<T: Tag, A: Allocator> Shard<T, A> {
         ensures effort { Took 0 (slots_of self.now.table)
             (4 * most_turns (slots_of self.now.table) + slots_of self.now.table)
             seat.old.effort seat.new.effort }
-        ensures tally { RoseWith (view seat.old.seat) (view seat.new.seat)
-            seat.old.tally seat.new.tally }
-        ensures boosts { Rose 0 1 seat.old.boosts seat.new.boosts }
+        ensures evicts { PinnedAs T.fits self.now draft result seat.old seat.new }
+        ensures frees { MakesFor 7 (inserting_between (slots_of self.now.table)
+            (room_of self.now.table) (view seat.old.seat) (view seat.new.seat))
+            (slots_of self.now.table) seat.old.effort seat.new.effort
+            seat.old.seat seat.new.seat }
         ensures steps { MakesAtMost (inserting (slots_of self.now.table) (room_of self.now.table))
             seat.old.seat seat.new.seat }
     {
@@ -180,8 +195,16 @@ impl<T: Tag, A: Allocator> Shard<T, A> {
         ensures effort { Took 1 (slots_of self.now.table) (slots_of self.now.table)
             seat.old.effort seat.new.effort }
         ensures tally { seat.new.tally ≡ seat.old.tally }
-        ensures boosts { Rose 0 1 seat.old.boosts seat.new.boosts }
-        ensures steps { MakesAtMost (8 * slots_of self.now.table + room_of self.now.table)
+        ensures placed { IfSome result (λ slot. (seat.new.boosts ≡ seat.old.boosts)
+            × Ends (atomic (address_of_meta self.now.table slot) (first_word draft) 0
+            (first_word draft)) seat.old.seat seat.new.seat) }
+        ensures left { IfNone result ((matched : Bool)
+            × IsLeftFor self.now draft Reserved matched seat.old seat.new
+            × Rose (when matched 1) (when matched 1) seat.old.boosts seat.new.boosts) }
+        ensures adds { (view seat.new.seat).saw < (view seat.old.seat).saw + slots_of self.now.table
+            → Adds seat.old.seat seat.new.seat }
+        ensures steps { MakesFor 7 (slots_of self.now.table + room_of self.now.table)
+            (slots_of self.now.table) seat.old.effort seat.new.effort
             seat.old.seat seat.new.seat }
     {
         let insertion = insert(
@@ -219,6 +242,7 @@ fn stand<T: Tag, A: Allocator>(
     requires few { length (view seat.old).work.standalones < MOST_HANDLES }
     ensures seat { IsSameSeat seat.old seat.new }
     ensures view { view seat.new ≡ stood name charge (without_place charge (view seat.old)) }
+    ensures adds { Adds seat.old seat.new }
     ensures steps { MakesAtMost 3 seat.old seat.new }
 {
     keep_charge(table, seat);

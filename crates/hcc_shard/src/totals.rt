@@ -1,15 +1,15 @@
 //! Totals of a shard.
-ghost use Rattle.std.specs.Prelude.{◌≡◌, ◌+◌, ◌*◌, ◌<◌, ◌≤◌, ◌^◌, true, ℕ, length};
+ghost use Rattle.std.specs.Prelude.{◌≡◌, ◌+◌, ◌*◌, ◌<◌, ◌≤◌, ◌^◌, true, length};
 ghost use Rattle.hcc_core.specs.World.{limit_of, standing_of};
-ghost use Rattle.hcc_rule.specs.Callers.{capacity_of, clients_of, is_strict, plan_of, slots_of};
+ghost use Rattle.hcc_rule.specs.declared.layout.TheConstants.{OCCUPANCY};
+ghost use Rattle.hcc_rule.specs.Callers.{address_of_ledger, capacity_of, clients_of, is_strict, plan_of, slots_of};
 ghost use Rattle.hcc_rule.specs.Rule.{setup_of};
-ghost use Rattle.hcc_rule.specs.Seats.{view};
-ghost use Rattle.hcc_rule.specs.ToldLedgers.{after_usage};
+ghost use Rattle.hcc_rule.specs.Seats.{Makes, view};
 ghost use Rattle.hcc_rule.specs.Views.{charge_held, different};
 ghost use Rattle.hcc_table.specs.Efforts.{Took};
 ghost use Rattle.hcc_table.specs.Searched.{Sought};
 ghost use Rattle.hcc_table.specs.Steps.{MakesAtMost};
-ghost use Rattle.hcc_shard.specs.Counted.{SameCounts, SameEvictions};
+ghost use Rattle.hcc_shard.specs.Counted.{LoadsUsage, SameCounts, SameEvictions};
 ghost use Rattle.hcc_shard.specs.Seated.{Rests};
 
 use crate::erasing::IN_FLIGHT;
@@ -20,10 +20,10 @@ use hcc_table::pinned_charge;
 use std::alloc::Allocator;
 
 impl<T: Tag, A: Allocator> Shard<T, A> {
-    /// How many entries the shard has, with the places and the freed slots that other clients have
-    /// in hand: at least the entries that the client holds, each once, and at most the limit, with
-    /// an open place for each client. In a shard of one client it is exact: those that it made,
-    /// less those that it took.
+    /// How many entries the shard has, as one load finds it, with the places and the freed slots
+    /// that other clients have in hand: at least the entries that the client holds, each once, and
+    /// at most the limit, with an open place for each client. In a shard of one client it is exact:
+    /// those that it made, less those that it took.
     ///
     /// It refuses nothing and allocates nothing. It costs one load.
     pub fn occupancy(&self, seat: &mut ShardSeat<T>) -> u64
@@ -35,21 +35,23 @@ impl<T: Tag, A: Allocator> Shard<T, A> {
             + clients_of self.now.table }
         ensures alone { clients_of self.now.table ≡ 1
             → result + (view seat.old.seat).takings ≡ length (view seat.old.seat).made }
+        ensures loads { Makes (address_of_ledger self.now.table OCCUPANCY) 0 0 result
+            seat.old.seat seat.new.seat }
         ensures counts { SameCounts seat.old seat.new }
         ensures steps { MakesAtMost 1 seat.old.seat seat.new.seat }
     {
         self.table.occupancy(&mut seat.seat)
     }
 
-    /// What is charged in the shard: at most its capacity, where that is strict. It is at least the
-    /// charges of the entries that the client holds, each once, and of its standalone entries. The
-    /// usage that was loaded joins the client's seen list.
+    /// What is charged in the shard: the usage that is loaded, or the capacity where that is strict
+    /// and less. It is at least the charges of the entries that the client holds, each once, and of
+    /// its standalone entries. The usage that was loaded joins the client's seen list.
     ///
     /// It refuses nothing and allocates nothing. It costs one load.
     pub fn usage(&self, seat: &mut ShardSeat<T>) -> u64
         requires seat { Rests self.now seat.old }
         ensures seat { Rests self.now seat.new }
-        ensures view { (used : ℕ) × (view seat.new.seat ≡ after_usage used (view seat.old.seat)) }
+        ensures view { LoadsUsage self.now result seat.old seat.new }
         ensures entries { standing_of (view seat.old.seat).work
             + charge_held (view seat.old.seat).records ≤ result }
         ensures strict { is_strict self.now.table ≡ true → result ≤ capacity_of self.now.table }

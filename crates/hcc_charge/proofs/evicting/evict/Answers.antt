@@ -1,4 +1,6 @@
-use Rattle.std.proofs.Common.{sym, ap, ◌∙◌}
+use Rattle.std.proofs.Common.{◌+◌, sym, ap, ◌∙◌, arith}
+use Rattle.std.proofs.Math.Nat.{mul-add}
+use Rattle.hcc_rule.specs.Callers.{slots_of}
 use Rattle.hcc_charge.specs.Evicted.{has_ended}
 use Rattle.hcc_charge.proofs.Turnings.{going_turned, turned_ends, turned_on}
 use Rattle.hcc_charge.proofs.evicting.evict.Goals as goal
@@ -35,3 +37,15 @@ loop-tally-preserved g c =
           ∙ (sym c.has_ended.ensures ∙ c.if-has_ended.false));
       untold = c.loop-tally.invariant.untold;
     }
+
+pub returns-then-has_ended-clause-steps : goal.returns-then-has_ended-clause-steps
+returns-then-has_ended-clause-steps g c =
+    let was = c.loop-tally.invariant.going.steps in
+    let more = c.turn-here.ensures.steps in
+    let one = c.turn-here.ensures.turns in
+    rw c.with-all.ensures
+    (omega (
+      arith,
+      mul-add (slots_of c.args.table.now + 4) c.loop-tally.all.slots
+          c.turn-here.result.slots,
+    ))

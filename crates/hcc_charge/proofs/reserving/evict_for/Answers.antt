@@ -1,12 +1,14 @@
-use Rattle.std.proofs.Common.{arith}
-use Rattle.std.proofs.Math.Nat.{mul-le-mul_left}
-use Rattle.hcc_charge.specs.Evicted.{most_turns, turning}
+use Rattle.std.proofs.Common.{refl, arith}
 use Rattle.hcc_charge.proofs.reserving.evict_for.Goals as goal
 
-pub returns-clause-steps : goal.returns-clause-steps
-returns-clause-steps g c =
-    let slots = c.args.table.now.geometry.slots in
-    let few = mul-le-mul_left {m = c.evict.result.turns} {n = most_turns slots} (turning slots)
-    c.evict.ensures.turns.1 in
-    let steps = c.evict.ensures.steps in
-    omega arith
+pub returns-then-ask-eq0-clause-evicts : goal.returns-then-ask-eq0-clause-evicts
+returns-then-ask-eq0-clause-evicts g c = record {
+  none = λ is. (refl, refl);
+  some = λ more. absurd (let none = c.if-ask-eq0.true in omega arith);
+}
+
+pub returns-clause-evicts : goal.returns-clause-evicts
+returns-clause-evicts g c = record {
+  none = λ is. absurd (let some = c.if-ask-eq0.false in omega arith);
+  some = λ more. c.evict.ensures.evicts;
+}

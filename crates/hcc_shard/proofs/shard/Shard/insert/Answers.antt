@@ -1,8 +1,13 @@
-use Rattle.std.proofs.Common.{◌≡◌, IfSome, refl, sym, subst}
+use Rattle.std.proofs.Common.{◌≡◌, IfSome, ap, refl, sym, subst, arith}
 use Rattle.std.proofs.lemmas.Result.{err_from_is_err_and}
-use Rattle.hcc_rule.specs.Callers.{capacity_of, geometry_of, is_strict, plan_of, slots_of}
+use Rattle.hcc_rule.specs.declared.view.View.{View}
+use Rattle.hcc_rule.specs.Callers.{capacity_of, geometry_of, is_strict, plan_of, room_of, slots_of}
 use Rattle.hcc_rule.specs.Seats.{view}
+use Rattle.hcc_table.specs.Efforts.{Rose}
+use Rattle.hcc_table.proofs.Logs.{adds_none}
+use Rattle.hcc_charge.proofs.Askings.{keeps_by, keeps_then}
 use Rattle.hcc_shard.proofs.Insertions.{left_dropped, left_none, may_insert, refused_by, tries_placed}
+use Rattle.hcc_shard.proofs.Reservings.{few_by, frees_by, idle_placed, idle_tried, leaves_reserved, leaves_unreserved, puts_in, refused_within, refuses, rose_same, tries_within}
 use Rattle.hcc_shard.proofs.shard.Shard.insert.Goals as goal
 
 pub returns-in_err-reserved-clause-view : goal.returns-in_err-reserved-clause-view
@@ -53,3 +58,117 @@ returns-in-NoPlace-clause-view g c =
     let told = rw c.in-NoPlace.is at c.in_ok-reserved.ensures.view in
     left_none (slots_of t) (capacity_of t) (is_strict t) c.args.draft (view c.args.seat.now.seat)
     (view c.reserve.new.seat) told.0 told.2
+
+pub returns-in_err-reserved-clause-evicts : goal.returns-in_err-reserved-clause-evicts
+returns-in_err-reserved-clause-evicts g c =
+    let p = err_from_is_err_and c.from_residual.result c.from_residual.ensures.1 in
+    rw (p.1, p.2)
+    (refuses c.args.self.now c.args.draft g.T.Tag.fits c.in_err-reserved.field-0.0 c.args.seat.now
+    _ c.in_err-reserved.ensures.evicts c.in_err-reserved.ensures.effort.0 refl)
+
+pub returns-in_err-reserved-clause-frees : goal.returns-in_err-reserved-clause-frees
+returns-in_err-reserved-clause-frees g c =
+    let t = c.args.self.now.table in
+    frees_by (slots_of t) (room_of t) 0 c.args.seat.now.seat c.reserve.new.seat
+    c.reserve.new.seat c.args.seat.now.effort c.reserve.new.effort (omega arith)
+    (rose_same _ _ c.in_err-reserved.ensures.effort.0) c.in_err-reserved.ensures.steps
+    (omega arith) (record { turns = refl; takings = refl; opened = refl })
+
+pub returns-in_err-reserved-clause-steps : goal.returns-in_err-reserved-clause-steps
+returns-in_err-reserved-clause-steps g c =
+    let t = c.args.self.now.table in
+    few_by (slots_of t) (room_of t) c.args.seat.now.seat c.reserve.new.seat
+    c.args.seat.now.effort c.reserve.new.effort (returns-in_err-reserved-clause-frees g c)
+    (refused_within (slots_of t) (capacity_of t) (is_strict t) c.args.draft
+    c.in_err-reserved.field-0.0 (view c.args.seat.now.seat) (view c.reserve.new.seat)
+    (refused_by (slots_of t) (capacity_of t) (is_strict t) c.args.draft
+    c.in_err-reserved.field-0.0 (view c.args.seat.now.seat) (view c.reserve.new.seat)
+    c.in_err-reserved.ensures.view))
+
+pub returns-in-Some-clause-evicts : goal.returns-in-Some-clause-evicts
+returns-in-Some-clause-evicts g c =
+    let told = c.in-Some.ensures in
+    let r = (rw c.in-Reserved.is at c.in_ok-reserved.ensures.view).0 in (
+      _,
+      puts_in c.args.self.now c.args.draft g.T.Tag.fits _ c.args.value.now c.args.seat.now
+          _ c.reserve.new.seat c.reserve.new.tally r c.put.ensures.tally
+          (rw c.in-Reserved.is at c.in_ok-reserved.ensures.evicts) told.view.1
+          told.placed.1 told.placed.0,
+    )
+
+pub returns-in-Some-clause-frees : goal.returns-in-Some-clause-frees
+returns-in-Some-clause-frees g c =
+    let t = c.args.self.now.table in
+    let put = c.put.ensures.steps in
+    frees_by (slots_of t) (room_of t) put.visited c.args.seat.now.seat c.reserve.new.seat
+    c.put.new.seat.seat c.args.seat.now.effort c.put.new.seat.effort put.within
+    (subst (λ n. Rose put.visited put.visited n c.put.new.seat.effort.probes)
+    c.in_ok-reserved.ensures.effort.0 put.counted) c.in_ok-reserved.ensures.steps
+    (let few = put.steps in omega arith)
+    (idle_placed _ c.args.draft c.args.value.now (view c.reserve.new.seat)
+    (view c.put.new.seat.seat) c.in-Some.ensures.view.1.tried)
+
+pub returns-in-Some-clause-steps : goal.returns-in-Some-clause-steps
+returns-in-Some-clause-steps g c =
+    let t = c.args.self.now.table in
+    few_by (slots_of t) (room_of t) c.args.seat.now.seat c.put.new.seat.seat
+    c.args.seat.now.effort c.put.new.seat.effort (returns-in-Some-clause-frees g c)
+    (tries_within (returns-in-Some-clause-view g c).1.tries)
+
+pub returns-in-None-clause-evicts : goal.returns-in-None-clause-evicts
+returns-in-None-clause-evicts g c =
+    let told = c.in-None.ensures in
+    let r = (rw c.in-Reserved.is at c.in_ok-reserved.ensures.view).0 in
+    leaves_reserved c.args.self.now c.args.draft g.T.Tag.fits told.left.0 c.args.seat.now _
+    c.put.new.seat _ r c.put.ensures.tally
+    (rw c.in-Reserved.is at c.in_ok-reserved.ensures.evicts)
+    told.view.tried c.put.ensures.adds told.left.1
+    (keeps_by _ _ (view c.put.new.seat.seat) c.give_up.ensures.view refl refl refl)
+    (ap (λ (z : View g.row.T.Denot). z.met) c.give_up.ensures.view)
+    (ap (λ (z : View g.row.T.Denot). z.saw) c.give_up.ensures.view) c.give_up.ensures.adds
+    told.left.2
+
+pub returns-in-None-clause-frees : goal.returns-in-None-clause-frees
+returns-in-None-clause-frees g c =
+    let t = c.args.self.now.table in
+    let put = c.put.ensures.steps in
+    frees_by (slots_of t) (room_of t) put.visited c.args.seat.now.seat c.reserve.new.seat
+    c.give_up.new.seat c.args.seat.now.effort c.put.new.seat.effort put.within
+    (subst (λ n. Rose put.visited put.visited n c.put.new.seat.effort.probes)
+    c.in_ok-reserved.ensures.effort.0 put.counted) c.in_ok-reserved.ensures.steps
+    (let few = put.steps in let back = c.give_up.ensures.steps in omega arith)
+    (keeps_then (view c.reserve.new.seat) (view c.put.new.seat.seat) (view c.give_up.new.seat)
+    (idle_tried (view c.reserve.new.seat) (view c.put.new.seat.seat) c.in-None.ensures.view.tried)
+    (keeps_by _ _ (view c.put.new.seat.seat) c.give_up.ensures.view refl refl refl))
+
+pub returns-in-None-clause-steps : goal.returns-in-None-clause-steps
+returns-in-None-clause-steps g c =
+    let t = c.args.self.now.table in
+    few_by (slots_of t) (room_of t) c.args.seat.now.seat c.give_up.new.seat
+    c.args.seat.now.effort c.put.new.seat.effort (returns-in-None-clause-frees g c)
+    (tries_within (returns-in-None-clause-view g c).tries)
+
+pub returns-in-NoPlace-clause-evicts : goal.returns-in-NoPlace-clause-evicts
+returns-in-NoPlace-clause-evicts g c =
+    let r = (rw c.in-NoPlace.is at c.in_ok-reserved.ensures.view).0 in
+    leaves_unreserved c.args.self.now c.args.draft g.T.Tag.fits c.args.seat.now _
+    c.reserve.new.seat r (rw c.in-NoPlace.is at c.in_ok-reserved.ensures.evicts)
+    (record { turns = refl; takings = refl; opened = refl }) refl
+    (adds_none c.reserve.new.seat c.reserve.new.seat refl)
+    c.in_ok-reserved.ensures.effort.0 refl
+
+pub returns-in-NoPlace-clause-frees : goal.returns-in-NoPlace-clause-frees
+returns-in-NoPlace-clause-frees g c =
+    let t = c.args.self.now.table in
+    frees_by (slots_of t) (room_of t) 0 c.args.seat.now.seat c.reserve.new.seat
+    c.reserve.new.seat c.args.seat.now.effort c.reserve.new.effort (omega arith)
+    (rose_same _ _ c.in_ok-reserved.ensures.effort.0) c.in_ok-reserved.ensures.steps
+    (omega arith)
+    (record { turns = refl; takings = refl; opened = refl })
+
+pub returns-in-NoPlace-clause-steps : goal.returns-in-NoPlace-clause-steps
+returns-in-NoPlace-clause-steps g c =
+    let t = c.args.self.now.table in
+    few_by (slots_of t) (room_of t) c.args.seat.now.seat c.reserve.new.seat
+    c.args.seat.now.effort c.reserve.new.effort (returns-in-NoPlace-clause-frees g c)
+    (tries_within (returns-in-NoPlace-clause-view g c).tries)

@@ -1,0 +1,113 @@
+-- What a reservation found, and what it evicted for that.
+use Rattle.std.proofs.Common.{◌≡◌, ℕ, ◌+◌, ◌-◌, Bool, true, false, List, sym, subst, refl, ap, ◌∙◌, arith}
+use Rattle.hcc_core.specs.Sums.{when}
+use Rattle.hcc_rule.specs.declared.key.Key.{Key}
+use Rattle.hcc_rule.specs.declared.layout.TheConstants.{USAGE}
+use Rattle.hcc_rule.specs.declared.table.RuleTable.{RuleTable}
+use Rattle.hcc_rule.specs.declared.view.View.{View}
+use Rattle.hcc_rule.specs.Callers.{address_of_ledger, capacity_of, is_strict}
+use Rattle.hcc_rule.specs.Seats.{SeatOf, Makes, view}
+use Rattle.hcc_table.specs.Steps.{Adds}
+use Rattle.hcc_charge.specs.declared.swept.Swept.{Swept}
+use Rattle.hcc_charge.specs.declared.tally.Tally.{Tally}
+use Rattle.hcc_charge.specs.Asked.{added, is_full, lacked, Enters, EvictsAsAsked, EvictsNothing}
+use Rattle.hcc_charge.specs.Evicted.{EvictsFor, Sweeps, sweeping}
+use Rattle.hcc_charge.specs.Reserved.{ask_of, asked, at_least_one, entered, needed_by, still_needed, sweeping_between}
+use Rattle.hcc_charge.specs.Swept.{Tallied}
+
+module _ {T : Type 0} where
+  -- Nothing is evicted where a view counts what it counted,
+  pub keeps_by : (x w v : View T) → w ≡ x → x.turns ≡ v.turns → x.takings ≡ v.takings
+      → x.open_places ≡ v.open_places → EvictsNothing v w
+  keeps_by x w v same turns takings opened = record {
+    turns = ap (λ (z : View T). z.turns) same ∙ turns;
+    takings = ap (λ (z : View T). z.takings) same ∙ takings;
+    opened = ap (λ (z : View T). z.open_places) same ∙ opened;
+  }
+
+  -- and nothing by one step after another.
+  pub keeps_then : (u v w : View T) → EvictsNothing u v → EvictsNothing v w → EvictsNothing u w
+  keeps_then u v w a b = record {
+    turns = b.turns ∙ a.turns;
+    takings = b.takings ∙ a.takings;
+    opened = b.opened ∙ a.opened;
+  }
+
+  -- The steps of the turns that a view counts are those of the turns that were made.
+  pub between_is : (slots turns taken : ℕ) (v w : View T) → w.turns ≡ v.turns + turns
+      → w.takings ≡ v.takings + taken → sweeping_between slots v w ≡ sweeping slots turns taken
+  between_is slots turns taken v w more others = λ k. sweeping slots (by_turns k) (by_takings k)
+    where
+      by_turns : w.turns - v.turns ≡ turns
+      by_turns = omega arith
+
+      by_takings : w.takings - v.takings ≡ taken
+      by_takings = omega arith
+
+-- What the code asks eviction for is what is asked for, without strict capacity
+pub asked_lax : (capacity given used charge ask least : ℕ) (full : Bool) → given ≡ capacity
+    → ask ≡ ask_of given used charge → least ≡ at_least_one full ask
+    → least ≡ asked false capacity charge full used
+asked_lax capacity given used charge ask least full within is at_least =
+    at_least ∙ ap (at_least_one full) (is ∙ ap (λ n. ask_of n used charge) within)
+
+-- and under it.
+pub asked_strict : (capacity given used charge needed least : ℕ) (full : Bool) → given ≡ capacity
+    → needed ≡ still_needed given used charge → least ≡ at_least_one full needed
+    → least ≡ asked true capacity charge full used
+asked_strict capacity given used charge needed least full within is at_least =
+    at_least ∙ ap (at_least_one full) (is ∙ ap (λ n. still_needed n used charge) within)
+
+module _ {T A : Type 0} (table : RuleTable T A) (charge used : ℕ) where
+  -- what is lacked under strict capacity,
+  pub lacked_strict : is_strict table ≡ true
+      → lacked table charge used ≡ still_needed (capacity_of table) used charge
+  lacked_strict strict = ap (λ s. needed_by s (capacity_of table) used charge) strict
+
+  -- and without it
+  pub lacked_lax : is_strict table ≡ false → lacked table charge used ≡ 0
+  lacked_lax lax = ap (λ s. needed_by s (capacity_of table) used charge) lax
+
+module _ {T A : Type 0} (fits : T → Key → List ℕ → Type 0) (table : RuleTable T A)
+    (charge taken used ask : ℕ) (full strict : Bool) (swept : Swept) (before after : Tally)
+    (a u b c d : SeatOf T) where
+  -- A reservation evicted just for what it asks for.
+  abbrev pub evicts_as_asked : full ≡ is_full table taken → is_strict table ≡ strict
+      → ask ≡ asked strict (capacity_of table) charge full used
+      → Enters table taken a u → view u ≡ entered full (view a)
+      → Makes (address_of_ledger table USAGE) (added strict charge) 0 used u b
+      → EvictsNothing (view u) (view b)
+      → EvictsFor fits table ask swept b c
+      → Sweeps swept.turns swept.slots swept.charge (view b) (view c) → Adds c d
+      → EvictsNothing (view c) (view d) → Tallied swept before after
+      → EvictsAsAsked fits table charge before after a d
+  evicts_as_asked is_found is_kind is_asked enters opens finds first evicts sweeps rest last
+      tallied =
+      record {
+        taken = taken;
+        used = used;
+        swept = swept;
+        u = u;
+        b = b;
+        c = c;
+        enters = enters;
+        finds =
+            subst (λ s. Makes (address_of_ledger table USAGE) (added s charge) 0 used u b)
+            (sym is_kind) finds;
+        evicts =
+            subst (λ n. EvictsFor fits table n swept b c)
+            (is_asked
+            ∙ (λ k. asked (sym is_kind k) (capacity_of table) charge (is_found k) used)) evicts;
+        rest = rest;
+        turns =
+            last.turns ∙ (ap (λ (z : View T). z.turns) sweeps.same
+            ∙ ap (λ n. n + swept.turns) (first.turns ∙ ap (λ (z : View T). z.turns) opens));
+        takings =
+            last.takings ∙ (ap (λ (z : View T). z.takings) sweeps.same
+            ∙ ap (λ n. n + swept.slots) (first.takings ∙ ap (λ (z : View T). z.takings) opens));
+        opened =
+            last.opened ∙ (ap (λ (z : View T). z.open_places) sweeps.same
+            ∙ (first.opened ∙ (ap (λ (z : View T). z.open_places) opens
+            ∙ ap (λ f. (view a).open_places + when f 1) is_found)));
+        tallied = tallied;
+      }

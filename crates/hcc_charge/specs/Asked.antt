@@ -1,0 +1,83 @@
+-- What a reservation found, and what it evicted for that, told of its atomic steps.
+use Rattle.std.specs.Prelude.{◌≡◌, ℕ, ◌+◌, ◌<◌, ◌≤◌, Bool, true, nat_le, List, Result, Ok, Err, if◌then◌else◌}
+use Rattle.hcc_core.specs.Sums.{when}
+use Rattle.hcc_core.specs.World.{limit_of}
+use Rattle.hcc_rule.specs.declared.key.Key.{Key}
+use Rattle.hcc_rule.specs.declared.layout.TheConstants.{OCCUPANCY, USAGE}
+use Rattle.hcc_rule.specs.declared.table.RuleTable.{RuleTable}
+use Rattle.hcc_rule.specs.declared.view.View.{View}
+use Rattle.hcc_rule.specs.Callers.{address_of_ledger, capacity_of, is_strict, plan_of}
+use Rattle.hcc_rule.specs.Rule.{setup_of}
+use Rattle.hcc_rule.specs.Seats.{SeatOf, Makes, view}
+use Rattle.hcc_table.specs.Steps.{Adds, MakesNone}
+use Rattle.hcc_charge.specs.declared.reserving.Reservation.{Reservation}
+use Rattle.hcc_charge.specs.declared.reserving.Reservation.TheVariants.{Reserved, NoPlace}
+use Rattle.hcc_charge.specs.declared.reserving.Refused.{Refused}
+use Rattle.hcc_charge.specs.declared.reserving.Refused.TheVariants.{TooLarge, CapacityFull, OccupancyFull}
+use Rattle.hcc_charge.specs.declared.swept.Swept.{Swept}
+use Rattle.hcc_charge.specs.declared.tally.Tally.{Tally}
+use Rattle.hcc_charge.specs.Evicted.{EvictsFor}
+use Rattle.hcc_charge.specs.Reserved.{asked, needed_by}
+use Rattle.hcc_charge.specs.Swept.{Tallied}
+
+-- what the step that finds the usage adds to it: the charge under strict capacity, else nothing
+abbrev pub added : (strict : Bool) → (charge : ℕ) → ℕ
+added strict charge = if strict then charge else 0
+
+-- No turn was made, no entry taken, and no open place asked for.
+pub record EvictsNothing {T : Type 0} (v w : View T) : Type 0 where
+  pub turns : w.turns ≡ v.turns
+  pub takings : w.takings ≡ v.takings
+  pub opened : w.open_places ≡ v.open_places
+
+module _ {T A : Type 0} (table : RuleTable T A) where
+  -- no place was left where so many were taken
+  abbrev pub is_full : (taken : ℕ) → Bool
+  is_full taken = nat_le (limit_of (setup_of (plan_of table))) taken
+
+  -- what of the charge wasn't granted at once, where this usage was found
+  abbrev pub lacked : (charge used : ℕ) → ℕ
+  lacked charge used = needed_by (is_strict table) (capacity_of table) used charge
+
+  -- A place was asked for, and so many were found taken.
+  abbrev pub Enters : (taken : ℕ) → SeatOf T → SeatOf T → Type 0
+  Enters = Makes (address_of_ledger table OCCUPANCY) 1 0
+
+module _ {T A : Type 0} (fits : T → Key → List ℕ → Type 0) (table : RuleTable T A) (charge : ℕ)
+  where
+    -- A reservation found so many places taken, and this usage, and evicted just for what it asks for
+    -- then. What gives back or settles came behind it. The client's view counts the turns, what they
+    -- took and the open place, and its tally all that they did.
+    pub record EvictsAsAsked (before after : Tally) (a d : SeatOf T) : Type 0 where
+      pub taken : ℕ
+      pub used : ℕ
+      pub swept : Swept
+      pub u : SeatOf T
+      pub b : SeatOf T
+      pub c : SeatOf T
+      pub enters : Enters table taken a u
+      pub finds : Makes (address_of_ledger table USAGE) (added (is_strict table) charge) 0 used u b
+      pub evicts : EvictsFor fits table
+          (asked (is_strict table) (capacity_of table) charge (is_full table taken) used) swept b c
+      pub rest : Adds c d
+      pub turns : (view d).turns ≡ (view a).turns + swept.turns
+      pub takings : (view d).takings ≡ (view a).takings + swept.slots
+      pub opened : (view d).open_places ≡ (view a).open_places + when (is_full table taken) 1
+      pub tallied : Tallied swept before after
+
+    -- What a reservation found and evicted, by its answer: what was lacked was freed, and a slot
+    -- where the shard was full; no slot was freed in a full shard; or less charge was than was
+    -- lacked.
+    abbrev pub EvictsBy : Result Reservation Refused → (before after : Tally)
+        → (a d : SeatOf T) → Type 0
+    EvictsBy (Ok Reserved) before after a d =
+        (e : EvictsAsAsked before after a d) × (is_full table e.taken ≡ true → 0 < e.swept.slots)
+        × (lacked table charge e.used ≤ e.swept.charge)
+    EvictsBy (Ok NoPlace) before after a d =
+        (e : EvictsAsAsked before after a d) × (is_full table e.taken ≡ true) × (e.swept.slots ≡ 0)
+    EvictsBy (Err TooLarge) before after a d = (after ≡ before) × MakesNone a d
+    EvictsBy (Err CapacityFull) before after a d =
+        (e : EvictsAsAsked before after a d) × (e.swept.charge < lacked table charge e.used)
+    EvictsBy (Err OccupancyFull) before after a d =
+        (e : EvictsAsAsked before after a d) × (is_full table e.taken ≡ true) × (e.swept.slots ≡ 0)
+        × (lacked table charge e.used ≡ 0)

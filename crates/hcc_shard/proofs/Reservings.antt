@@ -1,0 +1,244 @@
+-- What an insertion reserved and evicted, and its steps.
+use Rattle.std.proofs.Common.{◌≡◌, ℕ, ◌+◌, ◌-◌, ◌*◌, ◌<◌, ◌≤◌, Bool, true, false, List, [], ◌∷◌, ◌++◌, Ok, Err, sym, subst, refl, ap, ◌∙◌, arith}
+use Rattle.std.proofs.Math.Nat.{mul-le-mul_left}
+use Rattle.std.proofs.lemmas.List.{append_assoc}
+use Rattle.hcc_core.specs.declared.client.Standalone.{Standalone}
+use Rattle.hcc_core.specs.declared.client.Place.{Place}
+use Rattle.hcc_core.specs.Sums.{when}
+use Rattle.hcc_core.specs.Lawful.{is_in}
+use Rattle.hcc_rule.specs.declared.key.Key.{Key}
+use Rattle.hcc_rule.specs.declared.steps.shows.Draft.{Draft}
+use Rattle.hcc_rule.specs.declared.view.Atomic.{Atomic}
+use Rattle.hcc_rule.specs.declared.view.Made.{Made}
+use Rattle.hcc_rule.specs.declared.view.Record.{Record}
+use Rattle.hcc_rule.specs.declared.view.View.{View}
+use Rattle.hcc_rule.specs.Callers.{address_of_meta, slots_of}
+use Rattle.hcc_rule.specs.Seats.{SeatOf, atomic, made, steps, view}
+use Rattle.hcc_rule.specs.ToldOwners.{after_show, first_word, made_of}
+use Rattle.hcc_rule.specs.Views.{Each}
+use Rattle.hcc_rule.specs.Words.{key_of}
+use Rattle.hcc_table.specs.declared.efforts.Effort.{Effort}
+use Rattle.hcc_table.specs.Efforts.{Rose}
+use Rattle.hcc_table.specs.Inserted.{IsPlaced, Meets, Tried}
+use Rattle.hcc_table.specs.Searched.{Buried}
+use Rattle.hcc_table.proofs.Logs.{adds_none, adds_then, ends_adds}
+use Rattle.hcc_table.specs.Steps.{Adds, Among, Ends, MakesAtMost, MakesFor, after}
+use Rattle.hcc_charge.specs.declared.reserving.Refused.{Refused}
+use Rattle.hcc_charge.specs.declared.reserving.Refused.TheVariants.{TooLarge, CapacityFull, OccupancyFull}
+use Rattle.hcc_charge.specs.declared.reserving.Reservation.TheVariants.{Reserved, NoPlace}
+use Rattle.hcc_charge.specs.declared.tally.Tally.{Tally}
+use Rattle.hcc_charge.specs.Asked.{EvictsBy, EvictsNothing}
+use Rattle.hcc_charge.specs.Evicted.{asking, evicting, most_turns, sweeping}
+use Rattle.hcc_charge.specs.Reserved.{Reserves, sweeping_between}
+use Rattle.hcc_charge.proofs.Askings.{between_is, keeps_by, keeps_then}
+use Rattle.hcc_shard.specs.declared.seat.ShardSeat.{ShardSeat}
+use Rattle.hcc_shard.specs.declared.shard.Shard.{Shard}
+use Rattle.hcc_shard.specs.Inserted.{RefusedBy, Tries, inserting, inserting_between}
+use Rattle.hcc_shard.specs.Reserving.{IsLeftFor, LeavesOut, PutsIn, Refuses}
+
+-- Turns and what they took are within what an eviction may do.
+sweeping_within : (slots turns freed : ℕ) → turns ≤ most_turns slots → freed ≤ 4 * turns
+    → sweeping slots turns freed ≤ evicting slots
+sweeping_within slots turns freed few modest =
+    let most = mul-le-mul_left {m = freed} {n = 4 * most_turns slots} (slots + 4) (omega arith) in
+    omega arith
+
+module _ {T : Type 0} where
+  -- A step among others comes behind what was made before.
+  pub among_adds : (one : Atomic) (a b : SeatOf T) → Among one a b → Adds a b
+  among_adds one a b h = (
+    (h.0 ++ one ∷ []) ++ h.1,
+    h.2 ∙ (ap (λ xs. xs ++ h.1) (append_assoc (steps a) h.0 (one ∷ []))
+        ∙ append_assoc (steps a) (h.0 ++ one ∷ []) h.1),
+  )
+
+  -- What was met last of all was so from an earlier view to a later one.
+  pub meets_from : (key : Key) (v a b w : View T) → a.met ≡ v.met → w.met ≡ b.met
+      → Meets key a b → Meets key v w
+  meets_from key v a b w before behind h =
+      (h.0, behind ∙ (h.1 ∙ ap (λ xs. xs ++ h.0 ++ key ∷ []) before))
+
+  -- So it is with what the client held.
+  pub buried_from : (key : Key) (P : ℕ → Type 0) (v a w : View T) → a.records ≡ v.records
+      → Buried key P a w → Buried key P v w
+  buried_from key P v a w same h =
+      subst (λ rs. Each (λ (r : Record). key_of r.entry ≡ key → P r.slot
+      → is_in r.entry.stamp w.work.dead ≡ true) rs) same h
+
+  -- No entry is evicted by what puts one in a slot, or in none.
+  pub idle_placed : (slot : ℕ) (draft : Draft) (value : List ℕ) (v w : View T)
+      → Tried (after_show slot draft.name (made_of draft value) v) w → EvictsNothing v w
+  idle_placed slot draft value v w t = keeps_by _ w v t.same refl refl refl
+
+  pub idle_tried : (v w : View T) → Tried v w → EvictsNothing v w
+  idle_tried v w t = keeps_by _ w v t.same refl refl refl
+
+  -- An insertion's turns are few.
+  pub tries_within : {slots capacity : ℕ} {strict : Bool} {charge stamps : ℕ}
+      {standalones : List Standalone} {records : List Record} {mades : List Made} {v w : View T}
+      → Tries slots capacity strict charge stamps standalones records mades v w
+      → sweeping_between slots v w ≤ evicting slots
+  tries_within {slots = slots} {v = v} {w = w} t =
+      rw (between_is slots t.shortage.swept.turns t.shortage.swept.slots v w
+      (ap (λ (z : View T). z.turns) t.same) (ap (λ (z : View T). z.takings) t.same))
+      (sweeping_within slots t.shortage.swept.turns t.shortage.swept.slots
+      t.shortage.evicts.few t.shortage.evicts.modest.slots)
+
+  pub refused_within : (slots capacity : ℕ) (strict : Bool) (draft : Draft) (why : Refused)
+      (v w : View T) → RefusedBy slots capacity strict draft why v w
+      → sweeping_between slots v w ≤ evicting slots
+  refused_within slots capacity strict draft TooLarge v w told =
+      rw (between_is slots 0 0 v w (ap (λ (z : View T). z.turns) told.2 ∙ (omega arith))
+      (ap (λ (z : View T). z.takings) told.2 ∙ (omega arith))) (omega arith)
+  refused_within slots capacity strict draft CapacityFull v w told = tries_within told.0
+  refused_within slots capacity strict draft OccupancyFull v w told = tries_within told.0
+
+  -- The steps of an insertion: the reservation's, at most 7 for each slot that was visited, and what
+  -- came behind them.
+  pub frees_by : (slots room visited : ℕ) (v a w : SeatOf T) (old new : Effort)
+      → visited ≤ slots → Rose visited visited old.probes new.probes
+      → MakesAtMost (asking + sweeping_between slots (view v) (view a)) v a
+      → MakesAtMost (7 * visited + (slots + room + 3)) a w → EvictsNothing (view a) (view w)
+      → MakesFor 7 (inserting_between slots room (view v) (view w)) slots old new v w
+  frees_by slots room visited v a w old new within counted first behind idle = record {
+    visited = visited;
+    within = within;
+    counted = counted;
+    steps =
+        subst (λ n. made w ≤ made v + 7 * visited + (n + slots + room + asking + 3)) (sym same)
+        (omega arith);
+  }
+    where
+      same : sweeping_between slots (view v) (view w) ≡ sweeping_between slots (view v) (view a)
+      same = λ k. sweeping slots (idle.turns k - (view v).turns)
+          (idle.takings k - (view v).takings)
+
+  -- They are within what an insertion may make, whatever it frees.
+  pub few_by : (slots room : ℕ) (v w : SeatOf T) (old new : Effort)
+      → MakesFor 7 (inserting_between slots room (view v) (view w)) slots old new v w
+      → sweeping_between slots (view v) (view w) ≤ evicting slots
+      → MakesAtMost (inserting slots room) v w
+  few_by slots room v w old new h few =
+      let visited = h.within in
+      let steps = h.steps in
+      omega arith
+
+-- nothing was counted
+pub rose_same : (old new : ℕ) → new ≡ old → Rose 0 0 old new
+rose_same old new same = (omega arith, λ low. omega arith, omega arith)
+
+module _ {T A : Type 0} (shard : Shard T A) (draft : Draft) where
+  -- Why an entry is in no slot is told of the whole call, too.
+  pub left_from : (matched : Bool) (old mid between new : ShardSeat T)
+      → (view mid.seat).met ≡ (view old.seat).met → (view mid.seat).saw ≡ (view old.seat).saw
+      → (view new.seat).met ≡ (view between.seat).met
+      → (view new.seat).saw ≡ (view between.seat).saw
+      → IsLeftFor shard draft Reserved matched mid between
+      → IsLeftFor shard draft Reserved matched old new
+  left_from true old mid between new met saw later last why =
+      meets_from draft.key (view old.seat) (view mid.seat) (view between.seat) (view new.seat)
+      met later why
+  left_from false old mid between new met saw later last why = omega arith
+
+  module _ (fits : T → Key → List ℕ → Type 0) where
+    -- A refusal by the reservation.
+    pub refuses : (why : Refused) (old new : ShardSeat T)
+        → EvictsBy fits shard.table draft.charge (Err why) old.tally new.tally old.seat new.seat
+        → new.effort.probes ≡ old.effort.probes → new.boosts ≡ old.boosts
+        → Refuses fits shard draft why old new
+    refuses why old new evicts probes boosts = record {
+      reserves = record {
+        reserved = new.seat;
+        evicts = evicts;
+        idle = record { turns = refl; takings = refl; opened = refl };
+        rest = λ less. adds_none new.seat new.seat refl;
+      };
+      probes = probes;
+      boosts = boosts;
+    }
+
+    -- The entry was put in a slot that was reserved for it.
+    pub puts_in : {slots capacity : ℕ} {strict : Bool} {charge granted i : ℕ} {place : Place}
+        (slot : ℕ) (value : List ℕ) (old new : ShardSeat T) (a : SeatOf T) (tally : Tally)
+        → Reserves slots capacity strict charge place granted (view old.seat) (view a)
+        → new.tally ≡ tally
+        → EvictsBy fits shard.table draft.charge (Ok Reserved) old.tally tally old.seat a
+        → IsPlaced (slots_of shard.table) slot i draft value (view a) (view new.seat)
+        → Ends (atomic (address_of_meta shard.table slot) (first_word draft) 0 (first_word draft))
+        a new.seat
+        → new.boosts ≡ old.boosts → PutsIn fits shard draft slot old new
+    puts_in {i = i} slot value old new a tally r counts evicts told last boosts = record {
+      reserves = record {
+        reserved = a;
+        evicts =
+            subst (λ t. EvictsBy fits shard.table draft.charge (Ok Reserved) old.tally t
+            old.seat a) (sym counts) evicts;
+        idle = idle_placed slot draft value (view a) (view new.seat) told.tried;
+        rest = λ less. ends_adds _ a new.seat last;
+      };
+      i = i;
+      probe = told.probe;
+      saw = told.saw ∙ ap (λ (z : View T). z.saw + i) r.same;
+      dead =
+          buried_from draft.key _ (view old.seat) (view a) (view new.seat)
+          (ap (λ (z : View T). z.records) r.same) told.dead;
+      last = last;
+      boosts = boosts;
+    }
+
+    -- It was put in none, though a place was reserved,
+    pub leaves_reserved : {slots capacity : ℕ} {strict : Bool} {charge granted : ℕ} {place : Place}
+        (matched : Bool) (old mid between new : ShardSeat T)
+        → Reserves slots capacity strict charge place granted (view old.seat) (view mid.seat)
+        → new.tally ≡ mid.tally
+        → EvictsBy fits shard.table draft.charge (Ok Reserved) old.tally mid.tally
+        old.seat mid.seat
+        → Tried (view mid.seat) (view between.seat)
+        → ((view between.seat).saw < (view mid.seat).saw + slots_of shard.table
+        → Adds mid.seat between.seat)
+        → IsLeftFor shard draft Reserved matched mid between
+        → EvictsNothing (view between.seat) (view new.seat)
+        → (view new.seat).met ≡ (view between.seat).met
+        → (view new.seat).saw ≡ (view between.seat).saw → Adds between.seat new.seat
+        → Rose (when matched 1) (when matched 1) old.boosts new.boosts
+        → LeavesOut fits shard draft old new
+    leaves_reserved matched old mid between new r counts evicts tried adds why idle met saw behind
+        boosts = record {
+          told = Reserved;
+          matched = matched;
+          reserves = record {
+            reserved = mid.seat;
+            evicts =
+                subst (λ t. EvictsBy fits shard.table draft.charge (Ok Reserved) old.tally t
+                old.seat mid.seat) (sym counts) evicts;
+            idle =
+                keeps_then (view mid.seat) (view between.seat) (view new.seat)
+                (idle_tried (view mid.seat) (view between.seat) tried) idle;
+            rest = λ less.
+                let was = first in
+                adds_then mid.seat between.seat new.seat (adds (omega arith)) behind;
+          };
+          why =
+              left_from matched old mid between new (ap (λ (z : View T). z.met) r.same) first met saw
+              why;
+          boosts = boosts;
+        }
+      where
+        first : (view mid.seat).saw ≡ (view old.seat).saw
+        first = ap (λ (z : View T). z.saw) r.same
+
+    -- or no place was.
+    pub leaves_unreserved : {slots capacity : ℕ} {strict : Bool} {charge granted : ℕ}
+        {place : Place} (old new : ShardSeat T) (a : SeatOf T)
+        → Reserves slots capacity strict charge place granted (view old.seat) (view a)
+        → EvictsBy fits shard.table draft.charge (Ok NoPlace) old.tally new.tally old.seat a
+        → EvictsNothing (view a) (view new.seat) → (view new.seat).saw ≡ (view a).saw
+        → Adds a new.seat → new.effort.probes ≡ old.effort.probes → new.boosts ≡ old.boosts
+        → LeavesOut fits shard draft old new
+    leaves_unreserved old new a r evicts idle saw behind probes boosts = record {
+      told = NoPlace;
+      matched = false;
+      reserves = record { reserved = a; evicts = evicts; idle = idle; rest = λ less. behind };
+      why = (refl, saw ∙ ap (λ (z : View T). z.saw) r.same, probes);
+      boosts = rose_same old.boosts new.boosts boosts;
+    }

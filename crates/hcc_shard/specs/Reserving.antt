@@ -1,0 +1,86 @@
+-- What an insertion reserved and evicted, and what became of its entry, told of its seats.
+use Rattle.std.specs.Prelude.{◌≡◌, ℕ, ◌+◌, ◌<◌, Bool, true, false, List, Result, Ok, Err}
+use Rattle.hcc_core.specs.Sums.{when}
+use Rattle.hcc_rule.specs.declared.key.Key.{Key}
+use Rattle.hcc_rule.specs.declared.steps.shows.Draft.{Draft}
+use Rattle.hcc_rule.specs.Callers.{address_of_meta, slots_of}
+use Rattle.hcc_rule.specs.Probes.{probe_slot}
+use Rattle.hcc_rule.specs.Seats.{SeatOf, atomic, view}
+use Rattle.hcc_rule.specs.ToldOwners.{first_word}
+use Rattle.hcc_table.specs.Efforts.{Rose}
+use Rattle.hcc_table.specs.Inserted.{Meets}
+use Rattle.hcc_table.specs.Searched.{Buried, IsBefore}
+use Rattle.hcc_table.specs.Steps.{Adds, Ends}
+use Rattle.hcc_charge.specs.declared.reserving.Reservation.{Reservation}
+use Rattle.hcc_charge.specs.declared.reserving.Reservation.TheVariants.{Reserved, NoPlace}
+use Rattle.hcc_charge.specs.declared.reserving.Refused.{Refused}
+use Rattle.hcc_charge.specs.Asked.{EvictsBy, EvictsNothing}
+use Rattle.hcc_shard.specs.declared.inserting.Inserted.{Inserted}
+use Rattle.hcc_shard.specs.declared.inserting.Inserted.TheVariants as inserted
+use Rattle.hcc_shard.specs.declared.inserting.Pinned.{Pinned}
+use Rattle.hcc_shard.specs.declared.inserting.Pinned.TheVariants as pinned
+use Rattle.hcc_shard.specs.declared.seat.ShardSeat.{ShardSeat}
+use Rattle.hcc_shard.specs.declared.shard.Shard.{Shard}
+
+module _ {T A : Type 0} (shard : Shard T A) (draft : Draft) where
+  -- Why an entry that was reserved for, or not, is in no slot: its key was met, last of all, or as
+  -- many slots as there are were seen taken; or no slot was tried.
+  abbrev pub IsLeftFor : Reservation → (matched : Bool) → (old new : ShardSeat T) → Type 0
+  IsLeftFor Reserved true old new = Meets draft.key (view old.seat) (view new.seat)
+  IsLeftFor Reserved false old new =
+      (view new.seat).saw ≡ (view old.seat).saw + slots_of shard.table
+  IsLeftFor NoPlace matched old new =
+      (matched ≡ false) × ((view new.seat).saw ≡ (view old.seat).saw)
+      × (new.effort.probes ≡ old.effort.probes)
+
+module _ {T A : Type 0} (fits : T → Key → List ℕ → Type 0) (shard : Shard T A) (draft : Draft) where
+  -- An insertion began with a reservation, which answered this, evicted just what it asked for, and
+  -- ended at this seat. What came behind it evicted nothing.
+  pub record ReservedAs (answer : Result Reservation Refused) (old new : ShardSeat T) : Type 0 where
+    pub reserved : SeatOf T
+    pub evicts : EvictsBy fits shard.table draft.charge answer old.tally new.tally
+        old.seat reserved
+    pub idle : EvictsNothing (view reserved) (view new.seat)
+    pub rest : (view new.seat).saw < (view old.seat).saw + slots_of shard.table
+        → Adds reserved new.seat
+
+  -- The entry was put in this slot, probe i of its key: the i probes before it were taken, and each
+  -- entry of the key that the client holds there is dead to it. The last step showed the entry by
+  -- the word that its draft says.
+  pub record PutsIn (slot : ℕ) (old new : ShardSeat T) : Type 0 where
+    pub reserves : ReservedAs (Ok Reserved) old new
+    pub i : ℕ
+    pub probe : slot ≡ probe_slot (slots_of shard.table) draft.key i
+    pub saw : (view new.seat).saw ≡ (view old.seat).saw + i
+    pub dead : Buried draft.key (IsBefore (slots_of shard.table) draft.key i)
+        (view old.seat) (view new.seat)
+    pub last : Ends
+        (atomic (address_of_meta shard.table slot) (first_word draft) 0 (first_word draft))
+        reserves.reserved new.seat
+    pub boosts : new.boosts ≡ old.boosts
+
+  -- The entry was put in no slot. A match is counted, and nothing else is.
+  pub record LeavesOut (old new : ShardSeat T) : Type 0 where
+    pub told : Reservation
+    pub matched : Bool
+    pub reserves : ReservedAs (Ok told) old new
+    pub why : IsLeftFor shard draft told matched old new
+    pub boosts : Rose (when matched 1) (when matched 1) old.boosts new.boosts
+
+  -- Nothing was reserved, and no slot was tried.
+  pub record Refuses (why : Refused) (old new : ShardSeat T) : Type 0 where
+    pub reserves : ReservedAs (Err why) old new
+    pub probes : new.effort.probes ≡ old.effort.probes
+    pub boosts : new.boosts ≡ old.boosts
+
+  -- an insertion, by its answer
+  abbrev pub InsertedAs : Result Inserted Refused → (old new : ShardSeat T) → Type 0
+  InsertedAs (Ok inserted.Placed) old new = (slot : ℕ) × PutsIn slot old new
+  InsertedAs (Ok inserted.Dropped) old new = LeavesOut old new
+  InsertedAs (Err why) old new = Refuses why old new
+
+  -- one that keeps a reference
+  abbrev pub PinnedAs : Result Pinned Refused → (old new : ShardSeat T) → Type 0
+  PinnedAs (Ok (pinned.Placed pin)) old new = PutsIn pin.slot old new
+  PinnedAs (Ok pinned.Standalone) old new = LeavesOut old new
+  PinnedAs (Err why) old new = Refuses why old new
