@@ -16,3 +16,4 @@ pub mod Values
 pub mod InsertsWords
 pub mod Inserts
 pub mod InsertsTries
+pub mod InsertsSteps

@@ -11,8 +11,10 @@ use Rattle.hcc_rule.specs.Probes.{probe_slot}
 use Rattle.hcc_rule.specs.Rule.{IsRight}
 use Rattle.hcc_rule.specs.ToldOwners.{after_show, made_of}
 use Rattle.hcc_rule.specs.Views.{load_of, record_in}
+use Rattle.hcc_table.specs.declared.efforts.Effort.{Effort}
 use Rattle.hcc_table.specs.declared.inserting.Insertion.{Insertion}
 use Rattle.hcc_table.specs.declared.inserting.Insertion.TheVariants.{Placed, Matched, NoSlot}
+use Rattle.hcc_table.specs.Efforts.{Rose}
 use Rattle.hcc_table.specs.Searched.{Grows, Buried, IsBefore}
 
 -- What a client has that may insert an entry: its own number, its place and its charge granted,
@@ -36,7 +38,20 @@ pub record MayInsert {T : Type 0} (fits : T → Key → List ℕ → Type 0) (p 
   pub room : load_of v.records + MOST_COUNTDOWN ≤ REFERENCES_PER_CLIENT
   pub stamps : length v.made < STAMPS_PER_CLIENT
 
+-- how many slots an insertion visited, by how many of them it found taken
+abbrev pub visited_by : Insertion → ℕ → ℕ
+visited_by (Placed slot) taken = taken + 1
+visited_by Matched taken = taken
+visited_by NoSlot taken = taken
+
 module _ {T : Type 0} where
+  -- The slots that it visited are counted: those that it found taken, which its view counts, and
+  -- one more where the entry was placed.
+  abbrev pub CountsTaken : Insertion → View T → View T → Effort → Effort → Type 0
+  CountsTaken answer v w before after =
+      (taken : ℕ) × (w.saw ≡ v.saw + taken)
+      × Rose (visited_by answer taken) (visited_by answer taken) before.probes after.probes
+
   -- the view with this trail
   abbrev pub with_trail : List ℕ → View T → View T
   with_trail trail v = record v { work = record v.work { trail = trail } }

@@ -9,3 +9,4 @@ pub mod Inserted
 pub mod Steps
 pub mod Probed
 pub mod Hides
+pub mod Tries

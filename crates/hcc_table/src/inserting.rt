@@ -11,9 +11,11 @@ ghost use Rattle.hcc_rule.specs.Seats.{IsSameSeat, view, atomic};
 ghost use Rattle.hcc_rule.specs.ToldReferences.{may_reach};
 ghost use Rattle.hcc_rule.specs.Views.{load_of, record_in};
 ghost use Rattle.hcc_table.specs.Efforts.{Took};
-ghost use Rattle.hcc_table.specs.Inserted.{InsertedBy, MayInsert, Meets, TriedAt};
+ghost use Rattle.hcc_table.specs.Inserted.{CountsTaken, InsertedBy, MayInsert, Meets, TriedAt};
+ghost use Rattle.hcc_table.specs.Probed.{PassesEntry};
 ghost use Rattle.hcc_table.specs.Searched.{Sought, Buried};
 ghost use Rattle.hcc_table.specs.Steps.{Adds, Ends, MakesAtMost, MakesFor, UsesUp, trying};
+ghost use Rattle.hcc_table.specs.Tries.{Inserts, TriesAt, UsesEntry};
 
 use crate::acquire::reach;
 use crate::build::build;
@@ -56,6 +58,10 @@ pub enum Insertion {
 /// case it may have looked at slots, seen entries dead and met keys, and counted slots that weren't
 /// empty: so many as the trail is long, at least one, or all of them.
 ///
+/// Each slot that was passed was found taken, and not visible, by the step that set its bit or by
+/// the add, or with an entry of another key. The effort counts the slots that were found taken, and
+/// one more where the entry was placed.
+///
 /// It allocates nothing. Each probe costs an or, an add to the displacement word where another
 /// probe follows, and where the slot shows an entry an add, a load of each half of the key and a
 /// subtraction, with a compare-exchange where references don't count. An entry that is placed costs
@@ -82,6 +88,9 @@ pub fn insert<T: Tag, A: Allocator>(
         seat.old seat.new }
     ensures matched { result ≡ Matched → (slot : ℕ) × (slot < slots_of table.now)
         × UsesUp (address_of_meta table.now slot) draft.countdown seat.old seat.new }
+    ensures inserts { Inserts T.fits table.now draft.key name draft.countdown result
+        effort.old effort.new seat.old seat.new }
+    ensures probes { CountsTaken result (view seat.old) (view seat.new) effort.old effort.new }
     ensures steps { MakesFor 7 (slots_of table.now + room_of table.now) (slots_of table.now)
         effort.old effort.new seat.old seat.new }
 {
@@ -134,6 +143,8 @@ fn insert_at<T: Tag, A: Allocator>(
         seat.old seat.new }
     ensures matched { result ≡ Matched
         → UsesUp (address_of_meta table.now slot) draft.countdown seat.old seat.new }
+    ensures tries { TriesAt T.fits table.now draft.key name draft.countdown slot result
+        effort.old effort.new seat.old seat.new }
     ensures adds { Adds seat.old seat.new }
     ensures steps { MakesAtMost (trying (room_of table.now) result) seat.old seat.new }
 {
@@ -179,6 +190,10 @@ fn meet<T: Tag, A: Allocator>(
     ensures dead { result ≡ false → Buried key (λ s. s ≡ slot) (view seat.old) (view seat.new) }
     ensures matched { result ≡ true
         → UsesUp (address_of_meta table.now slot) weight seat.old seat.new }
+    ensures uses { result ≡ true → (word : ℕ) × UsesEntry T.fits table.now key name weight slot word
+        effort.old effort.new seat.old seat.new }
+    ensures passes { result ≡ false → (word : ℕ) × PassesEntry T.fits table.now key name slot weight
+        word effort.old effort.new seat.old seat.new }
     ensures adds { Adds seat.old seat.new }
     ensures steps { MakesAtMost 5 seat.old seat.new }
 {

@@ -1,4 +1,4 @@
-use Rattle.std.proofs.Common.{◌≡◌, ◌+◌, refl, rules, sym, ◌∙◌, arith}
+use Rattle.std.proofs.Common.{◌≡◌, ◌+◌, ap, refl, rules, sym, ◌∙◌, arith}
 use Rattle.hcc_word.specs.Word.{is_counting}
 use Rattle.hcc_rule.specs.declared.view.Atomic.{Atomic}
 use Rattle.hcc_rule.specs.Callers.{address_of_meta}
@@ -8,6 +8,9 @@ use Rattle.hcc_table.specs.Efforts.{Took}
 use Rattle.hcc_table.specs.Steps.{Among, UsesUp, amount_of}
 use Rattle.hcc_table.proofs.Logs.{adds_none, adds_one, adds_then, among_after, among_then, ends_later}
 use Rattle.hcc_table.proofs.Rises.{took_none, took_next, took_within}
+use Rattle.hcc_rule.specs.declared.view.View.{View}
+use Rattle.hcc_table.specs.declared.inserting.Insertion.TheVariants.{Placed, Matched, NoSlot}
+use Rattle.hcc_table.proofs.InsertsSteps.{inserts_here, tried_none, tried_then}
 use Rattle.hcc_table.proofs.InsertsTries.{tries_first, probed_room, tries_placed, tries_matched, tries_last, tries_next}
 use Rattle.hcc_table.proofs.inserting.insert.Goals as goal
 
@@ -22,6 +25,8 @@ loop-slot-init g c =
       took_none c.args.effort.now,
       omega arith,
       adds_none c.args.seat.now c.args.seat.now refl,
+      tried_none g.T.Tag.fits table c.args.draft.key c.args.name c.args.draft.countdown
+          c.args.effort.now c.args.seat.now,
     )
 
 pub returns-in-Placed-clause-view : goal.returns-in-Placed-clause-view
@@ -83,6 +88,13 @@ loop-slot-preserved g c =
           (adds_then c.args.seat.now c.loop-slot.seat c.insert_at.new.seat c.loop-slot.invariant.3
           c.insert_at.ensures.adds)
           (adds_one _ c.insert_at.new.seat c.pass.new.seat c.pass.ensures.step.1.step),
+      tried_then g.T.Tag.fits table c.args.draft.key c.args.name c.args.draft.countdown
+          c.loop-slot.passed c.slot-slot.result c.args.effort.now c.loop-slot.effort
+          c.probes.new.self c.insert_at.new.effort c.args.seat.now c.loop-slot.seat
+          c.insert_at.new.seat c.pass.new.seat c.loop-slot.invariant.4
+          (c.slot-slot.ensures ∙ c.loop-slot.invariant.0.walking.probe)
+          (c.probes.ensures.probes, c.probes.ensures.corrections, c.probes.ensures.lost)
+          c.in-NoSlot.ensures.tries c.pass.ensures.step c.pass.ensures.view,
     )
   where
     visited : Took (c.loop-slot.passed + 1) (c.loop-slot.passed + 1) (c.loop-slot.passed + 1)
@@ -175,6 +187,75 @@ returns-then-passed-slots-clause-steps g c =
           c.insert_at.ensures.effort (omega arith)).0;
       steps = omega arith;
     }
+
+pub returns-in-Placed-clause-inserts : goal.returns-in-Placed-clause-inserts
+returns-in-Placed-clause-inserts g c =
+    inserts_here g.T.Tag.fits c.args.table.now c.args.draft.key c.args.name c.args.draft.countdown
+    c.loop-slot.passed c.slot-slot.result (Placed c.in-Placed.slot) c.args.effort.now
+    c.loop-slot.effort c.probes.new.self c.insert_at.new.effort c.args.seat.now c.loop-slot.seat
+    c.insert_at.new.seat c.insert_at.new.seat c.loop-slot.invariant.4
+    (c.slot-slot.ensures ∙ c.loop-slot.invariant.0.walking.probe)
+    (c.probes.ensures.probes, c.probes.ensures.corrections, c.probes.ensures.lost)
+    c.in-Placed.ensures.tries (λ none. cc)
+    (adds_none c.insert_at.new.seat c.insert_at.new.seat refl)
+
+pub returns-in-Matched-clause-inserts : goal.returns-in-Matched-clause-inserts
+returns-in-Matched-clause-inserts g c =
+    inserts_here g.T.Tag.fits c.args.table.now c.args.draft.key c.args.name c.args.draft.countdown
+    c.loop-slot.passed c.slot-slot.result Matched c.args.effort.now
+    c.loop-slot.effort c.probes.new.self c.insert_at.new.effort c.args.seat.now c.loop-slot.seat
+    c.insert_at.new.seat c.take_back.new.seat c.loop-slot.invariant.4
+    (c.slot-slot.ensures ∙ c.loop-slot.invariant.0.walking.probe)
+    (c.probes.ensures.probes, c.probes.ensures.corrections, c.probes.ensures.lost)
+    c.in-Matched.ensures.tries (λ none. cc) c.take_back.ensures.adds
+
+pub returns-then-passed-slots-clause-inserts : goal.returns-then-passed-slots-clause-inserts
+returns-then-passed-slots-clause-inserts g c =
+    let size = c.geometry-slots.ensures in
+    let least : c.args.table.now.geometry.slots ≡ c.loop-slot.passed + 1 =
+    rw (← size) (sym c.if-passed-slots.true) in
+    inserts_here g.T.Tag.fits c.args.table.now c.args.draft.key c.args.name c.args.draft.countdown
+    c.loop-slot.passed c.slot-slot.result NoSlot c.args.effort.now
+    c.loop-slot.effort c.probes.new.self c.insert_at.new.effort c.args.seat.now c.loop-slot.seat
+    c.insert_at.new.seat c.take_back-then-passed-slots.new.seat c.loop-slot.invariant.4
+    (c.slot-slot.ensures ∙ c.loop-slot.invariant.0.walking.probe)
+    (c.probes.ensures.probes, c.probes.ensures.corrections, c.probes.ensures.lost)
+    c.in-NoSlot.ensures.tries (λ none. sym least)
+    c.take_back-then-passed-slots.ensures.adds
+
+pub returns-in-Placed-clause-probes : goal.returns-in-Placed-clause-probes
+returns-in-Placed-clause-probes g c = (
+  c.loop-slot.passed,
+  ap (λ (z : View g.row.T.Denot). z.saw) c.in-Placed.ensures.view.1 ∙ c.loop-slot.invariant.0.saw,
+  (took_next c.loop-slot.passed c.loop-slot.passed 1 (c.loop-slot.passed + 1)
+      c.args.effort.now c.loop-slot.effort c.probes.new.self c.insert_at.new.effort
+      c.loop-slot.invariant.1 c.probes.ensures.probes c.probes.ensures.corrections
+      c.probes.ensures.lost c.insert_at.ensures.effort (omega arith)).0,
+)
+
+pub returns-in-Matched-clause-probes : goal.returns-in-Matched-clause-probes
+returns-in-Matched-clause-probes g c = (
+  c.loop-slot.passed + 1,
+  ap (λ (z : View g.row.T.Denot). z.saw) c.take_back.ensures.view
+      ∙ (let one = c.in-Matched.ensures.view.1 in let old = c.loop-slot.invariant.0.saw in
+      omega arith),
+  (took_next c.loop-slot.passed c.loop-slot.passed 1 (c.loop-slot.passed + 1)
+      c.args.effort.now c.loop-slot.effort c.probes.new.self c.insert_at.new.effort
+      c.loop-slot.invariant.1 c.probes.ensures.probes c.probes.ensures.corrections
+      c.probes.ensures.lost c.insert_at.ensures.effort (omega arith)).0,
+)
+
+pub returns-then-passed-slots-clause-probes : goal.returns-then-passed-slots-clause-probes
+returns-then-passed-slots-clause-probes g c = (
+  c.loop-slot.passed + 1,
+  ap (λ (z : View g.row.T.Denot). z.saw) c.take_back-then-passed-slots.ensures.view
+      ∙ (let one = c.in-NoSlot.ensures.view.1 in let old = c.loop-slot.invariant.0.saw in
+      omega arith),
+  (took_next c.loop-slot.passed c.loop-slot.passed 1 (c.loop-slot.passed + 1)
+      c.args.effort.now c.loop-slot.effort c.probes.new.self c.insert_at.new.effort
+      c.loop-slot.invariant.1 c.probes.ensures.probes c.probes.ensures.corrections
+      c.probes.ensures.lost c.insert_at.ensures.effort (omega arith)).0,
+)
 
 pub returns-in-Placed-clause-placed : goal.returns-in-Placed-clause-placed
 returns-in-Placed-clause-placed g c slot same =

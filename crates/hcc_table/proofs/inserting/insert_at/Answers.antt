@@ -1,4 +1,8 @@
-use Rattle.std.proofs.Common.{◌≡◌, ◌+◌, sym}
+use Rattle.std.proofs.Common.{◌≡◌, ◌+◌, refl, sym}
+use Rattle.hcc_word.specs.Word.{is_visible}
+use Rattle.hcc_table.specs.Steps.{Adds}
+use Rattle.hcc_table.proofs.Logs.{adds_one, adds_then}
+use Rattle.hcc_table.proofs.Probings.{neither}
 use Rattle.hcc_rule.specs.Seats.{view}
 use Rattle.hcc_table.specs.Inserted.{Tried}
 use Rattle.hcc_table.specs.Searched.{Buried, Sought}
@@ -6,6 +10,43 @@ use Rattle.hcc_table.proofs.Searches.{searched_refl}
 use Rattle.hcc_table.proofs.Inserts.{tried_there, unshown_there, shown_there}
 use Rattle.hcc_table.proofs.inserting.insert_at.Goals as goal
 use Rattle.hcc_table.proofs.inserting.insert_at.Goals.{else-is_shown-via-then-is_shown+else-meet, else-is_shown-via-else-is_shown}
+
+pub returns-clause-tries : goal.returns-clause-tries
+returns-clause-tries g c = elim c.else-is_shown.branch [
+  | else-is_shown-via-then-is_shown+else-meet w ↦ (
+    (w.meet.ensures.passes w.if-meet.false).0,
+    record {
+      seen = c.occupy-found.result;
+      mid = c.occupy-found.new.seat;
+      first = (c.occupy-found.ensures.step, c.occupy-found.ensures.view, sym c.if-is_free.ensures);
+      unshown = λ unseen. neither (is_visible c.occupy-found.result) (sym w.if-is_shown.ensures)
+          unseen;
+      shown = λ _. rw (w.seat-is, w.effort-is) (w.meet.ensures.passes w.if-meet.false).1;
+    },
+  )
+  | else-is_shown-via-else-is_shown w ↦ (
+    c.occupy-found.result,
+    record {
+      seen = c.occupy-found.result;
+      mid = c.occupy-found.new.seat;
+      first = (c.occupy-found.ensures.step, c.occupy-found.ensures.view, sym c.if-is_free.ensures);
+      unshown = λ _. (refl, w.effort-is, w.seat-is);
+      shown = λ shown. neither (is_visible c.occupy-found.result) shown
+          (sym w.if-is_shown.ensures);
+    },
+  )
+]
+
+pub returns-clause-adds : goal.returns-clause-adds
+returns-clause-adds g c = elim c.else-is_shown.branch [
+  | else-is_shown-via-then-is_shown+else-meet w ↦ rw w.seat-is
+      (adds_then c.args.seat.now c.occupy-found.new.seat w.meet.new.seat occupied
+      w.meet.ensures.adds)
+  | else-is_shown-via-else-is_shown w ↦ rw w.seat-is occupied
+]
+  where
+    occupied : Adds c.args.seat.now c.occupy-found.new.seat
+    occupied = adds_one _ c.args.seat.now c.occupy-found.new.seat c.occupy-found.ensures.step.step
 
 pub returns-clause-view : goal.returns-clause-view
 returns-clause-view g c = (tried.0, tried.1, buried)

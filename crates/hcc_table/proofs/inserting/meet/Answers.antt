@@ -1,4 +1,5 @@
 use Rattle.std.proofs.Common.{◌≡◌, refl, sym}
+use Rattle.hcc_word.specs.Word.{is_shareable}
 use Rattle.hcc_rule.specs.declared.view.Atomic.{Atomic}
 use Rattle.hcc_rule.specs.Callers.{address_of_meta}
 use Rattle.hcc_rule.specs.Seats.{atomic, view}
@@ -6,7 +7,8 @@ use Rattle.hcc_table.specs.Steps.{Adds}
 use Rattle.hcc_table.proofs.Logs.{adds_none, adds_one, adds_then, among_at, among_first, among_then, begins_adds, unmarked_adds}
 use Rattle.hcc_rule.specs.Words.{key_of}
 use Rattle.hcc_table.proofs.Searches.{searched_refl}
-use Rattle.hcc_table.proofs.Probes.{strayed, holds, holds_slot, holds_used, told_key, given_back, met_there, missed_there}
+use Rattle.hcc_table.proofs.Probes.{strayed, holds, holds_slot, holds_used, told_key, given_back, met_there, missed_there, on_other, on_same}
+use Rattle.hcc_table.proofs.Probings.{neither, other_then, visible_has}
 use Rattle.hcc_table.proofs.inserting.meet.Goals as goal
 
 pub returns-then-not-has_entry-clause-view : goal.returns-then-not-has_entry-clause-view
@@ -126,6 +128,81 @@ returns-then-matches-clause-matched g c _ = (
         (begins_adds got c.args.seat.now c.reach-found.new.seat
         c.reach-found.ensures.acquires.first)
         (unmarked_adds c.reach-found.new.seat c.matches.new.seat c.matches.ensures.adds)
+
+pub returns-then-matches-clause-uses : goal.returns-then-matches-clause-uses
+returns-then-matches-clause-uses g c _ = (
+  c.reach-found.result,
+  record {
+    mid = c.reach-found.new.seat;
+    reaches = record {
+      reached = c.reach-found.ensures.view;
+      acquires = c.reach-found.ensures.acquires;
+      corrects = c.reach-found.ensures.corrects;
+    };
+    visible = c.matches.ensures.shown c.if-matches.true;
+    same = on_same g.T.Tag.fits c.args.table.now.geometry.room c.args.slot c.args.weight
+        c.args.name c.reach-found.result c.args.key (view c.args.seat.now) (view c.args.seat.now)
+        (view c.reach-found.new.seat) (searched_refl (view c.args.seat.now))
+        c.reach-found.ensures.view (sym c.if-not-has_entry.ensures) c.requires.fresh
+        (told_key g.T.Tag.fits c.args.table.now.geometry.room c.args.slot c.args.weight c.args.name
+        c.reach-found.result c.args.key (view c.args.seat.now) (view c.args.seat.now)
+        (view c.reach-found.new.seat) (searched_refl (view c.args.seat.now))
+        c.reach-found.ensures.view (sym c.if-not-has_entry.ensures) c.requires.fresh
+        (λ e. key_of e ≡ c.args.key) (c.matches.ensures.equal c.if-matches.true));
+    held = c.matches.new.seat;
+    loads = c.matches.ensures.loads c.if-matches.true;
+    left = c.let_go.ensures.left.found;
+    gives = rw (← c.counts.ensures) c.let_go.ensures.left.step;
+  },
+)
+
+pub returns-then-not-has_entry-clause-passes : goal.returns-then-not-has_entry-clause-passes
+returns-then-not-has_entry-clause-passes g c _ = (
+  c.reach-found.result,
+  record {
+    mid = c.reach-found.new.seat;
+    reaches = record {
+      reached = c.reach-found.ensures.view;
+      acquires = c.reach-found.ensures.acquires;
+      corrects = c.reach-found.ensures.corrects;
+    };
+    adds = adds_none c.reach-found.new.seat c.reach-found.new.seat refl;
+    other = λ shown. neither (is_shareable c.reach-found.result)
+        (visible_has c.reach-found.result shown) (sym c.if-not-has_entry.ensures);
+    loads = λ shown. neither (is_shareable c.reach-found.result)
+        (visible_has c.reach-found.result shown) (sym c.if-not-has_entry.ensures);
+  },
+)
+
+pub returns-clause-passes : goal.returns-clause-passes
+returns-clause-passes g c _ = (
+  c.reach-found.result,
+  record {
+    mid = c.reach-found.new.seat;
+    reaches = record {
+      reached = c.reach-found.ensures.view;
+      acquires = c.reach-found.ensures.acquires;
+      corrects = c.reach-found.ensures.corrects;
+    };
+    adds = adds_then c.reach-found.new.seat c.matches.new.seat c.give.new.seat
+        (unmarked_adds c.reach-found.new.seat c.matches.new.seat c.matches.ensures.adds) given;
+    other = λ shown. on_other g.T.Tag.fits c.args.table.now.geometry.room c.args.slot c.args.weight
+        c.args.name c.reach-found.result c.args.key (view c.args.seat.now) (view c.args.seat.now)
+        (view c.reach-found.new.seat) (searched_refl (view c.args.seat.now))
+        c.reach-found.ensures.view (sym c.if-not-has_entry.ensures) c.requires.fresh
+        (told_key g.T.Tag.fits c.args.table.now.geometry.room c.args.slot c.args.weight c.args.name
+        c.reach-found.result c.args.key (view c.args.seat.now) (view c.args.seat.now)
+        (view c.reach-found.new.seat) (searched_refl (view c.args.seat.now))
+        c.reach-found.ensures.view (sym c.if-not-has_entry.ensures) c.requires.fresh
+        (λ e. ¬ (key_of e ≡ c.args.key)) (c.matches.ensures.other c.if-matches.false shown));
+    loads = λ shown. other_then c.args.table.now c.args.key c.args.slot c.reach-found.new.seat
+        c.matches.new.seat c.give.new.seat (c.matches.ensures.differs c.if-matches.false shown)
+        given;
+  },
+)
+  where
+    given : Adds c.matches.new.seat c.give.new.seat
+    given = adds_one _ c.matches.new.seat c.give.new.seat c.give.ensures.step.step
 
 pub returns-then-matches-clause-adds : goal.returns-then-matches-clause-adds
 returns-then-matches-clause-adds g c =
