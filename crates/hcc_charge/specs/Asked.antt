@@ -45,9 +45,9 @@ module _ {T A : Type 0} (table : RuleTable T A) where
 
 module _ {T A : Type 0} (fits : T → Key → List ℕ → Type 0) (table : RuleTable T A) (charge : ℕ)
   where
-    -- A reservation found so many places taken, and this usage, and evicted just for what it asks for
-    -- then. What gives back or settles came behind it. The client's view counts the turns, what they
-    -- took and the open place, and its tally all that they did.
+    -- A reservation found so many places taken, and this usage, and evicted just for what it asks
+    -- for then. What gives back or settles came behind it. The client's view counts the turns, what
+    -- they took and the open place, and its tally all that they did.
     pub record EvictsAsAsked (before after : Tally) (a d : SeatOf T) : Type 0 where
       pub taken : ℕ
       pub used : ℕ

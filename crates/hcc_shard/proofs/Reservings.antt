@@ -93,8 +93,8 @@ module _ {T : Type 0} where
   refused_within slots capacity strict draft CapacityFull v w told = tries_within told.0
   refused_within slots capacity strict draft OccupancyFull v w told = tries_within told.0
 
-  -- The steps of an insertion: the reservation's, at most 7 for each slot that was visited, and what
-  -- came behind them.
+  -- The steps of an insertion: the reservation's, at most 7 for each slot that was visited, and
+  -- what came behind them.
   pub frees_by : (slots room visited : ℕ) (v a w : SeatOf T) (old new : Effort)
       → visited ≤ slots → Rose visited visited old.probes new.probes
       → MakesAtMost (asking + sweeping_between slots (view v) (view a)) v a
@@ -202,8 +202,8 @@ module _ {T A : Type 0} (shard : Shard T A) (draft : Draft) where
         → (view new.seat).saw ≡ (view between.seat).saw → Adds between.seat new.seat
         → Rose (when matched 1) (when matched 1) old.boosts new.boosts
         → LeavesOut fits shard draft old new
-    leaves_reserved matched old mid between new r counts evicts tried adds why idle met saw behind
-        boosts = record {
+    leaves_reserved matched old mid between new r counts evicts tried adds why idle met saw
+        behind boosts = record {
           told = Reserved;
           matched = matched;
           reserves = record {
@@ -219,8 +219,8 @@ module _ {T A : Type 0} (shard : Shard T A) (draft : Draft) where
                 adds_then mid.seat between.seat new.seat (adds (omega arith)) behind;
           };
           why =
-              left_from matched old mid between new (ap (λ (z : View T). z.met) r.same) first met saw
-              why;
+              left_from matched old mid between new (ap (λ (z : View T). z.met) r.same) first met
+              saw why;
           boosts = boosts;
         }
       where
