@@ -144,6 +144,7 @@ impl Worker<'_> {
         requires slot { slot < 8 }
         requires client { self.old.client < 1024 }
         requires serial { (draft.serial ≡ self.old.shown) × (draft.serial < STAMPS_PER_CLIENT) }
+        requires charge { 0 < draft.charge }
         requires countdown { (1 ≤ draft.countdown) × (draft.countdown ≤ 3) }
         requires trail { trail_to 8 draft.key slot ≡ option_to_list passed }
         requires within { IfSome passed (λ s. s < 8) }
@@ -176,6 +177,7 @@ impl Worker<'_> {
         requires slot { slot < 8 }
         requires client { self.old.client < 1024 }
         requires serial { (draft.serial ≡ self.old.shown) × (draft.serial < STAMPS_PER_CLIENT) }
+        requires charge { 0 < draft.charge }
         requires countdown { (1 ≤ draft.countdown) × (draft.countdown ≤ 3) }
         requires trail { trail_to 8 draft.key slot ≡ option_to_list passed }
         requires within { IfSome passed (λ s. s < 8) }
@@ -201,6 +203,7 @@ impl Worker<'_> {
         requires slot { slot < 8 }
         requires client { self.old.client < 1024 }
         requires serial { (draft.serial ≡ self.old.shown) × (draft.serial < STAMPS_PER_CLIENT) }
+        requires charge { 0 < draft.charge }
         requires countdown { (1 ≤ draft.countdown) × (draft.countdown ≤ 3) }
         requires trail { trail_to 8 draft.key slot ≡ option_to_list passed }
         requires within { IfSome passed (λ s. s < 8) }
@@ -228,6 +231,7 @@ impl Worker<'_> {
         requires slot { slot < 8 }
         requires client { self.old.client < 1024 }
         requires serial { (draft.serial ≡ self.old.shown) × (draft.serial < STAMPS_PER_CLIENT) }
+        requires charge { 0 < draft.charge }
         requires countdown { (1 ≤ draft.countdown) × (draft.countdown ≤ 3) }
         requires trail { trail_to 8 draft.key slot ≡ option_to_list passed }
         requires within { IfSome passed (λ s. s < 8) }
@@ -278,6 +282,7 @@ impl Worker<'_> {
         requires ready { IsReady (view self.old.seat) }
         requires client { self.old.client < 1024 }
         requires serial { (draft.serial ≡ self.old.shown) × (draft.serial < STAMPS_PER_CLIENT) }
+        requires charge { 0 < draft.charge }
         requires countdown { (1 ≤ draft.countdown) × (draft.countdown ≤ 3) }
         requires nameless { draft.name ≡ None }
         requires key { draft.key ≡ FIRST }

@@ -431,6 +431,7 @@ may_insert p draft name value v d bytes = record {
     short = d.short;
     bytes = each_from value bytes;
     numbered = d.next.low;
+    paid = d.paid;
     small = d.small;
   };
   paid = d.paid;

@@ -32,6 +32,7 @@ impl Caller<'_> {
         value: &[u8],
     ) -> Pin
         requires ready { IsReady (view self.old.seat) }
+        requires charge { 0 < charge }
         requires countdown { (1 ≤ countdown) × (countdown ≤ 3) }
         requires short { length value.now ≤ 16 }
         ensures same { self.new.table ≡ self.old.table }

@@ -118,6 +118,7 @@ impl Caller<'_> {
         countdown: u32,
         value: &[u8],
     ) -> Pin
+        requires charge { 0 < charge }
         requires countdown { (1 ≤ countdown) × (countdown ≤ 3) }
         requires pin { IsPin (slots_of self.old.table.now) NAME found }
         requires holds { HoldsOne found (view self.old.seat) }

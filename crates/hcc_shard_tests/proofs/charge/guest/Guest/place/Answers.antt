@@ -15,6 +15,7 @@ insert-insertion-requires-clause-may c =
       short = omega arith;
       bytes = tt;
       numbered = let serial = draft.serial in omega arith;
+      paid = draft.charge;
       small = draft.small;
     })
 
