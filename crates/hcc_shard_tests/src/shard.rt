@@ -1,6 +1,7 @@
 //! Of `hcc_shard`: that entries are placed and found where they can be, and the very words, turns
 //! and totals that stand after each call.
 mod calls;
+mod full;
 mod guest;
 mod images;
 mod rows;

@@ -19,7 +19,7 @@ pub(super) const BOTTOM: u64 = 0xe000_0000_4000_0001;
 
 pub(super) const LOW: u64 = 0xe000_0000_8000_0002;
 
-const HIGH: u64 = 0xe000_0000_c000_0003;
+pub(super) const HIGH: u64 = 0xe000_0000_c000_0003;
 
 const KEPT: u64 = 0xe000_0000_4000_0002;
 
