@@ -5,13 +5,13 @@ use Rattle.hcc_rule.specs.declared.key.Key.{Key}
 use Rattle.hcc_rule.specs.declared.layout.TheConstants.{USAGE}
 use Rattle.hcc_rule.specs.declared.table.RuleTable.{RuleTable}
 use Rattle.hcc_rule.specs.declared.view.View.{View}
-use Rattle.hcc_rule.specs.Callers.{address_of_ledger, capacity_of, is_strict}
+use Rattle.hcc_rule.specs.Callers.{address_of_ledger, capacity_of, is_strict, slots_of}
 use Rattle.hcc_rule.specs.Seats.{SeatOf, Makes, view}
 use Rattle.hcc_table.specs.Steps.{Adds}
 use Rattle.hcc_charge.specs.declared.swept.Swept.{Swept}
 use Rattle.hcc_charge.specs.declared.tally.Tally.{Tally}
 use Rattle.hcc_charge.specs.Asked.{added, is_full, lacked, Enters, EvictsAsAsked, EvictsNothing}
-use Rattle.hcc_charge.specs.Evicted.{EvictsFor, Sweeps, sweeping}
+use Rattle.hcc_charge.specs.Evicted.{EvictsFor, IsSweptFor, Sweeps, sweeping}
 use Rattle.hcc_charge.specs.Reserved.{ask_of, asked, at_least_one, entered, needed_by, still_needed, sweeping_between}
 use Rattle.hcc_charge.specs.Swept.{Tallied}
 
@@ -77,11 +77,11 @@ module _ {T A : Type 0} (fits : T → Key → List ℕ → Type 0) (table : Rule
       → Enters table taken a u → view u ≡ entered full (view a)
       → Makes (address_of_ledger table USAGE) (added strict charge) 0 used u b
       → EvictsNothing (view u) (view b)
-      → EvictsFor fits table ask swept b c
+      → EvictsFor fits table ask swept b c → IsSweptFor (slots_of table) ask swept
       → Sweeps swept.turns swept.slots swept.charge (view b) (view c) → Adds c d
       → EvictsNothing (view c) (view d) → Tallied swept before after
       → EvictsAsAsked fits table charge before after a d
-  evicts_as_asked is_found is_kind is_asked enters opens finds first evicts sweeps rest last
+  evicts_as_asked is_found is_kind is_asked enters opens finds first evicts within sweeps rest last
       tallied =
       record {
         taken = taken;
@@ -94,10 +94,8 @@ module _ {T A : Type 0} (fits : T → Key → List ℕ → Type 0) (table : Rule
         finds =
             subst (λ s. Makes (address_of_ledger table USAGE) (added s charge) 0 used u b)
             (sym is_kind) finds;
-        evicts =
-            subst (λ n. EvictsFor fits table n swept b c)
-            (is_asked
-            ∙ (λ k. asked (sym is_kind k) (capacity_of table) charge (is_found k) used)) evicts;
+        evicts = subst (λ n. EvictsFor fits table n swept b c) here evicts;
+        within = subst (λ n. IsSweptFor (slots_of table) n swept) here within;
         rest = rest;
         turns =
             last.turns ∙ (ap (λ (z : View T). z.turns) sweeps.same
@@ -111,3 +109,8 @@ module _ {T A : Type 0} (fits : T → Key → List ℕ → Type 0) (table : Rule
             ∙ ap (λ f. (view a).open_places + when f 1) is_found)));
         tallied = tallied;
       }
+    where
+      here : ask ≡ asked (is_strict table) (capacity_of table) charge (is_full table taken) used
+      here =
+          is_asked
+          ∙ (λ k. asked (sym is_kind k) (capacity_of table) charge (is_found k) used)

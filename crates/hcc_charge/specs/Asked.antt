@@ -6,7 +6,7 @@ use Rattle.hcc_rule.specs.declared.key.Key.{Key}
 use Rattle.hcc_rule.specs.declared.layout.TheConstants.{OCCUPANCY, USAGE}
 use Rattle.hcc_rule.specs.declared.table.RuleTable.{RuleTable}
 use Rattle.hcc_rule.specs.declared.view.View.{View}
-use Rattle.hcc_rule.specs.Callers.{address_of_ledger, capacity_of, is_strict, plan_of}
+use Rattle.hcc_rule.specs.Callers.{address_of_ledger, capacity_of, is_strict, plan_of, slots_of}
 use Rattle.hcc_rule.specs.Rule.{setup_of}
 use Rattle.hcc_rule.specs.Seats.{SeatOf, Makes, view}
 use Rattle.hcc_table.specs.Steps.{Adds, MakesNone}
@@ -16,7 +16,7 @@ use Rattle.hcc_charge.specs.declared.reserving.Refused.{Refused}
 use Rattle.hcc_charge.specs.declared.reserving.Refused.TheVariants.{TooLarge, CapacityFull, OccupancyFull}
 use Rattle.hcc_charge.specs.declared.swept.Swept.{Swept}
 use Rattle.hcc_charge.specs.declared.tally.Tally.{Tally}
-use Rattle.hcc_charge.specs.Evicted.{EvictsFor}
+use Rattle.hcc_charge.specs.Evicted.{EvictsFor, IsSweptFor}
 use Rattle.hcc_charge.specs.Reserved.{asked, needed_by}
 use Rattle.hcc_charge.specs.Swept.{Tallied}
 
@@ -59,6 +59,8 @@ module _ {T A : Type 0} (fits : T → Key → List ℕ → Type 0) (table : Rule
       pub finds : Makes (address_of_ledger table USAGE) (added (is_strict table) charge) 0 used u b
       pub evicts : EvictsFor fits table
           (asked (is_strict table) (capacity_of table) charge (is_full table taken) used) swept b c
+      pub within : IsSweptFor (slots_of table)
+          (asked (is_strict table) (capacity_of table) charge (is_full table taken) used) swept
       pub rest : Adds c d
       pub turns : (view d).turns ≡ (view a).turns + swept.turns
       pub takings : (view d).takings ≡ (view a).takings + swept.slots

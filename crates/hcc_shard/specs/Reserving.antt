@@ -35,7 +35,8 @@ module _ {T A : Type 0} (shard : Shard T A) (draft : Draft) where
 
 module _ {T A : Type 0} (fits : T → Key → List ℕ → Type 0) (shard : Shard T A) (draft : Draft) where
   -- An insertion began with a reservation, which answered this, evicted just what it asked for, and
-  -- ended at this seat. What came behind it evicted nothing.
+  -- ended at this seat. What came behind it evicted nothing; and where it saw fewer slots taken
+  -- than there are, it only added steps.
   pub record ReservedAs (answer : Result Reservation Refused) (old new : ShardSeat T) : Type 0 where
     pub reserved : SeatOf T
     pub evicts : EvictsBy fits shard.table draft.charge answer old.tally new.tally

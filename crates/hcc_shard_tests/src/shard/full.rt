@@ -40,8 +40,8 @@ fn hand_after(
     Ok(closes(rt, shard, sizes, back).hand())
 }
 
-/// Of six entries in 8 slots the first four have a countdown of 1, the last two of 2. In three turns
-/// the first four are counted down and freed, and the last two are counted down once.
+/// Of six entries in 8 slots the first four have a countdown of 1, the last two of 2. In three
+/// turns the first four are counted down and freed, and the last two are counted down once.
 const SIX_FREE: Row = &[
     (Call::Insert(0, 4, 1, 2, &[]), Answer::Placed),
     (Call::Insert(0, 5, 1, 2, &[]), Answer::Placed),

@@ -55,7 +55,7 @@ returns-then-swept-eq0-clause-evicts g c =
           c.evict_for-swept.new.seat c.quit.new.seat opens.enters.1 c.requires.lax
           asks opens.enters.2 opens.view c.usage-used.ensures.step
           (keeps_by _ _ (view c.enter-full.new.seat) c.usage-used.ensures.view refl refl refl)
-          told.evicts told.view
+          told.evicts told.swept told.view
           (adds_one _ c.evict_for-swept.new.seat c.quit.new.seat c.quit.ensures.step.1.step)
           (keeps_by _ _ (view c.evict_for-swept.new.seat) c.quit.ensures.view refl refl refl)
           told.tally,
@@ -78,7 +78,7 @@ returns-clause-evicts g c =
           c.evict_for-swept.new.seat c.give_charge.new.seat opens.enters.1 c.requires.lax
           asks opens.enters.2 opens.view c.usage-used.ensures.step
           (keeps_by _ _ (view c.enter-full.new.seat) c.usage-used.ensures.view refl refl refl)
-          told.evicts told.view
+          told.evicts told.swept told.view
           (adds_then c.evict_for-swept.new.seat c.give_slots.new.seat c.give_charge.new.seat
           c.give_slots.ensures.adds
           (adds_then c.give_slots.new.seat c.charge.new.seat c.give_charge.new.seat

@@ -79,7 +79,7 @@ returns-then-swept-needed-clause-evicts g c =
           c.evict_for-swept.new.seat c.refuse.new.seat opens.enters.1 c.requires.strict
           asks opens.enters.2 opens.view c.charge-used.ensures.step
           (keeps_by _ _ (view c.enter-full.new.seat) c.charge-used.ensures.view refl refl refl)
-          told.evicts told.view c.refuse.ensures.adds
+          told.evicts told.swept told.view c.refuse.ensures.adds
           (keeps_by _ _ (view c.evict_for-swept.new.seat) c.refuse.ensures.view refl refl refl)
           told.tally,
       rw (lacked_strict table c.args.charge c.charge-used.result c.requires.strict)
@@ -101,7 +101,7 @@ returns-then-swept-eq0-clause-evicts g c =
           c.evict_for-swept.new.seat c.refuse-then-swept-eq0.new.seat opens.enters.1
           c.requires.strict asks opens.enters.2 opens.view c.charge-used.ensures.step
           (keeps_by _ _ (view c.enter-full.new.seat) c.charge-used.ensures.view refl refl refl)
-          told.evicts told.view c.refuse-then-swept-eq0.ensures.adds
+          told.evicts told.swept told.view c.refuse-then-swept-eq0.ensures.adds
           (keeps_by _ _ (view c.evict_for-swept.new.seat) c.refuse-then-swept-eq0.ensures.view refl
           refl refl)
           told.tally,
@@ -133,7 +133,7 @@ returns-clause-evicts g c =
           c.evict_for-swept.new.seat c.settle.new.seat opens.enters.1 c.requires.strict
           asks opens.enters.2 opens.view c.charge-used.ensures.step
           (keeps_by _ _ (view c.enter-full.new.seat) c.charge-used.ensures.view refl refl refl)
-          told.evicts told.view c.settle.ensures.adds
+          told.evicts told.swept told.view c.settle.ensures.adds
           (keeps_by _ _ (view c.evict_for-swept.new.seat) c.settle.ensures.view refl refl refl)
           told.tally,
       λ is. placed (opens.enters.1 ∙ is),
