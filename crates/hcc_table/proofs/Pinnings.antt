@@ -1,5 +1,7 @@
 -- What is charged for an entry that a client holds.
-use Rattle.std.proofs.Common.{◌≡◌, ◌≢◌, ℕ, ◌<◌, List, length, sym, ap, ◌∙◌, arith}
+use Rattle.std.proofs.Common.{◌≡◌, ◌≢◌, ℕ, ◌<◌, ◌&&◌, not, Bool, true, false, List, length, refl, sym, ap, ◌∙◌, arith}
+use Rattle.std.proofs.lemmas.Bool.{eq-eqb, ne_eqb}
+use Rattle.hcc_word.specs.Word.{is_shareable, refs_of}
 use Rattle.hcc_core.specs.declared.slot.Entry.{Entry}
 use Rattle.hcc_rule.specs.declared.key.Key.{Key}
 use Rattle.hcc_rule.specs.declared.layout.TheConstants.{CHARGE, STAMP}
@@ -7,6 +9,7 @@ use Rattle.hcc_rule.specs.declared.view.Record.{Record}
 use Rattle.hcc_rule.specs.ToldOwners.{IsDataWord, entry_words}
 use Rattle.hcc_rule.specs.Views.{Each}
 use Rattle.hcc_rule.proofs.Basics.Lists.{each_map}
+use Rattle.hcc_table.specs.Pinned.{is_held}
 
 -- a key for lemmas that are of no key
 abbrev pub no_key : Key
@@ -21,6 +24,21 @@ charge_is entry word told = told other long
 
     long : CHARGE < length (entry_words entry)
     long = omega arith
+
+-- the word of an entry with references, and others
+pub held_word : (word : ℕ) → is_shareable word ≡ true → ¬ (refs_of word ≡ 0)
+    → is_held word ≡ true
+held_word word has some = rw (has, ne_eqb (refs_of word) 0 some) refl
+
+pub no_entry : (word : ℕ) → is_shareable word ≡ false → is_held word ≡ false
+no_entry word away = rw away refl
+
+pub no_references : (word : ℕ) → refs_of word ≡ 0 → is_held word ≡ false
+no_references word none = rw (eq-eqb (refs_of word) 0 none) (by (is_shareable word))
+  where
+    by : (b : Bool) → (b && not true) ≡ false
+    by true = refl
+    by false = refl
 
 -- so it is that of each record there
 pub charged_each : (slot charge : ℕ) (entry : Entry) (rs : List Record) → charge ≡ entry.charge

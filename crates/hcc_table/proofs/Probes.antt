@@ -127,14 +127,14 @@ module _ {T : Type 0} where
           → P entry
       told_key P told = subst (λ o. IfSome o (λ r. P r.entry)) on_record told
 
-      -- and what the record has
-      pub on_other : ¬ (key_of entry ≡ key)
-          → IsSomeAnd (record_in name b.records) (λ r. (r.slot ≡ slot) × ¬ (key_of r.entry ≡ key))
-      on_other other = rw on_record (refl, other)
+      -- so it stands there with this
+      pub on_entry : (P : Entry → Type 0) → P entry
+          → IsSomeAnd (record_in name b.records) (λ r. (r.slot ≡ slot) × P r.entry)
+      on_entry P told = rw on_record (refl, told)
 
-      pub on_same : key_of entry ≡ key
-          → IsSomeAnd (record_in name b.records) (λ r. (r.slot ≡ slot) × (key_of r.entry ≡ key))
-      on_same same = rw on_record (refl, same)
+      pub on_told : (P : Entry → Type 0) → IfSome (record_in name b.records) (λ r. P r.entry)
+          → IsSomeAnd (record_in name b.records) (λ r. (r.slot ≡ slot) × P r.entry)
+      on_told P told = on_entry P (told_key P told)
 
       -- and no more once it was given back
       pub given_back : (left : ℕ) (c d : View T) → Sought b c → d ≡ after_give slot name left c

@@ -10,3 +10,4 @@ pub mod Steps
 pub mod Probed
 pub mod Hides
 pub mod Tries
+pub mod Pinned

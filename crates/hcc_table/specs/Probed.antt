@@ -68,8 +68,7 @@ module _ {T A : Type 0} (table : RuleTable T A) where
       MakesTwo (atomic (address_of_data table slot KEY0) 0 0 key.w0)
       (atomic (address_of_data table slot KEY1) 0 0 key.w1)
 
-module _ {T A : Type 0} (fits : T → Key → List ℕ → Type 0) (table : RuleTable T A) (key : Key)
-    (name : ℕ) where
+module _ {T A : Type 0} (fits : T → Key → List ℕ → Type 0) (table : RuleTable T A) (name : ℕ) where
   -- References of this weight were acquired on a slot, under the name: the add found this word.
   pub record Reaches (slot weight word : ℕ) (before after : Effort) (old new : SeatOf T)
       : Type 0 where
@@ -77,12 +76,14 @@ module _ {T A : Type 0} (fits : T → Key → List ℕ → Type 0) (table : Rule
     pub acquires : Acquires (address_of_meta table slot) weight word old new
     pub corrects : Corrects (address_of_meta table slot) weight word before after old new
 
+module _ {T A : Type 0} (fits : T → Key → List ℕ → Type 0) (table : RuleTable T A) (key : Key)
+    (name : ℕ) where
   -- References were acquired on a slot, and it was passed: the add found a word that isn't visible,
   -- or that of an entry of another key, and a load of a half of its key told so.
   pub record PassesEntry (slot weight word : ℕ) (before after : Effort) (old new : SeatOf T)
       : Type 0 where
     pub mid : SeatOf T
-    pub reaches : Reaches slot weight word before after old mid
+    pub reaches : Reaches fits table name slot weight word before after old mid
     pub adds : Adds mid new
     pub other : is_visible word ≡ true → IsSomeAnd (record_in name (view mid).records)
         (λ r. (r.slot ≡ slot) × ¬ (key_of r.entry ≡ key))
@@ -107,7 +108,7 @@ module _ {T A : Type 0} (fits : T → Key → List ℕ → Type 0) (table : Rule
     pub first : First seen old looked
     pub shown : is_visible seen ≡ true
     pub mid : SeatOf T
-    pub reaches : Reaches slot weight word before after looked mid
+    pub reaches : Reaches fits table name slot weight word before after looked mid
     pub visible : is_visible word ≡ true
     pub same : IsSomeAnd (record_in name (view mid).records)
         (λ r. (r.slot ≡ slot) × (key_of r.entry ≡ key))

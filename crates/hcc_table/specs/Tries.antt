@@ -26,13 +26,13 @@ module _ {T A : Type 0} (table : RuleTable T A) where
 
 module _ {T A : Type 0} (fits : T → Key → List ℕ → Type 0) (table : RuleTable T A) (key : Key)
     (name weight : ℕ) where
-  -- References of the weight were acquired on a slot: the add found it visible, with an entry of the
-  -- key, and loads of both halves of its key told so. They were released as uses where they count,
-  -- else given back.
+  -- References of the weight were acquired on a slot: the add found it visible, with an entry of
+  -- the key, and loads of both halves of its key told so. They were released as uses where they
+  -- count, else given back.
   pub record UsesEntry (slot word : ℕ) (before after : Effort) (old new : SeatOf T)
       : Type 0 where
     pub mid : SeatOf T
-    pub reaches : Reaches fits table key name slot weight word before after old mid
+    pub reaches : Reaches fits table name slot weight word before after old mid
     pub visible : is_visible word ≡ true
     pub same : IsSomeAnd (record_in name (view mid).records)
         (λ r. (r.slot ≡ slot) × (key_of r.entry ≡ key))

@@ -6,6 +6,7 @@ ghost use Rattle.hcc_rule.specs.Callers.{clients_of, IsSeatAt, IsSlotOf};
 ghost use Rattle.hcc_rule.specs.Seats.{IsSameSeat, view};
 ghost use Rattle.hcc_rule.specs.Views.{Each, load_of, record_in, weight_on};
 ghost use Rattle.hcc_table.specs.Efforts.{Took};
+ghost use Rattle.hcc_table.specs.Pinned.{CountsHeld};
 ghost use Rattle.hcc_table.specs.Searched.{Sought};
 ghost use Rattle.hcc_table.specs.Steps.{MakesAtMost};
 
@@ -43,6 +44,8 @@ pub fn pinned_charge<T: Tag, A: Allocator>(
         → Each (λ (r : Record). r.slot ≡ slot → result ≡ r.entry.charge) (view seat.old).records }
     ensures alone { clients_of table.now ≡ 1
         → weight_on slot (view seat.old).records ≡ 0 → result ≡ 0 }
+    ensures counts { CountsHeld T.fits table.now name slot result effort.old effort.new
+        seat.old seat.new }
     ensures small { result < 2 ^ 32 }
     ensures steps { MakesAtMost 5 seat.old seat.new }
 {

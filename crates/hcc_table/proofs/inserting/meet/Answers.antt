@@ -7,7 +7,7 @@ use Rattle.hcc_table.specs.Steps.{Adds}
 use Rattle.hcc_table.proofs.Logs.{adds_none, adds_one, adds_then, among_at, among_first, among_then, begins_adds, unmarked_adds}
 use Rattle.hcc_rule.specs.Words.{key_of}
 use Rattle.hcc_table.proofs.Searches.{searched_refl}
-use Rattle.hcc_table.proofs.Probes.{strayed, holds, holds_slot, holds_used, told_key, given_back, met_there, missed_there, on_other, on_same}
+use Rattle.hcc_table.proofs.Probes.{strayed, holds, holds_slot, holds_used, told_key, given_back, met_there, missed_there, on_told}
 use Rattle.hcc_table.proofs.Probings.{neither, other_then, visible_has}
 use Rattle.hcc_table.proofs.inserting.meet.Goals as goal
 
@@ -140,15 +140,11 @@ returns-then-matches-clause-uses g c _ = (
       corrects = c.reach-found.ensures.corrects;
     };
     visible = c.matches.ensures.shown c.if-matches.true;
-    same = on_same g.T.Tag.fits c.args.table.now.geometry.room c.args.slot c.args.weight
+    same = on_told g.T.Tag.fits c.args.table.now.geometry.room c.args.slot c.args.weight
         c.args.name c.reach-found.result c.args.key (view c.args.seat.now) (view c.args.seat.now)
         (view c.reach-found.new.seat) (searched_refl (view c.args.seat.now))
         c.reach-found.ensures.view (sym c.if-not-has_entry.ensures) c.requires.fresh
-        (told_key g.T.Tag.fits c.args.table.now.geometry.room c.args.slot c.args.weight c.args.name
-        c.reach-found.result c.args.key (view c.args.seat.now) (view c.args.seat.now)
-        (view c.reach-found.new.seat) (searched_refl (view c.args.seat.now))
-        c.reach-found.ensures.view (sym c.if-not-has_entry.ensures) c.requires.fresh
-        (λ e. key_of e ≡ c.args.key) (c.matches.ensures.equal c.if-matches.true));
+        (λ e. key_of e ≡ c.args.key) (c.matches.ensures.equal c.if-matches.true);
     held = c.matches.new.seat;
     loads = c.matches.ensures.loads c.if-matches.true;
     left = c.let_go.ensures.left.found;
@@ -186,15 +182,11 @@ returns-clause-passes g c _ = (
     };
     adds = adds_then c.reach-found.new.seat c.matches.new.seat c.give.new.seat
         (unmarked_adds c.reach-found.new.seat c.matches.new.seat c.matches.ensures.adds) given;
-    other = λ shown. on_other g.T.Tag.fits c.args.table.now.geometry.room c.args.slot c.args.weight
+    other = λ shown. on_told g.T.Tag.fits c.args.table.now.geometry.room c.args.slot c.args.weight
         c.args.name c.reach-found.result c.args.key (view c.args.seat.now) (view c.args.seat.now)
         (view c.reach-found.new.seat) (searched_refl (view c.args.seat.now))
         c.reach-found.ensures.view (sym c.if-not-has_entry.ensures) c.requires.fresh
-        (told_key g.T.Tag.fits c.args.table.now.geometry.room c.args.slot c.args.weight c.args.name
-        c.reach-found.result c.args.key (view c.args.seat.now) (view c.args.seat.now)
-        (view c.reach-found.new.seat) (searched_refl (view c.args.seat.now))
-        c.reach-found.ensures.view (sym c.if-not-has_entry.ensures) c.requires.fresh
-        (λ e. ¬ (key_of e ≡ c.args.key)) (c.matches.ensures.other c.if-matches.false shown));
+        (λ e. ¬ (key_of e ≡ c.args.key)) (c.matches.ensures.other c.if-matches.false shown);
     loads = λ shown. other_then c.args.table.now c.args.key c.args.slot c.reach-found.new.seat
         c.matches.new.seat c.give.new.seat (c.matches.ensures.differs c.if-matches.false shown)
         given;

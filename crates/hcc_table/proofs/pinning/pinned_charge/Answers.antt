@@ -1,9 +1,12 @@
-use Rattle.std.proofs.Common.{sym}
+use Rattle.std.proofs.Common.{◌≡◌, true, refl, sym, ◌∙◌}
 use Rattle.hcc_rule.specs.Seats.{view}
 use Rattle.hcc_rule.specs.declared.layout.TheConstants.{CHARGE}
 use Rattle.hcc_rule.specs.ToldOwners.{IsDataWord}
-use Rattle.hcc_table.proofs.Pinnings.{no_key, charge_is, charged_each}
-use Rattle.hcc_table.proofs.Probes.{looked_at, holds, holds_slot, given_back, one_entry, told_key}
+use Rattle.hcc_table.specs.Pinned.{is_held}
+use Rattle.hcc_table.proofs.Logs.{adds_none, adds_one, adds_then}
+use Rattle.hcc_table.proofs.Pinnings.{no_entry, no_key, no_references, charge_is, charged_each, held_word}
+use Rattle.hcc_table.proofs.Probes.{looked_at, holds, holds_slot, given_back, on_entry, one_entry, told_key}
+use Rattle.hcc_table.proofs.Probings.{neither}
 use Rattle.hcc_table.proofs.Searches.{read_there, searched_refl}
 use Rattle.hcc_table.proofs.pinning.pinned_charge.Goals as goal
 
@@ -72,3 +75,96 @@ returns-clause-small g c =
     c.reach-found.ensures.view (sym c.if-not-has_entry-2.ensures) c.requires.fresh
     (λ e. IsDataWord e CHARGE c.read-charge.result) c.read-charge.ensures.word))
     got.1.small
+
+pub returns-then-not-has_entry-2-clause-counts : goal.returns-then-not-has_entry-2-clause-counts
+returns-then-not-has_entry-2-clause-counts g c = record {
+  seen = c.look-word.result;
+  mid = c.look-word.new.seat;
+  looks = (c.look-word.ensures.step, c.look-word.ensures.view);
+  unheld = λ none. neither (is_held c.look-word.result) held none;
+  held = λ _. record {
+    word = c.reach-found.result;
+    mid = c.reach-found.new.seat;
+    reaches = record {
+      reached = c.reach-found.ensures.view;
+      acquires = c.reach-found.ensures.acquires;
+      corrects = c.reach-found.ensures.corrects;
+    };
+    counted = λ some. neither (is_held c.reach-found.result) some
+        (no_entry c.reach-found.result (sym c.if-not-has_entry-2.ensures));
+    uncounted = λ _. refl;
+    adds = adds_none c.reach-found.new.seat c.reach-found.new.seat refl;
+  };
+}
+  where
+    held : is_held c.look-word.result ≡ true
+    held = held_word c.look-word.result (sym c.if-not-has_entry.ensures)
+        (λ none. c.if-refs-eq0.false (c.refs.ensures.field ∙ none))
+
+pub returns-then-refs-eq0-2-clause-counts : goal.returns-then-refs-eq0-2-clause-counts
+returns-then-refs-eq0-2-clause-counts g c = record {
+  seen = c.look-word.result;
+  mid = c.look-word.new.seat;
+  looks = (c.look-word.ensures.step, c.look-word.ensures.view);
+  unheld = λ none. neither (is_held c.look-word.result) held none;
+  held = λ _. record {
+    word = c.reach-found.result;
+    mid = c.reach-found.new.seat;
+    reaches = record {
+      reached = c.reach-found.ensures.view;
+      acquires = c.reach-found.ensures.acquires;
+      corrects = c.reach-found.ensures.corrects;
+    };
+    counted = λ some. neither (is_held c.reach-found.result) some
+        (no_references c.reach-found.result (sym c.refs-2.ensures.field ∙ c.if-refs-eq0-2.true));
+    uncounted = λ _. refl;
+    adds = adds_then c.reach-found.new.seat c.read-charge.new.seat c.give.new.seat
+        (adds_one _ c.reach-found.new.seat c.read-charge.new.seat c.read-charge.ensures.step.step)
+        (adds_one _ c.read-charge.new.seat c.give.new.seat c.give.ensures.step.step);
+  };
+}
+  where
+    held : is_held c.look-word.result ≡ true
+    held = held_word c.look-word.result (sym c.if-not-has_entry.ensures)
+        (λ none. c.if-refs-eq0.false (c.refs.ensures.field ∙ none))
+
+pub returns-clause-counts : goal.returns-clause-counts
+returns-clause-counts g c = record {
+  seen = c.look-word.result;
+  mid = c.look-word.new.seat;
+  looks = (c.look-word.ensures.step, c.look-word.ensures.view);
+  unheld = λ none. neither (is_held c.look-word.result) held none;
+  held = λ _. record {
+    word = c.reach-found.result;
+    mid = c.reach-found.new.seat;
+    reaches = record {
+      reached = c.reach-found.ensures.view;
+      acquires = c.reach-found.ensures.acquires;
+      corrects = c.reach-found.ensures.corrects;
+    };
+    counted = λ _. on_entry g.T.Tag.fits c.args.table.now.geometry.room c.args.slot 1 c.args.name
+        c.reach-found.result no_key (view c.args.seat.now) (view c.look-word.new.seat)
+        (view c.reach-found.new.seat)
+        (looked_at c.args.slot c.look-word.result _ _ c.look-word.ensures.view)
+        c.reach-found.ensures.view (sym c.if-not-has_entry-2.ensures) c.requires.fresh
+        (λ e. c.read-charge.result ≡ e.charge)
+        (charge_is (c.reach-found.ensures.view.got (sym c.if-not-has_entry-2.ensures)).0
+        c.read-charge.result
+        (told_key g.T.Tag.fits c.args.table.now.geometry.room c.args.slot 1 c.args.name
+        c.reach-found.result no_key (view c.args.seat.now) (view c.look-word.new.seat)
+        (view c.reach-found.new.seat)
+        (looked_at c.args.slot c.look-word.result _ _ c.look-word.ensures.view)
+        c.reach-found.ensures.view (sym c.if-not-has_entry-2.ensures) c.requires.fresh
+        (λ e. IsDataWord e CHARGE c.read-charge.result) c.read-charge.ensures.word));
+    uncounted = λ none. neither (is_held c.reach-found.result)
+        (held_word c.reach-found.result (sym c.if-not-has_entry-2.ensures)
+        (λ none. c.if-refs-eq0-2.false (c.refs-2.ensures.field ∙ none))) none;
+    adds = adds_then c.reach-found.new.seat c.read-charge.new.seat c.give.new.seat
+        (adds_one _ c.reach-found.new.seat c.read-charge.new.seat c.read-charge.ensures.step.step)
+        (adds_one _ c.read-charge.new.seat c.give.new.seat c.give.ensures.step.step);
+  };
+}
+  where
+    held : is_held c.look-word.result ≡ true
+    held = held_word c.look-word.result (sym c.if-not-has_entry.ensures)
+        (λ none. c.if-refs-eq0.false (c.refs.ensures.field ∙ none))

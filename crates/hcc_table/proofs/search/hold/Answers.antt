@@ -5,7 +5,7 @@ use Rattle.hcc_rule.specs.Seats.{atomic, view}
 use Rattle.hcc_rule.specs.Words.{key_of}
 use Rattle.hcc_table.specs.Steps.{Adds}
 use Rattle.hcc_table.proofs.Logs.{adds_none, adds_one, adds_then, among_after, among_first, among_then, light, unmarked_adds, unmarked_one, unmarked_then, unmarked_zero}
-use Rattle.hcc_table.proofs.Probes.{looked_at, buried_by_look, strayed, holds, holds_slot, told_key, missed_there, found_there, got_record, on_other, on_same}
+use Rattle.hcc_table.proofs.Probes.{looked_at, buried_by_look, strayed, holds, holds_slot, told_key, missed_there, found_there, got_record, on_told}
 use Rattle.hcc_table.proofs.Probings.{neither, other_then, visible_has}
 use Rattle.hcc_table.proofs.Searches.{searched_refl}
 use Rattle.hcc_table.proofs.search.hold.Goals as goal
@@ -174,18 +174,13 @@ returns-clause-passes g c = (
       };
       adds = adds_then c.reach-found.new.seat c.matches.new.seat c.give.new.seat
           (unmarked_adds c.reach-found.new.seat c.matches.new.seat c.matches.ensures.adds) given;
-      other = λ shown. on_other g.T.Tag.fits c.args.table.now.geometry.room c.args.slot 1
+      other = λ shown. on_told g.T.Tag.fits c.args.table.now.geometry.room c.args.slot 1
           c.args.name c.reach-found.result c.args.key (view c.args.seat.now)
           (view c.look-seen.new.seat) (view c.reach-found.new.seat)
           (looked_at c.args.slot c.look-seen.result _ _ c.look-seen.ensures.view)
           c.reach-found.ensures.view (sym c.if-not-has_entry.ensures) c.requires.fresh
-          (told_key g.T.Tag.fits c.args.table.now.geometry.room c.args.slot 1 c.args.name
-          c.reach-found.result c.args.key (view c.args.seat.now) (view c.look-seen.new.seat)
-          (view c.reach-found.new.seat)
-          (looked_at c.args.slot c.look-seen.result _ _ c.look-seen.ensures.view)
-          c.reach-found.ensures.view (sym c.if-not-has_entry.ensures) c.requires.fresh
           (λ e. ¬ (key_of e ≡ c.args.key))
-          (c.matches.ensures.other c.if-matches.false shown));
+          (c.matches.ensures.other c.if-matches.false shown);
       loads = λ shown. other_then c.args.table.now c.args.key c.args.slot c.reach-found.new.seat
           c.matches.new.seat c.give.new.seat
           (c.matches.ensures.differs c.if-matches.false shown) given;
@@ -209,16 +204,11 @@ returns-then-matches-clause-catches g c = record {
     corrects = c.reach-found.ensures.corrects;
   };
   visible = c.matches.ensures.shown c.if-matches.true;
-  same = on_same g.T.Tag.fits c.args.table.now.geometry.room c.args.slot 1 c.args.name
+  same = on_told g.T.Tag.fits c.args.table.now.geometry.room c.args.slot 1 c.args.name
       c.reach-found.result c.args.key (view c.args.seat.now) (view c.look-seen.new.seat)
       (view c.reach-found.new.seat)
       (looked_at c.args.slot c.look-seen.result _ _ c.look-seen.ensures.view)
       c.reach-found.ensures.view (sym c.if-not-has_entry.ensures) c.requires.fresh
-      (told_key g.T.Tag.fits c.args.table.now.geometry.room c.args.slot 1 c.args.name
-      c.reach-found.result c.args.key (view c.args.seat.now) (view c.look-seen.new.seat)
-      (view c.reach-found.new.seat)
-      (looked_at c.args.slot c.look-seen.result _ _ c.look-seen.ensures.view)
-      c.reach-found.ensures.view (sym c.if-not-has_entry.ensures) c.requires.fresh
-      (λ e. key_of e ≡ c.args.key) (c.matches.ensures.equal c.if-matches.true));
+      (λ e. key_of e ≡ c.args.key) (c.matches.ensures.equal c.if-matches.true);
   loads = c.matches.ensures.loads c.if-matches.true;
 }
