@@ -4,6 +4,7 @@ pub mod Searches
 pub mod Reaches
 pub mod Probes
 pub mod Probings
+pub mod Quiet
 pub mod Finds
 pub mod TakesBack
 pub mod Gives

@@ -8,6 +8,7 @@ pub mod Readings
 pub mod Inserted
 pub mod Steps
 pub mod Probed
+pub mod Quiet
 pub mod Hides
 pub mod Tries
 pub mod Pinned

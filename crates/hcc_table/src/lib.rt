@@ -63,6 +63,7 @@ mod efforts;
 mod freeing;
 mod hiding;
 mod inserting;
+pub mod laws;
 mod pinning;
 mod pins;
 mod readings;
