@@ -148,6 +148,12 @@ module _ {T : Type 0} where
     few = e.met.2;
   }
 
+  -- So many were taken.
+  pub taken_settled : (key : Key) (hidden slots charge : ℕ) (v b w : View T)
+      → IsErased key hidden slots charge v b → w ≡ settled b → w.takings ≡ v.takings + slots
+  taken_settled key hidden slots charge v b w e settles =
+      ap (λ (z : View T). z.takings) settles ∙ ap (λ (z : View T). z.takings) e.erases.same
+
   -- What was dead stays so.
   pub dead_settled : (key : Key) (v b w : View T) → AllDead key v b → w ≡ settled b
       → AllDead key v w

@@ -1,10 +1,17 @@
 -- What callers say of a shard and of a seat at it, by their public values alone.
-use Rattle.std.specs.Prelude.{ℕ, Bool}
+use Rattle.std.specs.Prelude.{◌≡◌, ℕ, ◌+◌, Bool, List, Option}
 use Rattle.hcc_rule.specs.declared.geometry.Geometry.{Geometry}
+use Rattle.hcc_rule.specs.declared.key.Key.{Key}
 use Rattle.hcc_rule.specs.declared.rule.Plan.{Plan}
 use Rattle.hcc_rule.specs.declared.view.View.{View}
 use Rattle.hcc_rule.specs.Callers as table
-use Rattle.hcc_rule.specs.Seats.{made, view}
+use Rattle.hcc_rule.specs.Seats.{SeatOf, Makes, made, view}
+use Rattle.hcc_table.specs.declared.hiding.Erased.{Erased}
+use Rattle.hcc_table.specs.declared.pins.Pin.{Pin}
+use Rattle.hcc_table.specs.Hides.{HidesAll}
+use Rattle.hcc_table.specs.Probed.{Searches}
+use Rattle.hcc_table.specs.Steps.{Adds}
+use Rattle.hcc_shard.specs.declared.erasing.TheConstants.{IN_FLIGHT}
 use Rattle.hcc_shard.specs.declared.seat.ShardSeat.{ShardSeat}
 use Rattle.hcc_shard.specs.declared.shard.Shard.{Shard}
 use Rattle.hcc_shard.specs.Referred.{GivesBack}
@@ -48,3 +55,33 @@ module _ {T A : Type 0} where
   GivesBackAt shard slot used erase freed old new =
       GivesBack (table.address_of_meta shard.table slot) used erase freed old.effort new.effort
       old.seat new.seat
+
+module _ {T A : Type 0} (fits : T → Key → List ℕ → Type 0) where
+  -- A look-up of the key was made by the client of a seat, under this serial: what it found at each
+  -- probe, by its answer.
+  abbrev pub SearchesAt : Shard T A → Key → (serial : ℕ) → Option Pin
+      → (old new : ShardSeat T) → Type 0
+  SearchesAt shard key serial found old new =
+      Searches fits shard.table key serial shard.marks found old.effort new.effort
+      old.seat new.seat
+
+  -- An erasure of the key was made by the client of a seat: what it found and hid at each probe,
+  -- and what it took. What settles that came behind it.
+  pub record ErasesAt (shard : Shard T A) (key : Key) (hidden : ℕ) (old new : ShardSeat T)
+      : Type 0 where
+    pub all : Erased
+    pub hidden_is : all.hidden ≡ hidden
+    pub mid : SeatOf T
+    pub hides : HidesAll fits shard.table key IN_FLIGHT all old.effort new.effort old.seat mid
+    pub taken : (view new.seat).takings ≡ (view old.seat).takings + all.slots
+    pub rest : Adds mid new.seat
+
+module _ {T A : Type 0} where
+  -- one load found this meta word of a slot, or this displacement word, and was the only step
+  abbrev pub LoadsWord : Shard T A → (slot word : ℕ) → (old new : ShardSeat T) → Type 0
+  LoadsWord shard slot word old new =
+      Makes (table.address_of_meta shard.table slot) 0 0 word old.seat new.seat
+
+  abbrev pub LoadsDisplacement : Shard T A → (slot count : ℕ) → (old new : ShardSeat T) → Type 0
+  LoadsDisplacement shard slot count old new =
+      Makes (table.address_of_displacement shard.table slot) 0 0 count old.seat new.seat

@@ -12,6 +12,7 @@ ghost use Rattle.hcc_rule.specs.Views.{different, record_in};
 ghost use Rattle.hcc_rule.specs.Words.{key_of, words_for};
 ghost use Rattle.hcc_table.specs.Pins.{IsPinned};
 ghost use Rattle.hcc_table.specs.Steps.{MakesAtMost};
+ghost use Rattle.hcc_shard.specs.Callers.{LoadsDisplacement, LoadsWord};
 ghost use Rattle.hcc_shard.specs.Counted.{SameCounts};
 ghost use Rattle.hcc_shard.specs.Seated.{Rests};
 
@@ -22,7 +23,7 @@ use hcc_table::{Pin, displacement, read_bytes, read_key, read_len, word};
 use std::alloc::Allocator;
 
 impl<T: Tag, A: Allocator> Shard<T, A> {
-    /// The meta word of a slot, whose fields `hcc_word` reads.
+    /// The meta word of a slot, as its load found it. `hcc_word` reads its fields.
     ///
     /// Where the client holds references on the slot, the word is that of an entry with at least
     /// these; in a shard of one client, with just these. It refuses nothing and allocates nothing.
@@ -32,6 +33,7 @@ impl<T: Tag, A: Allocator> Shard<T, A> {
         requires slot { IsSlotOf self.now.table slot }
         ensures seat { Rests self.now seat.new }
         ensures view { view seat.new.seat ≡ after_look slot result (view seat.old.seat) }
+        ensures loads { LoadsWord self.now slot result seat.old seat.new }
         ensures backs { Backs slot result (view seat.old.seat) }
         ensures alone { Alone (setup_of (plan_of self.now.table)) slot result (view seat.old.seat) }
         ensures counts { SameCounts seat.old seat.new }
@@ -40,7 +42,8 @@ impl<T: Tag, A: Allocator> Shard<T, A> {
         word(&self.table, &mut seat.seat, slot)
     }
 
-    /// How often a slot stands in the trails of entries and of clients.
+    /// How often a slot stands in the trails of entries and of clients, as a load of its
+    /// displacement word found it.
     ///
     /// It is at least the number of entries that the client holds, each once, whose trail has the
     /// slot. Any other entry has the slot in its trail once at most, and any other client as often
@@ -52,6 +55,7 @@ impl<T: Tag, A: Allocator> Shard<T, A> {
         requires slot { IsSlotOf self.now.table slot }
         ensures seat { Rests self.now seat.new }
         ensures view { view seat.new.seat ≡ view seat.old.seat }
+        ensures loads { LoadsDisplacement self.now slot result seat.old seat.new }
         ensures entries { passed_held (slots_of self.now.table) slot (view seat.old.seat).records
             ≤ result }
         ensures most { result + length (different (view seat.old.seat).records)

@@ -12,7 +12,7 @@ ghost use Rattle.hcc_table.specs.Pins.{IsOf, IsPinned, erases, is_useful};
 ghost use Rattle.hcc_table.specs.Searched.{IsFound, IsMissed, Searched};
 ghost use Rattle.hcc_table.specs.Steps.{MakesAtMost, MakesFor, Marks, freeing};
 ghost use Rattle.hcc_charge.specs.Settled.{fallen};
-ghost use Rattle.hcc_shard.specs.Callers.{GivesBackAt};
+ghost use Rattle.hcc_shard.specs.Callers.{GivesBackAt, SearchesAt};
 ghost use Rattle.hcc_shard.specs.Counted.{SameCounts, SameEvictions};
 ghost use Rattle.hcc_shard.specs.Referred.{IsReleased};
 ghost use Rattle.hcc_shard.specs.Seated.{IsNext, Rests};
@@ -32,7 +32,9 @@ impl<T: Tag, A: Allocator> Shard<T, A> {
     /// Where it finds one, the client has one record more, behind its others: of an entry of this
     /// key, with a value that fits it, which the client hadn't seen dead. Where it finds none, it
     /// holds what it held, and has seen dead each entry of the key that it holds. In a shard that
-    /// marks, the entry that it finds has the hit bit then.
+    /// marks, the entry that it finds has the hit bit then; else no step marks. Each slot that was
+    /// passed was found not visible, or with an entry of another key; a miss passed at least one,
+    /// and ends where the displacement word of the last one is 0, or after all slots.
     ///
     /// It allocates nothing. Each probe costs a load and one of the displacement word, and where
     /// the slot is visible an add, a load of each half of the key that is compared, and a
@@ -50,6 +52,7 @@ impl<T: Tag, A: Allocator> Shard<T, A> {
             (view seat.old.seat) (view seat.new.seat) r
             × IsOf pin r) }
         ensures missed { IfNone result (IsMissed key (view seat.old.seat) (view seat.new.seat)) }
+        ensures searches { SearchesAt T.fits self.now key serial result seat.old seat.new }
         ensures marked { self.now.marks ≡ true → IfSome result (λ pin.
             Marks (address_of_meta self.now.table pin.slot) seat.old.seat seat.new.seat) }
         ensures effort { Took 1 (slots_of self.now.table) (slots_of self.now.table)

@@ -1,8 +1,8 @@
-use Rattle.std.proofs.Common.{refl, arith}
+use Rattle.std.proofs.Common.{◌≡◌, ◌-◌, refl, arith}
 use Rattle.hcc_rule.specs.Callers.{geometry_of}
 use Rattle.hcc_rule.specs.Seats.{view}
 use Rattle.hcc_shard.proofs.Names.{load_is, not_kept}
-use Rattle.hcc_shard.proofs.Settlings.{erased_all, dead_settled}
+use Rattle.hcc_shard.proofs.Settlings.{erased_all, dead_settled, taken_settled}
 use Rattle.hcc_shard.specs.declared.erasing.TheConstants.{IN_FLIGHT}
 use Rattle.hcc_table.proofs.Finds.{seat_then}
 use Rattle.hcc_shard.proofs.Resting.{quiet_erased, rests_again}
@@ -40,3 +40,36 @@ returns-clause-seat g c =
     (quiet_erased (geometry_of c.args.self.now.table) (view c.args.seat.now.seat)
     (view c.settle.new.seat) c.requires.seat.quiet c.args.key c.hide-erased.result.hidden
     (returns-clause-view g c))
+
+pub returns-clause-erases : goal.returns-clause-erases
+returns-clause-erases g c =
+    let erased = c.hide-erased.result in
+    record {
+      all = erased;
+      hidden_is = refl;
+      mid = c.hide-erased.new.seat;
+      hides = c.hide-erased.ensures.hides;
+      taken =
+          taken_settled c.args.key erased.hidden erased.slots erased.charge
+          (view c.args.seat.now.seat) (view c.hide-erased.new.seat) (view c.settle.new.seat)
+          c.hide-erased.ensures.view c.settle.ensures.view;
+      rest = c.settle.ensures.adds;
+    }
+
+pub returns-clause-frees : goal.returns-clause-frees
+returns-clause-frees g c =
+    let erased = c.hide-erased.result in
+    let told = c.hide-erased.ensures.frees in
+    let more = c.settle.ensures.steps in
+    let taken =
+    taken_settled c.args.key erased.hidden erased.slots erased.charge (view c.args.seat.now.seat)
+    (view c.hide-erased.new.seat) (view c.settle.new.seat) c.hide-erased.ensures.view
+    c.settle.ensures.view in
+    let some : (view c.settle.new.seat).takings - (view c.args.seat.now.seat).takings
+    ≡ erased.slots = omega arith in
+    record {
+      visited = told.visited;
+      within = told.within;
+      counted = told.counted;
+      steps = rw some (let made = told.steps in omega arith);
+    }
