@@ -1,8 +1,10 @@
 -- What a client works with at one shard, and what it knows afterwards.
-use Rattle.std.proofs.Common.{◌≡◌, ℕ, ◌+◌, ◌<◌, ◌≤◌, Some, length, get_or, slice_get, slice_set, refl, ap, arith}
+use Rattle.std.proofs.Common.{◌≡◌, ℕ, ◌+◌, ◌<◌, ◌≤◌, Some, length, get_or, slice_get, slice_set, refl, ap, arith, subst}
 use Rattle.std.proofs.lemmas.Option.{slice_get_read}
+use Rattle.std.specs.declared.alloc.Global.{Global}
 use Rattle.slab.specs.Slab.{slab_len}
 use Rattle.hcc_core.specs.declared.limits.TheConstants.{MOST_HANDLES, STAMPS_PER_CLIENT}
+use Rattle.hcc_core.proofs.ListLemmas.{read_here}
 use Rattle.hcc_core.proofs.SumLemmas.{total-member}
 use Rattle.hcc_shard.specs.declared.seat.ShardSeat.{ShardSeat}
 use Rattle.hcc_shard.specs.declared.shard.Shard.{Shard}
@@ -11,7 +13,7 @@ use Rattle.hcc_shard.specs.Seated.{IsNext}
 use Rattle.hcc_cache.specs.declared.cache.Cache.{Cache}
 use Rattle.hcc_cache.specs.declared.client.Client.{Client}
 use Rattle.hcc_cache.specs.declared.seeded.Seeded.{Seeded}
-use Rattle.hcc_cache.specs.Calls.{TakesAtMost, Works}
+use Rattle.hcc_cache.specs.Calls.{AtShard, TakesAtMost, Works}
 use Rattle.hcc_cache.specs.Clients.{view_by}
 use Rattle.hcc_cache.specs.Known.{AreHeld, IsSeated, Knows, records_at}
 use Rattle.hcc_cache.proofs.Seats.{seated_set, steps_set, view_else, view_here}
@@ -83,6 +85,19 @@ module _ {T : Type 0} where
         after = rw (change.seats) (view_here old.seats.items i was is at.seat_is);
         others = λ s ne. rw (change.seats) (view_else old.seats.items i s is ne);
         self = (change.number, change.most);
+      }
+
+      -- what the seat did there the client did
+      pub did_at : (Did : Shard (Seeded T) Global → (a b : ShardSeat (Seeded T)) → Type 0)
+          → Did shard was is → (number : ℕ) → i ≡ number → AtShard cache Did number old new
+      did_at Did did number here = subst (λ n. AtShard cache Did n old new) here record {
+        shard = shard;
+        was = was;
+        is = is;
+        shard_is = at.shard_is;
+        seat_was = at.seat_is;
+        seat_is = rw (change.seats) (read_here old.seats.items i was is at.seat_is);
+        did = did;
       }
 
       -- the steps that it made are those of the client

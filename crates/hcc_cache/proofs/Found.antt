@@ -1,5 +1,5 @@
 -- What a client knows once a look-up found an entry, or none.
-use Rattle.std.proofs.Common.{◌≡◌, ℕ, ◌+◌, ◌*◌, ◌^◌, ◌<◌, ◌≤◌, Bool, List, [], ◌∷◌, ◌++◌, Some, length, option_map, sym, ap, subst, ◌∙◌, arith}
+use Rattle.std.proofs.Common.{◌≡◌, ℕ, ◌+◌, ◌*◌, ◌^◌, ◌<◌, ◌≤◌, Bool, List, [], ◌∷◌, ◌++◌, Option, Some, is_some, length, option_map, sym, ap, subst, ◌∙◌, arith}
 use Rattle.hcc_rule.specs.declared.geometry.Geometry.{Geometry}
 use Rattle.hcc_rule.specs.declared.key.Key.{Key}
 use Rattle.hcc_rule.specs.declared.view.Record.{Record}
@@ -8,12 +8,13 @@ use Rattle.hcc_rule.specs.Views.{Each}
 use Rattle.hcc_rule.specs.Words.{key_of}
 use Rattle.hcc_rule.proofs.Basics.Lists.{each_append, within}
 use Rattle.hcc_table.specs.declared.efforts.Effort.{Effort}
+use Rattle.hcc_table.specs.declared.pins.Pin.{Pin}
 use Rattle.hcc_table.specs.Pins.{IsOf}
 use Rattle.hcc_table.specs.Searched.{IsFound, IsMissed, Searched, Sought}
 use Rattle.hcc_table.specs.Steps.{MakesFor}
 use Rattle.hcc_shard.specs.declared.seat.ShardSeat.{ShardSeat}
 use Rattle.hcc_shard.specs.declared.shard.Shard.{Shard}
-use Rattle.hcc_shard.specs.Callers.{geometry_of, view_of}
+use Rattle.hcc_shard.specs.Callers.{geometry_of, view_of, SearchesAt}
 use Rattle.hcc_shard.specs.Seated.{Rests}
 use Rattle.hcc_cache.specs.declared.cache.Cache.{Cache}
 use Rattle.hcc_cache.specs.declared.client.Client.{Client}
@@ -21,11 +22,11 @@ use Rattle.hcc_cache.specs.declared.handle.Handle.{Handle}
 use Rattle.hcc_cache.specs.declared.holding.Hold.{Hold}
 use Rattle.hcc_cache.specs.declared.holding.Kept.TheVariants.{Pinned}
 use Rattle.hcc_cache.specs.declared.seeded.Seeded.{Seeded}
-use Rattle.hcc_cache.specs.Calls.{Finds, Gains, KeepsAll, Misses, TakesAtMost, UsesNone, Works, shard_in}
+use Rattle.hcc_cache.specs.Calls.{Finds, Gains, KeepsAll, Misses, SearchesFor, TakesAtMost, UsesNone, Works, shard_in}
 use Rattle.hcc_cache.specs.Clients.{held_entry, pin_of}
 use Rattle.hcc_cache.specs.Keys.{fits_seeded, key_from, key_to, shard_of}
 use Rattle.hcc_cache.specs.Known.{IsSeated, Knows}
-use Rattle.hcc_cache.proofs.At.{ChangesAt, IsAt, knows_at, seated_at, takes_at, works_at}
+use Rattle.hcc_cache.proofs.At.{ChangesAt, IsAt, did_at, knows_at, seated_at, takes_at, works_at}
 use Rattle.hcc_cache.proofs.Framing.{keeps_all}
 use Rattle.hcc_cache.proofs.Gained.{gains, IsGiven}
 use Rattle.hcc_cache.proofs.Held.{held_rest, stands_rest}
@@ -139,6 +140,17 @@ module _ {T : Type 0} where
         let within = makes.within in
         let steps = makes.steps in
         takes_at cache old new i shard was is at change (7 * cache.geometry.slots) (omega arith)
+
+    -- It says what it found at each probe.
+    pub searched_at : (fits : T → Key → List ℕ → Type 0) (key : Key) (found : Option Handle)
+        → i ≡ shard_in cache key → (pin : Option Pin) → is_some pin ≡ is_some found
+        → SearchesAt (fits_seeded fits) shard (key_to cache.seed key) old.used pin was is
+        → SearchesFor cache fits key found old new
+    searched_at fits key found there pin same searches =
+        did_at cache old new i shard was is at change
+        (λ s a b. (p : Option Pin) × (is_some p ≡ is_some found)
+        × SearchesAt (fits_seeded fits) s (key_to cache.seed key) old.used p a b)
+        (pin, same, searches) (shard_in cache key) there
 
     -- A look-up found none.
     pub misses : (key : Key) → IsLeft old new → i ≡ shard_in cache key

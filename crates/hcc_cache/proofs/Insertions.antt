@@ -1,5 +1,5 @@
 -- A client that asked one shard for an entry: what it needs, and what it knows afterwards.
-use Rattle.std.proofs.Common.{◌≡◌, ℕ, suc, ◌+◌, ◌*◌, ◌^◌, ◌<◌, ◌≤◌, Bool, true, false, List, [], ◌∷◌, ◌++◌, Some, None, Result, Ok, Err, length, get_or, refl, ap, ◌∙◌, append-nil, arith}
+use Rattle.std.proofs.Common.{◌≡◌, ℕ, suc, ◌+◌, ◌*◌, ◌^◌, ◌<◌, ◌≤◌, Bool, true, false, List, [], ◌∷◌, ◌++◌, Some, None, Result, Ok, Err, length, get_or, subst, refl, ap, ◌∙◌, append-nil, arith}
 use Rattle.hcc_core.specs.declared.client.Standalone.{Standalone}
 use Rattle.hcc_core.specs.declared.limits.TheConstants.{MOST_COUNTDOWN}
 use Rattle.hcc_core.specs.declared.slot.Entry.{Entry}
@@ -14,10 +14,12 @@ use Rattle.hcc_charge.specs.declared.reserving.Refused.{Refused}
 use Rattle.hcc_charge.specs.declared.reserving.Refused.TheVariants.{CapacityFull, OccupancyFull, TooLarge}
 use Rattle.hcc_shard.specs.declared.inserting.Inserted.{Inserted}
 use Rattle.hcc_shard.specs.declared.inserting.Inserted.TheVariants.{Dropped, Placed}
+use Rattle.hcc_shard.specs.declared.inserting.Pinned.{Pinned}
 use Rattle.hcc_shard.specs.declared.seat.ShardSeat.{ShardSeat}
 use Rattle.hcc_shard.specs.declared.shard.Shard.{Shard}
 use Rattle.hcc_shard.specs.Callers.{capacity_of, geometry_of, is_strict, plan_of, steps_of, view_of}
 use Rattle.hcc_shard.specs.Inserted.{InsertedBy, IsInsertable, IsUnshown, MakesNoEntry, RefusedBy, Shows, inserting}
+use Rattle.hcc_shard.specs.Reserving.{InsertedAs, PinnedAs}
 use Rattle.hcc_shard.specs.Seated.{Rests}
 use Rattle.hcc_shard.proofs.Names.{length_more}
 use Rattle.hcc_cache.specs.declared.cache.Cache.{Cache}
@@ -25,10 +27,10 @@ use Rattle.hcc_cache.specs.declared.client.Client.{Client}
 use Rattle.hcc_cache.specs.declared.priority.Priority.{Priority}
 use Rattle.hcc_cache.specs.declared.seeded.Seeded.{Seeded}
 use Rattle.hcc_cache.specs.Calls.{TakesAtMost, UsesOne, shard_in}
-use Rattle.hcc_cache.specs.Inserts.{Fails, KeepsHandles, Stores, draft_of, pinned_draft}
+use Rattle.hcc_cache.specs.Inserts.{Fails, KeepsHandles, PinsAt, Stores, StoresAt, draft_of, pinned_draft}
 use Rattle.hcc_cache.specs.Keys.{fits_seeded, key_from}
 use Rattle.hcc_cache.specs.Known.{AreCharged, IsSeated, Knows}
-use Rattle.hcc_cache.proofs.At.{ChangesAt, IsAt, knows_at, next_at, seated_at, takes_at, works_at}
+use Rattle.hcc_cache.proofs.At.{ChangesAt, IsAt, did_at, knows_at, next_at, seated_at, takes_at, works_at}
 use Rattle.hcc_cache.proofs.Framing.{keeps_all}
 use Rattle.hcc_cache.proofs.Held.{held_rest, stands_rest}
 use Rattle.hcc_cache.proofs.Names.{names_later, standings_later}
@@ -213,6 +215,38 @@ module _ {T : Type 0} where
         rw (← slots, ← alike.1, ← alike.2, ← same) told
 
     module _ (change : ChangesAt old new i is) where
+      module _ (fits : T → Key → List ℕ → Type 0) (key : Key) (charge : ℕ) (priority : Priority)
+          (here : i ≡ shard_in cache key) where
+        -- what an insertion did at its shard,
+        pub stores_did : (draft : Draft) → draft ≡ draft_of cache key charge priority (λ c. None)
+            old
+            → (answer : Result Inserted Refused)
+            → InsertedAs (fits_seeded fits) shard draft answer was is
+            → StoresAt cache fits key charge priority answer old new
+        stores_did draft same answer did =
+            did_at cache old new i shard was is at change
+            (λ s a b. InsertedAs (fits_seeded fits) s
+            (draft_of cache key charge priority (λ c. None) old) answer a b)
+            (subst (λ d. InsertedAs (fits_seeded fits) shard d answer was is) same did)
+            (shard_in cache key) here
+
+        -- and one that keeps a reference
+        pub pins_did : (draft : Draft)
+            → draft ≡ draft_of cache key charge priority (λ c. Some c.used) old
+            → (told answer : Result Pinned Refused) → told ≡ answer
+            → PinnedAs (fits_seeded fits) shard draft told was is
+            → PinsAt cache fits key charge priority answer old new
+        pins_did draft same told answer is_told did =
+            did_at cache old new i shard was is at change
+            (λ s a b. PinnedAs (fits_seeded fits) s
+            (draft_of cache key charge priority (λ c. Some c.used) old) answer a b)
+            (subst (λ o. PinnedAs (fits_seeded fits) shard asked o was is) is_told
+            (subst (λ d. PinnedAs (fits_seeded fits) shard d told was is) same did))
+            (shard_in cache key) here
+          where
+            asked : Draft
+            asked = draft_of cache key charge priority (λ c. Some c.used) old
+
       -- the steps of an insertion
       pub inserts_at : steps_of is
           ≤ steps_of was + inserting (geometry_of shard).slots (geometry_of shard).room

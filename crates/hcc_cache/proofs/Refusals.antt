@@ -12,7 +12,7 @@ use Rattle.hcc_cache.specs.declared.cache.Cache.{Cache}
 use Rattle.hcc_cache.specs.declared.client.Client.{Client}
 use Rattle.hcc_cache.specs.declared.errors.InsertError.TheVariants as answers
 use Rattle.hcc_cache.specs.declared.priority.Priority.{Priority}
-use Rattle.hcc_cache.specs.Inserts.{Fails, Inserts, RefusesWith, Stores, answer_of, error_of}
+use Rattle.hcc_cache.specs.Inserts.{Fails, Inserts, InsertsAt, PinsAt, RefusesPinnedAt, RefusesWith, Stores, StoresAt, answer_of, error_of}
 
 -- A refusal by a shard isn't that all serials are used,
 pub not_spent : (why : Refused) → error_of why ≡ answers.Spent → ⊥
@@ -78,3 +78,22 @@ module _ {T : Type 0} where
     refuses_told TooLarge fits fails = absurd (fits refl)
     refuses_told CapacityFull fits fails = fails
     refuses_told OccupancyFull fits fails = fails
+
+    module _ (fits : T → Key → List ℕ → Type 0) where
+      -- So is what it did at its shard.
+      pub inserts_did : (answer : Result Inserted Refused)
+          → (answer_of answer ≡ Err answers.TooLarge → ⊥)
+          → StoresAt cache fits key charge priority answer old new
+          → InsertsAt cache fits key charge priority (answer_of answer) old new
+      inserts_did (Ok Placed) small did = did
+      inserts_did (Ok Dropped) small did = did
+      inserts_did (Err TooLarge) small did = absurd (small refl)
+      inserts_did (Err CapacityFull) small did = did
+      inserts_did (Err OccupancyFull) small did = did
+
+      pub refuses_did : (why : Refused) → (error_of why ≡ answers.TooLarge → ⊥)
+          → PinsAt cache fits key charge priority (Err why) old new
+          → RefusesPinnedAt cache fits key charge priority (error_of why) old new
+      refuses_did TooLarge small did = absurd (small refl)
+      refuses_did CapacityFull small did = did
+      refuses_did OccupancyFull small did = did

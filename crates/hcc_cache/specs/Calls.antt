@@ -1,5 +1,6 @@
 -- What each call leaves of a client.
-use Rattle.std.specs.Prelude.{◌≡◌, ℕ, ◌+◌, ◌≤◌, ◌++◌, ◌&&◌, Bool, true, false, List, [], ◌∷◌, Option, Some, None, IsSome, find, length, slice_get}
+use Rattle.std.specs.Prelude.{◌≡◌, ℕ, ◌+◌, ◌≤◌, ◌++◌, ◌&&◌, Bool, true, false, List, [], ◌∷◌, Option, Some, None, IsSome, find, is_some, length, slice_get}
+use Rattle.std.specs.declared.alloc.Global.{Global}
 use Rattle.hcc_core.specs.declared.slot.Entry.{Entry}
 use Rattle.hcc_core.specs.Lawful.{is_in}
 use Rattle.hcc_core.specs.Ledgers.{is_standing}
@@ -8,11 +9,12 @@ use Rattle.hcc_rule.specs.declared.key.Key.{Key}
 use Rattle.hcc_rule.specs.declared.view.Record.{Record}
 use Rattle.hcc_rule.specs.declared.view.View.{View}
 use Rattle.hcc_rule.specs.Words.{key_of}
+use Rattle.hcc_table.specs.declared.pins.Pin.{Pin}
 use Rattle.hcc_table.specs.Searched.{AllDead, IsFound, IsMissed, Searched}
 use Rattle.hcc_charge.specs.Settled.{fallen}
 use Rattle.hcc_shard.specs.declared.seat.ShardSeat.{ShardSeat}
 use Rattle.hcc_shard.specs.declared.shard.Shard.{Shard}
-use Rattle.hcc_shard.specs.Callers.{GivesBackAt, steps_of}
+use Rattle.hcc_shard.specs.Callers.{ErasesAt, GivesBackAt, SearchesAt, steps_of}
 use Rattle.hcc_shard.specs.Referred.{IsErasedAll, IsReleased}
 use Rattle.hcc_cache.specs.declared.cache.Cache.{Cache}
 use Rattle.hcc_cache.specs.declared.client.Client.{Client}
@@ -60,6 +62,33 @@ module _ {T : Type 0} (cache : Cache T) where
   -- the number of a key's shard
   abbrev pub shard_in : Key → ℕ
   shard_in key = shard_of (key_to cache.seed key) (length cache.shards.items)
+
+  -- What the client's seat at the shard of this number was and is, and what it did there.
+  pub record AtShard (Did : Shard (Seeded T) Global → (old new : ShardSeat (Seeded T)) → Type 0)
+      (number : ℕ) (old new : Client T) : Type 0 where
+    pub shard : Shard (Seeded T) Global
+    pub was : ShardSeat (Seeded T)
+    pub is : ShardSeat (Seeded T)
+    pub shard_is : slice_get cache.shards.items number ≡ Some shard
+    pub seat_was : slice_get old.seats.items number ≡ Some was
+    pub seat_is : slice_get new.seats.items number ≡ Some is
+    pub did : Did shard was is
+
+  -- The key was looked for in its shard, under the client's next serial: what was found at each
+  -- probe, where this handle was given or none.
+  abbrev pub SearchesFor : (fits : T → Key → List ℕ → Type 0) → Key → Option Handle
+      → (old new : Client T) → Type 0
+  SearchesFor fits key found old new =
+      AtShard (λ shard was is. (pin : Option Pin) × (is_some pin ≡ is_some found)
+      × SearchesAt (fits_seeded fits) shard (key_to cache.seed key) old.used pin was is)
+      (shard_in key) old new
+
+  -- The key was erased in its shard: what was found and hidden at each probe, so many in all.
+  abbrev pub ErasesFor : (fits : T → Key → List ℕ → Type 0) → Key → (hidden : ℕ)
+      → (old new : Client T) → Type 0
+  ErasesFor fits key hidden old new =
+      AtShard (λ shard was is. ErasesAt (fits_seeded fits) shard (key_to cache.seed key) hidden was
+      is) (shard_in key) old new
 
   -- Handles other than this one stand for what they stood for.
   abbrev pub KeepsBut : Handle → (old new : Client T) → Type 0

@@ -12,6 +12,7 @@ use Rattle.hcc_shard.specs.declared.inserting.Inserted.{Inserted as Stored}
 use Rattle.hcc_shard.specs.declared.inserting.Pinned.{Pinned}
 use Rattle.hcc_shard.specs.declared.inserting.Pinned.TheVariants as pinned
 use Rattle.hcc_shard.specs.Inserted.{InsertedBy, PinnedBy}
+use Rattle.hcc_shard.specs.Reserving.{InsertedAs, PinnedAs}
 use Rattle.hcc_cache.specs.declared.cache.Cache.{Cache}
 use Rattle.hcc_cache.specs.declared.client.Client.{Client}
 use Rattle.hcc_cache.specs.declared.errors.InsertError.{InsertError}
@@ -21,9 +22,9 @@ use Rattle.hcc_cache.specs.declared.inserting.Inserted.{Inserted}
 use Rattle.hcc_cache.specs.declared.inserting.Inserted.TheVariants.{Placed, Dropped, Standalone}
 use Rattle.hcc_cache.specs.declared.priority.Priority.{Priority}
 use Rattle.hcc_cache.specs.declared.seeded.Seeded.{Seeded}
-use Rattle.hcc_cache.specs.Calls.{Gains, UsesOne, Works, shard_in}
+use Rattle.hcc_cache.specs.Calls.{AtShard, Gains, UsesOne, Works, shard_in}
 use Rattle.hcc_cache.specs.Clients.{held_by, held_of}
-use Rattle.hcc_cache.specs.Keys.{key_to}
+use Rattle.hcc_cache.specs.Keys.{fits_seeded, key_to}
 use Rattle.hcc_cache.specs.Priorities.{countdown_of}
 
 -- why a shard refuses, as the caller is told it
@@ -125,3 +126,44 @@ module _ {T : Type 0} (cache : Cache T) (key : Key) (charge : ℕ) (priority : P
     RefusesWith TooLarge old new = new ≡ old
     RefusesWith CapacityFull old new = Fails refused.CapacityFull old new
     RefusesWith OccupancyFull old new = Fails refused.OccupancyFull old new
+
+-- What an insertion did at the shard of its key, told of the client's seat there: what it evicted,
+-- for what it asked, how the counts rose, and where the entry is or why it is nowhere.
+module _ {T : Type 0} (cache : Cache T) (fits : T → Key → List ℕ → Type 0) (key : Key) (charge : ℕ)
+    (priority : Priority) where
+  abbrev pub StoresAt : Result Stored Refused → (old new : Client T) → Type 0
+  StoresAt answer old new =
+      AtShard cache (λ shard was is. InsertedAs (fits_seeded fits) shard
+      (draft_of cache key charge priority (λ c. None) old) answer was is)
+      (shard_in cache key) old new
+
+  -- an insertion, by its answer
+  abbrev pub InsertsAt : Result Inserted InsertError → (old new : Client T) → Type 0
+  InsertsAt (Ok Placed) old new = StoresAt (Ok stored.Placed) old new
+  InsertsAt (Ok Dropped) old new = StoresAt (Ok stored.Dropped) old new
+  InsertsAt (Ok Standalone) old new = ⊥
+  InsertsAt (Err HandlesFull) old new = ⊥
+  InsertsAt (Err Spent) old new = new ≡ old
+  InsertsAt (Err TooLarge) old new = new ≡ old
+  InsertsAt (Err CapacityFull) old new = StoresAt (Err refused.CapacityFull) old new
+  InsertsAt (Err OccupancyFull) old new = StoresAt (Err refused.OccupancyFull) old new
+
+  abbrev pub PinsAt : Result Pinned Refused → (old new : Client T) → Type 0
+  PinsAt answer old new =
+      AtShard cache (λ shard was is. PinnedAs (fits_seeded fits) shard
+      (draft_of cache key charge priority (λ c. Some c.used) old) answer was is)
+      (shard_in cache key) old new
+
+  -- one that gives a handle
+  abbrev pub InsertsPinnedAt : Inserted → (old new : Client T) → Type 0
+  InsertsPinnedAt Placed old new = (pin : Pin) × PinsAt (Ok (pinned.Placed pin)) old new
+  InsertsPinnedAt Dropped old new = ⊥
+  InsertsPinnedAt Standalone old new = PinsAt (Ok pinned.Standalone) old new
+
+  -- and one that is refused
+  abbrev pub RefusesPinnedAt : InsertError → (old new : Client T) → Type 0
+  RefusesPinnedAt HandlesFull old new = new ≡ old
+  RefusesPinnedAt Spent old new = new ≡ old
+  RefusesPinnedAt TooLarge old new = new ≡ old
+  RefusesPinnedAt CapacityFull old new = PinsAt (Err refused.CapacityFull) old new
+  RefusesPinnedAt OccupancyFull old new = PinsAt (Err refused.OccupancyFull) old new

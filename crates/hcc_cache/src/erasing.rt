@@ -1,7 +1,7 @@
 //! Erasures.
 ghost use Rattle.std.specs.Prelude.{◌≡◌, ◌+◌, ◌*◌};
 ghost use Rattle.hcc_table.specs.Steps.{freeing};
-ghost use Rattle.hcc_cache.specs.Calls.{Erases, TakesAtMost};
+ghost use Rattle.hcc_cache.specs.Calls.{Erases, ErasesFor, TakesAtMost};
 ghost use Rattle.hcc_cache.specs.Known.{Knows};
 
 use crate::cache::Cache;
@@ -12,7 +12,8 @@ use hcc_rule::{Key, Tag};
 impl<T: Tag> Cache<T> {
     /// Hides each visible entry of the key: look-ups find none of them from then on. Those on which
     /// there is no handle, this client's neither, are freed, where the one compare-exchange for it
-    /// wins. It returns how many were hidden.
+    /// wins. It returns how many were hidden. Each slot that was visited and found visible with the
+    /// key was hidden, and the search ended as a miss does.
     ///
     /// Each entry of the key that the client holds has been seen dead afterwards; its handles show
     /// what they showed. It refuses nothing and allocates nothing. Each probe costs what it costs a
@@ -22,6 +23,7 @@ impl<T: Tag> Cache<T> {
         requires { Knows self.now client.old }
         ensures known { Knows self.now client.new }
         ensures erased { Erases self.now key result client.old client.new }
+        ensures searched { ErasesFor self.now T.fits key result client.old client.new }
         ensures steps { TakesAtMost
             ((freeing self.now.geometry.slots + 9) * self.now.geometry.slots + 2)
             client.old client.new }

@@ -5,7 +5,7 @@ ghost use Rattle.hcc_cache.specs.declared.holding.Kept.TheVariants.{Standing};
 ghost use Rattle.hcc_shard.specs.Inserted.{inserting};
 ghost use Rattle.hcc_cache.specs.Calls.{TakesAtMost};
 ghost use Rattle.hcc_cache.specs.Clients.{held_by};
-ghost use Rattle.hcc_cache.specs.Inserts.{Inserts, InsertsWith, RefusesWith, answer_of};
+ghost use Rattle.hcc_cache.specs.Inserts.{Inserts, InsertsAt, InsertsPinnedAt, InsertsWith, RefusesPinnedAt, RefusesWith, answer_of};
 ghost use Rattle.hcc_cache.specs.Known.{Knows};
 
 use crate::cache::Cache;
@@ -78,6 +78,8 @@ impl<T: Tag> Cache<T> {
             × (self.now.capacity < charge)) }
         ensures inserted { Inserts self.now key charge priority value.now result
             client.old client.new }
+        ensures evicts { InsertsAt self.now T.fits key charge priority result
+            client.old client.new }
         ensures steps { TakesAtMost
             (inserting self.now.geometry.slots self.now.geometry.room)
             client.old client.new }
@@ -108,6 +110,8 @@ impl<T: Tag> Cache<T> {
         requires small { self.now.strict ≡ true → charge ≤ self.now.capacity }
         ensures known { Knows self.now client.new }
         ensures inserted { Inserts self.now key charge priority value.now result
+            client.old client.new }
+        ensures evicts { InsertsAt self.now T.fits key charge priority result
             client.old client.new }
         ensures no_spent { ¬ IsErrOf result InsertError.Spent }
         ensures no_large { ¬ IsErrOf result InsertError.TooLarge }
@@ -205,6 +209,11 @@ impl<T: Tag> Cache<T> {
             client.old client.new)
             (λ e. RefusesWith self.now key charge priority value.items e.0
             client.old client.new) }
+        ensures evicts { MatchResult result
+            (λ made. InsertsPinnedAt self.now T.fits key charge priority made.1
+            client.old client.new)
+            (λ e. RefusesPinnedAt self.now T.fits key charge priority e.0
+            client.old client.new) }
         ensures steps { TakesAtMost
             (inserting self.now.geometry.slots self.now.geometry.room)
             client.old client.new }
@@ -243,6 +252,11 @@ impl<T: Tag> Cache<T> {
             (λ made. InsertsWith self.now key charge priority value.items made.0 made.1
             client.old client.new)
             (λ e. RefusesWith self.now key charge priority value.items e.0
+            client.old client.new) }
+        ensures evicts { MatchResult result
+            (λ made. InsertsPinnedAt self.now T.fits key charge priority made.1
+            client.old client.new)
+            (λ e. RefusesPinnedAt self.now T.fits key charge priority e.0
             client.old client.new) }
         ensures steps { TakesAtMost
             (inserting self.now.geometry.slots self.now.geometry.room)

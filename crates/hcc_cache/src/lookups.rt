@@ -1,7 +1,7 @@
 //! Look-ups, and more handles on what is held.
 ghost use Rattle.std.specs.Prelude.{◌≡◌, ◌*◌, ◌<◌, ◌≤◌, ◌↔◌, IfSome, IfNone, IfOk, OnErr, IsErrOf, Some, length};
 ghost use Rattle.hcc_cache.specs.declared.holding.Kept.TheVariants.{Pinned, Standing};
-ghost use Rattle.hcc_cache.specs.Calls.{Finds, Misses, Rerefs, TakesAtMost};
+ghost use Rattle.hcc_cache.specs.Calls.{Finds, Misses, Rerefs, SearchesFor, TakesAtMost};
 ghost use Rattle.hcc_cache.specs.Clients.{held_by, hold_of, Holds};
 ghost use Rattle.hcc_cache.specs.Keys.{shard_of};
 ghost use Rattle.hcc_cache.specs.Known.{AreAlike, Knows};
@@ -20,6 +20,10 @@ impl<T: Tag> Cache<T> {
     /// entry that it hadn't seen erased, with a value that fits the key. Where it finds none, the
     /// client holds what it held, and has seen dead each entry of the key that it holds.
     ///
+    /// A miss is a miss: each slot that it passed, at least one, was found not visible or with
+    /// another key, and it ended where no entry's trail went on, or after all slots. So if all that
+    /// it found is what the shard was at one moment, the key was in no slot then.
+    ///
     /// It is refused where the client holds all the handles that it may, then where it has used all
     /// its serials; nothing is changed then. A handle uses a serial. It allocates nothing. It costs
     /// what a look-up in the key's shard costs: at a first hit a load, an add and two loads.
@@ -35,6 +39,8 @@ impl<T: Tag> Cache<T> {
             Finds self.now T.fits key handle client.old client.new)) }
         ensures missed { IfOk result (λ o. IfNone o
             (Misses self.now key client.old client.new)) }
+        ensures searched { IfOk result (λ found.
+            SearchesFor self.now T.fits key found client.old client.new) }
         ensures steps { TakesAtMost (7 * self.now.geometry.slots) client.old client.new }
     {
         client.may_hold()?; // Before anything is changed.
@@ -49,6 +55,7 @@ impl<T: Tag> Cache<T> {
         ensures found { IfSome result (λ handle.
             Finds self.now T.fits key handle client.old client.new) }
         ensures missed { IfNone result (Misses self.now key client.old client.new) }
+        ensures searched { SearchesFor self.now T.fits key result client.old client.new }
         ensures steps { TakesAtMost (7 * self.now.geometry.slots) client.old client.new }
     {
         let under = key_to(self.seed, key);

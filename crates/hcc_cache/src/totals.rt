@@ -2,7 +2,8 @@
 ghost use Rattle.std.specs.Prelude.{◌≡◌, ◌+◌, ◌-◌, ◌*◌, ◌^◌, ◌<◌, ◌≤◌, true, ℕ, length};
 ghost use Rattle.hcc_rule.specs.Told.{after_look, Backs};
 ghost use Rattle.hcc_rule.specs.ToldTrails.{passed_held};
-ghost use Rattle.hcc_cache.specs.Calls.{KeepsAll, Reads, TakesAtMost, Works};
+ghost use Rattle.hcc_shard.specs.Callers.{LoadsDisplacement, LoadsWord};
+ghost use Rattle.hcc_cache.specs.Calls.{AtShard, KeepsAll, Reads, TakesAtMost, Works};
 ghost use Rattle.hcc_cache.specs.Clients.{view_at};
 ghost use Rattle.hcc_cache.specs.Known.{Knows};
 ghost use Rattle.hcc_cache.specs.Totals.{charge_by, charge_in, entries_by, made_by, no_stats, stats_over, stats_with, taken_by, LoadsUsages, SearchesAll};
@@ -135,7 +136,7 @@ impl<T: Tag> Cache<T> {
         self.shards[shard].occupancy(seat)
     }
 
-    /// The meta word of a slot of a shard.
+    /// The meta word of a slot of a shard, as one load found it.
     ///
     /// Where the client holds references on the slot, the word is that of an entry with at least
     /// these. Both numbers are in range. It refuses nothing and allocates nothing. It costs one
@@ -149,6 +150,8 @@ impl<T: Tag> Cache<T> {
         ensures view { Works shard client.old client.new (view_at shard client.old)
             (after_look slot result (view_at shard client.old)) }
         ensures backs { Backs slot result (view_at shard client.old) }
+        ensures loads { AtShard self.now (λ at was is. LoadsWord at slot result was is) shard
+            client.old client.new }
         ensures steps { TakesAtMost 1 client.old client.new }
     {
         let shard = shard as usize;
@@ -156,8 +159,9 @@ impl<T: Tag> Cache<T> {
         self.shards[shard].word(seat, slot)
     }
 
-    /// How often a slot of a shard stands in the trails of entries and of clients: at least the
-    /// number of entries that the client holds, each once, whose trail has the slot.
+    /// How often a slot of a shard stands in the trails of entries and of clients, as one load
+    /// found it: at least the number of entries that the client holds, each once, whose trail has
+    /// the slot.
     ///
     /// Both numbers are in range. It refuses nothing and allocates nothing. It costs one load.
     pub fn displacement(&self, client: &mut Client<T>, shard: u32, slot: u32) -> u64
@@ -168,6 +172,9 @@ impl<T: Tag> Cache<T> {
         ensures reads { Reads self.now client.old client.new }
         ensures entries { passed_held self.now.geometry.slots slot
             (view_at shard client.old).records ≤ result }
+        ensures loads { AtShard self.now (λ at was is. LoadsDisplacement at slot result was is)
+            shard
+            client.old client.new }
         ensures steps { TakesAtMost 1 client.old client.new }
     {
         let shard = shard as usize;

@@ -1,8 +1,8 @@
 use Rattle.std.proofs.Common.{◌≡◌, refl, ap}
-use Rattle.hcc_shard.specs.Callers.{view_of}
+use Rattle.hcc_shard.specs.Callers.{view_of, LoadsDisplacement}
 use Rattle.hcc_rule.specs.declared.geometry.Geometry.{Geometry}
 use Rattle.hcc_cache.specs.Clients.{view_by}
-use Rattle.hcc_cache.proofs.At.{is_at, seated_at}
+use Rattle.hcc_cache.proofs.At.{did_at, is_at, seated_at}
 use Rattle.hcc_cache.proofs.Resting.{keeps_same, knows_same, same_all}
 use Rattle.hcc_cache.proofs.Seats.{part_same, steps_set}
 use Rattle.hcc_cache.proofs.cache.Cache.displacement.Goals as goal
@@ -53,6 +53,17 @@ returns-clause-entries g c =
     (x : Geometry). x.slots) (at.knows.alike.plans c.args.shard c.index.result.now
     at.shard_is).0 in
     rw (ap view_by at.seat_is, ← slots) c.displacement.ensures.entries
+
+pub returns-clause-loads : goal.returns-clause-loads
+returns-clause-loads g c =
+    let was = c.index_mut-seat.result.now in
+    let at = is_at c.args.self.now c.args.client.now c.args.shard c.index.result.now was
+    c.requires.known c.requires.shard c.index.ensures c.index_mut-seat.ensures.value in
+    did_at c.args.self.now c.args.client.now _ c.args.shard c.index.result.now was
+    c.displacement.new.seat at
+    (record { seats = refl; number = refl; most = refl; capacity = (refl, refl) })
+    (λ s a b. LoadsDisplacement s c.args.slot c.displacement.result a b)
+    c.displacement.ensures.loads c.args.shard refl
 
 pub returns-clause-steps : goal.returns-clause-steps
 returns-clause-steps g c =

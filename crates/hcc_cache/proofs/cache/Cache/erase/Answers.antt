@@ -3,11 +3,11 @@ use Rattle.std.specs.Vec.{with_item}
 use Rattle.hcc_rule.specs.declared.geometry.Geometry.{Geometry}
 use Rattle.hcc_table.specs.Searched.{AllDead}
 use Rattle.hcc_table.specs.Steps.{freeing}
-use Rattle.hcc_shard.specs.Callers.{view_of}
+use Rattle.hcc_shard.specs.Callers.{view_of, ErasesAt}
 use Rattle.hcc_cache.specs.declared.client.Client.{Client}
 use Rattle.hcc_cache.specs.Calls.{Works, shard_in}
-use Rattle.hcc_cache.specs.Keys.{key_to, shard_of}
-use Rattle.hcc_cache.proofs.At.{is_at, seated_at, works_at}
+use Rattle.hcc_cache.specs.Keys.{fits_seeded, key_to, shard_of}
+use Rattle.hcc_cache.proofs.At.{did_at, is_at, seated_at, works_at}
 use Rattle.hcc_cache.proofs.Dead.{all_held_dead}
 use Rattle.hcc_cache.proofs.Resting.{keeps_same, knows_same, same_erased}
 use Rattle.hcc_cache.proofs.Seats.{steps_set}
@@ -67,6 +67,22 @@ returns-clause-erased g c =
           (same_erased (view_of was) (view_of c.erase.new.seat) c.key_to-under.result
           c.erase.result c.erase.ensures.view) refl (record { rest = refl });
     }
+
+pub returns-clause-searched : goal.returns-clause-searched
+returns-clause-searched g c =
+    let cache = c.args.self.now in
+    let old = c.args.client.now in
+    let i = c.shard_number-shard.result in
+    let was = c.index_mut-seat.result.now in
+    let at = is_at cache old i c.index.result.now was c.requires
+    c.shard_number-shard.ensures.inside c.index.ensures c.index_mut-seat.ensures.value in
+    let words = c.key_to-under.ensures.words in
+    let there = c.shard_number-shard.ensures.value
+    ∙ ap (λ k. shard_of k (length cache.shards.items)) words in
+    did_at cache old _ i c.index.result.now was c.erase.new.seat at
+    (record { seats = refl; number = refl; most = refl; capacity = (refl, refl) })
+    (λ s a b. ErasesAt (fits_seeded g.T.Tag.fits) s (key_to cache.seed c.args.key) c.erase.result a
+    b) (rw (← words) c.erase.ensures.erases) (shard_in cache c.args.key) there
 
 pub returns-clause-steps : goal.returns-clause-steps
 returns-clause-steps g c =

@@ -1,10 +1,10 @@
-use Rattle.std.proofs.Common.{◌≡◌, ◌∙◌, ◌-◌, length, ap, refl, arith}
+use Rattle.std.proofs.Common.{◌≡◌, ◌∙◌, ◌-◌, None, Some, is_some, length, ap, refl, arith}
 use Rattle.std.specs.Vec.{with_item}
 use Rattle.hcc_cache.specs.declared.client.Client.{Client}
 use Rattle.hcc_cache.specs.declared.holding.Hold.{Hold}
 use Rattle.hcc_cache.specs.Keys.{shard_of}
 use Rattle.hcc_cache.proofs.At.{ChangesAt, few_at, is_at, next_at, seated_at}
-use Rattle.hcc_cache.proofs.Found.{finds, knows_more, knows_sought, looks_at, misses}
+use Rattle.hcc_cache.proofs.Found.{finds, knows_more, knows_sought, looks_at, misses, searched_at}
 use Rattle.hcc_cache.proofs.Gained.{IsGiven}
 use Rattle.hcc_cache.proofs.cache.Cache.found.Goals as goal
 
@@ -75,6 +75,25 @@ returns-in_err-pin-clause-missed g c =
     (record { handles = refl; alone = refl; held = refl; uses = (refl, refl) })
     (c.shard_number-shard.ensures.value ∙ ap (λ k. shard_of k shards) words)
     (rw words at c.in_err-pin.ensures.missed))
+
+pub returns-in_err-pin-clause-searched : goal.returns-in_err-pin-clause-searched
+returns-in_err-pin-clause-searched g c =
+    let cache = c.args.self.now in
+    let old = c.args.client.now in
+    let i = c.shard_number-shard.result in
+    let shard = c.index.result.now in
+    let was = c.index_mut-seat.result.now in
+    let is = c.lookup.new.seat in
+    let at = is_at cache old i shard was c.requires.known c.shard_number-shard.ensures.inside
+    c.index.ensures c.index_mut-seat.ensures.value in
+    let words = c.key_to-under.ensures.words in
+    let shards = length cache.shards.items in
+    rw (c.from_residual.ensures)
+    (searched_at cache old _ i shard was is at
+    (record { seats = refl; number = refl; most = refl; capacity = (refl, refl) })
+    g.T.Tag.fits c.args.key None
+    (c.shard_number-shard.ensures.value ∙ ap (λ k. shard_of k shards) words) c.lookup.result
+    (ap is_some c.in_err-pin.was) (rw words at c.lookup.ensures.searches))
 
 pub returns-in_err-pin-clause-steps : goal.returns-in_err-pin-clause-steps
 returns-in_err-pin-clause-steps g c =
@@ -150,6 +169,11 @@ returns g c =
           (c.shard_number-shard.ensures.value ∙ ap (λ k. shard_of k shards) words)
           (rw words at c.key_to-under.ensures.undone) (rw words at told.1);
       missed = tt;
+      searched =
+          searched_at cache old new i shard was is at change g.T.Tag.fits c.args.key
+          (Some c.keep.result)
+          (c.shard_number-shard.ensures.value ∙ ap (λ k. shard_of k shards) words) c.lookup.result
+          (ap is_some c.in_ok-pin.was) (rw words at c.lookup.ensures.searches);
       steps =
           looks_at cache old new i shard was is at change was.effort is.effort
           c.lookup.ensures.steps;

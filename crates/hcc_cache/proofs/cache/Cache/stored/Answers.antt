@@ -6,8 +6,8 @@ use Rattle.hcc_cache.specs.declared.client.Client.{Client}
 use Rattle.hcc_cache.specs.Inserts.{draft_of}
 use Rattle.hcc_cache.specs.Keys.{shard_of}
 use Rattle.hcc_cache.proofs.At.{ChangesAt, is_at, seated_at}
-use Rattle.hcc_cache.proofs.Insertions.{IsAsked, insertable_at, inserts_at, knows_asked, leaves_stored, stores_at, told_as}
-use Rattle.hcc_cache.proofs.Refusals.{answers_small, answers_unspent, inserts_told}
+use Rattle.hcc_cache.proofs.Insertions.{IsAsked, insertable_at, inserts_at, knows_asked, leaves_stored, stores_at, stores_did, told_as}
+use Rattle.hcc_cache.proofs.Refusals.{answers_small, answers_unspent, inserts_did, inserts_told}
 use Rattle.hcc_cache.proofs.cache.Cache.stored.Goals as goal
 
 pub insert-requires-clause-seat : goal.insert-requires-clause-seat
@@ -107,6 +107,12 @@ returns g c =
           answer small
           (stores_at cache old _ i shard was is at change c.insert.ensures.seat left changed
           c.args.key c.args.charge c.args.priority c.args.value.now here answer told));
+      evicts =
+          rw c.answered.ensures
+          (inserts_did cache c.args.key c.args.charge c.args.priority c.args.value.now old _
+          g.T.Tag.fits answer small
+          (stores_did cache old _ i shard was is at change g.T.Tag.fits c.args.key c.args.charge
+          c.args.priority here draft same answer c.insert.ensures.evicts));
       no_spent = rw c.answered.ensures (answers_unspent answer);
       no_large = rw c.answered.ensures small;
       steps = inserts_at cache old _ i shard was is at change c.insert.ensures.steps;

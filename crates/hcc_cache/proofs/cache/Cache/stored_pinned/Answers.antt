@@ -1,4 +1,4 @@
-use Rattle.std.proofs.Common.{◌≡◌, ◌∙◌, ◌-◌, Some, length, ap, refl, arith}
+use Rattle.std.proofs.Common.{◌≡◌, ◌∙◌, ◌-◌, Some, Ok, Err, length, ap, refl, arith}
 use Rattle.hcc_rule.specs.declared.steps.shows.Draft.{Draft}
 use Rattle.hcc_shard.specs.declared.inserting.Pinned.TheVariants.{Placed, Standalone}
 use Rattle.hcc_shard.specs.Callers.{view_of}
@@ -12,8 +12,8 @@ use Rattle.hcc_cache.proofs.Alone.{IsJoined}
 use Rattle.hcc_cache.proofs.At.{ChangesAt, few_at, is_at, seated_at}
 use Rattle.hcc_cache.proofs.Gained.{IsGiven}
 use Rattle.hcc_cache.proofs.Handing.{few_alone, has_room, hold_with, knows_alone, knows_pins, pinned_told, pins_at, stands_at}
-use Rattle.hcc_cache.proofs.Insertions.{IsAsked, fails_at, insertable_at, inserts_at, knows_asked, leaves_refused, leaves_unshown, told_as}
-use Rattle.hcc_cache.proofs.Refusals.{not_full, not_large, not_spent, refuses_told}
+use Rattle.hcc_cache.proofs.Insertions.{IsAsked, fails_at, insertable_at, inserts_at, knows_asked, leaves_refused, leaves_unshown, pins_did, told_as}
+use Rattle.hcc_cache.proofs.Refusals.{not_full, not_large, not_spent, refuses_did, refuses_told}
 use Rattle.hcc_cache.proofs.cache.Cache.stored_pinned.Goals as goal
 
 pub insert_pinned-requires-clause-seat : goal.insert_pinned-requires-clause-seat
@@ -138,6 +138,12 @@ returns-in-Ok-Placed g c =
           pins_at cache old new i shard was is at change c.insert_pinned.ensures.seat
           c.keep-handle.result c.args.key c.pinned.result given c.requires.free.0 c.args.charge
           c.args.priority value here pin undone alone c.pinned.ensures told;
+      evicts = (
+        pin,
+        pins_did cache old new i shard was is at change g.T.Tag.fits c.args.key c.args.charge
+            c.args.priority here draft same (Ok c.in-Ok-Placed.field-0) (Ok (Placed pin))
+            (ap Ok c.in-Ok-Placed.field-0-is) c.in-Ok-Placed.ensures.evicts,
+      );
       steps = inserts_at cache old new i shard was is at change c.insert_pinned.ensures.steps;
     }
 
@@ -225,6 +231,10 @@ returns-in-Ok-Standalone g c =
           c.keep_alone-handle.result c.args.key (Standing kept.0) given c.requires.free.0
           c.args.charge c.args.priority value here kept.0 alone refl refl refl left.tried joined
           told;
+      evicts =
+          pins_did cache old new i shard was is at change g.T.Tag.fits c.args.key c.args.charge
+          c.args.priority here draft same (Ok c.in-Ok-Standalone.field-0) (Ok Standalone)
+          (ap Ok c.in-Ok-Standalone.field-0-is) c.in-Ok-Standalone.ensures.evicts;
       steps = inserts_at cache old new i shard was is at change c.insert_pinned.ensures.steps;
     }
 
@@ -295,5 +305,11 @@ returns-in-Err g c =
           (refuses_told cache c.args.key c.args.charge c.args.priority value old new why small
           (fails_at cache old new i shard was is at change c.insert_pinned.ensures.seat left changed
           c.args.key c.args.charge c.args.priority value here why told));
+      evicts =
+          rw c.from.ensures
+          (refuses_did cache c.args.key c.args.charge c.args.priority value old new g.T.Tag.fits why
+          small
+          (pins_did cache old new i shard was is at change g.T.Tag.fits c.args.key c.args.charge
+          c.args.priority here draft same (Err why) (Err why) refl c.in-Err.ensures.evicts));
       steps = inserts_at cache old new i shard was is at change c.insert_pinned.ensures.steps;
     }
