@@ -6,14 +6,14 @@ use Rattle.hcc_core.proofs.ListLemmas.{read_last}
 use Rattle.hcc_rule.specs.declared.geometry.Geometry.{Geometry}
 use Rattle.hcc_rule.specs.declared.key.Key.{Key}
 use Rattle.hcc_rule.specs.declared.view.View.{View}
-use Rattle.hcc_rule.specs.Closing.{Closes, words_of}
+use Rattle.hcc_rule.specs.Closing.{Closes, IsWithin, words_of}
 use Rattle.hcc_rule.specs.Views.{named_by, weight_on}
 use Rattle.hcc_rule.proofs.Basics.Lists.{there, within}
 use Rattle.hcc_rule.proofs.Entries.ShowParts.{get_front}
 use Rattle.hcc_shard.specs.declared.entries.ClosedShard.{ClosedShard}
 use Rattle.hcc_shard.specs.declared.seat.ShardSeat.{ShardSeat}
 use Rattle.hcc_shard.specs.declared.shard.Shard.{Shard}
-use Rattle.hcc_shard.specs.Callers.{geometry_of, plan_of, view_of}
+use Rattle.hcc_shard.specs.Callers.{capacity_of, geometry_of, is_strict, plan_of, view_of}
 use Rattle.hcc_shard.proofs.Values.{value_kept}
 use Rattle.hcc_cache.specs.declared.cache.Cache.{Cache}
 use Rattle.hcc_cache.specs.declared.client.Client.{Client}
@@ -49,6 +49,7 @@ module _ {T : Type 0} (fits : T → Key → List ℕ → Type 0) (cache : Cache 
     pub size : left.table.geometry ≡ cache.geometry
     pub closes : Closes (fits_seeded fits) (record { tag = cache.tag; seed = cache.seed })
         cache.geometry (words_of left.table) (all_joined (views_at s old))
+    pub within : IsWithin cache.geometry cache.capacity cache.strict (words_of left.table)
 
   -- The first shards stand, the others are closed, the last one first, and the clients have the
   -- seats of the first alone.
@@ -197,12 +198,12 @@ module _ {T : Type 0} (fits : T → Key → List ℕ → Type 0) (cache : Cache 
       view_is : view_of seat ≡ all_joined (views_at (length shards) old)
       view_is = viewed ∙ ap all_joined last_views
 
-      alike : (geometry_of shard ≡ cache.geometry)
+      alike : (geometry_of shard ≡ cache.geometry) × (capacity_of shard ≡ cache.capacity)
+          × (is_strict shard ≡ cache.strict)
           × ((plan_of shard).tag ≡ record { tag = cache.tag; seed = cache.seed })
       alike =
           let client = there old 0 some in
-          let plans = (back.known 0 client.0 client.1).alike.plans (length shards) shard stands in
-          (plans.0, plans.3)
+          (back.known 0 client.0 client.1).alike.plans (length shards) shard stands
 
       pub names_enough : (geometry_of shard).clients ≤ named_by (view_of seat)
       names_enough =
@@ -214,10 +215,12 @@ module _ {T : Type 0} (fits : T → Key → List ℕ → Type 0) (cache : Cache 
       left_is : (left : ClosedShard Global) → left.table.geometry ≡ geometry_of shard
           → Closes (fits_seeded fits) (plan_of shard).tag (geometry_of shard) (words_of left.table)
           (view_of seat)
+          → IsWithin (geometry_of shard) (capacity_of shard) (is_strict shard) (words_of left.table)
           → IsLeft fits cache old (length shards) left
-      left_is left size closes = record {
+      left_is left size closes within = record {
         size = size ∙ alike.0;
-        closes = closes_same fits _ _ _ _ _ _ _ alike.1 alike.0 view_is closes;
+        closes = closes_same fits _ _ _ _ _ _ _ alike.3 alike.0 view_is closes;
+        within = rw (← alike.0, ← alike.1, ← alike.2) within;
       }
 
       -- One more shard is closed.
@@ -229,8 +232,9 @@ module _ {T : Type 0} (fits : T → Key → List ℕ → Type 0) (cache : Cache 
           → left.table.geometry ≡ geometry_of shard
           → Closes (fits_seeded fits) (plan_of shard).tag (geometry_of shard) (words_of left.table)
           (view_of seat)
+          → IsWithin (geometry_of shard) (capacity_of shard) (is_strict shard) (words_of left.table)
           → IsClosing fits cache old shards (closed ++ Some left ∷ []) more
-      closing_more more left count fronts size closes =
+      closing_more more left count fronts size closes within =
           let one_more = longer in
           let closed_more = length-append closed (Some left ∷ []) in
           let counted = closing.count in
@@ -253,7 +257,7 @@ module _ {T : Type 0} (fits : T → Key → List ℕ → Type 0) (cache : Cache 
               | inr last ↦
                   let index : length shards ≡ index_of cache j =
                   let e = last.0 in omega arith in
-                  (left, sym last.1, rw index at (left_is left size closes))
+                  (left, sym last.1, rw index at (left_is left size closes within))
             ];
           }
 
@@ -308,6 +312,7 @@ module _ {T : Type 0} (fits : T → Key → List ℕ → Type 0) (cache : Cache 
       count = ap length same ∙ items_count;
       size = λ s left h. (left_of s left (rw same at h)).size;
       closes = λ s left h. (left_of s left (rw same at h)).closes;
+      within = λ s left h. (left_of s left (rw same at h)).within;
       unheld = λ s slot left h inside has.
           let n = items_count in
           let low = within items s (Some left) (rw same at h) in

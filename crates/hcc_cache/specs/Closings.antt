@@ -6,7 +6,7 @@ use Rattle.hcc_core.specs.Sums.{total}
 use Rattle.hcc_rule.specs.declared.key.Key.{Key}
 use Rattle.hcc_rule.specs.declared.view.Made.{Made}
 use Rattle.hcc_rule.specs.declared.view.View.{View}
-use Rattle.hcc_rule.specs.Closing.{Closes, has_entry, list_by, meta_at, over_entries, words_of}
+use Rattle.hcc_rule.specs.Closing.{Closes, IsWithin, has_entry, list_by, meta_at, over_entries, words_of}
 use Rattle.hcc_rule.specs.Opening.{joined_view, spent_view}
 use Rattle.hcc_shard.specs.declared.entries.ClosedShard.{ClosedShard}
 use Rattle.hcc_shard.specs.declared.seat.ShardSeat.{ShardSeat}
@@ -101,6 +101,11 @@ pub record IsClosed {T : Type 0} (fits : T → Key → List ℕ → Type 0) (cac
       → slice_get closed.shards.items s ≡ Some (Some left)
       → Closes (fits_seeded fits) (record { tag = cache.tag; seed = cache.seed }) cache.geometry
       (words_of left.table) (all_joined (views_at s clients))
+  -- under strict capacity the charges that are left in a shard are within its part of it; and the
+  -- entries are at most 84 of a hundred slots, as `closes` says
+  pub within : (s : ℕ) (left : ClosedShard _)
+      → slice_get closed.shards.items s ≡ Some (Some left)
+      → IsWithin cache.geometry cache.capacity cache.strict (words_of left.table)
   -- nobody holds an entry that is left
   pub unheld : (s slot : ℕ) (left : ClosedShard _)
       → slice_get closed.shards.items s ≡ Some (Some left) → slot < cache.geometry.slots

@@ -51,6 +51,12 @@ pub left_of : {T : Type 0} (fits : T → Key → List ℕ → Type 0) (tag : T) 
     → AreLeft geometry.slots geometry.room words
 left_of fits tag geometry words v c = record {
   settled = c.settled;
+  paid = λ s low entry.
+      (let kept = c.kept s low entry in
+      let charge : data_at geometry.room words s CHARGE ≡ kept.made.charge =
+      kept.says CHARGE (omega arith) in
+      let paid = kept.right.paid in
+      omega arith);
   small = λ s low entry.
       (let kept = c.kept s low entry in
       let charge : data_at geometry.room words s CHARGE ≡ kept.made.charge =
@@ -63,4 +69,6 @@ left_of fits tag geometry words v c = record {
       kept.says LENGTH (omega arith) in
       let short = kept.right.short in
       omega arith);
+  uses = c.uses;
+  places = c.places;
 }

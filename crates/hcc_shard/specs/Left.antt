@@ -1,8 +1,10 @@
 -- What the words are that are left of a closed shard.
-use Rattle.std.specs.Prelude.{◌≡◌, ℕ, ◌+◌, ◌*◌, ◌^◌, ◌<◌, ◌≤◌, true, false, List, Option, Some, None, map, take}
+use Rattle.std.specs.Prelude.{◌≡◌, ℕ, ◌+◌, ◌*◌, ◌/◌, ◌^◌, ◌<◌, ◌≤◌, true, false, List, Option, Some, None, map, take}
 use Rattle.std.specs.Int.{to_le_bytes}
 use Rattle.std.specs.List.{flat_map, range_with_len}
 use mir.Syntax.{w64}
+use Rattle.hcc_word.specs.Word.{releases_of}
+use Rattle.hcc_core.specs.declared.limits.TheConstants.{MOST_USES, OCCUPANCY_PERCENT}
 use Rattle.hcc_core.specs.declared.slot.Stamp.{Stamp}
 use Rattle.hcc_core.specs.World.{times}
 use Rattle.hcc_rule.specs.declared.closed.ClosedTable.{ClosedTable}
@@ -14,14 +16,20 @@ use Rattle.hcc_rule.specs.Probes.{trail_to}
 use Rattle.hcc_rule.specs.Words.{words_for}
 use Rattle.hcc_shard.specs.declared.entries.ClosedEntry.{ClosedEntry}
 
--- The ledger words and the displacement words are the sums over the entries, each entry's charge is
--- below 2^32, and its value fits its slot.
+-- The ledger words and the displacement words are the sums over the entries; each entry's charge is
+-- above 0 and below 2^32, its value fits its slot, and it has no more uses than one may begin with;
+-- and they are no more than 84 of a hundred slots.
 pub record AreLeft (slots room : ℕ) (words : List ℕ) : Type 0 where
   pub settled : IsSettled slots room words
+  pub paid : (s : ℕ) → s < slots → has_entry room words s ≡ true
+      → 0 < data_at room words s CHARGE
   pub small : (s : ℕ) → s < slots → has_entry room words s ≡ true
       → data_at room words s CHARGE < 2 ^ 32
   pub short : (s : ℕ) → s < slots → has_entry room words s ≡ true
       → data_at room words s LENGTH ≤ 8 * room
+  pub uses : (s : ℕ) → s < slots → has_entry room words s ≡ true
+      → releases_of (meta_at room words s) ≤ MOST_USES
+  pub places : over_entries room words slots (λ s. 1) ≤ slots * OCCUPANCY_PERCENT / 100
 
 module _ (room : ℕ) (words : List ℕ) (slot : ℕ) where
   -- how many bytes the value of a slot's entry has, and the payload words that they take

@@ -1,11 +1,12 @@
 //! Closing a shard.
 ghost use Rattle.std.specs.Prelude.{◌≡◌, ◌≤◌};
-ghost use Rattle.hcc_rule.specs.Callers.{clients_of, geometry_of, plan_of};
-ghost use Rattle.hcc_rule.specs.Closing.{Closes, words_of};
+ghost use Rattle.hcc_rule.specs.Callers.{capacity_of, clients_of, geometry_of, is_strict, plan_of};
+ghost use Rattle.hcc_rule.specs.Closing.{Closes, IsWithin, words_of};
 ghost use Rattle.hcc_rule.specs.Opening.{joined_view};
 ghost use Rattle.hcc_rule.specs.Seats.{view};
 ghost use Rattle.hcc_rule.specs.Views.{named_by};
 ghost use Rattle.hcc_shard.specs.Closed.{AreBack, HoldsNothing, together};
+ghost use Rattle.hcc_shard.specs.Imaged.{GivesFitting};
 ghost use Rattle.hcc_shard.specs.Left.{GivesValues};
 
 use crate::entries::ClosedShard;
@@ -19,7 +20,9 @@ impl<T: Tag, A: Allocator> Shard<T, A> {
     /// held. The words that are left are only those of the entries: the usage, the occupancy and
     /// the displacements are sums over them. Each entry is one that its maker made, in no two
     /// slots, and nobody holds it; they are as many as were made less those that were taken. The
-    /// value that is left of it is the one that it was made with.
+    /// value that is left of it is the one that it was made with. Where the capacity is strict, the
+    /// charges are within it in sum; so `reopen` accepts the image that the closed shard gives, for
+    /// a shard of the same sizes and capacity and the same tag, and refuses it only for memory.
     ///
     /// It refuses nothing and allocates nothing. It costs a load for each seat.
     pub fn close<B: Allocator>(self, seats: Vec<ShardSeat<T>, B>) -> ClosedShard<A>
@@ -29,6 +32,9 @@ impl<T: Tag, A: Allocator> Shard<T, A> {
             (words_of result.table) (together seats.items) }
         ensures values { GivesValues T.fits (plan_of self.table).tag (geometry_of self.table).room
             (words_of result.table) (together seats.items) }
+        ensures within { IsWithin (geometry_of self.table) (capacity_of self.table)
+            (is_strict self.table) (words_of result.table) }
+        ensures fitting { GivesFitting result.table T.fits (plan_of self.table).tag }
     {
         let mut seats = seats;
         let mut last = seats.remove(0).seat;
@@ -65,6 +71,9 @@ impl<T: Tag, A: Allocator> Shard<T, A> {
             (words_of result.table) (view last.seat) }
         ensures values { GivesValues T.fits (plan_of self.table).tag (geometry_of self.table).room
             (words_of result.table) (view last.seat) }
+        ensures within { IsWithin (geometry_of self.table) (capacity_of self.table)
+            (is_strict self.table) (words_of result.table) }
+        ensures fitting { GivesFitting result.table T.fits (plan_of self.table).tag }
     {
         ClosedShard {
             table: self.table.close(last.seat),

@@ -57,7 +57,7 @@ impl<T: Tag, A: Allocator> Shard<T, A> {
     /// It evicts only where the reservation asks for something, and for just that: before the
     /// eviction's last turn less than that was freed, and the last turn frees at most four entries
     /// more. CapacityFull says that less charge was freed than the reservation lacked; where an
-    /// entry is refused or dropped for want of a place, no slot was freed. Only an entry of the key
+    /// entry is refused or dropped for lack of a place, no slot was freed. Only an entry of the key
     /// that was met is counted among the boosts.
     ///
     /// The draft has no name, and its serial is above those before. It allocates nothing. It costs

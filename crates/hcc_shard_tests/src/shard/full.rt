@@ -64,10 +64,10 @@ fn a_full_shard_frees_what_it_asks_for(rt: HostRuntime) -> Result<(), AllocError
         charge: 1,
         countdown: 1,
     };
-    for strict in [false, true] {
-        let hand = hand_after(&rt, rt.alloc(), of(600, strict), four, SIX_FREE)?;
-        assert_eq!(rt; hand, 12);
-    }
+    let hand = hand_after(&rt, rt.alloc(), of(600, false), four, SIX_FREE)?;
+    assert_eq!(rt; hand, 12);
+    let hand = hand_after(&rt, rt.alloc(), of(600, true), four, SIX_FREE)?;
+    assert_eq!(rt; hand, 12);
     Ok(())
 }
 

@@ -79,7 +79,7 @@ loop-shard-preserved g c =
           c.loop-shard.closed.items c.loop-shard.clients.items from c.joined-seat.result
           (omega arith) (rw n_is at c.joined-seat.ensures.view) c.joined-seat.new.clients.items
           c.close_joined.result c.joined-seat.ensures.count (rw n_is at c.joined-seat.ensures.left)
-          c.close_joined.ensures.size c.close_joined.ensures.closes);
+          c.close_joined.ensures.size c.close_joined.ensures.closes c.close_joined.ensures.within);
     }
 
 -- the items that are left stand turned round

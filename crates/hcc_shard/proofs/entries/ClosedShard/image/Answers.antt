@@ -1,6 +1,6 @@
 use Rattle.std.proofs.Common.{◌≡◌, ap, arith}
 use Rattle.hcc_shard.specs.Imaged.{is_shown}
-use Rattle.hcc_shard.proofs.Imagings.{image_more, image_past, rising_in_range}
+use Rattle.hcc_shard.proofs.Imagings.{image_more, image_past, image_taken, rising_in_range}
 use Rattle.hcc_shard.proofs.entries.ClosedShard.image.Goals as goal
 use Rattle.hcc_shard.proofs.entries.ClosedShard.image.Goals.{in-Some+in_ok-push, in_default}
 
@@ -20,10 +20,20 @@ loop-slot-preserved g c = elim c.match-branch-2.branch [
 
 pub returns-clause-rising : goal.returns-clause-rising
 returns-clause-rising g c =
+    let table = c.args.self.now.table in
     let last = c.loop-slot-test.false in
     let near = c.loop-slot.auto.slot-end in
     let size = ap (λ z. z.slots) c.geometry-slot-end.ensures in
-    let end : c.loop-slot.slot ≡ c.args.self.now.table.geometry.slots = omega arith in
-    rising_in_range (is_shown c.args.self.now.table) 0 c.args.self.now.table.geometry.slots
-    c.args.self.now.table.geometry.slots c.loop-slot.image.items (omega arith)
-    (rw end at c.loop-slot.invariant.shown.slots)
+    let end : c.loop-slot.slot ≡ table.geometry.slots = omega arith in
+    rising_in_range (is_shown table) 0 table.geometry.slots table.geometry.slots
+    c.loop-slot.image.items (omega arith) (rw end at c.loop-slot.invariant.shown.slots)
+
+pub returns-clause-taken : goal.returns-clause-taken
+returns-clause-taken g c = λ capacity strict within.
+    (let table = c.args.self.now.table in
+    let last = c.loop-slot-test.false in
+    let near = c.loop-slot.auto.slot-end in
+    let size = ap (λ z. z.slots) c.geometry-slot-end.ensures in
+    let end : c.loop-slot.slot ≡ table.geometry.slots = omega arith in
+    image_taken table c.loop-slot.image.items capacity strict (rw end at c.loop-slot.invariant)
+    (returns-clause-rising g c) c.args.self.now.left within)
