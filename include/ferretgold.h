@@ -441,7 +441,7 @@ static inline const uint8_t *ferretgold_bytes_of(const void *value) {
  * entry. Bound: (4*L + 25)*(3*L/4 + 1) + 8*L + W + 8.
  *
  * Refuses BAD_PRIORITY, NO_CHARGE, TOO_LONG, SPENT, TOO_LARGE; and if strict, after evictions
- * that stay made, CAPACITY_FULL, OCCUPANCY_FULL. These two, and DROPPED for want of a place, may
+ * that stay made, CAPACITY_FULL, OCCUPANCY_FULL. These two, and DROPPED for lack of a place, may
  * come though nobody holds an entry; then a second try evicts more ("Try again" in the guide).
  */
 static inline ferretgold_status ferretgold_insert(ferretgold_client *client,
