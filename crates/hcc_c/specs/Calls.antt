@@ -2,7 +2,7 @@
 use Rattle.std.specs.Prelude.{◌≡◌, ℕ, ◌+◌, ◌*◌, ◌<◌, ◌≤◌, ◌++◌, ◌↔◌, Bool, true, List, Option, Result, Err, IfOk, IfErr, IfSome, IfNone, OnOk, OnErr, IsOk, IsErrOf, IsOkUnless, MatchResult, drop, length}
 use Rattle.std.specs.Arc.{arc_value}
 use Rattle.hcc_rule.specs.declared.key.Key.{Key}
-use Rattle.hcc_rule.specs.Told.{Backs, after_look}
+use Rattle.hcc_rule.specs.Looked.{Backs, after_look}
 use Rattle.hcc_rule.specs.ToldTrails.{passed_held}
 use Rattle.hcc_rule.specs.Words.{words_for}
 use Rattle.hcc_table.specs.Steps.{freeing}

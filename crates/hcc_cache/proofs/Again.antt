@@ -2,7 +2,8 @@
 use Rattle.std.proofs.Common.{◌≡◌, ℕ, ◌^◌, ◌<◌, Bool, [], ◌∷◌, ◌++◌, Some, IfSome, IsSome, IsSomeAnd, length, option_map, sym, refl, ap, subst, ◌∙◌, arith}
 use Rattle.slab.specs.Slab.{get}
 use Rattle.hcc_rule.specs.declared.view.Record.{Record}
-use Rattle.hcc_rule.specs.Views.{is_called, record_in}
+use Rattle.hcc_rule.specs.Views.{is_called}
+use Rattle.hcc_rule.specs.Records.{record_in}
 use Rattle.hcc_rule.specs.Words.{key_of}
 use Rattle.hcc_rule.proofs.Basics.Findings.{find_each}
 use Rattle.hcc_table.specs.Pins.{IsOf}
@@ -19,7 +20,7 @@ use Rattle.hcc_cache.specs.declared.holding.Kept.TheVariants.{Pinned, Standing}
 use Rattle.hcc_cache.specs.declared.seeded.Seeded.{Seeded}
 use Rattle.hcc_cache.specs.Calls.{Gains, Rerefs}
 use Rattle.hcc_cache.specs.Clients.{held_entry, held_of, hold_of, pin_of, records_in, view_by}
-use Rattle.hcc_cache.specs.Keys.{key_to}
+use Rattle.hcc_cache.specs.Sharding.{key_to}
 use Rattle.hcc_cache.specs.Known.{IsKeptAs, IsPin, IsStand, Knows}
 use Rattle.hcc_cache.proofs.At.{ChangesAt, IsAt, works_at}
 

@@ -6,7 +6,8 @@ use Rattle.hcc_core.specs.declared.client.Standalone.{Standalone}
 use Rattle.hcc_core.specs.Ledgers.{is_standing}
 use Rattle.hcc_core.specs.Sums.{total, when}
 use Rattle.hcc_core.proofs.SumLemmas.{total-set}
-use Rattle.hcc_rule.specs.Views.{Each, record_in}
+use Rattle.hcc_rule.specs.Views.{Each}
+use Rattle.hcc_rule.specs.Records.{record_in}
 use Rattle.hcc_shard.specs.declared.seat.ShardSeat.{ShardSeat}
 use Rattle.hcc_shard.specs.Callers.{view_of}
 use Rattle.hcc_shard.proofs.Names.{length_more}
@@ -15,7 +16,7 @@ use Rattle.hcc_cache.specs.declared.holding.Hold.{Hold}
 use Rattle.hcc_cache.specs.declared.holding.Kept.{Kept}
 use Rattle.hcc_cache.specs.declared.holding.Kept.TheVariants.{Pinned, Standing}
 use Rattle.hcc_cache.specs.Clients.{records_in, standalones_in, view_by}
-use Rattle.hcc_cache.specs.Keys.{key_to, shard_of}
+use Rattle.hcc_cache.specs.Sharding.{key_to, shard_of}
 use Rattle.hcc_cache.specs.Known.{AreHeld, IsKept, IsKeptAs, count_of, is_pinned, is_standing_at, records_at, references_of, standalones_at}
 use Rattle.hcc_cache.proofs.Framing.{same_alone, Stands, stands_if, stands_there, stood_there, written_is}
 use Rattle.hcc_cache.proofs.Held.{apart_more}

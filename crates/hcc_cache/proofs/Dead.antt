@@ -8,7 +8,8 @@ use Rattle.hcc_word.proofs.SeedLaws.{seeded_key-unseeded_key}
 use Rattle.hcc_rule.specs.declared.key.Key.{Key}
 use Rattle.hcc_rule.specs.declared.view.Record.{Record}
 use Rattle.hcc_rule.specs.declared.view.View.{View}
-use Rattle.hcc_rule.specs.Views.{is_called, record_in}
+use Rattle.hcc_rule.specs.Views.{is_called}
+use Rattle.hcc_rule.specs.Records.{record_in}
 use Rattle.hcc_rule.specs.Words.{key_of}
 use Rattle.hcc_rule.proofs.Basics.Findings.{find_each}
 use Rattle.hcc_table.specs.Searched.{AllDead}
@@ -20,7 +21,8 @@ use Rattle.hcc_cache.specs.declared.holding.Kept.TheVariants.{Pinned, Standing}
 use Rattle.hcc_cache.specs.declared.seeded.Seeded.{Seeded}
 use Rattle.hcc_cache.specs.Calls.{AllHeldDead, Works, shard_in}
 use Rattle.hcc_cache.specs.Clients.{Held, held_alone, held_as, held_entry, hold_of, kept_as, records_in, view_at}
-use Rattle.hcc_cache.specs.Keys.{key_from, key_of_words, key_to, shard_of}
+use Rattle.hcc_cache.specs.Keys.{key_from}
+use Rattle.hcc_cache.specs.Sharding.{key_of_words, key_to, shard_of}
 use Rattle.hcc_cache.specs.Known.{IsKept, IsKeptAs, Knows}
 use Rattle.hcc_cache.proofs.Framing.{hold_there}
 

@@ -7,7 +7,8 @@ use Rattle.hcc_rule.specs.declared.geometry.Geometry.{Geometry}
 use Rattle.hcc_rule.specs.declared.key.Key.{Key}
 use Rattle.hcc_rule.specs.declared.view.View.{View}
 use Rattle.hcc_rule.specs.Closing.{Closes, IsWithin, words_of}
-use Rattle.hcc_rule.specs.Views.{named_by, weight_on}
+use Rattle.hcc_rule.specs.Views.{named_by}
+use Rattle.hcc_rule.specs.Records.{weight_on}
 use Rattle.hcc_rule.proofs.Basics.Lists.{there, within}
 use Rattle.hcc_rule.proofs.Entries.ShowParts.{get_front}
 use Rattle.hcc_shard.specs.declared.entries.ClosedShard.{ClosedShard}

@@ -24,7 +24,8 @@ use Rattle.hcc_cache.specs.declared.holding.Kept.TheVariants.{Pinned}
 use Rattle.hcc_cache.specs.declared.seeded.Seeded.{Seeded}
 use Rattle.hcc_cache.specs.Calls.{Finds, Gains, KeepsAll, Misses, SearchesFor, TakesAtMost, UsesNone, Works, shard_in}
 use Rattle.hcc_cache.specs.Clients.{held_entry, pin_of}
-use Rattle.hcc_cache.specs.Keys.{fits_seeded, key_from, key_to, shard_of}
+use Rattle.hcc_cache.specs.Keys.{fits_seeded, key_from}
+use Rattle.hcc_cache.specs.Sharding.{key_to, shard_of}
 use Rattle.hcc_cache.specs.Known.{IsSeated, Knows}
 use Rattle.hcc_cache.proofs.At.{ChangesAt, IsAt, did_at, knows_at, seated_at, takes_at, works_at}
 use Rattle.hcc_cache.proofs.Framing.{keeps_all}

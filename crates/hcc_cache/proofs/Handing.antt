@@ -31,7 +31,8 @@ use Rattle.hcc_cache.specs.declared.seeded.Seeded.{Seeded}
 use Rattle.hcc_cache.specs.Calls.{Gains, shard_in}
 use Rattle.hcc_cache.specs.Clients.{held_alone, held_entry}
 use Rattle.hcc_cache.specs.Inserts.{Pins, Stands, pinned_draft}
-use Rattle.hcc_cache.specs.Keys.{key_from, key_to}
+use Rattle.hcc_cache.specs.Keys.{key_from}
+use Rattle.hcc_cache.specs.Sharding.{key_to}
 use Rattle.hcc_cache.specs.Known.{AreCharged, AreHeld, Knows, references_of, standalones_at}
 use Rattle.hcc_cache.proofs.Alone.{IsJoined, held_joined, known_of, stands_joined}
 use Rattle.hcc_cache.proofs.At.{ChangesAt, IsAt, knows_at, seated_at, works_at}

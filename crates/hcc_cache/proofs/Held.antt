@@ -4,7 +4,7 @@ use Rattle.std.proofs.lemmas.Bool.{cases_eq}
 use Rattle.slab.specs.Slab.{Slab, get, Updates}
 use Rattle.hcc_core.specs.Ledgers.{is_standing}
 use Rattle.hcc_core.proofs.SumLemmas.{total-set}
-use Rattle.hcc_rule.specs.Views.{record_in}
+use Rattle.hcc_rule.specs.Records.{record_in}
 use Rattle.hcc_shard.specs.declared.seat.ShardSeat.{ShardSeat}
 use Rattle.hcc_shard.specs.Callers.{view_of}
 use Rattle.hcc_cache.specs.declared.holding.Alone.{Alone}

@@ -5,7 +5,7 @@ use Rattle.std.proofs.lemmas.List.{length-take-le, take_all}
 use Rattle.std.proofs.lemmas.Option.{slice_get-map}
 use Rattle.hcc_core.proofs.ListLemmas.{read_here, read_other}
 use Rattle.hcc_rule.specs.declared.view.View.{View}
-use Rattle.hcc_rule.specs.Opening.{as_other, joined_view}
+use Rattle.hcc_rule.specs.Passing.{as_other, joined_view}
 use Rattle.hcc_rule.specs.Views.{is_seated, named_by}
 use Rattle.hcc_rule.proofs.Basics.Lists.{within}
 use Rattle.hcc_shard.specs.declared.seat.ShardSeat.{ShardSeat}

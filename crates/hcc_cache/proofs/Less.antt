@@ -1,7 +1,5 @@
 -- The handles of a client, once one on an entry of the table was given back.
-use Rattle.std.proofs.Common.{◌≡◌, ◌≢◌, inl, inr, ℕ, ◌+◌, Bool, true, false}
-use Rattle.std.proofs.Common.{List, Option, Some, None, find, length, slice_get, slice_set}
-use Rattle.std.proofs.Common.{sym, refl, ap, ◌∙◌, length-set, arith}
+use Rattle.std.proofs.Common.{◌≡◌, ◌≢◌, inl, inr, ℕ, ◌+◌, Bool, true, false, List, Option, Some, None, find, length, slice_get, slice_set, sym, refl, ap, ◌∙◌, length-set, arith}
 use Rattle.std.proofs.lemmas.Bool.{cases_eq, eqb-true, ne_eqb}
 use Rattle.slab.specs.Slab.{Slab, get, slab_len, Updates}
 use Rattle.hcc_core.specs.Ledgers.{is_standing}
@@ -10,7 +8,8 @@ use Rattle.hcc_core.specs.Sums.{when}
 use Rattle.hcc_core.proofs.SumLemmas.{total-set}
 use Rattle.hcc_rule.specs.declared.view.Record.{Record}
 use Rattle.hcc_rule.specs.declared.view.View.{View}
-use Rattle.hcc_rule.specs.Views.{is_called, record_in}
+use Rattle.hcc_rule.specs.Views.{is_called}
+use Rattle.hcc_rule.specs.Records.{record_in}
 use Rattle.hcc_shard.specs.declared.seat.ShardSeat.{ShardSeat}
 use Rattle.hcc_shard.specs.Callers.{view_of}
 use Rattle.hcc_cache.specs.declared.holding.Alone.{Alone}

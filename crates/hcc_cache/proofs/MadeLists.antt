@@ -8,7 +8,7 @@ use Rattle.hcc_rule.specs.declared.view.Made.{Made}
 use Rattle.hcc_rule.specs.declared.view.Other.{Other}
 use Rattle.hcc_rule.specs.declared.view.View.{View}
 use Rattle.hcc_rule.specs.Closing.{list_by, made_by}
-use Rattle.hcc_rule.specs.Opening.{as_other, joined_view}
+use Rattle.hcc_rule.specs.Passing.{as_other, joined_view}
 use Rattle.hcc_cache.specs.Closings.{all_joined, joined_views}
 
 module _ {T : Type 0} where

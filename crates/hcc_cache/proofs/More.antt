@@ -6,7 +6,8 @@ use Rattle.hcc_core.specs.Ledgers.{is_standing}
 use Rattle.hcc_core.specs.Sums.{when}
 use Rattle.hcc_core.proofs.SumLemmas.{total-set}
 use Rattle.hcc_rule.specs.declared.view.Record.{Record}
-use Rattle.hcc_rule.specs.Views.{Each, is_called, record_in}
+use Rattle.hcc_rule.specs.Views.{Each, is_called}
+use Rattle.hcc_rule.specs.Records.{record_in}
 use Rattle.hcc_rule.specs.Words.{key_of}
 use Rattle.hcc_table.specs.Pins.{IsOf}
 use Rattle.hcc_shard.specs.declared.seat.ShardSeat.{ShardSeat}
@@ -16,7 +17,7 @@ use Rattle.hcc_cache.specs.declared.holding.Alone.{Alone}
 use Rattle.hcc_cache.specs.declared.holding.Hold.{Hold}
 use Rattle.hcc_cache.specs.declared.holding.Kept.TheVariants.{Pinned}
 use Rattle.hcc_cache.specs.Clients.{pin_of, records_in, standalones_in, view_by}
-use Rattle.hcc_cache.specs.Keys.{key_to, shard_of}
+use Rattle.hcc_cache.specs.Sharding.{key_to, shard_of}
 use Rattle.hcc_cache.specs.Known.{AreHeld, count_of, is_pinned, is_standing_at, IsKept, records_at, standalones_at}
 use Rattle.hcc_cache.proofs.Framing.{same_alone, Stands, stands_if}
 use Rattle.hcc_cache.proofs.Held.{apart_more}

@@ -1,11 +1,10 @@
 -- What a client reads by a handle.
-use Rattle.std.proofs.Common.{◌≡◌, ℕ, ◌^◌, ◌<◌, Bool, List, Some, IfSome, length}
-use Rattle.std.proofs.Common.{sym, refl, ap, ◌∙◌, arith}
+use Rattle.std.proofs.Common.{◌≡◌, ℕ, ◌^◌, ◌<◌, Bool, List, Some, IfSome, length, sym, refl, ap, ◌∙◌, arith}
 use Rattle.slab.specs.Slab.{get}
 use Rattle.hcc_word.proofs.SeedLaws.{unseeded_key-seeded_key}
 use Rattle.hcc_rule.specs.declared.key.Key.{Key}
 use Rattle.hcc_rule.specs.declared.view.View.{View}
-use Rattle.hcc_rule.specs.Views.{record_in}
+use Rattle.hcc_rule.specs.Records.{record_in}
 use Rattle.hcc_shard.specs.declared.seat.ShardSeat.{ShardSeat}
 use Rattle.hcc_shard.specs.declared.shard.Shard.{Shard}
 use Rattle.hcc_shard.specs.Callers.{geometry_of, view_of}
@@ -19,7 +18,8 @@ use Rattle.hcc_cache.specs.declared.holding.Kept.TheVariants.{Pinned, Standing}
 use Rattle.hcc_cache.specs.declared.seeded.Seeded.{Seeded}
 use Rattle.hcc_cache.specs.Calls.{Reads}
 use Rattle.hcc_cache.specs.Clients.{held_entry, held_of, hold_of, kept_as}
-use Rattle.hcc_cache.specs.Keys.{key_from, key_of_words, key_to}
+use Rattle.hcc_cache.specs.Keys.{key_from}
+use Rattle.hcc_cache.specs.Sharding.{key_of_words, key_to}
 use Rattle.hcc_cache.specs.Known.{IsKeptAs, IsSeated, Knows}
 use Rattle.hcc_cache.proofs.Again.{IsPinAt, held_at, pin_at}
 use Rattle.hcc_cache.proofs.At.{ChangesAt, IsAt, seated_at}

@@ -2,7 +2,7 @@
 use Rattle.std.proofs.Common.{◌≡◌, ℕ, slice_set, refl, ap, arith}
 use Rattle.hcc_rule.specs.declared.key.Key.{Key}
 use Rattle.hcc_rule.specs.declared.view.View.{View}
-use Rattle.hcc_rule.specs.Told.{after_look}
+use Rattle.hcc_rule.specs.Looked.{after_look}
 use Rattle.hcc_rule.specs.ToldLedgers.{after_usage}
 use Rattle.hcc_table.specs.Searched.{Sought}
 use Rattle.hcc_shard.specs.declared.seat.ShardSeat.{ShardSeat}

@@ -23,7 +23,8 @@ use Rattle.hcc_cache.specs.declared.holding.Hold.{Hold}
 use Rattle.hcc_cache.specs.declared.holding.Kept.TheVariants.{Pinned}
 use Rattle.hcc_cache.specs.declared.seeded.Seeded.{Seeded}
 use Rattle.hcc_cache.specs.Clients.{Held, held_by, held_entry, held_of, hold_of, view_at}
-use Rattle.hcc_cache.specs.Keys.{fits_seeded, key_from, key_to, shard_of}
+use Rattle.hcc_cache.specs.Keys.{fits_seeded, key_from}
+use Rattle.hcc_cache.specs.Sharding.{key_to, shard_of}
 
 module _ {T : Type 0} where
   -- how many atomic steps the client made, at all shards

@@ -7,7 +7,7 @@ use Rattle.hcc_rule.specs.declared.key.Key.{Key}
 use Rattle.hcc_rule.specs.declared.view.Made.{Made}
 use Rattle.hcc_rule.specs.declared.view.View.{View}
 use Rattle.hcc_rule.specs.Closing.{Closes, IsWithin, has_entry, list_by, meta_at, over_entries, words_of}
-use Rattle.hcc_rule.specs.Opening.{joined_view, spent_view}
+use Rattle.hcc_rule.specs.Passing.{joined_view, spent_view}
 use Rattle.hcc_shard.specs.declared.entries.ClosedShard.{ClosedShard}
 use Rattle.hcc_shard.specs.declared.seat.ShardSeat.{ShardSeat}
 use Rattle.hcc_shard.specs.declared.shard.Shard.{Shard}

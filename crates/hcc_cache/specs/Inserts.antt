@@ -24,7 +24,8 @@ use Rattle.hcc_cache.specs.declared.priority.Priority.{Priority}
 use Rattle.hcc_cache.specs.declared.seeded.Seeded.{Seeded}
 use Rattle.hcc_cache.specs.Calls.{AtShard, Gains, UsesOne, Works, shard_in}
 use Rattle.hcc_cache.specs.Clients.{held_by, held_of}
-use Rattle.hcc_cache.specs.Keys.{fits_seeded, key_to}
+use Rattle.hcc_cache.specs.Keys.{fits_seeded}
+use Rattle.hcc_cache.specs.Sharding.{key_to}
 use Rattle.hcc_cache.specs.Priorities.{countdown_of}
 
 -- why a shard refuses, as the caller is told it

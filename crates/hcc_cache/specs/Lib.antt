@@ -1,6 +1,7 @@
 pub mod Configs
 pub mod Priorities
 pub mod Keys
+pub mod Sharding
 pub mod Clients
 pub mod Known
 pub mod Opened

@@ -4,7 +4,7 @@ use Rattle.hcc_core.specs.Sums.{total}
 use Rattle.hcc_core.specs.World.{standing_of}
 use Rattle.hcc_rule.specs.declared.view.View.{View}
 use Rattle.hcc_rule.specs.ToldLedgers.{after_usage}
-use Rattle.hcc_rule.specs.Views.{charge_held, different}
+use Rattle.hcc_rule.specs.Records.{charge_held, different}
 use Rattle.hcc_table.specs.Searched.{Sought}
 use Rattle.hcc_shard.specs.declared.seat.ShardSeat.{ShardSeat}
 use Rattle.hcc_shard.specs.declared.seat.Stats.{Stats}

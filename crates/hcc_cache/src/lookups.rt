@@ -3,7 +3,7 @@ ghost use Rattle.std.specs.Prelude.{◌≡◌, ◌*◌, ◌<◌, ◌≤◌, ◌�
 ghost use Rattle.hcc_cache.specs.declared.holding.Kept.TheVariants.{Pinned, Standing};
 ghost use Rattle.hcc_cache.specs.Calls.{Finds, Misses, Rerefs, SearchesFor, TakesAtMost};
 ghost use Rattle.hcc_cache.specs.Clients.{held_by, hold_of, Holds};
-ghost use Rattle.hcc_cache.specs.Keys.{shard_of};
+ghost use Rattle.hcc_cache.specs.Sharding.{shard_of};
 ghost use Rattle.hcc_cache.specs.Known.{AreAlike, Knows};
 
 use crate::cache::Cache;

@@ -1,7 +1,8 @@
 //! Keys under a seed. The shards know seeded keys only, and values by a tag that has the seed.
 ghost use Rattle.std.specs.Prelude.{◌≡◌, ◌%◌, ◌<◌, ◌≤◌};
 ghost use Rattle.hcc_cache.specs.declared.limits.TheConstants.{MOST_SHARDS};
-ghost use Rattle.hcc_cache.specs.Keys.{key_from, key_to, shard_of};
+ghost use Rattle.hcc_cache.specs.Keys.{key_from};
+ghost use Rattle.hcc_cache.specs.Sharding.{key_to, shard_of};
 
 use hcc_rule::{Key, Tag};
 use hcc_word::{seeded, unseeded};

@@ -1,6 +1,6 @@
 //! Totals of a cache, and words of its shards.
 ghost use Rattle.std.specs.Prelude.{◌≡◌, ◌+◌, ◌-◌, ◌*◌, ◌^◌, ◌<◌, ◌≤◌, true, ℕ, length};
-ghost use Rattle.hcc_rule.specs.Told.{after_look, Backs};
+ghost use Rattle.hcc_rule.specs.Looked.{after_look, Backs};
 ghost use Rattle.hcc_rule.specs.ToldTrails.{passed_held};
 ghost use Rattle.hcc_shard.specs.Callers.{LoadsDisplacement, LoadsWord};
 ghost use Rattle.hcc_cache.specs.Calls.{AtShard, KeepsAll, Reads, TakesAtMost, Works};
@@ -8,7 +8,7 @@ ghost use Rattle.hcc_cache.specs.Clients.{view_at};
 ghost use Rattle.hcc_cache.specs.Known.{Knows};
 ghost use Rattle.hcc_cache.specs.Totals.{charge_by, charge_in, entries_by, made_by, no_stats, stats_over, stats_with, taken_by, LoadsUsages, SearchesAll};
 ghost use Rattle.hcc_rule.specs.ToldLedgers.{after_usage};
-ghost use Rattle.hcc_rule.specs.Views.{different};
+ghost use Rattle.hcc_rule.specs.Records.{different};
 ghost use Rattle.hcc_table.specs.Searched.{Sought};
 
 use crate::cache::Cache;

@@ -6,7 +6,7 @@ use Rattle.hcc_core.specs.declared.setup.Setup.{Setup}
 use Rattle.hcc_core.specs.Ledgers.{grant_of}
 use Rattle.hcc_core.proofs.LawfulLedgers.{grant-le}
 use Rattle.hcc_rule.specs.declared.view.View.{View}
-use Rattle.hcc_rule.specs.Callers.{IsBetweenCalls}
+use Rattle.hcc_rule.specs.Between.{IsBetweenCalls}
 use Rattle.hcc_rule.specs.ToldLedgers.{after_charge, after_quit, after_usage}
 use Rattle.hcc_charge.specs.declared.reserving.Reservation.TheVariants.{Reserved, NoPlace}
 use Rattle.hcc_charge.specs.declared.reserving.Refused.TheVariants.{CapacityFull, OccupancyFull}

@@ -5,7 +5,8 @@ use Rattle.hcc_rule.specs.declared.key.Key.{Key}
 use Rattle.hcc_rule.specs.declared.layout.TheConstants.{USAGE}
 use Rattle.hcc_rule.specs.declared.table.RuleTable.{RuleTable}
 use Rattle.hcc_rule.specs.declared.view.View.{View}
-use Rattle.hcc_rule.specs.Callers.{address_of_ledger, capacity_of, is_strict, slots_of}
+use Rattle.hcc_rule.specs.Callers.{capacity_of, is_strict, slots_of}
+use Rattle.hcc_rule.specs.Addresses.{address_of_ledger}
 use Rattle.hcc_rule.specs.Seats.{SeatOf, Makes, view}
 use Rattle.hcc_table.specs.Steps.{Adds}
 use Rattle.hcc_charge.specs.declared.swept.Swept.{Swept}

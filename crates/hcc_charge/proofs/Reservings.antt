@@ -10,7 +10,7 @@ use Rattle.hcc_core.specs.Lawful.{is_in}
 use Rattle.hcc_core.specs.Ledgers.{grant_of}
 use Rattle.hcc_core.specs.Sums.{when}
 use Rattle.hcc_rule.specs.declared.view.View.{View}
-use Rattle.hcc_rule.specs.Callers.{IsBetweenCalls}
+use Rattle.hcc_rule.specs.Between.{IsBetweenCalls}
 use Rattle.hcc_rule.specs.ToldLedgers.{after_charge, after_quit, after_usage, needed_of}
 use Rattle.hcc_charge.specs.declared.swept.Swept.{Swept}
 use Rattle.hcc_charge.specs.Evicted.{IsSweptFor, Sweeps}

@@ -6,7 +6,7 @@ use Rattle.hcc_core.specs.declared.client.Owned.TheVariants as owned
 use Rattle.hcc_rule.specs.declared.key.Key.{Key}
 use Rattle.hcc_rule.specs.declared.view.View.{View}
 use Rattle.hcc_rule.specs.Seats.{SeatOf, view}
-use Rattle.hcc_rule.specs.Told.{after_look, found_dead}
+use Rattle.hcc_rule.specs.Looked.{after_look, found_dead}
 use Rattle.hcc_rule.specs.ToldLedgers.{after_turn}
 use Rattle.hcc_rule.specs.ToldOwners.{is_warm}
 use Rattle.hcc_table.specs.declared.visiting.ClockVisit.{ClockVisit}

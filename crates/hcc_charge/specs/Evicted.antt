@@ -6,7 +6,8 @@ use Rattle.hcc_rule.specs.declared.key.Key.{Key}
 use Rattle.hcc_rule.specs.declared.layout.TheConstants.{HAND}
 use Rattle.hcc_rule.specs.declared.table.RuleTable.{RuleTable}
 use Rattle.hcc_rule.specs.declared.view.View.{View}
-use Rattle.hcc_rule.specs.Callers.{address_of_ledger, address_of_meta, room_of, slots_of}
+use Rattle.hcc_rule.specs.Callers.{room_of, slots_of}
+use Rattle.hcc_rule.specs.Addresses.{address_of_ledger, address_of_meta}
 use Rattle.hcc_rule.specs.Seats.{SeatOf, Makes, view}
 use Rattle.hcc_rule.specs.ToldLedgers.{after_turn}
 use Rattle.hcc_table.specs.declared.visiting.ClockVisit.{ClockVisit}

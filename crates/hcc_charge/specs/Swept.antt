@@ -3,7 +3,7 @@ use Rattle.std.specs.Prelude.{ℕ, ◌+◌, ◌*◌, ◌^◌, ◌≤◌, List, [
 use Rattle.std.specs.Int.{from_bool}
 use Rattle.hcc_table.specs.declared.visiting.ClockVisit.{ClockVisit}
 use Rattle.hcc_table.specs.declared.visiting.ClockVisit.TheVariants as visits
-use Rattle.hcc_table.specs.Efforts.{Rose}
+use Rattle.hcc_table.specs.Rises.{Rose}
 use Rattle.hcc_charge.specs.declared.swept.Swept.{Swept}
 use Rattle.hcc_charge.specs.declared.tally.Tally.{Tally}
 

@@ -2,7 +2,8 @@
 ghost use Rattle.std.specs.Prelude.{◌≡◌, ◌≢◌, ℕ, ◌+◌, ◌*◌, ◌^◌, ◌<◌, ◌≤◌, false, true, Ok, Err};
 ghost use Rattle.hcc_core.specs.declared.client.Place.TheVariants.{Absent};
 ghost use Rattle.hcc_core.specs.World.{is_placed};
-ghost use Rattle.hcc_rule.specs.Callers.{capacity_of, is_strict, slots_of, IsBetweenCalls, IsSeatAt};
+ghost use Rattle.hcc_rule.specs.Callers.{capacity_of, is_strict, slots_of, IsSeatAt};
+ghost use Rattle.hcc_rule.specs.Between.{IsBetweenCalls};
 ghost use Rattle.hcc_rule.specs.Seats.{IsSameSeat, view};
 ghost use Rattle.hcc_rule.specs.ToldLedgers.{waived};
 ghost use Rattle.hcc_table.specs.Efforts.{Lost};

@@ -16,10 +16,11 @@ use Rattle.hcc_rule.specs.declared.rule.Plan.{Plan}
 use Rattle.hcc_rule.specs.declared.view.Made.{Made}
 use Rattle.hcc_rule.specs.declared.view.Other.{Other}
 use Rattle.hcc_rule.specs.declared.view.View.{View}
-use Rattle.hcc_rule.specs.Opening.{IsIdle}
+use Rattle.hcc_rule.specs.Passing.{IsIdle}
 use Rattle.hcc_rule.specs.Probes.{trail_to}
 use Rattle.hcc_rule.specs.Rule.{hand_at, Holds, IsRight}
-use Rattle.hcc_rule.specs.Views.{named_by, weight_on}
+use Rattle.hcc_rule.specs.Views.{named_by}
+use Rattle.hcc_rule.specs.Records.{weight_on}
 use Rattle.hcc_rule.specs.Words.{field_at, ledger_at, made_words}
 
 -- the words of a closed shard

@@ -15,7 +15,8 @@ use Rattle.hcc_rule.specs.declared.view.Record.{Record}
 use Rattle.hcc_rule.specs.declared.view.View.{View}
 use Rattle.hcc_rule.specs.Closing.{IsKept}
 use Rattle.hcc_rule.specs.ToldOwners.{IsDataWord}
-use Rattle.hcc_rule.specs.Views.{names, weight_on, Each}
+use Rattle.hcc_rule.specs.Views.{names, Each}
+use Rattle.hcc_rule.specs.Records.{weight_on}
 use Rattle.hcc_rule.specs.Words.{entry_of, field_at, ledger_at}
 
 -- the words of a shard and the views of all seats, without their logs

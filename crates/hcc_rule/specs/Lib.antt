@@ -1,12 +1,19 @@
 pub mod Words
 pub mod Probes
 pub mod Views
+pub mod Records
 pub mod Rule
 pub mod Images
+pub mod Puttings
+pub mod ImageLimits
 pub mod Opening
+pub mod Passing
 pub mod Seats
+pub mod NewSeats
 pub mod Logs
+pub mod PassedLogs
 pub mod Told
+pub mod Looked
 pub mod ToldReferences
 pub mod ToldLedgers
 pub mod ToldTrails
@@ -16,3 +23,6 @@ pub mod Laws
 pub mod Said
 pub mod Work
 pub mod Callers
+pub mod Between
+pub mod Beginnings
+pub mod Addresses

@@ -9,7 +9,7 @@ use Rattle.hcc_rule.specs.declared.view.Atomic.{Atomic}
 use Rattle.hcc_rule.specs.declared.view.Logged.{Logged}
 use Rattle.hcc_rule.specs.declared.view.View.{View}
 use Rattle.hcc_rule.specs.Images.{BeginsWith, entries_in}
-use Rattle.hcc_rule.specs.Opening.{opening_view, left_view, right_view, joined_view, spent_view}
+use Rattle.hcc_rule.specs.Opening.{opening_view}
 use Rattle.hcc_rule.specs.Rule.{Holds}
 use Rattle.hcc_rule.specs.Seats.{atomic, moves_of}
 use Rattle.hcc_rule.specs.Told.{Held}
@@ -51,24 +51,6 @@ module _ {T : Type 0} where
 
   abbrev pub first_logged : Plan T → Logged T
   first_logged p = logged (opening_view p) []
-
-  -- A seat that is split keeps its steps, and the new one has made none. A seat that takes in
-  -- another keeps its own, and counts the other's.
-  abbrev pub left_logged : Logged T → Logged T
-  left_logged l = record l { known = left_view l.known }
-
-  abbrev pub right_logged : Logged T → Logged T
-  right_logged l = logged (right_view l.known) []
-
-  abbrev pub joined_logged : Logged T → Logged T → Logged T
-  joined_logged l m = record {
-    known = joined_view l.known m.known;
-    steps = l.steps;
-    taken_in = l.taken_in + moves_of m;
-  }
-
-  abbrev pub spent_logged : Logged T
-  spent_logged = logged spent_view []
 
   -- What a step tells of the views, and that it is one step more of the seat.
   pub record Logs (then : table.Step (Unit {0}) → Held T → ℕ → Held T → Type 0)

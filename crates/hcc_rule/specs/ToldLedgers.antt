@@ -11,7 +11,8 @@ use Rattle.hcc_core.specs.Outcomes.{dropped}
 use Rattle.hcc_core.specs.Ledgers.{grant_of, place_granted, is_standing}
 use Rattle.hcc_rule.specs.declared.view.Record.{Record}
 use Rattle.hcc_rule.specs.declared.view.View.{View}
-use Rattle.hcc_rule.specs.Views.{charge_held, different, Each}
+use Rattle.hcc_rule.specs.Views.{Each}
+use Rattle.hcc_rule.specs.Records.{charge_held, different}
 use Rattle.hcc_rule.specs.Told.{Held}
 
 -- what of a charge is not granted at once

@@ -21,11 +21,13 @@ use Rattle.hcc_rule.specs.declared.rule.Plan.{Plan}
 use Rattle.hcc_rule.specs.declared.view.Made.{Made}
 use Rattle.hcc_rule.specs.declared.view.Record.{Record}
 use Rattle.hcc_rule.specs.declared.view.View.{View}
-use Rattle.hcc_rule.specs.Views.{is_called, load_of, record_in}
+use Rattle.hcc_rule.specs.Views.{is_called, load_of}
+use Rattle.hcc_rule.specs.Records.{record_in}
 use Rattle.hcc_rule.specs.Probes.{trail_to}
 use Rattle.hcc_rule.specs.Rule.{IsRight}
 use Rattle.hcc_rule.specs.Words.{key_of, entry_of, made_words}
-use Rattle.hcc_rule.specs.Told.{Held, Backs, after_look, found_dead}
+use Rattle.hcc_rule.specs.Told.{Held}
+use Rattle.hcc_rule.specs.Looked.{Backs, after_look, found_dead}
 
 -- the data words of an entry, but for the serial in its stamp word
 abbrev pub entry_words : Entry → List ℕ

@@ -13,8 +13,10 @@ use Rattle.hcc_rule.specs.declared.key.Key.{Key}
 use Rattle.hcc_rule.specs.declared.view.Record.{Record}
 use Rattle.hcc_rule.specs.declared.view.View.{View}
 use Rattle.hcc_rule.specs.Words.{key_of}
-use Rattle.hcc_rule.specs.Views.{is_on, is_called, record_in, Each}
-use Rattle.hcc_rule.specs.Told.{Held, after_look, noticing, Backs}
+use Rattle.hcc_rule.specs.Views.{is_on, is_called, Each}
+use Rattle.hcc_rule.specs.Records.{record_in}
+use Rattle.hcc_rule.specs.Told.{Held}
+use Rattle.hcc_rule.specs.Looked.{after_look, noticing, Backs}
 
 -- the record of an acquire of an entry, by the word that it found
 abbrev pub record_of : (slot weight name word : ℕ) → Entry → Record

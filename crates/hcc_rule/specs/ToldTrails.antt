@@ -9,7 +9,8 @@ use Rattle.hcc_core.specs.Trails.{is_slot}
 use Rattle.hcc_rule.specs.declared.view.Record.{Record}
 use Rattle.hcc_rule.specs.declared.view.View.{View}
 use Rattle.hcc_rule.specs.Probes.{trail_to}
-use Rattle.hcc_rule.specs.Views.{different, Each}
+use Rattle.hcc_rule.specs.Views.{Each}
+use Rattle.hcc_rule.specs.Records.{different}
 use Rattle.hcc_rule.specs.Words.{key_of}
 use Rattle.hcc_rule.specs.Told.{Held}
 

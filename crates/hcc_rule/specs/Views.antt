@@ -1,7 +1,6 @@
 -- What is read of the views of seats.
-use Rattle.std.specs.Prelude.{ℕ, ◌+◌, Bool, not, ◌&&◌, ◌==◌, List, [], ◌∷◌, Option, is_some, filter, find, option_map, length}
+use Rattle.std.specs.Prelude.{ℕ, ◌+◌, Bool, ◌&&◌, ◌==◌, List, [], ◌∷◌, is_some, length}
 use Rattle.hcc_core.specs.declared.slot.Reference.{Reference}
-use Rattle.hcc_core.specs.declared.slot.Stamp.{Stamp}
 use Rattle.hcc_core.specs.Sums.{when, total}
 use Rattle.hcc_rule.specs.declared.view.Record.{Record}
 use Rattle.hcc_rule.specs.declared.view.Other.{Other}
@@ -29,35 +28,9 @@ is_called name r = r.name == name
 abbrev pub load_of : List Record → ℕ
 load_of = total (λ (r : Record). r.weight)
 
--- what the records of a slot weigh
-abbrev pub weight_on : ℕ → List Record → ℕ
-weight_on slot = total (λ r. when (is_on slot r) r.weight)
-
--- the record of this name
-abbrev pub record_in : ℕ → List Record → Option Record
-record_in name records = find (is_called name) records
-
 -- how many records have this name
 abbrev pub times_called : ℕ → List Record → ℕ
 times_called name = total (λ r. when (is_called name r) 1)
-
--- those of other slots
-abbrev pub off : ℕ → List Record → List Record
-off slot records = filter (λ r. not (is_on slot r)) records
-
--- The first record of each slot, in order. Records of one slot are on one entry, and those of two
--- slots on two, so these are one record for each entry that the client holds.
-abbrev pub different : List Record → List Record
-different [] = []
-different (r ∷ rs) = r ∷ off r.slot (different rs)
-
--- the charges of the entries that they are on, each once
-abbrev pub charge_held : List Record → ℕ
-charge_held records = total (λ (r : Record). r.entry.charge) (different records)
-
--- the stamp of the entry that the records of a slot are on
-abbrev pub stamp_on : ℕ → List Record → Option Stamp
-stamp_on slot records = option_map (λ (r : Record). r.entry.stamp) (find (is_on slot) records)
 
 -- Of views.
 

@@ -3,7 +3,9 @@ ghost use Rattle.std.specs.Prelude.{◌≡◌, ◌≢◌, ℕ, ◌+◌, ◌*◌,
 ghost use Rattle.hcc_core.specs.World.{times};
 ghost use Rattle.hcc_core.specs.declared.limits.TheConstants.{MOST_SLOTS, STAMPS_PER_CLIENT};
 ghost use Rattle.hcc_rule.specs.declared.layout.TheConstants.{DATA, DISPLACEMENT, MOST_ROOM, PAYLOAD};
-ghost use Rattle.hcc_rule.specs.Images.{AreRising, BeginsWith, HaveSpace, IsSized, Puts, made_of_entry};
+ghost use Rattle.hcc_rule.specs.Images.{BeginsWith, made_of_entry};
+ghost use Rattle.hcc_rule.specs.ImageLimits.{AreRising, IsSized};
+ghost use Rattle.hcc_rule.specs.Puttings.{HaveSpace, Puts};
 ghost use Rattle.hcc_rule.specs.Probes.{trail_to};
 ghost use Rattle.hcc_rule.specs.Views.{Each};
 ghost use Rattle.hcc_rule.specs.Words.{Lies, field_at, made_words, payload, word_count, words_for};

@@ -18,7 +18,8 @@ ghost use Rattle.hcc_rule.specs.declared.layout.TheConstants.{META, USAGE, OCCUP
 ghost use Rattle.hcc_rule.specs.declared.rule.Plan.{Plan};
 ghost use Rattle.hcc_rule.specs.declared.view.View.{View};
 ghost use Rattle.hcc_rule.specs.Closing.{key_at};
-ghost use Rattle.hcc_rule.specs.Images.{AreRising, IsImageFor, entries_in};
+ghost use Rattle.hcc_rule.specs.Images.{entries_in};
+ghost use Rattle.hcc_rule.specs.ImageLimits.{AreRising, IsImageFor};
 ghost use Rattle.hcc_rule.specs.Laws.{LoggedStateOf, StateOf, due_in, ledger_word, displacement_word, has_entry, references_counted, references_held, AreMade, AreOfMade, HasWordsOfRecords};
 ghost use Rattle.hcc_rule.specs.Logs.{HasBegun, HoldsLogged, first_logged, moves_in};
 ghost use Rattle.hcc_rule.specs.Probes.{probe_slot};

@@ -1,7 +1,9 @@
 //! A new shard, and the seats of its clients.
 ghost use Rattle.std.specs.Prelude.{◌≡◌, ◌+◌, ◌≤◌, [], IfOk, length};
-ghost use Rattle.hcc_rule.specs.Callers.{plan_of, geometry_of, capacity_of, is_strict, IsSeatAt, AreSeatsAt, AreSeatsAtWith, OpensWith};
-ghost use Rattle.hcc_rule.specs.Images.{IsImageFor, entries_in};
+ghost use Rattle.hcc_rule.specs.Callers.{plan_of, geometry_of, capacity_of, is_strict, IsSeatAt};
+ghost use Rattle.hcc_rule.specs.Beginnings.{AreSeatsAt, AreSeatsAtWith, OpensWith};
+ghost use Rattle.hcc_rule.specs.Images.{entries_in};
+ghost use Rattle.hcc_rule.specs.ImageLimits.{IsImageFor};
 ghost use Rattle.hcc_rule.specs.Opening.{opening_view};
 ghost use Rattle.hcc_rule.specs.Seats.{IsPlanned, moves, steps, view};
 

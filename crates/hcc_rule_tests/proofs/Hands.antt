@@ -13,7 +13,7 @@ use Rattle.hcc_rule.specs.declared.view.Record.{Record}
 use Rattle.hcc_rule.specs.declared.view.View.{View}
 use Rattle.hcc_rule.specs.Work.{Carries, carrying}
 use Rattle.hcc_rule.specs.Probes.{trail_to}
-use Rattle.hcc_rule.specs.Told.{found_dead}
+use Rattle.hcc_rule.specs.Looked.{found_dead}
 use Rattle.hcc_rule.specs.ToldOwners.{Freed, records_left}
 use Rattle.hcc_rule.specs.ToldReferences.{after_stray}
 use Rattle.hcc_rule.specs.Words.{made_words}

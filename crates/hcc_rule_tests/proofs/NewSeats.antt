@@ -5,8 +5,9 @@ use Rattle.hcc_rule.specs.declared.image.ImageEntry.{ImageEntry}
 use Rattle.hcc_rule.specs.declared.view.View.{View}
 use Rattle.hcc_rule_tests.specs.Benches.{IsReadySeat}
 use Rattle.hcc_rule.specs.Closing.{IsBack}
-use Rattle.hcc_rule.specs.Opening.{joined_view}
-use Rattle.hcc_rule.specs.Seats.{SeatOf, moves, view, IsNewSeat, AreNewSeats, AreSeatsWith}
+use Rattle.hcc_rule.specs.Passing.{joined_view}
+use Rattle.hcc_rule.specs.Seats.{SeatOf, moves, view}
+use Rattle.hcc_rule.specs.NewSeats.{IsNewSeat, AreNewSeats, AreSeatsWith}
 
 module _ {T : Type 0} (id : TableId) (tag : T) where
   -- the seat of this index

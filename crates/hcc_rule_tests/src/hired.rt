@@ -1,6 +1,7 @@
 //! Tables for tests, and the workers of their seats.
 ghost use Rattle.std.specs.Prelude.{◌≡◌, ◌+◌, ◌≤◌, [], IfOk, length};
-ghost use Rattle.hcc_rule.specs.Callers.{plan_of, AreSeatsAt};
+ghost use Rattle.hcc_rule.specs.Callers.{plan_of};
+ghost use Rattle.hcc_rule.specs.Beginnings.{AreSeatsAt};
 ghost use Rattle.hcc_rule_tests.specs.Benches.{IsBench, IsReady};
 ghost use Rattle.hcc_rule.specs.Seats.{view};
 

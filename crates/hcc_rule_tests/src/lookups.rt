@@ -8,7 +8,7 @@ ghost use Rattle.hcc_rule.specs.Work.{Carries};
 ghost use Rattle.hcc_rule_tests.specs.Benches.{IsReady};
 ghost use Rattle.hcc_rule.specs.Seats.{view};
 ghost use Rattle.hcc_rule.specs.ToldReferences.{record_of};
-ghost use Rattle.hcc_rule.specs.Views.{record_in};
+ghost use Rattle.hcc_rule.specs.Records.{record_in};
 
 use super::worker::{NAME, Worker};
 use hcc_rule::layout::{CHARGE, KEY0, KEY1, LENGTH, PAYLOAD, STAMP};

@@ -3,7 +3,7 @@
 ghost use Rattle.std.specs.Prelude.{◌≡◌, ◌<◌, ◌∷◌, ◌++◌, length};
 ghost use Rattle.hcc_rule.specs.Callers.{plan_of, IsSeatAt};
 ghost use Rattle.hcc_rule_tests.specs.Benches.{IsBench, IsReady};
-ghost use Rattle.hcc_rule.specs.Opening.{as_other};
+ghost use Rattle.hcc_rule.specs.Passing.{as_other};
 ghost use Rattle.hcc_rule.specs.Seats.{view};
 
 use crate::any::AnyBytes;

@@ -16,7 +16,7 @@ use Rattle.hcc_rule.specs.declared.key.Key.{Key}
 use Rattle.hcc_rule.specs.declared.layout.TheConstants.{CHARGE, KEY0, KEY1}
 use Rattle.hcc_rule.specs.declared.view.View.{View}
 use Rattle.hcc_rule.specs.Closing.{Closes, IsKept, IsWithin, data_at, has_entry, over_entries, words_of}
-use Rattle.hcc_rule.specs.Images.{charges_of}
+use Rattle.hcc_rule.specs.ImageLimits.{charges_of}
 use Rattle.hcc_rule.specs.Views.{Each}
 use Rattle.hcc_shard.specs.Imaged.{AreShown, GivesFitting, IsOfWords, ShownAt, is_shown}
 use Rattle.hcc_shard.specs.Left.{AreLeft}

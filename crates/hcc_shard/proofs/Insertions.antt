@@ -15,7 +15,7 @@ use Rattle.hcc_rule.specs.declared.rule.Plan.{Plan}
 use Rattle.hcc_rule.specs.declared.steps.shows.Draft.{Draft}
 use Rattle.hcc_rule.specs.declared.view.View.{View}
 use Rattle.hcc_rule.specs.ToldOwners.{after_show, first_records, made_of, shown_entry}
-use Rattle.hcc_rule.specs.Views.{record_in}
+use Rattle.hcc_rule.specs.Records.{record_in}
 use Rattle.hcc_table.specs.Inserted.{MayInsert, Meets, Tried}
 use Rattle.hcc_table.specs.Searched.{is_key}
 use Rattle.hcc_charge.specs.declared.reserving.Refused.{Refused}

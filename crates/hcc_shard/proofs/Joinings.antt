@@ -4,9 +4,10 @@ use Rattle.hcc_core.specs.declared.client.Client.{Client}
 use Rattle.hcc_core.specs.Opening.{new_client}
 use Rattle.hcc_core.specs.Sums.{when, total}
 use Rattle.hcc_rule.specs.declared.view.View.{View}
-use Rattle.hcc_rule.specs.Callers.{IsBetweenCalls, IsSeatAt, clients_of}
+use Rattle.hcc_rule.specs.Callers.{IsSeatAt, clients_of}
+use Rattle.hcc_rule.specs.Between.{IsBetweenCalls}
 use Rattle.hcc_rule.specs.Closing.{IsBack}
-use Rattle.hcc_rule.specs.Opening.{IsIdle, as_other, joined_view}
+use Rattle.hcc_rule.specs.Passing.{IsIdle, as_other, joined_view}
 use Rattle.hcc_rule.specs.Seats.{SeatOf, IsSameSeat, view}
 use Rattle.hcc_rule.specs.Views.{Each, named_by}
 use Rattle.hcc_shard.specs.declared.seat.ShardSeat.{ShardSeat}

@@ -8,7 +8,8 @@ use Rattle.hcc_core.specs.Ledgers.{is_standing}
 use Rattle.hcc_core.specs.Outcomes.{dropped}
 use Rattle.hcc_rule.specs.declared.geometry.Geometry.{Geometry}
 use Rattle.hcc_rule.specs.declared.view.Record.{Record}
-use Rattle.hcc_rule.specs.Views.{Each, is_called, load_of, record_in}
+use Rattle.hcc_rule.specs.Views.{Each, is_called, load_of}
+use Rattle.hcc_rule.specs.Records.{record_in}
 use Rattle.hcc_table.specs.Readings.{IsReadable}
 use Rattle.hcc_shard.specs.Seated.{IsKept}
 

@@ -6,9 +6,11 @@ use Rattle.hcc_core.specs.Sums.{when, total}
 use Rattle.hcc_rule.specs.declared.geometry.Geometry.{Geometry}
 use Rattle.hcc_rule.specs.declared.view.Record.{Record}
 use Rattle.hcc_rule.specs.Seats.{IsSameSeat, made, view}
-use Rattle.hcc_rule.specs.Views.{Each, different, is_on, off, weight_on}
+use Rattle.hcc_rule.specs.Views.{Each, is_on}
+use Rattle.hcc_rule.specs.Records.{different, off, weight_on}
 use Rattle.hcc_table.specs.declared.efforts.Effort.{Effort}
-use Rattle.hcc_table.specs.Efforts.{Rose, Took}
+use Rattle.hcc_table.specs.Efforts.{Took}
+use Rattle.hcc_table.specs.Rises.{Rose}
 use Rattle.hcc_table.specs.Searched.{Sought}
 use Rattle.hcc_table.specs.Steps.{MakesAtMost}
 use Rattle.hcc_table.proofs.Finds.{seat_then}

@@ -6,7 +6,7 @@ use Rattle.hcc_core.specs.declared.limits.TheConstants.{OCCUPANCY_PERCENT}
 use Rattle.hcc_rule.specs.declared.geometry.Geometry.{Geometry}
 use Rattle.hcc_rule.specs.declared.image.ImageEntry.{ImageEntry}
 use Rattle.hcc_rule.specs.declared.key.Key.{Key}
-use Rattle.hcc_rule.specs.Images.{AreRising, IsImageEntry, IsImageFor, charges_of}
+use Rattle.hcc_rule.specs.ImageLimits.{AreRising, IsImageEntry, IsImageFor, charges_of}
 use Rattle.hcc_rule.specs.Views.{Each}
 use Rattle.hcc_shard.specs.declared.reopening.ReopenError.{ReopenError}
 use Rattle.hcc_shard.specs.Reopened.{AreFitting, HasTypes, is_free, is_long, is_rising, is_worn, refusal_of}

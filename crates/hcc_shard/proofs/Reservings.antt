@@ -12,13 +12,14 @@ use Rattle.hcc_rule.specs.declared.view.Atomic.{Atomic}
 use Rattle.hcc_rule.specs.declared.view.Made.{Made}
 use Rattle.hcc_rule.specs.declared.view.Record.{Record}
 use Rattle.hcc_rule.specs.declared.view.View.{View}
-use Rattle.hcc_rule.specs.Callers.{address_of_meta, slots_of}
+use Rattle.hcc_rule.specs.Callers.{slots_of}
+use Rattle.hcc_rule.specs.Addresses.{address_of_meta}
 use Rattle.hcc_rule.specs.Seats.{SeatOf, atomic, made, steps, view}
 use Rattle.hcc_rule.specs.ToldOwners.{after_show, first_word, made_of}
 use Rattle.hcc_rule.specs.Views.{Each}
 use Rattle.hcc_rule.specs.Words.{key_of}
 use Rattle.hcc_table.specs.declared.efforts.Effort.{Effort}
-use Rattle.hcc_table.specs.Efforts.{Rose}
+use Rattle.hcc_table.specs.Rises.{Rose}
 use Rattle.hcc_table.specs.Inserted.{IsPlaced, Meets, Tried}
 use Rattle.hcc_table.specs.Searched.{Buried}
 use Rattle.hcc_table.proofs.Logs.{adds_none, adds_then, ends_adds}

@@ -8,9 +8,11 @@ use Rattle.hcc_rule.specs.declared.geometry.Geometry.{Geometry}
 use Rattle.hcc_rule.specs.declared.key.Key.{Key}
 use Rattle.hcc_rule.specs.declared.view.Record.{Record}
 use Rattle.hcc_rule.specs.declared.view.View.{View}
-use Rattle.hcc_rule.specs.Callers.{IsBetweenCalls, geometry_of}
+use Rattle.hcc_rule.specs.Callers.{geometry_of}
+use Rattle.hcc_rule.specs.Between.{IsBetweenCalls}
 use Rattle.hcc_rule.specs.Seats.{IsSameSeat, view}
-use Rattle.hcc_rule.specs.Views.{is_called, record_in}
+use Rattle.hcc_rule.specs.Views.{is_called}
+use Rattle.hcc_rule.specs.Records.{record_in}
 use Rattle.hcc_table.specs.declared.pins.Pin.{Pin}
 use Rattle.hcc_table.specs.Pins.{IsOf, IsPinned}
 use Rattle.hcc_table.specs.Searched.{IsFound, IsMissed, Searched, Sought}

@@ -4,10 +4,12 @@ use Rattle.hcc_core.specs.declared.limits.TheConstants.{MOST_CLIENTS}
 use Rattle.hcc_rule.specs.declared.image.ImageEntry.{ImageEntry}
 use Rattle.hcc_rule.specs.declared.view.Other.{Other}
 use Rattle.hcc_rule.specs.declared.view.View.{View}
-use Rattle.hcc_rule.specs.Callers.{AreSeatsAt, AreSeatsAtWith, plan_of}
+use Rattle.hcc_rule.specs.Callers.{plan_of}
+use Rattle.hcc_rule.specs.Beginnings.{AreSeatsAt, AreSeatsAtWith}
 use Rattle.hcc_rule.specs.Images.{maker_of}
 use Rattle.hcc_rule.specs.Opening.{unstarted}
-use Rattle.hcc_rule.specs.Seats.{IsStartedSeat, SeatOf}
+use Rattle.hcc_rule.specs.Seats.{SeatOf}
+use Rattle.hcc_rule.specs.NewSeats.{IsStartedSeat}
 use Rattle.hcc_shard.specs.declared.seat.ShardSeat.{ShardSeat}
 use Rattle.hcc_shard.specs.declared.shard.Shard.{Shard}
 use Rattle.hcc_shard.specs.Seated.{AreBegun, AreNew, AreNumbered, IsBegun, IsNumbered}

@@ -4,6 +4,7 @@ use Rattle.hcc_rule.specs.declared.geometry.Geometry.{Geometry}
 use Rattle.hcc_rule.specs.declared.key.Key.{Key}
 use Rattle.hcc_rule.specs.declared.rule.Plan.{Plan}
 use Rattle.hcc_rule.specs.declared.view.View.{View}
+use Rattle.hcc_rule.specs.Addresses.{address_of_displacement, address_of_meta}
 use Rattle.hcc_rule.specs.Callers as table
 use Rattle.hcc_rule.specs.Seats.{SeatOf, Makes, made, view}
 use Rattle.hcc_table.specs.declared.hiding.Erased.{Erased}
@@ -53,7 +54,7 @@ module _ {T A : Type 0} where
   abbrev pub GivesBackAt : Shard T A → (slot : ℕ) → (used erase freed : Bool)
       → (old new : ShardSeat T) → Type 0
   GivesBackAt shard slot used erase freed old new =
-      GivesBack (table.address_of_meta shard.table slot) used erase freed old.effort new.effort
+      GivesBack (address_of_meta shard.table slot) used erase freed old.effort new.effort
       old.seat new.seat
 
 module _ {T A : Type 0} (fits : T → Key → List ℕ → Type 0) where
@@ -80,8 +81,8 @@ module _ {T A : Type 0} where
   -- one load found this meta word of a slot, or this displacement word, and was the only step
   abbrev pub LoadsWord : Shard T A → (slot word : ℕ) → (old new : ShardSeat T) → Type 0
   LoadsWord shard slot word old new =
-      Makes (table.address_of_meta shard.table slot) 0 0 word old.seat new.seat
+      Makes (address_of_meta shard.table slot) 0 0 word old.seat new.seat
 
   abbrev pub LoadsDisplacement : Shard T A → (slot count : ℕ) → (old new : ShardSeat T) → Type 0
   LoadsDisplacement shard slot count old new =
-      Makes (table.address_of_displacement shard.table slot) 0 0 count old.seat new.seat
+      Makes (address_of_displacement shard.table slot) 0 0 count old.seat new.seat

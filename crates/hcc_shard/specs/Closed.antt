@@ -3,7 +3,7 @@ use Rattle.std.specs.Prelude.{◌≡◌, List, [], ◌∷◌}
 use Rattle.hcc_core.specs.Sums.{total}
 use Rattle.hcc_rule.specs.declared.view.View.{View}
 use Rattle.hcc_rule.specs.Callers.{clients_of}
-use Rattle.hcc_rule.specs.Opening.{joined_view, spent_view}
+use Rattle.hcc_rule.specs.Passing.{joined_view, spent_view}
 use Rattle.hcc_rule.specs.Seats.{view}
 use Rattle.hcc_rule.specs.Views.{Each, named_by}
 use Rattle.hcc_shard.specs.declared.seat.ShardSeat.{ShardSeat}

@@ -1,7 +1,8 @@
 -- The counts of a client's calls on a shard, and the totals that it loads there.
 use Rattle.std.specs.Prelude.{◌≡◌, ℕ, Bool, min, if◌then◌else◌}
 use Rattle.hcc_rule.specs.declared.layout.TheConstants.{USAGE}
-use Rattle.hcc_rule.specs.Callers.{address_of_ledger, capacity_of, is_strict}
+use Rattle.hcc_rule.specs.Callers.{capacity_of, is_strict}
+use Rattle.hcc_rule.specs.Addresses.{address_of_ledger}
 use Rattle.hcc_rule.specs.Seats.{Makes, view}
 use Rattle.hcc_rule.specs.ToldLedgers.{after_usage}
 use Rattle.hcc_shard.specs.declared.seat.ShardSeat.{ShardSeat}

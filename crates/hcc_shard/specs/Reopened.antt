@@ -5,7 +5,7 @@ use Rattle.hcc_core.specs.declared.limits.TheConstants.{MOST_USES, OCCUPANCY_PER
 use Rattle.hcc_rule.specs.declared.geometry.Geometry.{Geometry}
 use Rattle.hcc_rule.specs.declared.image.ImageEntry.{ImageEntry}
 use Rattle.hcc_rule.specs.declared.key.Key.{Key}
-use Rattle.hcc_rule.specs.Images.{charges_of}
+use Rattle.hcc_rule.specs.ImageLimits.{charges_of}
 use Rattle.hcc_rule.specs.Views.{Each}
 use Rattle.hcc_shard.specs.declared.reopening.ReopenError.{ReopenError}
 use Rattle.hcc_shard.specs.declared.reopening.ReopenError.TheVariants.{BadSlot, BadLength, BadUses, BadCharge, TooMany, TooLarge}

@@ -3,11 +3,12 @@ use Rattle.std.specs.Prelude.{◌≡◌, ℕ, ◌+◌, ◌<◌, Bool, true, fals
 use Rattle.hcc_core.specs.Sums.{when}
 use Rattle.hcc_rule.specs.declared.key.Key.{Key}
 use Rattle.hcc_rule.specs.declared.steps.shows.Draft.{Draft}
-use Rattle.hcc_rule.specs.Callers.{address_of_meta, slots_of}
+use Rattle.hcc_rule.specs.Callers.{slots_of}
+use Rattle.hcc_rule.specs.Addresses.{address_of_meta}
 use Rattle.hcc_rule.specs.Probes.{probe_slot}
 use Rattle.hcc_rule.specs.Seats.{SeatOf, atomic, view}
 use Rattle.hcc_rule.specs.ToldOwners.{first_word}
-use Rattle.hcc_table.specs.Efforts.{Rose}
+use Rattle.hcc_table.specs.Rises.{Rose}
 use Rattle.hcc_table.specs.Inserted.{Meets}
 use Rattle.hcc_table.specs.Searched.{Buried, IsBefore}
 use Rattle.hcc_table.specs.Steps.{Adds, Ends}

@@ -7,7 +7,8 @@ use Rattle.hcc_rule.specs.declared.image.ImageEntry.{ImageEntry}
 use Rattle.hcc_rule.specs.declared.view.Other.{Other}
 use Rattle.hcc_rule.specs.declared.view.Record.{Record}
 use Rattle.hcc_rule.specs.declared.view.View.{View}
-use Rattle.hcc_rule.specs.Callers.{IsBetweenCalls, IsSeatAt, geometry_of, plan_of}
+use Rattle.hcc_rule.specs.Callers.{IsSeatAt, geometry_of, plan_of}
+use Rattle.hcc_rule.specs.Between.{IsBetweenCalls}
 use Rattle.hcc_rule.specs.Images.{maker_of}
 use Rattle.hcc_rule.specs.Opening.{fresh_view, unstarted}
 use Rattle.hcc_rule.specs.Seats.{SeatOf, moves, steps, view}

@@ -2,7 +2,7 @@
 ghost use Rattle.std.specs.Prelude.{◌≡◌, ◌≤◌};
 ghost use Rattle.hcc_rule.specs.Callers.{capacity_of, clients_of, geometry_of, is_strict, plan_of};
 ghost use Rattle.hcc_rule.specs.Closing.{Closes, IsWithin, words_of};
-ghost use Rattle.hcc_rule.specs.Opening.{joined_view};
+ghost use Rattle.hcc_rule.specs.Passing.{joined_view};
 ghost use Rattle.hcc_rule.specs.Seats.{view};
 ghost use Rattle.hcc_rule.specs.Views.{named_by};
 ghost use Rattle.hcc_shard.specs.Closed.{AreBack, HoldsNothing, together};

@@ -3,8 +3,10 @@ ghost use Rattle.std.specs.Prelude.{◌≡◌, ◌*◌, ◌^◌, ◌<◌, ◌≤
 ghost use Rattle.std.specs.List.{list_any};
 ghost use Rattle.hcc_core.specs.declared.limits.TheConstants.{MOST_SLOTS};
 ghost use Rattle.hcc_rule.specs.declared.layout.TheConstants.{MOST_ROOM};
-ghost use Rattle.hcc_rule.specs.Callers.{capacity_of, geometry_of, is_strict, plan_of, OpensWith};
-ghost use Rattle.hcc_rule.specs.Images.{charges_of, entries_in};
+ghost use Rattle.hcc_rule.specs.Callers.{capacity_of, geometry_of, is_strict, plan_of};
+ghost use Rattle.hcc_rule.specs.Beginnings.{OpensWith};
+ghost use Rattle.hcc_rule.specs.Images.{entries_in};
+ghost use Rattle.hcc_rule.specs.ImageLimits.{charges_of};
 ghost use Rattle.hcc_rule.specs.Seats.{IsPlanned};
 ghost use Rattle.hcc_rule.specs.Views.{Each};
 ghost use Rattle.hcc_shard.specs.declared.reopening.ReopenError.TheVariants.{OutOfMemory};

@@ -1,7 +1,8 @@
 //! A shard.
 ghost use Rattle.std.specs.Prelude.{◌≡◌, ◌≤◌, [], IfOk, length};
 ghost use Rattle.hcc_core.specs.declared.limits.TheConstants.{MOST_CLIENTS};
-ghost use Rattle.hcc_rule.specs.Callers.{capacity_of, geometry_of, is_strict, plan_of, OpensWith};
+ghost use Rattle.hcc_rule.specs.Callers.{capacity_of, geometry_of, is_strict, plan_of};
+ghost use Rattle.hcc_rule.specs.Beginnings.{OpensWith};
 ghost use Rattle.hcc_rule.specs.Seats.{IsPlanned};
 ghost use Rattle.hcc_shard.specs.Seated.{AreNew, AreNumbered};
 

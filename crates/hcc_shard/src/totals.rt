@@ -2,10 +2,11 @@
 ghost use Rattle.std.specs.Prelude.{◌≡◌, ◌+◌, ◌*◌, ◌<◌, ◌≤◌, ◌^◌, true, length};
 ghost use Rattle.hcc_core.specs.World.{limit_of, standing_of};
 ghost use Rattle.hcc_rule.specs.declared.layout.TheConstants.{OCCUPANCY};
-ghost use Rattle.hcc_rule.specs.Callers.{address_of_ledger, capacity_of, clients_of, is_strict, plan_of, slots_of};
+ghost use Rattle.hcc_rule.specs.Callers.{capacity_of, clients_of, is_strict, plan_of, slots_of};
+ghost use Rattle.hcc_rule.specs.Addresses.{address_of_ledger};
 ghost use Rattle.hcc_rule.specs.Rule.{setup_of};
 ghost use Rattle.hcc_rule.specs.Seats.{Makes, view};
-ghost use Rattle.hcc_rule.specs.Views.{charge_held, different};
+ghost use Rattle.hcc_rule.specs.Records.{charge_held, different};
 ghost use Rattle.hcc_table.specs.Efforts.{Took};
 ghost use Rattle.hcc_table.specs.Searched.{Sought};
 ghost use Rattle.hcc_table.specs.Steps.{MakesAtMost};

@@ -12,7 +12,8 @@ use Rattle.hcc_rule.specs.declared.view.Record.{Record}
 use Rattle.hcc_rule.specs.declared.view.View.{View}
 use Rattle.hcc_rule.specs.Rule.{IsRight}
 use Rattle.hcc_rule.specs.ToldOwners.{first_records, made_of, shown_entry}
-use Rattle.hcc_rule.specs.Views.{Each, load_of, record_in}
+use Rattle.hcc_rule.specs.Views.{Each, load_of}
+use Rattle.hcc_rule.specs.Records.{record_in}
 use Rattle.hcc_table.specs.Inserted.{IsPlaced, MayInsert}
 use Rattle.hcc_shard_tests.specs.ChargeGuests.{IsDrafted, IsGuest}
 use Rattle.hcc_charge.proofs.Visitings.{one_longer}

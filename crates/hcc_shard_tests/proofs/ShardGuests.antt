@@ -18,7 +18,8 @@ use Rattle.hcc_rule.specs.Callers.{clients_of}
 use Rattle.hcc_rule.specs.Images.{made_from, maker_of}
 use Rattle.hcc_rule.specs.Opening.{unstarted}
 use Rattle.hcc_rule.specs.Seats.{view}
-use Rattle.hcc_rule.specs.Views.{Each, is_called, named_by, record_in}
+use Rattle.hcc_rule.specs.Views.{Each, is_called, named_by}
+use Rattle.hcc_rule.specs.Records.{record_in}
 use Rattle.hcc_rule.proofs.Images.Fillings.{made_length}
 use Rattle.hcc_table.specs.declared.pins.Pin.{Pin}
 use Rattle.hcc_table.specs.Pins.{IsOf, IsPinned}

@@ -12,7 +12,8 @@ use Rattle.hcc_rule.specs.declared.view.View.{View}
 use Rattle.hcc_rule.specs.ToldOwners.{is_warm}
 use Rattle.hcc_rule.specs.ToldReferences.{after_hide, entry_called, with_key}
 use Rattle.hcc_core.specs.declared.slot.Entry.{Entry}
-use Rattle.hcc_rule.specs.Views.{record_in, is_called}
+use Rattle.hcc_rule.specs.Views.{is_called}
+use Rattle.hcc_rule.specs.Records.{record_in}
 use Rattle.hcc_rule.specs.Words.{key_of}
 use Rattle.hcc_rule.specs.Rule.{IsRight}
 use Rattle.hcc_table.specs.Erased.{Erases, IsAtRest, IsErased}

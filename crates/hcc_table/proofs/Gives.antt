@@ -15,7 +15,8 @@ use Rattle.hcc_rule.specs.Rule.{IsRight}
 use Rattle.hcc_rule.specs.ToldOwners.{is_warm}
 use Rattle.hcc_rule.specs.ToldReferences.{may_reach, record_of}
 use Rattle.hcc_rule.specs.Seats.{SeatOf, atomic, steps}
-use Rattle.hcc_rule.specs.Views.{is_on, is_called, record_in}
+use Rattle.hcc_rule.specs.Views.{is_on, is_called}
+use Rattle.hcc_rule.specs.Records.{record_in}
 use Rattle.hcc_rule.proofs.Basics.Findings.{find_each}
 use Rattle.hcc_table.specs.declared.pins.Pin.{Pin}
 use Rattle.hcc_table.specs.declared.efforts.Effort.{Effort}

@@ -3,7 +3,7 @@ use Rattle.std.proofs.Common.{◌≡◌, ℕ, ◌+◌, ◌++◌, false, List, []
 use Rattle.hcc_word.specs.Word.{is_empty, is_visible}
 use Rattle.hcc_rule.specs.declared.key.Key.{Key}
 use Rattle.hcc_rule.specs.declared.view.View.{View}
-use Rattle.hcc_rule.specs.Told.{Backs, after_look, found_dead}
+use Rattle.hcc_rule.specs.Looked.{Backs, after_look, found_dead}
 use Rattle.hcc_rule.specs.declared.steps.shows.Draft.{Draft}
 use Rattle.hcc_rule.specs.ToldOwners.{after_occupy, after_show, made_of}
 use Rattle.hcc_rule.specs.ToldTrails.{after_pass}

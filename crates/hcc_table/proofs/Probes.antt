@@ -10,9 +10,10 @@ use Rattle.hcc_core.specs.Lawful.{is_in}
 use Rattle.hcc_rule.specs.declared.key.Key.{Key}
 use Rattle.hcc_rule.specs.declared.view.Record.{Record}
 use Rattle.hcc_rule.specs.declared.view.View.{View}
-use Rattle.hcc_rule.specs.Told.{Backs, after_look, found_dead, noticing}
+use Rattle.hcc_rule.specs.Looked.{Backs, after_look, found_dead, noticing}
 use Rattle.hcc_rule.specs.ToldReferences.{IsMet, record_of, after_give}
-use Rattle.hcc_rule.specs.Views.{Each, is_called, record_in, stamp_on}
+use Rattle.hcc_rule.specs.Views.{Each, is_called}
+use Rattle.hcc_rule.specs.Records.{record_in, stamp_on}
 use Rattle.hcc_rule.specs.Words.{key_of}
 use Rattle.hcc_rule.proofs.Basics.Lists.{each_map}
 use Rattle.hcc_table.specs.Searched.{Searched, Sought, Reached, Buried, IsFound, is_key, times_met}

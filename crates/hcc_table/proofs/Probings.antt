@@ -6,7 +6,8 @@ use Rattle.hcc_word.specs.Word.{hit_of, is_shareable, is_visible, state_of}
 use Rattle.hcc_rule.specs.declared.key.Key.{Key}
 use Rattle.hcc_rule.specs.declared.layout.TheConstants.{KEY0, KEY1}
 use Rattle.hcc_rule.specs.declared.table.RuleTable.{RuleTable}
-use Rattle.hcc_rule.specs.Callers.{address_of_data, address_of_displacement, address_of_meta, slots_of}
+use Rattle.hcc_rule.specs.Callers.{slots_of}
+use Rattle.hcc_rule.specs.Addresses.{address_of_data, address_of_displacement, address_of_meta}
 use Rattle.hcc_rule.specs.Probes.{probe_slot}
 use Rattle.hcc_rule.specs.Seats.{SeatOf, Makes, MakesSome, atomic, steps, view}
 use Rattle.hcc_rule.specs.Views.{Each}

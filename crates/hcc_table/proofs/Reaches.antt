@@ -10,7 +10,8 @@ use Rattle.hcc_core.specs.Lawful.{is_in}
 use Rattle.hcc_rule.specs.declared.key.Key.{Key}
 use Rattle.hcc_rule.specs.declared.view.View.{View}
 use Rattle.hcc_rule.specs.ToldReferences.{Acquired, record_of, after_acquire}
-use Rattle.hcc_rule.specs.Views.{is_called, record_in}
+use Rattle.hcc_rule.specs.Views.{is_called}
+use Rattle.hcc_rule.specs.Records.{record_in}
 use Rattle.hcc_table.specs.Searched.{Searched, Sought, Reached}
 use Rattle.hcc_table.proofs.Searches.{grows_joined, searched_then, no_more}
 

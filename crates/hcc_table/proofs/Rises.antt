@@ -1,7 +1,8 @@
 -- Rises of counts, one after the other.
 use Rattle.std.proofs.Common.{◌≡◌, ℕ, ◌+◌, ◌≤◌, arith}
 use Rattle.hcc_table.specs.declared.efforts.Effort.{Effort}
-use Rattle.hcc_table.specs.Efforts.{Rose, Took}
+use Rattle.hcc_table.specs.Efforts.{Took}
+use Rattle.hcc_table.specs.Rises.{Rose}
 
 -- one rise after another
 pub rose_then : (a b c d e f old between new : ℕ) → Rose a b old between → Rose c d between new

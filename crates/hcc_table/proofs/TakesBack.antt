@@ -14,7 +14,7 @@ use Rattle.hcc_rule.proofs.Probes.ProbeLaws.{first_masked, next_masked}
 use Rattle.hcc_table.specs.declared.walk.Walk.{Walk}
 use Rattle.hcc_table.proofs.Finds.{IsAt, seat_then}
 use Rattle.hcc_rule.specs.declared.layout.TheConstants.{CHARGE}
-use Rattle.hcc_rule.specs.Told.{found_dead}
+use Rattle.hcc_rule.specs.Looked.{found_dead}
 use Rattle.hcc_rule.specs.ToldOwners.{Freed, after_free, records_left}
 use Rattle.hcc_table.specs.Freed.{IsFreed, TakenAt, emptied}
 use Rattle.hcc_table.proofs.Searches.{grows_joined}

@@ -12,7 +12,7 @@ use Rattle.hcc_rule.specs.declared.view.View.{View}
 use Rattle.hcc_rule.specs.Seats.{SeatOf, IsSameSeat, view}
 use Rattle.hcc_rule.specs.ToldOwners.{IsDataWord, entry_words}
 use Rattle.hcc_rule.specs.ToldReferences.{IsMet}
-use Rattle.hcc_rule.specs.Views.{record_in}
+use Rattle.hcc_rule.specs.Records.{record_in}
 use Rattle.hcc_rule.specs.Words.{payload_word, words_for}
 use Rattle.hcc_table.specs.Readings.{IsReadable}
 use Rattle.hcc_table.specs.Searched.{IsFound}

@@ -1,11 +1,7 @@
 -- How counts of calls rise: none of them falls.
-use Rattle.std.specs.Prelude.{◌≡◌, ℕ, ◌+◌, ◌^◌, ◌<◌, ◌≤◌}
+use Rattle.std.specs.Prelude.{◌≡◌, ℕ}
 use Rattle.hcc_table.specs.declared.efforts.Effort.{Effort}
-
--- The count rose by so much, at least and at most. Less is told of one that came to its end.
-abbrev pub Rose : (least most old new : ℕ) → Type 0
-Rose least most old new =
-    (old ≤ new) × (new + 1 < 2 ^ 64 → old + least ≤ new) × (new ≤ old + most)
+use Rattle.hcc_table.specs.Rises.{Rose}
 
 -- So many slots were visited, at least and at most; at most so many corrections were made, and as
 -- many exchanges lost.

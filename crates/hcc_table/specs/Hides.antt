@@ -6,7 +6,8 @@ use Rattle.hcc_word.specs.Word.{is_shareable, is_visible, refs_of}
 use Rattle.hcc_core.specs.Sums.{total}
 use Rattle.hcc_rule.specs.declared.key.Key.{Key}
 use Rattle.hcc_rule.specs.declared.table.RuleTable.{RuleTable}
-use Rattle.hcc_rule.specs.Callers.{address_of_displacement, address_of_meta, slots_of}
+use Rattle.hcc_rule.specs.Callers.{slots_of}
+use Rattle.hcc_rule.specs.Addresses.{address_of_displacement, address_of_meta}
 use Rattle.hcc_rule.specs.Seats.{SeatOf, Makes, view}
 use Rattle.hcc_rule.specs.Views.{Each}
 use Rattle.hcc_table.specs.declared.efforts.Effort.{Effort}

@@ -10,11 +10,12 @@ use Rattle.hcc_rule.specs.declared.view.View.{View}
 use Rattle.hcc_rule.specs.Probes.{probe_slot}
 use Rattle.hcc_rule.specs.Rule.{IsRight}
 use Rattle.hcc_rule.specs.ToldOwners.{after_show, made_of}
-use Rattle.hcc_rule.specs.Views.{load_of, record_in}
+use Rattle.hcc_rule.specs.Views.{load_of}
+use Rattle.hcc_rule.specs.Records.{record_in}
 use Rattle.hcc_table.specs.declared.efforts.Effort.{Effort}
 use Rattle.hcc_table.specs.declared.inserting.Insertion.{Insertion}
 use Rattle.hcc_table.specs.declared.inserting.Insertion.TheVariants.{Placed, Matched, NoSlot}
-use Rattle.hcc_table.specs.Efforts.{Rose}
+use Rattle.hcc_table.specs.Rises.{Rose}
 use Rattle.hcc_table.specs.Searched.{Grows, Buried, IsBefore}
 
 -- What a client has that may insert an entry: its own number, its place and its charge granted,

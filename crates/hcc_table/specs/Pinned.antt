@@ -4,7 +4,7 @@ use Rattle.hcc_word.specs.Word.{is_referenced, is_shareable}
 use Rattle.hcc_rule.specs.declared.key.Key.{Key}
 use Rattle.hcc_rule.specs.declared.table.RuleTable.{RuleTable}
 use Rattle.hcc_rule.specs.Seats.{SeatOf, view}
-use Rattle.hcc_rule.specs.Views.{record_in}
+use Rattle.hcc_rule.specs.Records.{record_in}
 use Rattle.hcc_table.specs.declared.efforts.Effort.{Effort}
 use Rattle.hcc_table.specs.Probed.{Looks, Reaches}
 use Rattle.hcc_table.specs.Steps.{Adds}

@@ -2,7 +2,7 @@
 use Rattle.std.specs.Prelude.{◌≡◌, Bool, true, false, IsSomeAnd}
 use Rattle.hcc_rule.specs.declared.view.Record.{Record}
 use Rattle.hcc_rule.specs.declared.view.View.{View}
-use Rattle.hcc_rule.specs.Views.{record_in}
+use Rattle.hcc_rule.specs.Records.{record_in}
 use Rattle.hcc_table.specs.declared.pins.IfLast.{IfLast}
 use Rattle.hcc_table.specs.declared.pins.IfLast.TheVariants.{Keep, Erase}
 use Rattle.hcc_table.specs.declared.pins.Pin.{Pin}

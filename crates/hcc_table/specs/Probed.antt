@@ -5,12 +5,14 @@ use Rattle.hcc_word.specs.Word.{hit_of, is_counting, is_empty, is_visible}
 use Rattle.hcc_rule.specs.declared.key.Key.{Key}
 use Rattle.hcc_rule.specs.declared.layout.TheConstants.{KEY0, KEY1}
 use Rattle.hcc_rule.specs.declared.table.RuleTable.{RuleTable}
-use Rattle.hcc_rule.specs.Callers.{address_of_data, address_of_displacement, address_of_meta, room_of, slots_of}
+use Rattle.hcc_rule.specs.Callers.{room_of, slots_of}
+use Rattle.hcc_rule.specs.Addresses.{address_of_data, address_of_displacement, address_of_meta}
 use Rattle.hcc_rule.specs.Probes.{probe_slot}
 use Rattle.hcc_rule.specs.Seats.{SeatOf, Makes, MakesSome, atomic, view}
-use Rattle.hcc_rule.specs.Told.{after_look}
+use Rattle.hcc_rule.specs.Looked.{after_look}
 use Rattle.hcc_rule.specs.ToldOwners.{after_occupy}
-use Rattle.hcc_rule.specs.Views.{Each, record_in}
+use Rattle.hcc_rule.specs.Views.{Each}
+use Rattle.hcc_rule.specs.Records.{record_in}
 use Rattle.hcc_rule.specs.Words.{key_of}
 use Rattle.hcc_table.specs.declared.efforts.Effort.{Effort}
 use Rattle.hcc_table.specs.declared.pins.Pin.{Pin}

@@ -9,7 +9,8 @@ use Rattle.hcc_rule.specs.declared.view.Record.{Record}
 use Rattle.hcc_rule.specs.declared.view.View.{View}
 use Rattle.hcc_rule.specs.Probes.{probe_slot}
 use Rattle.hcc_rule.specs.ToldReferences.{IsMet, record_of}
-use Rattle.hcc_rule.specs.Views.{Each, weight_on}
+use Rattle.hcc_rule.specs.Views.{Each}
+use Rattle.hcc_rule.specs.Records.{weight_on}
 use Rattle.hcc_rule.specs.Words.{key_of}
 use Rattle.hcc_core.specs.Sums.{when, total}
 

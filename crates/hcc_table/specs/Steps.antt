@@ -9,7 +9,8 @@ use Rattle.hcc_rule.specs.Views.{Each}
 use Rattle.hcc_table.specs.declared.efforts.Effort.{Effort}
 use Rattle.hcc_table.specs.declared.inserting.Insertion.{Insertion}
 use Rattle.hcc_table.specs.declared.inserting.Insertion.TheVariants.{Placed, Matched, NoSlot}
-use Rattle.hcc_table.specs.Efforts.{Corrected, Lost, Rose}
+use Rattle.hcc_table.specs.Efforts.{Corrected, Lost}
+use Rattle.hcc_table.specs.Rises.{Rose}
 
 -- these steps, and then this one
 abbrev pub after : List Atomic → Atomic → List Atomic

@@ -4,11 +4,12 @@ use Rattle.hcc_word.specs.declared.layout.TheConstants.{OCCUPIED_BIT}
 use Rattle.hcc_word.specs.Word.{is_counting, is_empty, is_visible}
 use Rattle.hcc_rule.specs.declared.key.Key.{Key}
 use Rattle.hcc_rule.specs.declared.table.RuleTable.{RuleTable}
-use Rattle.hcc_rule.specs.Callers.{address_of_displacement, address_of_meta, slots_of}
+use Rattle.hcc_rule.specs.Callers.{slots_of}
+use Rattle.hcc_rule.specs.Addresses.{address_of_displacement, address_of_meta}
 use Rattle.hcc_rule.specs.Probes.{probe_slot}
 use Rattle.hcc_rule.specs.Seats.{SeatOf, Makes, MakesSome, atomic, view}
 use Rattle.hcc_rule.specs.ToldTrails.{after_pass}
-use Rattle.hcc_rule.specs.Views.{record_in}
+use Rattle.hcc_rule.specs.Records.{record_in}
 use Rattle.hcc_rule.specs.Words.{key_of}
 use Rattle.hcc_table.specs.declared.efforts.Effort.{Effort}
 use Rattle.hcc_table.specs.declared.inserting.Insertion.{Insertion}

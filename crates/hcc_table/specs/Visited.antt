@@ -5,7 +5,7 @@ use Rattle.hcc_word.specs.declared.layout.TheConstants.{CONSTRUCTION_WORD}
 use Rattle.hcc_word.specs.Changes.{IsClockable, clocked_word}
 use Rattle.hcc_rule.specs.declared.key.Key.{Key}
 use Rattle.hcc_rule.specs.Seats.{SeatOf, Makes, atomic, view}
-use Rattle.hcc_rule.specs.Told.{Backs, after_look}
+use Rattle.hcc_rule.specs.Looked.{Backs, after_look}
 use Rattle.hcc_rule.specs.ToldOwners.{is_warm}
 use Rattle.hcc_table.specs.declared.efforts.Effort.{Effort}
 use Rattle.hcc_table.specs.declared.visiting.ClockVisit.{ClockVisit}

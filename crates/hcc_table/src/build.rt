@@ -3,7 +3,8 @@ ghost use Rattle.std.specs.Prelude.{◌≡◌, ◌+◌, ◌*◌, ◌<◌, ◌≤
 ghost use Rattle.hcc_core.specs.declared.limits.TheConstants.{MOST_CLIENTS, STAMPS_PER_CLIENT};
 ghost use Rattle.hcc_core.specs.declared.client.Owned.TheVariants.{ForBuilding};
 ghost use Rattle.hcc_rule.specs.declared.layout.TheConstants.{PAYLOAD};
-ghost use Rattle.hcc_rule.specs.Callers.{plan_of, room_of, IsSeatAt, IsSlotOf, address_of_meta};
+ghost use Rattle.hcc_rule.specs.Callers.{plan_of, room_of, IsSeatAt, IsSlotOf};
+ghost use Rattle.hcc_rule.specs.Addresses.{address_of_meta};
 ghost use Rattle.hcc_rule.specs.Seats.{IsSameSeat, view, atomic};
 ghost use Rattle.hcc_rule.specs.ToldOwners.{MayShow, after_show, made_of, first_word};
 ghost use Rattle.hcc_rule.specs.Words.{made_words, payload, stamp_word};

@@ -1,6 +1,6 @@
 //! Counts of what calls took.
 ghost use Rattle.std.specs.Prelude.{◌≡◌};
-ghost use Rattle.hcc_table.specs.Efforts.{Rose};
+ghost use Rattle.hcc_table.specs.Rises.{Rose};
 
 /// What calls took, for statistics. A count that has come to its end stays there.
 #[derive(Clone, Copy, Debug, PartialEq, Eq)]

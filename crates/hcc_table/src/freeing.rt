@@ -2,7 +2,9 @@
 ghost use Rattle.std.specs.Prelude.{◌≡◌, ◌+◌, ◌^◌, ◌<◌, ◌≤◌, [], true, IfSome, IfNone, slice_index};
 ghost use Rattle.hcc_word.specs.Word.{is_shareable};
 ghost use Rattle.hcc_rule.specs.declared.layout.TheConstants.{CHARGE};
-ghost use Rattle.hcc_rule.specs.Callers.{slots_of, room_of, IsSeatAt, IsSlotOf, MayFree, address_of_meta};
+ghost use Rattle.hcc_rule.specs.Callers.{slots_of, room_of, IsSeatAt, IsSlotOf};
+ghost use Rattle.hcc_rule.specs.Addresses.{address_of_meta};
+ghost use Rattle.hcc_rule.specs.Between.{MayFree};
 ghost use Rattle.hcc_rule.specs.Probes.{trail_to};
 ghost use Rattle.hcc_rule.specs.Seats.{IsSameSeat, view};
 ghost use Rattle.hcc_rule.specs.ToldOwners.{IsLast, records_left};

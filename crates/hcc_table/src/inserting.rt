@@ -5,11 +5,13 @@ ghost use Rattle.hcc_table.specs.declared.inserting.Insertion.TheVariants.{Place
 ghost use Rattle.hcc_rule.specs.ToldOwners.{first_word};
 ghost use Rattle.hcc_word.specs.Word.{is_empty};
 ghost use Rattle.hcc_core.specs.declared.limits.TheConstants.{MOST_WEIGHT, REFERENCES_PER_CLIENT};
-ghost use Rattle.hcc_rule.specs.Callers.{plan_of, slots_of, IsSeatAt, IsSlotOf, room_of, address_of_meta};
+ghost use Rattle.hcc_rule.specs.Callers.{plan_of, slots_of, IsSeatAt, IsSlotOf, room_of};
+ghost use Rattle.hcc_rule.specs.Addresses.{address_of_meta};
 ghost use Rattle.hcc_rule.specs.Probes.{trail_to};
 ghost use Rattle.hcc_rule.specs.Seats.{IsSameSeat, view, atomic};
 ghost use Rattle.hcc_rule.specs.ToldReferences.{may_reach};
-ghost use Rattle.hcc_rule.specs.Views.{load_of, record_in};
+ghost use Rattle.hcc_rule.specs.Views.{load_of};
+ghost use Rattle.hcc_rule.specs.Records.{record_in};
 ghost use Rattle.hcc_table.specs.Efforts.{Took};
 ghost use Rattle.hcc_table.specs.Inserted.{CountsTaken, InsertedBy, MayInsert, Meets, TriedAt};
 ghost use Rattle.hcc_table.specs.Probed.{PassesEntry};

@@ -4,7 +4,8 @@ ghost use Rattle.hcc_core.specs.declared.limits.TheConstants.{REFERENCES_PER_CLI
 ghost use Rattle.hcc_rule.specs.declared.view.Record.{Record};
 ghost use Rattle.hcc_rule.specs.Callers.{clients_of, IsSeatAt, IsSlotOf};
 ghost use Rattle.hcc_rule.specs.Seats.{IsSameSeat, view};
-ghost use Rattle.hcc_rule.specs.Views.{Each, load_of, record_in, weight_on};
+ghost use Rattle.hcc_rule.specs.Views.{Each, load_of};
+ghost use Rattle.hcc_rule.specs.Records.{record_in, weight_on};
 ghost use Rattle.hcc_table.specs.Efforts.{Took};
 ghost use Rattle.hcc_table.specs.Pinned.{CountsHeld};
 ghost use Rattle.hcc_table.specs.Searched.{Sought};

@@ -3,9 +3,12 @@ ghost use Rattle.std.specs.Prelude.{◌≡◌, ◌+◌, ◌^◌, ◌<◌, ◌≤
 ghost use Rattle.hcc_word.specs.declared.layout.TheConstants.{CONSTRUCTION_WORD};
 ghost use Rattle.hcc_word.specs.Word.{is_visible};
 ghost use Rattle.hcc_core.specs.Outcomes.{dropped};
-ghost use Rattle.hcc_rule.specs.Callers.{room_of, IsSeatAt, IsSlotOf, MayFree, slots_of, address_of_meta};
+ghost use Rattle.hcc_rule.specs.Callers.{room_of, IsSeatAt, IsSlotOf, slots_of};
+ghost use Rattle.hcc_rule.specs.Addresses.{address_of_meta};
+ghost use Rattle.hcc_rule.specs.Between.{MayFree};
 ghost use Rattle.hcc_rule.specs.Seats.{IsSameSeat, view, SeatOf, atomic};
-ghost use Rattle.hcc_rule.specs.Views.{is_called, record_in};
+ghost use Rattle.hcc_rule.specs.Views.{is_called};
+ghost use Rattle.hcc_rule.specs.Records.{record_in};
 ghost use Rattle.hcc_table.specs.Efforts.{Lost};
 ghost use Rattle.hcc_table.specs.Freed.{IsFreed, IsLeft, TriedWhereDue, is_due};
 ghost use Rattle.hcc_table.specs.Pins.{IsPinned, erases, is_useful};

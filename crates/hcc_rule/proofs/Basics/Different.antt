@@ -8,7 +8,8 @@ use Rattle.hcc_core.specs.Sums.{total}
 use Rattle.hcc_core.specs.World.{charge_of, taken_by_slot}
 use Rattle.hcc_core.proofs.SumLemmas.{total-set}
 use Rattle.hcc_rule.specs.declared.view.Record.{Record}
-use Rattle.hcc_rule.specs.Views.{different, Each}
+use Rattle.hcc_rule.specs.Views.{Each}
+use Rattle.hcc_rule.specs.Records.{different}
 use Rattle.hcc_rule.specs.Rule.{entry_by, entry_in, IsRecorded}
 use Rattle.hcc_core.proofs.ListLemmas.{read_other}
 use Rattle.hcc_rule.proofs.Basics.Lists.{each_map}

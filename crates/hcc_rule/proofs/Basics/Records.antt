@@ -9,9 +9,10 @@ use Rattle.hcc_core.specs.Outcomes.{dropped}
 use Rattle.hcc_core.proofs.SumLemmas.{sum_at, total-append}
 use Rattle.hcc_core.proofs.DroppedLemmas.{dropped-total, dropped-le}
 use Rattle.hcc_rule.specs.declared.view.Record.{Record}
-use Rattle.hcc_rule.specs.Callers.{IsBetweenCalls}
-use Rattle.hcc_rule.specs.Opening.{IsIdle}
-use Rattle.hcc_rule.specs.Views.{is_on, is_called, record_in, times_called, weight_on, load_of, off, different, Each}
+use Rattle.hcc_rule.specs.Between.{IsBetweenCalls}
+use Rattle.hcc_rule.specs.Passing.{IsIdle}
+use Rattle.hcc_rule.specs.Views.{is_on, is_called, times_called, load_of, Each}
+use Rattle.hcc_rule.specs.Records.{record_in, weight_on, off, different}
 use Rattle.hcc_rule.proofs.Basics.Findings.{none_passes, find_passes}
 
 -- Records by name.

@@ -14,7 +14,8 @@ use Rattle.hcc_rule.specs.declared.view.Record.{Record}
 use Rattle.hcc_rule.specs.declared.view.View.{View}
 use Rattle.hcc_rule.specs.Told.{Held}
 use Rattle.hcc_rule.specs.ToldOwners.{entry_words, IsDataWord, with_met, after_read, reads, reads_own}
-use Rattle.hcc_rule.specs.Views.{is_seated, is_called, record_in}
+use Rattle.hcc_rule.specs.Views.{is_seated, is_called}
+use Rattle.hcc_rule.specs.Records.{record_in}
 use Rattle.hcc_rule.specs.Words.{field_at, made_words, entry_of}
 use Rattle.hcc_rule.specs.Rule.{entry_in, IsRecorded, IsStored, IsDraft, Holds}
 use Rattle.hcc_rule.proofs.Basics.Lists.{read_at, each_set}

@@ -38,9 +38,11 @@ use Rattle.hcc_rule.specs.declared.view.Made.{Made}
 use Rattle.hcc_rule.specs.declared.view.Record.{Record}
 use Rattle.hcc_rule.specs.declared.view.View.{View}
 use Rattle.hcc_rule.specs.Probes.{trail_to}
-use Rattle.hcc_rule.specs.Told.{Held, found_dead}
+use Rattle.hcc_rule.specs.Told.{Held}
+use Rattle.hcc_rule.specs.Looked.{found_dead}
 use Rattle.hcc_rule.specs.ToldOwners.{IsLast, records_left, after_free, frees}
-use Rattle.hcc_rule.specs.Views.{reference_of, is_on, is_called, record_in, is_seated, held, Each}
+use Rattle.hcc_rule.specs.Views.{reference_of, is_on, is_called, is_seated, held, Each}
+use Rattle.hcc_rule.specs.Records.{record_in}
 use Rattle.hcc_rule.specs.Words.{field_at, entry_of, key_of, code_of}
 use Rattle.hcc_rule.specs.Rule.{entry_in, IsStored, IsRecorded, IsHolding, IsRight, Holds}
 use Rattle.hcc_rule.proofs.Basics.Lists.{within, read_at}

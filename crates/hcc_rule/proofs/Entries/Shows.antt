@@ -25,7 +25,8 @@ use Rattle.hcc_rule.specs.declared.view.Record.{Record}
 use Rattle.hcc_rule.specs.declared.view.View.{View}
 use Rattle.hcc_rule.specs.Told.{Held}
 use Rattle.hcc_rule.specs.ToldOwners.{room_for, MayShow, first_records, shown_entry, after_show, shows}
-use Rattle.hcc_rule.specs.Views.{reference_of, is_on, is_called, record_in, times_called, load_of, is_seated, Each}
+use Rattle.hcc_rule.specs.Views.{reference_of, is_on, is_called, times_called, load_of, is_seated, Each}
+use Rattle.hcc_rule.specs.Records.{record_in}
 use Rattle.hcc_rule.specs.Words.{field_at}
 use Rattle.hcc_rule.specs.Rule.{entry_by, entry_in, IsStored, IsRecorded, IsHolding, IsRight, Holds}
 use Rattle.hcc_rule.proofs.Basics.Lists.{read_at, each_map, each_append}

@@ -8,7 +8,8 @@ use Rattle.hcc_core.proofs.ListLemmas.{read_here, read_last, read_other, replica
 use Rattle.hcc_core.proofs.SumLemmas.{total-set}
 use Rattle.hcc_rule.specs.declared.image.ImageEntry.{ImageEntry}
 use Rattle.hcc_rule.specs.declared.view.Made.{Made}
-use Rattle.hcc_rule.specs.Images.{made_of_entry, made_from, AreRising, resident_of, filled, slots_with}
+use Rattle.hcc_rule.specs.Images.{made_of_entry, made_from, resident_of, filled, slots_with}
+use Rattle.hcc_rule.specs.ImageLimits.{AreRising}
 use Rattle.hcc_rule.specs.Views.{Each}
 use Rattle.hcc_rule.proofs.Basics.Lists.{there, each_set}
 

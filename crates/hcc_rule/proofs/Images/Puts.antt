@@ -1,8 +1,7 @@
 -- An entry is put into the words of a shard that begins with those before it.
-use Rattle.std.proofs.Common.{◌≡◌, ℕ, zero, suc, ◌+◌, ◌-◌, ◌*◌, ◌%◌, ◌^◌, ◌<◌, ◌≤◌, ◌≢◌, inl, inr, List, [], ◌∷◌, ◌++◌, map, take, ◌==◌, Some, get_or, length, replicate, slice_get, slice_index, slice_set, refl, sym, ap, ◌∙◌, subst, arith, bit_and, bit_or, mul-le-mul_right}
+use Rattle.std.proofs.Common.{◌≡◌, ℕ, zero, suc, ◌+◌, ◌-◌, ◌*◌, ◌%◌, ◌^◌, ◌<◌, ◌≤◌, ◌≢◌, inl, inr, List, [], ◌∷◌, ◌++◌, map, take, ◌==◌, Some, get_or, length, replicate, slice_get, slice_index, slice_set, refl, sym, ap, ◌∙◌, subst, arith, bit_and, bit_or, mul-le-mul_right, ne_eqb}
 use Rattle.std.specs.List.{range_with_len}
 use Rattle.std.proofs.lemmas.Bool.{cases_eq, cases_lt, eq-eqb}
-use Rattle.std.proofs.Common.{ne_eqb}
 use Rattle.std.proofs.lemmas.List.{length-set, length-replicate, length-take, length-take-le, take_all}
 use Rattle.std.proofs.lemmas.List.FromFn.{length-map-range_with_len, map-range_with_len_more}
 use Rattle.hcc_word.specs.Code.{code_of_empty}
@@ -16,7 +15,9 @@ use Rattle.hcc_core.proofs.SumLemmas.{total-append, length-push}
 use Rattle.hcc_rule.specs.declared.image.ImageEntry.{ImageEntry}
 use Rattle.hcc_rule.specs.declared.key.Key.{Key}
 use Rattle.hcc_rule.specs.declared.layout.TheConstants.{SLOT_HEAD, META, DISPLACEMENT, DATA, PAYLOAD, USAGE, OCCUPANCY, STANDING, HAND, LEDGER_WORDS, MOST_ROOM}
-use Rattle.hcc_rule.specs.Images.{AreRising, BeginsWith, HaveSpace, IsSized, Puts, made_of_entry, resident_of, slots_with}
+use Rattle.hcc_rule.specs.Images.{BeginsWith, made_of_entry, resident_of, slots_with}
+use Rattle.hcc_rule.specs.ImageLimits.{AreRising, IsSized}
+use Rattle.hcc_rule.specs.Puttings.{HaveSpace, Puts}
 use Rattle.hcc_rule.specs.Probes.{probe_slot, trail_to}
 use Rattle.hcc_rule.specs.Rule.{Coded}
 use Rattle.hcc_rule.specs.Views.{Each}

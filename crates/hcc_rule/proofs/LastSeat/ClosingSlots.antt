@@ -26,7 +26,8 @@ use Rattle.hcc_rule.specs.declared.view.View.{View}
 use Rattle.hcc_rule.specs.Closing.{meta_at, data_at, key_at, has_entry, over_entries, list_by, IsBack, IsSettled, IsKept, IsWithin}
 use Rattle.hcc_rule.specs.Probes.{trail_to}
 use Rattle.hcc_rule.specs.Rule.{resting, entry_in, hand_at, IsNamed, IsSpent, IsStored, Holds}
-use Rattle.hcc_rule.specs.Views.{is_seated, held, weight_on, Each}
+use Rattle.hcc_rule.specs.Views.{is_seated, held, Each}
+use Rattle.hcc_rule.specs.Records.{weight_on}
 use Rattle.hcc_rule.specs.Words.{key_of, ledger_at, made_words}
 use Rattle.hcc_rule.proofs.Parts.Addresses.{data_field}
 use Rattle.hcc_rule.proofs.Parts.Clients.{total-nothing, total-only}

@@ -19,7 +19,8 @@ use Rattle.hcc_rule.specs.declared.view.Record.{Record}
 use Rattle.hcc_rule.specs.declared.view.View.{View}
 use Rattle.hcc_rule.specs.Told.{Held}
 use Rattle.hcc_rule.specs.ToldLedgers.{Occupied, occupancies, place_at, enters, gives_slots, quits}
-use Rattle.hcc_rule.specs.Views.{is_seated, different, Each}
+use Rattle.hcc_rule.specs.Views.{is_seated, Each}
+use Rattle.hcc_rule.specs.Records.{different}
 use Rattle.hcc_rule.specs.Words.{ledger_at}
 use Rattle.hcc_rule.specs.Rule.{IsRecorded, IsModest, setup_of, Holds}
 use Rattle.hcc_rule.proofs.Basics.Lists.{read_at}

@@ -18,7 +18,8 @@ use Rattle.hcc_rule.specs.declared.view.Record.{Record}
 use Rattle.hcc_rule.specs.declared.view.View.{View}
 use Rattle.hcc_rule.specs.Told.{Held}
 use Rattle.hcc_rule.specs.ToldLedgers.{Charged, usages, needed_of, charges, settles, waived, waives}
-use Rattle.hcc_rule.specs.Views.{is_seated, different, Each}
+use Rattle.hcc_rule.specs.Views.{is_seated, Each}
+use Rattle.hcc_rule.specs.Records.{different}
 use Rattle.hcc_rule.specs.Words.{ledger_at}
 use Rattle.hcc_rule.specs.Rule.{IsRecorded, IsModest, setup_of, Holds}
 use Rattle.hcc_rule.proofs.Basics.Lists.{read_at, each_map}

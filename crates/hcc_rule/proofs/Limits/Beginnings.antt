@@ -8,7 +8,8 @@ use Rattle.hcc_word.specs.declared.layout.TheConstants.{VISIBLE}
 use Rattle.hcc_word.proofs.CodeLaws.{code_of_shareable-word_of}
 use Rattle.hcc_rule.specs.declared.image.ImageEntry.{ImageEntry}
 use Rattle.hcc_rule.specs.declared.layout.TheConstants.{META}
-use Rattle.hcc_rule.specs.Images.{AreRising, BeginsWith, resident_of, slots_with}
+use Rattle.hcc_rule.specs.Images.{BeginsWith, resident_of, slots_with}
+use Rattle.hcc_rule.specs.ImageLimits.{AreRising}
 use Rattle.hcc_rule.specs.Words.{field_at, code_of}
 use Rattle.hcc_rule.proofs.Basics.Lists.{there}
 use Rattle.hcc_rule.proofs.Images.Fillings.{filled_length, filled_at, slot_with}

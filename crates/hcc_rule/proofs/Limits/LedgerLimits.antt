@@ -9,7 +9,8 @@ use Rattle.hcc_rule.specs.declared.key.Key.{Key}
 use Rattle.hcc_rule.specs.declared.layout.TheConstants.{USAGE, OCCUPANCY, STANDING}
 use Rattle.hcc_rule.specs.declared.rule.Plan.{Plan}
 use Rattle.hcc_rule.specs.declared.view.Record.{Record}
-use Rattle.hcc_rule.specs.Views.{charge_held, Each}
+use Rattle.hcc_rule.specs.Views.{Each}
+use Rattle.hcc_rule.specs.Records.{charge_held}
 use Rattle.hcc_rule.specs.Laws.{ledger_word}
 use Rattle.hcc_rule.specs.Rule.{setup_of, IsRecorded, Holds}
 use Rattle.hcc_core.proofs.SumLemmas.{total-le, total-member}

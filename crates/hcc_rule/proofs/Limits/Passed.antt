@@ -14,7 +14,8 @@ use Rattle.hcc_rule.specs.declared.view.Record.{Record}
 use Rattle.hcc_rule.specs.declared.view.View.{View}
 use Rattle.hcc_rule.specs.Probes.{trail_to}
 use Rattle.hcc_rule.specs.ToldTrails.{passed_held, Passed}
-use Rattle.hcc_rule.specs.Views.{is_seated, different, Each}
+use Rattle.hcc_rule.specs.Views.{is_seated, Each}
+use Rattle.hcc_rule.specs.Records.{different}
 use Rattle.hcc_rule.specs.Words.{key_of}
 use Rattle.hcc_rule.specs.Rule.{setup_of, entry_in, IsRecorded, IsTrailed, Holds}
 use Rattle.hcc_rule.proofs.Basics.Lists.{each_map, within}

@@ -12,7 +12,7 @@ use Rattle.hcc_rule.specs.declared.rule.Plan.{Plan}
 use Rattle.hcc_rule.specs.declared.view.Record.{Record}
 use Rattle.hcc_rule.specs.declared.view.View.{View}
 use Rattle.hcc_rule.specs.Laws.{has_entry, references_counted, references_held, HasWordsOf, HasWordsOfRecords}
-use Rattle.hcc_rule.specs.Views.{weight_on}
+use Rattle.hcc_rule.specs.Records.{weight_on}
 use Rattle.hcc_rule.specs.Words.{code_of}
 use Rattle.hcc_rule.specs.Rule.{IsRecorded, Holds}
 use Rattle.hcc_rule.proofs.Parts.Addresses.{data_field}

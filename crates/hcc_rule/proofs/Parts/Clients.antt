@@ -15,9 +15,10 @@ use Rattle.hcc_core.specs.References.{dead_to}
 use Rattle.hcc_rule.specs.declared.view.Record.{Record}
 use Rattle.hcc_rule.specs.declared.view.View.{View}
 use Rattle.hcc_rule.specs.Words.{code_of}
-use Rattle.hcc_rule.specs.Told.{found_dead}
+use Rattle.hcc_rule.specs.Looked.{found_dead}
 use Rattle.hcc_rule.proofs.Parts.Codes.{tells_entry, tells_shown}
-use Rattle.hcc_rule.specs.Views.{reference_of, is_on, stamp_on, is_seated, held, Each}
+use Rattle.hcc_rule.specs.Views.{reference_of, is_on, is_seated, held, Each}
+use Rattle.hcc_rule.specs.Records.{stamp_on}
 use Rattle.hcc_rule.specs.Rule.{Books, entry_in, IsRecorded, References, Seats}
 use Rattle.hcc_rule.proofs.Parts.ViewParts.{unnamed, seated_else}
 

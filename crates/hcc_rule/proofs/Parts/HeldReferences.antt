@@ -8,7 +8,8 @@ use Rattle.hcc_core.specs.Sums.{when, total}
 use Rattle.hcc_core.specs.World.{references_of, is_named, reference_in, has_reference, slot_holding}
 use Rattle.hcc_rule.specs.declared.view.Record.{Record}
 use Rattle.hcc_rule.specs.declared.view.View.{View}
-use Rattle.hcc_rule.specs.Views.{reference_of, is_on, is_called, record_in, times_called, is_seated, held}
+use Rattle.hcc_rule.specs.Views.{reference_of, is_on, is_called, times_called, is_seated, held}
+use Rattle.hcc_rule.specs.Records.{record_in}
 use Rattle.hcc_rule.specs.Rule.{Books, References, Seats}
 use Rattle.hcc_rule.proofs.Parts.ViewParts.{unnamed, seated_else}
 use Rattle.hcc_rule.proofs.Parts.Clients.{total-nothing, total-only}

@@ -12,8 +12,9 @@ use Rattle.hcc_rule.specs.declared.layout.TheConstants.{META}
 use Rattle.hcc_rule.specs.declared.rule.Plan.{Plan}
 use Rattle.hcc_rule.specs.declared.view.Record.{Record}
 use Rattle.hcc_rule.specs.declared.view.View.{View}
-use Rattle.hcc_rule.specs.Told.{found_dead}
-use Rattle.hcc_rule.specs.Views.{reference_of, is_called, record_in, is_seated}
+use Rattle.hcc_rule.specs.Looked.{found_dead}
+use Rattle.hcc_rule.specs.Views.{reference_of, is_called, is_seated}
+use Rattle.hcc_rule.specs.Records.{record_in}
 use Rattle.hcc_rule.specs.Words.{field_at, code_of}
 use Rattle.hcc_rule.specs.Rule.{entry_in, IsRecorded, Holds}
 use Rattle.hcc_rule.proofs.Parts.Clients.{dead_told}

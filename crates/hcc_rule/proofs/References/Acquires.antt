@@ -19,8 +19,7 @@ use Rattle.hcc_core.specs.declared.slot.Slot.TheVariants as slots
 use Rattle.hcc_core.specs.Sums.{when, total}
 use Rattle.hcc_core.specs.World.{State, weight, counted, references_of, weight_of, counts_in, has_client, slot_holding, hidden_stamp}
 use Rattle.hcc_core.specs.Outcomes.{with_both}
-use Rattle.hcc_core.specs.References.{looks_at, most_weight, may_acquire, acquired, new_reference}
-use Rattle.hcc_core.specs.References.{slot_acquired, client_acquired}
+use Rattle.hcc_core.specs.References.{looks_at, most_weight, may_acquire, acquired, new_reference, slot_acquired, client_acquired}
 use Rattle.hcc_core.specs.Steps.{outcome_of}
 use Rattle.hcc_core.specs.Lawful.{Lawful}
 use Rattle.hcc_core.proofs.SumLemmas.{total-append}
@@ -33,7 +32,8 @@ use Rattle.hcc_rule.specs.declared.view.Record.{Record}
 use Rattle.hcc_rule.specs.declared.view.View.{View}
 use Rattle.hcc_rule.specs.Told.{Held}
 use Rattle.hcc_rule.specs.ToldReferences.{may_reach, record_of, after_stray, after_acquire, acquires}
-use Rattle.hcc_rule.specs.Views.{reference_of, is_on, is_called, load_of, record_in, times_called, is_seated, held}
+use Rattle.hcc_rule.specs.Views.{reference_of, is_on, is_called, load_of, times_called, is_seated, held}
+use Rattle.hcc_rule.specs.Records.{record_in}
 use Rattle.hcc_rule.specs.Words.{field_at, code_of}
 use Rattle.hcc_rule.specs.Rule.{IsRecorded, IsHolding, Holds, entry_in}
 use Rattle.hcc_rule.proofs.Basics.Lists.{within, read_at, each_append}

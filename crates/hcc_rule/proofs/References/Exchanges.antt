@@ -32,9 +32,11 @@ use Rattle.hcc_rule.specs.declared.layout.TheConstants.{META}
 use Rattle.hcc_rule.specs.declared.rule.Plan.{Plan}
 use Rattle.hcc_rule.specs.declared.view.Record.{Record}
 use Rattle.hcc_rule.specs.declared.view.View.{View}
-use Rattle.hcc_rule.specs.Told.{Held, noticing}
+use Rattle.hcc_rule.specs.Told.{Held}
+use Rattle.hcc_rule.specs.Looked.{noticing}
 use Rattle.hcc_rule.specs.ToldReferences.{clocks, corrects}
-use Rattle.hcc_rule.specs.Views.{is_on, record_in, is_seated, held, Each}
+use Rattle.hcc_rule.specs.Views.{is_on, is_seated, held, Each}
+use Rattle.hcc_rule.specs.Records.{record_in}
 use Rattle.hcc_rule.specs.Words.{field_at, code_of}
 use Rattle.hcc_rule.specs.Rule.{IsRecorded, Holds}
 use Rattle.hcc_rule.proofs.Basics.Lists.{within, read_at}

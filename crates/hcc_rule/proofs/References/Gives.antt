@@ -29,7 +29,8 @@ use Rattle.hcc_rule.specs.declared.view.Record.{Record}
 use Rattle.hcc_rule.specs.declared.view.View.{View}
 use Rattle.hcc_rule.specs.Told.{Held}
 use Rattle.hcc_rule.specs.ToldReferences.{after_give, IsReferenced, gives}
-use Rattle.hcc_rule.specs.Views.{reference_of, is_on, is_called, record_in, is_seated, held}
+use Rattle.hcc_rule.specs.Views.{reference_of, is_on, is_called, is_seated, held}
+use Rattle.hcc_rule.specs.Records.{record_in}
 use Rattle.hcc_rule.specs.Words.{field_at, code_of}
 use Rattle.hcc_rule.specs.Rule.{IsRecorded, IsHolding, Holds}
 use Rattle.hcc_rule.proofs.Basics.Lists.{within, read_at}

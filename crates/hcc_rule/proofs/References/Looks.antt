@@ -9,7 +9,7 @@ use Rattle.hcc_core.specs.declared.event.Reply.{Reply}
 use Rattle.hcc_core.specs.declared.event.Reply.TheVariants as replies
 use Rattle.hcc_core.specs.declared.client.Client.{Client}
 use Rattle.hcc_core.specs.declared.slot.Slot.{Slot}
-use Rattle.hcc_core.specs.World.{State, phase_of}
+use Rattle.hcc_core.specs.World.{State, phase_of, weight, references_of}
 use Rattle.hcc_core.specs.Outcomes.{with_both}
 use Rattle.hcc_core.specs.References.{client_looked}
 use Rattle.hcc_core.specs.Steps.{outcome_of, fits as in_bits}
@@ -20,14 +20,15 @@ use Rattle.hcc_rule.specs.declared.key.Key.{Key}
 use Rattle.hcc_rule.specs.declared.layout.TheConstants.{META}
 use Rattle.hcc_rule.specs.declared.rule.Plan.{Plan}
 use Rattle.hcc_rule.specs.declared.view.View.{View}
-use Rattle.hcc_rule.specs.Told.{Held, Backs, after_look, looks}
+use Rattle.hcc_rule.specs.Told.{Held}
+use Rattle.hcc_rule.specs.Looked.{Backs, after_look, looks}
 use Rattle.hcc_word.proofs.CodeLaws.{refs_of-shareable}
 use Rattle.hcc_core.specs.declared.slot.Reference.{Reference}
 use Rattle.hcc_core.specs.declared.slot.Slot.TheVariants as slots
 use Rattle.hcc_core.specs.Sums.{total}
-use Rattle.hcc_core.specs.World.{weight, references_of}
 use Rattle.hcc_core.proofs.SumLemmas.{total-member}
-use Rattle.hcc_rule.specs.Views.{is_seated, held, weight_on, Each, stamp_on, is_on}
+use Rattle.hcc_rule.specs.Views.{is_seated, held, Each, is_on}
+use Rattle.hcc_rule.specs.Records.{weight_on, stamp_on}
 use Rattle.hcc_rule.specs.Words.{field_at, code_of}
 use Rattle.hcc_rule.specs.Rule.{Holds, entry_in, IsRecorded, setup_of}
 use Rattle.hcc_rule.proofs.Basics.Lists.{within, there, read_at, each_map}

@@ -31,9 +31,11 @@ use Rattle.hcc_rule.specs.declared.layout.TheConstants.{META}
 use Rattle.hcc_rule.specs.declared.rule.Plan.{Plan}
 use Rattle.hcc_rule.specs.declared.view.Record.{Record}
 use Rattle.hcc_rule.specs.declared.view.View.{View}
-use Rattle.hcc_rule.specs.Told.{Held, noticing}
+use Rattle.hcc_rule.specs.Told.{Held}
+use Rattle.hcc_rule.specs.Looked.{noticing}
 use Rattle.hcc_rule.specs.ToldReferences.{after_hide, hides, marks}
-use Rattle.hcc_rule.specs.Views.{record_in, is_seated}
+use Rattle.hcc_rule.specs.Views.{is_seated}
+use Rattle.hcc_rule.specs.Records.{record_in}
 use Rattle.hcc_rule.specs.Words.{field_at, code_of}
 use Rattle.hcc_rule.specs.Rule.{Holds}
 use Rattle.hcc_rule.proofs.Basics.Lists.{within, read_at}

@@ -29,7 +29,8 @@ use Rattle.hcc_rule.specs.declared.view.Record.{Record}
 use Rattle.hcc_rule.specs.declared.view.View.{View}
 use Rattle.hcc_rule.specs.Told.{Held}
 use Rattle.hcc_rule.specs.ToldReferences.{after_give, IsReferenced, spends}
-use Rattle.hcc_rule.specs.Views.{reference_of, record_in, is_seated}
+use Rattle.hcc_rule.specs.Views.{reference_of, is_seated}
+use Rattle.hcc_rule.specs.Records.{record_in}
 use Rattle.hcc_rule.specs.Words.{field_at, code_of}
 use Rattle.hcc_rule.specs.Rule.{Holds}
 use Rattle.hcc_rule.proofs.Basics.Lists.{within, read_at}

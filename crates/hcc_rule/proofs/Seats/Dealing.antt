@@ -5,8 +5,10 @@ use Rattle.atomic_table.specs.Seated.{TableId}
 use Rattle.hcc_core.proofs.SumLemmas.{length-push}
 use Rattle.hcc_rule.specs.declared.view.Other.{Other}
 use Rattle.hcc_rule.specs.declared.view.View.{View}
-use Rattle.hcc_rule.specs.Opening.{fresh_view, unstarted, left_view, right_view}
-use Rattle.hcc_rule.specs.Seats.{SeatOf, moves, steps, view, IsSameSeat, IsSeatOf, IsNewSeat, IsStartedSeat, AreNewSeats}
+use Rattle.hcc_rule.specs.Opening.{fresh_view, unstarted}
+use Rattle.hcc_rule.specs.Passing.{left_view, right_view}
+use Rattle.hcc_rule.specs.Seats.{SeatOf, moves, steps, view, IsSameSeat, IsSeatOf}
+use Rattle.hcc_rule.specs.NewSeats.{IsNewSeat, IsStartedSeat, AreNewSeats}
 
 -- the clients from one number on that were not started yet
 abbrev pub unstarted_from : (next clients : ℕ) → List Other

@@ -25,7 +25,7 @@ use Rattle.hcc_rule.specs.declared.view.Other.{Other}
 use Rattle.hcc_rule.specs.declared.view.View.{View}
 use Rattle.hcc_rule.specs.Views.{is_seated, held, names, named_by, Each}
 use Rattle.hcc_rule.specs.Rule.{book_of, IsDraft, IsHolding, IsNamed, IsSeated, Seats, Stamps, IsModest, Ledgers, Trails, resting, Holds}
-use Rattle.hcc_rule.specs.Opening.{IsIdle, as_other, joined_view, spent_view}
+use Rattle.hcc_rule.specs.Passing.{IsIdle, as_other, joined_view, spent_view}
 use Rattle.hcc_rule.proofs.Basics.Lists.{within, read_at, each_set, each_append}
 use Rattle.hcc_rule.proofs.Parts.Clients.{held_count, no_client}
 use Rattle.hcc_rule.proofs.Parts.ViewParts.{when_few, names_own, unnamed, seated_else, others_else}

@@ -15,8 +15,9 @@ use Rattle.hcc_rule.specs.declared.key.Key.{Key}
 use Rattle.hcc_rule.specs.declared.rule.Plan.{Plan}
 use Rattle.hcc_rule.specs.declared.view.Logged.{Logged}
 use Rattle.hcc_rule.specs.declared.view.View.{View}
-use Rattle.hcc_rule.specs.Logs.{Logs, HoldsLogged, known_of, unlogged, left_logged, right_logged, joined_logged, spent_logged}
-use Rattle.hcc_rule.specs.Opening.{left_view, right_view, joined_view, spent_view}
+use Rattle.hcc_rule.specs.Logs.{Logs, HoldsLogged, known_of, unlogged}
+use Rattle.hcc_rule.specs.PassedLogs.{left_logged, right_logged, joined_logged, spent_logged}
+use Rattle.hcc_rule.specs.Passing.{left_view, right_view, joined_view, spent_view}
 use Rattle.hcc_rule.specs.Rule.{Holds}
 use Rattle.hcc_rule.specs.Seats.{atomic, moves_of}
 use Rattle.hcc_rule.specs.Told.{Held}

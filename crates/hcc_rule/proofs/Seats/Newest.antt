@@ -5,7 +5,8 @@ use Rattle.std.proofs.lemmas.Bool.{eq-eqb}
 use Rattle.hcc_core.specs.Outcomes.{dropped}
 use Rattle.hcc_core.proofs.SumLemmas.{total-append}
 use Rattle.hcc_rule.specs.declared.view.Record.{Record}
-use Rattle.hcc_rule.specs.Views.{is_called, load_of, record_in}
+use Rattle.hcc_rule.specs.Views.{is_called, load_of}
+use Rattle.hcc_rule.specs.Records.{record_in}
 
 -- where none passes before it, a member that passes is found, and is the one that is dropped
 last_found : {A : Type 0} (p : A → Bool) (xs : List A) (x : A) → p x ≡ true → find p xs ≡ None

@@ -1,13 +1,12 @@
 -- The words of a shard that begins with the entries of an image show a lawful world: that of these
 -- entries, in which client 0 was started.
 use Rattle.std.proofs.Common.{◌≡◌, ℕ, zero, suc, ◌+◌, ◌-◌, ◌*◌, ◌^◌, ◌<◌, ◌≤◌, inl, inr, ◌==◌, nat_lt, Bool, true, false, ◌≢◌, List, [], ◌∷◌, map, Option, Some, None, replicate, length, slice_get, slice_index, slice_set, sym, refl, ap, ◌∙◌, arith, ne_eqb}
-use Rattle.std.proofs.lemmas.Bool.{false≢true}
+use Rattle.std.proofs.lemmas.Bool.{false≢true, cases_eq, lt-ltb, false_from_ne_true, ltb-true}
 use mathlib.Core.Logic.{dite}
 use native.Mathlib.Decide.{dec_le, ℕ_discrete}
 use Rattle.std.specs.Prelude.{if◌then◌else◌}
 use Rattle.std.specs.List.{range_with_len}
 use Rattle.std.specs.Option.{unwrap_or}
-use Rattle.std.proofs.lemmas.Bool.{cases_eq, lt-ltb, false_from_ne_true, ltb-true}
 use Rattle.std.proofs.lemmas.List.{length-set, length-replicate}
 use Rattle.std.proofs.lemmas.List.FromFn.{length-map-range_with_len}
 use Rattle.atomic_table.specs.Table.{opening}
@@ -28,7 +27,8 @@ use Rattle.hcc_rule.specs.declared.key.Key.{Key}
 use Rattle.hcc_rule.specs.declared.rule.Plan.{Plan}
 use Rattle.hcc_rule.specs.declared.view.Made.{Made}
 use Rattle.hcc_rule.specs.declared.view.Other.{Other}
-use Rattle.hcc_rule.specs.Images.{entries_in, made_of_entry, made_from, charges_of, IsImageEntry, IsImageFor, resident_of, slots_with, BeginsWith}
+use Rattle.hcc_rule.specs.Images.{entries_in, made_of_entry, made_from, resident_of, slots_with, BeginsWith}
+use Rattle.hcc_rule.specs.ImageLimits.{charges_of, IsImageEntry, IsImageFor}
 use Rattle.hcc_rule.specs.Probes.{probe_slot, probe_slots, before, trail_to}
 use Rattle.hcc_rule.specs.Views.{Each}
 use Rattle.hcc_rule.specs.Rule.{Books, book_of, made_at, entry_by, entry_in, setup_of, IsStored, IsDraft, IsHolding, IsNamed, IsRight, IsSeated, Seats, Stamps, Ledgers, Trails, IsTrailed, IsModest, Holds}

@@ -21,7 +21,8 @@ use Rattle.hcc_rule.specs.declared.view.Other.{Other}
 use Rattle.hcc_rule.specs.declared.view.View.{View}
 use Rattle.hcc_rule.specs.Views.{is_seated, held, names, named_by, Each}
 use Rattle.hcc_rule.specs.Rule.{book_of, IsDraft, IsHolding, IsNamed, IsSeated, Seats, Stamps, IsModest, Ledgers, Trails, resting, Holds}
-use Rattle.hcc_rule.specs.Opening.{started, fresh_view, left_view, right_view}
+use Rattle.hcc_rule.specs.Opening.{started, fresh_view}
+use Rattle.hcc_rule.specs.Passing.{left_view, right_view}
 use Rattle.hcc_rule.proofs.Basics.Lists.{within, read_at, each_set}
 use Rattle.hcc_rule.proofs.Parts.ViewParts.{total-two, when_few, when_is, seated_else, others_else}
 use Rattle.hcc_rule.proofs.Parts.WorldParts.{hand_same}

@@ -3,7 +3,8 @@ ghost use Rattle.std.specs.Prelude.{◌≡◌, ◌+◌, ◌^◌, ◌<◌, ◌≤
 ghost use Rattle.hcc_word.specs.declared.layout.TheConstants.{CONSTRUCTION_WORD};
 ghost use Rattle.hcc_word.specs.Word.{is_shareable};
 ghost use Rattle.hcc_core.specs.World.{owns_nothing};
-ghost use Rattle.hcc_rule.specs.Callers.{address_of_meta, IsSeatAt};
+ghost use Rattle.hcc_rule.specs.Callers.{IsSeatAt};
+ghost use Rattle.hcc_rule.specs.Addresses.{address_of_meta};
 ghost use Rattle.hcc_rule.specs.Seats.{IsSameSeat, Makes, view};
 ghost use Rattle.hcc_rule.specs.ToldOwners.{IsLast, Freed};
 

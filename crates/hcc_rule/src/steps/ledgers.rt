@@ -4,11 +4,13 @@ ghost use Rattle.hcc_core.specs.Lawful.{real_to};
 ghost use Rattle.hcc_core.specs.World.{charged_to};
 ghost use Rattle.hcc_rule.specs.declared.layout.TheConstants.{LEDGER_WORDS, USAGE};
 ghost use Rattle.hcc_rule.specs.declared.view.Record.{Record};
-ghost use Rattle.hcc_rule.specs.Callers.{address_of_ledger, capacity_of, clients_of, is_strict, plan_of, IsSeatAt};
+ghost use Rattle.hcc_rule.specs.Callers.{capacity_of, clients_of, is_strict, plan_of, IsSeatAt};
+ghost use Rattle.hcc_rule.specs.Addresses.{address_of_ledger};
 ghost use Rattle.hcc_rule.specs.Rule.{setup_of};
 ghost use Rattle.hcc_rule.specs.Seats.{IsSameSeat, Makes, MakesSome, view};
 ghost use Rattle.hcc_rule.specs.ToldLedgers.{Charged, after_usage, after_charge, after_settle, after_waive, waived};
-ghost use Rattle.hcc_rule.specs.Views.{charge_held, Each};
+ghost use Rattle.hcc_rule.specs.Views.{Each};
+ghost use Rattle.hcc_rule.specs.Records.{charge_held};
 ghost use Rattle.hcc_rule.specs.Words.{ledger_at};
 
 use crate::key::Tag;

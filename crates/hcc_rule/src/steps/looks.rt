@@ -1,9 +1,10 @@
 //! Loads of meta words.
 ghost use Rattle.std.specs.Prelude.{◌≡◌, ◌<◌};
-ghost use Rattle.hcc_rule.specs.Callers.{address_of_meta, plan_of, IsSeatAt};
+ghost use Rattle.hcc_rule.specs.Callers.{plan_of, IsSeatAt};
+ghost use Rattle.hcc_rule.specs.Addresses.{address_of_meta};
 ghost use Rattle.hcc_rule.specs.Rule.{setup_of};
 ghost use Rattle.hcc_rule.specs.Seats.{IsSameSeat, Makes, view};
-ghost use Rattle.hcc_rule.specs.Told.{after_look, Alone, Backs};
+ghost use Rattle.hcc_rule.specs.Looked.{after_look, Alone, Backs};
 
 use crate::key::Tag;
 use crate::layout::META;

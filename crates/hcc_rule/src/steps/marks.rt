@@ -3,10 +3,11 @@ ghost use Rattle.std.specs.Prelude.{◌≡◌, ◌<◌, true, false, IsSomeAnd};
 ghost use Rattle.hcc_word.specs.declared.layout.TheConstants.{HIDING_MASK, HIT_BIT};
 ghost use Rattle.hcc_word.specs.Word.{is_shareable};
 ghost use Rattle.hcc_word.specs.Changes.{IsClockable, clocked_word, IsCorrectable, corrected_word};
-ghost use Rattle.hcc_rule.specs.Callers.{address_of_meta, IsSeatAt};
+ghost use Rattle.hcc_rule.specs.Callers.{IsSeatAt};
+ghost use Rattle.hcc_rule.specs.Addresses.{address_of_meta};
 ghost use Rattle.hcc_rule.specs.Seats.{IsSameSeat, Makes, view};
-ghost use Rattle.hcc_rule.specs.Told.{noticing};
-ghost use Rattle.hcc_rule.specs.Views.{record_in};
+ghost use Rattle.hcc_rule.specs.Looked.{noticing};
+ghost use Rattle.hcc_rule.specs.Records.{record_in};
 ghost use Rattle.hcc_rule.specs.ToldReferences.{after_hide, after_clock, after_correct};
 
 use crate::key::Tag;

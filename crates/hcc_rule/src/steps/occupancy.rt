@@ -3,11 +3,12 @@ ghost use Rattle.std.specs.Prelude.{◌≡◌, ◌+◌, ◌<◌, ◌≤◌, true
 ghost use Rattle.hcc_core.specs.declared.client.Place.TheVariants.{Absent};
 ghost use Rattle.hcc_core.specs.World.{occupied_by, is_placed, limit_of};
 ghost use Rattle.hcc_rule.specs.declared.layout.TheConstants.{OCCUPANCY};
-ghost use Rattle.hcc_rule.specs.Callers.{address_of_ledger, plan_of, IsSeatAt};
+ghost use Rattle.hcc_rule.specs.Callers.{plan_of, IsSeatAt};
+ghost use Rattle.hcc_rule.specs.Addresses.{address_of_ledger};
 ghost use Rattle.hcc_rule.specs.Rule.{setup_of};
 ghost use Rattle.hcc_rule.specs.Seats.{IsSameSeat, Makes, MakesSome, view};
 ghost use Rattle.hcc_rule.specs.ToldLedgers.{after_enter, after_slots, after_quit};
-ghost use Rattle.hcc_rule.specs.Views.{different};
+ghost use Rattle.hcc_rule.specs.Records.{different};
 
 use crate::key::Tag;
 use crate::layout::OCCUPANCY;

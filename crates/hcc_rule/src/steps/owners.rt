@@ -4,9 +4,10 @@ ghost use Rattle.hcc_word.specs.declared.layout.TheConstants.{EMPTY_WORD, OCCUPI
 ghost use Rattle.hcc_core.specs.declared.client.Owned.TheVariants.{ForBuilding, ForFreeing};
 ghost use Rattle.hcc_core.specs.World.{owns_nothing};
 ghost use Rattle.hcc_rule.specs.declared.layout.TheConstants.{DATA, PAYLOAD};
-ghost use Rattle.hcc_rule.specs.Callers.{address_of_data, address_of_meta, IsSeatAt};
+ghost use Rattle.hcc_rule.specs.Callers.{IsSeatAt};
+ghost use Rattle.hcc_rule.specs.Addresses.{address_of_data, address_of_meta};
 ghost use Rattle.hcc_rule.specs.Seats.{IsSameSeat, Makes, view};
-ghost use Rattle.hcc_rule.specs.Told.{Backs};
+ghost use Rattle.hcc_rule.specs.Looked.{Backs};
 ghost use Rattle.hcc_rule.specs.ToldOwners.{after_occupy, after_empty, after_write};
 ghost use Rattle.hcc_rule.specs.Words.{field_at};
 

@@ -2,10 +2,11 @@
 ghost use Rattle.std.specs.Prelude.{◌≡◌, ◌+◌, ◌<◌, Some, IfSome, IsSomeAnd, length, slice_index};
 ghost use Rattle.hcc_core.specs.Lawful.{owned_slot};
 ghost use Rattle.hcc_rule.specs.declared.layout.TheConstants.{DATA, PAYLOAD};
-ghost use Rattle.hcc_rule.specs.Callers.{address_of_data, IsSeatAt};
+ghost use Rattle.hcc_rule.specs.Callers.{IsSeatAt};
+ghost use Rattle.hcc_rule.specs.Addresses.{address_of_data};
 ghost use Rattle.hcc_rule.specs.Seats.{IsSameSeat, Makes, view};
 ghost use Rattle.hcc_rule.specs.ToldOwners.{IsDataWord, after_read};
-ghost use Rattle.hcc_rule.specs.Views.{record_in};
+ghost use Rattle.hcc_rule.specs.Records.{record_in};
 ghost use Rattle.hcc_rule.specs.Words.{field_at};
 
 use crate::key::Tag;

@@ -2,7 +2,7 @@
 ghost use Rattle.std.specs.Prelude.{◌≡◌, ◌+◌, ◌∷◌, [], List};
 ghost use Rattle.hcc_rule.specs.declared.view.Other.{Other};
 ghost use Rattle.hcc_rule.specs.Callers.{IsSeatAt};
-ghost use Rattle.hcc_rule.specs.Opening.{IsIdle, joined_view, left_view, right_view};
+ghost use Rattle.hcc_rule.specs.Passing.{IsIdle, joined_view, left_view, right_view};
 ghost use Rattle.hcc_rule.specs.Seats.{IsSameSeat, moves, steps, view};
 
 use crate::key::Tag;
@@ -15,7 +15,7 @@ use std::alloc::Allocator;
 pub struct Start;
 
 impl<T: Tag> Split<Logged<T>> for Start {
-    ghost use Rattle.hcc_rule.specs.Logs.{left_logged, right_logged};
+    ghost use Rattle.hcc_rule.specs.PassedLogs.{left_logged, right_logged};
 
     ghost left = { left_logged };
 
@@ -26,7 +26,7 @@ impl<T: Tag> Split<Logged<T>> for Start {
 pub struct End;
 
 impl<T: Tag> Join<Logged<T>> for End {
-    ghost use Rattle.hcc_rule.specs.Logs.{joined_logged, spent_logged};
+    ghost use Rattle.hcc_rule.specs.PassedLogs.{joined_logged, spent_logged};
 
     ghost both = { joined_logged };
 

@@ -6,11 +6,12 @@ ghost use Rattle.hcc_core.specs.World.{standing_of};
 ghost use Rattle.hcc_core.specs.Ledgers.{is_standing};
 ghost use Rattle.hcc_core.specs.declared.limits.TheConstants.{MOST_HANDLES};
 ghost use Rattle.hcc_rule.specs.declared.layout.TheConstants.{STANDING};
-ghost use Rattle.hcc_rule.specs.Callers.{address_of_ledger, capacity_of, clients_of, is_strict, plan_of, IsSeatAt};
+ghost use Rattle.hcc_rule.specs.Callers.{capacity_of, clients_of, is_strict, plan_of, IsSeatAt};
+ghost use Rattle.hcc_rule.specs.Addresses.{address_of_ledger};
 ghost use Rattle.hcc_rule.specs.Rule.{setup_of};
 ghost use Rattle.hcc_rule.specs.Seats.{IsSameSeat, Makes, MakesSome, view};
 ghost use Rattle.hcc_rule.specs.ToldLedgers.{after_stand, after_fall};
-ghost use Rattle.hcc_rule.specs.Views.{charge_held};
+ghost use Rattle.hcc_rule.specs.Records.{charge_held};
 
 use crate::key::Tag;
 use crate::layout::STANDING;

@@ -4,12 +4,14 @@ ghost use Rattle.std.specs.List.{list_any};
 ghost use Rattle.hcc_core.specs.World.{times, limit_of};
 ghost use Rattle.hcc_core.specs.Trails.{is_slot};
 ghost use Rattle.hcc_rule.specs.declared.view.Record.{Record};
-ghost use Rattle.hcc_rule.specs.Callers.{address_of_displacement, clients_of, plan_of, slots_of, IsSeatAt};
+ghost use Rattle.hcc_rule.specs.Callers.{clients_of, plan_of, slots_of, IsSeatAt};
+ghost use Rattle.hcc_rule.specs.Addresses.{address_of_displacement};
 ghost use Rattle.hcc_rule.specs.Probes.{trail_to};
 ghost use Rattle.hcc_rule.specs.Rule.{setup_of};
 ghost use Rattle.hcc_rule.specs.Seats.{IsSameSeat, Makes, MakesSome, view};
 ghost use Rattle.hcc_rule.specs.ToldTrails.{after_pass, after_unpass, passed_held, Passed};
-ghost use Rattle.hcc_rule.specs.Views.{different, Each};
+ghost use Rattle.hcc_rule.specs.Views.{Each};
+ghost use Rattle.hcc_rule.specs.Records.{different};
 ghost use Rattle.hcc_rule.specs.Words.{key_of};
 
 use crate::key::Tag;

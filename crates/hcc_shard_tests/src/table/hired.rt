@@ -1,6 +1,7 @@
 //! A shard for tests, and the callers of its seats.
 ghost use Rattle.std.specs.Prelude.{◌≡◌, ◌+◌, ◌≤◌, true, IfOk, length};
-ghost use Rattle.hcc_rule.specs.Callers.{plan_of, slots_of, AreSeatsAt};
+ghost use Rattle.hcc_rule.specs.Callers.{plan_of, slots_of};
+ghost use Rattle.hcc_rule.specs.Beginnings.{AreSeatsAt};
 ghost use Rattle.hcc_rule_tests.specs.Benches.{IsReady};
 ghost use Rattle.hcc_rule.specs.Seats.{view};
 ghost use Rattle.hcc_shard_tests.specs.Handles.{IsSmall};

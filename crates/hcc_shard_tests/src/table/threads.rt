@@ -3,7 +3,8 @@ ghost use Rattle.std.specs.Prelude.{◌≡◌, ◌<◌, ◌≤◌, length};
 ghost use Rattle.std.specs.Thread.{IsSync};
 ghost use Rattle.hcc_core.specs.declared.limits.TheConstants.{MOST_CLIENTS};
 ghost use Rattle.hcc_rule_tests.specs.Benches.{IsReady, IsReadySeatAt};
-ghost use Rattle.hcc_rule.specs.Callers.{plan_of, AreSeatsAt, IsSeatAt};
+ghost use Rattle.hcc_rule.specs.Callers.{plan_of, IsSeatAt};
+ghost use Rattle.hcc_rule.specs.Beginnings.{AreSeatsAt};
 ghost use Rattle.hcc_rule.specs.Seats.{view};
 ghost use Rattle.hcc_shard_tests.specs.Handles.{IsSmall};
 

@@ -1,5 +1,5 @@
 use Rattle.std.proofs.Common.{◌≡◌, ◌+◌, ◌*◌, ◌^◌, ◌≤◌, drop}
-use Rattle.hcc_rule.specs.Images.{charges_of}
+use Rattle.hcc_rule.specs.ImageLimits.{charges_of}
 use Rattle.hcc_shard.proofs.reopening.charges_in.Given as goal
 
 abbrev pub invariant-loop-entry : goal.invariant-loop-entry

@@ -1,6 +1,6 @@
 use Rattle.std.proofs.Common.{length, ap, sym, ◌∙◌}
 use Rattle.hcc_rule.specs.declared.view.Atomic.{Atomic}
-use Rattle.hcc_rule.specs.Callers.{address_of_meta}
+use Rattle.hcc_rule.specs.Addresses.{address_of_meta}
 use Rattle.hcc_rule.specs.Seats.{Makes, atomic}
 use Rattle.hcc_table.proofs.Logs.{begins_then, light, makes_two, unmarked_adds, unmarked_one, unmarked_then}
 use Rattle.hcc_table.proofs.Reaches.{relieves}

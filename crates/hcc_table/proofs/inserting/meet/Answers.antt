@@ -1,7 +1,7 @@
 use Rattle.std.proofs.Common.{◌≡◌, refl, sym}
 use Rattle.hcc_word.specs.Word.{is_shareable}
 use Rattle.hcc_rule.specs.declared.view.Atomic.{Atomic}
-use Rattle.hcc_rule.specs.Callers.{address_of_meta}
+use Rattle.hcc_rule.specs.Addresses.{address_of_meta}
 use Rattle.hcc_rule.specs.Seats.{atomic, view}
 use Rattle.hcc_table.specs.Steps.{Adds}
 use Rattle.hcc_table.proofs.Logs.{adds_none, adds_one, adds_then, among_at, among_first, among_then, begins_adds, unmarked_adds}

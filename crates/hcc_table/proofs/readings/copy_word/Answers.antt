@@ -1,5 +1,5 @@
 use Rattle.hcc_rule.specs.Seats.{view}
-use Rattle.hcc_rule.specs.Views.{record_in}
+use Rattle.hcc_rule.specs.Records.{record_in}
 use Rattle.hcc_table.proofs.Values.{copied}
 use Rattle.hcc_table.proofs.readings.copy_word.Goals as goal
 

@@ -1,5 +1,6 @@
 use Rattle.std.proofs.Common.{◌≡◌, true, false, refl}
-use Rattle.hcc_rule.specs.Callers.{address_of_meta, room_of}
+use Rattle.hcc_rule.specs.Callers.{room_of}
+use Rattle.hcc_rule.specs.Addresses.{address_of_meta}
 use Rattle.hcc_rule.specs.Seats.{view}
 use Rattle.hcc_table.specs.Freed.{is_due}
 use Rattle.hcc_table.specs.Pins.{erases}

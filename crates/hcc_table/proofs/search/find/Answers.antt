@@ -2,12 +2,12 @@ use Rattle.std.proofs.Common.{◌≡◌, ◌+◌, ◌<◌, ◌≤◌, ap, refl, 
 use Rattle.hcc_word.specs.Word.{hit_of}
 use Rattle.hcc_table.specs.Efforts.{Took, VisitedSlots}
 use Rattle.hcc_rule.specs.declared.view.Atomic.{Atomic}
-use Rattle.hcc_rule.specs.Callers.{address_of_meta}
+use Rattle.hcc_rule.specs.Addresses.{address_of_meta}
 use Rattle.hcc_rule.specs.Seats.{atomic, view}
 use Rattle.hcc_table.specs.Steps.{Adds}
 use Rattle.hcc_table.proofs.Logs.{adds_none, among_after, among_then, ends_after, unmarked_adds, unmarked_none, unmarked_then, unmarked_zero}
 use Rattle.hcc_table.proofs.Rises.{counted_probes, took_none, took_then, took_probes}
-use Rattle.hcc_rule.specs.Views.{record_in}
+use Rattle.hcc_rule.specs.Records.{record_in}
 use Rattle.hcc_rule.proofs.Probes.ProbeLaws.{some_slots}
 use Rattle.hcc_table.proofs.Finds.{begins, goes_on, ends, ends_all}
 use Rattle.hcc_table.proofs.Probes.{found_stands, found_then}

@@ -1,6 +1,6 @@
 use Rattle.std.proofs.Common.{◌≡◌, refl, sym, arith}
 use Rattle.hcc_word.specs.Word.{is_shareable, is_visible}
-use Rattle.hcc_rule.specs.Callers.{address_of_meta}
+use Rattle.hcc_rule.specs.Addresses.{address_of_meta}
 use Rattle.hcc_rule.specs.Seats.{atomic, view}
 use Rattle.hcc_rule.specs.Words.{key_of}
 use Rattle.hcc_table.specs.Steps.{Adds}

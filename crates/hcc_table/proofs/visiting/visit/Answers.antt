@@ -1,5 +1,6 @@
 use Rattle.std.proofs.Common.{ℕ, rules}
-use Rattle.hcc_rule.specs.Callers.{address_of_meta, room_of, slots_of}
+use Rattle.hcc_rule.specs.Callers.{room_of, slots_of}
+use Rattle.hcc_rule.specs.Addresses.{address_of_meta}
 use Rattle.hcc_rule.specs.Seats.{atomic, view}
 use Rattle.hcc_table.specs.declared.visiting.ClockVisit.{ClockVisit}
 use Rattle.hcc_table.specs.declared.visiting.ClockVisit.TheVariants as visits

@@ -6,7 +6,8 @@ use Rattle.hcc_table.specs.Steps.{freeing}
 use Rattle.hcc_shard.specs.Callers.{view_of, ErasesAt}
 use Rattle.hcc_cache.specs.declared.client.Client.{Client}
 use Rattle.hcc_cache.specs.Calls.{Works, shard_in}
-use Rattle.hcc_cache.specs.Keys.{fits_seeded, key_to, shard_of}
+use Rattle.hcc_cache.specs.Keys.{fits_seeded}
+use Rattle.hcc_cache.specs.Sharding.{key_to, shard_of}
 use Rattle.hcc_cache.proofs.At.{did_at, is_at, seated_at, works_at}
 use Rattle.hcc_cache.proofs.Dead.{all_held_dead}
 use Rattle.hcc_cache.proofs.Resting.{keeps_same, knows_same, same_erased}

@@ -2,7 +2,7 @@ use Rattle.std.proofs.Common.{◌≡◌, ◌∙◌, ◌-◌, None, Some, is_some
 use Rattle.std.specs.Vec.{with_item}
 use Rattle.hcc_cache.specs.declared.client.Client.{Client}
 use Rattle.hcc_cache.specs.declared.holding.Hold.{Hold}
-use Rattle.hcc_cache.specs.Keys.{shard_of}
+use Rattle.hcc_cache.specs.Sharding.{shard_of}
 use Rattle.hcc_cache.proofs.At.{ChangesAt, few_at, is_at, next_at, seated_at}
 use Rattle.hcc_cache.proofs.Found.{finds, knows_more, knows_sought, looks_at, misses, searched_at}
 use Rattle.hcc_cache.proofs.Gained.{IsGiven}

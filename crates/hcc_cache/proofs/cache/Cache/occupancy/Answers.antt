@@ -1,5 +1,5 @@
 use Rattle.std.proofs.Common.{mul-suc, ◌≡◌, ◌^◌, refl, ap, length, arith}
-use Rattle.hcc_rule.specs.Views.{different}
+use Rattle.hcc_rule.specs.Records.{different}
 use Rattle.hcc_cache.specs.Clients.{view_at}
 use Rattle.hcc_cache.proofs.Through.{goes_first, goes_on, sum_all, sum_next}
 use Rattle.hcc_cache.proofs.cache.Cache.occupancy.Goals as goal

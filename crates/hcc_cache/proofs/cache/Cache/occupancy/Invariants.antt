@@ -1,5 +1,5 @@
 use Rattle.std.proofs.Common.{◌≡◌, ◌+◌, ◌*◌, ◌^◌, ◌≤◌, length}
-use Rattle.hcc_rule.specs.Views.{different}
+use Rattle.hcc_rule.specs.Records.{different}
 use Rattle.hcc_cache.specs.Clients.{view_at}
 use Rattle.hcc_cache.proofs.Through.{GoesThrough, sum_to}
 use Rattle.hcc_cache.proofs.cache.Cache.occupancy.Given as goal

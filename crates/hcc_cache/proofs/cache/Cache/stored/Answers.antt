@@ -4,7 +4,7 @@ use Rattle.hcc_shard.specs.Callers.{view_of}
 use Rattle.hcc_shard.specs.Inserted.{InsertedBy}
 use Rattle.hcc_cache.specs.declared.client.Client.{Client}
 use Rattle.hcc_cache.specs.Inserts.{draft_of}
-use Rattle.hcc_cache.specs.Keys.{shard_of}
+use Rattle.hcc_cache.specs.Sharding.{shard_of}
 use Rattle.hcc_cache.proofs.At.{ChangesAt, is_at, seated_at}
 use Rattle.hcc_cache.proofs.Insertions.{IsAsked, insertable_at, inserts_at, knows_asked, leaves_stored, stores_at, stores_did, told_as}
 use Rattle.hcc_cache.proofs.Refusals.{answers_small, answers_unspent, inserts_did, inserts_told}

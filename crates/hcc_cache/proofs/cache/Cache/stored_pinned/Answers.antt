@@ -7,7 +7,7 @@ use Rattle.hcc_cache.specs.declared.client.Client.{Client}
 use Rattle.hcc_cache.specs.declared.holding.Alone.{Alone}
 use Rattle.hcc_cache.specs.declared.holding.Kept.TheVariants.{Standing}
 use Rattle.hcc_cache.specs.Inserts.{pinned_draft}
-use Rattle.hcc_cache.specs.Keys.{shard_of}
+use Rattle.hcc_cache.specs.Sharding.{shard_of}
 use Rattle.hcc_cache.proofs.Alone.{IsJoined}
 use Rattle.hcc_cache.proofs.At.{ChangesAt, few_at, is_at, seated_at}
 use Rattle.hcc_cache.proofs.Gained.{IsGiven}

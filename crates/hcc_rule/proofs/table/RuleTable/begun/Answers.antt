@@ -1,5 +1,6 @@
 use Rattle.std.proofs.Common.{arith}
-use Rattle.hcc_rule.specs.Images.{BeginsWith, IsImageFor, entries_in}
+use Rattle.hcc_rule.specs.Images.{BeginsWith, entries_in}
+use Rattle.hcc_rule.specs.ImageLimits.{IsImageFor}
 use Rattle.hcc_rule.proofs.Seats.Openings.{opens_logged}
 use Rattle.hcc_rule.proofs.table.RuleTable.begun.Goals as goal
 

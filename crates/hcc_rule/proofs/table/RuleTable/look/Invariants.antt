@@ -1,5 +1,5 @@
 use Rattle.hcc_rule.specs.Rule.{setup_of}
-use Rattle.hcc_rule.specs.Told.{looks}
+use Rattle.hcc_rule.specs.Looked.{looks}
 use Rattle.hcc_rule.proofs.table.RuleTable.look.Given as goal
 
 abbrev pub ghosts-load : goal.ghosts-load

@@ -3,7 +3,7 @@ use Rattle.std.proofs.lemmas.Result.{err_from_is_err_and}
 use Rattle.hcc_rule.specs.declared.view.View.{View}
 use Rattle.hcc_rule.specs.Callers.{capacity_of, geometry_of, is_strict, plan_of, room_of, slots_of}
 use Rattle.hcc_rule.specs.Seats.{view}
-use Rattle.hcc_table.specs.Efforts.{Rose}
+use Rattle.hcc_table.specs.Rises.{Rose}
 use Rattle.hcc_table.proofs.Logs.{adds_none}
 use Rattle.hcc_charge.proofs.Askings.{keeps_by, keeps_then}
 use Rattle.hcc_shard.proofs.Insertions.{left_dropped, left_none, may_insert, refused_by, tries_placed}

@@ -5,7 +5,7 @@ use Rattle.hcc_core.specs.Ledgers.{is_standing}
 use Rattle.hcc_rule.specs.declared.view.View.{View}
 use Rattle.hcc_rule.specs.Callers.{capacity_of, geometry_of, is_strict, plan_of, room_of, slots_of}
 use Rattle.hcc_rule.specs.Seats.{view}
-use Rattle.hcc_table.specs.Efforts.{Rose}
+use Rattle.hcc_table.specs.Rises.{Rose}
 use Rattle.hcc_charge.proofs.Askings.{keeps_by, keeps_then}
 use Rattle.hcc_shard.proofs.Insertions.{left_alone, left_stood, may_insert, refused_by, still_fresh, tries_placed}
 use Rattle.hcc_shard.proofs.Names.{not_standing}

@@ -1,5 +1,6 @@
 use Rattle.std.proofs.Common.{◌&&◌, true, false, refl}
-use Rattle.hcc_rule.specs.Callers.{address_of_meta, geometry_of, room_of}
+use Rattle.hcc_rule.specs.Callers.{geometry_of, room_of}
+use Rattle.hcc_rule.specs.Addresses.{address_of_meta}
 use Rattle.hcc_rule.specs.Seats.{view}
 use Rattle.hcc_table.specs.Pins.{erases, is_useful}
 use Rattle.hcc_shard.proofs.Releases.{gives_back, gives_back_and_frees}

@@ -1,0 +1,29 @@
+-- What a table is made with.
+use Rattle.std.specs.Prelude.{◌≡◌, ℕ, List}
+use Rattle.atomic_table.specs.Table.{State}
+use Rattle.hcc_rule.specs.declared.image.ImageEntry.{ImageEntry}
+use Rattle.hcc_rule.specs.declared.key.Key.{Key}
+use Rattle.hcc_rule.specs.declared.table.RuleTable.{RuleTable}
+use Rattle.hcc_rule.specs.declared.view.Logged.{Logged}
+use Rattle.hcc_rule.specs.Images.{BeginsWith}
+use Rattle.hcc_rule.specs.Logs.{HoldsLogged, moves_in}
+use Rattle.hcc_rule.specs.Seats.{SeatOf}
+use Rattle.hcc_rule.specs.NewSeats.{AreNewSeats, AreSeatsWith}
+use Rattle.hcc_rule.specs.Callers.{plan_of}
+
+module _ {T A : Type 0} where
+  -- the seats of this table's clients, as it was made, from this client on
+  abbrev pub AreSeatsAt : RuleTable T A → ℕ → List (SeatOf T) → Type 0
+  AreSeatsAt table client seats =
+      AreNewSeats table.table.shared.table_id table.table.shared.key.tag client seats
+
+  -- the same, where client 0 made these entries
+  abbrev pub AreSeatsAtWith : RuleTable T A → List ImageEntry → List (SeatOf T) → Type 0
+  AreSeatsAtWith table es seats =
+      AreSeatsWith table.table.shared.table_id table.table.shared.key.tag es seats
+
+  -- until a seat of this table makes a step, its words are those of these entries
+  abbrev pub OpensWith : (T → Key → List ℕ → Type 0) → RuleTable T A → List ImageEntry → Type 0
+  OpensWith fits table es =
+      (s : State (Unit {0}) (Logged T)) → HoldsLogged fits (plan_of table) s → moves_in s ≡ 0
+      → BeginsWith table.geometry.slots table.geometry.room es s.words
