@@ -44,11 +44,11 @@ impl<T: Tag> Cache<T> {
         ensures steps { TakesAtMost (7 * self.now.geometry.slots) client.old client.new }
     {
         client.may_hold()?; // Before anything is changed.
-        Ok(self.found(client, key))
+        Ok(self.search(client, key))
     }
 
     /// The same, where a handle may be given.
-    fn found(&self, client: &mut Client<T>, key: Key) -> Option<Handle>
+    fn search(&self, client: &mut Client<T>, key: Key) -> Option<Handle>
         requires known { Knows self.now client.old }
         requires free { (held_by client.old < client.old.most) × (0 < client.old.left) }
         ensures known { Knows self.now client.new }

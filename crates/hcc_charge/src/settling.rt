@@ -81,7 +81,7 @@ pub(crate) fn give_slots<T: Tag, A: Allocator>(
     ensures steps { MakesAtMost 1 seat.old seat.new }
 {
     if slots > 0 {
-        table.slots(seat, slots);
+        table.return_slots(seat, slots);
     }
 }
 

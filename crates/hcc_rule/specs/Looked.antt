@@ -43,11 +43,11 @@ module _ {T : Type 0} where
         v.records
 
   -- Where the shard has one client, it holds all references there are.
-  abbrev pub Alone : Setup → (slot word : ℕ) → View T → Type 0
-  Alone setup slot word v =
+  abbrev pub HoldsAll : Setup → (slot word : ℕ) → View T → Type 0
+  HoldsAll setup slot word v =
       setup.clients ≡ 1 → is_shareable word ≡ true → refs_of word ≡ weight_on slot v.records
 
   abbrev pub looks : Setup → ℕ → Step (Unit {0}) → Held T → ℕ → Held T → Type 0
   looks setup slot step me word after =
       (after.1 ≡ me.1) × (after.0 ≡ after_look slot word me.0) × Backs slot word me.0
-      × Alone setup slot word me.0
+      × HoldsAll setup slot word me.0

@@ -1,4 +1,4 @@
--- What each step tells its seat: the view after it, by the word that it found.
+-- What a seat has for contracts, and a step that tells nothing.
 use Rattle.std.specs.Prelude.{ℕ}
 use Rattle.atomic_table.specs.Table.{Me, Step}
 use Rattle.hcc_rule.specs.declared.view.View.{View}

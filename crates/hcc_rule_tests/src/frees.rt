@@ -89,7 +89,7 @@ impl Worker<'_> {
     {
         self.take_trail(passed);
         self.table.empty(&mut self.seat, slot);
-        self.table.slots(&mut self.seat, 1);
+        self.table.return_slots(&mut self.seat, 1);
         self.table.settle(&mut self.seat, charge);
     }
 

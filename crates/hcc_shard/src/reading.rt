@@ -5,7 +5,7 @@ ghost use Rattle.hcc_rule.specs.declared.layout.TheConstants.{KEY1};
 ghost use Rattle.hcc_rule.specs.Callers.{clients_of, plan_of, slots_of, IsSlotOf};
 ghost use Rattle.hcc_rule.specs.Rule.{setup_of};
 ghost use Rattle.hcc_rule.specs.Seats.{view};
-ghost use Rattle.hcc_rule.specs.Looked.{after_look, Alone, Backs};
+ghost use Rattle.hcc_rule.specs.Looked.{after_look, HoldsAll, Backs};
 ghost use Rattle.hcc_rule.specs.ToldOwners.{after_read};
 ghost use Rattle.hcc_rule.specs.ToldTrails.{passed_held};
 ghost use Rattle.hcc_rule.specs.Records.{different, record_in};
@@ -35,7 +35,8 @@ impl<T: Tag, A: Allocator> Shard<T, A> {
         ensures view { view seat.new.seat ≡ after_look slot result (view seat.old.seat) }
         ensures loads { LoadsWord self.now slot result seat.old seat.new }
         ensures backs { Backs slot result (view seat.old.seat) }
-        ensures alone { Alone (setup_of (plan_of self.now.table)) slot result (view seat.old.seat) }
+        ensures alone { HoldsAll (setup_of (plan_of self.now.table)) slot result
+            (view seat.old.seat) }
         ensures counts { SameCounts seat.old seat.new }
         ensures steps { MakesAtMost 1 seat.old.seat seat.new.seat }
     {

@@ -18,7 +18,7 @@ ghost use Rattle.hcc_table.specs.Steps.{MakesFor, freeing, MakesAtMost};
 
 use crate::efforts::Effort;
 use crate::freeing::try_free;
-use crate::search::hold;
+use crate::search::acquire_at;
 use crate::walk::Walk;
 use crate::words::{has_entry, is_shown};
 use hcc_rule::{Key, RuleSeat, RuleTable, Tag};
@@ -147,7 +147,7 @@ fn hide_at<T: Tag, A: Allocator>(
         effort.old effort.new seat.old seat.new }
     ensures steps { MakesAtMost ((slots_of table.now + 4) * result.slots + 8) seat.old seat.new }
 {
-    match hold(table, seat, slot, key, name, effort) {
+    match acquire_at(table, seat, slot, key, name, effort) {
         Some(_) => hide_held(table, seat, slot, name, effort),
         None => Erased::NOTHING,
     }

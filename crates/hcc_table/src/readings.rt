@@ -10,7 +10,7 @@ ghost use Rattle.hcc_rule.specs.Addresses.{address_of_displacement, address_of_m
 ghost use Rattle.hcc_rule.specs.Probes.{trail_to};
 ghost use Rattle.hcc_rule.specs.Rule.{setup_of};
 ghost use Rattle.hcc_rule.specs.Seats.{IsSameSeat, Makes, view};
-ghost use Rattle.hcc_rule.specs.Looked.{after_look, Alone, Backs};
+ghost use Rattle.hcc_rule.specs.Looked.{after_look, HoldsAll, Backs};
 ghost use Rattle.hcc_rule.specs.ToldOwners.{after_read};
 ghost use Rattle.hcc_rule.specs.ToldTrails.{passed_held};
 ghost use Rattle.hcc_rule.specs.Views.{Each};
@@ -39,7 +39,7 @@ pub fn word<T: Tag, A: Allocator>(table: &RuleTable<T, A>, seat: &mut RuleSeat<T
     ensures view { view seat.new ≡ after_look slot result (view seat.old) }
     ensures loads { Makes (address_of_meta table.now slot) 0 0 result seat.old seat.new }
     ensures backs { Backs slot result (view seat.old) }
-    ensures alone { Alone (setup_of (plan_of table.now)) slot result (view seat.old) }
+    ensures alone { HoldsAll (setup_of (plan_of table.now)) slot result (view seat.old) }
     ensures steps { MakesAtMost 1 seat.old seat.new }
 {
     table.look(seat, slot)

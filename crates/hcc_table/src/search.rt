@@ -77,7 +77,7 @@ pub fn find<T: Tag, A: Allocator>(
     let mut walk = Walk::begin(key, slots);
     for probe in 0..slots {
         let slot = walk.slot();
-        if let Some(found) = hold(table, seat, slot, key, name, effort) {
+        if let Some(found) = acquire_at(table, seat, slot, key, name, effort) {
             mark_if(table, seat, slot, name, marks, found);
             effort.probes(probe as u64 + 1);
             return Some(Pin {
@@ -98,7 +98,7 @@ pub fn find<T: Tag, A: Allocator>(
 
 /// A reference on the slot's entry, where the slot shows one of this key: the word that was found.
 #[inline(always)]
-pub(crate) fn hold<T: Tag, A: Allocator>(
+pub(crate) fn acquire_at<T: Tag, A: Allocator>(
     table: &RuleTable<T, A>,
     seat: &mut RuleSeat<T>,
     slot: u32,

@@ -4,7 +4,7 @@ ghost use Rattle.hcc_rule.specs.Callers.{plan_of, IsSeatAt};
 ghost use Rattle.hcc_rule.specs.Addresses.{address_of_meta};
 ghost use Rattle.hcc_rule.specs.Rule.{setup_of};
 ghost use Rattle.hcc_rule.specs.Seats.{IsSameSeat, Makes, view};
-ghost use Rattle.hcc_rule.specs.Looked.{after_look, Alone, Backs};
+ghost use Rattle.hcc_rule.specs.Looked.{after_look, HoldsAll, Backs};
 
 use crate::key::Tag;
 use crate::layout::META;
@@ -26,7 +26,7 @@ impl<T: Tag, A: Allocator> RuleTable<T, A> {
         ensures seat { IsSameSeat seat.old seat.new }
         ensures view { view seat.new ≡ after_look slot result (view seat.old) }
         ensures backs { Backs slot result (view seat.old) }
-        ensures alone { Alone (setup_of (plan_of self.now)) slot result (view seat.old) }
+        ensures alone { HoldsAll (setup_of (plan_of self.now)) slot result (view seat.old) }
         ensures step { Makes (address_of_meta self.now slot) 0 0 result seat.old seat.new }
     {
         self.load::<Brand, _>(seat, self.address(slot, META), slot)

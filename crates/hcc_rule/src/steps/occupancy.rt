@@ -89,7 +89,7 @@ impl<T: Tag, A: Allocator> RuleTable<T, A> {
     /// the client is granted then.
     ///
     /// It allocates nothing. It costs one atomic subtraction.
-    pub fn slots(&self, seat: &mut RuleSeat<T>, count: u64)
+    pub fn return_slots(&self, seat: &mut RuleSeat<T>, count: u64)
         requires seat { IsSeatAt self.now seat.old }
         requires count { ((view seat.old).work.freed_slots ≡ count) × (0 < count) }
         ensures seat { IsSameSeat seat.old seat.new }

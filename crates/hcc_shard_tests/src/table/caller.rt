@@ -151,7 +151,7 @@ impl Caller<'_> {
         ensures ready { IsReady (view self.new.seat) }
     {
         if slots > 0 {
-            self.table.slots(&mut self.seat, slots);
+            self.table.return_slots(&mut self.seat, slots);
         }
         if charge > 0 {
             self.table.settle(&mut self.seat, charge);

@@ -8,14 +8,14 @@ pub hide_held-requires-clause-holds : goal.hide_held-requires-clause-holds
 hide_held-requires-clause-holds g c =
     let found = c.in-Some.ensures.found in
     found_holds g.T.Tag.fits c.args.table.now.geometry.room c.args.slot c.args.name c.args.key
-    (view c.args.seat.now) (view c.hold.new.seat) found.0 c.requires.fresh found.1
+    (view c.args.seat.now) (view c.acquire_at.new.seat) found.0 c.requires.fresh found.1
 
 pub returns-in-Some-clause-view : goal.returns-in-Some-clause-view
 returns-in-Some-clause-view g c =
     let found = c.in-Some.ensures.found in
     let all = c.hide_held.result in
     erased_there g.T.Tag.fits c.args.table.now.geometry.room c.args.slot c.args.name all.hidden
-    all.slots all.charge c.args.key (view c.args.seat.now) (view c.hold.new.seat)
+    all.slots all.charge c.args.key (view c.args.seat.now) (view c.acquire_at.new.seat)
     (view c.hide_held.new.seat) found.0 c.requires.fresh found.1 c.hide_held.ensures.few.1
     c.hide_held.ensures.view c.hide_held.ensures.records
 
@@ -24,15 +24,15 @@ returns-in-Some-clause-dead g c =
     let found = c.in-Some.ensures.found in
     let all = c.hide_held.result in
     buried_there g.T.Tag.fits c.args.table.now.geometry.room c.args.slot c.args.name all.hidden
-    all.slots all.charge c.args.key (view c.args.seat.now) (view c.hold.new.seat)
+    all.slots all.charge c.args.key (view c.args.seat.now) (view c.acquire_at.new.seat)
     (view c.hide_held.new.seat) found.0 c.requires.fresh found.1 c.hide_held.ensures.view
 
 pub returns-in-Some-clause-does : goal.returns-in-Some-clause-does
 returns-in-Some-clause-does g c = (
   c.in-Some.field-0,
   inr (record {
-    between = c.hold.new.effort;
-    held = c.hold.new.seat;
+    between = c.acquire_at.new.effort;
+    held = c.acquire_at.new.seat;
     catches = c.in-Some.ensures.catches;
     hides = c.hide_held.ensures.hides;
   }),
@@ -44,5 +44,5 @@ returns-in-None-clause-does g c =
 
 pub returns-in-None-clause-view : goal.returns-in-None-clause-view
 returns-in-None-clause-view g c =
-    erased_none c.args.key (view c.args.seat.now) (view c.hold.new.seat) c.requires.idle
+    erased_none c.args.key (view c.args.seat.now) (view c.acquire_at.new.seat) c.requires.idle
     c.in-None.ensures.missed.0

@@ -34,7 +34,7 @@ returns-then-count-eq0-clause-missed g c =
     let told = c.count.ensures in
     ends table.geometry.slots c.args.key table.limits.power c.loop-probe.probe c.count.result
     c.slot-slot.result c.loop-probe.walk c.args.seat.now c.loop-probe.seat c.loop-probe.invariant.0
-    c.slot-slot.ensures c.hold.new.seat c.count.new.seat c.hold.ensures.seat told.seat
+    c.slot-slot.ensures c.acquire_at.new.seat c.count.new.seat c.acquire_at.ensures.seat told.seat
     (c.in_default.ensures.missed) told.view told.held told.within
     c.if-count-eq0.true
 
@@ -45,26 +45,31 @@ loop-probe-preserved g c =
     let next = c.next-walk.ensures in (
       goes_on table.geometry.slots c.args.key table.limits.power c.loop-probe.probe c.count.result
           c.slot-slot.result c.loop-probe.walk c.args.seat.now c.loop-probe.seat
-          c.loop-probe.invariant.0 c.slot-slot.ensures c.hold.new.seat c.count.new.seat
-          c.hold.ensures.seat told.seat c.in_default.ensures.missed told.view told.held told.within
+          c.loop-probe.invariant.0 c.slot-slot.ensures c.acquire_at.new.seat c.count.new.seat
+          c.acquire_at.ensures.seat told.seat c.in_default.ensures.missed told.view told.held
+          told.within
           c.next-walk.result next.probe next.stride next.mask,
       visited,
-      (let so_far = c.loop-probe.invariant.2 in let held = c.hold.ensures.steps in
+      (let so_far = c.loop-probe.invariant.2 in let held = c.acquire_at.ensures.steps in
           let one = told.step.one in omega arith),
-      unmarked_then c.args.seat.now c.hold.new.seat c.count.new.seat
-          (unmarked_then c.args.seat.now c.loop-probe.seat c.hold.new.seat c.loop-probe.invariant.3
-          c.hold.ensures.adds) (unmarked_zero _ _ c.hold.new.seat c.count.new.seat told.step),
+      unmarked_then c.args.seat.now c.acquire_at.new.seat c.count.new.seat
+          (unmarked_then c.args.seat.now c.loop-probe.seat c.acquire_at.new.seat
+          c.loop-probe.invariant.3
+          c.acquire_at.ensures.adds)
+          (unmarked_zero _ _ c.acquire_at.new.seat c.count.new.seat told.step),
       passed_then g.T.Tag.fits table c.args.key c.args.name c.loop-probe.probe c.slot-slot.result
           c.in_default.ensures.passes.0 c.count.result c.args.effort.now c.loop-probe.effort
-          c.hold.new.effort c.args.seat.now c.loop-probe.seat c.hold.new.seat c.count.new.seat
+          c.acquire_at.new.effort c.args.seat.now c.loop-probe.seat c.acquire_at.new.seat
+          c.count.new.seat
           c.loop-probe.invariant.4 (c.slot-slot.ensures ∙ c.loop-probe.invariant.0.walking.probe)
           c.in_default.ensures.passes.1 told.step told.view c.if-count-eq0.false,
     )
   where
-    visited : Took 0 0 (c.loop-probe.probe + 1) c.args.effort.now c.hold.new.effort
+    visited : Took 0 0 (c.loop-probe.probe + 1) c.args.effort.now c.acquire_at.new.effort
     visited =
         took_then c.loop-probe.probe 1 (c.loop-probe.probe + 1) c.args.effort.now
-        c.loop-probe.effort c.hold.new.effort c.loop-probe.invariant.1 c.hold.ensures.effort
+        c.loop-probe.effort c.acquire_at.new.effort c.loop-probe.invariant.1
+        c.acquire_at.ensures.effort
         (omega arith)
 
 pub returns-clause-missed : goal.returns-clause-missed
@@ -80,7 +85,7 @@ pub mark_if-requires-clause-holds : goal.mark_if-requires-clause-holds
 mark_if-requires-clause-holds g c =
     let found = c.in-Some.ensures.found in
     found_stands g.T.Tag.fits c.args.table.now.geometry.room c.slot-slot.result c.args.name
-    c.args.key (view c.loop-probe.seat) (view c.hold.new.seat) found.0
+    c.args.key (view c.loop-probe.seat) (view c.acquire_at.new.seat) found.0
     (ap (record_in c.args.name) c.loop-probe.invariant.0.sought.records ∙ c.requires.fresh) found.1
 
 pub returns-in-Some-clause-found : goal.returns-in-Some-clause-found
@@ -89,7 +94,7 @@ returns-in-Some-clause-found g c =
       found.0,
       found_then g.T.Tag.fits c.args.table.now.geometry.room c.slot-slot.result c.args.name
           c.args.key
-          (view c.args.seat.now) (view c.loop-probe.seat) (view c.hold.new.seat)
+          (view c.args.seat.now) (view c.loop-probe.seat) (view c.acquire_at.new.seat)
           (view c.mark_if.new.seat)
           found.0 c.loop-probe.invariant.0.sought found.1 c.mark_if.ensures.view,
       found.2 ∙ sym c.counts.ensures,
@@ -102,9 +107,9 @@ returns-in-Some-clause-effort g c =
     let i = c.loop-probe.probe in
     let slots = c.args.table.now.geometry.slots in
     let low : i < slots = rw (← size) c.loop-probe-test.true in
-    took_probes (i + 1) (i + 1) slots c.args.effort.now c.hold.new.effort c.probes.new.self
-    (took_then i 1 (i + 1) c.args.effort.now c.loop-probe.effort c.hold.new.effort
-    c.loop-probe.invariant.1 c.hold.ensures.effort (omega arith))
+    took_probes (i + 1) (i + 1) slots c.args.effort.now c.acquire_at.new.effort c.probes.new.self
+    (took_then i 1 (i + 1) c.args.effort.now c.loop-probe.effort c.acquire_at.new.effort
+    c.loop-probe.invariant.1 c.acquire_at.ensures.effort (omega arith))
     counted.probes counted.corrections counted.lost (omega arith) (omega arith) (omega arith)
 
 pub returns-then-count-eq0-clause-effort : goal.returns-then-count-eq0-clause-effort
@@ -114,10 +119,10 @@ returns-then-count-eq0-clause-effort g c =
     let i = c.loop-probe.probe in
     let slots = c.args.table.now.geometry.slots in
     let low : i < slots = rw (← size) c.loop-probe-test.true in
-    took_probes (i + 1) (i + 1) slots c.args.effort.now c.hold.new.effort
+    took_probes (i + 1) (i + 1) slots c.args.effort.now c.acquire_at.new.effort
     c.probes-then-count-eq0.new.self
-    (took_then i 1 (i + 1) c.args.effort.now c.loop-probe.effort c.hold.new.effort
-    c.loop-probe.invariant.1 c.hold.ensures.effort (omega arith))
+    (took_then i 1 (i + 1) c.args.effort.now c.loop-probe.effort c.acquire_at.new.effort
+    c.loop-probe.invariant.1 c.acquire_at.ensures.effort (omega arith))
     counted.probes counted.corrections counted.lost (omega arith) (omega arith) (omega arith)
 
 pub returns-clause-effort : goal.returns-clause-effort
@@ -139,14 +144,16 @@ returns-in-Some-clause-steps g c =
     let size = c.geometry-slots.ensures in
     let low : i < c.args.table.now.geometry.slots = rw (← size) c.loop-probe-test.true in
     let so_far = c.loop-probe.invariant.2 in
-    let held = c.hold.ensures.steps in
+    let held = c.acquire_at.ensures.steps in
     let last = c.mark_if.ensures.steps in
     record {
       visited = i + 1;
       within = omega arith;
-      counted = counted_probes (i + 1) (i + 1) c.args.effort.now c.hold.new.effort c.probes.new.self
-          (took_then i 1 (i + 1) c.args.effort.now c.loop-probe.effort c.hold.new.effort
-          c.loop-probe.invariant.1 c.hold.ensures.effort (omega arith)) c.probes.ensures.probes;
+      counted = counted_probes (i + 1) (i + 1) c.args.effort.now c.acquire_at.new.effort
+          c.probes.new.self
+          (took_then i 1 (i + 1) c.args.effort.now c.loop-probe.effort c.acquire_at.new.effort
+          c.loop-probe.invariant.1 c.acquire_at.ensures.effort (omega arith))
+          c.probes.ensures.probes;
       steps = omega arith;
     }
 
@@ -156,15 +163,15 @@ returns-then-count-eq0-clause-steps g c =
     let size = c.geometry-slots.ensures in
     let low : i < c.args.table.now.geometry.slots = rw (← size) c.loop-probe-test.true in
     let so_far = c.loop-probe.invariant.2 in
-    let held = c.hold.ensures.steps in
+    let held = c.acquire_at.ensures.steps in
     let last = c.count.ensures.step.one in
     record {
       visited = i + 1;
       within = omega arith;
-      counted = counted_probes (i + 1) (i + 1) c.args.effort.now c.hold.new.effort
+      counted = counted_probes (i + 1) (i + 1) c.args.effort.now c.acquire_at.new.effort
           c.probes-then-count-eq0.new.self
-          (took_then i 1 (i + 1) c.args.effort.now c.loop-probe.effort c.hold.new.effort
-          c.loop-probe.invariant.1 c.hold.ensures.effort (omega arith))
+          (took_then i 1 (i + 1) c.args.effort.now c.loop-probe.effort c.acquire_at.new.effort
+          c.loop-probe.invariant.1 c.acquire_at.ensures.effort (omega arith))
           c.probes-then-count-eq0.ensures.probes;
       steps = omega arith;
     }
@@ -189,34 +196,35 @@ returns-in-Some-clause-marked g c asked = (
   c.in-Some.found,
   λ unhit. let set = c.mark_if.ensures.marked asked unhit in (
     set.0,
-    ends_after _ c.args.seat.now c.hold.new.seat c.mark_if.new.seat before set.1.step,
+    ends_after _ c.args.seat.now c.acquire_at.new.seat c.mark_if.new.seat before set.1.step,
   ),
-  λ hit. among_then got c.args.seat.now c.hold.new.seat c.mark_if.new.seat
-      (among_after got c.args.seat.now c.loop-probe.seat c.hold.new.seat
+  λ hit. among_then got c.args.seat.now c.acquire_at.new.seat c.mark_if.new.seat
+      (among_after got c.args.seat.now c.loop-probe.seat c.acquire_at.new.seat
       (unmarked_adds c.args.seat.now c.loop-probe.seat c.loop-probe.invariant.3)
       c.in-Some.ensures.acquired)
-      (adds_none c.hold.new.seat c.mark_if.new.seat (c.mark_if.ensures.unmarked hit)),
+      (adds_none c.acquire_at.new.seat c.mark_if.new.seat (c.mark_if.ensures.unmarked hit)),
 )
   where
     got : Atomic
     got = atomic (address_of_meta c.args.table.now c.slot-slot.result) 1 0 c.in-Some.found
 
-    before : Adds c.args.seat.now c.hold.new.seat
+    before : Adds c.args.seat.now c.acquire_at.new.seat
     before =
-        unmarked_adds c.args.seat.now c.hold.new.seat
-        (unmarked_then c.args.seat.now c.loop-probe.seat c.hold.new.seat c.loop-probe.invariant.3
-        c.hold.ensures.adds)
+        unmarked_adds c.args.seat.now c.acquire_at.new.seat
+        (unmarked_then c.args.seat.now c.loop-probe.seat c.acquire_at.new.seat
+        c.loop-probe.invariant.3
+        c.acquire_at.ensures.adds)
 
 pub returns-in-Some-clause-acquired : goal.returns-in-Some-clause-acquired
 returns-in-Some-clause-acquired g c = (
   c.in-Some.found,
   c.in-Some.ensures.catches.visible,
   c.counts.ensures,
-  among_then got c.args.seat.now c.hold.new.seat c.mark_if.new.seat
-      (among_after got c.args.seat.now c.loop-probe.seat c.hold.new.seat
+  among_then got c.args.seat.now c.acquire_at.new.seat c.mark_if.new.seat
+      (among_after got c.args.seat.now c.loop-probe.seat c.acquire_at.new.seat
       (unmarked_adds c.args.seat.now c.loop-probe.seat c.loop-probe.invariant.3)
       c.in-Some.ensures.acquired)
-      (marks_add (address_of_meta c.args.table.now c.slot-slot.result) c.hold.new.seat
+      (marks_add (address_of_meta c.args.table.now c.slot-slot.result) c.acquire_at.new.seat
       c.mark_if.new.seat c.args.marks (hit_of c.in-Some.found) c.mark_if.ensures.marked
       c.mark_if.ensures.unmarked c.mark_if.ensures.unasked),
 )
@@ -226,17 +234,17 @@ returns-in-Some-clause-acquired g c = (
 
 pub returns-in-Some-clause-unmarked : goal.returns-in-Some-clause-unmarked
 returns-in-Some-clause-unmarked g c unasked =
-    unmarked_then c.args.seat.now c.hold.new.seat c.mark_if.new.seat
-    (unmarked_then c.args.seat.now c.loop-probe.seat c.hold.new.seat c.loop-probe.invariant.3
-    c.hold.ensures.adds)
-    (unmarked_none c.hold.new.seat c.mark_if.new.seat (c.mark_if.ensures.unasked unasked))
+    unmarked_then c.args.seat.now c.acquire_at.new.seat c.mark_if.new.seat
+    (unmarked_then c.args.seat.now c.loop-probe.seat c.acquire_at.new.seat c.loop-probe.invariant.3
+    c.acquire_at.ensures.adds)
+    (unmarked_none c.acquire_at.new.seat c.mark_if.new.seat (c.mark_if.ensures.unasked unasked))
 
 pub returns-then-count-eq0-clause-unmarked : goal.returns-then-count-eq0-clause-unmarked
 returns-then-count-eq0-clause-unmarked g c _ =
-    unmarked_then c.args.seat.now c.hold.new.seat c.count.new.seat
-    (unmarked_then c.args.seat.now c.loop-probe.seat c.hold.new.seat c.loop-probe.invariant.3
-    c.hold.ensures.adds)
-    (unmarked_zero _ _ c.hold.new.seat c.count.new.seat c.count.ensures.step)
+    unmarked_then c.args.seat.now c.acquire_at.new.seat c.count.new.seat
+    (unmarked_then c.args.seat.now c.loop-probe.seat c.acquire_at.new.seat c.loop-probe.invariant.3
+    c.acquire_at.ensures.adds)
+    (unmarked_zero _ _ c.acquire_at.new.seat c.count.new.seat c.count.ensures.step)
 
 pub returns-clause-unmarked : goal.returns-clause-unmarked
 returns-clause-unmarked g c _ = c.loop-probe.invariant.3
@@ -247,8 +255,8 @@ returns-in-Some-clause-searches g c =
       c.in-Some.found,
       finds_here g.T.Tag.fits c.args.table.now c.args.key c.args.name c.args.marks
           c.loop-probe.probe c.slot-slot.result c.in-Some.found c.args.effort.now
-          c.loop-probe.effort c.hold.new.effort c.probes.new.self c.args.seat.now
-          c.loop-probe.seat c.hold.new.seat c.mark_if.new.seat c.loop-probe.invariant.4
+          c.loop-probe.effort c.acquire_at.new.effort c.probes.new.self c.args.seat.now
+          c.loop-probe.seat c.acquire_at.new.seat c.mark_if.new.seat c.loop-probe.invariant.4
           (c.slot-slot.ensures ∙ c.loop-probe.invariant.0.walking.probe) c.in-Some.ensures.catches
           (counted.probes, counted.corrections, counted.lost) c.mark_if.ensures.marked
           c.mark_if.ensures.unmarked c.mark_if.ensures.unasked,
@@ -261,7 +269,8 @@ returns-then-count-eq0-clause-searches g c =
     let told = c.count.ensures in
     misses_here g.T.Tag.fits c.args.table.now c.args.key c.args.name c.loop-probe.probe
     c.slot-slot.result c.in_default.ensures.passes.0 c.count.result c.args.effort.now
-    c.loop-probe.effort c.hold.new.effort c.args.seat.now c.loop-probe.seat c.hold.new.seat
+    c.loop-probe.effort c.acquire_at.new.effort c.args.seat.now c.loop-probe.seat
+    c.acquire_at.new.seat
     c.count.new.seat c.loop-probe.invariant.4
     (c.slot-slot.ensures ∙ c.loop-probe.invariant.0.walking.probe) c.in_default.ensures.passes.1
     told.step told.view c.probes-then-count-eq0.new.self c.if-count-eq0.true

@@ -8,7 +8,7 @@ use Rattle.hcc_table.proofs.Logs.{adds_none, adds_one, adds_then, among_after, a
 use Rattle.hcc_table.proofs.Probes.{looked_at, buried_by_look, strayed, holds, holds_slot, told_key, missed_there, found_there, got_record, on_told}
 use Rattle.hcc_table.proofs.Probings.{neither, other_then, visible_has}
 use Rattle.hcc_table.proofs.Searches.{searched_refl}
-use Rattle.hcc_table.proofs.search.hold.Goals as goal
+use Rattle.hcc_table.proofs.search.acquire_at.Goals as goal
 
 pub returns-then-not-is_shown-clause-missed : goal.returns-then-not-is_shown-clause-missed
 returns-then-not-is_shown-clause-missed g c =

@@ -1,6 +1,6 @@
 use Rattle.std.proofs.Common.{ap, sym, is_some}
 use Rattle.hcc_rule.proofs.Ledgers.OccupancySteps.{slots_step}
-use Rattle.hcc_rule.proofs.table.RuleTable.slots.Goals as goal
+use Rattle.hcc_rule.proofs.table.RuleTable.return_slots.Goals as goal
 
 pub fetch_sub-requires : goal.fetch_sub-requires
 fetch_sub-requires g c =

@@ -6,7 +6,7 @@ use Rattle.hcc_cache.specs.Sharding.{shard_of}
 use Rattle.hcc_cache.proofs.At.{ChangesAt, few_at, is_at, next_at, seated_at}
 use Rattle.hcc_cache.proofs.Found.{finds, knows_more, knows_sought, looks_at, misses, searched_at}
 use Rattle.hcc_cache.proofs.Gained.{IsGiven}
-use Rattle.hcc_cache.proofs.cache.Cache.found.Goals as goal
+use Rattle.hcc_cache.proofs.cache.Cache.search.Goals as goal
 
 pub lookup-requires-clause-seat : goal.lookup-requires-clause-seat
 lookup-requires-clause-seat g c =
