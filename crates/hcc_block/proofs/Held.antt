@@ -1,11 +1,18 @@
--- What a client holds after a look-up, a reading and a release.
-use Rattle.std.proofs.Common.{◌≡◌, ◌∙◌, ◌⊎◌, ◌==◌, ℕ, false, None, ap, sym, inl, inr, arith}
+-- What a client holds after a look-up, a reading and a release, and after an insertion.
+use Rattle.std.proofs.Common.{◌≡◌, ◌∙◌, ◌⊎◌, ◌==◌, ℕ, false, List, None, Result, Ok, Err, ap, refl, sym, inl, inr, arith}
 use Rattle.std.proofs.lemmas.Bool.{cases_Bool, eqb-true, eq-eqb}
+use Rattle.hcc_rule.specs.declared.key.Key.{Key}
 use Rattle.hcc_cache.specs.declared.cache.Cache.{Cache}
 use Rattle.hcc_cache.specs.declared.client.Client.{Client}
+use Rattle.hcc_cache.specs.declared.errors.InsertError.{InsertError}
+use Rattle.hcc_cache.specs.declared.errors.InsertError.TheVariants.{HandlesFull, Spent, TooLarge, CapacityFull, OccupancyFull}
 use Rattle.hcc_cache.specs.declared.handle.Handle.{Handle}
+use Rattle.hcc_cache.specs.declared.inserting.Inserted.{Inserted}
+use Rattle.hcc_cache.specs.declared.inserting.Inserted.TheVariants.{Placed, Dropped, Standalone}
+use Rattle.hcc_cache.specs.declared.priority.Priority.{Priority}
 use Rattle.hcc_cache.specs.Calls.{Gains, KeepsAll, Loses}
 use Rattle.hcc_cache.specs.Clients.{Held, held_as, held_of, hold_of}
+use Rattle.hcc_cache.specs.Inserts.{Inserts}
 use Rattle.hcc_block.specs.Reads.{HoldsSame}
 
 -- handles that differ in a number
@@ -61,3 +68,22 @@ module _ {T : Type 0} (cache : Cache T) where
       by h (inl same) =
           rw same (stands_not new handle loses.gone ∙ sym (stands_not old handle gains.free))
       by h (inr other) = loses.others h other ∙ keeps.all h ∙ gains.others h other
+
+  -- An insertion without a handle leaves what the client holds.
+  pub inserts_same : (key : Key) (charge : ℕ) (priority : Priority) (value : List ℕ)
+      (answer : Result Inserted InsertError) (old new : Client T)
+      → Inserts cache key charge priority value answer old new → HoldsSame cache old new
+  inserts_same key charge priority value (Ok Placed) old new h =
+      record { all = h.keeps.all; count = h.keeps.count }
+  inserts_same key charge priority value (Ok Dropped) old new h =
+      record { all = h.keeps.all; count = h.keeps.count }
+  inserts_same key charge priority value (Ok Standalone) old new h = absurd h
+  inserts_same key charge priority value (Err HandlesFull) old new h = absurd h
+  inserts_same key charge priority value (Err Spent) old new h =
+      rw h (record { all = λ k. refl; count = refl })
+  inserts_same key charge priority value (Err TooLarge) old new h =
+      rw h (record { all = λ k. refl; count = refl })
+  inserts_same key charge priority value (Err CapacityFull) old new h =
+      record { all = h.keeps.all; count = h.keeps.count }
+  inserts_same key charge priority value (Err OccupancyFull) old new h =
+      record { all = h.keeps.all; count = h.keeps.count }
