@@ -1,4 +1,4 @@
-use Rattle.std.proofs.Common.{arith}
+use Rattle.std.proofs.Common.{rules, arith}
 use Rattle.hcc_c.proofs.Counts.{counts_inserted, counts_refused}
 use Rattle.hcc_c.proofs.session.Session.insert_pinned.Goals as goal
 use Rattle.hcc_c.proofs.session.Session.insert_pinned.Goals.{in-Ok-answer, in-Err}
@@ -39,3 +39,29 @@ returns-clause-whole c =
             slots = whole.slots;
           })
     ]
+
+pub returns-clause-puts : goal.returns-clause-puts
+returns-clause-puts c = elim c.match-answer.branch [
+  | in-Ok-answer w ↦ rw (w.self-is, w.result-is) (record {
+    unfit = search rules;
+    memory = search rules;
+    nothing = search rules;
+    full = search rules;
+    spent = search rules;
+    large = search rules;
+    inserted = search rules;
+    rest = search rules;
+    steps = search rules;
+  })
+  | in-Err w ↦ rw (w.self-is, w.result-is) (record {
+    unfit = search rules;
+    memory = search rules;
+    nothing = search rules;
+    full = search rules;
+    spent = search rules;
+    large = search rules;
+    inserted = search rules;
+    rest = search rules;
+    steps = search rules;
+  })
+]
