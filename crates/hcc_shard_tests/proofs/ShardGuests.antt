@@ -38,6 +38,7 @@ use Rattle.hcc_shard.specs.Seated.{AreBegun, AreNew, IsBegun, IsKept, IsNew, Res
 use Rattle.hcc_shard.specs.declared.inserting.Inserted.{Inserted}
 use Rattle.hcc_shard.specs.declared.inserting.Inserted.TheVariants as inserted
 use Rattle.hcc_shard.proofs.Names.{each_as, each_left, each_more, found_if, length_more}
+use Rattle.hcc_shard_tests.proofs.Bytes.{each_from}
 
 -- The pin of a name is that of the record of this name.
 found_pin : (geometry : Geometry) (name : ℕ) (pin : Pin) (rs : List Record)
@@ -416,10 +417,6 @@ pub short_in : (geometry : Geometry) (name : ℕ) (rs : List Record) → Each (I
 short_in geometry name rs kept few =
     found_if (IsKept geometry) (λ (r : Record). length r.entry.value ≤ 16)
     (λ r k. (let short = k.readable.short in omega arith)) (is_called name) rs kept
-
-each_from : (xs : List ℕ) → ((k : ℕ) → slice_index xs k < 256) → Each (λ b. b < 256) xs
-each_from [] low = tt
-each_from (x ∷ xs) low = (low 0, each_from xs (λ k. low (suc k)))
 
 -- What was drafted may be inserted, by any name of a reference or none.
 pub may_insert : {T : Type 0} (p : Plan T) (draft : Draft) (name : Option ℕ) (value : List ℕ)

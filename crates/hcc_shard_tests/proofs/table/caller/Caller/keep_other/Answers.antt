@@ -1,14 +1,9 @@
-use Rattle.std.proofs.Common.{rules, ℕ, suc, ◌<◌, List, [], ◌∷◌, slice_index, true, false, refl, arith}
+use Rattle.std.proofs.Common.{rules, true, false, refl, arith}
 use Rattle.hcc_rule.specs.Seats.{view}
 use Rattle.hcc_rule.specs.ToldOwners.{made_of, shown_entry}
-use Rattle.hcc_rule.specs.Views.{Each}
 use Rattle.hcc_shard_tests.specs.Handles.{second_name}
+use Rattle.hcc_shard_tests.proofs.Bytes.{each_from}
 use Rattle.hcc_shard_tests.proofs.table.caller.Caller.keep_other.Goals as goal
-
--- a list of which each index has a byte
-each_from : (xs : List ℕ) → ((k : ℕ) → slice_index xs k < 256) → Each (λ b. b < 256) xs
-each_from [] low = tt
-each_from (x ∷ xs) low = (low 0, each_from xs (λ k. low (suc k)))
 
 pub returns-clause-holds : goal.returns-clause-holds
 returns-clause-holds g c =
