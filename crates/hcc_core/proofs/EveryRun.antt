@@ -52,7 +52,7 @@ every_run setup events can = lawful_all events (opening_of setup) (lawful_openin
 -- Counters.
 
 -- in a lawful world uses stay near their bound, and references and strays weigh little
-counters_fit : (w : State) → Lawful w → CountersFit w
+pub counters_fit : (w : State) → Lawful w → CountersFit w
 counters_fit w l = record {
   entries = λ s slot at_slot.
       let bound = l.bounded s slot at_slot in
@@ -92,7 +92,7 @@ apart_kept w w' apart holds client name s t e f h k = elim (holds.held client na
   ]
 ]
 
-apart_all : (events : List Event) (w : State) → Apart w → Apart (after_all w events)
+pub apart_all : (events : List Event) (w : State) → Apart w → Apart (after_all w events)
 apart_all [] w apart = apart
 apart_all (event ∷ events) w apart =
     apart_all events (after w event) (apart_kept w (after w event) apart (after_holds w event))
@@ -119,7 +119,7 @@ stands_first [] w client name through = through
 stands_first (event ∷ events) w client name through = through.0
 
 -- and so through all events
-keeps_places : (events : List Event) (w : State) → Apart w → KeepsPlaces w events
+pub keeps_places : (events : List Event) (w : State) → Apart w → KeepsPlaces w events
 keeps_places [] w apart client name through s t e f h k =
     one_place w apart client name through s t e f h k
 keeps_places (event ∷ events) w apart client name through s t e f h k =
@@ -152,7 +152,7 @@ once_kept w w' once holds client name = elim (holds.times client name) [
   | inr one ↦ one
 ]
 
-once_all : (events : List Event) (w : State) → Once w → Once (after_all w events)
+pub once_all : (events : List Event) (w : State) → Once w → Once (after_all w events)
 once_all [] w once = once
 once_all (event ∷ events) w once =
     once_all events (after w event) (once_kept w (after w event) once (after_holds w event))
@@ -236,7 +236,7 @@ after_given w event shows g =
     outcome_given w event (outcome_of w event) shows g (outcome_adds w event)
 
 -- and after any list of events
-all_given : (events : List Event) (w : State) (shows : ℕ → List Event) → Given w shows
+pub all_given : (events : List Event) (w : State) (shows : ℕ → List Event) → Given w shows
     → Given (after_all w events) (λ c. shows c ++ shows_of c w events)
 all_given [] w shows g = given_same w shows _ (λ c. sym (append-nil (shows c))) g
 all_given (event ∷ events) w shows g =

@@ -1,6 +1,10 @@
+pub mod Histories
+pub mod Passes
+pub mod Fronts
 pub mod Lifts
 pub mod Openings
 pub mod Splits
 pub mod Dealing
 pub mod Joins
 pub mod Newest
+pub mod Runs

@@ -3,7 +3,9 @@ use Rattle.std.specs.Prelude.{◌≡◌, ℕ, ◌<◌, Bool, IsSomeAnd}
 use Rattle.hcc_rule.specs.declared.geometry.Geometry.{Geometry}
 use Rattle.hcc_rule.specs.declared.rule.Plan.{Plan}
 use Rattle.hcc_rule.specs.declared.table.RuleTable.{RuleTable}
+use Rattle.hcc_rule.specs.declared.view.Done.{Done}
 use Rattle.hcc_rule.specs.declared.view.View.{View}
+use Rattle.hcc_rule.specs.Acts.{IsAllowed, IsNext, past}
 use Rattle.hcc_rule.specs.Seats.{SeatOf, IsSeatOf}
 use Rattle.hcc_rule.specs.Records.{record_in}
 
@@ -34,11 +36,20 @@ module _ {T A : Type 0} where
   abbrev pub IsSeatAt : RuleTable T A → SeatOf T → Type 0
   IsSeatAt table seat = IsSeatOf table.table.shared.table_id table.table.shared.key.tag seat
 
+  -- the seat's step was this event with this reply, and the machine allows all that the seat knows
+  abbrev pub IsEvent : RuleTable T A → Done → (old new : SeatOf T) → Type 0
+  IsEvent table done old new =
+      IsNext (clients_of table) done old.me.0 new.me.0 × IsAllowed (plan_of table) (past new)
+
   -- a slot of this table
   abbrev pub IsSlotOf : RuleTable T A → ℕ → Type 0
   IsSlotOf table slot = slot < table.geometry.slots
 
 module _ {T : Type 0} where
+  -- the seat's step was no event
+  abbrev pub IsNoEvent : (old new : SeatOf T) → Type 0
+  IsNoEvent old new = past new ≡ past old
+
   -- the client has a record of this name on this slot
   abbrev pub HasOn : (slot name : ℕ) → View T → Type 0
   HasOn slot name v = IsSomeAnd (record_in name v.records) (λ r. r.slot ≡ slot)

@@ -10,9 +10,11 @@ pub mod Opening
 pub mod Passing
 pub mod Seats
 pub mod NewSeats
+pub mod Acts
 pub mod Logs
 pub mod PassedLogs
 pub mod Told
+pub mod Events
 pub mod Looked
 pub mod ToldReferences
 pub mod ToldLedgers
@@ -20,6 +22,7 @@ pub mod ToldTrails
 pub mod ToldOwners
 pub mod Closing
 pub mod Laws
+pub mod Runs
 pub mod Said
 pub mod Work
 pub mod Callers

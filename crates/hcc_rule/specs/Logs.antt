@@ -1,15 +1,17 @@
 -- A seat's view beside the list of its own atomic steps. Of the views the rule says that they show
 -- a world with the words, and of the steps what the words are before there is one.
-use Rattle.std.specs.Prelude.{◌≡◌, ℕ, ◌+◌, List, [], ◌∷◌, ◌++◌, Some, None, length, map, slice_get}
+use Rattle.std.specs.Prelude.{◌≡◌, ℕ, ◌+◌, List, [], ◌∷◌, ◌++◌, Option, Some, None, length, map, slice_get}
 use Rattle.atomic_table.specs.Table as table
 use Rattle.hcc_core.specs.Sums.{total}
 use Rattle.hcc_rule.specs.declared.key.Key.{Key}
 use Rattle.hcc_rule.specs.declared.rule.Plan.{Plan}
 use Rattle.hcc_rule.specs.declared.view.Atomic.{Atomic}
+use Rattle.hcc_rule.specs.declared.view.Done.{Done}
 use Rattle.hcc_rule.specs.declared.view.Logged.{Logged}
 use Rattle.hcc_rule.specs.declared.view.View.{View}
+use Rattle.hcc_rule.specs.Acts.{Follows, IsAllowed, IsFront, IsKnown, IsRun}
 use Rattle.hcc_rule.specs.Images.{BeginsWith, entries_in}
-use Rattle.hcc_rule.specs.Opening.{opening_view}
+use Rattle.hcc_rule.specs.Opening.{begun_world, opening_view}
 use Rattle.hcc_rule.specs.Rule.{Holds}
 use Rattle.hcc_rule.specs.Seats.{atomic, moves_of}
 use Rattle.hcc_rule.specs.Told.{Held}
@@ -35,8 +37,9 @@ module _ {T : Type 0} where
   abbrev pub moves_in : table.State (Unit {0}) (Logged T) → ℕ
   moves_in s = total moves_of s.views
 
-  -- Words and views meet the rule, whatever steps were made; and as long as there was none, the
-  -- words are those with which the shard began.
+  -- Words and views meet the rule, whatever steps were made; as long as there was none, the words
+  -- are those with which the shard began. The world that they show is where a history leads, from
+  -- the world that the shard began with, of which each seat knows a front, and one all steps.
   pub record HoldsLogged (fits : T → Key → List ℕ → Type 0) (p : Plan T)
       (s : table.State (Unit {0}) (Logged T)) : Type 0 where
     pub rule : Holds fits p (unlogged s)
@@ -44,19 +47,33 @@ module _ {T : Type 0} where
     -- the steps of a seat that was taken in count as those of the seat that took it in
     pub spent : (j : ℕ) (l : Logged T) → slice_get s.views j ≡ Some l → l.known.tag ≡ None
         → moves_of l ≡ 0
+    pub history : List Done
+    pub run : IsRun (begun_world p) history rule.world
+    pub fronts : (j : ℕ) (l : Logged T) → slice_get s.views j ≡ Some l
+        → IsFront p.geometry.clients history l
+    pub known : IsKnown history s.views
 
-  -- a view with these steps, of a seat that took in none
+  -- a view with these steps, of a seat that took in none and knows no history
   abbrev pub logged : View T → List Atomic → Logged T
-  logged v steps = record { known = v; steps = steps; taken_in = 0 }
+  logged v steps = record { known = v; steps = steps; past = []; taken_in = 0 }
 
   abbrev pub first_logged : Plan T → Logged T
   first_logged p = logged (opening_view p) []
 
-  -- What a step tells of the views, and that it is one step more of the seat.
-  pub record Logs (then : table.Step (Unit {0}) → Held T → ℕ → Held T → Type 0)
+  -- What a step tells of the views and of its event, and that it is one step more of the seat.
+  pub record Logs (p : Plan T)
+      (then : table.Step (Unit {0}) → Held T → ℕ → Held T → Option Done → Type 0)
       (step : table.Step (Unit {0})) (me : table.Me (Unit {0}) (Logged T)) (found : ℕ)
       (after : table.Me (Unit {0}) (Logged T)) : Type 0 where
-    pub told : then step (known_of me) found (known_of after)
+    pub done : Option Done
+    pub told : then step (known_of me) found (known_of after) done
+    pub follows : Follows p.geometry.clients done me.0 after.0
+    pub allowed : IsAllowed p after.0.past
     pub logged_is : after.0.steps
         ≡ me.0.steps ++ atomic step.word step.first step.second found ∷ []
     pub one : length after.0.steps ≡ length me.0.steps + 1
+
+  -- a step that tells nothing
+  abbrev pub silent : table.Step (Unit {0}) → table.Me (Unit {0}) (Logged T) → ℕ
+      → table.Me (Unit {0}) (Logged T) → Type 0
+  silent step me found after = Unit {0}

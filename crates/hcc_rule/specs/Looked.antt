@@ -5,11 +5,13 @@ use Rattle.hcc_word.specs.Word.{is_shareable, is_visible, refs_of}
 use Rattle.hcc_core.specs.declared.setup.Setup.{Setup}
 use Rattle.hcc_core.specs.declared.slot.Stamp.{Stamp}
 use Rattle.hcc_core.specs.References.{joined}
+use Rattle.hcc_rule.specs.declared.view.Done.{Done}
 use Rattle.hcc_rule.specs.declared.view.View.{View}
 use Rattle.hcc_rule.specs.Views.{Each}
 use Rattle.hcc_rule.specs.Records.{stamp_on, weight_on}
 use Rattle.hcc_rule.specs.declared.view.Record.{Record}
 use Rattle.hcc_rule.specs.Told.{Held}
+use Rattle.hcc_rule.specs.Events.{look_done}
 
 -- the word of an entry that was hidden
 abbrev pub is_hidden : ℕ → Bool
@@ -47,7 +49,8 @@ module _ {T : Type 0} where
   HoldsAll setup slot word v =
       setup.clients ≡ 1 → is_shareable word ≡ true → refs_of word ≡ weight_on slot v.records
 
-  abbrev pub looks : Setup → ℕ → Step (Unit {0}) → Held T → ℕ → Held T → Type 0
-  looks setup slot step me word after =
+  abbrev pub looks : Setup → ℕ → Step (Unit {0}) → Held T → ℕ → Held T → Option Done → Type 0
+  looks setup slot step me word after act =
       (after.1 ≡ me.1) × (after.0 ≡ after_look slot word me.0) × Backs slot word me.0
       × HoldsAll setup slot word me.0
+      × (act ≡ Some (look_done slot word me.0))

@@ -5,6 +5,7 @@ use Rattle.hcc_rule.specs.declared.image.ImageEntry.{ImageEntry}
 use Rattle.hcc_rule.specs.declared.view.Other.{Other}
 use Rattle.hcc_rule.specs.Images.{maker_of}
 use Rattle.hcc_rule.specs.Opening.{fresh_view, unstarted}
+use Rattle.hcc_rule.specs.Acts.{past}
 use Rattle.hcc_rule.specs.Seats.{SeatOf, view, steps, moves, IsSeatOf}
 
 module _ {T : Type 0} where
@@ -14,6 +15,7 @@ module _ {T : Type 0} where
     pub fresh : view seat ≡ fresh_view (Some tag) o []
     pub no_steps : steps seat ≡ []
     pub unmoved : moves seat ≡ 0
+    pub no_past : past seat ≡ []
 
   -- a seat whose client did nothing yet
   abbrev pub IsNewSeat : TableId → T → (client : ℕ) → SeatOf T → Type 0

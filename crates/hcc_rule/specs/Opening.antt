@@ -1,14 +1,16 @@
 -- The views of new seats.
-use Rattle.std.specs.Prelude.{ℕ, ◌-◌, true, Option, Some, List, [], map}
+use Rattle.std.specs.Prelude.{ℕ, ◌-◌, true, Option, Some, List, [], map, replicate, slice_set}
 use Rattle.std.specs.List.{range_with_len}
 use Rattle.hcc_core.specs.declared.client.Client.{Client}
 use Rattle.hcc_core.specs.declared.slot.Stamp.{Stamp}
+use Rattle.hcc_core.specs.Opening.{new_client}
+use Rattle.hcc_core.specs.World.{State}
 use Rattle.hcc_rule.specs.declared.rule.Plan.{Plan}
 use Rattle.hcc_rule.specs.declared.view.Other.{Other}
 use Rattle.hcc_rule.specs.declared.view.Made.{Made}
 use Rattle.hcc_rule.specs.declared.view.View.{View}
-use Rattle.hcc_rule.specs.Images.{entries_in, maker_of}
-use Rattle.hcc_rule.specs.Rule.{resting}
+use Rattle.hcc_rule.specs.Images.{entries_in, made_from, maker_of, slots_with}
+use Rattle.hcc_rule.specs.Rule.{resting, setup_of}
 
 -- a client that was started with nothing in hand, after it showed and saw this
 abbrev pub started : List Made → List Stamp → Client
@@ -45,3 +47,15 @@ abbrev pub opening_view : {T : Type 0} → Plan T → View T
 opening_view p =
     fresh_view (Some p.tag) (maker_of (entries_in p.image))
     (map unstarted (range_with_len 1 (p.geometry.clients - 1)))
+
+-- the world that a shard begins with: the entries of the image in their slots, and client 0, which
+-- made them, started
+abbrev pub begun_world : {T : Type 0} → Plan T → State
+begun_world p = record {
+  setup = setup_of p;
+  slots = slots_with p.geometry.slots (entries_in p.image);
+  clients =
+      slice_set (replicate p.geometry.clients new_client) 0
+      (started (made_from 0 (entries_in p.image)) []);
+  hand = 0;
+}

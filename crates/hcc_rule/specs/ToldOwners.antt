@@ -20,6 +20,7 @@ use Rattle.hcc_rule.specs.declared.steps.shows.Draft.{Draft}
 use Rattle.hcc_rule.specs.declared.rule.Plan.{Plan}
 use Rattle.hcc_rule.specs.declared.view.Made.{Made}
 use Rattle.hcc_rule.specs.declared.view.Record.{Record}
+use Rattle.hcc_rule.specs.declared.view.Done.{Done}
 use Rattle.hcc_rule.specs.declared.view.View.{View}
 use Rattle.hcc_rule.specs.Views.{is_called, load_of}
 use Rattle.hcc_rule.specs.Records.{record_in}
@@ -28,6 +29,7 @@ use Rattle.hcc_rule.specs.Rule.{IsRight}
 use Rattle.hcc_rule.specs.Words.{key_of, entry_of, made_words}
 use Rattle.hcc_rule.specs.Told.{Held}
 use Rattle.hcc_rule.specs.Looked.{Backs, after_look, found_dead}
+use Rattle.hcc_rule.specs.Events.{show_done, empty_done, free_done, occupy_done, read_done, write_done}
 
 -- the data words of an entry, but for the serial in its stamp word
 abbrev pub entry_words : Entry → List ℕ
@@ -118,39 +120,44 @@ module _ {T : Type 0} where
       then record v { work = record v.work { owned = owned.ForBuilding slot }; written = [] }
       else record (after_look slot word v) { saw = v.saw + 1 }
 
-  abbrev pub occupies : (slot : ℕ) → Step (Unit {0}) → Held T → ℕ → Held T → Type 0
-  occupies slot step me word after =
+  abbrev pub occupies : (slot : ℕ) → Step (Unit {0}) → Held T → ℕ → Held T → Option Done → Type 0
+  occupies slot step me word after act =
       (after.1 ≡ me.1) × (after.0 ≡ after_occupy slot word me.0) × Backs slot word me.0
+      × (act ≡ Some (occupy_done slot word me.0))
 
   -- Empty: the slot that was taken to be freed is given back.
   abbrev pub after_empty : View T → View T
   after_empty v = record v { work = record v.work { owned = owned.Nothing }; written = [] }
 
-  abbrev pub empties : Step (Unit {0}) → Held T → ℕ → Held T → Type 0
-  empties step me word after = (after.1 ≡ me.1) × (after.0 ≡ after_empty me.0)
+  abbrev pub empties : Step (Unit {0}) → Held T → ℕ → Held T → Option Done → Type 0
+  empties step me word after act = (after.1 ≡ me.1) × (after.0 ≡ after_empty me.0)
+      × (act ≡ Some (empty_done me.0))
 
   -- Write: one more data word.
   abbrev pub after_write : (word : ℕ) → View T → View T
   after_write word v = record v { written = v.written ++ word ∷ [] }
 
-  abbrev pub writes : Step (Unit {0}) → Held T → ℕ → Held T → Type 0
-  writes step me word after = (after.1 ≡ me.1) × (after.0 ≡ after_write step.first me.0)
+  abbrev pub writes : Step (Unit {0}) → Held T → ℕ → Held T → Option Done → Type 0
+  writes step me word after act = (after.1 ≡ me.1) × (after.0 ≡ after_write step.first me.0)
+      × (act ≡ Some (write_done me.0))
 
   -- Read: a data word of the entry that a record is on.
   abbrev pub after_read : (name index : ℕ) → View T → View T
   after_read name index v =
       if index == KEY1 then record v { met = with_met (record_in name v.records) v.met } else v
 
-  abbrev pub reads : (name index : ℕ) → Step (Unit {0}) → Held T → ℕ → Held T → Type 0
-  reads name index step me word after =
+  abbrev pub reads : (name index : ℕ) → Step (Unit {0}) → Held T → ℕ → Held T → Option Done → Type 0
+  reads name index step me word after act =
       (after.1 ≡ me.1) × (after.0 ≡ after_read name index me.0)
       × IfSome (record_in name me.0.records) (λ r. IsDataWord r.entry index word)
+      × IfSome (record_in name me.0.records) (λ r. act ≡ Some (read_done name r.entry me.0))
 
   -- Read of the slot that the client owns: the word that stands there.
-  abbrev pub reads_own : (index : ℕ) → Step (Unit {0}) → Held T → ℕ → Held T → Type 0
-  reads_own index step me word after =
+  abbrev pub reads_own : (index : ℕ) → Step (Unit {0}) → Held T → ℕ → Held T → Option Done → Type 0
+  reads_own index step me word after act =
       (after.1 ≡ me.1) × (after.0 ≡ me.0)
       × (index < length me.0.written → word ≡ slice_index me.0.written index)
+      × (act ≡ None)
 
   -- Show: the entry whose words were written is the newest that the client made; it keeps a
   -- reference on it where it has a name for one.
@@ -162,9 +169,11 @@ module _ {T : Type 0} where
     records = v.records ++ first_records slot name (shown_entry v made);
   }
 
-  abbrev pub shows : (slot : ℕ) → Option ℕ → Made → Step (Unit {0}) → Held T → ℕ → Held T → Type 0
-  shows slot name made step me word after =
+  abbrev pub shows : (slot countdown : ℕ) → Option ℕ → Made → Step (Unit {0}) → Held T → ℕ
+      → Held T → Option Done → Type 0
+  shows slot countdown name made step me word after act =
       (after.1 ≡ me.1) × (after.0 ≡ after_show slot name made me.0)
+      × (act ≡ Some (show_done countdown name made me.0))
 
   -- Free: the entry of a slot with no reference, or with the client's last one, is taken.
 
@@ -209,6 +218,8 @@ module _ {T : Type 0} where
     pub lost : (word == old) ≡ false → new ≡ after_look slot word v
 
   abbrev pub frees : (T → Key → List ℕ → Type 0) → (slots room slot : ℕ) → Option ℕ
-      → Step (Unit {0}) → Held T → ℕ → Held T → Type 0
-  frees fits slots room slot name step me word after =
+      → Step (Unit {0}) → Held T → ℕ → Held T → Option Done → Type 0
+  frees fits slots room slot name step me word after act =
       (after.1 ≡ me.1) × Freed fits slots room slot step.first word name me.0 after.0
+      × (act ≡ Some (free_done slot name step.first word
+      (after.0.work.freed - me.0.work.freed) me.0))

@@ -11,12 +11,14 @@ use Rattle.hcc_core.specs.References.{joined, looks_at}
 use Rattle.hcc_core.specs.Lawful.{is_in}
 use Rattle.hcc_rule.specs.declared.key.Key.{Key}
 use Rattle.hcc_rule.specs.declared.view.Record.{Record}
+use Rattle.hcc_rule.specs.declared.view.Done.{Done}
 use Rattle.hcc_rule.specs.declared.view.View.{View}
 use Rattle.hcc_rule.specs.Words.{key_of}
 use Rattle.hcc_rule.specs.Views.{is_on, is_called, Each}
 use Rattle.hcc_rule.specs.Records.{record_in}
 use Rattle.hcc_rule.specs.Told.{Held}
 use Rattle.hcc_rule.specs.Looked.{after_look, noticing, Backs}
+use Rattle.hcc_rule.specs.Events.{acquire_done, clock_done, correct_done, mark_done, give_done, hide_done, spend_done}
 
 -- the record of an acquire of an entry, by the word that it found
 abbrev pub record_of : (slot weight name word : ℕ) → Entry → Record
@@ -85,9 +87,10 @@ module _ {T : Type 0} where
         × (new ≡ after_acquire slot weight name word entry v)
 
   abbrev pub acquires : (T → Key → List ℕ → Type 0) → (room slot name : ℕ) → Step (Unit {0})
-      → Held T → ℕ → Held T → Type 0
-  acquires fits room slot name step me word after =
+      → Held T → ℕ → Held T → Option Done → Type 0
+  acquires fits room slot name step me word after act =
       (after.1 ≡ me.1) × Acquired fits room slot step.first name word me.0 after.0
+      × (act ≡ Some (acquire_done slot step.first name word me.0))
 
   -- Give and release.
 
@@ -96,14 +99,16 @@ module _ {T : Type 0} where
   after_give slot name word v =
       record (noticing slot word v) { records = dropped (is_called name) v.records }
 
-  abbrev pub gives : (slot name : ℕ) → Step (Unit {0}) → Held T → ℕ → Held T → Type 0
-  gives slot name step me word after =
+  abbrev pub gives : (slot name : ℕ) → Step (Unit {0}) → Held T → ℕ → Held T → Option Done → Type 0
+  gives slot name step me word after act =
       (after.1 ≡ me.1) × (after.0 ≡ after_give slot name word me.0) × IsReferenced step.first word
+      × (act ≡ Some (give_done step.first name word me.0))
 
-  abbrev pub spends : (slot name : ℕ) → Step (Unit {0}) → Held T → ℕ → Held T → Type 0
-  spends slot name step me word after =
+  abbrev pub spends : (slot name : ℕ) → Step (Unit {0}) → Held T → ℕ → Held T → Option Done → Type 0
+  spends slot name step me word after act =
       (after.1 ≡ me.1) × (after.0 ≡ after_give slot name word me.0)
       × IsReferenced (step.first / ONE_RELEASE) word
+      × (act ≡ Some (spend_done (step.first / ONE_RELEASE) name word me.0))
 
   -- Hide.
 
@@ -117,29 +122,34 @@ module _ {T : Type 0} where
         v.hidden);
   }
 
-  abbrev pub hides : (name : ℕ) → Step (Unit {0}) → Held T → ℕ → Held T → Type 0
-  hides name step me word after =
+  abbrev pub hides : (name : ℕ) → Step (Unit {0}) → Held T → ℕ → Held T → Option Done → Type 0
+  hides name step me word after act =
       (after.1 ≡ me.1) × (after.0 ≡ after_hide name word me.0) × (is_shareable word ≡ true)
+      × (act ≡ Some (hide_done name word me.0))
 
   -- Mark.
 
-  abbrev pub marks : (slot : ℕ) → Step (Unit {0}) → Held T → ℕ → Held T → Type 0
-  marks slot step me word after =
+  abbrev pub marks : (slot name : ℕ) → Step (Unit {0}) → Held T → ℕ → Held T → Option Done → Type 0
+  marks slot name step me word after act =
       (after.1 ≡ me.1) × (after.0 ≡ noticing slot word me.0) × (is_shareable word ≡ true)
+      × (act ≡ Some (mark_done name me.0))
 
   -- Clock and correct: an exchange that found another word is a look.
 
   abbrev pub after_clock : (slot old word : ℕ) → View T → View T
   after_clock slot old word v = if word == old then v else after_look slot word v
 
-  abbrev pub clocks : (slot : ℕ) → Step (Unit {0}) → Held T → ℕ → Held T → Type 0
-  clocks slot step me word after =
+  abbrev pub clocks : (slot : ℕ) → Step (Unit {0}) → Held T → ℕ → Held T → Option Done → Type 0
+  clocks slot step me word after act =
       (after.1 ≡ me.1) × (after.0 ≡ after_clock slot step.first word me.0)
+      × (act ≡ Some (clock_done slot step.first step.second word me.0))
 
   abbrev pub after_correct : (slot old word : ℕ) → View T → View T
   after_correct slot old word v =
       if word == old then noticing slot word v else after_look slot word v
 
-  abbrev pub corrects : (slot : ℕ) → Step (Unit {0}) → Held T → ℕ → Held T → Type 0
-  corrects slot step me word after =
+  abbrev pub corrects : (slot name : ℕ) → Step (Unit {0}) → Held T → ℕ → Held T
+      → Option Done → Type 0
+  corrects slot name step me word after act =
       (after.1 ≡ me.1) × (after.0 ≡ after_correct slot step.first word me.0)
+      × (act ≡ Some (correct_done slot name step.first word me.0))

@@ -3,28 +3,39 @@
 //! No function here does anything when it runs: its contract is the law. `h.world` is the lawful
 //! world that the words and the views of a state show. A state is meant without the seats' logs
 //! (`unlogged`), except what its words are before the first step (`HoldsLogged`).
-ghost use Rattle.std.specs.Prelude.{◌≡◌, ◌≢◌, ℕ, ◌+◌, ◌/◌, ◌^◌, ◌<◌, ◌≤◌, true, false, List, [], Some, slice_get, slice_index};
+ghost use Rattle.std.specs.Prelude.{◌≡◌, ◌≢◌, ℕ, ◌+◌, ◌/◌, ◌^◌, ◌<◌, ◌≤◌, true, false, List, [], Some, Ok, slice_get, slice_index};
 ghost use Rattle.atomic_table.specs.Table.{opening};
 ghost use Rattle.hcc_word.specs.declared.layout.TheConstants.{VISIBLE};
 ghost use Rattle.hcc_word.specs.Word.{word_of};
 ghost use Rattle.hcc_core.specs.declared.client.Client.{Client};
+ghost use Rattle.hcc_core.specs.declared.event.Event.{Event};
+ghost use Rattle.hcc_core.specs.declared.event.Event.TheVariants.{Start};
+ghost use Rattle.hcc_core.specs.declared.event.Reply.TheVariants as replies;
 ghost use Rattle.hcc_core.specs.declared.limits.TheConstants.{SLOTS_PER_TURN};
-ghost use Rattle.hcc_core.specs.Lawful.{real_in, taken_in};
+ghost use Rattle.hcc_core.specs.Lawful.{Lawful, real_in, taken_in};
+ghost use Rattle.hcc_core.specs.Opening.{opening_of};
+ghost use Rattle.hcc_core.specs.Runs.{CountersFit, FindsOne, KeepsPlaces, after_all};
+ghost use Rattle.hcc_core.specs.Steps.{outcome_of};
 ghost use Rattle.hcc_core.specs.Sums.{total};
 ghost use Rattle.hcc_core.specs.World.{limit_of, occupancy_of, passed_by, standing_in, times};
 ghost use Rattle.hcc_rule.specs.declared.image.ImageEntry.{ImageEntry};
 ghost use Rattle.hcc_rule.specs.declared.key.Key.{Key};
 ghost use Rattle.hcc_rule.specs.declared.layout.TheConstants.{META, USAGE, OCCUPANCY, STANDING, HAND};
 ghost use Rattle.hcc_rule.specs.declared.rule.Plan.{Plan};
+ghost use Rattle.hcc_rule.specs.declared.view.Logged.{Logged};
 ghost use Rattle.hcc_rule.specs.declared.view.View.{View};
+ghost use Rattle.hcc_rule.specs.Acts.{IsAllowed, IsFront, IsKnown, IsRun, events_of};
 ghost use Rattle.hcc_rule.specs.Closing.{key_at};
 ghost use Rattle.hcc_rule.specs.Images.{entries_in};
 ghost use Rattle.hcc_rule.specs.ImageLimits.{AreRising, IsImageFor};
 ghost use Rattle.hcc_rule.specs.Laws.{LoggedStateOf, StateOf, due_in, ledger_word, displacement_word, has_entry, references_counted, references_held, AreMade, AreOfMade, HasWordsOfRecords};
 ghost use Rattle.hcc_rule.specs.Logs.{HasBegun, HoldsLogged, first_logged, moves_in};
+ghost use Rattle.hcc_rule.specs.Opening.{begun_world};
 ghost use Rattle.hcc_rule.specs.Probes.{probe_slot};
 ghost use Rattle.hcc_rule.specs.Rule.{hand_after, setup_of, Holds};
+ghost use Rattle.hcc_rule.specs.Runs.{AreShown};
 ghost use Rattle.hcc_rule.specs.Seats.{IsPlanned};
+ghost use Rattle.hcc_rule.specs.Views.{is_seated};
 ghost use Rattle.hcc_rule.specs.Words.{field_at};
 
 use crate::key::Tag;
@@ -142,4 +153,81 @@ pub fn law_slots<T: Tag>()
     ensures entries { (p : Plan T) (s : StateOf T) → Holds T.fits p s
         → (slot number : ℕ) (v : View T)
         → slice_get s.views number ≡ Some v → HasWordsOfRecords p s slot v }
+{}
+
+/// The events of a shard: its words show, between any two steps of any threads, the world to which
+/// a run of the protocol's machine leads.
+///
+/// The history of a state is that run (`h.history`). Each seat knows a front of it (`Logged.past`),
+/// and each step function says by which event with which reply it goes on.
+pub fn law_run<T: Tag>()
+    // The machine allows the events of the history one after another, each with the reply that
+    // stands there, from the world that the shard began with to the world that its words show.
+    ensures run { (p : Plan T) (s : LoggedStateOf T) (h : HoldsLogged T.fits p s)
+        → IsRun (begun_world p) h.history h.rule.world }
+
+    // So that is the world after these events.
+    ensures world { (p : Plan T) (s : LoggedStateOf T) (h : HoldsLogged T.fits p s)
+        → h.rule.world ≡ after_all (begun_world p) (events_of h.history) }
+
+    // With no image the shard began with the opening world, in which client 0 was started.
+    ensures opening { (p : Plan T) → IsPlanned p.geometry p.capacity → entries_in p.image ≡ []
+        → outcome_of (opening_of (setup_of p)) (Start 0) ≡ Ok (replies.Ok, begun_world p) }
+
+    // Each seat knows a front of the history, and behind it come only steps of clients that the
+    // seat doesn't name, with starts and ends.
+    ensures fronts { (p : Plan T) (s : LoggedStateOf T) (h : HoldsLogged T.fits p s)
+        → (number : ℕ) (l : Logged T) → slice_get s.views number ≡ Some l
+        → IsFront p.geometry.clients h.history l }
+
+    // So the machine allows all that a seat knows.
+    ensures allowed { (p : Plan T) (s : LoggedStateOf T) → HoldsLogged T.fits p s
+        → (number : ℕ) (l : Logged T) → slice_get s.views number ≡ Some l
+        → IsAllowed p l.past }
+
+    // Some seat knows all of it except starts and ends that came since: so the views of a state
+    // leave open no more of the history than these.
+    ensures known { (p : Plan T) (s : LoggedStateOf T) (h : HoldsLogged T.fits p s)
+        → IsKnown h.history s.views }
+
+    // After any events from the world that the shard began with, refused or not, and so after each
+    // front of each history, the world is lawful.
+    ensures lawful { (p : Plan T) → IsPlanned p.geometry p.capacity
+        → IsImageFor T.fits p.tag p.geometry p.capacity p.strict (entries_in p.image)
+        → (events : List Event) → Lawful (after_all (begun_world p) events) }
+
+    // In each slot uses and references together are below 2^30 then, and so are strays.
+    ensures counters { (p : Plan T) → IsPlanned p.geometry p.capacity
+        → IsImageFor T.fits p.tag p.geometry p.capacity p.strict (entries_in p.image)
+        → (events : List Event) → CountersFit (after_all (begun_world p) events) }
+
+    // A reference that stands in two worlds and in all between them has one slot and one entry.
+    ensures places { (p : Plan T) (before events : List Event)
+        → KeepsPlaces (after_all (begun_world p) before) events }
+
+    // A client has one reference of a name at most, and steps find its slot by the name.
+    ensures found { (p : Plan T) (events : List Event)
+        → FindsOne (after_all (begun_world p) events) }
+
+    // The entry of the stamp of a client and a number is what that client's show of this number
+    // gave. The entries of the image are the first that client 0 showed.
+    ensures entries { (p : Plan T) → IsPlanned p.geometry p.capacity → (events : List Event)
+        → AreShown p events }
+{}
+
+/// The events of a shard of one client: its seat knows all of them, so the world that the words
+/// show is a function of what the seat knows.
+pub fn law_alone<T: Tag>()
+    // The machine allows the events that the seat knows, from the world that the shard began with
+    // to the world that the words show.
+    ensures run { (p : Plan T) (s : LoggedStateOf T) (h : HoldsLogged T.fits p s)
+        → p.geometry.clients ≡ 1 → (number : ℕ) (l : Logged T)
+        → slice_get s.views number ≡ Some l → is_seated l.known ≡ true
+        → IsRun (begun_world p) l.past h.rule.world }
+
+    // So that is the world after these events, with its slots, its clients and all sums of them.
+    ensures world { (p : Plan T) (s : LoggedStateOf T) (h : HoldsLogged T.fits p s)
+        → p.geometry.clients ≡ 1 → (number : ℕ) (l : Logged T)
+        → slice_get s.views number ≡ Some l → is_seated l.known ≡ true
+        → h.rule.world ≡ after_all (begun_world p) (events_of l.past) }
 {}

@@ -25,4 +25,4 @@ pub use key::{Key, Tag};
 pub use rule::{Plan, ShardRule};
 pub use steps::Draft;
 pub use table::{RuleSeat, RuleTable};
-pub use view::{Atomic, Logged, Made, Other, Record, View};
+pub use view::{Atomic, Done, Logged, Made, Other, Record, View};

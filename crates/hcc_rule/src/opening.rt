@@ -1,5 +1,6 @@
 //! A new shard, and the seats of its clients.
 ghost use Rattle.std.specs.Prelude.{◌≡◌, ◌+◌, ◌≤◌, [], IfOk, length};
+ghost use Rattle.hcc_rule.specs.Acts.{past};
 ghost use Rattle.hcc_rule.specs.Callers.{plan_of, geometry_of, capacity_of, is_strict, IsSeatAt};
 ghost use Rattle.hcc_rule.specs.Beginnings.{AreSeatsAt, AreSeatsAtWith, OpensWith};
 ghost use Rattle.hcc_rule.specs.Images.{entries_in};
@@ -151,6 +152,7 @@ impl<T: Tag, A: Allocator> RuleTable<T, A> {
             IsSeatAt made.0 made.1) }
         ensures view { IfOk result (λ made. view made.1 ≡ opening_view (plan_of made.0)) }
         ensures steps { IfOk result (λ made. (steps made.1 ≡ []) × (moves made.1 ≡ 0)) }
+        ensures past { IfOk result (λ made. past made.1 ≡ []) }
     {
         let (geometry, capacity, strict) = (plan.geometry, plan.capacity, plan.strict);
         let words = words_with(alloc.clone()?, geometry, image)?;
@@ -172,6 +174,7 @@ impl<T: Tag, A: Allocator> RuleTable<T, A> {
         requires seat { IsSeatAt self.now first }
         requires view { view first ≡ opening_view (plan_of self.now) }
         requires steps { (steps first ≡ []) × (moves first ≡ 0) }
+        requires past { past first ≡ [] }
         ensures count { IfOk result (λ seats. length seats.items ≡ self.now.geometry.clients) }
         ensures seats { IfOk result (λ seats.
             AreSeatsAtWith self.now (entries_in (plan_of self.now).image) seats.items) }

@@ -1,6 +1,7 @@
 //! What contracts see of a seat. No value of these types is ever made.
 use crate::key::Key;
 use hcc_core::client::Client;
+use hcc_core::event::{Event, Reply};
 use hcc_core::slot::{Entry, Stamp};
 use std::collections::LinkedList;
 
@@ -81,10 +82,19 @@ pub struct Atomic {
     pub found: u64,
 }
 
+/// An event of the protocol, and what the machine replies to it.
+pub struct Done {
+    pub event: Event,
+    pub reply: Reply,
+}
+
 /// What a seat knows, and each atomic step that it made, in order.
 pub struct Logged<T> {
     pub known: View<T>,
     pub steps: LinkedList<Atomic>,
+    /// The shard's history up to the last event that the seat made: the events of all clients, in
+    /// the order in which they happened.
+    pub past: LinkedList<Done>,
     /// How many steps the seats made that it took in, with those that they took in.
     pub taken_in: u64,
 }

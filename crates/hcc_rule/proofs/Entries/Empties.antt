@@ -1,7 +1,7 @@
 -- The store that empties a slot: the slot that was taken to be freed is given back.
-use Rattle.std.proofs.Common.{◌≡◌, ℕ, ◌<◌, true, List, [], Some, Ok, slice_get, sym, refl, ap, ◌∙◌}
+use Rattle.std.proofs.Common.{◌≡◌, ℕ, ◌<◌, true, List, [], Some, Ok, slice_get, sym, refl, ap, ◌∙◌, Option}
 use mathlib.Core.Option.{none}
-use Rattle.atomic_table.specs.Table.{step, Allows}
+use Rattle.atomic_table.specs.Table.{step}
 use Rattle.hcc_word.specs.declared.layout.TheConstants.{EMPTY_WORD}
 use Rattle.hcc_word.proofs.StepLaws.{store_empty}
 use Rattle.hcc_core.specs.declared.event.Event.TheVariants as events
@@ -30,7 +30,9 @@ use Rattle.hcc_rule.proofs.Basics.Lists.{within, read_at}
 use Rattle.hcc_rule.proofs.References.Looks.{client_fits, slot_there}
 use Rattle.hcc_rule.proofs.Parts.Owners.{owned_step}
 use Rattle.hcc_rule.proofs.Parts.SlotSteps.{Shard}
-use Rattle.hcc_rule.proofs.Parts.Touches.{Goes, goes, client_is, live_is}
+use Rattle.hcc_rule.proofs.Parts.Touches.{goes, client_is, live_is}
+use Rattle.hcc_rule.specs.Acts.{Acts, Goes}
+use Rattle.hcc_rule.specs.declared.view.Done.{Done}
 
 -- an owner may empty the slot that it took to free
 empty_allowed : (w : State) (c i : ℕ) (found : Client) → Lawful w
@@ -60,7 +62,7 @@ module _ {T : Type 0} (fits : T → Key → List ℕ → Type 0) (p : Plan T) wh
   pub empty_step : (count id i a : ℕ) (me : Held T) → i < p.geometry.slots → is_seated me.0 ≡ true
       → me.0.work.owned ≡ owned.ForFreeing i → me.0.work.trail ≡ []
       → a ≡ field_at p.geometry.room i META
-      → Allows (Holds fits p) count id me a (λ y. EMPTY_WORD)
+      → Acts fits p count id me a (λ y. EMPTY_WORD)
       (λ y. empties (step count a EMPTY_WORD 0 none) me EMPTY_WORD)
   empty_step count id i a me near seated owns back address s r homes at low =
       let slot = slot_there fits p s r i near in
@@ -69,16 +71,17 @@ module _ {T : Type 0} (fits : T → Key → List ℕ → Type 0) (p : Plan T) wh
       at_view : slice_get s.views id ≡ Some me.0
       at_view = read_at s.views id me.0 at
 
-      then : ℕ → Held T → Type 0
+      then : ℕ → Held T → Option Done → Type 0
       then y = empties (step count a EMPTY_WORD 0 none) me EMPTY_WORD
 
       by : (t : Slot) → slice_get r.world.slots i ≡ Some t → owner_of t ≡ Some me.0.client
-          → Goes fits p s a EMPTY_WORD id me then
+          → Goes fits p s r a EMPTY_WORD id me then
       by (slots.Empty strays) at_slot owner = cc
       by (slots.Shareable k) at_slot owner = cc
       by (slots.Building d strays) at_slot owner =
           goes fits p s r a EMPTY_WORD id i me (after_empty me.0) (slots.Building d strays)
           (slots.Empty 0) (events.Empty me.0.client) replies.Ok then address store_empty
+          (refl, refl)
           (owned_step fits p s r id i me.0 (after_empty me.0) (slots.Building d strays)
           (slots.Empty 0) (events.Empty me.0.client) replies.Ok record {
             at_view = at_view;
@@ -93,4 +96,4 @@ module _ {T : Type 0} (fits : T → Key → List ℕ → Type 0) (p : Plan T) wh
             bare = refl;
             left_bare = refl;
           })
-          (refl, refl)
+          (refl, refl, refl)

@@ -1,10 +1,10 @@
 -- The exchange to construction: an entry with no reference but the client's last one is taken.
-use Rattle.std.proofs.Common.{◌≡◌, ℕ, ◌+◌, ◌^◌, ◌<◌, ◌≤◌, ◌≢◌, ◌==◌, Bool, true, false, cond, List, [], ◌∷◌, Option, Some, None, IfSome, IsSomeAnd, Ok, slice_get, slice_index, slice_set, sym, refl, ap, ◌∙◌, arith}
+use Rattle.std.proofs.Common.{◌≡◌, ℕ, ◌+◌, ◌^◌, ◌<◌, ◌≤◌, ◌≢◌, ◌==◌, Bool, true, false, cond, List, [], ◌∷◌, Option, Some, None, IfSome, IsSomeAnd, Ok, slice_get, slice_index, slice_set, sym, refl, ap, ◌∙◌, arith, ◌-◌}
 use Rattle.std.specs.List.{find}
 use Rattle.std.proofs.lemmas.Bool.{eqb-true, eq-eqb}
 use mathlib.Core.Option.{none}
 use prog.Atomic.{either}
-use Rattle.atomic_table.specs.Table.{step, Allows}
+use Rattle.atomic_table.specs.Table.{step}
 use Rattle.hcc_word.specs.declared.layout.TheConstants.{CONSTRUCTION_WORD}
 use Rattle.hcc_word.specs.Word.{is_shareable, refs_of}
 use Rattle.hcc_word.proofs.CodeLaws.{refs_of-shareable}
@@ -51,13 +51,15 @@ use Rattle.hcc_rule.proofs.Parts.Codes.{is_near, tells_entry}
 use Rattle.hcc_rule.proofs.References.Exchanges.{unreferenced, records_weigh}
 use Rattle.hcc_rule.proofs.Basics.Findings.{find_passes, find_each}
 use Rattle.hcc_rule.proofs.References.Gives.{loses, loses_no_other, holds_less}
-use Rattle.hcc_rule.proofs.References.Looks.{client_fits, slot_fits, slot_there, looks_on}
+use Rattle.hcc_rule.proofs.References.Looks.{client_fits, slot_fits, slot_there, looks_on, look_told}
 use Rattle.hcc_rule.proofs.Parts.OnEntries.{OnEntry, on_some, reference_there}
 use Rattle.hcc_rule.proofs.Entries.ShowParts.{names_fit}
 use Rattle.hcc_rule.proofs.Parts.ViewParts.{recorded_else, total-two}
 use Rattle.hcc_rule.proofs.Parts.WordParts.{made_short}
 use Rattle.hcc_rule.proofs.Parts.SlotSteps.{Shard, SlotStep}
-use Rattle.hcc_rule.proofs.Parts.Touches.{by_client, Goes, goes, client_is, live_is, stamps_are, was_right}
+use Rattle.hcc_rule.proofs.Parts.Touches.{by_client, goes, client_is, live_is, stamps_are, was_right}
+use Rattle.hcc_rule.specs.Acts.{Acts, Goes, did}
+use Rattle.hcc_rule.specs.declared.view.Done.{Done}
 
 -- a list of no member is empty
 empty_is : {A : Type 0} (xs : List A) → has_no_member xs ≡ true → xs ≡ []
@@ -303,7 +305,7 @@ module _ {T : Type 0} (fits : T → Key → List ℕ → Type 0) (p : Plan T) wh
       → is_seated me.0 ≡ true → a ≡ field_at p.geometry.room i META → is_shareable old ≡ true
       → IsLast i old name me.0 → owns_nothing me.0.work.owned ≡ true → me.0.work.trail ≡ []
       → me.0.work.freed + 2 ^ 32 ≤ 2 ^ 49
-      → Allows (Holds fits p) count id me a (λ y. either (y == old) CONSTRUCTION_WORD y)
+      → Acts fits p count id me a (λ y. either (y == old) CONSTRUCTION_WORD y)
       (frees fits p.geometry.slots p.geometry.room i name (step count a old CONSTRUCTION_WORD none)
       me)
   free_step count id i a old name me near seated address entry last idle back space s r homes at
@@ -314,7 +316,7 @@ module _ {T : Type 0} (fits : T → Key → List ℕ → Type 0) (p : Plan T) wh
       word : ℕ
       word = slice_index s.words a
 
-      then : ℕ → Held T → Type 0
+      then : ℕ → Held T → Option Done → Type 0
       then = frees fits p.geometry.slots p.geometry.room i name
           (step count a old CONSTRUCTION_WORD none) me
 
@@ -386,7 +388,7 @@ module _ {T : Type 0} (fits : T → Key → List ℕ → Type 0) (p : Plan T) wh
       rightly made right (Some t) h = rw h right
 
       takes : (t : Slot) → slice_get r.world.slots i ≡ Some t → code_of t ≡ old
-          → (word == old) ≡ true → Goes fits p s a CONSTRUCTION_WORD id me then
+          → (word == old) ≡ true → Goes fits p s r a CONSTRUCTION_WORD id me then
       takes (slots.Empty strays) at_slot same is =
           let bad : false ≡ true = sym (tells_entry r.world (is_lawful r.world r.lawful) i
           (slots.Empty strays) at_slot) ∙ (ap is_shareable same ∙ entry) in
@@ -400,7 +402,7 @@ module _ {T : Type 0} (fits : T → Key → List ℕ → Type 0) (p : Plan T) wh
           (after_free p.geometry.slots i word name k.entry.stamp stored.made me.0)
           (slots.Shareable k) (slots.Building me.0.client 0)
           (events.Free me.0.client i name) (replies.Freed k.entry.charge) then address
-          exchange_to_construction
+          exchange_to_construction (refl, refl)
           (freed_step s r id i name me.0 k at_view seated at_slot word
           (leaving k at_slot refs name last) (word_is (slots.Shareable k) at_slot) idle back
           (named name last) space) (
@@ -419,6 +421,8 @@ module _ {T : Type 0} (fits : T → Key → List ℕ → Type 0) (p : Plan T) wh
               );
               lost = λ no. let bad : true ≡ false = sym is ∙ no in cc;
             },
+            ap Some (rw is (ap (λ n. did (events.Free me.0.client i name) (replies.Freed n))
+                charge)),
           )
         where
           stored : IsStored p.geometry.room s.words r.books i k.entry
@@ -428,8 +432,15 @@ module _ {T : Type 0} (fits : T → Key → List ℕ → Type 0) (p : Plan T) wh
           refs = ap refs_of (sym same) ∙ refs_of-shareable k.hit k.shown
               (is_near r.world (is_lawful r.world r.lawful) i k at_slot)
 
+          -- what the client has freed more is the entry's charge
+          charge : k.entry.charge ≡ me.0.work.freed + stored.made.charge - me.0.work.freed
+          charge =
+              let is : k.entry.charge ≡ stored.made.charge =
+              ap (λ (e : Entry). e.charge) stored.same in
+              omega arith
+
       by : (t : Slot) → slice_get r.world.slots i ≡ Some t → (b : Bool) → (word == old) ≡ b
-          → Goes fits p s a (either b CONSTRUCTION_WORD word) id me then
+          → Goes fits p s r a (either b CONSTRUCTION_WORD word) id me then
       by t at_slot true is = takes t at_slot (sym (word_is t at_slot) ∙ eqb-true word old is) is
       by t at_slot false is =
           looks_on fits p s r id i a me t then at_slot seated address at_view (
@@ -439,4 +450,5 @@ module _ {T : Type 0} (fits : T → Key → List ℕ → Type 0) (p : Plan T) wh
               lost =
                   λ no. refl;
             },
+            ap Some (rw is (look_told fits p s r i a me.0 t at_slot address)),
           )

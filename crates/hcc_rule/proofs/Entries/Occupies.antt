@@ -1,7 +1,7 @@
 -- The or of the occupied bit: an empty slot is taken, and any other is looked at.
-use Rattle.std.proofs.Common.{◌≡◌, ℕ, ◌+◌, ◌^◌, ◌<◌, true, false, List, [], Some, Ok, slice_get, slice_index, bit_or, refl, ap, ◌∙◌, arith}
+use Rattle.std.proofs.Common.{◌≡◌, ℕ, ◌+◌, ◌^◌, ◌<◌, true, false, List, [], Some, Ok, slice_get, slice_index, bit_or, refl, ap, ◌∙◌, arith, Option, cond, sym}
 use mathlib.Core.Option.{none}
-use Rattle.atomic_table.specs.Table.{step, Allows}
+use Rattle.atomic_table.specs.Table.{step}
 use Rattle.hcc_word.specs.declared.layout.TheConstants.{OCCUPIED_BIT}
 use Rattle.hcc_word.specs.Word.{is_empty}
 use Rattle.hcc_word.proofs.CodeLaws.{is_empty-empty, is_empty-building, is_empty-shareable}
@@ -33,12 +33,15 @@ use Rattle.hcc_rule.specs.Views.{is_seated}
 use Rattle.hcc_rule.specs.Words.{field_at, code_of}
 use Rattle.hcc_rule.specs.Rule.{Holds}
 use Rattle.hcc_rule.proofs.Basics.Lists.{within, read_at}
-use Rattle.hcc_rule.proofs.Parts.Codes.{few_strays, is_near, tells_entry}
+use Rattle.hcc_rule.proofs.Parts.Codes.{few_strays, is_near, tells_entry, tells_phase}
 use Rattle.hcc_rule.proofs.Parts.Clients.{dead_told}
 use Rattle.hcc_rule.proofs.References.Looks.{slot_fits, client_fits, slot_there, backed}
 use Rattle.hcc_rule.proofs.Parts.Owners.{owned_step}
 use Rattle.hcc_rule.proofs.Parts.SlotSteps.{Shard}
-use Rattle.hcc_rule.proofs.Parts.Touches.{by_client, touched, Goes, goes, client_is, live_is}
+use Rattle.hcc_rule.proofs.Parts.Touches.{by_client, touched, goes, client_is, live_is}
+use Rattle.hcc_rule.specs.Acts.{Acts, Goes, did}
+use Rattle.hcc_rule.specs.declared.view.Done.{Done}
+use Rattle.hcc_rule.specs.Events.{phase_in}
 
 -- an empty slot is taken
 occupy_takes : (w : State) (c i strays : ℕ) (found : Client) → Lawful w
@@ -112,11 +115,11 @@ module _ {T : Type 0} (fits : T → Key → List ℕ → Type 0) (p : Plan T) wh
     abbrev word : ℕ
     word = slice_index s.words a
 
-    abbrev then : ℕ → Held T → Type 0
+    abbrev then : ℕ → Held T → Option Done → Type 0
     then = occupies i (step 0 a OCCUPIED_BIT 0 none) me
 
     abbrev Next : Type 0
-    Next = Goes fits p s a (bit_or word OCCUPIED_BIT) id me then
+    Next = Goes fits p s r a (bit_or word OCCUPIED_BIT) id me then
 
     -- A slot that isn't empty is looked at.
     sees : (t : Slot) → slice_get r.world.slots i ≡ Some t
@@ -130,7 +133,7 @@ module _ {T : Type 0} (fits : T → Key → List ℕ → Type 0) (p : Plan T) wh
         → Next
     sees t at_slot stays full allowed =
         goes fits p s r a (bit_or word OCCUPIED_BIT) id i me new t t event reply then address
-        (ap (λ y. bit_or y OCCUPIED_BIT) word_is ∙ stays)
+        (ap (λ y. bit_or y OCCUPIED_BIT) word_is ∙ stays) (refl, refl)
         (touched fits p s r id i me.0 new t t event reply record {
           at_view = at;
           at_slot = at_slot;
@@ -145,8 +148,12 @@ module _ {T : Type 0} (fits : T → Key → List ℕ → Type 0) (p : Plan T) wh
           elsewhere = λ j h other. refl;
           holding = let old = r.holding id me.0 at in record
               { recorded = old.recorded; once = old.once; few = old.few };
-        })
-        (refl, told, backed fits p s r id i word me.0 t at_slot at word_is)
+        }) (
+          refl,
+          told,
+          backed fits p s r id i word me.0 t at_slot at word_is,
+          ap (λ answer. Some (did event answer)) (sym answered),
+        )
       where
         event : Event
         event = events.Occupy me.0.client i
@@ -163,6 +170,14 @@ module _ {T : Type 0} (fits : T → Key → List ℕ → Type 0) (p : Plan T) wh
         told : new ≡ after_occupy i word me.0
         told = let no : is_empty word ≡ false = ap is_empty word_is ∙ full in rw no refl
 
+        -- the reply is what the word tells
+        answered : cond (is_empty word) replies.Taken (replies.Saw (phase_in word)) ≡ reply
+        answered =
+            ap (λ b. cond b replies.Taken (replies.Saw (phase_in word)))
+            (ap is_empty word_is ∙ full)
+            ∙ ap replies.Saw (ap phase_in word_is
+            ∙ tells_phase r.world (is_lawful r.world r.lawful) i t at_slot)
+
         becomes : client_looked me.0.client i t me.0.work ≡ new.work
         becomes =
             let l = is_lawful r.world r.lawful in
@@ -177,7 +192,7 @@ module _ {T : Type 0} (fits : T → Key → List ℕ → Type 0) (p : Plan T) wh
         goes fits p s r a (bit_or word OCCUPIED_BIT) id i me new t left event replies.Taken then
         address
         (ap (λ y. bit_or y OCCUPIED_BIT) word_is
-        ∙ or_occupied-empty strays (let few = low in omega arith))
+        ∙ or_occupied-empty strays (let few = low in omega arith)) (refl, refl)
         (owned_step fits p s r id i me.0 new t left event replies.Taken record {
           at_view = at;
           at_slot = at_slot;
@@ -189,8 +204,13 @@ module _ {T : Type 0} (fits : T → Key → List ℕ → Type 0) (p : Plan T) wh
               (client_is fits p s r id me.0 at seated) (live_is fits p s r id me.0 at seated) free;
           bare = refl;
           left_bare = refl;
-        })
-        (refl, told, backed fits p s r id i word me.0 t at_slot at word_is)
+        }) (
+          refl,
+          told,
+          backed fits p s r id i word me.0 t at_slot at word_is,
+          ap (λ b. Some (did event (cond b replies.Taken (replies.Saw (phase_in word)))))
+              (sym empty),
+        )
       where
         l : Lawful r.world
         l = is_lawful r.world r.lawful
@@ -213,10 +233,11 @@ module _ {T : Type 0} (fits : T → Key → List ℕ → Type 0) (p : Plan T) wh
         low : strays + 3 < 2 ^ 30
         low = few_strays r.world l i t at_slot
 
+        empty : is_empty word ≡ true
+        empty = ap is_empty word_is ∙ is_empty-empty strays (let few = low in omega arith)
+
         told : new ≡ after_occupy i word me.0
-        told = let yes : is_empty word ≡ true =
-            ap is_empty word_is ∙ is_empty-empty strays (let few = low in omega arith) in rw yes
-            refl
+        told = let yes = empty in rw yes refl
 
     by : (t : Slot) → slice_get r.world.slots i ≡ Some t → owns_nothing me.0.work.owned ≡ true
         → Next
@@ -239,7 +260,7 @@ module _ {T : Type 0} (fits : T → Key → List ℕ → Type 0) (p : Plan T) wh
   -- The or of the occupied bit keeps the rule, and tells what it found.
   pub occupy_step : (count id i a : ℕ) (me : Held T) → i < p.geometry.slots → is_seated me.0 ≡ true
       → owns_nothing me.0.work.owned ≡ true → a ≡ field_at p.geometry.room i META
-      → Allows (Holds fits p) count id me a (λ y. bit_or y OCCUPIED_BIT)
+      → Acts fits p count id me a (λ y. bit_or y OCCUPIED_BIT)
       (occupies i (step count a OCCUPIED_BIT 0 none) me)
   occupy_step count id i a me near seated free address s r homes at low =
       let slot = slot_there fits p s r i near in

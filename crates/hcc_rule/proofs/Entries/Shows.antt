@@ -3,7 +3,7 @@ use Rattle.std.proofs.Common.{◌≡◌, ℕ, zero, suc, ◌-◌, ◌^◌, ◌<�
 use Rattle.std.specs.Int.{from_bool}
 use Rattle.std.proofs.lemmas.Bool.{cases_eq}
 use mathlib.Core.Option.{none}
-use Rattle.atomic_table.specs.Table.{step, Allows}
+use Rattle.atomic_table.specs.Table.{step}
 use Rattle.hcc_word.specs.Code.{code_of_shareable}
 use Rattle.hcc_core.specs.declared.event.Event.TheVariants as events
 use Rattle.hcc_core.specs.declared.event.Reply.TheVariants as replies
@@ -39,7 +39,9 @@ use Rattle.hcc_rule.proofs.References.Looks.{slot_there}
 use Rattle.hcc_rule.proofs.Entries.Empties.{owner_there}
 use Rattle.hcc_rule.proofs.Entries.ShowParts.{get_front, get_last, first_code, first_weighs, show_allowed}
 use Rattle.hcc_rule.proofs.Parts.SlotSteps.{Shard, SlotStep}
-use Rattle.hcc_rule.proofs.Parts.Touches.{Goes, goes, client_is, live_is, book_is, stamps_are, was_right}
+use Rattle.hcc_rule.proofs.Parts.Touches.{goes, client_is, live_is, book_is, stamps_are, was_right}
+use Rattle.hcc_rule.specs.Acts.{Acts, Goes}
+use Rattle.hcc_rule.specs.declared.view.Done.{Done}
 
 -- a sum over what the client keeps of an entry on one slot is nothing on another
 first_else : (i j : ℕ) (name : Option ℕ) (e : Entry) (f : Record → ℕ) → j ≢ i
@@ -256,8 +258,8 @@ module _ {T : Type 0} (fits : T → Key → List ℕ → Type 0) (p : Plan T) wh
       → y ≡ code_of_shareable (countdown - from_bool (is_some name)) (from_bool (is_some name))
       false true
       → a ≡ field_at p.geometry.room i META
-      → Allows (Holds fits p) count id me a (λ n. y)
-      (λ n. shows i name made (step count a y 0 none) me y)
+      → Acts fits p count id me a (λ n. y)
+      (λ n. shows i countdown name made (step count a y 0 none) me y)
   show_step count id i countdown a y name made me near seated may code place s r homes at low =
       let slot = slot_there fits p s r i near in
       by slot.0 slot.1 (owner_there fits p s r id i me.0 at_view seated slot.0
@@ -266,16 +268,17 @@ module _ {T : Type 0} (fits : T → Key → List ℕ → Type 0) (p : Plan T) wh
       at_view : slice_get s.views id ≡ Some me.0
       at_view = read_at s.views id me.0 at
 
-      then : ℕ → Held T → Type 0
-      then n = shows i name made (step count a y 0 none) me y
+      then : ℕ → Held T → Option Done → Type 0
+      then n = shows i countdown name made (step count a y 0 none) me y
 
       by : (t : Slot) → slice_get r.world.slots i ≡ Some t → owner_of t ≡ Some me.0.client
-          → Goes fits p s a y id me then
+          → Goes fits p s r a y id me then
       by (slots.Empty strays) at_slot owner = cc
       by (slots.Shareable k) at_slot owner = cc
       by (slots.Building d strays) at_slot owner =
           goes fits p s r a y id i me (after_show i name made me.0) (slots.Building d strays) _ _
           replies.Ok then place
           (code ∙ first_code me.0.client countdown name)
-          (shown_step s r id i countdown d strays name made me.0 at_view seated may at_slot)
           (refl, refl)
+          (shown_step s r id i countdown d strays name made me.0 at_view seated may at_slot)
+          (refl, refl, refl)

@@ -2,7 +2,7 @@
 use Rattle.std.proofs.Common.{◌≡◌, ℕ, zero, suc, ◌+◌, ◌<◌, ◌≢◌, inl, inr, Bool, true, false, List, [], ◌∷◌, ◌++◌, Option, Some, None, Ok, is_some, length, slice_get, slice_index, slice_set, sym, refl, ap, ◌∙◌, arith}
 use Rattle.std.proofs.lemmas.Bool.{cases_eq}
 use mathlib.Core.Option.{none}
-use Rattle.atomic_table.specs.Table.{step, Allows, keeps}
+use Rattle.atomic_table.specs.Table.{step, keeps}
 use Rattle.hcc_core.specs.declared.event.Event.TheVariants as events
 use Rattle.hcc_core.specs.declared.event.Reply.TheVariants as replies
 use Rattle.hcc_core.specs.declared.client.Client.{Client}
@@ -36,6 +36,7 @@ use Rattle.hcc_rule.proofs.References.Looks.{client_fits, slot_there}
 use Rattle.hcc_rule.proofs.Entries.Empties.{owner_there}
 use Rattle.hcc_rule.proofs.Parts.SlotSteps.{Shard, size_is}
 use Rattle.hcc_rule.proofs.Parts.Touches.{client_is, live_is}
+use Rattle.hcc_rule.specs.Acts.{Acts, did}
 
 -- the member at the end, and those before it
 last_at : (xs : List ℕ) (y : ℕ) → slice_index (xs ++ y ∷ []) (length xs) ≡ y
@@ -236,12 +237,19 @@ module _ {T : Type 0} (fits : T → Key → List ℕ → Type 0) (p : Plan T) wh
   pub write_step : (count id i a y : ℕ) (me : Held T) → i < p.geometry.slots → is_seated me.0 ≡ true
       → me.0.work.owned ≡ owned.ForBuilding i → length me.0.written < PAYLOAD + p.geometry.room
       → a ≡ field_at p.geometry.room i DATA + length me.0.written
-      → Allows (Holds fits p) count id me a (λ n. y) (λ n. writes (step count a y 0 none) me y)
+      → Acts fits p count id me a (λ n. y) (λ n. writes (step count a y 0 none) me y)
+  unfolding write_holds
   write_step count id i a y me near seated builds room_left address s r homes at low = (
     after_write y me.0,
     keeps,
     tt,
-    rw address (write_holds s r id i y me.0 (read_at s.views id me.0 at) seated near builds
-        room_left),
-    (refl, refl),
+    Some (did (events.Write me.0.client) replies.Ok),
+    rw address (
+      write_holds s r id i y me.0 at_view seated near builds room_left,
+      ((refl, refl), allowed s r id i y me.0 at_view seated near builds room_left),
+    ),
+    (refl, refl, refl),
   )
+    where
+      at_view : slice_get s.views id ≡ Some me.0
+      at_view = read_at s.views id me.0 at

@@ -21,7 +21,7 @@ use Rattle.hcc_rule.proofs.LastSeat.ClosingClients.{unseated}
 use Rattle.hcc_rule.proofs.LastSeat.ClosingSlots.{settled, kept, references, uses, clear, strays, left, places, hand, within_capacity}
 use Rattle.hcc_rule.proofs.Limits.MadeEntries.{stamp_at, apart}
 use Rattle.hcc_rule.proofs.Parts.SlotSteps.{Shard}
-use Rattle.hcc_rule.proofs.Seats.Lifts.{known_at, named_all}
+use Rattle.hcc_rule.proofs.Seats.Fronts.{known_at, named_all}
 
 -- a word that was loaded
 pub word_read : (words : List ℕ) (i word : ℕ) → get_elem? words i ≡ some word

@@ -1,7 +1,7 @@
 -- A turn of the hand.
-use Rattle.std.proofs.Common.{◌≡◌, ℕ, ◌+◌, ◌%◌, ◌^◌, inr, true, List, Some, slice_get, slice_index, refl, ap, ◌∙◌}
+use Rattle.std.proofs.Common.{◌≡◌, ℕ, ◌+◌, ◌%◌, ◌^◌, inr, true, List, Some, slice_get, slice_index, refl, ap, ◌∙◌, sym}
 use mathlib.Core.Option.{none}
-use Rattle.atomic_table.specs.Table.{step, Allows}
+use Rattle.atomic_table.specs.Table.{step}
 use Rattle.hcc_core.specs.declared.limits.TheConstants.{SLOTS_PER_TURN}
 use Rattle.hcc_core.specs.declared.event.Event.TheVariants as events
 use Rattle.hcc_core.specs.declared.event.Reply.TheVariants as replies
@@ -13,23 +13,24 @@ use Rattle.hcc_rule.specs.Told.{Held}
 use Rattle.hcc_rule.specs.ToldLedgers.{turns}
 use Rattle.hcc_rule.specs.Views.{is_seated}
 use Rattle.hcc_rule.specs.Words.{ledger_at}
-use Rattle.hcc_rule.specs.Rule.{Holds}
 use Rattle.hcc_rule.proofs.Basics.Lists.{read_at}
 use Rattle.hcc_rule.proofs.Ledgers.LedgerSteps.{on_hand, goes_aside}
 use Rattle.hcc_rule.proofs.Ledgers.LedgerGives.{turn_gives}
 use Rattle.hcc_rule.proofs.Parts.Asides.{view_kept, pays_at, modest_is, law_is}
 use Rattle.hcc_rule.proofs.Parts.Touches.{client_is, live_is}
+use Rattle.hcc_rule.specs.Acts.{Acts}
+use Rattle.hcc_rule.specs.Events.{turn_done}
 
 module _ {T : Type 0} (fits : T → Key → List ℕ → Type 0) (p : Plan T) where
   -- The hand moves on by the slots of a turn.
   pub turn_step : (count id a : ℕ) (me : Held T) → is_seated me.0 ≡ true
       → a ≡ ledger_at p.geometry.slots p.geometry.room HAND
-      → Allows (Holds fits p) count id me a (λ n. (n + SLOTS_PER_TURN) % 2 ^ 64)
+      → Acts fits p count id me a (λ n. (n + SLOTS_PER_TURN) % 2 ^ 64)
       (turns (step count a SLOTS_PER_TURN 0 none) me)
   turn_step count id a me seated address s r homes there low =
       goes_aside fits p s r id a next next me (record v { turns = v.turns + 1 })
       (events.Turn v.client) (replies.Count r.world.hand)
-      (turns (step count a SLOTS_PER_TURN 0 none) me)
+      (turns (step count a SLOTS_PER_TURN 0 none) me) (refl, refl)
       (record {
         at_view = at;
         seated = seated;
@@ -45,7 +46,7 @@ module _ {T : Type 0} (fits : T → Key → List ℕ → Type 0) (p : Plan T) wh
             (on_hand p.geometry.slots p.geometry.room word next r.world.hand v.work v.work refl refl
             refl refl);
       })
-      (refl, refl)
+      (refl, refl, ap (λ n. Some (turn_done n v)) (sym found))
     where
       v : View T
       v = me.0

@@ -1,17 +1,15 @@
 -- Where the events on ledgers, trails and the hand are allowed, and what they leave.
-use Rattle.std.proofs.Common.{◌≡◌, ℕ, zero, suc, ◌+◌, ◌-◌, ◌%◌, ◌^◌, ◌<◌, ◌≤◌, ◌||◌, true, false, nat_lt, Some, Ok, length, slice_get, [], ◌∷◌, ◌++◌, if◌then◌else◌, refl, arith}
+use Rattle.std.proofs.Common.{◌≡◌, ℕ, zero, suc, ◌+◌, ◌-◌, ◌%◌, ◌^◌, ◌<◌, ◌≤◌, ◌||◌, true, false, nat_lt, Some, Ok, length, slice_get, [], ◌∷◌, ◌++◌, refl, arith}
 use Rattle.std.specs.List.{list_any, find}
 use Rattle.std.proofs.lemmas.Bool.{lt-ltb, le-leb, eq-eqb}
 use Rattle.hcc_core.specs.declared.limits.TheConstants.{MOST_USAGE, SLOTS_PER_TURN}
 use Rattle.hcc_core.specs.declared.event.Event.TheVariants as events
-use Rattle.hcc_core.specs.declared.event.Reply.{Reply}
 use Rattle.hcc_core.specs.declared.event.Reply.TheVariants as replies
-use Rattle.hcc_core.specs.declared.setup.Setup.{Setup}
 use Rattle.hcc_core.specs.declared.client.Client.{Client}
 use Rattle.hcc_core.specs.declared.client.Place.TheVariants as places
 use Rattle.hcc_core.specs.declared.slot.Slot.{Slot}
 use Rattle.hcc_core.specs.declared.client.Standalone.{Standalone}
-use Rattle.hcc_core.specs.World.{State, usage_of, occupancy_of, standing_in, passed_at, limit_of, is_placed}
+use Rattle.hcc_core.specs.World.{State, usage_of, occupancy_of, standing_in, passed_at, is_placed}
 use Rattle.hcc_core.specs.Outcomes.{with_client, dropped}
 use Rattle.hcc_core.specs.Ledgers.{usage_told, occupancy_told, standing_told, grant_of, may_charge}
 use Rattle.hcc_core.specs.Ledgers.{may_settle, waive_of, enter_of, slots_of, place_granted, quit_of}
@@ -24,16 +22,12 @@ use Rattle.hcc_core.proofs.StepLemmas.{charge_gives, settle_gives, fall_gives}
 use Rattle.hcc_rule.specs.ToldLedgers.{place_at, waived}
 use Rattle.hcc_rule.proofs.Basics.Lists.{within}
 use Rattle.hcc_rule.proofs.References.Looks.{slot_fits, client_fits}
+use Rattle.hcc_rule.specs.Events.{entered}
 
 some_of_three : (g n f : ℕ) → 0 < g + n + f → (nat_lt 0 g || nat_lt 0 n || nat_lt 0 f) ≡ true
 some_of_three (suc g) n f h = rw (lt-ltb 0 (suc g) (omega arith)) refl
 some_of_three zero (suc n) f h = rw (lt-ltb 0 (suc n) (omega arith)) refl
 some_of_three zero zero f h = rw (lt-ltb 0 f (omega arith)) refl
-
--- the reply to an enter
-abbrev pub entered : Setup → (occupancy : ℕ) → Reply
-entered setup occupancy = if nat_lt occupancy (limit_of setup) then replies.Granted else
-    replies.Open
 
 module _ (w : State) (c : ℕ) (found : Client) (l : Lawful w)
     (at : slice_get w.clients c ≡ Some found) (live : found.live ≡ true) where

@@ -30,7 +30,9 @@ use Rattle.hcc_rule.proofs.Parts.WordParts.{AreShort, coded_else, made_short, st
 use Rattle.hcc_rule.proofs.Parts.ClientParts.{SameView, SameSlotWork, references_view, holding_view, seats_view, stamps_view, Moves, sum_moved}
 use Rattle.hcc_rule.proofs.Parts.WorldParts.{Turning, hand_set}
 use Rattle.hcc_rule.proofs.Parts.SlotSteps.{Shard, after, size_is}
-use Rattle.hcc_rule.proofs.Parts.Touches.{Goes, client_is}
+use Rattle.hcc_rule.proofs.Parts.Touches.{client_is}
+use Rattle.hcc_rule.specs.Acts.{Goes, IsStepBy, did}
+use Rattle.hcc_rule.specs.declared.view.Done.{Done}
 
 -- a place that is neither a meta word nor a data word
 pub record IsAside (size room a : ℕ) : Type 0 where
@@ -342,13 +344,16 @@ module _ {T : Type 0} (fits : T → Key → List ℕ → Type 0) (p : Plan T) wh
 
   -- The seat goes on with the word y at a.
   pub goes_aside : (s : Shard fits p) (r : Holds fits p s) (id a y k : ℕ) (me : Held T)
-      (new : View T) (event : Event) (reply : Reply) (then : ℕ → Held T → Type 0)
-      → Aside s r id a y k me.0 new event reply
-      → then (slice_index s.words a) (new, me.1) → Goes fits p s a y id me then
-  goes_aside s r id a y k me new event reply then m told = (
+      (new : View T) (event : Event) (reply : Reply) (then : ℕ → Held T → Option Done → Type 0)
+      → IsStepBy me.0.client event → Aside s r id a y k me.0 new event reply
+      → then (slice_index s.words a) (new, me.1) (Some (did event reply))
+      → Goes fits p s r a y id me then
+  unfolding aside_stepped
+  goes_aside s r id a y k me new event reply then mine m told = (
     new,
     keeps,
     tt,
-    aside_stepped s r s.homes id a y k me.0 new event reply m,
+    Some (did event reply),
+    (aside_stepped s r s.homes id a y k me.0 new event reply m, (mine, m.allowed)),
     told,
   )

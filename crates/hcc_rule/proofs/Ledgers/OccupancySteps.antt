@@ -1,7 +1,7 @@
 -- Steps on the occupancy word: loads, places, and slots that were freed.
-use Rattle.std.proofs.Common.{◌≡◌, ℕ, ◌+◌, ◌-◌, ◌%◌, ◌^◌, ◌<◌, ◌≤◌, length, Bool, true, false, cond, nat_lt, if◌then◌else◌, List, Some, slice_get, slice_index, refl, ap, ◌∙◌, arith}
+use Rattle.std.proofs.Common.{◌≡◌, ℕ, ◌+◌, ◌-◌, ◌%◌, ◌^◌, ◌<◌, ◌≤◌, length, Bool, true, false, cond, nat_lt, if◌then◌else◌, List, Some, slice_get, slice_index, refl, ap, ◌∙◌, arith, sym}
 use mathlib.Core.Option.{none}
-use Rattle.atomic_table.specs.Table.{step, Allows}
+use Rattle.atomic_table.specs.Table.{step}
 use Rattle.hcc_core.specs.declared.event.Event.TheVariants as events
 use Rattle.hcc_core.specs.declared.event.Reply.TheVariants as replies
 use Rattle.hcc_core.specs.declared.setup.Setup.{Setup}
@@ -29,10 +29,12 @@ use Rattle.hcc_rule.proofs.Limits.LedgerLimits.{occupancy_limit}
 use Rattle.hcc_rule.proofs.Limits.Alone.{occupancy_alone}
 use Rattle.hcc_rule.proofs.Basics.Different.{places_within}
 use Rattle.hcc_rule.proofs.Ledgers.LedgerSteps.{on_occupancy, Pays}
-use Rattle.hcc_rule.proofs.Ledgers.LedgerGives.{entered, occupancy_gives, enter_gives, slots_gives, quit_gives}
+use Rattle.hcc_rule.proofs.Ledgers.LedgerGives.{occupancy_gives, enter_gives, slots_gives, quit_gives}
 use Rattle.hcc_rule.proofs.Parts.Asides.{pays_at, modest_is, law_is, goes_by}
 use Rattle.hcc_rule.proofs.Parts.SlotSteps.{Shard}
 use Rattle.hcc_rule.proofs.Parts.Touches.{client_is, live_is}
+use Rattle.hcc_rule.specs.Acts.{Acts, did}
+use Rattle.hcc_rule.specs.Events.{entered, occupancy_done}
 
 -- what a client has of places and slots, with the entries of these records, each once
 occupied_beside : (w : State) (c : ℕ) (client : Client) → slice_get w.clients c ≡ Some client
@@ -104,15 +106,19 @@ module _ {T : Type 0} (fits : T → Key → List ℕ → Type 0) (p : Plan T) (c
         record { asked = old.asked; freed = old.freed; few = old.few; small = old.small }
 
   pub occupancy_step : (setup : Setup) → setup ≡ setup_of p
-      → Allows (Holds fits p) count id me a (λ n. n) (occupancies setup (step count a 0 0 none) me)
+      → Acts fits p count id me a (λ n. n) (occupancies setup (step count a 0 0 none) me)
   occupancy_step setup said s r homes there low =
       goes_by fits p s r id a word me v.work v.open_places v.seen v.tight
       (events.Occupancy v.client) (replies.Count (occupancy_of r.world))
-      (occupancies setup (step count a 0 0 none) me) at seated refl
+      (occupancies setup (step count a 0 0 none) me) at seated refl (refl, refl)
       (modest_is fits p s r id v at seated)
       (occupancy_gives r.world v.client v.work (law_is fits p s r) client live)
-      (paid_occupancy s r word v.work refl refl)
-      (refl, refl, rw said (occupied_told s r at))
+      (paid_occupancy s r word v.work refl refl) (
+        refl,
+        refl,
+        rw said (occupied_told s r at),
+        ap (λ n. Some (occupancy_done n v)) (sym (found_occupancy s r)),
+      )
     where
       v : View T
       v = me.0
@@ -131,12 +137,12 @@ module _ {T : Type 0} (fits : T → Key → List ℕ → Type 0) (p : Plan T) (c
 
   -- An add of one place.
   pub enter_step : (setup : Setup) → setup ≡ setup_of p → me.0.work.place ≡ places.Absent
-      → Allows (Holds fits p) count id me a (λ n. (n + 1) % 2 ^ 64)
+      → Acts fits p count id me a (λ n. (n + 1) % 2 ^ 64)
       (enters setup (step count a 1 0 none) me)
   enter_step setup said absent s r homes there low =
       goes_by fits p s r id a ((word + 1) % 2 ^ 64) me new asked v.seen v.tight
       (events.Enter v.client) (entered r.world.setup word) (enters setup (step count a 1 0 none) me)
-      at seated refl
+      at seated refl (refl, refl)
       (modest_placed s r v at seated (place_at r.world.setup word) v.work.freed_slots)
       (enter_gives r.world v.client v.work (law_is fits p s r) client live word
       (found_occupancy s r) absent)
@@ -184,19 +190,21 @@ module _ {T : Type 0} (fits : T → Key → List ℕ → Type 0) (p : Plan T) (c
 
       told : enters setup (step count a 1 0 none) me word
           (record v { work = new; open_places = asked }, me.1)
-      told = rw (said, r.setup) (refl, refl, occupied_told s r at, below)
+          (Some (did (events.Enter v.client) (entered r.world.setup word)))
+      told = rw (said, r.setup) (refl, refl, occupied_told s r at, below, refl)
 
   -- A take of the slots that were freed.
   pub slots_step : (n : ℕ) → n ≡ me.0.work.freed_slots → 0 < n
-      → Allows (Holds fits p) count id me a (λ x. (x + (2 ^ 64 - n)) % 2 ^ 64)
+      → Acts fits p count id me a (λ x. (x + (2 ^ 64 - n)) % 2 ^ 64)
       (gives_slots (step count a n 0 none) me)
   slots_step n is some s r homes there low =
       goes_by fits p s r id a ((word + (2 ^ 64 - n)) % 2 ^ 64) me new v.open_places v.seen v.tight
-      (events.Slots v.client) replies.Ok (gives_slots (step count a n 0 none) me) at seated refl
+      (events.Slots v.client) replies.Ok (gives_slots (step count a n 0 none) me)
+      at seated refl (refl, refl)
       (modest_placed s r v at seated (place_granted v.work.place) 0)
       (slots_gives r.world v.client v.work (law_is fits p s r) client live (omega arith))
       (paid_occupancy s r ((word + (2 ^ 64 - n)) % 2 ^ 64) new paid refl)
-      (refl, refl)
+      (refl, refl, refl)
     where
       v : View T
       v = me.0
@@ -228,15 +236,16 @@ module _ {T : Type 0} (fits : T → Key → List ℕ → Type 0) (p : Plan T) (c
 
   -- A take of the place, with the slots that were freed.
   pub quit_step : (n : ℕ) → n ≡ 1 + me.0.work.freed_slots → is_placed me.0.work.place ≡ true
-      → Allows (Holds fits p) count id me a (λ x. (x + (2 ^ 64 - n)) % 2 ^ 64)
+      → Acts fits p count id me a (λ x. (x + (2 ^ 64 - n)) % 2 ^ 64)
       (quits (step count a n 0 none) me)
   quit_step n is placed s r homes there low =
       goes_by fits p s r id a ((word + (2 ^ 64 - n)) % 2 ^ 64) me new v.open_places v.seen v.tight
-      (events.Quit v.client) replies.Ok (quits (step count a n 0 none) me) at seated refl
+      (events.Quit v.client) replies.Ok (quits (step count a n 0 none) me)
+      at seated refl (refl, refl)
       (modest_placed s r v at seated places.Absent 0)
       (quit_gives r.world v.client v.work (law_is fits p s r) client live placed)
       (paid_occupancy s r ((word + (2 ^ 64 - n)) % 2 ^ 64) new paid refl)
-      (refl, refl)
+      (refl, refl, refl)
     where
       v : View T
       v = me.0

@@ -2,7 +2,7 @@
 use Rattle.std.proofs.Common.{◌≡◌, ℕ, ◌+◌, ◌-◌, ◌%◌, ◌^◌, ◌<◌, ◌≤◌, true, false, List, [], ◌∷◌, ◌++◌, Some, length, slice_get, slice_index, sym, refl, ap, ◌∙◌, arith}
 use Rattle.std.specs.List.{list_any, find}
 use mathlib.Core.Option.{none}
-use Rattle.atomic_table.specs.Table.{step, Allows}
+use Rattle.atomic_table.specs.Table.{step}
 use Rattle.hcc_core.specs.declared.event.Event.TheVariants as events
 use Rattle.hcc_core.specs.declared.event.Reply.TheVariants as replies
 use Rattle.hcc_core.specs.declared.client.Place.TheVariants as places
@@ -33,6 +33,8 @@ use Rattle.hcc_rule.proofs.Ledgers.LedgerGives.{standing_gives, stand_gives, fal
 use Rattle.hcc_rule.proofs.Parts.Asides.{pays_at, modest_is, law_is, usage_low, goes_by}
 use Rattle.hcc_rule.proofs.Parts.SlotSteps.{Shard}
 use Rattle.hcc_rule.proofs.Parts.Touches.{client_is, live_is}
+use Rattle.hcc_rule.specs.Acts.{Acts}
+use Rattle.hcc_rule.specs.Events.{standing_done}
 
 -- what stands for a client is within all that stands
 standing_within : (w : State) (c : ℕ) (client : Client) → slice_get w.clients c ≡ Some client
@@ -68,11 +70,11 @@ module _ {T : Type 0} (fits : T → Key → List ℕ → Type 0) (p : Plan T) (c
         charged (ap occupied_by same) (ap (λ (c : Client). c.trail) same))
 
   pub standing_step : (setup : Setup) → setup ≡ setup_of p
-      → Allows (Holds fits p) count id me a (λ n. n) (standings setup (step count a 0 0 none) me)
+      → Acts fits p count id me a (λ n. n) (standings setup (step count a 0 0 none) me)
   standing_step setup said s r homes there low =
       goes_by fits p s r id a word me v.work v.open_places v.seen v.tight
       (events.Standing v.client) (replies.Count (standing_in r.world))
-      (standings setup (step count a 0 0 none) me) at seated refl
+      (standings setup (step count a 0 0 none) me) at seated refl (refl, refl)
       (modest_is fits p s r id v at seated)
       (standing_gives r.world v.client v.work (law_is fits p s r) client live)
       (paid_standing s r word v.work refl refl refl) (
@@ -86,6 +88,7 @@ module _ {T : Type 0} (fits : T → Key → List ℕ → Type 0) (p : Plan T) (c
         rw (found_standing s r, said)
             (λ strict. standing_beside fits p s r strict v.client v.work client v.records
             (r.holding id v at).recorded),
+        ap (λ n. Some (standing_done n v)) (sym (found_standing s r)),
       )
     where
       v : View T
@@ -108,17 +111,17 @@ module _ {T : Type 0} (fits : T → Key → List ℕ → Type 0) (p : Plan T) (c
       → me.0.work.place ≡ places.Absent → charge ≤ me.0.work.granted
       → list_any (is_standing name) me.0.work.standalones ≡ false
       → length me.0.work.standalones < MOST_HANDLES
-      → Allows (Holds fits p) count id me a (λ n. (n + charge) % 2 ^ 64)
+      → Acts fits p count id me a (λ n. (n + charge) % 2 ^ 64)
       (stands name (step count a charge 0 none) me)
   stand_step name charge named cheap absent granted fresh few s r homes there low =
       goes_by fits p s r id a ((word + charge) % 2 ^ 64) me new v.open_places v.seen v.tight
       (events.Stand v.client charge name) replies.Ok (stands name (step count a charge 0 none) me)
-      at seated refl
+      at seated refl (refl, refl)
       modest
       (stand_gives r.world v.client v.work (law_is fits p s r) client live name charge named cheap
       absent granted fresh)
       (paid_standing s r ((word + charge) % 2 ^ 64) new paid charged refl)
-      (refl, refl)
+      (refl, refl, refl)
     where
       v : View T
       v = me.0
@@ -174,17 +177,17 @@ module _ {T : Type 0} (fits : T → Key → List ℕ → Type 0) (p : Plan T) (c
       → find (is_standing name) me.0.work.standalones
       ≡ Some (record { name = name; charge = charge })
       → me.0.work.freed + charge < 2 ^ 49
-      → Allows (Holds fits p) count id me a (λ x. (x + (2 ^ 64 - charge)) % 2 ^ 64)
+      → Acts fits p count id me a (λ x. (x + (2 ^ 64 - charge)) % 2 ^ 64)
       (falls name (step count a charge 0 none) me)
   fall_step name charge named stood room s r homes there low =
       goes_by fits p s r id a ((word + (2 ^ 64 - charge)) % 2 ^ 64) me new v.open_places v.seen
       v.tight
       (events.Fall v.client name) replies.Ok (falls name (step count a charge 0 none) me) at seated
-      refl
+      refl (refl, refl)
       modest
       (fall_allowed r.world v.client v.work (law_is fits p s r) client live name one named stood)
       (paid_standing s r ((word + (2 ^ 64 - charge)) % 2 ^ 64) new paid charged refl)
-      (refl, refl)
+      (refl, refl, refl)
     where
       v : View T
       v = me.0

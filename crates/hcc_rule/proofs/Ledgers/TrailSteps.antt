@@ -1,9 +1,9 @@
 -- Steps on displacement words: loads, and a slot that joins or leaves the client's trail.
 use Rattle.std.proofs.Common.{◌≡◌, ℕ, ◌+◌, ◌-◌, ◌%◌, ◌^◌, ◌<◌, ◌≢◌, ◌==◌, ◌||◌, Bool, true, false, cond, List, [], ◌∷◌, ◌++◌, Some, length, slice_get, slice_index, sym, refl, ap, ◌∙◌, arith}
 use Rattle.std.specs.List.{list_any}
-use Rattle.std.proofs.lemmas.Bool.{eq-eqb, eqb-true}
+use Rattle.std.proofs.lemmas.Bool.{eq-eqb, eqb-true, lt-ltb}
 use mathlib.Core.Option.{none}
-use Rattle.atomic_table.specs.Table.{step, Allows}
+use Rattle.atomic_table.specs.Table.{step}
 use Rattle.hcc_core.specs.declared.event.Event.TheVariants as events
 use Rattle.hcc_core.specs.declared.event.Reply.TheVariants as replies
 use Rattle.hcc_core.specs.declared.limits.TheConstants.{MOST_SLOTS}
@@ -23,7 +23,7 @@ use Rattle.hcc_rule.specs.ToldTrails.{counts, passes, unpasses}
 use Rattle.hcc_rule.specs.Views.{is_seated}
 use Rattle.hcc_rule.specs.Words.{field_at}
 use Rattle.hcc_rule.specs.Rule.{setup_of, IsModest, Holds}
-use Rattle.hcc_rule.proofs.Basics.Lists.{read_at}
+use Rattle.hcc_rule.proofs.Basics.Lists.{read_at, within}
 use Rattle.hcc_rule.proofs.Basics.Bounds.{passed_few}
 use Rattle.hcc_rule.proofs.Limits.Passed.{own_within, passed_told}
 use Rattle.hcc_rule.proofs.Ledgers.LedgerSteps.{on_displacement, Pays}
@@ -32,6 +32,8 @@ use Rattle.hcc_rule.proofs.Parts.Asides.{pays_at, modest_is, law_is, goes_by}
 use Rattle.hcc_rule.proofs.Parts.SlotSteps.{Shard}
 use Rattle.hcc_rule.proofs.Parts.Touches.{client_is, live_is}
 use Rattle.hcc_rule.proofs.References.Looks.{slot_there}
+use Rattle.hcc_rule.specs.Acts.{Acts}
+use Rattle.hcc_rule.specs.Events.{count_done}
 
 -- Of trails.
 
@@ -108,15 +110,19 @@ module _ {T : Type 0} (fits : T → Key → List ℕ → Type 0) (p : Plan T) (c
         record { asked = old.asked; freed = old.freed; few = old.few; small = old.small }
 
   pub count_step : (setup : Setup) → setup ≡ setup_of p → MOST_SLOTS % p.geometry.slots ≡ 0
-      → Allows (Holds fits p) count id me a (λ n. n) (counts setup i (step count a 0 0 none) me)
+      → Acts fits p count id me a (λ n. n) (counts setup i (step count a 0 0 none) me)
   count_step setup said power s r homes there low =
       goes_by fits p s r id a word me v.work v.open_places v.seen v.tight
       (events.Count v.client i) (replies.Count (passed_at r.world i))
-      (counts setup i (step count a 0 0 none) me) at seated refl
+      (counts setup i (step count a 0 0 none) me) at seated refl (refl, refl)
       (modest_is fits p s r id v at seated)
       (count_gives r.world v.client v.work (law_is fits p s r) client live i slot.0 slot.1)
-      (paid_passed s r word v.work.trail refl (λ j other. refl))
-      (refl, refl, rw (said, found_passed s r) (passed_told fits p s r id v at seated i power))
+      (paid_passed s r word v.work.trail refl (λ j other. refl)) (
+        refl,
+        refl,
+        rw (said, found_passed s r) (passed_told fits p s r id v at seated i power),
+        ap (λ n. Some (count_done i n v)) (counted ∙ sym (found_passed s r)),
+      )
     where
       v : View T
       v = me.0
@@ -136,18 +142,23 @@ module _ {T : Type 0} (fits : T → Key → List ℕ → Type 0) (p : Plan T) (c
       slot : (t : Slot) × (slice_get r.world.slots i ≡ Some t)
       slot = slot_there fits p s r i close
 
+      counted : passed_at r.world i ≡ passed_by r.world.slots r.world.clients i
+      counted = ap (λ b. cond b (passed_by r.world.slots r.world.clients i) 0)
+          (lt-ltb i (length r.world.slots) (within r.world.slots i slot.0 slot.1))
+
   pub pass_step : length me.0.work.trail < p.geometry.slots
-      → Allows (Holds fits p) count id me a (λ n. (n + 1) % 2 ^ 64)
+      → Acts fits p count id me a (λ n. (n + 1) % 2 ^ 64)
       (passes i (step count a 1 0 none) me)
   pass_step room s r homes there low =
       goes_by fits p s r id a ((word + 1) % 2 ^ 64) me (record v.work { trail = trail })
       v.open_places v.seen v.tight
-      (events.Pass v.client i) replies.Ok (passes i (step count a 1 0 none) me) at seated refl
+      (events.Pass v.client i) replies.Ok (passes i (step count a 1 0 none) me)
+      at seated refl (refl, refl)
       (modest_trail s r v at seated trail)
       (pass_gives r.world v.client v.work (law_is fits p s r) client live i slot.0 slot.1
       (rw r.setup room))
       (paid_passed s r ((word + 1) % 2 ^ 64) trail paid others)
-      (refl, refl)
+      (refl, refl, refl)
     where
       v : View T
       v = me.0
@@ -185,17 +196,18 @@ module _ {T : Type 0} (fits : T → Key → List ℕ → Type 0) (p : Plan T) (c
       others j other = let grown = sum j in let none = times_else j i other in omega arith
 
   pub unpass_step : list_any (is_slot i) me.0.work.trail ≡ true
-      → Allows (Holds fits p) count id me a (λ x. (x + (2 ^ 64 - 1)) % 2 ^ 64)
+      → Acts fits p count id me a (λ x. (x + (2 ^ 64 - 1)) % 2 ^ 64)
       (unpasses i (step count a 1 0 none) me)
   unpass_step passed s r homes there low =
       goes_by fits p s r id a ((word + (2 ^ 64 - 1)) % 2 ^ 64) me (record v.work { trail = trail })
       v.open_places v.seen v.tight
-      (events.Unpass v.client i) replies.Ok (unpasses i (step count a 1 0 none) me) at seated refl
+      (events.Unpass v.client i) replies.Ok (unpasses i (step count a 1 0 none) me)
+      at seated refl (refl, refl)
       (modest_trail s r v at seated trail)
       (unpass_gives r.world v.client v.work (law_is fits p s r) client live i slot.0 slot.1 passed)
       (paid_passed s r ((word + (2 ^ 64 - 1)) % 2 ^ 64) trail paid
       (λ j other. times_kept j i v.work.trail other))
-      (refl, refl)
+      (refl, refl, refl)
     where
       v : View T
       v = me.0

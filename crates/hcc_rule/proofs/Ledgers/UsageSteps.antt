@@ -1,7 +1,7 @@
 -- Steps on the usage word: loads, charges, and what is settled or waived.
-use Rattle.std.proofs.Common.{◌≡◌, ℕ, ◌+◌, ◌-◌, ◌%◌, ◌^◌, ◌<◌, ◌≤◌, true, List, [], ◌∷◌, ◌++◌, nat_lt, if◌then◌else◌, Some, slice_get, slice_index, refl, ap, ◌∙◌, arith}
+use Rattle.std.proofs.Common.{◌≡◌, ℕ, ◌+◌, ◌-◌, ◌%◌, ◌^◌, ◌<◌, ◌≤◌, true, List, [], ◌∷◌, ◌++◌, nat_lt, if◌then◌else◌, Some, slice_get, slice_index, refl, ap, ◌∙◌, arith, sym}
 use mathlib.Core.Option.{none}
-use Rattle.atomic_table.specs.Table.{step, Allows}
+use Rattle.atomic_table.specs.Table.{step}
 use Rattle.hcc_core.specs.declared.event.Event.TheVariants as events
 use Rattle.hcc_core.specs.declared.event.Reply.TheVariants as replies
 use Rattle.hcc_core.specs.declared.setup.Setup.{Setup}
@@ -30,6 +30,8 @@ use Rattle.hcc_rule.proofs.Ledgers.LedgerGives.{usage_gives, charge_allowed, set
 use Rattle.hcc_rule.proofs.Parts.Asides.{pays_at, modest_is, law_is, usage_low, goes_by}
 use Rattle.hcc_rule.proofs.Parts.SlotSteps.{Shard}
 use Rattle.hcc_rule.proofs.Parts.Touches.{client_is, live_is}
+use Rattle.hcc_rule.specs.Acts.{Acts, did}
+use Rattle.hcc_rule.specs.Events.{usage_done}
 
 -- what stands for a client is within the usage
 charged_within : (w : State) (c : ℕ) (client : Client) → slice_get w.clients c ≡ Some client
@@ -96,15 +98,19 @@ module _ {T : Type 0} (fits : T → Key → List ℕ → Type 0) (p : Plan T) (c
         (ap occupied_by same) (ap standing_of same) (ap (λ (c : Client). c.trail) same))
 
   pub usage_step : (setup : Setup) → setup ≡ setup_of p
-      → Allows (Holds fits p) count id me a (λ n. n) (usages setup (step count a 0 0 none) me)
+      → Acts fits p count id me a (λ n. n) (usages setup (step count a 0 0 none) me)
   usage_step setup said s r homes there low =
       goes_by fits p s r id a word me v.work v.open_places (v.seen ++ word ∷ []) v.tight
       (events.Usage v.client) (replies.Count (usage_of r.world))
-      (usages setup (step count a 0 0 none) me) at seated refl
+      (usages setup (step count a 0 0 none) me) at seated refl (refl, refl)
       (modest_is fits p s r id v at seated)
       (usage_gives r.world v.client v.work (law_is fits p s r) client live)
-      (paid_usage s r word v.work refl refl)
-      (refl, refl, rw said (charged_told s r at))
+      (paid_usage s r word v.work refl refl) (
+        refl,
+        refl,
+        rw said (charged_told s r at),
+        ap (λ n. Some (usage_done n v)) (sym (found_usage s r)),
+      )
     where
       v : View T
       v = me.0
@@ -124,12 +130,12 @@ module _ {T : Type 0} (fits : T → Key → List ℕ → Type 0) (p : Plan T) (c
   -- An add of a charge: all or part of it is granted at once.
   pub charge_step : (setup : Setup) (t : ℕ) → setup ≡ setup_of p → t < 2 ^ 32
       → me.0.work.granted ≡ 0 → me.0.work.needed ≡ 0
-      → Allows (Holds fits p) count id me a (λ n. (n + t) % 2 ^ 64)
+      → Acts fits p count id me a (λ n. (n + t) % 2 ^ 64)
       (charges setup (step count a t 0 none) me)
   charge_step setup t said small granted needed s r homes there low =
       goes_by fits p s r id a ((word + t) % 2 ^ 64) me new v.open_places v.seen tight
       (events.Charge v.client t) (replies.Split grant rest)
-      (charges setup (step count a t 0 none) me) at seated refl
+      (charges setup (step count a t 0 none) me) at seated refl (refl, refl)
       modest
       (charge_allowed r.world v.client v.work (law_is fits p s r) client live t word small
       (found_usage s r) granted needed room)
@@ -182,20 +188,22 @@ module _ {T : Type 0} (fits : T → Key → List ℕ → Type 0) (p : Plan T) (c
 
       told : charges setup (step count a t 0 none) me word
           (record v { work = new; tight = tight }, me.1)
-      told = rw (said, r.setup) (refl, refl, charged_told s r at)
+          (Some (did (events.Charge v.client t) (replies.Split grant rest)))
+      told = rw (said, r.setup) (refl, refl, charged_told s r at, refl)
 
   -- Takes: the freed charge, or all that stands for the client itself.
   pub settle_step : (n : ℕ) → n ≡ me.0.work.freed → 0 < n → me.0.work.needed ≤ n
-      → Allows (Holds fits p) count id me a (λ x. (x + (2 ^ 64 - n)) % 2 ^ 64)
+      → Acts fits p count id me a (λ x. (x + (2 ^ 64 - n)) % 2 ^ 64)
       (settles (step count a n 0 none) me)
   settle_step n is some covers s r homes there low =
       goes_by fits p s r id a ((word + (2 ^ 64 - n)) % 2 ^ 64) me new v.open_places v.seen v.tight
-      (events.Settle v.client) replies.Ok (settles (step count a n 0 none) me) at seated refl
+      (events.Settle v.client) replies.Ok (settles (step count a n 0 none) me)
+      at seated refl (refl, refl)
       modest
       (settle_allowed r.world v.client v.work (law_is fits p s r) client live (omega arith)
       (omega arith))
       (paid_usage s r ((word + (2 ^ 64 - n)) % 2 ^ 64) new paid refl)
-      (refl, refl)
+      (refl, refl, refl)
     where
       v : View T
       v = me.0
@@ -230,15 +238,16 @@ module _ {T : Type 0} (fits : T → Key → List ℕ → Type 0) (p : Plan T) (c
           omega arith
 
   pub waive_step : (n : ℕ) → n ≡ waived me.0.work → 0 < n
-      → Allows (Holds fits p) count id me a (λ x. (x + (2 ^ 64 - n)) % 2 ^ 64)
+      → Acts fits p count id me a (λ x. (x + (2 ^ 64 - n)) % 2 ^ 64)
       (waives (step count a n 0 none) me)
   waive_step n is some s r homes there low =
       goes_by fits p s r id a ((word + (2 ^ 64 - n)) % 2 ^ 64) me new v.open_places v.seen v.tight
-      (events.Waive v.client) replies.Ok (waives (step count a n 0 none) me) at seated refl
+      (events.Waive v.client) replies.Ok (waives (step count a n 0 none) me)
+      at seated refl (refl, refl)
       modest
       (waive_gives r.world v.client v.work (law_is fits p s r) client live (omega arith))
       (paid_usage s r ((word + (2 ^ 64 - n)) % 2 ^ 64) new paid refl)
-      (refl, refl)
+      (refl, refl, refl)
     where
       v : View T
       v = me.0

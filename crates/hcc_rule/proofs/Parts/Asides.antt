@@ -1,5 +1,5 @@
 -- What every step on a ledger word, a displacement word or the hand shares.
-use Rattle.std.proofs.Common.{◌≡◌, ℕ, ◌^◌, ◌<◌, inl, true, List, Some, Ok, slice_get, slice_index, refl}
+use Rattle.std.proofs.Common.{◌≡◌, ℕ, ◌^◌, ◌<◌, inl, true, List, Some, Ok, slice_get, slice_index, refl, Option}
 use Rattle.hcc_core.specs.declared.event.Event.{Event}
 use Rattle.hcc_core.specs.declared.event.Reply.{Reply}
 use Rattle.hcc_core.specs.declared.client.Client.{Client}
@@ -17,8 +17,10 @@ use Rattle.hcc_rule.specs.Rule.{IsModest, Holds}
 use Rattle.hcc_rule.proofs.Parts.ClientParts.{SameView, SameSlotWork}
 use Rattle.hcc_rule.proofs.Ledgers.LedgerSteps.{Pays, goes_aside}
 use Rattle.hcc_rule.proofs.Parts.SlotSteps.{Shard}
-use Rattle.hcc_rule.proofs.Parts.Touches.{Goes, client_is}
+use Rattle.hcc_rule.proofs.Parts.Touches.{client_is}
 use Rattle.hcc_rule.proofs.Basics.Bounds.{usage_small, charge_small}
+use Rattle.hcc_rule.specs.Acts.{Goes, IsStepBy, did}
+use Rattle.hcc_rule.specs.declared.view.Done.{Done}
 
 -- a view of which these fields alone change
 pub view_kept : {T : Type 0} (v : View T) (left : Client) (asked turns : ℕ) (seen tight : List ℕ)
@@ -64,9 +66,10 @@ module _ {T : Type 0} (fits : T → Key → List ℕ → Type 0) (p : Plan T) wh
 
   -- A step that moves no hand and makes no turn.
   pub goes_by : (s : Shard fits p) (r : Holds fits p s) (id a y : ℕ) (me : Held T) (left : Client)
-      (asked : ℕ) (seen tight : List ℕ) (event : Event) (reply : Reply) (then : ℕ → Held T → Type 0)
+      (asked : ℕ) (seen tight : List ℕ) (event : Event) (reply : Reply)
+      (then : ℕ → Held T → Option Done → Type 0)
       → slice_get s.views id ≡ Some me.0 → is_seated me.0 ≡ true → SameSlotWork me.0.work left
-      → IsModest left
+      → IsStepBy me.0.client event → IsModest left
       → outcome_of r.world event ≡ Ok (reply, with_client r.world me.0.client left)
       → Pays p.geometry.slots p.geometry.room a (slice_index s.words a) y r.world.hand r.world.hand
       me.0.work left
@@ -74,13 +77,13 @@ module _ {T : Type 0} (fits : T → Key → List ℕ → Type 0) (p : Plan T) wh
         record me.0
             { work = left; open_places = asked; seen = seen; tight = tight },
         me.1,
-      )
-      → Goes fits p s a y id me then
-  goes_by s r id a y me left asked seen tight event reply then at seated work modest allowed pays
-      told =
+      ) (Some (did event reply))
+      → Goes fits p s r a y id me then
+  goes_by s r id a y me left asked seen tight event reply then at seated work mine modest allowed
+      pays told =
       goes_aside fits p s r id a y r.world.hand me
       (record me.0 { work = left; open_places = asked; seen = seen; tight = tight }) event reply
-      then
+      then mine
       (record {
         at_view = at;
         seated = seated;

@@ -23,6 +23,7 @@ use Rattle.hcc_rule.specs.declared.view.View.{View}
 use Rattle.hcc_rule.specs.Words.{field_at, ledger_at, code_of}
 use Rattle.hcc_rule.specs.Views.{is_seated, held, Each}
 use Rattle.hcc_rule.specs.Rule.{Books, made_at, entry_by, IsStored, IsDraft, IsRecorded, IsHolding, IsRight, IsModest, IsTrailed, Stamps, Holds}
+use Rattle.hcc_rule.specs.Acts.{Becomes, IsStepBy, did}
 use Rattle.hcc_rule.proofs.Basics.Lists.{within, word_else}
 use Rattle.hcc_rule.proofs.Parts.Addresses.{fields_apart, ledger_apart, meta_away}
 use Rattle.hcc_rule.proofs.Parts.WordParts.{AreShort, coded_meta, made_short, stored_words, stored_set, stored_books, drafted_set, draft_meta}
@@ -169,3 +170,15 @@ module _ {T : Type 0} (fits : T → Key → List ℕ → Type 0) (p : Plan T) wh
       grown : (stamp : Stamp) (made : Made) → made_at r.books stamp ≡ Some made
           → made_at books stamp ≡ Some made
       grown = made_grows r.books v.client v.made new.made at_book m.grows
+
+  -- and it shows the world to which its event leads
+  pub slot_becomes : (s : Shard) (r : Holds fits p s) (homes : List (maybe.Option (Unit {0})))
+      (id i : ℕ) (v new : View T) (t left : Slot) (event : Event) (reply : Reply)
+      → IsStepBy v.client event → SlotStep s r id i v new t left event reply
+      → Becomes fits p v.client r.world (Some (did event reply))
+      (after s homes (field_at p.geometry.room i META) (code_of left) id new)
+  unfolding slot_stepped
+  slot_becomes s r homes id i v new t left event reply mine m = (
+    slot_stepped s r homes id i v new t left event reply m,
+    (mine, m.allowed),
+  )

@@ -1,7 +1,7 @@
 -- A step on a meta word that moves no entry and leaves what is in hand but looks and dead stamps.
 use Rattle.std.proofs.Common.{◌≡◌, ℕ, ◌+◌, ◌≢◌, true, List, [], Option, Some, None, Ok, is_some, length, slice_get, slice_index, slice_set, sym, refl, ap, ◌∙◌, arith}
 use Rattle.std.specs.Option.{unwrap_or}
-use Rattle.atomic_table.specs.Table.{Act, Valid, keeps, stepped, carried_after}
+use Rattle.atomic_table.specs.Table.{keeps}
 use Rattle.hcc_core.specs.declared.event.Event.{Event}
 use Rattle.hcc_core.specs.declared.event.Reply.{Reply}
 use Rattle.hcc_core.specs.declared.client.Client.{Client}
@@ -26,7 +26,9 @@ use Rattle.hcc_rule.specs.Words.{field_at, code_of}
 use Rattle.hcc_rule.specs.Rule.{entry_by, entry_in, IsRecorded, IsHolding, IsTrailed, Holds, IsRight}
 use Rattle.hcc_rule.proofs.Basics.Lists.{each_map}
 use Rattle.hcc_rule.proofs.Parts.ViewParts.{recorded_kept}
-use Rattle.hcc_rule.proofs.Parts.SlotSteps.{Shard, SameName, SlotStep, slot_stepped}
+use Rattle.hcc_rule.proofs.Parts.SlotSteps.{Shard, SameName, SlotStep, slot_becomes}
+use Rattle.hcc_rule.specs.Acts.{Goes, IsStepBy, did}
+use Rattle.hcc_rule.specs.declared.view.Done.{Done}
 
 -- an outcome, by what the client is then
 pub by_client : (w : State) (event : Event) (reply : Reply) (i c : ℕ) (left : Slot) (k j : Client)
@@ -192,22 +194,17 @@ module _ {T : Type 0} (fits : T → Key → List ℕ → Type 0) (p : Plan T) wh
           → IsRecorded (slice_set r.world.slots i left) k
       kept = recorded_kept r.world.slots i t left m.at_slot m.like.entry
 
-  -- the seat can go on with the word y at a
-  abbrev pub Goes : Shard fits p → (a y id : ℕ) → Held T → (ℕ → Held T → Type 0) → Type 0
-  Goes s a y id me then =
-      (new : View T) × (act : Act (Unit {0})) × Valid s.homes me.1 act
-      × Holds fits p (stepped s a y id me.1 new act)
-      × then (slice_index s.words a) (new, carried_after me.1 act)
-
   pub goes : (s : Shard fits p) (r : Holds fits p s) (a y id i : ℕ) (me : Held T) (new : View T)
-      (t left : Slot) (event : Event) (reply : Reply) (then : ℕ → Held T → Type 0)
+      (t left : Slot) (event : Event) (reply : Reply) (then : ℕ → Held T → Option Done → Type 0)
       → a ≡ field_at p.geometry.room i META → y ≡ code_of left
-      → SlotStep fits p s r id i me.0 new t left event reply
-      → then (slice_index s.words a) (new, me.1) → Goes s a y id me then
-  goes s r a y id i me new t left event reply then place word m told = (
+      → IsStepBy me.0.client event → SlotStep fits p s r id i me.0 new t left event reply
+      → then (slice_index s.words a) (new, me.1) (Some (did event reply))
+      → Goes fits p s r a y id me then
+  goes s r a y id i me new t left event reply then place word mine m told = (
     new,
     keeps,
     tt,
-    rw (place, word) (slot_stepped fits p s r s.homes id i me.0 new t left event reply m),
+    Some (did event reply),
+    rw (place, word) (slot_becomes fits p s r s.homes id i me.0 new t left event reply mine m),
     told,
   )

@@ -2,15 +2,17 @@
 use Rattle.std.proofs.Common.{◌≡◌, ℕ, ◌+◌, ◌%◌, ◌^◌, ◌<◌, ◌≤◌, ◌==◌, ◌||◌, Bool, true, false, nat_lt, List, [], ◌∷◌, ◌++◌, Some, None, Ok, slice_get, slice_index, sym, refl, ap, ◌∙◌, arith, ne_eqb}
 use Rattle.std.proofs.lemmas.Bool.{lt-ltb, le-leb, eq-eqb, eqb-true}
 use mathlib.Core.Option.{none}
-use Rattle.atomic_table.specs.Table.{step, Allows}
+use Rattle.atomic_table.specs.Table.{step}
 use Rattle.hcc_word.specs.Near.{IsNear}
-use Rattle.hcc_word.specs.Word.{is_shareable, is_counting}
+use Rattle.hcc_word.specs.Word.{is_shareable, is_counting, is_visible}
+use Rattle.std.specs.Prelude.{if◌then◌else◌}
 use Rattle.hcc_word.proofs.CodeLaws.{is_shareable-shareable, is_counting-shareable}
 use Rattle.hcc_word.proofs.StepLaws.{add_acquires-empty, add_acquires-building, add_acquires-shareable}
 use Rattle.hcc_core.specs.declared.limits.TheConstants.{MOST_REFERENCES, MOST_WEIGHT, REFERENCES_PER_CLIENT, NEAR}
 use Rattle.hcc_core.specs.declared.event.Event.{Event}
 use Rattle.hcc_core.specs.declared.event.Event.TheVariants as events
 use Rattle.hcc_core.specs.declared.event.Reply.{Reply}
+use Rattle.hcc_core.specs.declared.event.Reply.TheVariants as replies
 use Rattle.hcc_core.specs.declared.client.Client.{Client}
 use Rattle.hcc_core.specs.declared.slot.Reference.{Reference}
 use Rattle.hcc_core.specs.declared.slot.Resident.{Resident}
@@ -43,7 +45,9 @@ use Rattle.hcc_rule.proofs.References.Looks.{client_fits, slot_fits, slot_there,
 use Rattle.hcc_rule.proofs.References.Reaches.{room_left, reached, is_met}
 use Rattle.hcc_rule.proofs.Parts.HeldReferences.{fresh_name}
 use Rattle.hcc_rule.proofs.Parts.SlotSteps.{Shard}
-use Rattle.hcc_rule.proofs.Parts.Touches.{Alike, by_client, touched, Goes, goes, client_is, live_is}
+use Rattle.hcc_rule.proofs.Parts.Touches.{Alike, by_client, touched, goes, client_is, live_is}
+use Rattle.hcc_rule.specs.Acts.{Acts, Goes, did}
+use Rattle.hcc_rule.specs.Events.{got_in}
 
 may_is : (w : State) (c i n x : ℕ) (found : Client) (t : Slot) → 0 < n → n ≤ MOST_WEIGHT
     → slot_holding w.slots c x ≡ None → (looks_at found i || has_client c t) ≡ true
@@ -58,6 +62,11 @@ may_is w c i n x found t some few fresh reach room =
       le-leb (weight_of t + n)
           (most_weight w.setup) room,
     ) refl
+
+-- the reply to an acquire, by whether the word is an entry's
+abbrev got_by : Bool → (word : ℕ) → Reply
+got_by entry word =
+    if entry then replies.Got (is_visible word) (is_counting word) else replies.Stray
 
 -- An acquire is allowed where the test passes.
 acquire_allowed : (w : State) (c i n x : ℕ) (found : Client) (t : Slot) → Lawful w → n ≤ MOST_WEIGHT
@@ -161,14 +170,15 @@ module _ {T : Type 0} (fits : T → Key → List ℕ → Type 0) (p : Plan T) wh
 
     -- Where the slot has no entry, the acquires stray.
     strays_on : (left : Slot) → left ≡ slot_acquired t (new_reference me.0.client x n t)
-        → is_shareable (code_of t) ≡ false → hidden_stamp t ≡ None → Alike t left
+        → is_shareable (code_of t) ≡ false → acquired t (counts_in t) ≡ replies.Stray
+        → hidden_stamp t ≡ None → Alike t left
         → references_of left ≡ references_of t → (code_of t + n) % 2 ^ 64 ≡ code_of left
-        → Goes fits p s a ((slice_index s.words a + n) % 2 ^ 64) id me
+        → Goes fits p s r a ((slice_index s.words a + n) % 2 ^ 64) id me
         (acquires fits p.geometry.room i x (step 0 a n 0 none) me)
-    strays_on left left_is away unhidden like bare code =
+    strays_on left left_is away stray unhidden like bare code =
         goes fits p s r a ((word + n) % 2 ^ 64) id i me new t left event reply
         (acquires fits p.geometry.room i x (step 0 a n 0 none) me) o.address
-        (ap (λ y. (y + n) % 2 ^ 64) word_is ∙ code)
+        (ap (λ y. (y + n) % 2 ^ 64) word_is ∙ code) (refl, refl)
         (touched fits p s r id i me.0 new t left event reply record {
           at_view = o.at_view;
           at_slot = o.at_slot;
@@ -192,6 +202,8 @@ module _ {T : Type 0} (fits : T → Key → List ℕ → Type 0) (p : Plan T) wh
             stray = λ none. refl;
             got = λ got. let bad : true ≡ false = sym got ∙ (entry_is ∙ away) in cc;
           },
+          ap (λ answer. Some (did event answer))
+              (stray ∙ sym (ap (λ b. got_by b word) (entry_is ∙ away))),
         )
       where
         word : ℕ
@@ -213,11 +225,11 @@ module _ {T : Type 0} (fits : T → Key → List ℕ → Type 0) (p : Plan T) wh
   -- Where the slot has an entry, it is referenced.
   got_on : (s : Shard fits p) (r : Holds fits p s) (id i a n x : ℕ) (me : Held T) (k : Resident)
       → Asks s r id i a n x me (slots.Shareable k)
-      → Goes fits p s a ((slice_index s.words a + n) % 2 ^ 64) id me
+      → Goes fits p s r a ((slice_index s.words a + n) % 2 ^ 64) id me
       (acquires fits p.geometry.room i x (step 0 a n 0 none) me)
   got_on s r id i a n x me k o =
       goes fits p s r a ((word + n) % 2 ^ 64) id i me new t left event reply
-      (acquires fits p.geometry.room i x (step 0 a n 0 none) me) o.address code
+      (acquires fits p.geometry.room i x (step 0 a n 0 none) me) o.address code (refl, refl)
       (touched fits p s r id i me.0 new t left event reply record {
         at_view = o.at_view;
         at_slot = o.at_slot;
@@ -259,6 +271,7 @@ module _ {T : Type 0} (fits : T → Key → List ℕ → Type 0) (p : Plan T) wh
             refl,
           );
         },
+        ap (λ answer. Some (did event answer)) (sym answered),
       )
     where
       l : Lawful r.world
@@ -314,13 +327,22 @@ module _ {T : Type 0} (fits : T → Key → List ℕ → Type 0) (p : Plan T) wh
       becomes : client_acquired me.0.client left me.0.work ≡ new.work
       becomes = rw (dead_acquired me.0.client x n t, here, tells_shown r.world l i k o.at_slot) refl
 
+      -- the reply is what the word tells
+      answered : got_in (slice_index s.words a) ≡ replies.Got k.shown (nat_lt k.uses NEAR)
+      answered =
+          ap (λ b. got_by b (slice_index s.words a)) (entry_is s r id i a n x me t o
+          ∙ is_shareable-shareable k.hit k.shown near)
+          ∙ (ap (λ b. replies.Got b (is_counting (slice_index s.words a)))
+          (ap is_visible here ∙ tells_shown r.world l i k o.at_slot)
+          ∙ ap (λ b. replies.Got k.shown b) counts)
+
   -- An acquire keeps the rule, and tells what it found.
   pub acquire_step : (count id i a n x : ℕ) (me : Held T) → i < p.geometry.slots
       → is_seated me.0 ≡ true
       → a ≡ field_at p.geometry.room i META → 0 < n → n ≤ MOST_WEIGHT → x < 2 ^ 64
       → record_in x me.0.records ≡ None → may_reach i me.0 ≡ true
       → load_of me.0.records + n ≤ REFERENCES_PER_CLIENT
-      → Allows (Holds fits p) count id me a (λ y. (y + n) % 2 ^ 64)
+      → Acts fits p count id me a (λ y. (y + n) % 2 ^ 64)
       (acquires fits p.geometry.room i x (step count a n 0 none) me)
   acquire_step count id i a n x me near seated address some few small fresh reach room s r homes at
       low =
@@ -342,20 +364,20 @@ module _ {T : Type 0} (fits : T → Key → List ℕ → Type 0) (p : Plan T) wh
       }
 
       by : (t : Slot) → Asks s r id i a n x me t
-          → Goes fits p s a ((slice_index s.words a + n) % 2 ^ 64) id me
+          → Goes fits p s r a ((slice_index s.words a + n) % 2 ^ 64) id me
           (acquires fits p.geometry.room i x (step 0 a n 0 none) me)
       by (slots.Empty strays) o =
           let t : Slot = slots.Empty strays in
           let l = is_lawful r.world r.lawful in
           let spare = few_strays r.world l i t o.at_slot in
           strays_on s r id i a n x me t o (slots.Empty (strays + n)) refl
-          (tells_entry r.world l i t o.at_slot) refl
+          (tells_entry r.world l i t o.at_slot) refl refl
           record { entry = refl; trail = refl } refl (add_acquires-empty strays n (omega arith))
       by (slots.Building client strays) o =
           let t : Slot = slots.Building client strays in
           let l = is_lawful r.world r.lawful in
           let spare = few_strays r.world l i t o.at_slot in
           strays_on s r id i a n x me t o (slots.Building client (strays + n)) refl
-          (tells_entry r.world l i t o.at_slot) refl
+          (tells_entry r.world l i t o.at_slot) refl refl
           record { entry = refl; trail = refl } refl (add_acquires-building strays n (omega arith))
       by (slots.Shareable k) o = got_on s r id i a n x me k o

@@ -3,12 +3,15 @@ use Rattle.std.proofs.Common.{◌≡◌, ℕ, ◌-◌, ◌^◌, ◌<◌, ◌≤�
 use Rattle.std.proofs.lemmas.Bool.{lt-ltb, le-leb, eqb-true}
 use mathlib.Core.Option.{none}
 use prog.Atomic.{either}
-use Rattle.atomic_table.specs.Table.{step, Allows}
+use Rattle.atomic_table.specs.Table.{step}
 use Rattle.hcc_word.specs.Near.{IsNear}
+use Rattle.hcc_word.specs.Word.{releases_of}
+use Rattle.hcc_word.proofs.CodeLaws.{releases_of-shareable}
+use Rattle.std.proofs.Math.Nat.{min-le_left}
 use Rattle.hcc_word.specs.Code.{code_of_shareable}
 use Rattle.hcc_word.specs.Changes.{IsClockable, clocked_word, IsCorrectable, corrected_word}
 use Rattle.hcc_word.proofs.ExchangeLaws.{IsClockable-empty, IsClockable-building, IsClockable-shareable, clocked_word-shareable, IsCorrectable-shareable, corrected_word-shareable}
-use Rattle.hcc_core.specs.declared.limits.TheConstants.{MOST_REFERENCES, NEAR, CORRECTION}
+use Rattle.hcc_core.specs.declared.limits.TheConstants.{MOST_REFERENCES, MOST_CLOCKED, NEAR, CORRECTION}
 use Rattle.hcc_core.specs.declared.event.Event.{Event}
 use Rattle.hcc_core.specs.declared.event.Event.TheVariants as events
 use Rattle.hcc_core.specs.declared.event.Reply.TheVariants as replies
@@ -41,11 +44,13 @@ use Rattle.hcc_rule.specs.Words.{field_at, code_of}
 use Rattle.hcc_rule.specs.Rule.{IsRecorded, Holds}
 use Rattle.hcc_rule.proofs.Basics.Lists.{within, read_at}
 use Rattle.hcc_rule.proofs.Parts.Codes.{few_strays, is_near}
-use Rattle.hcc_rule.proofs.References.Looks.{client_fits, slot_fits, slot_there, looks_on}
+use Rattle.hcc_rule.proofs.References.Looks.{client_fits, slot_fits, slot_there, looks_on, look_told}
 use Rattle.hcc_rule.proofs.References.Marks.{rested}
 use Rattle.hcc_rule.proofs.Parts.OnEntries.{OnEntry, on_some, name_held, reference_there, code_there, dead_there}
 use Rattle.hcc_rule.proofs.Parts.SlotSteps.{Shard}
-use Rattle.hcc_rule.proofs.Parts.Touches.{by_client, Goes, goes, client_is, live_is}
+use Rattle.hcc_rule.proofs.Parts.Touches.{by_client, goes, client_is, live_is}
+use Rattle.hcc_rule.specs.Acts.{Acts, Goes, did}
+use Rattle.hcc_rule.specs.declared.view.Done.{Done}
 
 -- A clock's event is allowed at a shown entry with no references and some uses.
 clock_allowed : (w : State) (c i : ℕ) (found : Client) (k : Resident) → Lawful w
@@ -122,17 +127,56 @@ module _ {T : Type 0} (fits : T → Key → List ℕ → Type 0) (p : Plan T) wh
       (λ j u there. records_weigh r.world.slots i u.records (r.holding j u there).recorded) in
       none_there k.references (omega arith)
 
+  -- What a clock's exchange finds and leaves, where it wins.
+  module _ (s : Shard fits p) (r : Holds fits p s) (i old new : ℕ) (k : Resident)
+      (at_slot : slice_get r.world.slots i ≡ Some (slots.Shareable k)) where
+    near : IsNear MOST_REFERENCES k.uses (weight k.references) (counted k.references)
+    near = is_near r.world (is_lawful r.world r.lawful) i k at_slot
+
+    clocked_near : IsNear MOST_REFERENCES (clocked k.uses) (weight k.references)
+        (counted k.references)
+    clocked_near =
+        let fewer = min-le_left (k.uses - 1) MOST_CLOCKED in
+        let uses = near.near_uses in
+        record {
+          few_refs = near.few_refs;
+          counting_are_refs = near.counting_are_refs;
+          near_uses = omega arith;
+          room = near.room;
+        }
+
+    -- its word tells the uses that are left
+    uses_left : new ≡ code_of (slots.Shareable (record k { uses = clocked k.uses }))
+        → releases_of new ≡ clocked k.uses
+    uses_left code = ap releases_of code ∙ releases_of-shareable k.hit k.shown clocked_near
+
+    -- a clock counts down an entry that is shown, with no references and some uses
+    clocks_one : code_of (slots.Shareable k) ≡ old → IsClockable old
+        → (k.shown ≡ true) × (weight k.references ≡ 0) × (0 < k.uses)
+    clocks_one same clockable =
+        (IsClockable-shareable k.hit k.shown near).0 (rw same clockable)
+
+    clocked_code : code_of (slots.Shareable k) ≡ old → IsClockable old → new ≡ clocked_word old
+        → new ≡ code_of (slots.Shareable (record k { uses = clocked k.uses }))
+    clocked_code same clockable clocks =
+        let one = clocks_one same clockable in
+        let kept : code_of_shareable (clocked k.uses) (weight k.references) k.hit k.shown
+        ≡ code_of_shareable (clocked k.uses) 0 k.hit true = rw (one.1, one.0) refl in
+        clocks ∙ (ap clocked_word (sym same)
+        ∙ (clocked_word-shareable k.hit k.shown near ∙ sym kept))
+
   -- The clock counts.
   clocks_on : (s : Shard fits p) (r : Holds fits p s) (id i a old new : ℕ) (me : Held T)
-      (k : Resident) (then : ℕ → Held T → Type 0)
+      (k : Resident) (then : ℕ → Held T → Option Done → Type 0)
       → slice_get s.views id ≡ Some me.0 → is_seated me.0 ≡ true
       → slice_get r.world.slots i ≡ Some (slots.Shareable k) → a ≡ field_at p.geometry.room i META
       → code_of (slots.Shareable k) ≡ old → IsClockable old → new ≡ clocked_word old
       → then (slice_index s.words a) (me.0, me.1)
-      → Goes fits p s a new id me then
+      (Some (did (events.Clock me.0.client i) (replies.Uses (clocked k.uses))))
+      → Goes fits p s r a new id me then
   clocks_on s r id i a old new me k then at seated at_slot address same clockable clocks told =
       goes fits p s r a new id i me me.0 (slots.Shareable k) (slots.Shareable left) event
-      (replies.Uses (clocked k.uses)) then address code
+      (replies.Uses (clocked k.uses)) then address code (refl, refl)
       (rested fits p s r id i me.0 me.0 k left event (replies.Uses (clocked k.uses)) at at_slot
       seated
       record { tag = refl; client = refl; others = refl; turns = refl } refl record
@@ -144,9 +188,6 @@ module _ {T : Type 0} (fits : T → Key → List ℕ → Type 0) (p : Plan T) wh
       l : Lawful r.world
       l = is_lawful r.world r.lawful
 
-      near : IsNear MOST_REFERENCES k.uses (weight k.references) (counted k.references)
-      near = is_near r.world (is_lawful r.world r.lawful) i k at_slot
-
       left : Resident
       left = record k { uses = clocked k.uses }
 
@@ -154,25 +195,20 @@ module _ {T : Type 0} (fits : T → Key → List ℕ → Type 0) (p : Plan T) wh
       event = events.Clock me.0.client i
 
       may_count : (k.shown ≡ true) × (weight k.references ≡ 0) × (0 < k.uses)
-      may_count = (IsClockable-shareable k.hit k.shown near).0 (rw same clockable)
+      may_count = clocks_one s r i old new k at_slot same clockable
 
       may : may_clock (slots.Shareable k) ≡ true
       may = rw (may_count.0, unreferenced s r i k at_slot may_count.1, lt-ltb 0 k.uses may_count.2)
           refl
 
       code : new ≡ code_of (slots.Shareable left)
-      code =
-          let kept : code_of_shareable (clocked k.uses) (weight k.references) k.hit k.shown
-          ≡ code_of_shareable (clocked k.uses) 0 k.hit true =
-          rw (may_count.1, may_count.0) refl in
-          clocks ∙ (ap clocked_word (sym same)
-          ∙ (clocked_word-shareable k.hit k.shown near ∙ sym kept))
+      code = clocked_code s r i old new k at_slot same clockable clocks
 
   -- The clock's exchange keeps the rule, and tells what it found.
   pub clock_step : (count id i a old new : ℕ) (me : Held T) → i < p.geometry.slots
       → is_seated me.0 ≡ true
       → a ≡ field_at p.geometry.room i META → IsClockable old → new ≡ clocked_word old
-      → Allows (Holds fits p) count id me a (λ y. either (y == old) new y)
+      → Acts fits p count id me a (λ y. either (y == old) new y)
       (clocks i (step count a old new none) me)
   clock_step count id i a old new me near seated address clockable clocks_to s r homes at low =
       let slot = slot_there fits p s r i near in
@@ -181,7 +217,7 @@ module _ {T : Type 0} (fits : T → Key → List ℕ → Type 0) (p : Plan T) wh
       word : ℕ
       word = slice_index s.words a
 
-      then : ℕ → Held T → Type 0
+      then : ℕ → Held T → Option Done → Type 0
       then = clocks i (step count a old new none) me
 
       here : slice_get s.views id ≡ Some me.0
@@ -191,38 +227,44 @@ module _ {T : Type 0} (fits : T → Key → List ℕ → Type 0) (p : Plan T) wh
       word_is t at_slot = ap (slice_index s.words) address ∙ r.coded.meta i t at_slot
 
       wins : (t : Slot) → slice_get r.world.slots i ≡ Some t → code_of t ≡ old
-          → then word (me.0, me.1) → Goes fits p s a new id me then
-      wins (slots.Empty strays) at_slot same told =
+          → (word == old) ≡ true → Goes fits p s r a new id me then
+      wins (slots.Empty strays) at_slot same is =
           let few = few_strays r.world (is_lawful r.world r.lawful) i (slots.Empty strays)
           at_slot in
           absurd (IsClockable-empty strays (omega arith) (rw same clockable))
-      wins (slots.Building client strays) at_slot same told =
+      wins (slots.Building client strays) at_slot same is =
           let few = few_strays r.world (is_lawful r.world r.lawful) i (slots.Building client strays)
           at_slot in
           absurd (IsClockable-building strays (omega arith) (rw same clockable))
-      wins (slots.Shareable k) at_slot same told =
+      wins (slots.Shareable k) at_slot same is =
           clocks_on s r id i a old new me k then here seated at_slot address same clockable
-          clocks_to told
+          clocks_to (
+            refl,
+            rw is refl,
+            ap Some (rw is (ap (λ n. did (events.Clock me.0.client i) (replies.Uses n))
+                (sym (uses_left s r i old new k at_slot (clocked_code s r i old new k at_slot same
+                clockable clocks_to))))),
+          )
 
       by : (t : Slot) → slice_get r.world.slots i ≡ Some t → (b : Bool) → (word == old) ≡ b
-          → Goes fits p s a (either b new word) id me then
-      by t at_slot true is = wins t at_slot (sym (word_is t at_slot) ∙ eqb-true word old is)
-          (refl, rw is refl)
+          → Goes fits p s r a (either b new word) id me then
+      by t at_slot true is = wins t at_slot (sym (word_is t at_slot) ∙ eqb-true word old is) is
       by t at_slot false is = looks_on fits p s r id i a me t then at_slot seated address here
-          (refl, rw is refl)
+          (refl, rw is refl, ap Some (rw is (look_told fits p s r i a me.0 t at_slot address)))
 
   -- Both counters are corrected.
   corrects_on : (s : Shard fits p) (r : Holds fits p s) (id i x a old new : ℕ) (me : Held T)
-      (q : Record) (k : Resident) (then : ℕ → Held T → Type 0)
+      (q : Record) (k : Resident) (then : ℕ → Held T → Option Done → Type 0)
       → OnEntry fits p s r id i x me.0 q k → q.counting ≡ false → x < 2 ^ 64
       → a ≡ field_at p.geometry.room i META
       → code_of (slots.Shareable k) ≡ old → IsCorrectable old → new ≡ corrected_word old
       → then (slice_index s.words a) (noticing i (slice_index s.words a) me.0, me.1)
-      → Goes fits p s a new id me then
+      (Some (did (events.Correct me.0.client x) replies.Ok))
+      → Goes fits p s r a new id me then
   corrects_on s r id i x a old new me q k then o uncounted small address same correctable corrects
       told =
       goes fits p s r a new id i me after t (slots.Shareable left) event replies.Ok then address
-      code
+      code (refl, refl)
       (rested fits p s r id i me.0 after k left event replies.Ok o.at_view o.at_slot o.seated
       record { tag = refl; client = refl; others = refl; turns = refl } refl record
       { written = refl; made = refl; takings = refl } refl refl refl refl
@@ -275,8 +317,8 @@ module _ {T : Type 0} (fits : T → Key → List ℕ → Type 0) (p : Plan T) wh
       → a ≡ field_at p.geometry.room i META
       → IsSomeAnd (record_in x me.0.records) (λ q. (q.slot ≡ i) × (q.counting ≡ false))
       → IsCorrectable old → new ≡ corrected_word old
-      → Allows (Holds fits p) count id me a (λ y. either (y == old) new y)
-      (corrects i (step count a old new none) me)
+      → Acts fits p count id me a (λ y. either (y == old) new y)
+      (corrects i x (step count a old new none) me)
   correct_step count id i x a old new me seated small address so correctable corrects_to s r homes
       at low =
       by (record_in x me.0.records) refl so
@@ -284,24 +326,28 @@ module _ {T : Type 0} (fits : T → Key → List ℕ → Type 0) (p : Plan T) wh
       word : ℕ
       word = slice_index s.words a
 
-      then : ℕ → Held T → Type 0
-      then = corrects i (step count a old new none) me
+      then : ℕ → Held T → Option Done → Type 0
+      then = corrects i x (step count a old new none) me
 
       here : slice_get s.views id ≡ Some me.0
       here = read_at s.views id me.0 at
 
       tried : (q : Record) (k : Resident) → OnEntry fits p s r id i x me.0 q k → q.counting ≡ false
-          → (b : Bool) → (word == old) ≡ b → Goes fits p s a (either b new word) id me then
+          → (b : Bool) → (word == old) ≡ b → Goes fits p s r a (either b new word) id me then
       tried q k o uncounted true is =
           corrects_on s r id i x a old new me q k then o uncounted small address
           (sym (code_there fits p s r id i x me.0 q k o a address) ∙ eqb-true word old is)
-          correctable corrects_to (refl, rw is refl)
+          correctable corrects_to (refl, rw is refl, rw is refl)
       tried q k o uncounted false is = looks_on fits p s r id i a me (slots.Shareable k) then
-          o.at_slot seated address here (refl, rw is refl)
+          o.at_slot seated address here (
+            refl,
+            rw is refl,
+            ap Some (rw is (look_told fits p s r i a me.0 (slots.Shareable k) o.at_slot address)),
+          )
 
       by : (found : Option Record) → record_in x me.0.records ≡ found
           → IsSomeAnd found (λ q. (q.slot ≡ i) × (q.counting ≡ false))
-          → Goes fits p s a (either (word == old) new word) id me then
+          → Goes fits p s r a (either (word == old) new word) id me then
       by None called so = absurd so
       by (Some q) called so =
           let there = on_some fits p s r id i x me.0 q here seated called so.0 in

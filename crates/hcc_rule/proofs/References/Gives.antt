@@ -2,19 +2,20 @@
 use Rattle.std.proofs.Common.{◌≡◌, ℕ, ◌+◌, ◌-◌, ◌%◌, ◌^◌, ◌<◌, ◌≢◌, true, List, Option, Some, None, Ok, IsSomeAnd, slice_get, slice_index, sym, refl, ap, ◌∙◌, arith, ne_eqb}
 use Rattle.std.proofs.lemmas.Bool.{eq-eqb, lt-ltb}
 use mathlib.Core.Option.{none}
-use Rattle.atomic_table.specs.Table.{step, Allows}
+use Rattle.atomic_table.specs.Table.{step}
 use Rattle.hcc_word.proofs.StepLaws.{take_acquires-shareable}
 use Rattle.hcc_word.proofs.CodeLaws.{refs_of-shareable, is_shareable-shareable}
 use Rattle.hcc_core.specs.declared.event.Event.{Event}
 use Rattle.hcc_core.specs.declared.event.Event.TheVariants as events
 use Rattle.hcc_core.specs.declared.event.Reply.{Reply}
+use Rattle.hcc_core.specs.declared.event.Reply.TheVariants as replies
 use Rattle.hcc_core.specs.declared.client.Client.{Client}
 use Rattle.hcc_core.specs.declared.slot.Reference.{Reference}
 use Rattle.hcc_core.specs.declared.slot.Resident.{Resident}
 use Rattle.hcc_core.specs.declared.slot.Slot.{Slot}
 use Rattle.hcc_core.specs.declared.slot.Slot.TheVariants as slots
 use Rattle.hcc_core.specs.Sums.{when, total}
-use Rattle.hcc_core.specs.World.{State, weight, is_named, slot_holding}
+use Rattle.hcc_core.specs.World.{State, weight, weight_of, phase_of, is_named, slot_holding}
 use Rattle.hcc_core.specs.Outcomes.{with_both, dropped}
 use Rattle.hcc_core.specs.References.{slot_given, left_on, client_noticed}
 use Rattle.hcc_core.specs.Steps.{outcome_of}
@@ -34,12 +35,16 @@ use Rattle.hcc_rule.specs.Records.{record_in}
 use Rattle.hcc_rule.specs.Words.{field_at, code_of}
 use Rattle.hcc_rule.specs.Rule.{IsRecorded, IsHolding, Holds}
 use Rattle.hcc_rule.proofs.Basics.Lists.{within, read_at}
-use Rattle.hcc_rule.proofs.Parts.Codes.{is_near}
+use Rattle.hcc_rule.proofs.Parts.Codes.{is_near, tells_phase}
 use Rattle.hcc_rule.proofs.Basics.Findings.{dropped_each}
 use Rattle.hcc_rule.proofs.References.Looks.{client_fits}
 use Rattle.hcc_rule.proofs.Parts.OnEntries.{OnEntry, on_some, name_held, reference_there, code_there, dead_there}
 use Rattle.hcc_rule.proofs.Parts.SlotSteps.{Shard}
-use Rattle.hcc_rule.proofs.Parts.Touches.{by_client, touched, Goes, goes, client_is, live_is}
+use Rattle.hcc_rule.proofs.Parts.Touches.{by_client, touched, goes, client_is, live_is}
+use Rattle.hcc_rule.specs.Acts.{Acts, Goes}
+use Rattle.hcc_rule.specs.declared.view.Done.{Done}
+use Rattle.hcc_rule.specs.Events.{left_in, phase_in, give_done}
+use Rattle.hcc_word.specs.Word.{refs_of}
 
 -- the records of a view without one of them weigh so much less, by any weighing
 held_less : {T : Type 0} (i x : ℕ) (v new : View T) (q : Record) (h : Reference → ℕ)
@@ -126,17 +131,35 @@ module _ {T : Type 0} (fits : T → Key → List ℕ → Type 0) (p : Plan T) wh
           enough = rw (is, refs_of-shareable k.hit k.shown near) (omega arith);
         }
 
+    -- the reply to its release is what the word tells
+    pub left_told : (left : Slot) (word : ℕ) → word ≡ code_of (slots.Shareable k)
+        → weight_of left ≡ weight (dropped (is_named v.client x) k.references)
+        → phase_of left ≡ phase_of (slots.Shareable k)
+        → left_on left ≡ left_in q.weight word
+    left_told left word is weighs same =
+        let l = is_lawful r.world r.lawful in
+        let near = is_near r.world l i k o.at_slot in
+        let less = weighs_less in
+        let refs : refs_of word ≡ weight k.references =
+        ap refs_of is ∙ refs_of-shareable k.hit k.shown near in
+        let few : weight_of left ≡ refs_of word - q.weight = omega arith in
+        let phase : phase_of left ≡ phase_in word =
+        same ∙ sym (ap phase_in is ∙ tells_phase r.world l i (slots.Shareable k) o.at_slot) in
+        ap (λ n. replies.Left n (phase_of left)) few
+        ∙ ap (λ ph. replies.Left (refs_of word - q.weight) ph) phase
+
   -- The reference is given back, and the view's record of it goes.
   gives_on : (s : Shard fits p) (r : Holds fits p s) (id i x a n : ℕ) (me : Held T) (q : Record)
-      (k : Resident) (then : ℕ → Held T → Type 0)
+      (k : Resident) (then : ℕ → Held T → Option Done → Type 0)
       → OnEntry fits p s r id i x me.0 q k → q.weight ≡ n → x < 2 ^ 64
       → a ≡ field_at p.geometry.room i META
       → (IsReferenced n (slice_index s.words a)
-      → then (slice_index s.words a) (after_give i x (slice_index s.words a) me.0, me.1))
-      → Goes fits p s a ((slice_index s.words a + (2 ^ 64 - n)) % 2 ^ 64) id me then
+      → then (slice_index s.words a) (after_give i x (slice_index s.words a) me.0, me.1)
+      (Some (give_done n x (slice_index s.words a) me.0)))
+      → Goes fits p s r a ((slice_index s.words a + (2 ^ 64 - n)) % 2 ^ 64) id me then
   gives_on s r id i x a n me q k then o weighs small address told =
       goes fits p s r a ((word + (2 ^ 64 - n)) % 2 ^ 64) id i me new t left event reply then address
-      code
+      code (refl, refl)
       (touched fits p s r id i me.0 new t left event reply record {
         at_view = o.at_view;
         at_slot = o.at_slot;
@@ -156,7 +179,7 @@ module _ {T : Type 0} (fits : T → Key → List ℕ → Type 0) (p : Plan T) wh
         elsewhere = loses_no_other s r id i x me.0 q k o new refl refl;
         holding = holds_less s r id i x me.0 q k o new refl;
       })
-      (told (rw (← weighs) (references_told s r id i x me.0 q k o word word_is)))
+      (rw answered (told (rw (← weighs) (references_told s r id i x me.0 q k o word word_is))))
     where
       l : Lawful r.world
       l = is_lawful r.world r.lawful
@@ -182,6 +205,10 @@ module _ {T : Type 0} (fits : T → Key → List ℕ → Type 0) (p : Plan T) wh
       word_is : word ≡ code_of t
       word_is = code_there fits p s r id i x me.0 q k o a address
 
+      -- the reply is what the word tells
+      answered : left_on left ≡ left_in n word
+      answered = rw (← weighs) (left_told s r id i x me.0 q k o left word word_is refl refl)
+
       code : (word + (2 ^ 64 - n)) % 2 ^ 64 ≡ code_of left
       code =
           let less = weighs_less s r id i x me.0 q k o in
@@ -196,20 +223,20 @@ module _ {T : Type 0} (fits : T → Key → List ℕ → Type 0) (p : Plan T) wh
   pub give_step : (count id i x a n : ℕ) (me : Held T) → is_seated me.0 ≡ true → x < 2 ^ 64
       → a ≡ field_at p.geometry.room i META
       → IsSomeAnd (record_in x me.0.records) (λ q. (q.slot ≡ i) × (q.weight ≡ n))
-      → Allows (Holds fits p) count id me a (λ y. (y + (2 ^ 64 - n)) % 2 ^ 64)
+      → Acts fits p count id me a (λ y. (y + (2 ^ 64 - n)) % 2 ^ 64)
       (gives i x (step count a n 0 none) me)
   give_step count id i x a n me seated small address so s r homes at low =
       by (record_in x me.0.records) refl so
     where
-      then : ℕ → Held T → Type 0
+      then : ℕ → Held T → Option Done → Type 0
       then = gives i x (step count a n 0 none) me
 
       by : (found : Option Record) → record_in x me.0.records ≡ found
           → IsSomeAnd found (λ q. (q.slot ≡ i) × (q.weight ≡ n))
-          → Goes fits p s a ((slice_index s.words a + (2 ^ 64 - n)) % 2 ^ 64) id me then
+          → Goes fits p s r a ((slice_index s.words a + (2 ^ 64 - n)) % 2 ^ 64) id me then
       by None called so = absurd so
       by (Some q) called so =
           let there = on_some fits p s r id i x me.0 q (read_at s.views id me.0 at) seated called
           so.0 in
           gives_on s r id i x a n me q there.0 then there.1 so.1 small address
-          (λ told. (refl, refl, told))
+          (λ told. (refl, refl, told, refl))

@@ -2,7 +2,7 @@
 use Rattle.std.proofs.Common.{◌≡◌, ℕ, ◌^◌, ◌<◌, ◌≤◌, true, List, Some, Ok, length, slice_get, slice_index, refl, ap, ◌∙◌, arith, Bool, false, ◌||◌, Option, None, [], ◌∷◌, sym, option_map}
 use Rattle.std.proofs.lemmas.Bool.{lt-ltb, eqb-true, eq-eqb}
 use mathlib.Core.Option.{none}
-use Rattle.atomic_table.specs.Table.{step, Allows}
+use Rattle.atomic_table.specs.Table.{step}
 use Rattle.hcc_core.specs.declared.event.Event.{Event}
 use Rattle.hcc_core.specs.declared.event.Event.TheVariants as events
 use Rattle.hcc_core.specs.declared.event.Reply.{Reply}
@@ -32,10 +32,10 @@ use Rattle.hcc_rule.specs.Records.{weight_on, stamp_on}
 use Rattle.hcc_rule.specs.Words.{field_at, code_of}
 use Rattle.hcc_rule.specs.Rule.{Holds, entry_in, IsRecorded, setup_of}
 use Rattle.hcc_rule.proofs.Basics.Lists.{within, there, read_at, each_map}
-use Rattle.hcc_rule.proofs.Parts.Codes.{tells_entry, is_near}
+use Rattle.hcc_rule.proofs.Parts.Codes.{tells_entry, tells_phase, is_near}
 use Rattle.hcc_rule.proofs.Parts.Clients.{dead_told}
 use Rattle.hcc_rule.proofs.Parts.SlotSteps.{Shard, size_is}
-use Rattle.hcc_rule.proofs.Parts.Touches.{by_client, touched, Goes, goes, client_is, live_is}
+use Rattle.hcc_rule.proofs.Parts.Touches.{by_client, touched, goes, client_is, live_is}
 use Rattle.std.specs.List.{list_any}
 use Rattle.hcc_core.specs.declared.slot.Entry.{Entry}
 use Rattle.hcc_rule.specs.declared.view.Record.{Record}
@@ -43,6 +43,9 @@ use Rattle.hcc_word.specs.Word.{is_shareable, refs_of}
 use Rattle.hcc_core.specs.declared.setup.Setup.{Setup}
 use Rattle.hcc_rule.proofs.Limits.Alone.{held_alone}
 use Rattle.hcc_rule.proofs.Basics.Findings.{some_found, any_some, find_passes, find_each}
+use Rattle.hcc_rule.specs.Acts.{Acts, Goes, did}
+use Rattle.hcc_rule.specs.declared.view.Done.{Done}
+use Rattle.hcc_rule.specs.Events.{look_done, phase_in}
 
 -- numbers of slots and clients fit their fields
 pub slot_fits : (w : State) (i : ℕ) → Lawful w → i < length w.slots → in_bits 32 i ≡ true
@@ -102,14 +105,16 @@ stamps_from i e all (r ∷ rs) told each = (
 module _ {T : Type 0} (fits : T → Key → List ℕ → Type 0) (p : Plan T) where
   -- The word is read, and nothing else.
   pub looks_on : (s : Shard fits p) (r : Holds fits p s) (id i a : ℕ) (me : Held T) (t : Slot)
-      (then : ℕ → Held T → Type 0)
+      (then : ℕ → Held T → Option Done → Type 0)
       → slice_get r.world.slots i ≡ Some t → is_seated me.0 ≡ true
       → a ≡ field_at p.geometry.room i META
       → slice_get s.views id ≡ Some me.0
       → then (slice_index s.words a) (after_look i (slice_index s.words a) me.0, me.1)
-      → Goes fits p s a (slice_index s.words a) id me then
+      (Some (did (events.Look me.0.client i) (replies.Saw (phase_of t))))
+      → Goes fits p s r a (slice_index s.words a) id me then
   looks_on s r id i a me t then at_slot seated address at told =
       goes fits p s r a word id i me new t t event reply then address word_is
+      (refl, refl)
       (touched fits p s r id i me.0 new t t event reply record {
         at_view = at;
         at_slot = at_slot;
@@ -152,6 +157,17 @@ module _ {T : Type 0} (fits : T → Key → List ℕ → Type 0) (p : Plan T) wh
           let dead = dead_told p.tag r.world r.books s.views id i me.0 t l r.references r.seats
           (r.holding id me.0 at).recorded at seated at_slot in
           rw (word_is, dead, tells_entry r.world l i t at_slot) refl
+
+  -- its reply is what the word tells
+  pub look_told : (s : Shard fits p) (r : Holds fits p s) (i a : ℕ) (v : View T) (t : Slot)
+      → slice_get r.world.slots i ≡ Some t → a ≡ field_at p.geometry.room i META
+      → did (events.Look v.client i) (replies.Saw (phase_of t))
+      ≡ look_done i (slice_index s.words a) v
+  look_told s r i a v t at_slot address =
+      let word_is : slice_index s.words a ≡ code_of t =
+      ap (slice_index s.words) address ∙ r.coded.meta i t at_slot in
+      ap (λ phase. did (events.Look v.client i) (replies.Saw phase))
+      (sym (ap phase_in word_is ∙ tells_phase r.world (is_lawful r.world r.lawful) i t at_slot))
 
   -- a client's records on a slot are among its references
   few_on : (s : Shard fits p) (r : Holds fits p s) (id i : ℕ) (v : View T) (t : Slot)
@@ -242,7 +258,7 @@ module _ {T : Type 0} (fits : T → Key → List ℕ → Type 0) (p : Plan T) wh
   pub look_step : (count id i a : ℕ) (me : Held T) (setup : Setup) → setup ≡ setup_of p
       → i < p.geometry.slots → is_seated me.0 ≡ true
       → a ≡ field_at p.geometry.room i META
-      → Allows (Holds fits p) count id me a (λ n. n) (looks setup i (step count a 0 0 none) me)
+      → Acts fits p count id me a (λ n. n) (looks setup i (step count a 0 0 none) me)
   look_step count id i a me setup said near seated address s r homes at low =
       let slot = slot_there s r i near in
       let mine = read_at s.views id me.0 at in
@@ -254,4 +270,5 @@ module _ {T : Type 0} (fits : T → Key → List ℕ → Type 0) (p : Plan T) wh
         backed s r id i (slice_index s.words a) me.0 slot.0 slot.1 mine word_is,
         λ one. alone_there s r id i (slice_index s.words a) me.0 slot.0 slot.1 mine seated
             (ap (λ (x : Setup). x.clients) (sym said) ∙ one) word_is,
+        ap Some (look_told s r i a me.0 slot.0 slot.1 address),
       )

@@ -1,10 +1,10 @@
 -- Steps that leave the references of an entry: it is hidden, marked, clocked or corrected.
-use Rattle.std.proofs.Common.{◌≡◌, ℕ, ◌^◌, ◌<◌, true, false, List, Option, Some, None, Ok, IsSomeAnd, bit_and, bit_or, slice_get, slice_index, refl, ap, ◌∙◌}
+use Rattle.std.proofs.Common.{◌≡◌, ℕ, ◌^◌, ◌<◌, true, false, List, Option, Some, None, Ok, IsSomeAnd, bit_and, bit_or, slice_get, slice_index, refl, ap, ◌∙◌, cond, sym}
 use Rattle.std.proofs.lemmas.Bool.{lt-ltb}
 use mathlib.Core.Option.{none}
-use Rattle.atomic_table.specs.Table.{step, Allows}
+use Rattle.atomic_table.specs.Table.{step}
 use Rattle.hcc_word.specs.declared.layout.TheConstants.{HIDING_MASK, HIT_BIT}
-use Rattle.hcc_word.specs.Word.{is_shareable}
+use Rattle.hcc_word.specs.Word.{is_shareable, is_visible}
 use Rattle.hcc_word.specs.Near.{IsNear}
 use Rattle.hcc_core.specs.declared.limits.TheConstants.{MOST_REFERENCES}
 use Rattle.hcc_word.proofs.StepLaws.{and_hide-shareable, or_hit-shareable}
@@ -39,11 +39,14 @@ use Rattle.hcc_rule.specs.Records.{record_in}
 use Rattle.hcc_rule.specs.Words.{field_at, code_of}
 use Rattle.hcc_rule.specs.Rule.{Holds}
 use Rattle.hcc_rule.proofs.Basics.Lists.{within, read_at}
-use Rattle.hcc_rule.proofs.Parts.Codes.{is_near}
+use Rattle.hcc_rule.proofs.Parts.Codes.{is_near, tells_shown}
 use Rattle.hcc_rule.proofs.References.Looks.{client_fits}
 use Rattle.hcc_rule.proofs.Parts.OnEntries.{OnEntry, on_some, name_held, code_there, dead_there}
 use Rattle.hcc_rule.proofs.Parts.SlotSteps.{Shard, SameName, SlotStep}
-use Rattle.hcc_rule.proofs.Parts.Touches.{by_client, SameWork, SameStore, touched, Goes, goes, client_is, live_is}
+use Rattle.hcc_rule.proofs.Parts.Touches.{by_client, SameWork, SameStore, touched, goes, client_is, live_is}
+use Rattle.hcc_rule.specs.Acts.{Acts, Goes, did}
+use Rattle.hcc_rule.specs.declared.view.Done.{Done}
+use Rattle.hcc_rule.specs.Events.{hide_done}
 
 -- a hide is allowed where the client holds the name
 hide_allowed : (w : State) (c x i : ℕ) (found : Client) (t : Slot) → Lawful w → x < 2 ^ 64
@@ -110,13 +113,15 @@ module _ {T : Type 0} (fits : T → Key → List ℕ → Type 0) (p : Plan T) wh
 
   -- The entry is hidden, and the client has seen it dead.
   hides_on : (s : Shard fits p) (r : Holds fits p s) (id i x a : ℕ) (me : Held T) (q : Record)
-      (k : Resident) (then : ℕ → Held T → Type 0)
+      (k : Resident) (then : ℕ → Held T → Option Done → Type 0)
       → OnEntry fits p s r id i x me.0 q k → x < 2 ^ 64 → a ≡ field_at p.geometry.room i META
       → (is_shareable (slice_index s.words a) ≡ true
-      → then (slice_index s.words a) (after_hide x (slice_index s.words a) me.0, me.1))
-      → Goes fits p s a (bit_and (slice_index s.words a) HIDING_MASK) id me then
+      → then (slice_index s.words a) (after_hide x (slice_index s.words a) me.0, me.1)
+      (Some (hide_done x (slice_index s.words a) me.0)))
+      → Goes fits p s r a (bit_and (slice_index s.words a) HIDING_MASK) id me then
   hides_on s r id i x a me q k then o small address told =
       goes fits p s r a (bit_and word HIDING_MASK) id i me new t left event reply then address code
+      (refl, refl)
       (rested s r id i me.0 new k (record k { shown = false }) event reply o.at_view o.at_slot
       o.seated
       record { tag = refl; client = refl; others = refl; turns = refl } refl record
@@ -126,7 +131,7 @@ module _ {T : Type 0} (fits : T → Key → List ℕ → Type 0) (p : Plan T) wh
       (hide_allowed r.world me.0.client x i me.0.work t l small holds o.at_slot
       (client_is fits p s r id me.0 o.at_view o.seated)
       (live_is fits p s r id me.0 o.at_view o.seated))))
-      (told (ap is_shareable word_is ∙ is_shareable-shareable k.hit k.shown near))
+      (rw answered (told (ap is_shareable word_is ∙ is_shareable-shareable k.hit k.shown near)))
     where
       l : Lawful r.world
       l = is_lawful r.world r.lawful
@@ -155,6 +160,11 @@ module _ {T : Type 0} (fits : T → Key → List ℕ → Type 0) (p : Plan T) wh
       word_is : word ≡ code_of t
       word_is = code_there fits p s r id i x me.0 q k o a address
 
+      -- the reply is what the word tells
+      answered : hidden t ≡ cond (is_visible word) replies.Hid replies.Again
+      answered = ap (λ b. cond b replies.Hid replies.Again)
+          (sym (ap is_visible word_is ∙ tells_shown r.world l i k o.at_slot))
+
       holds : slot_holding r.world.slots me.0.client x ≡ Some i
       holds = name_held fits p s r id i x me.0 q k o
 
@@ -173,32 +183,35 @@ module _ {T : Type 0} (fits : T → Key → List ℕ → Type 0) (p : Plan T) wh
   pub hide_step : (count id i x a : ℕ) (me : Held T) → is_seated me.0 ≡ true → x < 2 ^ 64
       → a ≡ field_at p.geometry.room i META
       → IsSomeAnd (record_in x me.0.records) (λ q. q.slot ≡ i)
-      → Allows (Holds fits p) count id me a (λ y. bit_and y HIDING_MASK)
+      → Acts fits p count id me a (λ y. bit_and y HIDING_MASK)
       (hides x (step count a HIDING_MASK 0 none) me)
   hide_step count id i x a me seated small address so s r homes at low =
       by (record_in x me.0.records) refl so
     where
-      then : ℕ → Held T → Type 0
+      then : ℕ → Held T → Option Done → Type 0
       then = hides x (step count a HIDING_MASK 0 none) me
 
       by : (found : Option Record) → record_in x me.0.records ≡ found
           → IsSomeAnd found (λ q. q.slot ≡ i)
-          → Goes fits p s a (bit_and (slice_index s.words a) HIDING_MASK) id me then
+          → Goes fits p s r a (bit_and (slice_index s.words a) HIDING_MASK) id me then
       by None called so = absurd so
       by (Some q) called so =
           let there = on_some fits p s r id i x me.0 q (read_at s.views id me.0 at) seated called
           so in
-          hides_on s r id i x a me q there.0 then there.1 small address (λ told. (refl, refl, told))
+          hides_on s r id i x a me q there.0 then there.1 small address
+          (λ told. (refl, refl, told, refl))
 
   -- The entry is marked.
   marks_on : (s : Shard fits p) (r : Holds fits p s) (id i x a : ℕ) (me : Held T) (q : Record)
-      (k : Resident) (then : ℕ → Held T → Type 0)
+      (k : Resident) (then : ℕ → Held T → Option Done → Type 0)
       → OnEntry fits p s r id i x me.0 q k → x < 2 ^ 64 → a ≡ field_at p.geometry.room i META
       → (is_shareable (slice_index s.words a) ≡ true
-      → then (slice_index s.words a) (noticing i (slice_index s.words a) me.0, me.1))
-      → Goes fits p s a (bit_or (slice_index s.words a) HIT_BIT) id me then
+      → then (slice_index s.words a) (noticing i (slice_index s.words a) me.0, me.1)
+      (Some (did (events.Mark me.0.client x) replies.Ok)))
+      → Goes fits p s r a (bit_or (slice_index s.words a) HIT_BIT) id me then
   marks_on s r id i x a me q k then o small address told =
       goes fits p s r a (bit_or word HIT_BIT) id i me new t left event replies.Ok then address code
+      (refl, refl)
       (rested s r id i me.0 new k (record k { hit = true }) event replies.Ok o.at_view o.at_slot
       o.seated
       record { tag = refl; client = refl; others = refl; turns = refl } refl record
@@ -244,19 +257,20 @@ module _ {T : Type 0} (fits : T → Key → List ℕ → Type 0) (p : Plan T) wh
   pub mark_step : (count id i x a : ℕ) (me : Held T) → is_seated me.0 ≡ true → x < 2 ^ 64
       → a ≡ field_at p.geometry.room i META
       → IsSomeAnd (record_in x me.0.records) (λ q. q.slot ≡ i)
-      → Allows (Holds fits p) count id me a (λ y. bit_or y HIT_BIT)
-      (marks i (step count a HIT_BIT 0 none) me)
+      → Acts fits p count id me a (λ y. bit_or y HIT_BIT)
+      (marks i x (step count a HIT_BIT 0 none) me)
   mark_step count id i x a me seated small address so s r homes at low =
       by (record_in x me.0.records) refl so
     where
-      then : ℕ → Held T → Type 0
-      then = marks i (step count a HIT_BIT 0 none) me
+      then : ℕ → Held T → Option Done → Type 0
+      then = marks i x (step count a HIT_BIT 0 none) me
 
       by : (found : Option Record) → record_in x me.0.records ≡ found
           → IsSomeAnd found (λ q. q.slot ≡ i)
-          → Goes fits p s a (bit_or (slice_index s.words a) HIT_BIT) id me then
+          → Goes fits p s r a (bit_or (slice_index s.words a) HIT_BIT) id me then
       by None called so = absurd so
       by (Some q) called so =
           let there = on_some fits p s r id i x me.0 q (read_at s.views id me.0 at) seated called
           so in
-          marks_on s r id i x a me q there.0 then there.1 small address (λ told. (refl, refl, told))
+          marks_on s r id i x a me q there.0 then there.1 small address
+          (λ told. (refl, refl, told, refl))

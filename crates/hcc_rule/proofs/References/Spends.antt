@@ -1,8 +1,8 @@
 -- References are released as uses: they are added to releases.
-use Rattle.std.proofs.Common.{◌≡◌, ℕ, ◌+◌, ◌*◌, ◌/◌, ◌%◌, ◌^◌, ◌<◌, true, List, Option, Some, None, Ok, IsSomeAnd, slice_get, slice_index, refl, ap, ◌∙◌, arith}
+use Rattle.std.proofs.Common.{◌≡◌, ℕ, ◌+◌, ◌*◌, ◌/◌, ◌%◌, ◌^◌, ◌<◌, true, List, Option, Some, None, Ok, IsSomeAnd, slice_get, slice_index, refl, ap, ◌∙◌, arith, sym}
 use Rattle.std.proofs.lemmas.Bool.{lt-ltb}
 use mathlib.Core.Option.{none}
-use Rattle.atomic_table.specs.Table.{step, Allows}
+use Rattle.atomic_table.specs.Table.{step}
 use Rattle.hcc_word.specs.declared.layout.TheConstants.{ONE_RELEASE}
 use Rattle.hcc_word.proofs.StepLaws.{add_releases-shareable}
 use Rattle.hcc_core.specs.declared.event.Event.{Event}
@@ -37,9 +37,12 @@ use Rattle.hcc_rule.proofs.Basics.Lists.{within, read_at}
 use Rattle.hcc_rule.proofs.Parts.Codes.{is_near}
 use Rattle.hcc_rule.proofs.References.Looks.{client_fits}
 use Rattle.hcc_rule.proofs.Parts.OnEntries.{OnEntry, on_some, name_held, reference_there, code_there, dead_there}
-use Rattle.hcc_rule.proofs.References.Gives.{loses, loses_no_other, holds_less, weighs_less, references_told}
+use Rattle.hcc_rule.proofs.References.Gives.{loses, loses_no_other, holds_less, weighs_less, references_told, left_told}
 use Rattle.hcc_rule.proofs.Parts.SlotSteps.{Shard}
-use Rattle.hcc_rule.proofs.Parts.Touches.{by_client, touched, Goes, goes, client_is, live_is}
+use Rattle.hcc_rule.proofs.Parts.Touches.{by_client, touched, goes, client_is, live_is}
+use Rattle.hcc_rule.specs.Acts.{Acts, Goes}
+use Rattle.hcc_rule.specs.declared.view.Done.{Done}
+use Rattle.hcc_rule.specs.Events.{left_in, spend_done}
 
 -- a use is allowed where the client holds the name by a reference that counts
 use_allowed : (w : State) (c x i : ℕ) (found : Client) (t : Slot) (j : Reference) → Lawful w
@@ -61,15 +64,16 @@ use_allowed w c x i found t j l small holds at_slot counts at_client live =
 module _ {T : Type 0} (fits : T → Key → List ℕ → Type 0) (p : Plan T) where
   -- The reference becomes a use, and the view's record of it goes.
   spends_on : (s : Shard fits p) (r : Holds fits p s) (id i x a n : ℕ) (me : Held T) (q : Record)
-      (k : Resident) (then : ℕ → Held T → Type 0)
+      (k : Resident) (then : ℕ → Held T → Option Done → Type 0)
       → OnEntry fits p s r id i x me.0 q k → q.weight ≡ n → q.counting ≡ true → x < 2 ^ 64
       → a ≡ field_at p.geometry.room i META
       → (IsReferenced n (slice_index s.words a)
-      → then (slice_index s.words a) (after_give i x (slice_index s.words a) me.0, me.1))
-      → Goes fits p s a ((slice_index s.words a + n * ONE_RELEASE) % 2 ^ 64) id me then
+      → then (slice_index s.words a) (after_give i x (slice_index s.words a) me.0, me.1)
+      (Some (spend_done n x (slice_index s.words a) me.0)))
+      → Goes fits p s r a ((slice_index s.words a + n * ONE_RELEASE) % 2 ^ 64) id me then
   spends_on s r id i x a n me q k then o weighs counting small address told =
       goes fits p s r a ((word + n * ONE_RELEASE) % 2 ^ 64) id i me new t left event reply then
-      address code
+      address code (refl, refl)
       (touched fits p s r id i me.0 new t left event reply record {
         at_view = o.at_view;
         at_slot = o.at_slot;
@@ -89,7 +93,8 @@ module _ {T : Type 0} (fits : T → Key → List ℕ → Type 0) (p : Plan T) wh
         elsewhere = loses_no_other fits p s r id i x me.0 q k o new refl refl;
         holding = holds_less fits p s r id i x me.0 q k o new refl;
       })
-      (told (rw (← weighs) (references_told fits p s r id i x me.0 q k o word word_is)))
+      (rw answered
+      (told (rw (← weighs) (references_told fits p s r id i x me.0 q k o word word_is))))
     where
       l : Lawful r.world
       l = is_lawful r.world r.lawful
@@ -121,6 +126,10 @@ module _ {T : Type 0} (fits : T → Key → List ℕ → Type 0) (p : Plan T) wh
       word_is : word ≡ code_of t
       word_is = code_there fits p s r id i x me.0 q k o a address
 
+      -- the reply is what the word tells
+      answered : left_on left ≡ left_in n word
+      answered = rw (← weighs) (left_told fits p s r id i x me.0 q k o left word word_is refl refl)
+
       code : (word + n * ONE_RELEASE) % 2 ^ 64 ≡ code_of left
       code =
           let less = weighs_less fits p s r id i x me.0 q k o in
@@ -141,17 +150,17 @@ module _ {T : Type 0} (fits : T → Key → List ℕ → Type 0) (p : Plan T) wh
       → a ≡ field_at p.geometry.room i META
       → IsSomeAnd (record_in x me.0.records)
       (λ q. (q.slot ≡ i) × (q.weight ≡ n) × (q.counting ≡ true))
-      → Allows (Holds fits p) count id me a (λ y. (y + n * ONE_RELEASE) % 2 ^ 64)
+      → Acts fits p count id me a (λ y. (y + n * ONE_RELEASE) % 2 ^ 64)
       (spends i x (step count a (n * ONE_RELEASE) 0 none) me)
   spend_step count id i x a n me seated small address so s r homes at low =
       by (record_in x me.0.records) refl so
     where
-      then : ℕ → Held T → Type 0
+      then : ℕ → Held T → Option Done → Type 0
       then = spends i x (step count a (n * ONE_RELEASE) 0 none) me
 
       by : (found : Option Record) → record_in x me.0.records ≡ found
           → IsSomeAnd found (λ q. (q.slot ≡ i) × (q.weight ≡ n) × (q.counting ≡ true))
-          → Goes fits p s a ((slice_index s.words a + n * ONE_RELEASE) % 2 ^ 64) id me then
+          → Goes fits p s r a ((slice_index s.words a + n * ONE_RELEASE) % 2 ^ 64) id me then
       by None called so = absurd so
       by (Some q) called so =
           let there = on_some fits p s r id i x me.0 q (read_at s.views id me.0 at) seated called
@@ -162,4 +171,6 @@ module _ {T : Type 0} (fits : T → Key → List ℕ → Type 0) (p : Plan T) wh
             refl,
             let one : n * ONE_RELEASE / ONE_RELEASE ≡ n =
                 omega arith in rw one told,
+            let one : n * ONE_RELEASE / ONE_RELEASE ≡ n = omega arith in
+                ap (λ w. Some (spend_done w x (slice_index s.words a) me.0)) (sym one),
           ))

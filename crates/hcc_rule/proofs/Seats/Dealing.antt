@@ -5,6 +5,7 @@ use Rattle.atomic_table.specs.Seated.{TableId}
 use Rattle.hcc_core.proofs.SumLemmas.{length-push}
 use Rattle.hcc_rule.specs.declared.view.Other.{Other}
 use Rattle.hcc_rule.specs.declared.view.View.{View}
+use Rattle.hcc_rule.specs.Acts.{past}
 use Rattle.hcc_rule.specs.Opening.{fresh_view, unstarted}
 use Rattle.hcc_rule.specs.Passing.{left_view, right_view}
 use Rattle.hcc_rule.specs.Seats.{SeatOf, moves, steps, view, IsSameSeat, IsSeatOf}
@@ -28,6 +29,7 @@ module _ {T : Type 0} (id : TableId) (tag : T) (o : Other) (clients : ℕ) where
     pub view_is : view first ≡ fresh_view (Some tag) o (unstarted_from next clients)
     pub no_steps : steps first ≡ []
     pub unmoved : moves first ≡ 0
+    pub no_past : past first ≡ []
     pub count : length seats + 1 ≡ next
     pub low : next ≤ clients
     pub dealt_seats : AreNewSeats id tag 1 seats
@@ -47,8 +49,9 @@ module _ {T : Type 0} (id : TableId) (tag : T) (o : Other) (clients : ℕ) where
       → next < clients → IsSameSeat first later → view later ≡ left_view (view first)
       → IsSeatOf id tag seat → view seat ≡ right_view (view first)
       → steps later ≡ steps first → steps seat ≡ [] → moves later ≡ moves first → moves seat ≡ 0
+      → past later ≡ past first → past seat ≡ past first
       → Deals (next + 1) later (seats ++ seat ∷ [])
-  deal next first later seat seats d more same left new right kept none still unmoved =
+  deal next first later seat seats d more same left new right kept none still unmoved knows too =
       let others : (view first).others ≡ unstarted next ∷ unstarted_from (next + 1) clients =
       ap (λ (v : View T). v.others) d.view_is ∙ next_unstarted next clients more in
       let count = d.count in
@@ -61,6 +64,7 @@ module _ {T : Type 0} (id : TableId) (tag : T) (o : Other) (clients : ℕ) where
         view_is = rw (left, d.view_is, next_unstarted next clients more) refl;
         no_steps = kept ∙ d.no_steps;
         unmoved = still ∙ d.unmoved;
+        no_past = knows ∙ d.no_past;
         count = let push = length-push seats seat in omega arith;
         low = omega arith;
         dealt_seats = push_seat 1 seats seat d.dealt_seats record {
@@ -70,6 +74,7 @@ module _ {T : Type 0} (id : TableId) (tag : T) (o : Other) (clients : ℕ) where
               (let g : next ≡ 1 + length seats = omega arith in g));
           no_steps = none;
           unmoved = unmoved;
+          no_past = too ∙ d.no_past;
         };
       }
 
@@ -86,6 +91,7 @@ module _ {T : Type 0} (id : TableId) (tag : T) (o : Other) (clients : ℕ) where
               d.view_is ∙ ap (fresh_view (Some tag) o) none;
           no_steps = d.no_steps;
           unmoved = d.unmoved;
+          no_past = d.no_past;
         },
         d.dealt_seats,
       )

@@ -4,7 +4,6 @@ use Rattle.std.specs.Option.{unwrap_or}
 use Rattle.std.specs.List.{list_any}
 use Rattle.std.proofs.lemmas.Bool.{eq-eqb}
 use Rattle.std.proofs.lemmas.List.{length-set, length-append}
-use Rattle.atomic_table.specs.Table as table
 use Rattle.hcc_core.specs.declared.event.Event.TheVariants as events
 use Rattle.hcc_core.specs.declared.event.Reply.TheVariants as replies
 use Rattle.hcc_core.specs.declared.client.Client.{Client}
@@ -25,8 +24,10 @@ use Rattle.hcc_rule.specs.declared.view.Other.{Other}
 use Rattle.hcc_rule.specs.declared.view.View.{View}
 use Rattle.hcc_rule.specs.Views.{is_seated, held, names, named_by, Each}
 use Rattle.hcc_rule.specs.Rule.{book_of, IsDraft, IsHolding, IsNamed, IsSeated, Seats, Stamps, IsModest, Ledgers, Trails, resting, Holds}
+use Rattle.hcc_rule.specs.Acts.{did}
 use Rattle.hcc_rule.specs.Passing.{IsIdle, as_other, joined_view, spent_view}
-use Rattle.hcc_rule.proofs.Basics.Lists.{within, read_at, each_set, each_append}
+use Rattle.hcc_rule.proofs.Seats.Passes.{Passed, JoinsBy}
+use Rattle.hcc_rule.proofs.Basics.Lists.{within, each_set, each_append}
 use Rattle.hcc_rule.proofs.Parts.Clients.{held_count, no_client}
 use Rattle.hcc_rule.proofs.Parts.ViewParts.{when_few, names_own, unnamed, seated_else, others_else}
 use Rattle.hcc_rule.proofs.Parts.WorldParts.{hand_same}
@@ -318,11 +319,14 @@ module _ {T : Type 0} (fits : T → Key → List ℕ → Type 0) (p : Plan T) wh
           (omega arith));
     }
 
+    pub join_passes : Passed fits p r.world (did (events.End w.client) replies.Ok)
+        record { words = s.words; homes = s.homes; views = views }
+    unfolding join_holds
+    join_passes = (join_holds, (refl, ends))
+
+  -- Two seats that are joined keep the rule, and the second one's client ends.
   pub joins : (id other : ℕ) (v w : View T) → is_seated v ≡ true → is_seated w ≡ true
       → IsIdle w.work → w.records ≡ []
-      → table.Joins (Holds fits p) id v other w (joined_view v w) spent_view
+      → JoinsBy fits p id v other w (did (events.End w.client) replies.Ok)
   joins id other v w seated sits idle free s r at apart there =
-      join_holds s r id other v w (read_at s.views id v at) apart
-      (sym (read_other s.views id other (joined_view v w) apart)
-      ∙ read_at (slice_set s.views id (joined_view v w)) other w there)
-      seated sits idle free
+      join_passes s r id other v w at apart there seated sits idle free

@@ -1,30 +1,37 @@
--- Each step that keeps the rule on views keeps it on views beside the steps that were made: once
--- there is one, the rule says no more of the words than the views do.
+-- Each step that keeps the rule on views keeps it on views beside the steps that were made, and the
+-- history goes on by what it was: once there is a step, the rule says no more of the words than the
+-- views do.
 use prog.Atomic.{either}
-use mathlib.Core.Option.{Option}
-use Rattle.std.proofs.Common.{◌≡◌, ℕ, ◌+◌, ◌-◌, ◌%◌, ◌^◌, ◌==◌, bit_and, bit_or, ◌≤◌, true, false, is_some, Some, None, List, [], ◌∷◌, ◌++◌, length, map, option_map, slice_get, slice_index, slice_set, sym, refl, ap, ◌∙◌, subst, arith}
+use mathlib.Core.Option as maybe
+use Rattle.std.proofs.Common.{◌≡◌, ℕ, ◌+◌, ◌-◌, ◌%◌, ◌^◌, ◌==◌, bit_and, bit_or, ◌≤◌, true, false, is_some, Option, Some, None, List, [], ◌∷◌, ◌++◌, length, map, slice_get, slice_index, slice_set, sym, refl, ap, ◌∙◌, subst, arith}
 use Rattle.std.proofs.lemmas.List.{map-set, map-append}
-use Rattle.std.proofs.lemmas.Option.{slice_get-map}
 use Rattle.atomic_table.specs.Table as table
-use Rattle.atomic_table.specs.Table.{Allows, Act, Splits, Joins, Final, Seen}
-use Rattle.hcc_core.specs.Sums.{when, total}
-use Rattle.hcc_core.proofs.ListLemmas.{read_here}
+use Rattle.atomic_table.specs.Table.{Allows, Splits, Joins, Final, Seen}
+use Rattle.hcc_core.specs.Sums.{when}
+use Rattle.hcc_core.specs.World.{State}
+use Rattle.hcc_core.proofs.ListLemmas.{read_here, read_other}
 use Rattle.hcc_core.proofs.SumLemmas.{length-push, total-set, total-member}
 use Rattle.atomic_table.proofs.Lists.{at_map}
 use Rattle.hcc_rule.specs.declared.key.Key.{Key}
 use Rattle.hcc_rule.specs.declared.rule.Plan.{Plan}
+use Rattle.hcc_rule.specs.declared.view.Done.{Done}
 use Rattle.hcc_rule.specs.declared.view.Logged.{Logged}
+use Rattle.hcc_rule.specs.declared.view.Other.{Other}
 use Rattle.hcc_rule.specs.declared.view.View.{View}
+use Rattle.hcc_rule.specs.Acts.{Acts, Becomes, IsAllowed, IsRun, with_done}
 use Rattle.hcc_rule.specs.Logs.{Logs, HoldsLogged, known_of, unlogged}
+use Rattle.hcc_rule.specs.Opening.{begun_world}
 use Rattle.hcc_rule.specs.PassedLogs.{left_logged, right_logged, joined_logged, spent_logged}
-use Rattle.hcc_rule.specs.Passing.{left_view, right_view, joined_view, spent_view}
+use Rattle.hcc_rule.specs.Passing.{left_view, right_view, spent_view}
 use Rattle.hcc_rule.specs.Rule.{Holds}
 use Rattle.hcc_rule.specs.Seats.{atomic, moves_of}
 use Rattle.hcc_rule.specs.Told.{Held}
 use Rattle.hcc_rule.specs.Views.{is_seated, named_by}
 use Rattle.hcc_rule.proofs.Basics.Lists.{each_set, read_at}
-use Rattle.hcc_rule.proofs.Parts.Asides.{law_is}
+use Rattle.hcc_rule.proofs.Seats.Fronts.{Meets, fronts_after, join_fronts, join_known, known, known_at, named_all, names_same, names_two, split_fronts, split_known}
+use Rattle.hcc_rule.proofs.Seats.Histories.{follows_is, known_after, past_after, run_front, run_more, run_on}
 use Rattle.hcc_rule.proofs.Seats.Joins.{total_joined}
+use Rattle.hcc_rule.proofs.Seats.Passes.{JoinsBy, Passed, SplitsBy}
 use Rattle.hcc_rule.proofs.Seats.Splits.{each_snoc, total_split}
 
 -- what the atomic operations leave of a word; a load leaves it as it was
@@ -52,112 +59,139 @@ exchanged old new n = either (n == old) new n
 module _ {T : Type 0} (fits : T → Key → List ℕ → Type 0) (p : Plan T) where
   -- what a step tells of views
   abbrev Then : Type 1
-  Then = table.Step (Unit {0}) → Held T → ℕ → Held T → Type 0
+  Then = table.Step (Unit {0}) → Held T → ℕ → Held T → Option Done → Type 0
 
-  -- the view alone
-  abbrev known : Logged T → View T
-  known l = l.known
-
-  -- these words and views meet the rule
-  abbrev Meets : List ℕ → List (Option (Unit {0})) → List (View T) → Type 0
-  Meets words homes views = Holds fits p (record { words = words; homes = homes; views = views })
-
-  -- a seat with one step more: a view, and the step
-  abbrev seat_after : View T → table.Step (Unit {0}) → table.Me (Unit {0}) (Logged T) → ℕ → Logged T
-  seat_after v step me found = record me.0 {
+  -- a seat with one step more: a view, the step, and what it knows of the history
+  abbrev seat_after : View T → table.Step (Unit {0}) → table.Me (Unit {0}) (Logged T) → ℕ
+      → List Done → Logged T
+  seat_after v step me found past = record me.0 {
     known = v;
     steps = me.0.steps ++ atomic step.word step.first step.second found ∷ [];
+    past = past;
   }
-
-  -- the view of a seat, without its steps
-  pub known_at : (s : table.State (Unit {0}) (Logged T)) (j : ℕ) (l : Logged T)
-      → slice_get s.views j ≡ Some l → slice_get (unlogged s).views j ≡ Some l.known
-  known_at s j l at = slice_get-map known s.views j ∙ ap (λ o. option_map known o) at
 
   -- a seat that stands for no client has no steps
   abbrev Spent : Logged T → Type 0
   Spent l = l.known.tag ≡ None → moves_of l ≡ 0
 
-  -- all views name as many clients as the shard has
-  pub named_all : (s : table.State (Unit {0}) (View T)) → Holds fits p s
-      → total named_by s.views ≡ p.geometry.clients
-  named_all s r =
-      r.seats.all ∙ ((law_is fits p s r).sized.client_count ∙ ap (λ x. x.clients) r.setup)
-
-  -- so one that stood for a client names some after a step, and still stands for one
+  -- a seat that stood for a client names some after a step, and still stands for one
   still_seated : (s : table.State (Unit {0}) (View T)) (r : Holds fits p s) (words : List ℕ)
-      (homes : List (Option (Unit {0}))) (id : ℕ) (v w : View T) → slice_get s.views id ≡ Some v
-      → is_seated v ≡ true → Meets words homes (slice_set s.views id w) → w.tag ≡ None → 1 ≤ 0
+      (homes : List (maybe.Option (Unit {0}))) (id : ℕ) (v w : View T)
+      → slice_get s.views id ≡ Some v → is_seated v ≡ true
+      → Meets fits p words homes (slice_set s.views id w) → w.tag ≡ None → 1 ≤ 0
   still_seated s r words homes id v w at seated after none =
       let there = read_here s.views id v w at in
       let spent = (after.seats.each id w there).spent none in
       let nobody : named_by w ≡ 0 = rw (none, spent.1) refl in
       let one : when (is_seated v) 1 ≡ 1 = ap (λ b. when b 1) seated in
       let change = total-set named_by s.views id v w at in
-      let before = named_all s r in
-      let now = named_all _ after in
+      let before = named_all fits p s r in
+      let now = named_all fits p _ after in
       omega arith
 
-  -- a state of which one seat's view changed, without steps
-  set_known : (words : List ℕ) (s : table.State (Unit {0}) (Logged T))
-      (homes : List (Option (Unit {0}))) (id : ℕ) (w : Logged T)
-      → Meets words homes (slice_set (unlogged s).views id w.known)
-      → Meets words homes (map known (slice_set s.views id w))
-  set_known words s homes id w h =
-      subst (λ vs. Meets words homes vs) (sym (map-set known s.views id w)) h
+  -- they show the world to which a step leads
+  abbrev MeetsBy : ℕ → State → Option Done → List ℕ → List (maybe.Option (Unit {0})) → List (View T)
+      → Type 0
+  MeetsBy client world done words homes views =
+      Becomes fits p client world done (record { words = words; homes = homes; views = views })
 
   -- a seat's view changed, and it made one step more
-  stepped_logged : (s : table.State (Unit {0}) (Logged T)) → HoldsLogged fits p s
-      → (words : List ℕ) (homes : List (Option (Unit {0}))) (id : ℕ) (l w : Logged T)
+  pub stepped_logged : (s : table.State (Unit {0}) (Logged T)) → (holds : HoldsLogged fits p s)
+      → (words : List ℕ) (homes : List (maybe.Option (Unit {0}))) (id : ℕ) (l w : Logged T)
+      (done : Option Done)
       → slice_get s.views id ≡ Some l → is_seated l.known ≡ true → moves_of w ≡ moves_of l + 1
-      → Meets words homes (slice_set (unlogged s).views id w.known)
+      → w.past ≡ past_after holds.history done l
+      → MeetsBy l.known.client holds.rule.world done words homes
+      (slice_set (unlogged s).views id w.known)
       → HoldsLogged fits p
       (record { words = words; homes = homes; views = slice_set s.views id w })
-  stepped_logged s holds words homes id l w at seated one meets =
+  stepped_logged s holds words homes id l w done at seated one past becomes =
       let change = total-set moves_of s.views id l w at in
       let mine = total-member moves_of s.views id l at in
+      let now : MeetsBy l.known.client holds.rule.world done words homes
+      (map known (slice_set s.views id w)) =
+      subst (λ vs. MeetsBy l.known.client holds.rule.world done words homes vs)
+      (sym (map-set known s.views id w)) becomes in
+      let same = names_same fits p (unlogged s) holds.rule words homes id l.known w.known
+      (known_at fits p s id l at) becomes.0 in
       record {
-        rule = set_known words s homes id w meets;
+        rule = now.0;
         begins = λ none. absurd (omega arith);
         spent = each_set (λ j m. Spent m) s.views id w
             (λ none.
             let never = still_seated (unlogged s) holds.rule words homes id l.known w.known
-            (known_at s id l at) seated meets none in absurd (omega arith))
+            (known_at fits p s id l at) seated becomes.0 none in absurd (omega arith))
             (λ j m other there. holds.spent j m there);
+        history = with_done holds.history done;
+        run = run_on l.known.client (begun_world p) holds.rule.world now.0.world holds.history done
+            holds.run now.1;
+        fronts = fronts_after fits p s holds id l w at seated same now.0.world done now.1 past;
+        known = known_after holds.history s.views id l w done at past holds.known;
       }
+
+  -- the machine allows all that a seat knows
+  pub known_allowed : (s : table.State (Unit {0}) (Logged T)) → HoldsLogged fits p s → (j : ℕ)
+      (l : Logged T) → slice_get s.views j ≡ Some l → IsAllowed p l.past
+  known_allowed s holds j l at =
+      let front = holds.fronts j l at in
+      run_front (begun_world p) holds.rule.world l.past front.later
+      (subst (λ ds. IsRun (begun_world p) ds holds.rule.world) front.is holds.run)
 
   -- A step that leaves f of the word, and tells of `word` of it: the word itself, but at a store
   -- the one that it leaves.
   pub lifted : {then : Then} {step : table.Step (Unit {0})} {count id a : ℕ}
       {me : table.Me (Unit {0}) (Logged T)} (f word : ℕ → ℕ) → is_seated me.0.known ≡ true
-      → Allows (Holds fits p) count id (known_of me) a f (λ n. then step (known_of me) (word n))
-      → Allows (HoldsLogged fits p) count id me a f (λ n. Logs then step me (word n))
-  lifted {then} {step} {count} {id} {a} {me} f word seated allows s holds homes at low =
-      let given = allows (unlogged s) holds.rule homes (at_map known s.views id me.0 at) low in
-      let push = length-push me.0.steps
-      (atomic step.word step.first step.second (word (slice_index s.words a))) in
-      let w : Logged T = seat_after given.0 step me (word (slice_index s.words a)) in (
+      → Acts fits p count id (known_of me) a f (λ n. then step (known_of me) (word n))
+      → Allows (HoldsLogged fits p) count id me a f (λ n. Logs p then step me (word n))
+  lifted {then} {step} {count} {id} {a} {me} f word seated acts s holds homes at low =
+      let given = acts (unlogged s) holds.rule homes (at_map known s.views id me.0 at) low in
+      let here = read_at s.views id me.0 at in
+      let found : ℕ = word (slice_index s.words a) in
+      let push = length-push me.0.steps (atomic step.word step.first step.second found) in
+      let w : Logged T = seat_after given.0 step me found (past_after holds.history given.3 me.0)
+      in
+      let after = stepped_logged s holds _ _ id me.0 w given.3 here seated (omega arith) refl
+      given.4 in (
         w,
         given.1,
         given.2,
-        stepped_logged s holds _ _ id me.0 w (read_at s.views id me.0 at) seated (omega arith)
-            given.3,
-        record { told = given.4; logged_is = refl; one = length-push me.0.steps _ },
+        after,
+        record {
+          done = given.3;
+          told = given.5;
+          follows = follows_is p.geometry.clients holds.history given.3 me.0 w seated refl
+              (holds.fronts id me.0 here);
+          allowed = known_allowed _ after id w (read_here s.views id me.0 w here);
+          logged_is = refl;
+          one = push;
+        },
       )
 
   -- A seat that is split.
-  pub splits_logged : (id : ℕ) (l : Logged T)
-      → Splits (Holds fits p) id l.known (left_view l.known) (right_view l.known)
+  pub splits_logged : (id : ℕ) (l : Logged T) (o : Other) (os : List Other) (done : Done)
+      → is_seated l.known ≡ true → l.known.others ≡ o ∷ os
+      → SplitsBy fits p id l.known done
       → Splits (HoldsLogged fits p) id l (left_logged l) (right_logged l)
-  splits_logged id l splits s holds at =
+  splits_logged id l o os done seated another splits s holds at =
       let views : map known (slice_set s.views id (left_logged l) ++ right_logged l ∷ [])
       ≡ slice_set (map known s.views) id (left_view l.known) ++ right_view l.known ∷ [] =
       map-append known (slice_set s.views id (left_logged l)) (right_logged l ∷ [])
       ∙ ap (λ vs. vs ++ right_view l.known ∷ []) (map-set known s.views id (left_logged l)) in
       let here = read_at s.views id l at in
+      let passed = splits (unlogged s) holds.rule (known_at fits p s id l here) in
+      let now : Passed fits p holds.rule.world done
+      (record {
+        words = s.words;
+        homes = s.homes;
+        views = map known
+            (slice_set s.views id (left_logged l) ++ right_logged l ∷ []);
+      }) =
+      subst (λ vs. Passed fits p holds.rule.world done
+      (record { words = s.words; homes = s.homes; views = vs })) (sym views) passed in
+      let two = names_two fits p (unlogged s) holds.rule id l.known o os
+      (known_at fits p s id l here) seated another in
       record {
-        rule = subst (λ vs. Meets s.words s.homes vs) (sym views)
-            (splits (unlogged s) holds.rule (at_map known s.views id l at));
+        rule = now.0;
         begins = λ none.
             let same = total_split moves_of s.views id l (left_logged l) (right_logged l) here
             (let g : length l.steps + l.taken_in + 0 ≡ length l.steps + l.taken_in = omega arith
@@ -167,13 +201,18 @@ module _ {T : Type 0} (fits : T → Key → List ℕ → Type 0) (p : Plan T) wh
             (λ none. refl)
             (each_set (λ j m. Spent m) s.views id (left_logged l) (holds.spent id l here)
             (λ j m other there. holds.spent j m there));
+        history = holds.history ++ done ∷ [];
+        run = run_more done holds.rule.world now.0.world holds.history (begun_world p) holds.run
+            now.1.1;
+        fronts = split_fronts fits p s holds id l done here seated now.1.0 two;
+        known = split_known fits p s holds id l done here now.1.0;
       }
 
   -- Two seats that are joined.
-  pub joins_logged : (id other : ℕ) (l m : Logged T) → is_seated l.known ≡ true
-      → Joins (Holds fits p) id l.known other m.known (joined_view l.known m.known) spent_view
+  pub joins_logged : (id other : ℕ) (l m : Logged T) (done : Done) → is_seated l.known ≡ true
+      → is_seated m.known ≡ true → JoinsBy fits p id l.known other m.known done
       → Joins (HoldsLogged fits p) id l other m (joined_logged l m) spent_logged
-  joins_logged id other l m seated joins s holds at apart there =
+  joins_logged id other l m done seated sits joins s holds at apart there =
       let both : Logged T = joined_logged l m in
       let one : map known (slice_set s.views id both)
       ≡ slice_set (map known s.views) id both.known =
@@ -182,21 +221,36 @@ module _ {T : Type 0} (fits : T → Key → List ℕ → Type 0) (p : Plan T) wh
       ≡ slice_set (slice_set (map known s.views) id both.known) other spent_view =
       map-set known (slice_set s.views id both) other spent_logged
       ∙ ap (λ vs. slice_set vs other spent_view) one in
-      let there_known = at_map known (slice_set s.views id both) other m there in
       let here = read_at s.views id l at in
+      let after = read_at (slice_set s.views id both) other m there in
+      let before = sym (read_other s.views id other both apart) ∙ after in
+      let passed = joins (unlogged s) holds.rule (known_at fits p s id l here) apart
+      (known_at fits p s other m before) in
+      let now : Passed fits p holds.rule.world done
+      (record {
+        words = s.words;
+        homes = s.homes;
+        views = map known
+            (slice_set (slice_set s.views id both) other spent_logged);
+      }) =
+      subst (λ vs. Passed fits p holds.rule.world done
+      (record { words = s.words; homes = s.homes; views = vs })) (sym views) passed in
       record {
-        rule = subst (λ vs. Meets s.words s.homes vs) (sym views)
-            (joins (unlogged s) holds.rule (at_map known s.views id l at) apart
-            (rw one at there_known));
+        rule = now.0;
         begins = λ none.
-            let same = total_joined moves_of s.views id other l m both spent_logged here
-            (read_at (slice_set s.views id both) other m there) (omega arith) in
+            let same = total_joined moves_of s.views id other l m both spent_logged here after
+            (omega arith) in
             holds.begins (sym same ∙ none);
         spent = each_set (λ j o. Spent o) (slice_set s.views id both) other spent_logged
             (λ none. refl)
             (λ j o apart. each_set (λ j o. Spent o) s.views id both
             (λ none. let bad : is_seated l.known ≡ false = ap is_some none in cc)
             (λ j o other there. holds.spent j o there) j o);
+        history = holds.history ++ done ∷ [];
+        run = run_more done holds.rule.world now.0.world holds.history (begun_world p) holds.run
+            now.1.1;
+        fronts = join_fronts fits p s holds id other l m here apart before seated sits done now.1.0;
+        known = join_known fits p s holds id other l m here apart before seated sits done now.1.0;
       }
 
   -- The last state, without steps.

@@ -33,12 +33,14 @@ use Rattle.hcc_rule.specs.Probes.{probe_slot, probe_slots, before, trail_to}
 use Rattle.hcc_rule.specs.Views.{Each}
 use Rattle.hcc_rule.specs.Rule.{Books, book_of, made_at, entry_by, entry_in, setup_of, IsStored, IsDraft, IsHolding, IsNamed, IsRight, IsSeated, Seats, Stamps, Ledgers, Trails, IsTrailed, IsModest, Holds}
 use Rattle.hcc_rule.specs.Words.{entry_of}
+use Rattle.hcc_rule.specs.Acts.{IsFront}
 use Rattle.hcc_rule.specs.Logs.{HoldsLogged, first_logged}
-use Rattle.hcc_rule.specs.Opening.{started, unstarted, opening_view}
+use Rattle.hcc_rule.specs.Opening.{begun_world, started, unstarted, opening_view}
 use Rattle.hcc_rule.specs.Seats.{moves_of}
 use Rattle.hcc_rule.proofs.Basics.Bounds.{total-bound}
 use Rattle.hcc_rule.proofs.Basics.Lists.{each_set, within}
 use Rattle.hcc_rule.proofs.Parts.ViewParts.{when_is}
+use Rattle.hcc_rule.proofs.Seats.Histories.{front_all}
 use Rattle.hcc_rule.proofs.Images.Fillings.{each_get, made_length, made_get, made_only, filled_length, filled_each, filled_total, read_with}
 
 -- a list of one member over and over has it at each place
@@ -216,12 +218,7 @@ module _ {T : Type 0} (fits : T → Key → List ℕ → Type 0) (p : Plan T) (c
 
   -- the world of the entries, with client 0 started
   abbrev first_world : State
-  first_world = record {
-    setup = setup_of p;
-    slots = first_slots;
-    clients = first_clients;
-    hand = 0;
-  }
+  first_world = begun_world p
 
   entry_is : (k : ℕ) (e : ImageEntry) → slice_get entries k ≡ Some e
       → IsImageEntry fits p.tag p.geometry.room e
@@ -346,7 +343,7 @@ module _ {T : Type 0} (fits : T → Key → List ℕ → Type 0) (p : Plan T) (c
         omega arith;
   }
 
-  first_lawful : IsLawful first_world
+  pub first_lawful : IsLawful first_world
   first_lawful = lawful_is first_world record {
     sized = record {
       few_slots = can.slots;
@@ -515,8 +512,21 @@ module _ {T : Type 0} (fits : T → Key → List ℕ → Type 0) (p : Plan T) (c
 
     -- So a shard may begin with them: no step was made.
     pub opens_logged : HoldsLogged fits p (opening words [] (first_logged p))
+    unfolding opens_rule
     opens_logged = record {
       rule = opens_rule;
       begins = λ none. begins;
       spent = only (λ l. l.known.tag ≡ None → moves_of l ≡ 0) (first_logged p) (λ none. refl);
+      history = [];
+      run = refl;
+      fronts = only (IsFront p.geometry.clients []) (first_logged p)
+          (front_all p.geometry.clients [] (first_logged p) refl);
+      known = record {
+        number = 0;
+        seat = first_logged p;
+        there = refl;
+        later = [];
+        is = refl;
+        still = tt;
+      };
     }

@@ -3,7 +3,6 @@ use Rattle.std.proofs.Common.{◌≡◌, ℕ, zero, suc, ◌+◌, ◌≢◌, ◌
 use Rattle.std.specs.Option.{unwrap_or}
 use Rattle.std.proofs.lemmas.Bool.{eq-eqb}
 use Rattle.std.proofs.lemmas.List.{length-set}
-use Rattle.atomic_table.specs.Table as table
 use Rattle.hcc_core.specs.declared.event.Event.TheVariants as events
 use Rattle.hcc_core.specs.declared.event.Reply.TheVariants as replies
 use Rattle.hcc_core.specs.declared.client.Client.{Client}
@@ -22,8 +21,9 @@ use Rattle.hcc_rule.specs.declared.view.View.{View}
 use Rattle.hcc_rule.specs.Views.{is_seated, held, names, named_by, Each}
 use Rattle.hcc_rule.specs.Rule.{book_of, IsDraft, IsHolding, IsNamed, IsSeated, Seats, Stamps, IsModest, Ledgers, Trails, resting, Holds}
 use Rattle.hcc_rule.specs.Opening.{started, fresh_view}
-use Rattle.hcc_rule.specs.Passing.{left_view, right_view}
-use Rattle.hcc_rule.proofs.Basics.Lists.{within, read_at, each_set}
+use Rattle.hcc_rule.specs.Acts.{did}
+use Rattle.hcc_rule.proofs.Seats.Passes.{Passed, SplitsBy}
+use Rattle.hcc_rule.proofs.Basics.Lists.{within, each_set}
 use Rattle.hcc_rule.proofs.Parts.ViewParts.{total-two, when_few, when_is, seated_else, others_else}
 use Rattle.hcc_rule.proofs.Parts.WorldParts.{hand_same}
 use Rattle.hcc_rule.proofs.References.Looks.{client_fits}
@@ -283,8 +283,14 @@ module _ {T : Type 0} (fits : T → Key → List ℕ → Type 0) (p : Plan T) wh
           (total_split (λ (u : View T). u.turns) s.views id v left right at (omega arith));
     }
 
+    pub split_passes : Passed fits p r.world (did (events.Start o.client) replies.Ok)
+        record { words = s.words; homes = s.homes; views = views }
+    unfolding split_holds
+    split_passes = (split_holds, (refl, starts))
+
+  -- A seat that is split keeps the rule, and its first other client starts.
   pub splits : (id : ℕ) (v : View T) (tag : T) (o : Other) (os : List Other)
       → v.tag ≡ Some tag → v.others ≡ o ∷ os
-      → table.Splits (Holds fits p) id v (left_view v) (right_view v)
+      → SplitsBy fits p id v (did (events.Start o.client) replies.Ok)
   splits id v tag o os tagged named s r at =
-      rw named (split_holds s r id v tag o os (read_at s.views id v at) tagged named)
+      rw named (split_passes s r id v tag o os at tagged named)

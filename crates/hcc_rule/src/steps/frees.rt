@@ -1,10 +1,11 @@
 //! The compare-exchange that takes an entry to free it.
-ghost use Rattle.std.specs.Prelude.{◌≡◌, ◌+◌, ◌^◌, ◌<◌, ◌≤◌, [], true};
+ghost use Rattle.std.specs.Prelude.{◌≡◌, ◌+◌, ◌-◌, ◌^◌, ◌<◌, ◌≤◌, [], true};
 ghost use Rattle.hcc_word.specs.declared.layout.TheConstants.{CONSTRUCTION_WORD};
 ghost use Rattle.hcc_word.specs.Word.{is_shareable};
 ghost use Rattle.hcc_core.specs.World.{owns_nothing};
-ghost use Rattle.hcc_rule.specs.Callers.{IsSeatAt};
+ghost use Rattle.hcc_rule.specs.Callers.{IsEvent, IsSeatAt};
 ghost use Rattle.hcc_rule.specs.Addresses.{address_of_meta};
+ghost use Rattle.hcc_rule.specs.Events.{free_done};
 ghost use Rattle.hcc_rule.specs.Seats.{IsSameSeat, Makes, view};
 ghost use Rattle.hcc_rule.specs.ToldOwners.{IsLast, Freed};
 
@@ -36,6 +37,9 @@ impl<T: Tag, A: Allocator> RuleTable<T, A> {
         ensures view { Freed T.fits self.now.geometry.slots self.now.geometry.room slot old result
             name (view seat.old) (view seat.new) }
         ensures step { Makes (address_of_meta self.now slot) old CONSTRUCTION_WORD result
+            seat.old seat.new }
+        ensures event { IsEvent self.now (free_done slot name old result
+            ((view seat.new).work.freed - (view seat.old).work.freed) (view seat.old))
             seat.old seat.new }
     {
         let address = self.address(slot, META);

@@ -2,23 +2,24 @@
 ghost use Rattle.std.specs.Prelude.{◌≡◌};
 ghost use Rattle.hcc_core.specs.declared.limits.TheConstants.{SLOTS_PER_TURN};
 ghost use Rattle.hcc_rule.specs.declared.layout.TheConstants.{HAND};
-ghost use Rattle.hcc_rule.specs.Callers.{IsSeatAt};
+ghost use Rattle.hcc_rule.specs.Callers.{IsEvent, IsSeatAt};
 ghost use Rattle.hcc_rule.specs.Addresses.{address_of_ledger};
+ghost use Rattle.hcc_rule.specs.Events.{turn_done};
 ghost use Rattle.hcc_rule.specs.Seats.{IsSameSeat, Makes, view};
 ghost use Rattle.hcc_rule.specs.ToldLedgers.{after_turn};
 
 use crate::key::Tag;
 use crate::layout::HAND;
+use crate::steps::said::Does;
 use crate::table::{RuleSeat, RuleTable};
 use crate::view::View;
-use atomic_table::Play;
 use hcc_core::limits::SLOTS_PER_TURN;
 use std::alloc::Allocator;
 
 /// What a turn of the hand shows.
 pub struct Turn;
 
-impl<T: Tag> Play<(), View<T>> for Turn {
+impl<T: Tag> Does<View<T>> for Turn {
     ghost use Rattle.hcc_rule.specs.ToldLedgers.{turns};
 
     ghost then = { turns };
@@ -35,6 +36,8 @@ impl<T: Tag, A: Allocator> RuleTable<T, A> {
         ensures seat { IsSameSeat seat.old seat.new }
         ensures view { view seat.new ≡ after_turn (view seat.old) }
         ensures step { Makes (address_of_ledger self.now HAND) SLOTS_PER_TURN 0 result
+            seat.old seat.new }
+        ensures event { IsEvent self.now (turn_done result (view seat.old))
             seat.old seat.new }
     {
         self.fetch_add::<Turn, _>(seat, self.ledger(HAND), SLOTS_PER_TURN, ())

@@ -4,8 +4,9 @@ ghost use Rattle.hcc_core.specs.Lawful.{real_to};
 ghost use Rattle.hcc_core.specs.World.{charged_to};
 ghost use Rattle.hcc_rule.specs.declared.layout.TheConstants.{LEDGER_WORDS, USAGE};
 ghost use Rattle.hcc_rule.specs.declared.view.Record.{Record};
-ghost use Rattle.hcc_rule.specs.Callers.{capacity_of, clients_of, is_strict, plan_of, IsSeatAt};
+ghost use Rattle.hcc_rule.specs.Callers.{capacity_of, clients_of, is_strict, plan_of, IsEvent, IsSeatAt};
 ghost use Rattle.hcc_rule.specs.Addresses.{address_of_ledger};
+ghost use Rattle.hcc_rule.specs.Events.{charge_done, settle_done, usage_done, waive_done};
 ghost use Rattle.hcc_rule.specs.Rule.{setup_of};
 ghost use Rattle.hcc_rule.specs.Seats.{IsSameSeat, Makes, MakesSome, view};
 ghost use Rattle.hcc_rule.specs.ToldLedgers.{Charged, after_usage, after_charge, after_settle, after_waive, waived};
@@ -15,16 +16,16 @@ ghost use Rattle.hcc_rule.specs.Words.{ledger_at};
 
 use crate::key::Tag;
 use crate::layout::USAGE;
+use crate::steps::said::Does;
 use crate::table::{RuleSeat, RuleTable};
 use crate::view::View;
-use atomic_table::Play;
 use std::alloc::Allocator;
 use std::marker::Brand;
 
 /// What a subtraction of the freed charge shows.
 pub struct Settle;
 
-impl<T: Tag> Play<(), View<T>> for Settle {
+impl<T: Tag> Does<View<T>> for Settle {
     ghost use Rattle.hcc_rule.specs.ToldLedgers.{settles};
 
     ghost then = { settles };
@@ -33,7 +34,7 @@ impl<T: Tag> Play<(), View<T>> for Settle {
 /// What a subtraction of all of a client's amounts shows.
 pub struct Waive;
 
-impl<T: Tag> Play<(), View<T>> for Waive {
+impl<T: Tag> Does<View<T>> for Waive {
     ghost use Rattle.hcc_rule.specs.ToldLedgers.{waives};
 
     ghost then = { waives };
@@ -77,6 +78,8 @@ impl<T: Tag, A: Allocator> RuleTable<T, A> {
             → result ≤ capacity_of self.now + (view seat.old).work.needed + 2 ^ 32
             * (clients_of self.now - 1) }
         ensures step { Makes (address_of_ledger self.now USAGE) 0 0 result seat.old seat.new }
+        ensures event { IsEvent self.now (usage_done result (view seat.old))
+            seat.old seat.new }
     {
         self.load::<Brand, _>(seat, self.ledger(USAGE), ())
     }
@@ -105,6 +108,9 @@ impl<T: Tag, A: Allocator> RuleTable<T, A> {
         ensures most { is_strict self.now ≡ true
             → result ≤ capacity_of self.now + 2 ^ 32 * (clients_of self.now - 1) }
         ensures step { Makes (address_of_ledger self.now USAGE) amount 0 result seat.old seat.new }
+        ensures event { IsEvent self.now (charge_done (setup_of (plan_of self.now)) amount result
+            (view seat.old))
+            seat.old seat.new }
     {
         self.fetch_add::<Brand, _>(seat, self.ledger(USAGE), amount as u64, ())
     }
@@ -120,6 +126,8 @@ impl<T: Tag, A: Allocator> RuleTable<T, A> {
         ensures seat { IsSameSeat seat.old seat.new }
         ensures view { view seat.new ≡ after_settle (view seat.old) }
         ensures step { MakesSome (address_of_ledger self.now USAGE) amount 0 seat.old seat.new }
+        ensures event { IsEvent self.now (settle_done (view seat.old))
+            seat.old seat.new }
     {
         self.fetch_sub::<Settle, _>(seat, self.ledger(USAGE), amount, ());
     }
@@ -134,6 +142,8 @@ impl<T: Tag, A: Allocator> RuleTable<T, A> {
         ensures seat { IsSameSeat seat.old seat.new }
         ensures view { view seat.new ≡ after_waive (view seat.old) }
         ensures step { MakesSome (address_of_ledger self.now USAGE) amount 0 seat.old seat.new }
+        ensures event { IsEvent self.now (waive_done (view seat.old))
+            seat.old seat.new }
     {
         self.fetch_sub::<Waive, _>(seat, self.ledger(USAGE), amount, ());
     }

@@ -1,7 +1,8 @@
 //! Loads of meta words.
 ghost use Rattle.std.specs.Prelude.{◌≡◌, ◌<◌};
-ghost use Rattle.hcc_rule.specs.Callers.{plan_of, IsSeatAt};
+ghost use Rattle.hcc_rule.specs.Callers.{plan_of, IsEvent, IsSeatAt};
 ghost use Rattle.hcc_rule.specs.Addresses.{address_of_meta};
+ghost use Rattle.hcc_rule.specs.Events.{look_done};
 ghost use Rattle.hcc_rule.specs.Rule.{setup_of};
 ghost use Rattle.hcc_rule.specs.Seats.{IsSameSeat, Makes, view};
 ghost use Rattle.hcc_rule.specs.Looked.{after_look, HoldsAll, Backs};
@@ -28,6 +29,8 @@ impl<T: Tag, A: Allocator> RuleTable<T, A> {
         ensures backs { Backs slot result (view seat.old) }
         ensures alone { HoldsAll (setup_of (plan_of self.now)) slot result (view seat.old) }
         ensures step { Makes (address_of_meta self.now slot) 0 0 result seat.old seat.new }
+        ensures event { IsEvent self.now (look_done slot result (view seat.old))
+            seat.old seat.new }
     {
         self.load::<Brand, _>(seat, self.address(slot, META), slot)
     }

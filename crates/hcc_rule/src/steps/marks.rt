@@ -3,8 +3,9 @@ ghost use Rattle.std.specs.Prelude.{◌≡◌, ◌<◌, true, false, IsSomeAnd};
 ghost use Rattle.hcc_word.specs.declared.layout.TheConstants.{HIDING_MASK, HIT_BIT};
 ghost use Rattle.hcc_word.specs.Word.{is_shareable};
 ghost use Rattle.hcc_word.specs.Changes.{IsClockable, clocked_word, IsCorrectable, corrected_word};
-ghost use Rattle.hcc_rule.specs.Callers.{IsSeatAt};
+ghost use Rattle.hcc_rule.specs.Callers.{IsEvent, IsSeatAt};
 ghost use Rattle.hcc_rule.specs.Addresses.{address_of_meta};
+ghost use Rattle.hcc_rule.specs.Events.{clock_done, correct_done, hide_done, mark_done};
 ghost use Rattle.hcc_rule.specs.Seats.{IsSameSeat, Makes, view};
 ghost use Rattle.hcc_rule.specs.Looked.{noticing};
 ghost use Rattle.hcc_rule.specs.Records.{record_in};
@@ -33,6 +34,8 @@ impl<T: Tag, A: Allocator> RuleTable<T, A> {
         ensures entry { is_shareable result ≡ true }
         ensures step { Makes (address_of_meta self.now slot) HIDING_MASK 0 result
             seat.old seat.new }
+        ensures event { IsEvent self.now (hide_done name result (view seat.old))
+            seat.old seat.new }
     {
         self.fetch_and::<Brand, _>(seat, self.address(slot, META), HIDING_MASK, name)
     }
@@ -50,8 +53,10 @@ impl<T: Tag, A: Allocator> RuleTable<T, A> {
         ensures view { view seat.new ≡ noticing slot result (view seat.old) }
         ensures entry { is_shareable result ≡ true }
         ensures step { Makes (address_of_meta self.now slot) HIT_BIT 0 result seat.old seat.new }
+        ensures event { IsEvent self.now (mark_done name (view seat.old))
+            seat.old seat.new }
     {
-        self.fetch_or::<Brand, _>(seat, self.address(slot, META), HIT_BIT, slot)
+        self.fetch_or::<Brand, _>(seat, self.address(slot, META), HIT_BIT, (slot, name))
     }
 
     /// Tries to count a visible entry with no references and a countdown above 0 down by one, and
@@ -68,6 +73,8 @@ impl<T: Tag, A: Allocator> RuleTable<T, A> {
         ensures seat { IsSameSeat seat.old seat.new }
         ensures view { view seat.new ≡ after_clock slot old result (view seat.old) }
         ensures step { Makes (address_of_meta self.now slot) old new result seat.old seat.new }
+        ensures event { IsEvent self.now (clock_done slot old new result (view seat.old))
+            seat.old seat.new }
     {
         self.compare_exchange::<Brand, _>(seat, self.address(slot, META), old, new, slot)
     }
@@ -89,6 +96,8 @@ impl<T: Tag, A: Allocator> RuleTable<T, A> {
         ensures seat { IsSameSeat seat.old seat.new }
         ensures view { view seat.new ≡ after_correct slot old result (view seat.old) }
         ensures step { Makes (address_of_meta self.now slot) old new result seat.old seat.new }
+        ensures event { IsEvent self.now (correct_done slot name old result (view seat.old))
+            seat.old seat.new }
     {
         self.compare_exchange::<Brand, _>(seat, self.address(slot, META), old, new, (slot, name))
     }

@@ -3,8 +3,9 @@ ghost use Rattle.std.specs.Prelude.{◌≡◌, ◌+◌, ◌<◌, ◌≤◌, true
 ghost use Rattle.hcc_core.specs.declared.client.Place.TheVariants.{Absent};
 ghost use Rattle.hcc_core.specs.World.{occupied_by, is_placed, limit_of};
 ghost use Rattle.hcc_rule.specs.declared.layout.TheConstants.{OCCUPANCY};
-ghost use Rattle.hcc_rule.specs.Callers.{plan_of, IsSeatAt};
+ghost use Rattle.hcc_rule.specs.Callers.{plan_of, IsEvent, IsSeatAt};
 ghost use Rattle.hcc_rule.specs.Addresses.{address_of_ledger};
+ghost use Rattle.hcc_rule.specs.Events.{enter_done, occupancy_done, quit_done, slots_done};
 ghost use Rattle.hcc_rule.specs.Rule.{setup_of};
 ghost use Rattle.hcc_rule.specs.Seats.{IsSameSeat, Makes, MakesSome, view};
 ghost use Rattle.hcc_rule.specs.ToldLedgers.{after_enter, after_slots, after_quit};
@@ -12,16 +13,16 @@ ghost use Rattle.hcc_rule.specs.Records.{different};
 
 use crate::key::Tag;
 use crate::layout::OCCUPANCY;
+use crate::steps::said::Does;
 use crate::table::{RuleSeat, RuleTable};
 use crate::view::View;
-use atomic_table::Play;
 use std::alloc::Allocator;
 use std::marker::Brand;
 
 /// What a subtraction of the freed slots shows.
 pub struct GiveSlots;
 
-impl<T: Tag> Play<(), View<T>> for GiveSlots {
+impl<T: Tag> Does<View<T>> for GiveSlots {
     ghost use Rattle.hcc_rule.specs.ToldLedgers.{gives_slots};
 
     ghost then = { gives_slots };
@@ -30,7 +31,7 @@ impl<T: Tag> Play<(), View<T>> for GiveSlots {
 /// What a subtraction of a place and of the freed slots shows.
 pub struct Quit;
 
-impl<T: Tag> Play<(), View<T>> for Quit {
+impl<T: Tag> Does<View<T>> for Quit {
     ghost use Rattle.hcc_rule.specs.ToldLedgers.{quits};
 
     ghost then = { quits };
@@ -56,6 +57,8 @@ impl<T: Tag, A: Allocator> RuleTable<T, A> {
             → result + (view seat.old).takings
             ≡ length (view seat.old).made + occupied_by (view seat.old).work }
         ensures step { Makes (address_of_ledger self.now OCCUPANCY) 0 0 result seat.old seat.new }
+        ensures event { IsEvent self.now (occupancy_done result (view seat.old))
+            seat.old seat.new }
     {
         self.load::<Brand, _>(seat, self.ledger(OCCUPANCY), ())
     }
@@ -81,6 +84,8 @@ impl<T: Tag, A: Allocator> RuleTable<T, A> {
             → result + (view seat.old).takings
             ≡ length (view seat.old).made + occupied_by (view seat.old).work }
         ensures step { Makes (address_of_ledger self.now OCCUPANCY) 1 0 result seat.old seat.new }
+        ensures event { IsEvent self.now (enter_done (setup_of (plan_of self.now)) result
+            (view seat.old)) seat.old seat.new }
     {
         self.fetch_add::<Brand, _>(seat, self.ledger(OCCUPANCY), 1, ())
     }
@@ -95,6 +100,8 @@ impl<T: Tag, A: Allocator> RuleTable<T, A> {
         ensures seat { IsSameSeat seat.old seat.new }
         ensures view { view seat.new ≡ after_slots (view seat.old) }
         ensures step { MakesSome (address_of_ledger self.now OCCUPANCY) count 0 seat.old seat.new }
+        ensures event { IsEvent self.now (slots_done (view seat.old))
+            seat.old seat.new }
     {
         self.fetch_sub::<GiveSlots, _>(seat, self.ledger(OCCUPANCY), count, ());
     }
@@ -110,6 +117,8 @@ impl<T: Tag, A: Allocator> RuleTable<T, A> {
         ensures seat { IsSameSeat seat.old seat.new }
         ensures view { view seat.new ≡ after_quit (view seat.old) }
         ensures step { MakesSome (address_of_ledger self.now OCCUPANCY) count 0 seat.old seat.new }
+        ensures event { IsEvent self.now (quit_done (view seat.old))
+            seat.old seat.new }
     {
         self.fetch_sub::<Quit, _>(seat, self.ledger(OCCUPANCY), count, ());
     }

@@ -4,8 +4,9 @@ ghost use Rattle.hcc_word.specs.declared.layout.TheConstants.{EMPTY_WORD, OCCUPI
 ghost use Rattle.hcc_core.specs.declared.client.Owned.TheVariants.{ForBuilding, ForFreeing};
 ghost use Rattle.hcc_core.specs.World.{owns_nothing};
 ghost use Rattle.hcc_rule.specs.declared.layout.TheConstants.{DATA, PAYLOAD};
-ghost use Rattle.hcc_rule.specs.Callers.{IsSeatAt};
+ghost use Rattle.hcc_rule.specs.Callers.{IsEvent, IsSeatAt};
 ghost use Rattle.hcc_rule.specs.Addresses.{address_of_data, address_of_meta};
+ghost use Rattle.hcc_rule.specs.Events.{empty_done, occupy_done, write_done};
 ghost use Rattle.hcc_rule.specs.Seats.{IsSameSeat, Makes, view};
 ghost use Rattle.hcc_rule.specs.Looked.{Backs};
 ghost use Rattle.hcc_rule.specs.ToldOwners.{after_occupy, after_empty, after_write};
@@ -13,9 +14,9 @@ ghost use Rattle.hcc_rule.specs.Words.{field_at};
 
 use crate::key::Tag;
 use crate::layout::META;
+use crate::steps::said::Does;
 use crate::table::{RuleSeat, RuleTable};
 use crate::view::View;
-use atomic_table::Play;
 use hcc_word::layout::{EMPTY_WORD, OCCUPIED_BIT};
 use std::alloc::Allocator;
 use std::marker::Brand;
@@ -23,7 +24,7 @@ use std::marker::Brand;
 /// What a store of a data word shows.
 pub struct Write;
 
-impl<T: Tag> Play<(), View<T>> for Write {
+impl<T: Tag> Does<View<T>> for Write {
     ghost use Rattle.hcc_rule.specs.ToldOwners.{writes};
 
     ghost then = { writes };
@@ -32,7 +33,7 @@ impl<T: Tag> Play<(), View<T>> for Write {
 /// What the store that empties a slot shows.
 pub struct Empty;
 
-impl<T: Tag> Play<(), View<T>> for Empty {
+impl<T: Tag> Does<View<T>> for Empty {
     ghost use Rattle.hcc_rule.specs.ToldOwners.{empties};
 
     ghost then = { empties };
@@ -53,6 +54,8 @@ impl<T: Tag, A: Allocator> RuleTable<T, A> {
         ensures backs { Backs slot result (view seat.old) }
         ensures step { Makes (address_of_meta self.now slot) OCCUPIED_BIT 0 result
             seat.old seat.new }
+        ensures event { IsEvent self.now (occupy_done slot result (view seat.old))
+            seat.old seat.new }
     {
         self.fetch_or::<Brand, _>(seat, self.address(slot, META), OCCUPIED_BIT, slot)
     }
@@ -71,6 +74,8 @@ impl<T: Tag, A: Allocator> RuleTable<T, A> {
         ensures seat { IsSameSeat seat.old seat.new }
         ensures view { view seat.new ≡ after_write word (view seat.old) }
         ensures step { Makes (address_of_data self.now slot index) word 0 word seat.old seat.new }
+        ensures event { IsEvent self.now (write_done (view seat.old))
+            seat.old seat.new }
     {
         self.write_at(seat, slot, self.data_of(slot), index, word);
     }
@@ -86,6 +91,8 @@ impl<T: Tag, A: Allocator> RuleTable<T, A> {
         ensures seat { IsSameSeat seat.old seat.new }
         ensures view { view seat.new ≡ after_write word (view seat.old) }
         ensures step { Makes (address_of_data self.now slot index) word 0 word seat.old seat.new }
+        ensures event { IsEvent self.now (write_done (view seat.old))
+            seat.old seat.new }
     {
         self.store::<Write, _>(seat, self.data_address(slot, first, index), word, ());
     }
@@ -101,6 +108,8 @@ impl<T: Tag, A: Allocator> RuleTable<T, A> {
         ensures seat { IsSameSeat seat.old seat.new }
         ensures view { view seat.new ≡ after_empty (view seat.old) }
         ensures step { Makes (address_of_meta self.now slot) EMPTY_WORD 0 EMPTY_WORD
+            seat.old seat.new }
+        ensures event { IsEvent self.now (empty_done (view seat.old))
             seat.old seat.new }
     {
         self.store::<Empty, _>(seat, self.address(slot, META), EMPTY_WORD, ());

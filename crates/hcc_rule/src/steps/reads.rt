@@ -2,8 +2,9 @@
 ghost use Rattle.std.specs.Prelude.{◌≡◌, ◌+◌, ◌<◌, Some, IfSome, IsSomeAnd, length, slice_index};
 ghost use Rattle.hcc_core.specs.Lawful.{owned_slot};
 ghost use Rattle.hcc_rule.specs.declared.layout.TheConstants.{DATA, PAYLOAD};
-ghost use Rattle.hcc_rule.specs.Callers.{IsSeatAt};
+ghost use Rattle.hcc_rule.specs.Callers.{IsEvent, IsNoEvent, IsSeatAt};
 ghost use Rattle.hcc_rule.specs.Addresses.{address_of_data};
+ghost use Rattle.hcc_rule.specs.Events.{read_done};
 ghost use Rattle.hcc_rule.specs.Seats.{IsSameSeat, Makes, view};
 ghost use Rattle.hcc_rule.specs.ToldOwners.{IsDataWord, after_read};
 ghost use Rattle.hcc_rule.specs.Records.{record_in};
@@ -31,6 +32,8 @@ impl<T: Tag, A: Allocator> RuleTable<T, A> {
         ensures word { IfSome (record_in name (view seat.old).records)
             (λ r. IsDataWord r.entry index result) }
         ensures step { Makes (address_of_data self.now slot index) 0 0 result seat.old seat.new }
+        ensures event { IfSome (record_in name (view seat.old).records)
+            (λ r. IsEvent self.now (read_done name r.entry (view seat.old)) seat.old seat.new) }
     {
         self.read_at(seat, slot, self.data_of(slot), index, name)
     }
@@ -54,6 +57,8 @@ impl<T: Tag, A: Allocator> RuleTable<T, A> {
         ensures word { IfSome (record_in name (view seat.old).records)
             (λ r. IsDataWord r.entry index result) }
         ensures step { Makes (address_of_data self.now slot index) 0 0 result seat.old seat.new }
+        ensures event { IfSome (record_in name (view seat.old).records)
+            (λ r. IsEvent self.now (read_done name r.entry (view seat.old)) seat.old seat.new) }
     {
         self.load::<Brand, _>(seat, self.data_address(slot, first, index), (name, index))
     }
@@ -72,6 +77,7 @@ impl<T: Tag, A: Allocator> RuleTable<T, A> {
         ensures word { index < length (view seat.old).written
             → result ≡ slice_index (view seat.old).written index }
         ensures step { Makes (address_of_data self.now slot index) 0 0 result seat.old seat.new }
+        ensures event { IsNoEvent seat.old seat.new }
     {
         self.load::<Brand, _>(seat, self.address(slot, DATA + index), index)
     }

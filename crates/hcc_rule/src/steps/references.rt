@@ -3,8 +3,9 @@ ghost use Rattle.std.specs.Prelude.{◌≡◌, ◌+◌, ◌*◌, ◌<◌, ◌≤
 ghost use Rattle.hcc_word.specs.declared.layout.TheConstants.{ONE_RELEASE};
 ghost use Rattle.hcc_word.specs.Word.{refs_of, is_shareable};
 ghost use Rattle.hcc_core.specs.declared.limits.TheConstants.{MOST_WEIGHT, REFERENCES_PER_CLIENT};
-ghost use Rattle.hcc_rule.specs.Callers.{IsSeatAt};
+ghost use Rattle.hcc_rule.specs.Callers.{IsEvent, IsSeatAt};
 ghost use Rattle.hcc_rule.specs.Addresses.{address_of_meta};
+ghost use Rattle.hcc_rule.specs.Events.{acquire_done, give_done, spend_done};
 ghost use Rattle.hcc_rule.specs.Seats.{IsSameSeat, Makes, view};
 ghost use Rattle.hcc_rule.specs.Views.{load_of};
 ghost use Rattle.hcc_rule.specs.Records.{record_in};
@@ -42,6 +43,8 @@ impl<T: Tag, A: Allocator> RuleTable<T, A> {
         ensures view { Acquired T.fits self.now.geometry.room slot weight name result
             (view seat.old) (view seat.new) }
         ensures step { Makes (address_of_meta self.now slot) weight 0 result seat.old seat.new }
+        ensures event { IsEvent self.now (acquire_done slot weight name result (view seat.old))
+            seat.old seat.new }
     {
         self.fetch_add::<Brand, _>(seat, self.address(slot, META), weight as u64, (slot, name))
     }
@@ -63,6 +66,8 @@ impl<T: Tag, A: Allocator> RuleTable<T, A> {
         ensures entry { is_shareable result ≡ true }
         ensures references { weight ≤ refs_of result }
         ensures step { Makes (address_of_meta self.now slot) weight 0 result seat.old seat.new }
+        ensures event { IsEvent self.now (give_done weight name result (view seat.old))
+            seat.old seat.new }
     {
         self.fetch_sub::<Brand, _>(seat, self.address(slot, META), weight as u64, (slot, name))
     }
@@ -84,6 +89,8 @@ impl<T: Tag, A: Allocator> RuleTable<T, A> {
         ensures entry { is_shareable result ≡ true }
         ensures references { weight ≤ refs_of result }
         ensures step { Makes (address_of_meta self.now slot) (weight * ONE_RELEASE) 0 result
+            seat.old seat.new }
+        ensures event { IsEvent self.now (spend_done weight name result (view seat.old))
             seat.old seat.new }
     {
         self.fetch_add::<Brand, _>(

@@ -1,6 +1,6 @@
 //! The atomic operations of steps, with what is said to a step only for its proof: of which slot it
 //! is, by which name, and the like. What is said is no part of the program that runs.
-ghost use Rattle.std.specs.Prelude.{◌≡◌, ◌+◌, ◌-◌, ◌%◌, ◌^◌, ◌==◌, bit_and, bit_or};
+ghost use Rattle.std.specs.Prelude.{◌≡◌, ℕ, ◌+◌, ◌-◌, ◌%◌, ◌^◌, ◌==◌, bit_and, bit_or};
 ghost use prog.Atomic.{either};
 ghost use Rattle.hcc_rule.specs.Said.{tells, May, Did};
 
@@ -9,29 +9,36 @@ use crate::table::{RuleSeat, RuleTable};
 use crate::view::{Logged, View};
 use atomic_table::Play;
 use std::alloc::Allocator;
-use std::marker::{Brand, PhantomData};
+use std::marker::Brand;
 
-/// What a step shows its seat. Each call picks it; it is only for the proofs.
-impl<T> Play<(), View<T>> for Brand {
+/// What a step shows of its seat's view, and which event of the protocol it is. Each call picks it;
+/// it is only for the proofs.
+pub trait Does<V> {
+    ghost use Rattle.std.specs.Prelude.{Option};
+    ghost use Rattle.atomic_table.specs.Table.{Me, Step};
+    ghost use Rattle.hcc_rule.specs.declared.view.Done.{Done};
+
+    // Of the step, the seat before, the word found, the seat after and the event.
+    ghost then: { Step (Unit {0}) → Me (Unit {0}) V → ℕ → Me (Unit {0}) V → Option Done → Type 0 };
+}
+
+impl<T> Does<View<T>> for Brand {
     ghost use Rattle.hcc_rule.specs.Told.{nothing};
 
     ghost then = { nothing };
 }
 
-/// The same, beside the list of the seat's steps, which grows by this one.
-pub struct Logging<J> {
-    said: PhantomData<J>,
-}
+/// The same, beside the list of the seat's steps, which grows by this one, and the shard's history.
+/// The functions below pick it.
+impl<T> Play<(), Logged<T>> for Brand {
+    ghost use Rattle.hcc_rule.specs.Logs.{silent};
 
-impl<T, J: Play<(), View<T>>> Play<(), Logged<T>> for Logging<J> {
-    ghost use Rattle.hcc_rule.specs.Logs.{Logs};
-
-    ghost then = { Logs J.then };
+    ghost then = { silent };
 }
 
 impl<T: Tag, A: Allocator> RuleTable<T, A> {
     #[inline(always)]
-    pub(crate) fn load<J: Play<(), View<T>>, S: Copy>(
+    pub(crate) fn load<J: Does<View<T>>, S: Copy>(
         &self,
         seat: &mut RuleSeat<T>,
         address: usize,
@@ -41,11 +48,11 @@ impl<T: Tag, A: Allocator> RuleTable<T, A> {
             (tells J.then self.now seat.old address 0 0) }
         ensures { Did J.then self.now address 0 0 result seat.old seat.new }
     {
-        self.table.shared.load::<Logging<J>>(seat, address)
+        self.table.shared.load::<Brand>(seat, address)
     }
 
     #[inline(always)]
-    pub(crate) fn store<J: Play<(), View<T>>, S: Copy>(
+    pub(crate) fn store<J: Does<View<T>>, S: Copy>(
         &self,
         seat: &mut RuleSeat<T>,
         address: usize,
@@ -56,11 +63,11 @@ impl<T: Tag, A: Allocator> RuleTable<T, A> {
             (λ n. tells J.then self.now seat.old address word 0 word) }
         ensures { Did J.then self.now address word 0 word seat.old seat.new }
     {
-        self.table.shared.store::<Logging<J>>(seat, address, word);
+        self.table.shared.store::<Brand>(seat, address, word);
     }
 
     #[inline(always)]
-    pub(crate) fn fetch_add<J: Play<(), View<T>>, S: Copy>(
+    pub(crate) fn fetch_add<J: Does<View<T>>, S: Copy>(
         &self,
         seat: &mut RuleSeat<T>,
         address: usize,
@@ -71,13 +78,11 @@ impl<T: Tag, A: Allocator> RuleTable<T, A> {
             (tells J.then self.now seat.old address amount 0) }
         ensures { Did J.then self.now address amount 0 result seat.old seat.new }
     {
-        self.table
-            .shared
-            .fetch_add::<Logging<J>>(seat, address, amount)
+        self.table.shared.fetch_add::<Brand>(seat, address, amount)
     }
 
     #[inline(always)]
-    pub(crate) fn fetch_sub<J: Play<(), View<T>>, S: Copy>(
+    pub(crate) fn fetch_sub<J: Does<View<T>>, S: Copy>(
         &self,
         seat: &mut RuleSeat<T>,
         address: usize,
@@ -88,13 +93,11 @@ impl<T: Tag, A: Allocator> RuleTable<T, A> {
             (tells J.then self.now seat.old address amount 0) }
         ensures { Did J.then self.now address amount 0 result seat.old seat.new }
     {
-        self.table
-            .shared
-            .fetch_sub::<Logging<J>>(seat, address, amount)
+        self.table.shared.fetch_sub::<Brand>(seat, address, amount)
     }
 
     #[inline(always)]
-    pub(crate) fn fetch_and<J: Play<(), View<T>>, S: Copy>(
+    pub(crate) fn fetch_and<J: Does<View<T>>, S: Copy>(
         &self,
         seat: &mut RuleSeat<T>,
         address: usize,
@@ -105,13 +108,11 @@ impl<T: Tag, A: Allocator> RuleTable<T, A> {
             (tells J.then self.now seat.old address mask 0) }
         ensures { Did J.then self.now address mask 0 result seat.old seat.new }
     {
-        self.table
-            .shared
-            .fetch_and::<Logging<J>>(seat, address, mask)
+        self.table.shared.fetch_and::<Brand>(seat, address, mask)
     }
 
     #[inline(always)]
-    pub(crate) fn fetch_or<J: Play<(), View<T>>, S: Copy>(
+    pub(crate) fn fetch_or<J: Does<View<T>>, S: Copy>(
         &self,
         seat: &mut RuleSeat<T>,
         address: usize,
@@ -122,13 +123,11 @@ impl<T: Tag, A: Allocator> RuleTable<T, A> {
             (tells J.then self.now seat.old address bits 0) }
         ensures { Did J.then self.now address bits 0 result seat.old seat.new }
     {
-        self.table
-            .shared
-            .fetch_or::<Logging<J>>(seat, address, bits)
+        self.table.shared.fetch_or::<Brand>(seat, address, bits)
     }
 
     #[inline(always)]
-    pub(crate) fn compare_exchange<J: Play<(), View<T>>, S: Copy>(
+    pub(crate) fn compare_exchange<J: Does<View<T>>, S: Copy>(
         &self,
         seat: &mut RuleSeat<T>,
         address: usize,
@@ -142,6 +141,6 @@ impl<T: Tag, A: Allocator> RuleTable<T, A> {
     {
         self.table
             .shared
-            .compare_exchange::<Logging<J>>(seat, address, old, new)
+            .compare_exchange::<Brand>(seat, address, old, new)
     }
 }

@@ -1,6 +1,7 @@
 //! Seats that are split and joined.
 ghost use Rattle.std.specs.Prelude.{◌≡◌, ◌+◌, ◌∷◌, [], List};
 ghost use Rattle.hcc_rule.specs.declared.view.Other.{Other};
+ghost use Rattle.hcc_rule.specs.Acts.{longer, past};
 ghost use Rattle.hcc_rule.specs.Callers.{IsSeatAt};
 ghost use Rattle.hcc_rule.specs.Passing.{IsIdle, joined_view, left_view, right_view};
 ghost use Rattle.hcc_rule.specs.Seats.{IsSameSeat, moves, steps, view};
@@ -36,7 +37,8 @@ impl<T: Tag> Join<Logged<T>> for End {
 impl<T: Tag, A: Allocator> RuleTable<T, A> {
     /// Starts the first of the clients that a seat names beside its own: the seat of that client.
     /// It has nothing in hand; its made list and its dead list are those it had when it last ended.
-    /// The seat that is split keeps its steps, and the new one has made none.
+    /// The seat that is split keeps its steps, and the new one has made none. Both know as much of
+    /// the shard's history as the one did.
     ///
     /// It allocates nothing. It costs one load.
     pub fn split(&self, seat: &mut RuleSeat<T>) -> RuleSeat<T>
@@ -49,6 +51,7 @@ impl<T: Tag, A: Allocator> RuleTable<T, A> {
         ensures kept { steps seat.new ≡ steps seat.old }
         ensures none { steps result ≡ [] }
         ensures moves { (moves seat.new ≡ moves seat.old) × (moves result ≡ 0) }
+        ensures past { (past seat.new ≡ past seat.old) × (past result ≡ past seat.old) }
     {
         self.table.shared.split_seat::<Start>(seat)
     }
@@ -56,7 +59,8 @@ impl<T: Tag, A: Allocator> RuleTable<T, A> {
     /// Ends the client of another seat, which has nothing in hand and holds no reference. The seat
     /// that is left names that client from then on, with all that the other one named, and takes
     /// over its hidden keys, its met keys, its answers and its counts. Its steps stay its own; how
-    /// many the other one made is counted beside them.
+    /// many the other one made is counted beside them. Of the shard's history it knows what the one
+    /// or the other did, whichever is more.
     ///
     /// It allocates nothing. It costs one load.
     pub fn join(&self, seat: &mut RuleSeat<T>, other: RuleSeat<T>)
@@ -67,6 +71,7 @@ impl<T: Tag, A: Allocator> RuleTable<T, A> {
         ensures both { view seat.new ≡ joined_view (view seat.old) (view other) }
         ensures kept { steps seat.new ≡ steps seat.old }
         ensures moves { moves seat.new ≡ moves seat.old + moves other }
+        ensures past { past seat.new ≡ longer (past seat.old) (past other) }
     {
         self.table.shared.join_seat::<End>(seat, other)
     }

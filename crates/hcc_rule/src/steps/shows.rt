@@ -1,7 +1,8 @@
 //! The store that shows an entry.
 ghost use Rattle.std.specs.Prelude.{◌≡◌, ◌<◌};
-ghost use Rattle.hcc_rule.specs.Callers.{plan_of, IsSeatAt};
+ghost use Rattle.hcc_rule.specs.Callers.{plan_of, IsEvent, IsSeatAt};
 ghost use Rattle.hcc_rule.specs.Addresses.{address_of_meta};
+ghost use Rattle.hcc_rule.specs.Events.{show_done};
 ghost use Rattle.hcc_rule.specs.Seats.{IsSameSeat, Makes, view};
 ghost use Rattle.hcc_rule.specs.ToldOwners.{MayShow, after_show, first_word, made_of};
 
@@ -42,6 +43,9 @@ impl<T: Tag, A: Allocator> RuleTable<T, A> {
         ensures view { view seat.new ≡ after_show slot draft.name (made_of draft value.now)
             (view seat.old) }
         ensures step { Makes (address_of_meta self.now slot) (first_word draft) 0 (first_word draft)
+            seat.old seat.new }
+        ensures event { IsEvent self.now (show_done draft.countdown draft.name
+            (made_of draft value.now) (view seat.old))
             seat.old seat.new }
     {
         let word = started(draft.countdown, draft.name.is_some());

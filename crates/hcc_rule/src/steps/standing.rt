@@ -6,8 +6,9 @@ ghost use Rattle.hcc_core.specs.World.{standing_of};
 ghost use Rattle.hcc_core.specs.Ledgers.{is_standing};
 ghost use Rattle.hcc_core.specs.declared.limits.TheConstants.{MOST_HANDLES};
 ghost use Rattle.hcc_rule.specs.declared.layout.TheConstants.{STANDING};
-ghost use Rattle.hcc_rule.specs.Callers.{capacity_of, clients_of, is_strict, plan_of, IsSeatAt};
+ghost use Rattle.hcc_rule.specs.Callers.{capacity_of, clients_of, is_strict, plan_of, IsEvent, IsSeatAt};
 ghost use Rattle.hcc_rule.specs.Addresses.{address_of_ledger};
+ghost use Rattle.hcc_rule.specs.Events.{fall_done, stand_done, standing_done};
 ghost use Rattle.hcc_rule.specs.Rule.{setup_of};
 ghost use Rattle.hcc_rule.specs.Seats.{IsSameSeat, Makes, MakesSome, view};
 ghost use Rattle.hcc_rule.specs.ToldLedgers.{after_stand, after_fall};
@@ -37,6 +38,8 @@ impl<T: Tag, A: Allocator> RuleTable<T, A> {
             → result + (view seat.old).work.granted + (view seat.old).work.freed
             + charge_held (view seat.old).records ≤ capacity_of self.now }
         ensures step { Makes (address_of_ledger self.now STANDING) 0 0 result seat.old seat.new }
+        ensures event { IsEvent self.now (standing_done result (view seat.old))
+            seat.old seat.new }
     {
         self.load::<Brand, _>(seat, self.ledger(STANDING), ())
     }
@@ -54,6 +57,8 @@ impl<T: Tag, A: Allocator> RuleTable<T, A> {
         ensures seat { IsSameSeat seat.old seat.new }
         ensures view { view seat.new ≡ after_stand name charge (view seat.old) }
         ensures step { MakesSome (address_of_ledger self.now STANDING) charge 0 seat.old seat.new }
+        ensures event { IsEvent self.now (stand_done name charge (view seat.old))
+            seat.old seat.new }
     {
         self.fetch_add::<Brand, _>(seat, self.ledger(STANDING), charge as u64, name);
     }
@@ -70,6 +75,8 @@ impl<T: Tag, A: Allocator> RuleTable<T, A> {
         ensures seat { IsSameSeat seat.old seat.new }
         ensures view { view seat.new ≡ after_fall name charge (view seat.old) }
         ensures step { MakesSome (address_of_ledger self.now STANDING) charge 0 seat.old seat.new }
+        ensures event { IsEvent self.now (fall_done name (view seat.old))
+            seat.old seat.new }
     {
         self.fetch_sub::<Brand, _>(seat, self.ledger(STANDING), charge, name);
     }

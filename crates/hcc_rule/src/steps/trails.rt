@@ -4,9 +4,10 @@ ghost use Rattle.std.specs.List.{list_any};
 ghost use Rattle.hcc_core.specs.World.{times, limit_of};
 ghost use Rattle.hcc_core.specs.Trails.{is_slot};
 ghost use Rattle.hcc_rule.specs.declared.view.Record.{Record};
-ghost use Rattle.hcc_rule.specs.Callers.{clients_of, plan_of, slots_of, IsSeatAt};
+ghost use Rattle.hcc_rule.specs.Callers.{clients_of, plan_of, slots_of, IsEvent, IsSeatAt};
 ghost use Rattle.hcc_rule.specs.Addresses.{address_of_displacement};
 ghost use Rattle.hcc_rule.specs.Probes.{trail_to};
+ghost use Rattle.hcc_rule.specs.Events.{count_done, pass_done, unpass_done};
 ghost use Rattle.hcc_rule.specs.Rule.{setup_of};
 ghost use Rattle.hcc_rule.specs.Seats.{IsSameSeat, Makes, MakesSome, view};
 ghost use Rattle.hcc_rule.specs.ToldTrails.{after_pass, after_unpass, passed_held, Passed};
@@ -53,6 +54,8 @@ impl<T: Tag, A: Allocator> RuleTable<T, A> {
         ensures within { Each (λ (r : Record). r.slot < self.now.geometry.slots)
             (view seat.old).records }
         ensures step { Makes (address_of_displacement self.now slot) 0 0 result seat.old seat.new }
+        ensures event { IsEvent self.now (count_done slot result (view seat.old))
+            seat.old seat.new }
     {
         self.load::<Brand, _>(seat, self.address(slot, DISPLACEMENT), slot)
     }
@@ -68,6 +71,8 @@ impl<T: Tag, A: Allocator> RuleTable<T, A> {
         ensures seat { IsSameSeat seat.old seat.new }
         ensures view { view seat.new ≡ after_pass slot (view seat.old) }
         ensures step { MakesSome (address_of_displacement self.now slot) 1 0 seat.old seat.new }
+        ensures event { IsEvent self.now (pass_done slot (view seat.old))
+            seat.old seat.new }
     {
         self.fetch_add::<Brand, _>(seat, self.address(slot, DISPLACEMENT), 1, slot);
     }
@@ -83,6 +88,8 @@ impl<T: Tag, A: Allocator> RuleTable<T, A> {
         ensures seat { IsSameSeat seat.old seat.new }
         ensures view { view seat.new ≡ after_unpass slot (view seat.old) }
         ensures step { MakesSome (address_of_displacement self.now slot) 1 0 seat.old seat.new }
+        ensures event { IsEvent self.now (unpass_done slot (view seat.old))
+            seat.old seat.new }
     {
         self.fetch_sub::<Brand, _>(seat, self.address(slot, DISPLACEMENT), 1, slot);
     }

@@ -22,4 +22,4 @@ loop-preserved g c =
     (maker_of (entries_in c.args.self.now.table.shared.key.image))
     c.args.self.now.geometry.clients c.loop.counter c.loop.first c.split.new.seat c.split.result
     c.loop.seats.items c.loop.invariant c.loop-test.true told.seat told.left told.new told.right
-    told.kept told.none told.moves.0 told.moves.1)
+    told.kept told.none told.moves.0 told.moves.1 told.past.0 told.past.1)

@@ -11,8 +11,8 @@ join_seat-requires g c =
       c.requires.other.table,
       c.requires.other.slots,
       omega arith,
-      joins_logged g.T.Tag.fits c.args.self.now.table.shared.key _ _ _ _
-          (ap is_some c.requires.seat.tagged)
+      joins_logged g.T.Tag.fits c.args.self.now.table.shared.key _ _ _ _ _
+          (ap is_some c.requires.seat.tagged) (ap is_some c.requires.other.tagged)
           (joins g.T.Tag.fits c.args.self.now.table.shared.key _ _ _ _
           (ap is_some c.requires.seat.tagged)
           (ap is_some c.requires.other.tagged) idle.0 idle.1),

@@ -11,7 +11,7 @@ load-requires g c =
       c.data_address.ensures.inside,
       read_step g.T.Tag.fits c.args.self.now.table.shared.key _ _ c.args.slot c.args.name
           c.args.index _ _
-          (ap is_some seat.tagged)
+          (ap is_some seat.tagged) c.ranges.name.fits
           (rw planned.0 (c.data_address.ensures.value
           ∙ sym (data_field _ c.args.slot c.args.index)))
           c.requires.holds,
