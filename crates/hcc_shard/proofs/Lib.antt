@@ -11,3 +11,4 @@ pub mod Values
 pub mod Imagings
 pub mod Releases
 pub mod Reservings
+pub mod Gettings

@@ -2,9 +2,10 @@
 use Rattle.std.specs.Prelude.{◌≡◌, ℕ, ◌+◌, Bool, List, Option}
 use Rattle.hcc_rule.specs.declared.geometry.Geometry.{Geometry}
 use Rattle.hcc_rule.specs.declared.key.Key.{Key}
+use Rattle.hcc_rule.specs.declared.layout.TheConstants.{OCCUPANCY}
 use Rattle.hcc_rule.specs.declared.rule.Plan.{Plan}
 use Rattle.hcc_rule.specs.declared.view.View.{View}
-use Rattle.hcc_rule.specs.Addresses.{address_of_displacement, address_of_meta}
+use Rattle.hcc_rule.specs.Addresses.{address_of_displacement, address_of_ledger, address_of_meta}
 use Rattle.hcc_rule.specs.Callers as table
 use Rattle.hcc_rule.specs.Seats.{SeatOf, Makes, made, view}
 use Rattle.hcc_table.specs.declared.hiding.Erased.{Erased}
@@ -78,7 +79,8 @@ module _ {T A : Type 0} (fits : T → Key → List ℕ → Type 0) where
     pub rest : Adds mid new.seat
 
 module _ {T A : Type 0} where
-  -- one load found this meta word of a slot, or this displacement word, and was the only step
+  -- one load found this meta word of a slot, this displacement word or this occupancy, and was the
+  -- only step
   abbrev pub LoadsWord : Shard T A → (slot word : ℕ) → (old new : ShardSeat T) → Type 0
   LoadsWord shard slot word old new =
       Makes (address_of_meta shard.table slot) 0 0 word old.seat new.seat
@@ -86,3 +88,7 @@ module _ {T A : Type 0} where
   abbrev pub LoadsDisplacement : Shard T A → (slot count : ℕ) → (old new : ShardSeat T) → Type 0
   LoadsDisplacement shard slot count old new =
       Makes (address_of_displacement shard.table slot) 0 0 count old.seat new.seat
+
+  abbrev pub LoadsOccupancy : Shard T A → (count : ℕ) → (old new : ShardSeat T) → Type 0
+  LoadsOccupancy shard count old new =
+      Makes (address_of_ledger shard.table OCCUPANCY) 0 0 count old.seat new.seat

@@ -9,3 +9,4 @@ pub mod Imaged
 pub mod Callers
 pub mod Texts
 pub mod Reserving
+pub mod Gets

@@ -5,6 +5,7 @@
 mod closing;
 mod entries;
 mod erasing;
+mod getting;
 mod imaging;
 mod inserting;
 mod reading;
@@ -15,6 +16,7 @@ mod shard;
 mod totals;
 
 pub use entries::{ClosedEntry, ClosedShard};
+pub use getting::Got;
 pub use inserting::{Inserted, Pinned};
 pub use reopening::ReopenError;
 pub use seat::{ShardSeat, Stats};

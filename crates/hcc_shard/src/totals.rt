@@ -1,15 +1,14 @@
 //! Totals of a shard.
 ghost use Rattle.std.specs.Prelude.{◌≡◌, ◌+◌, ◌*◌, ◌<◌, ◌≤◌, ◌^◌, true, length};
 ghost use Rattle.hcc_core.specs.World.{limit_of, standing_of};
-ghost use Rattle.hcc_rule.specs.declared.layout.TheConstants.{OCCUPANCY};
 ghost use Rattle.hcc_rule.specs.Callers.{capacity_of, clients_of, is_strict, plan_of, slots_of};
-ghost use Rattle.hcc_rule.specs.Addresses.{address_of_ledger};
 ghost use Rattle.hcc_rule.specs.Rule.{setup_of};
-ghost use Rattle.hcc_rule.specs.Seats.{Makes, view};
+ghost use Rattle.hcc_rule.specs.Seats.{view};
 ghost use Rattle.hcc_rule.specs.Records.{charge_held, different};
 ghost use Rattle.hcc_table.specs.Efforts.{Took};
 ghost use Rattle.hcc_table.specs.Searched.{Sought};
 ghost use Rattle.hcc_table.specs.Steps.{MakesAtMost};
+ghost use Rattle.hcc_shard.specs.Callers.{LoadsOccupancy};
 ghost use Rattle.hcc_shard.specs.Counted.{LoadsUsage, SameCounts, SameEvictions};
 ghost use Rattle.hcc_shard.specs.Seated.{Rests};
 
@@ -36,8 +35,7 @@ impl<T: Tag, A: Allocator> Shard<T, A> {
             + clients_of self.now.table }
         ensures alone { clients_of self.now.table ≡ 1
             → result + (view seat.old.seat).takings ≡ length (view seat.old.seat).made }
-        ensures loads { Makes (address_of_ledger self.now.table OCCUPANCY) 0 0 result
-            seat.old.seat seat.new.seat }
+        ensures loads { LoadsOccupancy self.now result seat.old seat.new }
         ensures counts { SameCounts seat.old seat.new }
         ensures steps { MakesAtMost 1 seat.old.seat seat.new.seat }
     {

@@ -5,15 +5,18 @@ use Rattle.hcc_word.specs.Word.{is_shareable, is_visible, refs_of}
 use Rattle.hcc_core.specs.declared.client.Owned.TheVariants as owned
 use Rattle.hcc_core.specs.declared.slot.Stamp.{Stamp}
 use Rattle.hcc_core.specs.Sums.{when}
-use Rattle.hcc_rule.specs.Seats.{SeatOf, Makes, view}
 use Rattle.hcc_rule.specs.declared.key.Key.{Key}
 use Rattle.hcc_rule.specs.declared.layout.TheConstants.{KEY0, KEY1, PAYLOAD}
+use Rattle.hcc_rule.specs.declared.table.RuleTable.{RuleTable}
 use Rattle.hcc_rule.specs.declared.view.Made.{Made}
 use Rattle.hcc_rule.specs.declared.view.View.{View}
+use Rattle.hcc_rule.specs.Addresses.{address_of_meta}
 use Rattle.hcc_rule.specs.Probes.{trail_to}
+use Rattle.hcc_rule.specs.Seats.{SeatOf, Makes, view}
 use Rattle.hcc_rule.specs.ToldOwners.{IsTaken, after_free, is_warm}
 use Rattle.hcc_rule.specs.ToldReferences.{after_give}
 use Rattle.hcc_table.specs.declared.efforts.Effort.{Effort}
+use Rattle.hcc_table.specs.declared.pins.Pin.{Pin}
 use Rattle.hcc_table.specs.Efforts.{Lost}
 use Rattle.hcc_table.specs.Searched.{Grows}
 use Rattle.hcc_table.specs.Steps.{MakesNone, TriesToTake, amount_of}
@@ -89,6 +92,13 @@ module _ {T : Type 0} where
     pub enough : weight ≤ refs_of found
     pub is : left ≡ left_of used weight found
     pub view : view new ≡ after_give slot name found (view old)
+
+  -- The reference of a pin was given back by one step, as a use where it is useful and counts.
+  abbrev pub GivesOnce : {A : Type 0} → RuleTable T A → Pin → (useful : Bool)
+      → (old new : SeatOf T) → Type 0
+  GivesOnce table pin useful old new =
+      (left : ℕ) × IsLeft (address_of_meta table pin.slot) pin.slot 1 pin.name
+      (useful && pin.counting) left old new
 
   -- To take the entry of the word that was left was tried where it was due: it was freed, or one
   -- exchange more lost. Where it wasn't due no step was made.

@@ -1,16 +1,16 @@
 //! The clock table of one shard: a fixed number of slots, found by open addressing, and no lock.
 //!
-//! Benefits. A hit moves nothing: it adds 1 to one word, and its release adds or subtracts 1. No
-//! call waits for another thread, and none repeats a step because of one: each makes at most a
-//! stated number of atomic steps and tries each compare-exchange once. An entry that is held stays
-//! in its slot, with its key and value, whatever others erase and evict.
+//! Benefits. A hit moves nothing: it adds 1 to a counter, and its release takes it back or adds 1
+//! to another. No call waits for another thread, and none repeats a step because of one: each makes
+//! at most a stated number of atomic steps and tries each compare-exchange once. An entry that is
+//! held stays in its slot, with its key and value, whatever others erase and evict.
 //!
 //! Costs. The slots are as many as the table was made with, at most 84 of 100 are filled, and each
 //! has room for the largest value. The clock is coarser than a list by last use. Threads that hit
 //! one key at once change one word. An insertion never replaces a value, and a key can have two
 //! entries for a time.
 //!
-//! A slot is a meta word, a displacement word and data words: key, stamp, charge, length, value.
+//! A slot is a meta word, a displacement word and data words: key, charge, stamp, length, value.
 //! The meta word has two counters of 30 bits, acquires and releases, a hit bit and a state:
 //!
 //! - *empty*: nothing is here. The word is 0, or counts strays.
@@ -32,29 +32,31 @@
 //! - [`find`], at each probe: load the meta word; if it is visible, add 1 to the acquires; compare
 //!   the key, half by half; give the reference back unless it is a visible entry of this key; then
 //!   load the displacement, and end at 0. A hit at the first probe is one load, one add and two
-//!   loads of the key.
+//!   loads of the key. If marks are asked for, it sets the hit bit of a word that lacks it.
 //! - [`release`]: add to the releases if it was a use, else subtract from the acquires. If nobody
 //!   holds the entry then, and it is invisible or was to go with its last reference, one
-//!   compare-exchange takes it to construction, and its slot is freed.
+//!   compare-exchange tries to take it to construction; if it wins, the slot is freed.
 //! - [`insert`], at each probe: set the occupied bit by a `fetch_or`. An empty slot is its own: it
 //!   stores the data words, and last the meta word of a visible entry, with the countdown of its
-//!   priority. A visible one it acquires and compares; a match is a use of the old entry, and ends
-//!   the insertion. Any other it passes.
+//!   priority. A visible one it acquires, by one add of that countdown, and compares; on a match
+//!   these references become uses, if they count, and the insertion ends. Any other it passes.
+//!   Where it places nothing, it takes its trail back.
 //! - [`hide`], at each probe: as a search; at each match clear the visible bit by a `fetch_and`.
 //!   If only its own reference is left, one compare-exchange tries to take the entry, to free it.
-//! - [`visit`], by the clock: load the meta word. A visible entry that nobody holds, with a
-//!   countdown above 0, gets one less by a compare-exchange; one with countdown 0, or an invisible
-//!   one, is taken by one, and its slot is freed.
-//! - Freeing: load key and charge, subtract 1 from the displacements of the trail, store 0. Nobody
-//!   else touches a slot under construction but by strays.
+//! - [`visit`], by the clock: load the meta word. An entry that is held stays. A visible one with a
+//!   countdown above 0 gets 1 less, and at most 2; any other is taken, and its slot is freed. Each
+//!   is one compare-exchange: if it loses, nothing is changed.
+//! - Freeing: load key and charge, subtract 1 from the displacements of the trail, store 0. Until
+//!   then others change nothing of the slot, except its displacement and, by strays, its meta word.
 //!
 //! Overflow. An acquire can't be refused, so a bound keeps the counters in their 30 bits. From
 //! 2^29 + 4 releases on, a new reference doesn't count: its release subtracts. With that, uses and
-//! references stay below 2^30 in every order of steps. An acquire that finds such a word tries once
-//! to subtract 2^29 from both counters, so that uses count again.
+//! references stay below 2^30 in every order of steps. An acquire that finds an entry with so many
+//! tries once to subtract 2^29 from both counters, so that uses count again.
 //!
 //! What is proved of each call is in its contract, over what the client knows of the table (its
 //! view) and the steps that it made (its log). Places, charges and evictions are in `hcc_charge`.
+//! `docs/DESIGN.md` follows a hit, an insertion, an eviction and an erasure down to their steps.
 #![tactic(auto)]
 
 mod acquire;
@@ -80,7 +82,7 @@ pub use hiding::{Erased, hide};
 pub use inserting::{Insertion, insert};
 pub use pinning::pinned_charge;
 pub use pins::{IfLast, Pin, Use};
-pub use readings::{displacement, read_bytes, read_key, read_len, word};
-pub use releasing::release;
+pub use readings::{copy_bytes, displacement, read_bytes, read_key, read_len, word};
+pub use releasing::{give_back, release};
 pub use search::find;
 pub use visiting::{ClockVisit, visit};

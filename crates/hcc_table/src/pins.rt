@@ -24,6 +24,13 @@ pub enum Use {
 }
 
 impl Use {
+    /// A use where a release is useful, and else none. It costs a test.
+    pub fn of(useful: bool) -> Use
+        ensures { is_useful result ≡ useful }
+    {
+        if useful { Use::Useful } else { Use::NotUseful }
+    }
+
     /// Whether the release of a reference, which counts or not, is a use.
     pub(crate) fn is_use(self, counting: bool) -> bool
         ensures { result ≡ (is_useful self && counting) }

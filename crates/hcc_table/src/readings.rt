@@ -159,8 +159,34 @@ pub fn read_bytes<T: Tag, A: Allocator>(
     ensures steps { MakesAtMost (words_for result + 1) seat.old seat.new }
 {
     let length = read_len(table, seat, pin);
+    copy_bytes(table, seat, pin, length, buffer);
+    length
+}
+
+/// The same, once `read_len` returned how many bytes it has.
+pub fn copy_bytes<T: Tag, A: Allocator>(
+    table: &RuleTable<T, A>,
+    seat: &mut RuleSeat<T>,
+    pin: Pin,
+    count: usize,
+    buffer: &mut [u8],
+)
+    requires seat { IsSeatAt table.now seat.old }
+    requires slot { IsSlotOf table.now pin.slot }
+    requires holds { IsPinned pin (view seat.old) }
+    requires readable { IfSome (record_in pin.name (view seat.old).records)
+        (λ r. IsReadable (room_of table.now) r) }
+    requires exact { IfSome (record_in pin.name (view seat.old).records)
+        (λ r. count ≡ length r.entry.value) }
+    requires space { count ≤ length buffer.old }
+    ensures seat { IsSameSeat seat.old seat.new }
+    ensures view { view seat.new ≡ view seat.old }
+    ensures bytes { IfSome (record_in pin.name (view seat.old).records)
+        (λ r. buffer.new ≡ r.entry.value ++ drop (length r.entry.value) buffer.old) }
+    ensures steps { MakesAtMost (words_for count) seat.old seat.new }
+{
     let first = table.data_of(pin.slot);
-    let whole = length / 8;
+    let whole = count / 8;
     let fours = whole / 4;
     for four in 0..fours {
         copy_word(table, seat, pin, first, 4 * four, 8, buffer);
@@ -171,11 +197,10 @@ pub fn read_bytes<T: Tag, A: Allocator>(
     for index in 4 * fours..whole {
         copy_word(table, seat, pin, first, index, 8, buffer);
     }
-    let rest = length % 8;
+    let rest = count % 8;
     if rest > 0 {
         copy_word(table, seat, pin, first, whole, rest, buffer);
     }
-    length
 }
 
 /// Copies the first bytes of a word of the value, by its index, to their place in a buffer.

@@ -10,7 +10,7 @@ ghost use Rattle.hcc_rule.specs.Seats.{IsSameSeat, view, SeatOf, atomic};
 ghost use Rattle.hcc_rule.specs.Views.{is_called};
 ghost use Rattle.hcc_rule.specs.Records.{record_in};
 ghost use Rattle.hcc_table.specs.Efforts.{Lost};
-ghost use Rattle.hcc_table.specs.Freed.{IsFreed, IsLeft, TriedWhereDue, is_due};
+ghost use Rattle.hcc_table.specs.Freed.{GivesOnce, IsFreed, IsLeft, TriedWhereDue, is_due};
 ghost use Rattle.hcc_table.specs.Pins.{IsPinned, erases, is_useful};
 ghost use Rattle.hcc_table.specs.Searched.{Searched};
 ghost use Rattle.hcc_table.specs.Steps.{Among, MakesAtMost, freeing};
@@ -72,6 +72,29 @@ pub fn release<T: Tag, A: Allocator>(
     } else {
         None
     }
+}
+
+/// Gives the reference of a pin back, as a use where it is useful and counts, and frees nothing: an
+/// erased entry that nobody holds then stays until the clock comes by.
+///
+/// The client holds the pin's reference. Its record is gone afterwards, and no other. It allocates
+/// nothing. It costs one atomic add or subtraction.
+#[inline(always)]
+pub fn give_back<T: Tag, A: Allocator>(
+    table: &RuleTable<T, A>,
+    seat: &mut RuleSeat<T>,
+    pin: Pin,
+    usage: Use,
+)
+    requires seat { IsSeatAt table.now seat.old }
+    requires slot { IsSlotOf table.now pin.slot }
+    requires holds { IsPinned pin (view seat.old) }
+    ensures seat { IsSameSeat seat.old seat.new }
+    ensures gives { GivesOnce table.now pin (is_useful usage) seat.old seat.new }
+    ensures steps { MakesAtMost 1 seat.old seat.new }
+{
+    let used = usage.is_use(pin.counting);
+    let_go(table, seat, pin.slot, 1, pin.name, used);
 }
 
 /// Gives the references of this name back, as uses or not, and returns the word that is left.

@@ -38,8 +38,8 @@ use std::alloc::Allocator;
 ///
 /// It allocates nothing. Each probe costs a load and one of the displacement word, and where the
 /// slot is visible an add, a load of each half of the key that is compared, and a subtraction. A
-/// hit at the first probe is one load, one add and two loads, with the mark's or where that is
-/// asked for and lacks. A reference that doesn't count costs one compare-exchange more.
+/// hit at the first probe is one load, one add and two loads, and an or where marks are asked for
+/// and the word lacks it. A reference that doesn't count costs one compare-exchange more.
 ///
 /// It misses only what it didn't find: at least one slot is visited, and each slot that was passed
 /// was found not visible, by its load or by the add, or with an entry of another key. It ends where

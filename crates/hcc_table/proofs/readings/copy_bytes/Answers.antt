@@ -1,14 +1,14 @@
 use Rattle.std.proofs.Common.{ℕ, ◌+◌, ◌*◌, ◌/◌, ◌<◌, arith}
 use Rattle.hcc_table.proofs.Values.{reads_next, reads_rest}
-use Rattle.hcc_table.proofs.readings.read_bytes.Goals as goal
+use Rattle.hcc_table.proofs.readings.copy_bytes.Goals as goal
 
 pub loop-four-preserved : goal.loop-four-preserved
 loop-four-preserved g c =
     let k : ℕ = c.loop-four.four in
-    let n : ℕ = c.read_len-length.result in
+    let n : ℕ = c.args.count in
     let low : k < n / 8 / 4 = c.loop-four-test.true in
     let whole = reads_next c.args.pin.name n c.args.seat.now c.args.buffer.now
-    c.read_len-length.ensures.exact in
+    c.requires.exact in
     let a = c.copy_word in
     let b = c.copy_word-in-loop-four in
     let d = c.copy_word-in-loop-four-2 in
@@ -35,8 +35,8 @@ loop-index-preserved g c =
     let told = c.copy_word-in-loop-index.ensures in
     let so_far = c.loop-index.invariant.1 in
     let one = told.steps in (
-      reads_next c.args.pin.name c.read_len-length.result c.args.seat.now c.args.buffer.now
-          c.read_len-length.ensures.exact c.loop-index.index (c.loop-index.index + 1)
+      reads_next c.args.pin.name c.args.count c.args.seat.now c.args.buffer.now
+          c.requires.exact c.loop-index.index (c.loop-index.index + 1)
           c.loop-index.seat c.copy_word-in-loop-index.new.seat c.loop-index.buffer
           c.copy_word-in-loop-index.new.buffer (omega arith) c.loop-index-test.true
           c.loop-index.invariant.0 told.seat told.view told.bytes,
@@ -45,7 +45,7 @@ loop-index-preserved g c =
 
 pub returns-then-rest-gt0-clause-bytes : goal.returns-then-rest-gt0-clause-bytes
 returns-then-rest-gt0-clause-bytes g c =
-    reads_rest c.args.pin.name c.loop-index.index c.read_len-length.result c.args.seat.now
+    reads_rest c.args.pin.name c.loop-index.index c.args.count c.args.seat.now
     c.loop-index.seat c.args.buffer.now c.loop-index.buffer c.copy_word-then-rest-gt0.new.buffer
     c.loop-index-test.false (c.loop-index.auto.index-end (omega arith))
-    c.read_len-length.ensures.exact c.loop-index.invariant.0 c.copy_word-then-rest-gt0.ensures.bytes
+    c.requires.exact c.loop-index.invariant.0 c.copy_word-then-rest-gt0.ensures.bytes

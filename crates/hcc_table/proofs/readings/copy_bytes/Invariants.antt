@@ -1,14 +1,14 @@
 use Rattle.std.proofs.Common.{◌+◌, ◌*◌, ◌≤◌}
 use Rattle.hcc_rule.specs.Seats.{made}
 use Rattle.hcc_table.proofs.Values.{IsReading}
-use Rattle.hcc_table.proofs.readings.read_bytes.Given as goal
+use Rattle.hcc_table.proofs.readings.copy_bytes.Given as goal
 
 abbrev pub invariant-loop-four : goal.invariant-loop-four
 invariant-loop-four g l =
     IsReading l.pin.name (4 * l.four) l.fn.seat l.seat l.fn.buffer l.buffer
-    × (made l.seat ≤ made l.fn.seat + 4 * l.four + 1)
+    × (made l.seat ≤ made l.fn.seat + 4 * l.four)
 
 abbrev pub invariant-loop-index : goal.invariant-loop-index
 invariant-loop-index g l =
     IsReading l.pin.name l.index l.fn.seat l.seat l.fn.buffer l.buffer
-    × (made l.seat ≤ made l.fn.seat + l.index + 1)
+    × (made l.seat ≤ made l.fn.seat + l.index)

@@ -1,0 +1,49 @@
+-- What the reading of a key's value found, copied and gave back.
+use Rattle.std.specs.Prelude.{◌≡◌, ℕ, ◌<◌, ◌≤◌, ◌++◌, Bool, List, None, Some, length, drop}
+use Rattle.hcc_rule.specs.declared.key.Key.{Key}
+use Rattle.hcc_rule.specs.declared.view.Record.{Record}
+use Rattle.hcc_rule.specs.Callers.{room_of}
+use Rattle.hcc_rule.specs.Seats.{SeatOf, view}
+use Rattle.hcc_table.specs.declared.pins.Pin.{Pin}
+use Rattle.hcc_table.specs.Freed.{GivesOnce}
+use Rattle.hcc_table.specs.Pins.{IsOf}
+use Rattle.hcc_table.specs.Searched.{IsFound, IsMissed}
+use Rattle.hcc_shard.specs.declared.erasing.TheConstants.{IN_FLIGHT}
+use Rattle.hcc_shard.specs.declared.getting.Got.{Got}
+use Rattle.hcc_shard.specs.declared.getting.Got.TheVariants.{Hit, Miss, Short}
+use Rattle.hcc_shard.specs.declared.seat.ShardSeat.{ShardSeat}
+use Rattle.hcc_shard.specs.declared.shard.Shard.{Shard}
+use Rattle.hcc_shard.specs.Callers.{SearchesAt, view_of}
+
+-- what is in a buffer once a value was read into it, or was too long for it
+abbrev pub CopiesOut : Got → (value before after : List ℕ) → Type 0
+CopiesOut Miss value before after = ⊥
+CopiesOut (Hit count) value before after =
+    (count ≡ length value) × (count ≤ length before) × (after ≡ value ++ drop count before)
+CopiesOut (Short count) value before after =
+    (count ≡ length value) × (length before < count) × (after ≡ before)
+
+module _ {T A : Type 0} (fits : T → Key → List ℕ → Type 0) (shard : Shard T A) (key : Key)
+    (useful : Bool) where
+  -- A look-up found an entry of the key, under the name of references that no call keeps. Its value
+  -- was read, and the reference given back.
+  pub record ReadsOut (got : Got) (before after : List ℕ) (old new : ShardSeat T) : Type 0 where
+    pub pin : Pin
+    pub held : ShardSeat T
+    pub searches : SearchesAt fits shard key IN_FLIGHT (Some pin) old held
+    pub found : Record
+    pub finds : IsFound fits (room_of shard.table) pin.slot IN_FLIGHT key (view_of old)
+        (view_of held) found
+    pub of : IsOf pin found
+    pub copies : CopiesOut got found.entry.value before after
+    pub read : SeatOf T
+    pub kept : view read ≡ view_of held
+    pub gives : GivesOnce shard.table pin useful read new.seat
+
+  -- what a reading did, by its answer
+  abbrev pub Gets : Got → (before after : List ℕ) → (old new : ShardSeat T) → Type 0
+  Gets Miss before after old new =
+      (after ≡ before) × IsMissed key (view_of old) (view_of new)
+      × SearchesAt fits shard key IN_FLIGHT None old new
+  Gets (Hit count) before after old new = ReadsOut (Hit count) before after old new
+  Gets (Short count) before after old new = ReadsOut (Short count) before after old new

@@ -1,0 +1,100 @@
+//! Values that are read by their keys.
+ghost use Rattle.std.specs.Prelude.{◌≡◌, ◌+◌, IfSome, IsSomeAnd};
+ghost use Rattle.hcc_rule.specs.Callers.{room_of, slots_of, IsSeatAt, IsSlotOf};
+ghost use Rattle.hcc_rule.specs.Records.{record_in};
+ghost use Rattle.hcc_rule.specs.Seats.{IsSameSeat, view};
+ghost use Rattle.hcc_table.specs.Efforts.{Took};
+ghost use Rattle.hcc_table.specs.Pins.{IsPinned, is_useful};
+ghost use Rattle.hcc_table.specs.Readings.{IsReadable};
+ghost use Rattle.hcc_table.specs.Searched.{Sought};
+ghost use Rattle.hcc_table.specs.Steps.{MakesAtMost, MakesFor};
+ghost use Rattle.hcc_shard.specs.Counted.{SameEvictions};
+ghost use Rattle.hcc_shard.specs.Gets.{CopiesOut, Gets};
+ghost use Rattle.hcc_shard.specs.Seated.{Rests};
+
+use crate::erasing::IN_FLIGHT;
+use crate::seat::ShardSeat;
+use crate::shard::Shard;
+use hcc_rule::{Key, RuleSeat, RuleTable, Tag};
+use hcc_table::{Pin, Use, copy_bytes, find, give_back, read_len};
+use std::alloc::Allocator;
+
+/// What came of reading the value of a key.
+#[derive(Clone, Copy, Debug, PartialEq, Eq)]
+pub enum Got {
+    /// No visible entry of the key was found.
+    Miss,
+    /// The value has so many bytes, which are at the front of the buffer.
+    Hit(usize),
+    /// The value has so many bytes, and the buffer has fewer.
+    Short(usize),
+}
+
+impl<T: Tag, A: Allocator> Shard<T, A> {
+    /// Copies the value of a visible entry of the key to the front of a buffer, where that has room
+    /// for it, and returns how many bytes it has. The rest of the buffer stays, and all of it where
+    /// nothing is copied.
+    ///
+    /// It finds what a look-up would, holds it for the time of the call, and gives the reference
+    /// back: as a use, where it is useful and counts. It keeps none, uses no serial, and frees
+    /// nothing: an entry that was erased meanwhile, and that nobody holds then, stays until the
+    /// clock comes by. What the client holds stays. It refuses nothing and allocates nothing. It
+    /// costs a look-up, a load for the length, one for each eight bytes that are copied, and an add
+    /// or a subtraction.
+    #[inline(always)]
+    pub fn get(&self, seat: &mut ShardSeat<T>, key: Key, buffer: &mut [u8], usage: Use) -> Got
+        requires seat { Rests self.now seat.old }
+        ensures seat { Rests self.now seat.new }
+        ensures view { Sought (view seat.old.seat) (view seat.new.seat) }
+        ensures gets { Gets T.fits self.now key (is_useful usage) result buffer.old buffer.new
+            seat.old seat.new }
+        ensures effort { Took 1 (slots_of self.now.table) (slots_of self.now.table)
+            seat.old.effort seat.new.effort }
+        ensures counts { SameEvictions seat.old seat.new }
+        ensures steps { MakesFor 7 (room_of self.now.table + 2) (slots_of self.now.table)
+            seat.old.effort seat.new.effort seat.old.seat seat.new.seat }
+    {
+        match find(
+            &self.table,
+            &mut seat.seat,
+            key,
+            IN_FLIGHT,
+            self.marks,
+            &mut seat.effort,
+        ) {
+            Some(pin) => {
+                let got = copy_out(&self.table, &mut seat.seat, pin, buffer);
+                give_back(&self.table, &mut seat.seat, pin, usage);
+                got
+            }
+            None => Got::Miss,
+        }
+    }
+}
+
+/// Reads the value of the entry of a pin into a buffer, where that has room for it.
+#[inline(always)]
+fn copy_out<T: Tag, A: Allocator>(
+    table: &RuleTable<T, A>,
+    seat: &mut RuleSeat<T>,
+    pin: Pin,
+    buffer: &mut [u8],
+) -> Got
+    requires seat { IsSeatAt table.now seat.old }
+    requires slot { IsSlotOf table.now pin.slot }
+    requires holds { IsPinned pin (view seat.old) }
+    requires readable { IfSome (record_in pin.name (view seat.old).records)
+        (λ r. IsReadable (room_of table.now) r) }
+    ensures seat { IsSameSeat seat.old seat.new }
+    ensures view { view seat.new ≡ view seat.old }
+    ensures copies { IsSomeAnd (record_in pin.name (view seat.old).records)
+        (λ r. CopiesOut result r.entry.value buffer.old buffer.new) }
+    ensures steps { MakesAtMost (room_of table.now + 1) seat.old seat.new }
+{
+    let count = read_len(table, seat, pin);
+    if count > buffer.len() {
+        return Got::Short(count);
+    }
+    copy_bytes(table, seat, pin, count, buffer);
+    Got::Hit(count)
+}
