@@ -1,11 +1,14 @@
 -- What a client works with at one shard, and what it knows afterwards.
-use Rattle.std.proofs.Common.{◌≡◌, ℕ, ◌+◌, ◌<◌, ◌≤◌, Some, length, get_or, slice_get, slice_set, refl, ap, arith, subst}
+use Rattle.std.proofs.Common.{◌≡◌, ℕ, ◌+◌, ◌*◌, ◌<◌, ◌≤◌, Some, length, get_or, slice_get, slice_set, refl, ap, arith, subst}
 use Rattle.std.proofs.lemmas.Option.{slice_get_read}
 use Rattle.std.specs.declared.alloc.Global.{Global}
 use Rattle.slab.specs.Slab.{slab_len}
 use Rattle.hcc_core.specs.declared.limits.TheConstants.{MOST_HANDLES, STAMPS_PER_CLIENT}
 use Rattle.hcc_core.proofs.ListLemmas.{read_here}
 use Rattle.hcc_core.proofs.SumLemmas.{total-member}
+use Rattle.hcc_rule.specs.declared.view.View.{View}
+use Rattle.hcc_table.specs.Rises.{Rose}
+use Rattle.hcc_table.specs.Steps.{MakesFor}
 use Rattle.hcc_shard.specs.declared.seat.ShardSeat.{ShardSeat}
 use Rattle.hcc_shard.specs.declared.shard.Shard.{Shard}
 use Rattle.hcc_shard.specs.Callers.{steps_of, view_of}
@@ -13,7 +16,7 @@ use Rattle.hcc_shard.specs.Seated.{IsNext}
 use Rattle.hcc_cache.specs.declared.cache.Cache.{Cache}
 use Rattle.hcc_cache.specs.declared.client.Client.{Client}
 use Rattle.hcc_cache.specs.declared.seeded.Seeded.{Seeded}
-use Rattle.hcc_cache.specs.Calls.{AtShard, TakesAtMost, Works}
+use Rattle.hcc_cache.specs.Calls.{AtShard, TakesAtMost, TakesFor, Works}
 use Rattle.hcc_cache.specs.Clients.{view_by}
 use Rattle.hcc_cache.specs.Known.{AreHeld, IsSeated, Knows, records_at}
 use Rattle.hcc_cache.proofs.Seats.{seated_set, steps_set, view_else, view_here}
@@ -103,6 +106,23 @@ module _ {T : Type 0} where
       -- the steps that it made are those of the client
       pub takes_at : (most : ℕ) → steps_of is ≤ steps_of was + most → TakesAtMost most old new
       takes_at most few = rw (change.seats) (steps_set old.seats.items i most was is at.seat_is few)
+
+      -- and so are those that are counted by what it visited
+      pub takes_for : (each most : ℕ) (more : View (Seeded T) → View (Seeded T) → ℕ) (number : ℕ)
+          → i ≡ number
+          → MakesFor each most cache.geometry.slots was.effort is.effort was.seat is.seat
+          → most ≤ more (view_of was) (view_of is) → TakesFor cache each more number old new
+      takes_for each most more number here makes few =
+          subst (λ n. TakesFor cache each more n old new) here record {
+            visited = makes.visited;
+            within = makes.within;
+            counted =
+                did_at (λ s a b. Rose makes.visited makes.visited a.effort.probes b.effort.probes)
+                makes.counted i refl;
+            steps = rw (works_at.before, works_at.after)
+                (takes_at (each * makes.visited + more (view_of was) (view_of is))
+                (let steps = makes.steps in omega arith));
+          }
 
       -- The cache knows the client still, where the seat is one of it, and it keeps what it holds.
       pub knows_at : old.used ≤ new.used → IsSeated shard old.number new.used is

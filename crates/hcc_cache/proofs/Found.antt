@@ -22,12 +22,12 @@ use Rattle.hcc_cache.specs.declared.handle.Handle.{Handle}
 use Rattle.hcc_cache.specs.declared.holding.Hold.{Hold}
 use Rattle.hcc_cache.specs.declared.holding.Kept.TheVariants.{Pinned}
 use Rattle.hcc_cache.specs.declared.seeded.Seeded.{Seeded}
-use Rattle.hcc_cache.specs.Calls.{Finds, Gains, KeepsAll, Misses, SearchesFor, TakesAtMost, UsesNone, Works, shard_in}
+use Rattle.hcc_cache.specs.Calls.{Finds, Gains, KeepsAll, Misses, SearchesFor, TakesAtMost, TakesFor, UsesNone, Works, shard_in}
 use Rattle.hcc_cache.specs.Clients.{held_entry, pin_of}
 use Rattle.hcc_cache.specs.Keys.{fits_seeded, key_from}
 use Rattle.hcc_cache.specs.Sharding.{key_to, shard_of}
 use Rattle.hcc_cache.specs.Known.{IsSeated, Knows}
-use Rattle.hcc_cache.proofs.At.{ChangesAt, IsAt, did_at, knows_at, seated_at, takes_at, works_at}
+use Rattle.hcc_cache.proofs.At.{ChangesAt, IsAt, did_at, knows_at, seated_at, takes_at, takes_for, works_at}
 use Rattle.hcc_cache.proofs.Framing.{keeps_all}
 use Rattle.hcc_cache.proofs.Gained.{gains, IsGiven}
 use Rattle.hcc_cache.proofs.Held.{held_rest, stands_rest}
@@ -141,6 +141,15 @@ module _ {T : Type 0} where
         let within = makes.within in
         let steps = makes.steps in
         takes_at cache old new i shard was is at change (7 * cache.geometry.slots) (omega arith)
+
+    -- The slots that it visited are counted.
+    pub visits_at : (key : Key) → i ≡ shard_in cache key
+        → MakesFor 7 0 (geometry_of shard).slots was.effort is.effort was.seat is.seat
+        → TakesFor cache 7 (λ v w. 0) (shard_in cache key) old new
+    visits_at key there makes =
+        let alike = at.knows.alike.plans i shard at.shard_is in
+        takes_for cache old new i shard was is at change 7 0 (λ v w. 0) (shard_in cache key) there
+        (rw (← alike.0) makes) (omega arith)
 
     -- It says what it found at each probe.
     pub searched_at : (fits : T → Key → List ℕ → Type 0) (key : Key) (found : Option Handle)

@@ -10,6 +10,7 @@ use Rattle.hcc_rule.specs.declared.view.Record.{Record}
 use Rattle.hcc_rule.specs.declared.view.View.{View}
 use Rattle.hcc_rule.specs.ToldOwners.{first_records, made_of, shown_entry}
 use Rattle.hcc_rule.specs.Views.{Each}
+use Rattle.hcc_table.specs.Steps.{MakesFor}
 use Rattle.hcc_charge.specs.declared.reserving.Refused.{Refused}
 use Rattle.hcc_charge.specs.declared.reserving.Refused.TheVariants.{CapacityFull, OccupancyFull, TooLarge}
 use Rattle.hcc_shard.specs.declared.inserting.Inserted.{Inserted}
@@ -18,7 +19,7 @@ use Rattle.hcc_shard.specs.declared.inserting.Pinned.{Pinned}
 use Rattle.hcc_shard.specs.declared.seat.ShardSeat.{ShardSeat}
 use Rattle.hcc_shard.specs.declared.shard.Shard.{Shard}
 use Rattle.hcc_shard.specs.Callers.{capacity_of, geometry_of, is_strict, plan_of, steps_of, view_of}
-use Rattle.hcc_shard.specs.Inserted.{InsertedBy, IsInsertable, IsUnshown, MakesNoEntry, RefusedBy, Shows, inserting}
+use Rattle.hcc_shard.specs.Inserted.{InsertedBy, IsInsertable, IsUnshown, MakesNoEntry, RefusedBy, Shows, inserting, inserting_between}
 use Rattle.hcc_shard.specs.Reserving.{InsertedAs, PinnedAs}
 use Rattle.hcc_shard.specs.Seated.{Rests}
 use Rattle.hcc_shard.proofs.Names.{length_more}
@@ -26,11 +27,11 @@ use Rattle.hcc_cache.specs.declared.cache.Cache.{Cache}
 use Rattle.hcc_cache.specs.declared.client.Client.{Client}
 use Rattle.hcc_cache.specs.declared.priority.Priority.{Priority}
 use Rattle.hcc_cache.specs.declared.seeded.Seeded.{Seeded}
-use Rattle.hcc_cache.specs.Calls.{TakesAtMost, UsesOne, shard_in}
+use Rattle.hcc_cache.specs.Calls.{TakesAtMost, TakesFor, UsesOne, shard_in}
 use Rattle.hcc_cache.specs.Inserts.{Fails, KeepsHandles, PinsAt, Stores, StoresAt, draft_of, pinned_draft}
 use Rattle.hcc_cache.specs.Keys.{fits_seeded, key_from}
 use Rattle.hcc_cache.specs.Known.{AreCharged, IsSeated, Knows}
-use Rattle.hcc_cache.proofs.At.{ChangesAt, IsAt, did_at, knows_at, next_at, seated_at, takes_at, works_at}
+use Rattle.hcc_cache.proofs.At.{ChangesAt, IsAt, did_at, knows_at, next_at, seated_at, takes_at, takes_for, works_at}
 use Rattle.hcc_cache.proofs.Framing.{keeps_all}
 use Rattle.hcc_cache.proofs.Held.{held_rest, stands_rest}
 use Rattle.hcc_cache.proofs.Names.{names_later, standings_later}
@@ -255,6 +256,20 @@ module _ {T : Type 0} where
           let alike = at.knows.alike.plans i shard at.shard_is in
           takes_at cache old new i shard was is at change
           (inserting cache.geometry.slots cache.geometry.room) (rw (← alike.0) few)
+
+      -- and by what it turned and freed
+      pub frees_at : (number : ℕ) → i ≡ number
+          → MakesFor 7 (inserting_between (geometry_of shard).slots (geometry_of shard).room
+          (view_of was) (view_of is)) (geometry_of shard).slots was.effort is.effort was.seat
+          is.seat
+          → TakesFor cache 7 (inserting_between cache.geometry.slots cache.geometry.room) number
+          old new
+      frees_at number here makes =
+          let alike = at.knows.alike.plans i shard at.shard_is in
+          takes_for cache old new i shard was is at change 7
+          (inserting_between cache.geometry.slots cache.geometry.room (view_of was) (view_of is))
+          (inserting_between cache.geometry.slots cache.geometry.room) number here
+          (rw (← alike.0) makes) (omega arith)
 
       -- Where the client gained nothing, it is known still,
       module _ (rests : Rests shard is)

@@ -33,3 +33,5 @@ pub mod MadeLists
 pub mod Emptied
 pub mod Ended
 pub mod Lefts
+pub mod Each
+pub mod Gotten

@@ -117,3 +117,21 @@ key_kept {T} cache client handle hold knows held there first second =
         key_back cache.seed hold.key first second in
         rw (pin.there) (sym (ap (key_from cache.seed) pin.key ∙ back))
     by (Standing index) stand = rw (stand.there) refl
+
+-- two readings are one
+pub reads_twice : {T : Type 0} (cache : Cache T) (a b c : Client T)
+    → Reads cache a b → Reads cache b c → Reads cache a c
+reads_twice cache a b c first next = record {
+  rests = record {
+    all = λ s. next.rests.all s ∙ first.rests.all s;
+    self = (next.rests.self.0 ∙ first.rests.self.0, next.rests.self.1 ∙ first.rests.self.1);
+  };
+  keeps = record {
+    all = λ h. next.keeps.all h ∙ first.keeps.all h;
+    count = next.keeps.count ∙ first.keeps.count;
+    serials = (
+      next.keeps.serials.0 ∙ first.keeps.serials.0,
+      next.keeps.serials.1 ∙ first.keeps.serials.1,
+    );
+  };
+}

@@ -1,5 +1,5 @@
 -- What each call leaves of a client.
-use Rattle.std.specs.Prelude.{◌≡◌, ℕ, ◌+◌, ◌≤◌, ◌++◌, ◌&&◌, Bool, true, false, List, [], ◌∷◌, Option, Some, None, IsSome, find, is_some, length, slice_get}
+use Rattle.std.specs.Prelude.{◌≡◌, ℕ, ◌+◌, ◌*◌, ◌≤◌, ◌++◌, ◌&&◌, Bool, true, false, List, [], ◌∷◌, Option, Some, None, IsSome, find, is_some, length, slice_get}
 use Rattle.std.specs.declared.alloc.Global.{Global}
 use Rattle.hcc_core.specs.declared.slot.Entry.{Entry}
 use Rattle.hcc_core.specs.Lawful.{is_in}
@@ -10,6 +10,7 @@ use Rattle.hcc_rule.specs.declared.view.Record.{Record}
 use Rattle.hcc_rule.specs.declared.view.View.{View}
 use Rattle.hcc_rule.specs.Words.{key_of}
 use Rattle.hcc_table.specs.declared.pins.Pin.{Pin}
+use Rattle.hcc_table.specs.Rises.{Rose}
 use Rattle.hcc_table.specs.Searched.{AllDead, IsFound, IsMissed, Searched}
 use Rattle.hcc_charge.specs.Settled.{fallen}
 use Rattle.hcc_shard.specs.declared.seat.ShardSeat.{ShardSeat}
@@ -74,6 +75,17 @@ module _ {T : Type 0} (cache : Cache T) where
     pub seat_was : slice_get old.seats.items number ≡ Some was
     pub seat_is : slice_get new.seats.items number ≡ Some is
     pub did : Did shard was is
+
+  -- The client visited so many slots of a shard, which its seat there counts, and made at most so
+  -- many steps at each of them, and so many more, by what it knew of the shard and knows.
+  pub record TakesFor (each : ℕ) (more : (v w : View (Seeded T)) → ℕ) (number : ℕ)
+      (old new : Client T) : Type 0 where
+    pub visited : ℕ
+    pub within : visited ≤ cache.geometry.slots
+    pub counted : AtShard (λ shard was is.
+        Rose visited visited was.effort.probes is.effort.probes) number old new
+    pub steps : steps_by new
+        ≤ steps_by old + (each * visited + more (view_at number old) (view_at number new))
 
   -- The key was looked for in its shard, under the client's next serial: what was found at each
   -- probe, where this handle was given or none.

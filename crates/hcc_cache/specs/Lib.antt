@@ -3,6 +3,7 @@ pub mod Priorities
 pub mod Keys
 pub mod Sharding
 pub mod Clients
+pub mod Handles
 pub mod Known
 pub mod Opened
 pub mod Moments
@@ -12,3 +13,4 @@ pub mod Closings
 pub mod Inserts
 pub mod Totals
 pub mod Texts
+pub mod Gets

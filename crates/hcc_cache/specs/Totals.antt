@@ -1,5 +1,6 @@
 -- Totals over all shards, as a client knows them.
-use Rattle.std.specs.Prelude.{◌≡◌, ◌⊎◌, ℕ, ◌+◌, ◌-◌, ◌^◌, min, List, [], ◌∷◌, length}
+use Rattle.std.specs.Prelude.{◌≡◌, ◌⊎◌, ℕ, ◌+◌, ◌-◌, ◌^◌, min, List, [], ◌∷◌, Some, length, slice_get}
+use Rattle.std.specs.declared.alloc.Global.{Global}
 use Rattle.hcc_core.specs.Sums.{total}
 use Rattle.hcc_core.specs.World.{standing_of}
 use Rattle.hcc_rule.specs.declared.view.View.{View}
@@ -8,10 +9,13 @@ use Rattle.hcc_rule.specs.Records.{charge_held, different}
 use Rattle.hcc_table.specs.Searched.{Sought}
 use Rattle.hcc_shard.specs.declared.seat.ShardSeat.{ShardSeat}
 use Rattle.hcc_shard.specs.declared.seat.Stats.{Stats}
-use Rattle.hcc_shard.specs.Callers.{view_of}
-use Rattle.hcc_shard.specs.Counted.{stats_of}
+use Rattle.hcc_shard.specs.declared.shard.Shard.{Shard}
+use Rattle.hcc_shard.specs.Callers.{LoadsOccupancy, view_of}
+use Rattle.hcc_shard.specs.Counted.{LoadsUsage, stats_of}
+use Rattle.hcc_cache.specs.declared.cache.Cache.{Cache}
 use Rattle.hcc_cache.specs.declared.client.Client.{Client}
-use Rattle.hcc_cache.specs.Calls.{IsSelf}
+use Rattle.hcc_cache.specs.declared.seeded.Seeded.{Seeded}
+use Rattle.hcc_cache.specs.Calls.{AtShard, IsSelf}
 use Rattle.hcc_cache.specs.Clients.{view_at}
 
 -- the sum of two counts, or the greatest count
@@ -59,6 +63,28 @@ module _ {T : Type 0} where
   pub record SearchesAll (old new : Client T) : Type 0 where
     pub all : (s : ℕ) → Sought (view_at s old) (view_at s new)
     pub self : IsSelf old new
+
+module _ {T : Type 0} (cache : Cache T) where
+  -- At each shard in turn the client's seat did this, and this number was found there.
+  pub record AtEach (Did : Shard (Seeded T) Global → (found : ℕ)
+      → (old new : ShardSeat (Seeded T)) → Type 0) (counts : List ℕ) (old new : Client T)
+      : Type 0 where
+    pub count : length counts ≡ length cache.shards.items
+    pub each : (s found : ℕ) → slice_get counts s ≡ Some found
+        → AtShard cache (λ shard was is. Did shard found was is) s old new
+
+  -- The usage of each shard was loaded once: this is the sum of what its words say, each at most
+  -- its shard's capacity where that is strict, or the greatest number.
+  pub record LoadsEachUsage (result : ℕ) (old new : Client T) : Type 0 where
+    pub counts : List ℕ
+    pub loads : AtEach LoadsUsage counts old new
+    pub sum : result ≡ min (total (λ n. n) counts) (2 ^ 64 - 1)
+
+  -- The occupancy of each shard was loaded once: this is the sum of the words.
+  pub record LoadsEachOccupancy (result : ℕ) (old new : Client T) : Type 0 where
+    pub counts : List ℕ
+    pub loads : AtEach LoadsOccupancy counts old new
+    pub sum : result ≡ total (λ n. n) counts
 
 -- counts of two shards
 abbrev pub stats_with : Stats → Stats → Stats

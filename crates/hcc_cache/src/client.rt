@@ -1,8 +1,9 @@
 //! A client: a seat at each shard, its serials, and what it keeps of its handles.
-ghost use Rattle.std.specs.Prelude.{◌≡◌, ◌↔◌, IsTrue};
-ghost use Rattle.hcc_cache.specs.Clients.{Holds, held_by};
+ghost use Rattle.std.specs.Prelude.{◌≡◌, ◌↔◌, IfNone, IfSome, IsTrue};
+ghost use Rattle.hcc_cache.specs.Clients.{Holds, held_by, hold_of};
+ghost use Rattle.hcc_cache.specs.Handles.{handle_of, HoldsNone};
 
-use crate::handle::Handle;
+use crate::handle::{Handle, Numbers};
 use crate::holding::{Alone, Hold};
 use crate::seeded::Seeded;
 use hcc_shard::ShardSeat;
@@ -52,9 +53,33 @@ impl<T> Client<T> {
     pub fn holds(&self, handle: Handle) -> bool
         ensures { IsTrue result ↔ Holds self.now handle }
     {
+        self.find(handle).is_some()
+    }
+
+    /// The handle of these numbers, if it holds that. It costs a look at the handle's index.
+    pub fn handle(&self, numbers: Numbers) -> Option<Handle>
+        ensures some { IfSome result (λ handle. (handle ≡ handle_of numbers)
+            × Holds self.now handle) }
+        ensures none { IfNone result (HoldsNone self.now numbers) }
+    {
+        let handle = numbers.handle();
+        self.find(handle)?;
+        Some(handle)
+    }
+
+    /// What it keeps of a handle, if it holds it.
+    pub(crate) fn find(&self, handle: Handle) -> Option<Hold>
+        ensures { result ≡ hold_of self.now handle }
+    {
         match self.handles.get(handle.index) {
-            Some(hold) => handle.client == self.number && hold.serial == handle.serial,
-            None => false,
+            Some(hold) => {
+                if handle.client == self.number && hold.serial == handle.serial {
+                    Some(*hold)
+                } else {
+                    None
+                }
+            }
+            None => None,
         }
     }
 }

@@ -1,4 +1,6 @@
-//! Handles.
+//! Handles, and their numbers.
+ghost use Rattle.std.specs.Prelude.{◌≡◌};
+ghost use Rattle.hcc_cache.specs.Handles.{handle_of, numbers_of};
 
 /// A reference that a client holds on an entry: the entry stays as it is until the handle is
 /// released.
@@ -16,4 +18,49 @@ pub struct Handle {
     pub(crate) index: usize,
     /// The serial that the call used which gave it.
     pub(crate) serial: u64,
+}
+
+/// The numbers of a handle, as they go through an interface that can't carry handles.
+///
+/// They may be any: a call that takes them judges whether they are those of a handle that the
+/// client holds, which costs the look at the handle's index that the call makes in any case.
+#[derive(Clone, Copy, Debug, PartialEq, Eq)]
+pub struct Numbers {
+    /// The number of the handle's client.
+    pub client: u32,
+    /// Its index among what the client keeps of its handles.
+    pub index: usize,
+    /// The serial that the call used which gave it: no other handle of the client has it.
+    pub serial: u64,
+}
+
+impl Handle {
+    /// Its numbers. It costs a copy.
+    pub fn numbers(self) -> Numbers
+        ensures { result ≡ numbers_of self }
+    {
+        Numbers {
+            client: self.client,
+            index: self.index,
+            serial: self.serial,
+        }
+    }
+}
+
+impl Numbers {
+    /// The handle of these numbers, which nobody may hold.
+    pub(crate) fn handle(self) -> Handle
+        ensures { result ≡ handle_of self }
+    {
+        let Numbers {
+            client,
+            index,
+            serial,
+        } = self;
+        Handle {
+            client,
+            index,
+            serial,
+        }
+    }
 }

@@ -1,20 +1,31 @@
-//! What holds of each shard of a cache between any two atomic steps of any threads.
+//! What holds of each shard of a cache between any two atomic steps of any threads, and of handles.
 //!
 //! No function here does anything when it runs: its contract is the law. `m.holds.world` is the
 //! lawful world that the shard's words and what its clients know show.
-ghost use Rattle.std.specs.Prelude.{◌≡◌, ◌+◌, ◌*◌, ◌/◌, ◌≤◌, true};
+ghost use Rattle.std.specs.Prelude.{◌≡◌, ℕ, ◌+◌, ◌*◌, ◌/◌, ◌<◌, ◌≤◌, true, None, Some, slice_get};
 ghost use Rattle.hcc_core.specs.declared.limits.TheConstants.{OCCUPANCY_PERCENT};
 ghost use Rattle.hcc_core.specs.Lawful.{real_in, taken_in};
 ghost use Rattle.hcc_rule.specs.declared.layout.TheConstants.{OCCUPANCY};
-ghost use Rattle.hcc_rule.specs.Laws.{StateOf, ledger_word};
+ghost use Rattle.hcc_rule.specs.declared.key.Key.{Key};
+ghost use Rattle.hcc_rule.specs.declared.view.View.{View};
+ghost use Rattle.hcc_rule.specs.Laws.{StateOf, ledger_word, AreMade, AreOfMade};
+ghost use Rattle.hcc_cache.specs.declared.cache.Cache.{Cache};
+ghost use Rattle.hcc_cache.specs.declared.client.Client.{Client};
 ghost use Rattle.hcc_cache.specs.declared.config.Config.{Config};
+ghost use Rattle.hcc_cache.specs.declared.handle.Handle.{Handle};
 ghost use Rattle.hcc_cache.specs.declared.seeded.Seeded.{Seeded};
+ghost use Rattle.hcc_cache.specs.Calls.{Gains, SearchesFor};
+ghost use Rattle.hcc_cache.specs.Clients.{Held, Holds};
 ghost use Rattle.hcc_cache.specs.Configs.{shard_capacity};
-ghost use Rattle.hcc_cache.specs.Moments.{IsMoment, plan_in};
+ghost use Rattle.hcc_cache.specs.Keys.{fits_seeded};
+ghost use Rattle.hcc_cache.specs.Known.{Knows};
+ghost use Rattle.hcc_cache.specs.Moments.{IsMoment, IsQuietMiss, ShowsKeyIn, plan_in};
 
 use crate::seeded::Seeded;
 use hcc_rule::Tag;
-use hcc_rule::laws::law_ledgers;
+use hcc_rule::laws::{law_ledgers, law_made};
+use hcc_table::laws::law_miss;
+use std::alloc::Global;
 
 /// The limits that each shard of a cache keeps at every moment, by what the cache was made with.
 pub fn law_limits<T: Tag>()
@@ -40,3 +51,43 @@ pub fn law_limits<T: Tag>()
 {
     law_ledgers::<Seeded<T>>();
 }
+
+/// One insertion: what each shard's slots hold, and what clients hold there.
+pub fn law_insertions<T: Tag>()
+    // In each slot with an entry stands one insertion, whoever holds it: its key, its value, its
+    // charge and its serial are a member of its maker's list. No two slots have the same.
+    ensures slots { (config : Config) (tag : T) (s : StateOf (Seeded T))
+        (m : IsMoment T.fits config tag s) → AreMade (fits_seeded T.fits) (plan_in m) s }
+
+    // So is the entry of each reference, whichever client made it, and however it was come by.
+    ensures records { (config : Config) (tag : T) (s : StateOf (Seeded T))
+        (m : IsMoment T.fits config tag s) (number : ℕ) (v : View (Seeded T))
+        → slice_get s.views number ≡ Some v → AreOfMade (fits_seeded T.fits) (plan_in m) s v }
+{
+    law_made::<Seeded<T>>();
+}
+
+/// A miss is a miss.
+pub fn law_misses<T: Tag>()
+    // Where all that a look-up found, which missed, is what the key's shard was at one moment, no
+    // slot showed the key at that moment.
+    ensures { (config : Config) (tag : T) (s : StateOf (Seeded T))
+        (m : IsMoment T.fits config tag s) (key : Key) (old new : Client T)
+        (missed : SearchesFor m.cache T.fits key None old new)
+        → IsQuietMiss T.fits m key old new missed → (slot : ℕ) → slot < config.slots
+        → ¬ ShowsKeyIn m key slot }
+{
+    law_miss::<Seeded<T>, Global>();
+}
+
+/// No handle comes back.
+pub fn law_handles<T: Tag>()
+    // A handle that a client holds has the client's number, and one of the serials that it used.
+    ensures held { (cache : Cache T) (client : Client T) → Knows cache client → (handle : Handle)
+        → Holds client handle
+        → (handle.client ≡ client.number) × (handle.serial < client.used) }
+
+    // One that a call gives it is another than each with a serial that was used before.
+    ensures fresh { (cache : Cache T) (held : Held) (old new : Client T) (more handle : Handle)
+        → Gains cache more held old new → handle.serial < old.used → ¬ (more ≡ handle) }
+{}

@@ -1,7 +1,7 @@
 //! Look-ups, and more handles on what is held.
 ghost use Rattle.std.specs.Prelude.{◌≡◌, ◌*◌, ◌<◌, ◌≤◌, ◌↔◌, IfSome, IfNone, IfOk, OnErr, IsErrOf, Some, length};
 ghost use Rattle.hcc_cache.specs.declared.holding.Kept.TheVariants.{Pinned, Standing};
-ghost use Rattle.hcc_cache.specs.Calls.{Finds, Misses, Rerefs, SearchesFor, TakesAtMost};
+ghost use Rattle.hcc_cache.specs.Calls.{Finds, Misses, Rerefs, SearchesFor, TakesAtMost, TakesFor, shard_in};
 ghost use Rattle.hcc_cache.specs.Clients.{held_by, hold_of, Holds};
 ghost use Rattle.hcc_cache.specs.Sharding.{shard_of};
 ghost use Rattle.hcc_cache.specs.Known.{AreAlike, Knows};
@@ -26,7 +26,7 @@ impl<T: Tag> Cache<T> {
     ///
     /// It is refused where the client holds all the handles that it may, then where it has used all
     /// its serials; nothing is changed then. A handle uses a serial. It allocates nothing. It costs
-    /// what a look-up in the key's shard costs: at a first hit a load, an add and two loads.
+    /// what a look-up in the key's shard costs: a hit at the first probe a load, an add, two loads.
     pub fn lookup(&self, client: &mut Client<T>, key: Key) -> Result<Option<Handle>, LookupError>
         requires { Knows self.now client.old }
         ensures known { Knows self.now client.new }
@@ -41,6 +41,8 @@ impl<T: Tag> Cache<T> {
             (Misses self.now key client.old client.new)) }
         ensures searched { IfOk result (λ found.
             SearchesFor self.now T.fits key found client.old client.new) }
+        ensures visits { IfOk result (λ _. TakesFor self.now 7 (λ v w. 0)
+            (shard_in self.now key) client.old client.new) }
         ensures steps { TakesAtMost (7 * self.now.geometry.slots) client.old client.new }
     {
         client.may_hold()?; // Before anything is changed.
@@ -56,6 +58,8 @@ impl<T: Tag> Cache<T> {
             Finds self.now T.fits key handle client.old client.new) }
         ensures missed { IfNone result (Misses self.now key client.old client.new) }
         ensures searched { SearchesFor self.now T.fits key result client.old client.new }
+        ensures visits { TakesFor self.now 7 (λ v w. 0) (shard_in self.now key)
+            client.old client.new }
         ensures steps { TakesAtMost (7 * self.now.geometry.slots) client.old client.new }
     {
         let under = key_to(self.seed, key);

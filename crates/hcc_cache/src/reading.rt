@@ -1,14 +1,15 @@
 //! What a client reads by its handles.
-ghost use Rattle.std.specs.Prelude.{◌≡◌, ◌+◌, ◌-◌, ◌≤◌, ◌++◌, Some, IfSome, length, drop};
+ghost use Rattle.std.specs.Prelude.{◌≡◌, ◌+◌, ◌-◌, ◌<◌, ◌≤◌, ◌++◌, Some, IfErr, IfNone, IfOk, IfSome, length, drop};
 ghost use Rattle.hcc_rule.specs.Words.{words_for};
 ghost use Rattle.hcc_cache.specs.declared.holding.Kept.TheVariants.{Pinned};
 ghost use Rattle.hcc_cache.specs.Calls.{Reads, TakesAtMost};
 ghost use Rattle.hcc_cache.specs.Clients.{held_of, hold_of, Holds};
+ghost use Rattle.hcc_cache.specs.Handles.{handle_of, HoldsNone};
 ghost use Rattle.hcc_cache.specs.Known.{Knows};
 
 use crate::cache::Cache;
 use crate::client::Client;
-use crate::handle::Handle;
+use crate::handle::{Handle, Numbers};
 use crate::holding::{Hold, Kept};
 use hcc_rule::{Key, Tag};
 use hcc_table::Pin;
@@ -41,18 +42,7 @@ impl<T: Tag> Cache<T> {
         ensures steps { TakesAtMost 1 client.old client.new }
     {
         let hold = client.hold(handle);
-        match hold.kept {
-            Kept::Pinned { slot, counting } => {
-                let pin = Pin {
-                    name: hold.serial,
-                    slot,
-                    counting,
-                };
-                let seat = &mut client.seats[hold.shard];
-                self.shards[hold.shard].value_len(seat, pin)
-            }
-            Kept::Standing { index } => client.alone[index].value.len(),
-        }
+        self.len_of(client, handle, hold)
     }
 
     /// Copies the value of the entry that a handle is on to the front of a buffer, which has room
@@ -75,6 +65,96 @@ impl<T: Tag> Cache<T> {
         ensures steps { TakesAtMost (words_for result + 1) client.old client.new }
     {
         let hold = client.hold(handle);
+        self.copy_of(client, handle, hold, buffer)
+    }
+
+    /// The same by a handle's numbers, into any buffer: none where the client holds no handle of
+    /// these numbers. It returns how many bytes the value has, as an error where the buffer has
+    /// fewer; then nothing is copied.
+    ///
+    /// It allocates nothing. It costs a look at the handle's index, and what `value_len` and
+    /// `read_value` cost.
+    #[inline]
+    pub fn try_read(
+        &self,
+        client: &mut Client<T>,
+        numbers: Numbers,
+        buffer: &mut [u8],
+    ) -> Option<Result<usize, usize>>
+        requires { Knows self.now client.old }
+        ensures known { Knows self.now client.new }
+        ensures none { IfNone result (HoldsNone client.old numbers × (client.new ≡ client.old)
+            × (buffer.new ≡ buffer.old)) }
+        ensures some { IfSome result (λ _. Holds client.old (handle_of numbers)) }
+        ensures reads { Reads self.now client.old client.new }
+        ensures read { IfSome result (λ a. IfOk a (λ len.
+            IfSome (held_of self.now client.old (handle_of numbers)) (λ held.
+            (len ≡ length held.insertion.value)
+            × (buffer.new ≡ held.insertion.value ++ drop len buffer.old)))) }
+        ensures short { IfSome result (λ a. IfErr a (λ len.
+            IfSome (held_of self.now client.old (handle_of numbers)) (λ held.
+            len ≡ length held.insertion.value)
+            × (length buffer.old < len) × (buffer.new ≡ buffer.old))) }
+        ensures steps { IfSome result (λ a. IfOk a (λ len.
+            TakesAtMost (words_for len + 2) client.old client.new)) }
+        ensures few { IfSome result (λ a. IfErr a (λ len.
+            TakesAtMost 1 client.old client.new)) }
+    {
+        let handle = numbers.handle();
+        let hold = client.find(handle)?;
+        let len = self.len_of(client, handle, hold);
+        if buffer.len() < len {
+            return Some(Err(len));
+        }
+        Some(Ok(self.copy_of(client, handle, hold, buffer)))
+    }
+
+    /// How many bytes the value has, by what the client keeps of the handle.
+    fn len_of(&self, client: &mut Client<T>, handle: Handle, hold: Hold) -> usize
+        requires known { Knows self.now client.old }
+        requires held { hold_of client.old handle ≡ Some hold }
+        ensures known { Knows self.now client.new }
+        ensures reads { Reads self.now client.old client.new }
+        ensures exact { IfSome (held_of self.now client.old handle) (λ held.
+            result ≡ length held.insertion.value) }
+        ensures rest { client.new ≡ record client.old { seats = client.new.seats } }
+        ensures steps { TakesAtMost 1 client.old client.new }
+    {
+        match hold.kept {
+            Kept::Pinned { slot, counting } => {
+                let pin = Pin {
+                    name: hold.serial,
+                    slot,
+                    counting,
+                };
+                let seat = &mut client.seats[hold.shard];
+                self.shards[hold.shard].value_len(seat, pin)
+            }
+            Kept::Standing { index } => client.alone[index].value.len(),
+        }
+    }
+
+    /// Copies the value, by what the client keeps of the handle.
+    fn copy_of(
+        &self,
+        client: &mut Client<T>,
+        handle: Handle,
+        hold: Hold,
+        buffer: &mut [u8],
+    ) -> usize
+        requires known { Knows self.now client.old }
+        requires held { hold_of client.old handle ≡ Some hold }
+        requires space { IfSome (held_of self.now client.old handle) (λ held.
+            length held.insertion.value ≤ length buffer.old) }
+        ensures known { Knows self.now client.new }
+        ensures reads { Reads self.now client.old client.new }
+        ensures length { IfSome (held_of self.now client.old handle) (λ held.
+            result ≡ length held.insertion.value) }
+        ensures bytes { IfSome (held_of self.now client.old handle) (λ held.
+            buffer.new ≡ held.insertion.value
+            ++ drop (length held.insertion.value) buffer.old) }
+        ensures steps { TakesAtMost (words_for result + 1) client.old client.new }
+    {
         match hold.kept {
             Kept::Pinned { slot, counting } => {
                 let pin = Pin {

@@ -1,14 +1,15 @@
 //! Handles that are given back.
-ghost use Rattle.std.specs.Prelude.{◌≡◌, ◌+◌, ◌*◌, ◌&&◌, Some};
+ghost use Rattle.std.specs.Prelude.{◌≡◌, ◌+◌, ◌*◌, ◌&&◌, IfNone, IfSome, Some};
 ghost use Rattle.hcc_cache.specs.declared.holding.Kept.TheVariants.{Pinned, Standing};
 ghost use Rattle.hcc_cache.specs.Calls.{GivesBackIn, GivesUp, Releases, TakesAtMost};
 ghost use Rattle.hcc_cache.specs.Clients.{hold_of, Holds};
+ghost use Rattle.hcc_cache.specs.Handles.{handle_of, HoldsNone};
 ghost use Rattle.hcc_cache.specs.Known.{Knows};
 ghost use Rattle.hcc_table.specs.Steps.{freeing};
 
 use crate::cache::Cache;
 use crate::client::Client;
-use crate::handle::Handle;
+use crate::handle::{Handle, Numbers};
 use crate::holding::{Hold, Kept};
 use hcc_rule::Tag;
 use hcc_table::{IfLast, Pin, Use};
@@ -39,6 +40,53 @@ impl<T: Tag> Cache<T> {
         ensures steps { TakesAtMost (freeing self.now.geometry.slots + 3) client.old client.new }
     {
         let hold = client.hold(handle);
+        self.release_hold(client, handle, hold, useful, erase_if_last)
+    }
+
+    /// The same by a handle's numbers: none where the client holds no handle of these numbers, and
+    /// nothing is changed then.
+    ///
+    /// It allocates nothing. It costs a look at the handle's index, and what `release` costs.
+    #[inline]
+    pub fn try_release(
+        &self,
+        client: &mut Client<T>,
+        numbers: Numbers,
+        useful: bool,
+        erase_if_last: bool,
+    ) -> Option<bool>
+        requires { Knows self.now client.old }
+        ensures known { Knows self.now client.new }
+        ensures none { IfNone result (HoldsNone client.old numbers × (client.new ≡ client.old)) }
+        ensures some { IfSome result (λ _. Holds client.old (handle_of numbers)) }
+        ensures released { IfSome result (λ freed. Releases self.now (handle_of numbers)
+            erase_if_last freed client.old client.new) }
+        ensures gives { IfSome result (λ freed. GivesUp self.now (handle_of numbers) useful
+            erase_if_last freed client.old client.new) }
+        ensures steps { TakesAtMost (freeing self.now.geometry.slots + 3) client.old client.new }
+    {
+        let handle = numbers.handle();
+        let hold = client.find(handle)?;
+        Some(self.release_hold(client, handle, hold, useful, erase_if_last))
+    }
+
+    /// Gives a handle back of which the client keeps this.
+    fn release_hold(
+        &self,
+        client: &mut Client<T>,
+        handle: Handle,
+        hold: Hold,
+        useful: bool,
+        erase_if_last: bool,
+    ) -> bool
+        requires known { Knows self.now client.old }
+        requires held { hold_of client.old handle ≡ Some hold }
+        ensures known { Knows self.now client.new }
+        ensures released { Releases self.now handle erase_if_last result client.old client.new }
+        ensures gives { GivesUp self.now handle useful erase_if_last result
+            client.old client.new }
+        ensures steps { TakesAtMost (freeing self.now.geometry.slots + 3) client.old client.new }
+    {
         match hold.kept {
             Kept::Pinned { slot, counting } => {
                 let pin = Pin {

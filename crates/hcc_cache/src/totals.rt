@@ -1,12 +1,14 @@
 //! Totals of a cache, and words of its shards.
-ghost use Rattle.std.specs.Prelude.{◌≡◌, ◌+◌, ◌-◌, ◌*◌, ◌^◌, ◌<◌, ◌≤◌, true, ℕ, length};
+ghost use Rattle.std.specs.Prelude.{◌≡◌, ◌+◌, ◌-◌, ◌*◌, ◌/◌, ◌^◌, ◌<◌, ◌≤◌, true, ℕ, length, slice_get};
+ghost use Rattle.hcc_core.specs.declared.limits.TheConstants.{OCCUPANCY_PERCENT};
 ghost use Rattle.hcc_rule.specs.Looked.{after_look, Backs};
 ghost use Rattle.hcc_rule.specs.ToldTrails.{passed_held};
-ghost use Rattle.hcc_shard.specs.Callers.{LoadsDisplacement, LoadsWord};
+ghost use Rattle.hcc_shard.specs.Callers.{LoadsDisplacement, LoadsOccupancy, LoadsWord};
+ghost use Rattle.hcc_shard.specs.Counted.{LoadsUsage};
 ghost use Rattle.hcc_cache.specs.Calls.{AtShard, KeepsAll, Reads, TakesAtMost, Works};
 ghost use Rattle.hcc_cache.specs.Clients.{view_at};
 ghost use Rattle.hcc_cache.specs.Known.{Knows};
-ghost use Rattle.hcc_cache.specs.Totals.{charge_by, charge_in, entries_by, made_by, no_stats, stats_over, stats_with, taken_by, LoadsUsages, SearchesAll};
+ghost use Rattle.hcc_cache.specs.Totals.{charge_by, charge_in, entries_by, made_by, no_stats, stats_over, stats_with, taken_by, LoadsEachOccupancy, LoadsEachUsage, LoadsUsages, SearchesAll};
 ghost use Rattle.hcc_rule.specs.ToldLedgers.{after_usage};
 ghost use Rattle.hcc_rule.specs.Records.{different};
 ghost use Rattle.hcc_table.specs.Searched.{Sought};
@@ -17,9 +19,10 @@ use hcc_rule::Tag;
 use hcc_shard::Stats;
 
 impl<T: Tag> Cache<T> {
-    /// What is charged in all shards, one after the other: at most their capacities, where they are
-    /// strict. It is at least the charges of the different entries that the client holds, with its
-    /// standalone ones. Above 2^64 - 1 it says that.
+    /// What is charged in all shards: the sum of their usage words, each loaded once, in turn, and
+    /// counted as at most the shard's capacity where that is strict. It is at least the charges of
+    /// the different entries that the client holds, with its standalone ones. A sum above 2^64 - 1
+    /// is 2^64 - 1.
     ///
     /// It refuses nothing and allocates nothing. It costs a load for each shard.
     pub fn usage(&self, client: &mut Client<T>) -> u64
@@ -27,6 +30,7 @@ impl<T: Tag> Cache<T> {
         ensures known { Knows self.now client.new }
         ensures keeps { KeepsAll self.now client.old client.new }
         ensures views { LoadsUsages client.old client.new }
+        ensures loads { LoadsEachUsage self.now result client.old client.new }
         ensures entries { charge_by client.old ≤ result }
         ensures strict { self.now.strict ≡ true
             → result ≤ length self.now.shards.items * self.now.capacity }
@@ -49,6 +53,10 @@ impl<T: Tag> Cache<T> {
             (after_usage used (view_at shard client.old)) }
         ensures entries { charge_in (view_at shard client.old) ≤ result }
         ensures strict { self.now.strict ≡ true → result ≤ self.now.capacity }
+        ensures loads { AtShard self.now (λ at was is. LoadsUsage at result was is) shard
+            client.old client.new }
+        ensures others { (s : ℕ) → ¬ (s ≡ shard)
+            → slice_get client.new.seats.items s ≡ slice_get client.old.seats.items s }
         ensures steps { TakesAtMost 1 client.old client.new }
     {
         let seat = &mut client.seats[shard];
@@ -98,9 +106,11 @@ impl<T: Tag> Cache<T> {
         self.shards[shard].pinned_usage(seat)
     }
 
-    /// How many entries all shards have, one after the other, with the places and the freed slots
-    /// that other clients have in hand: at least the different entries that the client holds. In a
-    /// cache of one client it is exact: those that it made, less those that it took.
+    /// How many entries all shards have, with the places and the freed slots that other clients
+    /// have in hand: the sum of their occupancy words, each loaded once, in turn. It is at least
+    /// the different entries that the client holds, and at most 84 of 100 slots of each shard, with
+    /// one more there for each client. In a cache of one client it is exact: those that it made,
+    /// less those that it took.
     ///
     /// It refuses nothing and allocates nothing. It costs a load for each shard.
     pub fn occupancy(&self, client: &mut Client<T>) -> u64
@@ -110,6 +120,9 @@ impl<T: Tag> Cache<T> {
         ensures entries { entries_by client.old ≤ result }
         ensures alone { self.now.geometry.clients ≡ 1
             → result + taken_by client.old ≡ made_by client.old }
+        ensures high { result ≤ length self.now.shards.items
+            * (self.now.geometry.slots * OCCUPANCY_PERCENT / 100 + self.now.geometry.clients) }
+        ensures loads { LoadsEachOccupancy self.now result client.old client.new }
         ensures steps { TakesAtMost (length self.now.shards.items) client.old client.new }
     {
         let mut sum: u64 = 0;
@@ -127,9 +140,15 @@ impl<T: Tag> Cache<T> {
         ensures reads { Reads self.now client.old client.new }
         ensures entries { length (different (view_at shard client.old).records) ≤ result }
         ensures low { result < 2 ^ 33 }
+        ensures high { result ≤ self.now.geometry.slots * OCCUPANCY_PERCENT / 100
+            + self.now.geometry.clients }
         ensures alone { self.now.geometry.clients ≡ 1
             → result + (view_at shard client.old).takings
             ≡ length (view_at shard client.old).made }
+        ensures loads { AtShard self.now (λ at was is. LoadsOccupancy at result was is) shard
+            client.old client.new }
+        ensures others { (s : ℕ) → ¬ (s ≡ shard)
+            → slice_get client.new.seats.items s ≡ slice_get client.old.seats.items s }
         ensures steps { TakesAtMost 1 client.old client.new }
     {
         let seat = &mut client.seats[shard];

@@ -1,6 +1,7 @@
-use Rattle.std.proofs.Common.{◌≡◌, ◌+◌, ◌*◌, refl, ap, ◌∙◌, length, mul-le-mul_left, arith}
+use Rattle.std.proofs.Common.{◌≡◌, ℕ, ◌+◌, ◌-◌, ◌*◌, refl, ap, ◌∙◌, length, mul-le-mul_left, arith}
 use Rattle.std.specs.Vec.{with_item}
 use Rattle.hcc_rule.specs.declared.geometry.Geometry.{Geometry}
+use Rattle.hcc_rule.specs.declared.view.View.{View}
 use Rattle.hcc_table.specs.Searched.{AllDead}
 use Rattle.hcc_table.specs.Steps.{freeing}
 use Rattle.hcc_shard.specs.Callers.{view_of, ErasesAt}
@@ -8,7 +9,7 @@ use Rattle.hcc_cache.specs.declared.client.Client.{Client}
 use Rattle.hcc_cache.specs.Calls.{Works, shard_in}
 use Rattle.hcc_cache.specs.Keys.{fits_seeded}
 use Rattle.hcc_cache.specs.Sharding.{key_to, shard_of}
-use Rattle.hcc_cache.proofs.At.{did_at, is_at, seated_at, works_at}
+use Rattle.hcc_cache.proofs.At.{did_at, is_at, seated_at, takes_for, works_at}
 use Rattle.hcc_cache.proofs.Dead.{all_held_dead}
 use Rattle.hcc_cache.proofs.Resting.{keeps_same, knows_same, same_erased}
 use Rattle.hcc_cache.proofs.Seats.{steps_set}
@@ -84,6 +85,25 @@ returns-clause-searched g c =
     (record { seats = refl; number = refl; most = refl; capacity = (refl, refl) })
     (λ s a b. ErasesAt (fits_seeded g.T.Tag.fits) s (key_to cache.seed c.args.key) c.erase.result a
     b) (rw (← words) c.erase.ensures.erases) (shard_in cache c.args.key) there
+
+pub returns-clause-frees : goal.returns-clause-frees
+returns-clause-frees g c =
+    let cache = c.args.self.now in
+    let old = c.args.client.now in
+    let i = c.shard_number-shard.result in
+    let was = c.index_mut-seat.result.now in
+    let is = c.erase.new.seat in
+    let at = is_at cache old i c.index.result.now was c.requires
+    c.shard_number-shard.ensures.inside c.index.ensures c.index_mut-seat.ensures.value in
+    let alike = at.knows.alike.plans i c.index.result.now at.shard_is in
+    let more : View _ → View _ → ℕ = λ v w.
+    (cache.geometry.slots + 4) * (w.takings - v.takings) + 2 in
+    takes_for cache old (record old { seats = with_item old.seats i is }) i c.index.result.now was
+    is at (record { seats = refl; number = refl; most = refl; capacity = (refl, refl) }) 9
+    (more (view_of was) (view_of is)) more (shard_in cache c.args.key)
+    (c.shard_number-shard.ensures.value
+    ∙ ap (λ k. shard_of k (length cache.shards.items)) c.key_to-under.ensures.words)
+    (rw (← alike.0) c.erase.ensures.frees) (omega arith)
 
 pub returns-clause-steps : goal.returns-clause-steps
 returns-clause-steps g c =

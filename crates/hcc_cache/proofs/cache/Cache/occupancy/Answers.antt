@@ -1,6 +1,10 @@
-use Rattle.std.proofs.Common.{mul-suc, ◌≡◌, ◌^◌, refl, ap, length, arith}
+use Rattle.std.proofs.Common.{mul_comm, mul-suc, ◌≡◌, ◌+◌, ◌*◌, ◌/◌, ◌^◌, [], ◌∷◌, ◌++◌, refl, ap, length, arith}
+use Rattle.hcc_core.specs.declared.limits.TheConstants.{OCCUPANCY_PERCENT}
+use Rattle.hcc_core.proofs.SumLemmas.{total-append}
 use Rattle.hcc_rule.specs.Records.{different}
+use Rattle.hcc_shard.specs.Callers.{LoadsOccupancy}
 use Rattle.hcc_cache.specs.Clients.{view_at}
+use Rattle.hcc_cache.proofs.Each.{each_first, each_next}
 use Rattle.hcc_cache.proofs.Through.{goes_first, goes_on, sum_all, sum_next}
 use Rattle.hcc_cache.proofs.cache.Cache.occupancy.Goals as goal
 
@@ -10,6 +14,10 @@ loop-shard-init g c = (
   omega arith,
   omega arith,
   λ one. omega arith,
+  omega arith,
+  [],
+  each_first c.args.self.now LoadsOccupancy c.args.client.now,
+  refl,
 )
 
 pub loop-shard-preserved : goal.loop-shard-preserved
@@ -45,6 +53,16 @@ loop-shard-preserved g c =
         sum_next k (λ s. length (view_at s old).made),
       )
           (let so = sum.3 one in let more = told.alone one in omega arith),
+      (let so = sum.4 in let high = told.high in
+          let product = mul-suc
+          (cache.geometry.slots * OCCUPANCY_PERCENT / 100 + cache.geometry.clients) k in
+          omega arith),
+      sum.5 ++ c.occupancy_at-sum.result ∷ [],
+      each_next cache LoadsOccupancy sum.5 old now c.occupancy_at-sum.new.client k
+          c.occupancy_at-sum.result sum.6 told.loads told.others,
+      (let so = sum.7 in
+          let more = total-append (λ n. n) sum.5 (c.occupancy_at-sum.result ∷ []) in
+          omega arith),
     )
 
 pub returns-clause-entries : goal.returns-clause-entries
@@ -72,3 +90,26 @@ returns-clause-alone g c one =
       ← end,
     )
     (c.loop-shard.invariant.3 one)
+
+pub returns-clause-high : goal.returns-clause-high
+returns-clause-high g c =
+    let cache = c.args.self.now in
+    let last = c.loop-shard-test.false in
+    let near = c.loop-shard.auto.shard-end in
+    let size = c.len-shard-end.ensures in
+    let end : c.loop-shard.shard ≡ length cache.shards.items = omega arith in
+    let each = cache.geometry.slots * OCCUPANCY_PERCENT / 100 + cache.geometry.clients in
+    rw (mul_comm (length cache.shards.items) each, ← end) c.loop-shard.invariant.4
+
+pub returns-clause-loads : goal.returns-clause-loads
+returns-clause-loads g c =
+    let last = c.loop-shard-test.false in
+    let near = c.loop-shard.auto.shard-end in
+    let size = c.len-shard-end.ensures in
+    let finds = c.loop-shard.invariant.6 in
+    let count = finds.count in
+    record {
+      counts = c.loop-shard.invariant.5;
+      loads = record { count = omega arith; each = finds.each };
+      sum = c.loop-shard.invariant.7;
+    }

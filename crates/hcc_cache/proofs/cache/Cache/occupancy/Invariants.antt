@@ -1,6 +1,10 @@
-use Rattle.std.proofs.Common.{◌≡◌, ◌+◌, ◌*◌, ◌^◌, ◌≤◌, length}
+use Rattle.std.proofs.Common.{◌≡◌, ℕ, ◌+◌, ◌*◌, ◌/◌, ◌^◌, ◌≤◌, List, length}
+use Rattle.hcc_core.specs.declared.limits.TheConstants.{OCCUPANCY_PERCENT}
+use Rattle.hcc_core.specs.Sums.{total}
 use Rattle.hcc_rule.specs.Records.{different}
+use Rattle.hcc_shard.specs.Callers.{LoadsOccupancy}
 use Rattle.hcc_cache.specs.Clients.{view_at}
+use Rattle.hcc_cache.proofs.Each.{FindsEach}
 use Rattle.hcc_cache.proofs.Through.{GoesThrough, sum_to}
 use Rattle.hcc_cache.proofs.cache.Cache.occupancy.Given as goal
 
@@ -12,3 +16,7 @@ invariant-loop-shard g l =
     × (l.self.geometry.clients ≡ 1
     → l.sum + sum_to l.shard (λ s. (view_at s l.fn.client).takings)
     ≡ sum_to l.shard (λ s. length (view_at s l.fn.client).made))
+    × (l.sum ≤ (l.self.geometry.slots * OCCUPANCY_PERCENT / 100 + l.self.geometry.clients)
+    * l.shard)
+    × (counts : List ℕ) × FindsEach l.self LoadsOccupancy counts l.fn.client l.client l.shard
+    × (l.sum ≡ total (λ n. n) counts)

@@ -4,7 +4,7 @@ use Rattle.hcc_cache.specs.declared.client.Client.{Client}
 use Rattle.hcc_cache.specs.declared.holding.Hold.{Hold}
 use Rattle.hcc_cache.specs.Sharding.{shard_of}
 use Rattle.hcc_cache.proofs.At.{ChangesAt, few_at, is_at, next_at, seated_at}
-use Rattle.hcc_cache.proofs.Found.{finds, knows_more, knows_sought, looks_at, misses, searched_at}
+use Rattle.hcc_cache.proofs.Found.{finds, knows_more, knows_sought, looks_at, misses, searched_at, visits_at}
 use Rattle.hcc_cache.proofs.Gained.{IsGiven}
 use Rattle.hcc_cache.proofs.cache.Cache.search.Goals as goal
 
@@ -95,6 +95,22 @@ returns-in_err-pin-clause-searched g c =
     (c.shard_number-shard.ensures.value ∙ ap (λ k. shard_of k shards) words) c.lookup.result
     (ap is_some c.in_err-pin.was) (rw words at c.lookup.ensures.searches))
 
+pub returns-in_err-pin-clause-visits : goal.returns-in_err-pin-clause-visits
+returns-in_err-pin-clause-visits g c =
+    let cache = c.args.self.now in
+    let old = c.args.client.now in
+    let i = c.shard_number-shard.result in
+    let shard = c.index.result.now in
+    let was = c.index_mut-seat.result.now in
+    let is = c.lookup.new.seat in
+    let at = is_at cache old i shard was c.requires.known c.shard_number-shard.ensures.inside
+    c.index.ensures c.index_mut-seat.ensures.value in
+    let words = c.key_to-under.ensures.words in
+    visits_at cache old (record old { seats = with_item old.seats i is }) i shard was is at
+    (record { seats = refl; number = refl; most = refl; capacity = (refl, refl) }) c.args.key
+    (c.shard_number-shard.ensures.value ∙ ap (λ k. shard_of k (length cache.shards.items)) words)
+    c.lookup.ensures.steps
+
 pub returns-in_err-pin-clause-steps : goal.returns-in_err-pin-clause-steps
 returns-in_err-pin-clause-steps g c =
     let cache = c.args.self.now in
@@ -174,6 +190,10 @@ returns g c =
           (Some c.keep.result)
           (c.shard_number-shard.ensures.value ∙ ap (λ k. shard_of k shards) words) c.lookup.result
           (ap is_some c.in_ok-pin.was) (rw words at c.lookup.ensures.searches);
+      visits =
+          visits_at cache old new i shard was is at change c.args.key
+          (c.shard_number-shard.ensures.value ∙ ap (λ k. shard_of k shards) words)
+          c.lookup.ensures.steps;
       steps =
           looks_at cache old new i shard was is at change was.effort is.effort
           c.lookup.ensures.steps;

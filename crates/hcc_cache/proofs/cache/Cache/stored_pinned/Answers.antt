@@ -6,13 +6,14 @@ use Rattle.hcc_shard.specs.Inserted.{RefusedBy, with_draft}
 use Rattle.hcc_cache.specs.declared.client.Client.{Client}
 use Rattle.hcc_cache.specs.declared.holding.Alone.{Alone}
 use Rattle.hcc_cache.specs.declared.holding.Kept.TheVariants.{Standing}
+use Rattle.hcc_cache.specs.Calls.{shard_in}
 use Rattle.hcc_cache.specs.Inserts.{pinned_draft}
 use Rattle.hcc_cache.specs.Sharding.{shard_of}
 use Rattle.hcc_cache.proofs.Alone.{IsJoined}
 use Rattle.hcc_cache.proofs.At.{ChangesAt, few_at, is_at, seated_at}
 use Rattle.hcc_cache.proofs.Gained.{IsGiven}
 use Rattle.hcc_cache.proofs.Handing.{few_alone, has_room, hold_with, knows_alone, knows_pins, pinned_told, pins_at, stands_at}
-use Rattle.hcc_cache.proofs.Insertions.{IsAsked, fails_at, insertable_at, inserts_at, knows_asked, leaves_refused, leaves_unshown, pins_did, told_as}
+use Rattle.hcc_cache.proofs.Insertions.{IsAsked, fails_at, frees_at, insertable_at, inserts_at, knows_asked, leaves_refused, leaves_unshown, pins_did, told_as}
 use Rattle.hcc_cache.proofs.Refusals.{not_full, not_large, not_spent, refuses_did, refuses_told}
 use Rattle.hcc_cache.proofs.cache.Cache.stored_pinned.Goals as goal
 
@@ -144,6 +145,9 @@ returns-in-Ok-Placed g c =
             c.args.priority here draft same (Ok c.in-Ok-Placed.field-0) (Ok (Placed pin))
             (ap Ok c.in-Ok-Placed.field-0-is) c.in-Ok-Placed.ensures.evicts,
       );
+      frees =
+          frees_at cache old new i shard was is at change (shard_in cache c.args.key) here
+          c.insert_pinned.ensures.frees;
       steps = inserts_at cache old new i shard was is at change c.insert_pinned.ensures.steps;
     }
 
@@ -235,6 +239,9 @@ returns-in-Ok-Standalone g c =
           pins_did cache old new i shard was is at change g.T.Tag.fits c.args.key c.args.charge
           c.args.priority here draft same (Ok c.in-Ok-Standalone.field-0) (Ok Standalone)
           (ap Ok c.in-Ok-Standalone.field-0-is) c.in-Ok-Standalone.ensures.evicts;
+      frees =
+          frees_at cache old new i shard was is at change (shard_in cache c.args.key) here
+          c.insert_pinned.ensures.frees;
       steps = inserts_at cache old new i shard was is at change c.insert_pinned.ensures.steps;
     }
 
@@ -311,5 +318,8 @@ returns-in-Err g c =
           small
           (pins_did cache old new i shard was is at change g.T.Tag.fits c.args.key c.args.charge
           c.args.priority here draft same (Err why) (Err why) refl c.in-Err.ensures.evicts));
+      frees =
+          frees_at cache old new i shard was is at change (shard_in cache c.args.key) here
+          c.insert_pinned.ensures.frees;
       steps = inserts_at cache old new i shard was is at change c.insert_pinned.ensures.steps;
     }

@@ -1,8 +1,11 @@
-use Rattle.std.proofs.Common.{mul-suc, ◌≡◌, ◌-◌, ◌^◌, ◌≤◌, min, ap, length, arith}
+use Rattle.std.proofs.Common.{mul-suc, ◌≡◌, ◌-◌, ◌^◌, ◌≤◌, [], ◌∷◌, ◌++◌, min, ap, length, arith}
+use Rattle.hcc_core.proofs.SumLemmas.{total-append}
 use Rattle.hcc_rule.specs.ToldLedgers.{after_usage}
+use Rattle.hcc_shard.specs.Counted.{LoadsUsage}
 use Rattle.hcc_cache.specs.Clients.{view_at}
 use Rattle.hcc_cache.specs.Totals.{charge_by, charge_in}
 use Rattle.hcc_cache.proofs.Charged.{charge_counts}
+use Rattle.hcc_cache.proofs.Each.{each_first, each_next}
 use Rattle.hcc_cache.proofs.Through.{goes_first, goes_on, most_counted, sum_all, sum_next, sum_to}
 use Rattle.hcc_cache.proofs.cache.Cache.usage.Goals as goal
 
@@ -11,6 +14,9 @@ loop-shard-init g c = (
   goes_first c.args.self.now _ 1 c.args.client.now c.requires,
   omega arith,
   λ strict. omega arith,
+  [],
+  each_first c.args.self.now LoadsUsage c.args.client.now,
+  omega arith,
 )
 
 pub loop-shard-preserved : goal.loop-shard-preserved
@@ -22,6 +28,7 @@ loop-shard-preserved g c =
     let told = c.usage_at.ensures in
     let stays = c.loop-shard.invariant.0.left k (omega arith) in
     let charge : charge_in (view_at k now) ≡ charge_in (view_at k old) = ap charge_in stays in
+    let counts = c.loop-shard.invariant.3 in
     let more = told.entries in (
       goes_on cache _ 1 old now c.usage_at.new.client k
           (after_usage told.view.0 (view_at k now)) c.loop-shard.invariant.0 told.known told.keeps
@@ -35,6 +42,11 @@ loop-shard-preserved g c =
           let product = mul-suc cache.capacity k in
           let sum = c.saturating_add-sum.ensures in
           omega arith,
+      counts ++ c.usage_at.result ∷ [],
+      each_next cache LoadsUsage counts old now c.usage_at.new.client k c.usage_at.result
+          c.loop-shard.invariant.4 told.loads told.others,
+      (let before = c.loop-shard.invariant.5 in let sum = c.saturating_add-sum.ensures in
+          let more = total-append (λ n. n) counts (c.usage_at.result ∷ []) in omega arith),
     )
 
 pub returns-clause-entries : goal.returns-clause-entries
@@ -49,3 +61,16 @@ returns-clause-entries g c =
     rw (sum_all charge_in old.seats.items, ← end) c.loop-shard.invariant.1 in
     let counts = charge_counts c.args.self.now old c.requires in
     omega arith
+
+pub returns-clause-loads : goal.returns-clause-loads
+returns-clause-loads g c =
+    let last = c.loop-shard-test.false in
+    let near = c.loop-shard.auto.shard-end in
+    let size = c.len-shard-end.ensures in
+    let finds = c.loop-shard.invariant.4 in
+    let count = finds.count in
+    record {
+      counts = c.loop-shard.invariant.3;
+      loads = record { count = omega arith; each = finds.each };
+      sum = c.loop-shard.invariant.5;
+    }

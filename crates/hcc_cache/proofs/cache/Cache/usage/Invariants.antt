@@ -1,7 +1,10 @@
-use Rattle.std.proofs.Common.{◌≡◌, ◌*◌, ◌-◌, ◌^◌, ◌≤◌, min, true, ℕ}
+use Rattle.std.proofs.Common.{◌≡◌, ◌*◌, ◌-◌, ◌^◌, ◌≤◌, min, true, ℕ, List}
+use Rattle.hcc_core.specs.Sums.{total}
 use Rattle.hcc_rule.specs.ToldLedgers.{after_usage}
+use Rattle.hcc_shard.specs.Counted.{LoadsUsage}
 use Rattle.hcc_cache.specs.Clients.{view_at}
 use Rattle.hcc_cache.specs.Totals.{charge_in}
+use Rattle.hcc_cache.proofs.Each.{FindsEach}
 use Rattle.hcc_cache.proofs.Through.{GoesThrough, sum_to}
 use Rattle.hcc_cache.proofs.cache.Cache.usage.Given as goal
 
@@ -11,3 +14,5 @@ invariant-loop-shard g l =
     l.shard
     × (min (sum_to l.shard (λ s. charge_in (view_at s l.fn.client))) (2 ^ 64 - 1) ≤ l.sum)
     × (l.self.strict ≡ true → l.sum ≤ l.self.capacity * l.shard)
+    × (counts : List ℕ) × FindsEach l.self LoadsUsage counts l.fn.client l.client l.shard
+    × (l.sum ≡ min (total (λ n. n) counts) (2 ^ 64 - 1))

@@ -1,7 +1,9 @@
 use Rattle.std.proofs.Common.{refl, ap, ◌∙◌}
+use Rattle.hcc_core.proofs.ListLemmas.{read_other}
 use Rattle.hcc_shard.specs.Callers.{view_of}
+use Rattle.hcc_shard.specs.Counted.{LoadsUsage}
 use Rattle.hcc_cache.specs.Clients.{view_by}
-use Rattle.hcc_cache.proofs.At.{is_at, seated_at, works_at}
+use Rattle.hcc_cache.proofs.At.{did_at, is_at, seated_at, works_at}
 use Rattle.hcc_cache.proofs.Resting.{keeps_same, knows_same, same_usage}
 use Rattle.hcc_cache.proofs.Seats.{steps_set}
 use Rattle.hcc_cache.proofs.cache.Cache.usage_at.Goals as goal
@@ -66,6 +68,20 @@ returns-clause-strict g c =
     c.requires.known c.requires.within c.index.ensures c.index_mut-seat.ensures.value in
     let plans = at.knows.alike.plans c.args.shard c.index.result.now at.shard_is in
     λ strict. rw (← plans.1) (c.usage.ensures.strict (plans.2 ∙ strict))
+
+pub returns-clause-loads : goal.returns-clause-loads
+returns-clause-loads g c =
+    let was = c.index_mut-seat.result.now in
+    let at = is_at c.args.self.now c.args.client.now c.args.shard c.index.result.now was
+    c.requires.known c.requires.within c.index.ensures c.index_mut-seat.ensures.value in
+    did_at c.args.self.now c.args.client.now _ c.args.shard c.index.result.now was
+    c.usage.new.seat at
+    (record { seats = refl; number = refl; most = refl; capacity = (refl, refl) })
+    (λ s a b. LoadsUsage s c.usage.result a b) c.usage.ensures.view c.args.shard refl
+
+pub returns-clause-others : goal.returns-clause-others
+returns-clause-others g c s ne =
+    read_other c.args.client.now.seats.items c.args.shard s c.usage.new.seat ne
 
 pub returns-clause-steps : goal.returns-clause-steps
 returns-clause-steps g c =

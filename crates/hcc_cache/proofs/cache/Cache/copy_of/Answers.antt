@@ -1,41 +1,52 @@
 use Rattle.std.proofs.Common.{◌≡◌, ◌+◌, ◌≤◌, ◌++◌, List, ℕ, drop, length, refl, arith}
 use Rattle.std.specs.Vec.{with_item}
 use Rattle.hcc_rule.specs.Words.{words_for}
+use Rattle.slab.specs.Slab.{get}
 use Rattle.hcc_cache.specs.declared.client.Client.{Client}
 use Rattle.hcc_cache.proofs.Again.{hold_within, pin_at, pinned_at, stand_there}
 use Rattle.hcc_cache.proofs.At.{ChangesAt, is_at, seated_at, takes_at}
 use Rattle.hcc_cache.proofs.Found.{IsLeft}
+use Rattle.hcc_cache.proofs.Framing.{hold_there}
 use Rattle.hcc_cache.proofs.Readings.{knows_read, reads_at, told_back, told_of}
-use Rattle.hcc_cache.proofs.cache.Cache.read_value.Goals as goal
+use Rattle.hcc_cache.proofs.cache.Cache.copy_of.Goals as goal
 
 pub index_mut-seat-requires : goal.index_mut-seat-requires
 index_mut-seat-requires g c =
     let old = c.args.client.now in
-    let within = hold_within c.args.self.now old c.hold-hold.result c.args.handle.index
-    c.requires.known c.hold-hold.ensures.there in
+    let hold = c.args.hold in
+    let index = c.args.handle.index in
+    let there = hold_there old.number c.args.handle (get old.handles index) hold c.requires.held in
+    let within = hold_within c.args.self.now old hold index c.requires.known there in
     let length_is = old.seats.ok.0 in
     omega arith
 
 pub index-requires : goal.index-requires
 index-requires g c =
     let cache = c.args.self.now in
-    let within = hold_within cache c.args.client.now c.hold-hold.result c.args.handle.index
-    c.requires.known c.hold-hold.ensures.there in
+    let old = c.args.client.now in
+    let hold = c.args.hold in
+    let index = c.args.handle.index in
+    let there = hold_there old.number c.args.handle (get old.handles index) hold c.requires.held in
+    let within = hold_within cache old hold index c.requires.known there in
     let length_is = cache.shards.ok.0 in
     omega arith
 
 pub index-requires-in-Standing : goal.index-requires-in-Standing
 index-requires-in-Standing g c =
-    stand_there c.args.self.now c.args.client.now c.hold-hold.result c.in-Standing.index
-    c.args.handle.index c.requires.known c.hold-hold.ensures.there c.in-Standing.is
+    let old = c.args.client.now in
+    let hold = c.args.hold in
+    let index = c.args.handle.index in
+    let there = hold_there old.number c.args.handle (get old.handles index) hold c.requires.held in
+    stand_there c.args.self.now old hold c.in-Standing.index index c.requires.known there
+    c.in-Standing.is
 
 pub read_value-requires : goal.read_value-requires
 read_value-requires g c =
     let cache = c.args.self.now in
     let old = c.args.client.now in
-    let hold = c.hold-hold.result in
+    let hold = c.args.hold in
     let index = c.args.handle.index in
-    let there = c.hold-hold.ensures.there in
+    let there = hold_there old.number c.args.handle (get old.handles index) hold c.requires.held in
     let within = hold_within cache old hold index c.requires.known there in
     let shard = c.index.result.now in
     let was = c.index_mut-seat.result.now in
@@ -48,7 +59,7 @@ read_value-requires g c =
       slot = (pin_at cache old hold slot counting index shard was at there c.in-Pinned.is).within;
       holds = pinned_at cache old hold slot counting index shard was at there c.in-Pinned.is;
       space =
-          told_back cache old c.args.handle hold slot counting shard was at c.hold-hold.ensures.held
+          told_back cache old c.args.handle hold slot counting shard was at c.requires.held
           there c.in-Pinned.is
           (λ (bytes : List ℕ). length bytes ≤ length c.args.buffer.now) c.requires.space;
     }
@@ -57,9 +68,9 @@ pub returns-in-Pinned : goal.returns-in-Pinned
 returns-in-Pinned g c =
     let cache = c.args.self.now in
     let old = c.args.client.now in
-    let hold = c.hold-hold.result in
+    let hold = c.args.hold in
     let index = c.args.handle.index in
-    let there = c.hold-hold.ensures.there in
+    let there = hold_there old.number c.args.handle (get old.handles index) hold c.requires.held in
     let within = hold_within cache old hold index c.requires.known there in
     let shard = c.index.result.now in
     let was = c.index_mut-seat.result.now in
@@ -80,11 +91,11 @@ returns-in-Pinned g c =
       reads =
           reads_at cache old new hold.shard shard was is at change left c.read_value.ensures.view;
       length =
-          told_of cache old c.args.handle hold slot counting shard was at c.hold-hold.ensures.held
+          told_of cache old c.args.handle hold slot counting shard was at c.requires.held
           there c.in-Pinned.is
           (λ (bytes : List ℕ). c.read_value.result ≡ length bytes) c.read_value.ensures.length;
       bytes =
-          told_of cache old c.args.handle hold slot counting shard was at c.hold-hold.ensures.held
+          told_of cache old c.args.handle hold slot counting shard was at c.requires.held
           there c.in-Pinned.is
           (λ (bytes : List ℕ).
           c.read_value.new.buffer ≡ bytes ++ drop (length bytes) c.args.buffer.now)

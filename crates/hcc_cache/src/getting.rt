@@ -1,0 +1,46 @@
+//! Values that are read by their keys, with no handle.
+ghost use Rattle.std.specs.Prelude.{◌≡◌, ◌+◌};
+ghost use Rattle.hcc_cache.specs.Calls.{KeepsAll, TakesFor, shard_in};
+ghost use Rattle.hcc_cache.specs.Gets.{GetsAt, GetsFor, SeeksAt};
+ghost use Rattle.hcc_cache.specs.Known.{Knows};
+
+use crate::cache::Cache;
+use crate::client::Client;
+use crate::seeded::key_to;
+use hcc_rule::{Key, Tag};
+use hcc_shard::Got;
+use hcc_table::Use;
+
+impl<T: Tag> Cache<T> {
+    /// Copies the value of a visible entry of the key to the front of a buffer, where that has room
+    /// for it, and returns how many bytes it has: what a look-up, a reading and a release do
+    /// together, in one call and with no handle. The rest of the buffer stays, and all of it where
+    /// nothing is copied.
+    ///
+    /// It finds what a look-up would: an entry that the client hadn't seen erased, with a value
+    /// that fits the key. Its reference is given back, as a use where that is useful. It uses no
+    /// serial, and needs no handle to be free. The client's handles stand for what they stood for.
+    /// It frees nothing: an entry that was erased meanwhile, and that nobody holds then, stays
+    /// until the clock comes by.
+    ///
+    /// It refuses nothing and allocates nothing. It costs a look-up, a load for the length, one for
+    /// each eight bytes that are copied, and an add or a subtraction.
+    #[inline]
+    pub fn get(&self, client: &mut Client<T>, key: Key, buffer: &mut [u8], useful: bool) -> Got
+        requires { Knows self.now client.old }
+        ensures known { Knows self.now client.new }
+        ensures keeps { KeepsAll self.now client.old client.new }
+        ensures seeks { SeeksAt (shard_in self.now key) client.old client.new }
+        ensures got { GetsFor self.now T.fits key result buffer.old buffer.new
+            client.old client.new }
+        ensures gets { GetsAt self.now T.fits key useful result buffer.old buffer.new
+            client.old client.new }
+        ensures steps { TakesFor self.now 7 (λ v w. self.now.geometry.room + 2)
+            (shard_in self.now key) client.old client.new }
+    {
+        let under = key_to(self.seed, key);
+        let shard = self.shard_number(under);
+        let seat = &mut client.seats[shard];
+        self.shards[shard].get(seat, under, buffer, Use::of(useful))
+    }
+}
