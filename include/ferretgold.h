@@ -2,8 +2,8 @@
  * ferretgold.h - a block cache of fixed slots for many threads, without locks.
  *
  * A cache has keys of 16 bytes, values of at most 4,096 bytes, charges and priorities. Its table is
- * allocated when it is opened. Each call returns after at most a stated number of atomic steps,
- * whatever other threads do. What the calls do is proved; docs/GUIDE.md says how to use them and
+ * allocated when it is opened. Each call on a client makes at most a stated number of atomic steps,
+ * whatever other threads do. What the library does is proved; docs/GUIDE.md says how to use it and
  * how to choose the sizes. The header is for C11, C++11 and later.
  *
  *     ferretgold_config config = { .slots = 1024, .room = 512, .clients = 2, .handles = 16,
@@ -69,7 +69,7 @@ extern "C" {
 /* What a call returns. */
 typedef enum ferretgold_status {
     FERRETGOLD_OK = 0,
-    /* Nothing of the key was found. Of ferretgold_lookup only. */
+    /* Nothing of the key was found. Of ferretgold_lookup and ferretgold_get only. */
     FERRETGOLD_MISS = 1,
 
     /* A pointer is null that may not be. */
@@ -230,6 +230,8 @@ uint32_t ferretgold_raw_value_len(ferretgold_object *client, const ferretgold_ha
                                   size_t *length);
 uint32_t ferretgold_raw_read_value(ferretgold_object *client, const ferretgold_handle *handle,
                                    uint8_t *buffer, size_t capacity, size_t *length);
+uint32_t ferretgold_raw_get(ferretgold_object *client, const ferretgold_key *key, uint8_t *buffer,
+                            size_t capacity, bool useful, size_t *length);
 uint64_t ferretgold_raw_usage(ferretgold_object *client);
 uint64_t ferretgold_raw_pinned_usage(ferretgold_object *client);
 uint64_t ferretgold_raw_occupancy(ferretgold_object *client);
@@ -278,7 +280,7 @@ static inline ferretgold_status ferretgold_open(const ferretgold_config *config,
  * Gives out a client: one that holds no handle, new or given back before. One that was given back
  * has the serials left that it had, and its statistics.
  *
- * Allocates the client's object and 40 bytes a handle. Makes no atomic step on the cache's words.
+ * Allocates the client's object. Makes no atomic step on the cache's words.
  *
  * Refuses NO_CLIENT, OUT_OF_MEMORY.
  */
@@ -320,7 +322,7 @@ static inline ferretgold_status ferretgold_client_close(ferretgold_cache *cache,
  *
  * A cache of which a client was lost can't be closed: it stays.
  *
- * Costs a load for each client and shard, two for each shard and for each slot, and one for each
+ * Costs at each shard a load for each client and two more, two for each slot, and one for each
  * entry that is left.
  *
  * Refuses MISSING. After a refusal the cache works on.
@@ -435,7 +437,7 @@ static inline const uint8_t *ferretgold_bytes_of(const void *value) {
  *
  * PLACED: the entry is in the table. DROPPED: the shard was full and no place was found, or an
  * entry of the key was met first (it is used then, and its value stays), or none of L probes found
- * an empty slot. Uses a serial, also if it is refused by the last two.
+ * an empty slot. Uses a serial, also if CAPACITY_FULL or OCCUPANCY_FULL refuses it.
  *
  * Costs the reservation, for each probe what a look-up costs, and a store for each word of the
  * entry. Bound: (4*L + 25)*(3*L/4 + 1) + 8*L + W + 8.
@@ -467,8 +469,8 @@ static inline ferretgold_status ferretgold_insert(ferretgold_client *client,
  * Inserts an entry of this key, value and charge, and gives a handle on it. PLACED: it is in the
  * table. STANDALONE: it isn't, for one of the reasons that ferretgold_insert drops one for;
  * look-ups don't find it, its charge is in the usage, and it goes with its last handle. `value` may
- * be null if `length` is 0, and `inserted` may be null. Uses one serial, also if it is refused by
- * the last two.
+ * be null if `length` is 0, and `inserted` may be null. Uses one serial, also if CAPACITY_FULL or
+ * OCCUPANCY_FULL refuses it.
  *
  * Allocates a copy of the value by malloc, and frees it unless the entry is standalone, which keeps
  * it. Costs what ferretgold_insert costs, the copy, and if no place was found two adds more. Bound:
@@ -588,6 +590,36 @@ static inline ferretgold_status ferretgold_read_value(ferretgold_client *client,
     uint32_t status = ferretgold_raw_read_value(&object, &handle,
                                                 buffer != NULL ? (uint8_t *)buffer : none,
                                                 capacity, &answer);
+    if ((status == FERRETGOLD_OK || status == FERRETGOLD_TOO_SHORT) && length != NULL) {
+        *length = answer;
+    }
+    return (ferretgold_status)status;
+}
+
+/*
+ * Reads the value of a visible entry of the key: what ferretgold_lookup, ferretgold_read_value and
+ * ferretgold_release do together, in one call and with no handle. The value is copied to the front
+ * of a buffer of `capacity` bytes, and `length` gets its length; the rest of the buffer stays.
+ * `buffer` may be null if `capacity` is 0, and `length` may be null. With `useful` the reading is a
+ * use of the entry. It uses no serial, and frees nothing.
+ *
+ * Costs a look-up, a load for the length, one for each eight bytes, and an add or a subtraction.
+ * Bound: 7 * L + W + 2.
+ *
+ * MISS: nothing of the key was found. Refuses TOO_SHORT: there is an entry, `length` gets how many
+ * bytes its value has, and the buffer stays.
+ */
+static inline ferretgold_status ferretgold_get(ferretgold_client *client,
+                                               const ferretgold_key *key, void *buffer,
+                                               size_t capacity, bool useful, size_t *length) {
+    if (client == NULL || key == NULL || (buffer == NULL && capacity != 0)) {
+        return FERRETGOLD_NULL;
+    }
+    ferretgold_object object = ferretgold_object_of(client);
+    uint8_t none[1];
+    size_t answer = 0;
+    uint32_t status = ferretgold_raw_get(&object, key, buffer != NULL ? (uint8_t *)buffer : none,
+                                         capacity, useful, &answer);
     if ((status == FERRETGOLD_OK || status == FERRETGOLD_TOO_SHORT) && length != NULL) {
         *length = answer;
     }

@@ -102,6 +102,12 @@ class client {
         return handle(client_, found);
     }
 
+    // Copies the value of an entry of the key to a buffer, with no handle: OK, MISS or TOO_SHORT.
+    ferretgold_status read(const ferretgold_key &key, void *buffer, std::size_t capacity,
+                           std::size_t *length, bool useful = true) noexcept {
+        return ferretgold_get(client_, &key, buffer, capacity, useful, length);
+    }
+
     ferretgold_status insert(const ferretgold_key &key, const void *value, std::size_t length,
                              std::uint32_t charge,
                              ferretgold_priority priority = FERRETGOLD_LOW) noexcept {

@@ -2,6 +2,8 @@
 use Rattle.std.specs.Prelude.{ℕ, Option, Some, None, Result, Ok, Err, Box}
 use Rattle.std.specs.Global.{Global}
 use Rattle.hcc_rule.specs.declared.key.Key.{Key as CacheKey}
+use Rattle.hcc_shard.specs.declared.getting.Got.{Got}
+use Rattle.hcc_shard.specs.declared.getting.Got.TheVariants.{Hit, Miss, Short}
 use Rattle.hcc_cache.specs.declared.errors.InsertError.{InsertError}
 use Rattle.hcc_cache.specs.declared.errors.LookupError.{LookupError}
 use Rattle.hcc_cache.specs.declared.inserting.Inserted.{Inserted}
@@ -89,6 +91,17 @@ abbrev pub length_of : Option (Result ℕ ℕ) → ℕ → ℕ
 length_of None old = old
 length_of (Some (Ok length)) old = length
 length_of (Some (Err need)) old = need
+
+-- a reading by a key
+abbrev pub status_of_got : Got → ℕ
+status_of_got Miss = 1
+status_of_got (Hit count) = 0
+status_of_got (Short count) = code_of TooShort
+
+abbrev pub length_got : Got → ℕ → ℕ
+length_got Miss old = old
+length_got (Hit count) old = count
+length_got (Short count) old = count
 
 -- what a call gives, or why it gives nothing
 module _ {A : Type 0} where

@@ -6,6 +6,7 @@ use Rattle.hcc_rule.specs.Looked.{Backs, after_look}
 use Rattle.hcc_rule.specs.ToldTrails.{passed_held}
 use Rattle.hcc_rule.specs.Words.{words_for}
 use Rattle.hcc_table.specs.Steps.{freeing}
+use Rattle.hcc_shard.specs.declared.getting.Got.{Got}
 use Rattle.hcc_shard.specs.Inserted.{inserting}
 use Rattle.hcc_cache.specs.declared.errors.InsertError.{InsertError}
 use Rattle.hcc_cache.specs.declared.errors.InsertError.TheVariants as insert
@@ -14,22 +15,21 @@ use Rattle.hcc_cache.specs.declared.errors.LookupError.TheVariants as look
 use Rattle.hcc_cache.specs.declared.handle.Handle.{Handle}
 use Rattle.hcc_cache.specs.declared.inserting.Inserted.{Inserted}
 use Rattle.hcc_cache.specs.declared.priority.Priority.{Priority}
-use Rattle.hcc_cache.specs.Calls.{Erases, Finds, GivesUp, KeepsAll, Misses, Reads, Releases, Rerefs, TakesAtMost, Works}
+use Rattle.hcc_cache.specs.Calls.{Erases, Finds, GivesUp, KeepsAll, Misses, Reads, Releases, Rerefs, TakesAtMost, TakesFor, Works, shard_in}
 use Rattle.hcc_cache.specs.Clients.{held_by, held_of, view_at}
+use Rattle.hcc_cache.specs.Gets.{GetsAt, GetsFor, SeeksAt}
 use Rattle.hcc_cache.specs.Inserts.{Inserts, InsertsWith, RefusesWith}
-use Rattle.hcc_cache.specs.Totals.{LoadsUsages, SearchesAll, charge_by, entries_by, made_by, taken_by}
+use Rattle.hcc_cache.specs.Totals.{LoadsEachOccupancy, LoadsEachUsage, LoadsUsages, SearchesAll, charge_by, entries_by, made_by, taken_by}
 use Rattle.hcc_c.specs.declared.inserting.Unfit.{Unfit}
 use Rattle.hcc_c.specs.declared.inserting.Unfit.TheVariants as reason
 use Rattle.hcc_c.specs.declared.session.Session.{Session}
 use Rattle.hcc_c.specs.declared.shapes.Number.{Number}
-use Rattle.hcc_c.specs.Sessions.{Ends, Gives, IsHandle, IsNone, any, judged}
+use Rattle.hcc_c.specs.Sessions.{IsHandle, IsNone, any, judged}
+use Rattle.hcc_c.specs.Shapes.{number_of}
 
--- Nothing of the session changed but what its client knows, and maybe the numbers of its handles.
+-- Nothing of the session changed but its client.
 abbrev pub KeepsRest : (old new : Session) → Type 0
-KeepsRest old new = new ≡ record old { client = new.client; numbers = new.numbers }
-
-abbrev pub KeepsNumbers : (old new : Session) → Type 0
-KeepsNumbers old new = new ≡ record old { client = new.client }
+KeepsRest old new = new ≡ record old { client = new.client }
 
 -- A look-up for a key.
 pub record LooksUp (key : Key) (answer : Result (Option Number) LookupError) (old new : Session)
@@ -40,9 +40,9 @@ pub record LooksUp (key : Key) (answer : Result (Option Number) LookupError) (ol
   pub refused : OnErr answer (new ≡ old)
   pub found : IfOk answer (λ o. IfSome o (λ number. (handle : Handle)
       × Finds (arc_value old.cache) any key handle old.client new.client
-      × Gives number handle old new))
-  pub missed : IfOk answer (λ o. IfNone o (Misses (arc_value old.cache) key old.client new.client
-      × (new.numbers ≡ old.numbers)))
+      × (number ≡ number_of handle)))
+  pub missed : IfOk answer (λ o. IfNone o (Misses (arc_value old.cache) key old.client
+      new.client))
   pub rest : KeepsRest old new
   pub steps : TakesAtMost (7 * (arc_value old.cache).geometry.slots) old.client new.client
 
@@ -59,7 +59,7 @@ pub record RefersAgain (number : Number) (answer : Option (Result Number LookupE
   pub again : IfSome answer (λ a. IfOk a (λ more. (was : Handle) × (handle : Handle)
       × IsHandle old number was
       × Rerefs (arc_value old.cache) was handle old.client new.client
-      × Gives more handle old new))
+      × (more ≡ number_of handle)))
   pub rest : KeepsRest old new
   pub steps : TakesAtMost 2 old.client new.client
 
@@ -69,8 +69,7 @@ pub record GivesBack (number : Number) (useful erase : Bool) (answer : Option Bo
   pub none : IfNone answer (IsNone old number × (new ≡ old))
   pub released : IfSome answer (λ freed. (handle : Handle) × IsHandle old number handle
       × Releases (arc_value old.cache) handle erase freed old.client new.client
-      × GivesUp (arc_value old.cache) handle useful erase freed old.client new.client
-      × Ends number old new)
+      × GivesUp (arc_value old.cache) handle useful erase freed old.client new.client)
   pub rest : KeepsRest old new
   pub steps : TakesAtMost (freeing (arc_value old.cache).geometry.slots + 3)
       old.client new.client
@@ -78,7 +77,7 @@ pub record GivesBack (number : Number) (useful erase : Bool) (answer : Option Bo
 -- Each visible entry of a key is hidden.
 pub record Hides (key : Key) (hidden : ℕ) (old new : Session) : Type 0 where
   pub erased : Erases (arc_value old.cache) key hidden old.client new.client
-  pub rest : KeepsNumbers old new
+  pub rest : KeepsRest old new
   pub steps : TakesAtMost ((freeing (arc_value old.cache).geometry.slots + 9)
       * (arc_value old.cache).geometry.slots + 2) old.client new.client
 
@@ -104,7 +103,7 @@ module _ (key : Key) (charge : ℕ) (priority : Priority) (value : List ℕ) whe
         × ((arc_value old.cache).capacity < charge)))
     pub inserted : IfOk answer (λ a.
         Inserts (arc_value old.cache) key charge priority value a old.client new.client)
-    pub rest : KeepsNumbers old new
+    pub rest : KeepsRest old new
     pub steps : InsertsWithin old new
 
   -- An insertion with a handle.
@@ -125,10 +124,9 @@ module _ (key : Key) (charge : ℕ) (priority : Priority) (value : List ℕ) whe
         (λ made. (handle : Handle)
         × InsertsWith (arc_value old.cache) key charge priority value handle made.1
         old.client new.client
-        × Gives made.0 handle old new)
+        × (made.0 ≡ number_of handle))
         (λ why. RefusesWith (arc_value old.cache) key charge priority value why
-        old.client new.client
-        × (new.numbers ≡ old.numbers)))
+        old.client new.client))
     pub rest : KeepsRest old new
     pub steps : InsertsWithin old new
 
@@ -147,7 +145,7 @@ pub record TellsLength (number : Number) (answer : Option ℕ) (old new : Sessio
       × IfSome (held_of (arc_value old.cache) old.client handle) (λ held.
       len ≡ length held.insertion.value))
   pub reads : IfSome answer (λ _. Reads (arc_value old.cache) old.client new.client)
-  pub rest : KeepsNumbers old new
+  pub rest : KeepsRest old new
   pub steps : TakesAtMost 1 old.client new.client
 
 -- The value itself is copied to the front of a buffer, if it isn't longer.
@@ -164,19 +162,31 @@ pub record ReadsValue (number : Number) (answer : Option (Result ℕ ℕ)) (befo
       len ≡ length held.insertion.value)
       × (length before < len) × (after ≡ before)))
   pub reads : IfSome answer (λ _. Reads (arc_value old.cache) old.client new.client)
-  pub rest : KeepsNumbers old new
+  pub rest : KeepsRest old new
   pub steps : IfSome answer (λ a. IfOk a (λ len.
       TakesAtMost (words_for len + 2) old.client new.client))
   pub few : IfSome answer (λ a. IfErr a (λ len. TakesAtMost 1 old.client new.client))
+
+-- The value of a key is copied to the front of a buffer, if it isn't longer, with no handle.
+pub record GetsValue (key : Key) (useful : Bool) (answer : Got) (before after : List ℕ)
+    (old new : Session) : Type 0 where
+  pub got : GetsFor (arc_value old.cache) any key answer before after old.client new.client
+  pub gets : GetsAt (arc_value old.cache) any key useful answer before after old.client new.client
+  pub keeps : KeepsAll (arc_value old.cache) old.client new.client
+  pub seeks : SeeksAt (shard_in (arc_value old.cache) key) old.client new.client
+  pub rest : KeepsRest old new
+  pub steps : TakesFor (arc_value old.cache) 7 (λ v w. (arc_value old.cache).geometry.room + 2)
+      (shard_in (arc_value old.cache) key) old.client new.client
 
 -- What is charged in all shards.
 pub record TellsUsage (usage : ℕ) (old new : Session) : Type 0 where
   pub keeps : KeepsAll (arc_value old.cache) old.client new.client
   pub views : LoadsUsages old.client new.client
+  pub loads : LoadsEachUsage (arc_value old.cache) usage old.client new.client
   pub entries : charge_by old.client ≤ usage
   pub strict : (arc_value old.cache).strict ≡ true
       → usage ≤ old.shards * (arc_value old.cache).capacity
-  pub rest : KeepsNumbers old new
+  pub rest : KeepsRest old new
   pub steps : TakesAtMost old.shards old.client new.client
 
 -- What is charged for entries that are held, and for standalone ones.
@@ -185,7 +195,7 @@ pub record TellsPinned (usage : ℕ) (old new : Session) : Type 0 where
   pub views : SearchesAll old.client new.client
   pub entries : charge_by old.client ≤ usage
   pub alone : (arc_value old.cache).geometry.clients ≡ 1 → usage ≡ charge_by old.client
-  pub rest : KeepsNumbers old new
+  pub rest : KeepsRest old new
   pub steps : TakesAtMost (old.shards * (5 * old.slots + 1)) old.client new.client
 
 -- How many entries all shards have.
@@ -194,7 +204,8 @@ pub record TellsOccupancy (occupancy : ℕ) (old new : Session) : Type 0 where
   pub entries : entries_by old.client ≤ occupancy
   pub alone : (arc_value old.cache).geometry.clients ≡ 1
       → occupancy + taken_by old.client ≡ made_by old.client
-  pub rest : KeepsNumbers old new
+  pub loads : LoadsEachOccupancy (arc_value old.cache) occupancy old.client new.client
+  pub rest : KeepsRest old new
   pub steps : TakesAtMost old.shards old.client new.client
 
 module _ (shard slot : ℕ) where
@@ -210,7 +221,7 @@ module _ (shard slot : ℕ) where
     pub view : IfSome answer (λ word. Works shard old.client new.client
         (view_at shard old.client) (after_look slot word (view_at shard old.client)))
     pub backs : IfSome answer (λ word. Backs slot word (view_at shard old.client))
-    pub rest : KeepsNumbers old new
+    pub rest : KeepsRest old new
     pub steps : TakesAtMost 1 old.client new.client
 
   -- How often a slot stands in trails; none where there is no such slot.
@@ -220,5 +231,5 @@ module _ (shard slot : ℕ) where
     pub reads : IfSome answer (λ _. Reads (arc_value old.cache) old.client new.client)
     pub entries : IfSome answer (λ count. passed_held (arc_value old.cache).geometry.slots slot
         (view_at shard old.client).records ≤ count)
-    pub rest : KeepsNumbers old new
+    pub rest : KeepsRest old new
     pub steps : TakesAtMost 1 old.client new.client

@@ -107,12 +107,11 @@ IsSameRack old new = by old.pool new.pool
     by (Some was) (Some is) = HasBack was.back.items was is
 
 -- The client of this session was one of those that were back, and is out now: it works on the same
--- cache, which it knows by this number, and no handle has a number.
+-- cache, which it knows by this number.
 pub record GivesOut (session : Session) (home : ℕ) (old new : Pool) : Type 0 where
   pub last : old.back.items ≡ new.back.items ++ session.client ∷ []
   pub cache : arc_value session.cache ≡ arc_value old.cache
   pub home_is : session.home ≡ home
-  pub unnumbered : session.numbers.slots ≡ []
   pub rest : new ≡ record old { back = new.back }
 
 -- the session is one of this cache's

@@ -2,7 +2,10 @@
 use Rattle.hcc_rule.specs.declared.key.Key.{Key as CacheKey}
 use Rattle.hcc_shard.specs.declared.seat.Stats.{Stats as CacheStats}
 use Rattle.hcc_cache.specs.declared.config.Config.{Config}
+use Rattle.hcc_cache.specs.declared.handle.Handle.{Handle}
+use Rattle.hcc_cache.specs.declared.handle.Numbers.{Numbers}
 use Rattle.hcc_c.specs.declared.shapes.Key.{Key}
+use Rattle.hcc_c.specs.declared.shapes.Number.{Number}
 use Rattle.hcc_c.specs.declared.shapes.Setup.{Setup}
 use Rattle.hcc_c.specs.declared.shapes.Stats.{Stats}
 
@@ -11,6 +14,18 @@ key_of key = record { w0 = key.w0; w1 = key.w1 }
 
 abbrev pub words_of : CacheKey → Key
 words_of key = record { w0 = key.w0; w1 = key.w1 }
+
+abbrev pub number_of : Handle → Number
+number_of handle = record {
+  index = handle.index;
+  serial = handle.serial;
+  client = handle.client;
+  reserved = 0;
+}
+
+abbrev pub numbers_in : Number → Numbers
+numbers_in number =
+    record { client = number.client; index = number.index; serial = number.serial }
 
 abbrev pub config_of : Setup → Config
 config_of setup = record {

@@ -1,6 +1,6 @@
 //! How a call's result reaches C: by a status, and by outputs that stay if it is refused.
 ghost use Rattle.std.specs.Prelude.{◌≡◌, None};
-ghost use Rattle.hcc_c.specs.Answers.{handle_of_pinned, inserted_of, inserted_of_pinned, kept_of, key_or, length_of, more_of, number_of, placed, status_of, status_of_back, status_of_given, status_of_insert, status_of_look, status_of_pinned, status_of_read, status_of_reref, totals_or, value_or};
+ghost use Rattle.hcc_c.specs.Answers.{handle_of_pinned, inserted_of, inserted_of_pinned, kept_of, key_or, length_got, length_of, more_of, number_of, placed, status_of, status_of_back, status_of_given, status_of_got, status_of_insert, status_of_look, status_of_pinned, status_of_read, status_of_reref, totals_or, value_or};
 
 use crate::inserting::Unfit;
 use crate::objects::{CachePlace, ClientPlace, Loose};
@@ -8,7 +8,7 @@ use crate::pool::Rack;
 use crate::refusal::{Refusal, inserted_code};
 use crate::session::Session;
 use crate::shapes::{Key, Number, Totals};
-use hcc_cache::{InsertError, Inserted, LookupError};
+use hcc_cache::{Got, InsertError, Inserted, LookupError};
 
 /// The answers that are no refusals.
 pub(crate) const DONE: u32 = 0;
@@ -70,6 +70,24 @@ pub(crate) fn told_reref(answer: Option<Result<Number, LookupError>>, more: &mut
         }
         Some(Err(why)) => Refusal::looking(why).code(),
         None => Refusal::NoHandle.code(),
+    }
+}
+
+/// Gives C what came of reading a key's value.
+pub(crate) fn told_got(got: Got, length: &mut usize) -> u32
+    ensures status { result ≡ status_of_got got }
+    ensures length { length.new ≡ length_got got length.old }
+{
+    match got {
+        Got::Hit(count) => {
+            *length = count;
+            DONE
+        }
+        Got::Short(count) => {
+            *length = count;
+            Refusal::TooShort.code()
+        }
+        Got::Miss => MISSED,
     }
 }
 

@@ -3,15 +3,15 @@
 ghost use Rattle.std.specs.Prelude.{◌≡◌, None, IfSome, true, false};
 ghost use Rattle.hcc_cache.specs.Clients.{held_by};
 ghost use Rattle.hcc_cache.specs.Totals.{no_stats, stats_over};
-ghost use Rattle.hcc_c.specs.Answers.{handle_of_pinned, inserted_of, inserted_of_pinned, key_or, length_of, more_of, number_of, status_of, status_of_insert, status_of_look, status_of_pinned, status_of_read, status_of_reref, value_or};
-ghost use Rattle.hcc_c.specs.Calls.{GivesBack, Hides, LooksUp, Puts, PutsPinned, ReadsValue, RefersAgain, TellsDisplacement, TellsKey, TellsLength, TellsOccupancy, TellsPinned, TellsUsage, TellsWord};
+ghost use Rattle.hcc_c.specs.Answers.{handle_of_pinned, inserted_of, inserted_of_pinned, key_or, length_got, length_of, more_of, number_of, status_of, status_of_got, status_of_insert, status_of_look, status_of_pinned, status_of_read, status_of_reref, value_or};
+ghost use Rattle.hcc_c.specs.Calls.{GetsValue, GivesBack, Hides, LooksUp, Puts, PutsPinned, ReadsValue, RefersAgain, TellsDisplacement, TellsKey, TellsLength, TellsOccupancy, TellsPinned, TellsUsage, TellsWord};
 ghost use Rattle.hcc_c.specs.Lending.{IsThere};
 ghost use Rattle.hcc_c.specs.Refusals.{code_of, priority_of};
 ghost use Rattle.hcc_c.specs.Sessions.{IsHandle, IsNone, IsWhole};
 ghost use Rattle.hcc_c.specs.Shapes.{key_of, stats_of};
 
 use crate::answers::{
-    DONE, told, told_insert, told_key, told_look, told_pinned, told_read, told_reref,
+    DONE, told, told_got, told_insert, told_key, told_look, told_pinned, told_read, told_reref,
 };
 use crate::objects::ClientObject;
 use crate::refusal::{Refusal, priority_of};
@@ -33,6 +33,25 @@ pub extern "C" fn ferretgold_raw_lookup(
 {
     let answer = client.session().lookup(key.key());
     told_look(answer, handle)
+}
+
+#[unsafe(no_mangle)]
+pub extern "C" fn ferretgold_raw_get(
+    client: &mut ClientObject,
+    key: &Key,
+    buffer: &mut [u8],
+    useful: bool,
+    length: &mut usize,
+) -> u32
+    requires { IsWhole client.old.value }
+    ensures there { IsThere client.old client.new }
+    ensures whole { IsWhole client.new.value }
+    ensures gets { (answer : _) × GetsValue (key_of key.now) useful answer buffer.old buffer.new
+        client.old.value client.new.value
+        × (result ≡ status_of_got answer) × (length.new ≡ length_got answer length.old) }
+{
+    let answer = client.session().get(key.key(), buffer, useful);
+    told_got(answer, length)
 }
 
 #[unsafe(no_mangle)]

@@ -3,7 +3,6 @@ ghost use Rattle.std.specs.Prelude.{◌≡◌};
 ghost use Rattle.hcc_c.specs.Calls.{Puts, PutsPinned};
 ghost use Rattle.hcc_c.specs.Sessions.{IsWhole, judged};
 
-use crate::referring::given;
 use crate::session::Session;
 use crate::shapes::Number;
 use hcc_cache::{InsertError, Inserted, Key, Priority};
@@ -41,7 +40,7 @@ impl Session {
         )
     }
 
-    /// The same with a handle on what was inserted, which is given by its number. Memory is
+    /// The same with a handle on what was inserted, which is given by its numbers. Memory is
     /// allocated for a copy of the value.
     pub fn insert_pinned(
         &mut self,
@@ -59,16 +58,11 @@ impl Session {
         let Ok(copy) = value.to_vec(alloc) else {
             return Err(Unfit::OutOfMemory);
         };
-        let client = self.client.number();
-        let serial = self.client.serials_left();
         let answer = self
             .cache
             .insert_pinned(&mut self.client, key, copy, charge, priority);
         match answer {
-            Ok((handle, inserted)) => {
-                let number = given(&mut self.numbers, client, serial, handle);
-                Ok(Ok((number, inserted)))
-            }
+            Ok((handle, inserted)) => Ok(Ok((Number::of(handle), inserted))),
             Err((why, _)) => Ok(Err(why)),
         }
     }

@@ -9,7 +9,6 @@ use crate::refusal::Refusal;
 use crate::session::Session;
 use crate::shapes::Totals;
 use hcc_cache::{AnyBytes, Cache, Client, Closed, Config, NewError};
-use slab::Slab;
 use std::alloc::Global;
 use std::sync::Arc;
 
@@ -58,16 +57,12 @@ impl Pool {
         let Ok(cache) = Arc::try_clone(&self.cache) else {
             return Err(Refusal::OutOfMemory);
         };
-        let Ok(numbers) = Slab::with_capacity(alloc, self.config.handles as usize) else {
-            return Err(Refusal::OutOfMemory);
-        };
         let Some(client) = self.back.pop() else {
             return Err(Refusal::NoClient);
         };
         let session = Session {
             cache,
             client,
-            numbers,
             home,
             shards: self.config.shards,
             slots: self.config.slots,

@@ -1,46 +1,52 @@
-//! What a client reads by the numbers of its handles.
-ghost use Rattle.hcc_c.specs.Calls.{ReadsValue, TellsKey, TellsLength};
+//! What a client reads.
+ghost use Rattle.hcc_c.specs.Calls.{GetsValue, ReadsValue, TellsKey, TellsLength};
 ghost use Rattle.hcc_c.specs.Sessions.{IsWhole};
 
 use crate::session::Session;
 use crate::shapes::Number;
-use hcc_cache::Key;
+use hcc_cache::{Got, Key};
 
 impl Session {
-    /// The key of the entry that a handle is on; none where the number is that of no handle.
+    /// The key of the entry that a handle is on; none where the client holds no handle of these
+    /// numbers.
     pub fn key(&mut self, number: Number) -> Option<Key>
         requires { IsWhole self.old }
         ensures whole { IsWhole self.new }
         ensures tells { TellsKey number result self.old self.new }
     {
-        let handle = self.handle(number)?;
+        let handle = self.client.handle(number.numbers())?;
         Some(self.cache.key(&mut self.client, handle))
     }
 
-    /// How many bytes the value has; none where the number is that of no handle.
+    /// How many bytes the value has; none where the client holds no handle of these numbers.
     pub fn value_len(&mut self, number: Number) -> Option<usize>
         requires { IsWhole self.old }
         ensures whole { IsWhole self.new }
         ensures tells { TellsLength number result self.old self.new }
     {
-        let handle = self.handle(number)?;
+        let handle = self.client.handle(number.numbers())?;
         Some(self.cache.value_len(&mut self.client, handle))
     }
 
     /// Copies the value to the front of the buffer: how many bytes it has. Where the buffer has
-    /// fewer, the same number is returned as an error, and the buffer stays. None where the number
-    /// is that of no handle.
-    #[tactic(auto, using(crate::proofs::Stays::reads_twice))]
+    /// fewer, the same number is returned as an error, and the buffer stays. None where the client
+    /// holds no handle of these numbers.
     pub fn read_value(&mut self, number: Number, buffer: &mut [u8]) -> Option<Result<usize, usize>>
         requires { IsWhole self.old }
         ensures whole { IsWhole self.new }
         ensures reads { ReadsValue number result buffer.old buffer.new self.old self.new }
     {
-        let handle = self.handle(number)?;
-        let len = self.cache.value_len(&mut self.client, handle);
-        if buffer.len() < len {
-            return Some(Err(len));
-        }
-        Some(Ok(self.cache.read_value(&mut self.client, handle, buffer)))
+        self.cache
+            .try_read(&mut self.client, number.numbers(), buffer)
+    }
+
+    /// Copies the value of a key to the front of the buffer, with no handle: how many bytes it has,
+    /// and whether the buffer has room for them.
+    pub fn get(&mut self, key: Key, buffer: &mut [u8], useful: bool) -> Got
+        requires { IsWhole self.old }
+        ensures whole { IsWhole self.new }
+        ensures gets { GetsValue key useful result buffer.old buffer.new self.old self.new }
+    {
+        self.cache.get(&mut self.client, key, buffer, useful)
     }
 }

@@ -1,8 +1,8 @@
 //! What crosses to C by value or by reference, in C's layout.
 ghost use Rattle.std.specs.Prelude.{◌≡◌};
-ghost use Rattle.hcc_c.specs.Shapes.{config_of, key_of, stats_of, words_of};
+ghost use Rattle.hcc_c.specs.Shapes.{config_of, key_of, number_of, numbers_in, stats_of, words_of};
 
-use hcc_cache::Config;
+use hcc_cache::{Config, Handle, Numbers};
 
 /// A key of 16 bytes, as two words.
 #[derive(Clone, Copy, Debug, PartialEq, Eq)]
@@ -34,16 +34,45 @@ impl Key {
     }
 }
 
-/// The number of a handle: an index, and the client and the serial that tell it from any other
-/// that had this index.
+/// A handle's numbers, as C keeps them.
 #[derive(Clone, Copy, Debug, PartialEq, Eq)]
 #[repr(C)]
 pub struct Number {
     pub index: usize,
     pub serial: u64,
     pub client: u32,
-    /// Always 0.
+    /// 0 in each that a call gives; no call looks at it.
     pub reserved: u32,
+}
+
+impl Number {
+    /// Those of a handle.
+    pub(crate) fn of(handle: Handle) -> Number
+        ensures { result ≡ number_of handle }
+    {
+        let Numbers {
+            client,
+            index,
+            serial,
+        } = handle.numbers();
+        Number {
+            index,
+            serial,
+            client,
+            reserved: 0,
+        }
+    }
+
+    /// The cache's numbers of a handle.
+    pub(crate) fn numbers(&self) -> Numbers
+        ensures { result ≡ numbers_in self.now }
+    {
+        Numbers {
+            client: self.client,
+            index: self.index,
+            serial: self.serial,
+        }
+    }
 }
 
 /// How large a cache is, and how it behaves: the fields of the cache's configuration.

@@ -84,13 +84,13 @@ impl Session {
         self.client.serials_left()
     }
 
-    /// Whether this is the number of a handle that it holds.
+    /// Whether these are the numbers of a handle that it holds.
     pub fn holds(&self, number: Number) -> bool
         ensures held { result ≡ true → (handle : _) × IsHandle self.now number handle }
         ensures yes { (handle : _) → IsHandle self.now number handle → result ≡ true }
         ensures no { IsNone self.now number → result ≡ false }
     {
-        self.handle(number).is_some()
+        self.client.handle(number.numbers()).is_some()
     }
 
     /// What its calls did on all shards.

@@ -1,16 +1,40 @@
-use Rattle.std.proofs.Common.{refl}
+use Rattle.std.proofs.Common.{rules, Bool, Option, None, Some, IfSome, refl}
+use Rattle.std.specs.Arc.{arc_value}
+use Rattle.hcc_cache.specs.declared.handle.Handle.{Handle}
+use Rattle.hcc_cache.specs.Calls.{GivesUp, Releases}
+use Rattle.hcc_cache.specs.Clients.{Holds}
+use Rattle.hcc_cache.specs.Handles.{handle_of}
+use Rattle.hcc_c.specs.declared.session.Session.{Session}
+use Rattle.hcc_c.specs.declared.shapes.Number.{Number}
+use Rattle.hcc_c.specs.Sessions.{IsHandle}
+use Rattle.hcc_c.specs.Shapes.{numbers_in}
 use Rattle.hcc_c.proofs.session.Session.release.Goals as goal
 
+-- What the cache says of a release by numbers, it says of the handle that they are.
+given : (old new : Session) (number : Number) (useful erase : Bool) (answer : Option Bool)
+    → IfSome answer (λ _. Holds old.client (handle_of (numbers_in number)))
+    → IfSome answer (λ freed. Releases (arc_value old.cache) (handle_of (numbers_in number)) erase
+    freed old.client new.client)
+    → IfSome answer (λ freed. GivesUp (arc_value old.cache) (handle_of (numbers_in number)) useful
+    erase freed old.client new.client)
+    → IfSome answer (λ freed. (handle : Handle) × IsHandle old number handle
+    × Releases (arc_value old.cache) handle erase freed old.client new.client
+    × GivesUp (arc_value old.cache) handle useful erase freed old.client new.client)
+given old new number useful erase None holds releases gives = tt
+given old new number useful erase (Some freed) holds releases gives =
+    (handle_of (numbers_in number), (refl, holds), releases, gives)
+
 pub returns-clause-released : goal.returns-clause-released
-returns-clause-released c = record {
-  none = tt;
-  released = (
-    c.in_ok-handle.handle,
-    c.in_ok-handle.ensures.some,
-    rw c.deref.ensures at c.release-freed.ensures.released,
-    rw c.deref.ensures at c.release-freed.ensures.gives,
-    c.remove.ensures.updates,
-  );
-  rest = refl;
-  steps = rw c.deref.ensures at c.release-freed.ensures.steps;
-}
+returns-clause-released c =
+    let told = c.try_release.ensures in
+    record {
+      none = search rules;
+      released =
+          given c.args.self.now (record c.args.self.now { client = c.try_release.new.client })
+          c.args.number c.args.useful c.args.erase_if_last c.try_release.result
+          (rw c.numbers-numbers.ensures at told.some)
+          (rw (c.deref.ensures, c.numbers-numbers.ensures) at told.released)
+          (rw (c.deref.ensures, c.numbers-numbers.ensures) at told.gives);
+      rest = search rules;
+      steps = search rules;
+    }
