@@ -134,6 +134,9 @@ static void nulls(ferretgold_cache *cache, ferretgold_client *client) {
     EXPECT(ferretgold_value_len(client, handle, NULL), FERRETGOLD_NULL);
     EXPECT(ferretgold_read_value(NULL, handle, &byte, 1, &length), FERRETGOLD_NULL);
     EXPECT(ferretgold_read_value(client, handle, NULL, 1, &length), FERRETGOLD_NULL);
+    EXPECT(ferretgold_get(NULL, &KEY, &byte, 1, true, &length), FERRETGOLD_NULL);
+    EXPECT(ferretgold_get(client, NULL, &byte, 1, true, &length), FERRETGOLD_NULL);
+    EXPECT(ferretgold_get(client, &KEY, NULL, 1, true, &length), FERRETGOLD_NULL);
     EXPECT(ferretgold_usage(NULL, &number), FERRETGOLD_NULL);
     EXPECT(ferretgold_usage(client, NULL), FERRETGOLD_NULL);
     EXPECT(ferretgold_pinned_usage(NULL, &number), FERRETGOLD_NULL);
@@ -243,6 +246,17 @@ static void buffers(ferretgold_client *client) {
     EXPECT(memcmp(buffer, "........", 8), 0);
     EXPECT(ferretgold_read_value(client, handle, buffer, 5, &length), FERRETGOLD_OK);
     EXPECT(memcmp(buffer, "value...", 8), 0);
+    memcpy(buffer, "........", 8);
+    length = 7;
+    EXPECT(ferretgold_get(client, &OTHER, buffer, 8, true, &length), FERRETGOLD_MISS);
+    EXPECT(length, 7);
+    EXPECT(ferretgold_get(client, &KEY, buffer, 4, false, &length), FERRETGOLD_TOO_SHORT);
+    EXPECT(length, 5);
+    EXPECT(ferretgold_get(client, &KEY, NULL, 0, false, NULL), FERRETGOLD_TOO_SHORT);
+    EXPECT(memcmp(buffer, "........", 8), 0);
+    EXPECT(ferretgold_get(client, &KEY, buffer, 5, true, &length), FERRETGOLD_OK);
+    EXPECT(memcmp(buffer, "value...", 8), 0);
+    EXPECT(ferretgold_held(client), 1);
     EXPECT(ferretgold_release(client, handle, true, true, NULL), FERRETGOLD_OK);
     EXPECT(ferretgold_insert_pinned(client, &OTHER, NULL, 0, 1, FERRETGOLD_HIGH, NULL, &handle),
            FERRETGOLD_OK);

@@ -110,16 +110,10 @@ class cached_file : public leveldb::RandomAccessFile {
         return status;
     }
 
-    // Reads a block from the cache, if it is there. A look-up that is refused counts as a miss, by the
-    // calls of ferretgold.h: LevelDB is built without exceptions.
+    // Reads a block from the cache, if it is there.
     static bool is_cached(ferretgold::client &client, const ferretgold_key &key, char *block,
                           std::size_t *has) noexcept {
-        ferretgold_handle found{};
-        if (ferretgold_lookup(client.get(), &key, &found) != FERRETGOLD_OK) {
-            return false;
-        }
-        const ferretgold::handle held(client.get(), found);
-        return ferretgold_read_value(client.get(), found, block, BLOCK, has) == FERRETGOLD_OK;
+        return client.read(key, block, BLOCK, has) == FERRETGOLD_OK;
     }
 
     std::unique_ptr<leveldb::RandomAccessFile> file_;

@@ -102,6 +102,14 @@ extern "C" {
         priority: u32,
         inserted: *mut u32,
     ) -> u32;
+    fn ferretgold_raw_get(
+        client: *mut Object,
+        key: *const Key,
+        buffer: *mut u8,
+        capacity: usize,
+        useful: bool,
+        length: *mut usize,
+    ) -> u32;
     fn ferretgold_raw_read_value(
         client: *mut Object,
         handle: *const Handle,
@@ -227,6 +235,26 @@ impl Client<'_> {
             )
         })?;
         Ok(length)
+    }
+
+    /// Copies the value of an entry of the key to the front of the buffer, with no handle, and
+    /// answers its length, if there is one.
+    pub fn get(&mut self, key: Key, buffer: &mut [u8]) -> Result<Option<usize>, Refused> {
+        let mut length = 0;
+        match unsafe {
+            ferretgold_raw_get(
+                &mut self.object,
+                &key,
+                buffer.as_mut_ptr(),
+                buffer.len(),
+                true,
+                &mut length,
+            )
+        } {
+            0 => Ok(Some(length)),
+            MISS => Ok(None),
+            why => Err(Refused(why)),
+        }
     }
 
     /// Gives a handle back, as a use of its entry.
