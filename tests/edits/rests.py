@@ -1,6 +1,6 @@
 """What the verdict on an edit rests on, as a digest.
 
-That is the kit, the edit, the functions that it changes with their proof files, and all that these
+That is the kit's logic, the edit, the functions that it changes with their proof files, and all that these
 lead to: the contracts of what is called, the types and constants that are named, the definitions,
 and the statements of lemmas, in the crate and the libraries of the repository below it. No body of
 another function is among them, no test, and no comment; nor where in a crate a definition stands.
@@ -12,7 +12,7 @@ import functools
 import hashlib
 import re
 
-from crates import FUNCTION, kit, owner_in
+from crates import FUNCTION, logic, owner_in
 
 WORDS = re.compile(r"[^\s(){}\[\],;.⟦⟧`]+")
 IMPORT = re.compile(r"(?:pub |unfoldable |ghost )*use ([\w.+#-]+?)(?:\.\{(.*)\})?(?: as ([^\s;]+))?;?$")
@@ -122,7 +122,7 @@ class Rests:
     """All crates' files, read once, and what an edit's verdict rests on."""
 
     def __init__(self, crates):
-        self.crates, self.kit = crates, kit()
+        self.crates, self.logic = crates, logic()
         self.files, self.types, self.functions = {}, {}, {}
 
     def read(self, name):
@@ -231,7 +231,7 @@ class Rests:
         texts = [(it.file.crate.name, it.name, it.text) for it in found]
         texts += [(crate.name, it.name, it.body) for it in bodies]
         with open(edit.file, encoding="utf-8") as it:
-            return [(self.kit, edit.key, it.read())] + sorted(texts)
+            return [(self.logic, edit.key, it.read())] + sorted(texts)
 
     def digest(self, edit):
         whole = "\0".join(part for text in self.texts(edit) for part in text)
