@@ -12,6 +12,8 @@
 #include <cstdlib>
 #include <cstring>
 #include <memory>
+#include <string>
+#include <utility>
 #include <vector>
 
 namespace peers {
@@ -56,6 +58,12 @@ class ferret {
             (void)ferretgold_read_value(client_.get(), found, buffer, size_, nullptr);
             (void)ferretgold_release(client_.get(), found, true, false, nullptr);
             return true;
+        }
+
+        // The same in one call, where the cache has one.
+        bool get(const ferretgold_key &key, std::uint8_t *buffer) {
+            return ferretgold_get(client_.get(), &key, buffer, size_, true, nullptr) ==
+                   FERRETGOLD_OK;
         }
 
         void insert(const ferretgold_key &key, const std::uint8_t *value) {
@@ -103,6 +111,104 @@ class ferret {
     ferretgold::cache cache_;
 };
 
+// What the twin exports: see ../twin/src/lib.rs.
+extern "C" {
+struct twin_sizes {
+    std::uint32_t slots, room, handles, shards;
+    std::uint64_t capacity, seed;
+    bool strict, marks;
+};
+void *twin_open(const twin_sizes *sizes);
+void *twin_client(std::uint64_t number, std::uint32_t handles);
+std::uint64_t twin_lookup(const void *cache, void *client, std::uint64_t w0, std::uint64_t w1);
+std::uint64_t twin_read(const void *cache, const void *client, std::uint32_t handle,
+                        std::uint8_t *buffer, std::size_t length);
+void twin_release(const void *cache, void *client, std::uint32_t handle, bool useful);
+std::uint64_t twin_get(const void *cache, void *client, std::uint64_t w0, std::uint64_t w1,
+                       std::uint8_t *buffer, std::size_t length);
+std::uint64_t twin_insert(const void *cache, void *client, std::uint64_t w0, std::uint64_t w1,
+                          const std::uint8_t *value, std::size_t length, bool keep);
+void twin_client_close(void *client);
+bool twin_close(void *cache);
+}
+
+// The same algorithm in Rust without a proof.
+class twin {
+  public:
+    static std::string name() { return "twin"; }
+
+    explicit twin(const sizes &sizes) {
+        twin_sizes asked{};
+        asked.slots = sizes.slots / sizes.shards;
+        asked.room = sizes.value_size / 8;
+        asked.handles = sizes.handles;
+        asked.shards = sizes.shards;
+        asked.capacity = sizes.capacity;
+        asked.seed = 0x5eed;
+        cache_ = twin_open(&asked);
+    }
+    ~twin() { must(twin_close(cache_), "the twin's books"); }
+    twin(const twin &) = delete;
+
+    class reader {
+      public:
+        reader(twin &cache, const sizes &sizes)
+            : cache_(cache.cache_), client_(twin_client(cache.next_++, sizes.handles)),
+              size_(sizes.value_size) {}
+        ~reader() {
+            unpin();
+            if (client_ != nullptr) {
+                twin_client_close(client_);
+            }
+        }
+        reader(reader &&from)
+            : cache_(from.cache_), client_(std::exchange(from.client_, nullptr)),
+              size_(from.size_), held_(std::move(from.held_)) {}
+
+        bool read(const ferretgold_key &key, std::uint8_t *buffer) {
+            std::uint64_t found = twin_lookup(cache_, client_, key.w0, key.w1);
+            if (found == none) {
+                return false;
+            }
+            (void)twin_read(cache_, client_, static_cast<std::uint32_t>(found), buffer, size_);
+            twin_release(cache_, client_, static_cast<std::uint32_t>(found), true);
+            return true;
+        }
+
+        bool get(const ferretgold_key &key, std::uint8_t *buffer) {
+            return twin_get(cache_, client_, key.w0, key.w1, buffer, size_) != none;
+        }
+
+        void insert(const ferretgold_key &key, const std::uint8_t *value) {
+            (void)twin_insert(cache_, client_, key.w0, key.w1, value, size_, false);
+        }
+
+        void pin(const ferretgold_key &key, const std::uint8_t *value) {
+            std::uint64_t held = twin_insert(cache_, client_, key.w0, key.w1, value, size_, true);
+            must(held != none, "a pinned insertion");
+            held_.push_back(static_cast<std::uint32_t>(held));
+        }
+
+        void unpin() {
+            for (std::uint32_t held : held_) {
+                twin_release(cache_, client_, held, true);
+            }
+            held_.clear();
+        }
+
+      private:
+        static constexpr std::uint64_t none = UINT64_MAX;
+        const void *cache_;
+        void *client_;
+        std::uint32_t size_;
+        std::vector<std::uint32_t> held_;
+    };
+
+  private:
+    void *cache_;
+    std::uint64_t next_ = 0;
+};
+
 // A cache of RocksDB. Its values are bytes of their own, taken by `new` and freed by a deleter, as
 // blocks are.
 class rocks {
@@ -122,6 +228,8 @@ class rocks {
             cache_.Release(found);
             return true;
         }
+
+        bool get(const ferretgold_key &key, std::uint8_t *buffer) { return read(key, buffer); }
 
         void insert(const ferretgold_key &key, const std::uint8_t *value) {
             (void)cache_.Insert(slice(key), copy(value), 1, &forget, nullptr,

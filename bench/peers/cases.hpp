@@ -16,7 +16,7 @@
 
 namespace peers {
 
-enum class kind { hits, misses, mix, evict, pinned, hot };
+enum class kind { hits, get, misses, mix, evict, pinned, hot };
 
 struct named_case {
     const char *name;
@@ -24,8 +24,9 @@ struct named_case {
 };
 
 constexpr named_case all_cases[] = {
-    {"hits-uniform", kind::hits}, {"misses", kind::misses}, {"mix", kind::mix},
-    {"evict", kind::evict},       {"pinned", kind::pinned}, {"hot", kind::hot},
+    {"hits-uniform", kind::hits}, {"get", kind::get},     {"misses", kind::misses},
+    {"mix", kind::mix},           {"evict", kind::evict}, {"pinned", kind::pinned},
+    {"hot", kind::hot},
 };
 
 // What came of a round: all threads' operations, and the seconds from the first to the last.
@@ -156,6 +157,7 @@ template <class Cache> class bench {
     void fill() {
         switch (is_) {
         case kind::hits:
+        case kind::get:
         case kind::misses:
         case kind::hot:
             for (std::uint32_t number = 0; number < loaded(); ++number) {
@@ -186,12 +188,15 @@ template <class Cache> class bench {
             case kind::hot:
                 made.hits += reader.read(key_of(loaded_file, drawn[number]), buffer);
                 break;
+            case kind::get:
+                made.hits += reader.get(key_of(loaded_file, drawn[number]), buffer);
+                break;
             case kind::misses:
                 made.hits += reader.read(key_of(absent_file, drawn[number]), buffer);
                 break;
             case kind::mix: {
                 ferretgold_key key = key_of(loaded_file, drawn[number]);
-                if (reader.read(key, buffer)) {
+                if (reader.get(key, buffer)) {
                     ++made.hits;
                 } else {
                     reader.insert(key, value_.data());

@@ -1,5 +1,5 @@
-// peers.cpp - plays the same kinds and numbers of operations on this project's cache and on RocksDB's,
-// in turns, and prints a JSON line for each round of each.
+// peers.cpp - plays the same kinds and numbers of operations on this project's cache, on its twin and
+// on RocksDB's, in turns, and prints a JSON line for each round of each.
 //
 //   peers [--case NAME]... [--cache NAME]... [--value-size N]... [--threads N]...
 //         [--shards N] [--rounds N] [--operations N]
@@ -146,6 +146,10 @@ std::uint64_t operations_of(const std::vector<std::unique_ptr<player>> &players)
     return operations;
 }
 
+const char *build_of(const std::string &cache) {
+    return cache == ferret::name() ? "proved" : cache == twin::name() ? "unproved" : PEERS_BUILD;
+}
+
 void print(const player &of, const char *case_name, const sizes &sizes, std::uint64_t round,
            const outcome &made) {
     double operations = static_cast<double>(made.operations);
@@ -154,7 +158,7 @@ void print(const player &of, const char *case_name, const sizes &sizes, std::uin
                 ",\"operations\":%" PRIu64 ",\"seconds\":%.6f,\"operations_per_second\":%.0f,"
                 "\"nanoseconds_per_operation\":%.2f,\"hits\":%" PRIu64 ",\"misses\":%" PRIu64
                 "}\n",
-                of.name.c_str(), of.name == ferret::name() ? "proved" : PEERS_BUILD, case_name,
+                of.name.c_str(), build_of(of.name), case_name,
                 sizes.value_size, sizes.threads, sizes.shards, round, made.operations,
                 made.seconds, operations / made.seconds,
                 made.seconds * 1e9 * sizes.threads / operations, made.hits, made.misses);
@@ -163,6 +167,7 @@ void print(const player &of, const char *case_name, const sizes &sizes, std::uin
 void compare(const options &asked, const named_case &of, const sizes &sizes) {
     std::vector<std::unique_ptr<player>> players;
     add<ferret>(players, asked, of.is, sizes);
+    add<twin>(players, asked, of.is, sizes);
     add<hyper_clock>(players, asked, of.is, sizes);
     add<lru>(players, asked, of.is, sizes);
     if (players.empty()) {
