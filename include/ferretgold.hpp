@@ -1,9 +1,9 @@
 // ferretgold.hpp - a small wrapper of ferretgold.h for C++17: objects that give themselves back.
 //
 // ferretgold.h says what each call does. Here a refusal is thrown as ferretgold::refused, except a
-// miss, which is an empty handle, and insert's, whose status is returned. Whether an entry was placed
-// only the calls of ferretgold.h say, by get(). All objects of a cache go before
-// the cache: handles before their client, clients before the cache.
+// miss, which is an empty handle, and insert's and read's, whose status is returned. What has no
+// member here is called by get(). All objects of a cache go before the cache: handles before their
+// client, clients before the cache.
 #ifndef FERRETGOLD_HPP
 #define FERRETGOLD_HPP
 
@@ -63,12 +63,22 @@ class handle {
         return length;
     }
 
-    // Gives it back: as a use of the entry, or not.
-    void release(bool useful = true) noexcept {
+    // One handle more on the same entry.
+    handle again() const {
+        ferretgold_handle more{};
+        must(ferretgold_reref(client_, held_, &more));
+        return handle(client_, more);
+    }
+
+    // Gives it back, if it is on an entry. `freed` gets whether that was freed; it may be null.
+    void release(bool useful = true, bool erase_if_last = false, bool *freed = nullptr) noexcept {
         if (client_ != nullptr) {
-            (void)ferretgold_release(std::exchange(client_, nullptr), held_, useful, false, nullptr);
+            (void)ferretgold_release(std::exchange(client_, nullptr), held_, useful, erase_if_last,
+                                     freed);
         }
     }
+
+    const ferretgold_handle &get() const { return held_; }
 
   private:
     ferretgold_client *client_ = nullptr;
@@ -108,16 +118,18 @@ class client {
         return ferretgold_get(client_, &key, buffer, capacity, useful, length);
     }
 
+    // Inserts an entry; `inserted` gets what came of it, and may be null.
     ferretgold_status insert(const ferretgold_key &key, const void *value, std::size_t length,
-                             std::uint32_t charge,
-                             ferretgold_priority priority = FERRETGOLD_LOW) noexcept {
-        return ferretgold_insert(client_, &key, value, length, charge, priority, nullptr);
+                             std::uint32_t charge, ferretgold_priority priority = FERRETGOLD_LOW,
+                             ferretgold_inserted *inserted = nullptr) noexcept {
+        return ferretgold_insert(client_, &key, value, length, charge, priority, inserted);
     }
 
     handle insert_pinned(const ferretgold_key &key, const void *value, std::size_t length,
-                         std::uint32_t charge, ferretgold_priority priority = FERRETGOLD_LOW) {
+                         std::uint32_t charge, ferretgold_priority priority = FERRETGOLD_LOW,
+                         ferretgold_inserted *inserted = nullptr) {
         ferretgold_handle given{};
-        must(ferretgold_insert_pinned(client_, &key, value, length, charge, priority, nullptr,
+        must(ferretgold_insert_pinned(client_, &key, value, length, charge, priority, inserted,
                                       &given));
         return handle(client_, given);
     }

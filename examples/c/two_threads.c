@@ -31,7 +31,7 @@ typedef struct worker {
 static void read_block(worker *it, uint64_t number, unsigned char *block) {
     ferretgold_key key = {0, number};
     ferretgold_handle handle;
-    size_t length;
+    size_t length = 0;
     ferretgold_status status = ferretgold_lookup(it->client, &key, &handle);
     if (status == FERRETGOLD_OK) {
         must(ferretgold_read_value(it->client, handle, block, BLOCK, &length), "read");
@@ -65,10 +65,10 @@ static void *work(void *argument) {
 static void pin_one(ferretgold_client *client) {
     ferretgold_key key = {7, 7};
     ferretgold_handle handle;
-    ferretgold_inserted inserted;
-    uint32_t hidden;
+    ferretgold_inserted inserted = FERRETGOLD_DROPPED;
+    uint32_t hidden = 0;
     char text[16];
-    size_t length;
+    size_t length = 0;
     must(ferretgold_insert_pinned(client, &key, "pinned", 6, 6, FERRETGOLD_HIGH, &inserted,
                                   &handle),
          "insert pinned");
@@ -83,8 +83,8 @@ int main(void) {
     ferretgold_config config = {.slots = 1024, .room = BLOCK / 8, .clients = THREADS,
                                 .handles = 16, .shards = 2, .strict = true, .capacity = 4 << 20,
                                 .serials = FERRETGOLD_MOST_SERIALS, .seed = 0x5eed};
-    ferretgold_cache *cache;
-    ferretgold_totals totals;
+    ferretgold_cache *cache = NULL;
+    ferretgold_totals totals = {0, 0, 0, 0};
     pthread_t threads[THREADS];
     worker workers[THREADS] = {{NULL, 0}};
     must(ferretgold_open(&config, &cache), "open");

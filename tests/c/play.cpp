@@ -1,0 +1,424 @@
+// Plays traces of calls through ferretgold.hpp, and compares each answer with the one recorded beside
+// its call; then moves the wrapper's objects about. It is what tests/plant-c tries planted bugs by.
+// Usage: play FILE.. where a file has cases as tests/calls has
+#include "ferretgold.hpp"
+
+#include <cinttypes>
+#include <cstdio>
+#include <cstdlib>
+#include <fstream>
+#include <malloc.h>
+#include <map>
+#include <memory>
+#include <sstream>
+#include <string>
+#include <type_traits>
+#include <vector>
+
+namespace {
+
+using ferretgold::cache;
+using ferretgold::client;
+using ferretgold::handle;
+using words = std::vector<std::string>;
+
+int faults = 0;
+
+void expect(int line, const char *what, bool is) {
+    if (!is) {
+        std::printf("line %d: not so: %s\n", line, what);
+        faults++;
+    }
+}
+
+#define EXPECT(what) expect(__LINE__, #what, static_cast<bool>(what))
+
+// Whether a call is refused by this status.
+template <typename Call> bool refuses(Call call, int status) {
+    try {
+        call();
+    } catch (const ferretgold::refused &why) {
+        return why.status == status && std::string(why.what()) ==
+                                           ferretgold_status_text(why.status);
+    }
+    return false;
+}
+
+// ---- Traces --------------------------------------------------------------------------------------
+
+const char *const CAME[] = {"placed", "dropped", "standalone"};
+
+std::string refusal(int status) {
+    static const char *const names[] = {"HandlesFull", "Spent", "TooLarge", "CapacityFull",
+                                        "OccupancyFull"};
+    return std::string("refused ") + (status >= 23 && status <= 27 ? names[status - 23] : "?");
+}
+
+std::uint64_t number(const std::string &word) { return std::strtoull(word.c_str(), nullptr, 10); }
+
+std::vector<unsigned char> bytes_of(const std::string &word) {
+    std::vector<unsigned char> bytes;
+    for (std::size_t k = 0; word != "-" && k < word.size(); k += 2) {
+        bytes.push_back(
+            static_cast<unsigned char>(std::strtoul(word.substr(k, 2).c_str(), nullptr, 16)));
+    }
+    return bytes;
+}
+
+std::string value_text(const unsigned char *bytes, std::size_t length) {
+    std::string text = length == 0 ? "value -" : "value ";
+    char digits[3];
+    for (std::size_t k = 0; k < length; k++) {
+        std::snprintf(digits, sizeof digits, "%02x", bytes[k]);
+        text += digits;
+    }
+    return text;
+}
+
+// A cache with its clients and their registers. What is declared later goes first.
+struct stage {
+    ferretgold_config config;
+    cache it;
+    std::vector<client> clients;
+    std::vector<std::map<std::uint64_t, handle>> registers;
+
+    explicit stage(const ferretgold_config &sizes)
+        : config(sizes), it(sizes), registers(sizes.clients) {
+        std::map<std::uint32_t, client> opened;
+        for (std::uint32_t k = 0; k < sizes.clients; k++) {
+            client one = it.open_client();
+            const std::uint32_t at = ferretgold_client_number(one.get());
+            opened.emplace(at, std::move(one));
+        }
+        for (auto &one : opened) {
+            clients.push_back(std::move(one.second));
+        }
+    }
+
+    std::uint32_t held(std::size_t c) const { return ferretgold_held(clients[c].get()); }
+
+    std::string insert(std::size_t c, const words &w, std::size_t at, std::uint64_t into) {
+        const ferretgold_key key = {number(w[at]), number(w[at + 1])};
+        const auto charge = static_cast<std::uint32_t>(number(w[at + 2]));
+        const ferretgold_priority priority = w[at + 3] == "H"   ? FERRETGOLD_HIGH
+                                             : w[at + 3] == "L" ? FERRETGOLD_LOW
+                                                                : FERRETGOLD_BOTTOM;
+        const auto bytes = bytes_of(w[at + 4]);
+        ferretgold_inserted came{};
+        if (w[1] == "I") {
+            const ferretgold_status status = clients[c].insert(key, bytes.data(), bytes.size(),
+                                                               charge, priority, &came);
+            return status == 0 ? CAME[came] : refusal(status);
+        }
+        try {
+            handle given = clients[c].insert_pinned(key, bytes.data(), bytes.size(), charge,
+                                                    priority, &came);
+            EXPECT(given);
+            registers[c][into] = std::move(given);
+            EXPECT(!given);
+        } catch (const ferretgold::refused &why) {
+            return refusal(why.status);
+        }
+        return CAME[came];
+    }
+
+    std::string look(std::size_t c, const words &w, std::uint64_t into) {
+        const std::uint32_t was = held(c);
+        try {
+            handle found = clients[c].lookup({number(w[3]), number(w[4])});
+            if (!found) {
+                return "miss";
+            }
+            EXPECT(held(c) == was + 1);
+            registers[c].emplace(into, std::move(found));
+        } catch (const ferretgold::refused &why) {
+            return refusal(why.status);
+        }
+        EXPECT(held(c) == was + 1);
+        return "hit";
+    }
+
+    std::string read(const handle &from) {
+        unsigned char bytes[64];
+        const std::size_t length = from.size();
+        bytes[length] = 0x5a;
+        EXPECT(length == 0 || refuses([&] { from.read(bytes, length - 1); }, 20));
+        EXPECT(from.read(bytes, length + 1) == length);
+        EXPECT(bytes[length] == 0x5a);
+        return value_text(bytes, length);
+    }
+
+    std::string answer(const words &w) {
+        const std::size_t c = number(w[0]);
+        const char letter = w[1][0];
+        ferretgold_client *const raw = clients[c].get();
+        std::uint64_t at = w.size() > 2 ? number(w[2]) : 0;
+        if ((letter == 'P' || letter == 'G' || letter == 'F') && registers[c].count(at) != 0) {
+            return "busy";
+        }
+        const std::uint64_t from = letter == 'F' ? number(w[3]) : at;
+        if ((letter == 'F' || letter == 'R' || letter == 'V') && registers[c].count(from) == 0) {
+            return "none";
+        }
+        const std::uint32_t was = held(c);
+        switch (letter) {
+        case 'I': return insert(c, w, 2, 0);
+        case 'P': return insert(c, w, 3, at);
+        case 'G': return look(c, w, at);
+        case 'F':
+            try {
+                registers[c].emplace(at, registers[c].at(from).again());
+            } catch (const ferretgold::refused &why) {
+                return refusal(why.status);
+            }
+            EXPECT(held(c) == was + 1);
+            return "held";
+        case 'R': {
+            bool freed = false;
+            registers[c].at(from).release(w[3] == "U", w[4] == "E", &freed);
+            EXPECT(held(c) == was - 1);
+            EXPECT(!registers[c].at(from));
+            registers[c].erase(from);
+            EXPECT(held(c) == was - 1);
+            return freed ? "freed" : "kept";
+        }
+        case 'V': return read(registers[c].at(at));
+        case 'E':
+            return "erased " + std::to_string(clients[c].erase({number(w[2]), number(w[3])}));
+        case 'T': return get(c, w);
+        default: return counts(raw, letter, w);
+        }
+    }
+
+    std::string get(std::size_t c, const words &w) {
+        unsigned char bytes[64];
+        std::size_t length = 0;
+        const int status = clients[c].read({number(w[2]), number(w[3])}, bytes, number(w[5]),
+                                           &length, w[4] == "U");
+        return status == 0    ? value_text(bytes, length)
+               : status == 20 ? "short " + std::to_string(length)
+                              : status == 1 ? "miss" : "?";
+    }
+
+    std::string counts(ferretgold_client *raw, char letter, const words &w) {
+        std::uint64_t first = 0, second = 0, third = 0;
+        char text[200];
+        if (letter == 'U') {
+            EXPECT(ferretgold_usage(raw, &first) == 0);
+            EXPECT(ferretgold_pinned_usage(raw, &second) == 0);
+            EXPECT(ferretgold_occupancy(raw, &third) == 0);
+            std::snprintf(text, sizeof text, "usage %" PRIu64 " pinned %" PRIu64
+                          " occupancy %" PRIu64, first, second, third);
+        } else if (letter == 'W') {
+            const auto shard = static_cast<std::uint32_t>(number(w[2]));
+            const auto slot = static_cast<std::uint32_t>(number(w[3]));
+            EXPECT(ferretgold_word(raw, shard, slot, &first) == 0);
+            EXPECT(ferretgold_displacement(raw, shard, slot, &second) == 0);
+            std::snprintf(text, sizeof text, "word %016" PRIx64 " displaced %" PRIu64, first,
+                          second);
+        } else {
+            const ferretgold_stats s = clients[number(w[0])].stats();
+            std::snprintf(text, sizeof text,
+                          "stats probes %" PRIu64 " boosts %" PRIu64 " evicted %" PRIu64
+                          " hit %" PRIu64 " freed %" PRIu64 " turns %" PRIu64
+                          " corrections %" PRIu64 " lost %" PRIu64, s.probes, s.boosts, s.evicted,
+                          s.evicted_hit, s.freed, s.turns, s.corrections, s.lost);
+        }
+        return text;
+    }
+
+    std::string end() {
+        registers.clear();
+        for (std::size_t c = 0; c < clients.size(); c++) {
+            EXPECT(held(c) == 0);
+        }
+        clients.clear();
+        const ferretgold_totals left = it.close();
+        return "{\"charges\":" + std::to_string(left.slot_charges) +
+               ",\"occupied\":" + std::to_string(left.occupied) +
+               ",\"slots\":" + std::to_string(left.slot_count) +
+               ",\"usage\":" + std::to_string(left.usage) + "}";
+    }
+};
+
+words words_of(const std::string &text) {
+    std::istringstream in(text);
+    words all;
+    for (std::string word; in >> word;) {
+        all.push_back(word);
+    }
+    return all;
+}
+
+ferretgold_config config_of(const words &options) {
+    ferretgold_config config{};
+    config.slots = 8, config.room = 2, config.clients = 1, config.handles = 8, config.shards = 1;
+    config.capacity = 600, config.serials = FERRETGOLD_MOST_SERIALS;
+    for (std::size_t k = 0; k < options.size(); k++) {
+        const std::string &name = options[k];
+        const std::uint64_t wide = k + 1 < options.size() ? number(options[k + 1]) : 0;
+        const auto narrow = static_cast<std::uint32_t>(wide);
+        config.strict = config.strict || name == "--strict";
+        config.marks = config.marks || name == "--marks";
+        config.slots = name == "--slots" ? narrow : config.slots;
+        config.clients = name == "--clients" ? narrow : config.clients;
+        config.handles = name == "--handles" ? narrow : config.handles;
+        config.shards = name == "--shards" ? narrow : config.shards;
+        config.capacity = name == "--capacity" ? wide : config.capacity;
+        config.serials = name == "--serials" ? wide : config.serials;
+        config.seed = name == "--seed" ? wide : config.seed;
+    }
+    return config;
+}
+
+// Plays the cases of a file.
+void play_file(const char *path) {
+    std::ifstream file(path);
+    std::unique_ptr<stage> on;
+    std::string name;
+    EXPECT(file.good());
+    for (std::string line; std::getline(file, line);) {
+        const bool heads = line.compare(0, 2, "==") == 0;
+        const std::size_t bar = line.find(heads ? " : " : " | ");
+        const std::string rest = bar == std::string::npos ? "" : line.substr(bar + 3);
+        std::string out;
+        if (heads) {
+            name = line;
+            on = std::make_unique<stage>(config_of(words_of(rest)));
+            continue;
+        }
+        if (line[0] != '{' && bar == std::string::npos) {
+            continue;
+        }
+        const bool ends = line[0] == '{';
+        out = ends ? on->end() : on->answer(words_of(line.substr(0, bar)));
+        if (out != (ends ? line : rest)) {
+            std::printf("%s: %s\n    gives %s\n", name.c_str(), line.c_str(), out.c_str());
+            faults++;
+        }
+    }
+}
+
+// ---- What no trace shows -------------------------------------------------------------------------
+
+constexpr ferretgold_key KEY = {1, 2};
+constexpr ferretgold_key OTHER = {3, 4};
+
+static_assert(!std::is_copy_constructible_v<handle> && !std::is_copy_assignable_v<handle>, "");
+static_assert(!std::is_copy_constructible_v<client> && !std::is_copy_constructible_v<cache>, "");
+
+ferretgold_config small() { return config_of({"--clients", "2", "--handles", "3"}); }
+
+// Handles that are moved: each is given back once.
+void moved_handles() {
+    cache it(small());
+    client one = it.open_client();
+    const auto held = [&] { return ferretgold_held(one.get()); };
+    handle none;
+    EXPECT(!none);
+    EXPECT(!one.lookup(KEY));
+    handle first = one.insert_pinned(KEY, "ab", 2, 1);
+    EXPECT(first && held() == 1);
+    handle second = first.again();
+    handle third(std::move(first));
+    EXPECT(!first && third && held() == 2);
+    EXPECT(ferretgold_holds(one.get(), third.get()));
+    EXPECT(second.get().serial != third.get().serial);
+    second = std::move(third);
+    EXPECT(second && !third && held() == 1);
+    handle &same = second;
+    second = std::move(same);
+    EXPECT(second && held() == 1 && second.size() == 2);
+    none.release();
+    first.release();
+    EXPECT(held() == 1);
+    first = one.insert_pinned(OTHER, nullptr, 0, 1, FERRETGOLD_HIGH);
+    EXPECT(held() == 2 && first.size() == 0);
+    first = handle();
+    EXPECT(held() == 1);
+    { const handle gone = one.lookup(KEY); EXPECT(gone && held() == 2); }
+    EXPECT(held() == 1);
+    bool freed = true;
+    second.release(true, true, &freed);
+    EXPECT(freed && held() == 0);
+    EXPECT(refuses([&] { (void)handle().size(); }, 16));
+    EXPECT(refuses([&] { (void)one.insert_pinned(KEY, "", 0, 0); }, 18));
+    EXPECT(one.insert(KEY, "", 0, 0) == 18);
+}
+
+// Uses of an entry: what a release or a reading is without further words.
+void defaults() {
+    cache it(small());
+    client one = it.open_client();
+    std::uint64_t word = 0;
+    const auto uses = [&] {
+        EXPECT(ferretgold_word(one.get(), 0, 2, &word) == 0);
+        return (word >> 30) & 0x3fffffff;
+    };
+    EXPECT(one.insert(KEY, "ab", 2, 1) == 0);
+    EXPECT(uses() == 2);
+    char bytes[8];
+    std::size_t length = 0;
+    EXPECT(one.read(KEY, bytes, sizeof bytes, &length) == 0 && length == 2);
+    EXPECT(uses() == 3);
+    one.lookup(KEY).release();
+    EXPECT(uses() == 4);
+    (void)one.lookup(KEY);
+    EXPECT(uses() == 5);
+    one.lookup(KEY).release(false);
+    EXPECT(uses() == 5);
+    EXPECT(one.erase(KEY) == 1 && one.erase(KEY) == 0);
+    (void)one.insert_pinned(KEY, "", 0, 1);
+    EXPECT(uses() == 2);
+}
+
+// Clients and caches that are moved, and those that aren't given or taken back.
+void moved_caches() {
+    cache first(small());
+    cache it(std::move(first));
+    EXPECT(first.get() == nullptr && it.get() != nullptr);
+    client one = it.open_client();
+    client two(std::move(one));
+    EXPECT(one.get() == nullptr && two.get() != nullptr);
+    {
+        client last = it.open_client();
+        EXPECT(refuses([&] { (void)it.open_client(); }, 36));
+        EXPECT(refuses([&] { (void)it.close(); }, 39));
+    }
+    EXPECT(it.get() != nullptr);
+    EXPECT(two.insert(KEY, "ab", 2, 3) == 0);
+    EXPECT(two.stats().probes == 1);
+    { const client gone = std::move(two); }
+    const ferretgold_totals left = it.close();
+    EXPECT(left.usage == 3 && left.slot_count == 1);
+    EXPECT(it.get() == nullptr);
+    ferretgold_config bad = small();
+    bad.slots = 9;
+    EXPECT(refuses([&] { cache none(bad); }, 29));
+}
+
+// How many bytes of the heap are in use.
+std::size_t in_use() {
+    const auto it = mallinfo2();
+    return it.uordblks + it.hblkhd;
+}
+
+void edges() {
+    moved_handles();
+    defaults();
+    moved_caches();
+}
+
+} // namespace
+
+int main(int count, char **files) {
+    edges();
+    const std::size_t was = in_use();
+    edges();
+    EXPECT(in_use() == was);
+    for (int k = 1; k < count; k++) {
+        play_file(files[k]);
+    }
+    std::printf("play: %d faults\n", faults);
+    return faults != 0;
+}
