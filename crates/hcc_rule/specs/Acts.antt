@@ -6,15 +6,18 @@ use Rattle.atomic_table.specs.Table.{Act, State as Table, Valid, carried_after, 
 use Rattle.hcc_core.specs.declared.event.Event.{Event}
 use Rattle.hcc_core.specs.declared.event.Event.TheVariants as events
 use Rattle.hcc_core.specs.declared.event.Reply.{Reply}
+use Rattle.hcc_core.specs.Runs.{after_all, held_at}
 use Rattle.hcc_core.specs.Steps.{outcome_of}
 use Rattle.hcc_core.specs.World.{State}
 use Rattle.hcc_rule.specs.declared.key.Key.{Key}
 use Rattle.hcc_rule.specs.declared.rule.Plan.{Plan}
 use Rattle.hcc_rule.specs.declared.view.Done.{Done}
 use Rattle.hcc_rule.specs.declared.view.Logged.{Logged}
+use Rattle.hcc_rule.specs.declared.view.Record.{Record}
 use Rattle.hcc_rule.specs.declared.view.View.{View}
 use Rattle.hcc_rule.specs.Opening.{begun_world}
-use Rattle.hcc_rule.specs.Rule.{Holds}
+use Rattle.hcc_rule.specs.Records.{record_in}
+use Rattle.hcc_rule.specs.Rule.{AreTrailed, Holds}
 use Rattle.hcc_rule.specs.Seats.{SeatOf}
 use Rattle.hcc_rule.specs.Told.{Held}
 use Rattle.hcc_rule.specs.Views.{Each, is_seated, names}
@@ -111,6 +114,17 @@ abbrev pub longer : List Done → List Done → List Done
 longer xs ys = if nat_le (length ys) (length xs) then xs else ys
 
 module _ {T : Type 0} where
+  -- the world after this history, from the one with which a shard of this plan begins
+  abbrev pub world_of : Plan T → List Done → State
+  world_of p history = after_all (begun_world p) (events_of history)
+
+  -- in the world after each front of the history, the trail of each entry is the probes of its key
+  -- before its slot
+  abbrev pub KeepsTrails : Plan T → List Done → Type 0
+  KeepsTrails p history =
+      (front later : List Done) → history ≡ front ++ later
+      → AreTrailed p.geometry.slots (world_of p front).slots
+
   -- What a seat knows is a front of the history. Behind it comes no step of a client that the seat
   -- names; and nothing, where the shard has one client.
   pub record IsFront (clients : ℕ) (history : List Done) (l : Logged T) : Type 0 where
@@ -128,27 +142,38 @@ module _ {T : Type 0} where
     pub is : history ≡ seat.past ++ later
     pub still : Each IsNoStep later
 
+  -- what the seat's client holds stands in the world after all that the seat knows: there it has
+  -- the reference of each record's name, on the record's slot and entry
+  abbrev pub RecordsStand : Plan T → Logged T → Type 0
+  RecordsStand p l =
+      (name : ℕ) (r : Record) → record_in name l.known.records ≡ Some r
+      → held_at (world_of p l.past) l.known.client name r.slot ≡ Some r.entry
+
   -- The seat did this, after what others did since its last event: none of these is a step of a
-  -- client that it names, and there are none where the shard has one client.
-  pub record IsNext (clients : ℕ) (done : Done) (old new : Logged T) : Type 0 where
+  -- client that it names, and there are none where the shard has one client. What its client holds
+  -- stands in the world after it.
+  pub record IsNext (p : Plan T) (clients : ℕ) (done : Done) (old new : Logged T) : Type 0 where
     pub others : List Done
     pub past : new.past ≡ old.past ++ (others ++ done ∷ [])
     pub apart : (c : ℕ) → 1 ≤ names c old.known → Each (IsNoStepOf c) others
     pub alone : clients ≡ 1 → others ≡ []
+    pub stand : RecordsStand p new
 
   -- it did this, or nothing that the machine knows
-  abbrev pub Follows : ℕ → Option Done → Logged T → Logged T → Type 0
-  Follows clients None old new = new.past ≡ old.past
-  Follows clients (Some done) old new = IsNext clients done old new
+  abbrev pub Follows : Plan T → ℕ → Option Done → Logged T → Logged T → Type 0
+  Follows p clients None old new = new.past ≡ old.past
+  Follows p clients (Some done) old new = IsNext p clients done old new
 
   -- what all clients did, with the machine's replies, up to the seat's own last event
   abbrev pub past : SeatOf T → List Done
   past seat = seat.me.0.past
 
-  -- the machine allows these one after another, from the world with which a shard of this plan
-  -- begins
-  abbrev pub IsAllowed : Plan T → List Done → Type 0
-  IsAllowed p history = (world : State) × IsRun (begun_world p) history world
+  -- The machine allows these one after another, from the world with which a shard of this plan
+  -- begins, and trails are kept on the way.
+  pub record IsAllowed (p : Plan T) (history : List Done) : Type 0 where
+    pub world : State
+    pub run : IsRun (begun_world p) history world
+    pub trails : KeepsTrails p history
 
 -- What a step of a seat may be, and what it tells of the word, of the seat after it and of what it
 -- was in the machine.

@@ -39,7 +39,8 @@ module _ {T A : Type 0} where
   -- the seat's step was this event with this reply, and the machine allows all that the seat knows
   abbrev pub IsEvent : RuleTable T A → Done → (old new : SeatOf T) → Type 0
   IsEvent table done old new =
-      IsNext (clients_of table) done old.me.0 new.me.0 × IsAllowed (plan_of table) (past new)
+      IsNext (plan_of table) (clients_of table) done old.me.0 new.me.0
+      × IsAllowed (plan_of table) (past new)
 
   -- a slot of this table
   abbrev pub IsSlotOf : RuleTable T A → ℕ → Type 0

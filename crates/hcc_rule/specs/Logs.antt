@@ -9,7 +9,7 @@ use Rattle.hcc_rule.specs.declared.view.Atomic.{Atomic}
 use Rattle.hcc_rule.specs.declared.view.Done.{Done}
 use Rattle.hcc_rule.specs.declared.view.Logged.{Logged}
 use Rattle.hcc_rule.specs.declared.view.View.{View}
-use Rattle.hcc_rule.specs.Acts.{Follows, IsAllowed, IsFront, IsKnown, IsRun}
+use Rattle.hcc_rule.specs.Acts.{Follows, IsAllowed, IsFront, IsKnown, IsRun, KeepsTrails}
 use Rattle.hcc_rule.specs.Images.{BeginsWith, entries_in}
 use Rattle.hcc_rule.specs.Opening.{begun_world, opening_view}
 use Rattle.hcc_rule.specs.Rule.{Holds}
@@ -49,6 +49,7 @@ module _ {T : Type 0} where
         → moves_of l ≡ 0
     pub history : List Done
     pub run : IsRun (begun_world p) history rule.world
+    pub trails : KeepsTrails p history
     pub fronts : (j : ℕ) (l : Logged T) → slice_get s.views j ≡ Some l
         → IsFront p.geometry.clients history l
     pub known : IsKnown history s.views
@@ -67,7 +68,7 @@ module _ {T : Type 0} where
       (after : table.Me (Unit {0}) (Logged T)) : Type 0 where
     pub done : Option Done
     pub told : then step (known_of me) found (known_of after) done
-    pub follows : Follows p.geometry.clients done me.0 after.0
+    pub follows : Follows p p.geometry.clients done me.0 after.0
     pub allowed : IsAllowed p after.0.past
     pub logged_is : after.0.steps
         ≡ me.0.steps ++ atomic step.word step.first step.second found ∷ []

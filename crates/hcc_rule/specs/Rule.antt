@@ -196,12 +196,16 @@ IsTrailed size s (slots.Empty strays) = Unit {0}
 IsTrailed size s (slots.Building client strays) = Unit {0}
 IsTrailed size s (slots.Shareable r) = r.trail ≡ trail_to size (key_of r.entry) s
 
+-- so it is in each slot
+abbrev pub AreTrailed : (size : ℕ) → List Slot → Type 0
+AreTrailed size all = (s : ℕ) (slot : Slot) → slice_get all s ≡ Some slot → IsTrailed size s slot
+
 -- each displacement word is how often its slot stands in the trails of entries and clients
 pub record Trails (slots room : ℕ) (all : List Slot) (clients : List Client)
     (words : List ℕ) : Type 0 where
   pub passed : (s : ℕ) → s < slots
       → slice_index words (field_at room s DISPLACEMENT) ≡ passed_by all clients s
-  pub entries : (s : ℕ) (slot : Slot) → slice_get all s ≡ Some slot → IsTrailed slots s slot
+  pub entries : AreTrailed slots all
 
 -- The rule.
 

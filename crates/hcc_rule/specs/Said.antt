@@ -39,4 +39,5 @@ module _ {T A : Type 0} where
       × Makes address first second found old new
       × (done : Option Done)
       × tells then table old address first second found (known_of new.me) done
-      × Follows (clients_of table) done old.me.0 new.me.0 × IsAllowed (plan_of table) (past new)
+      × Follows (plan_of table) (clients_of table) done old.me.0 new.me.0
+      × IsAllowed (plan_of table) (past new)

@@ -24,7 +24,7 @@ ghost use Rattle.hcc_rule.specs.declared.layout.TheConstants.{META, USAGE, OCCUP
 ghost use Rattle.hcc_rule.specs.declared.rule.Plan.{Plan};
 ghost use Rattle.hcc_rule.specs.declared.view.Logged.{Logged};
 ghost use Rattle.hcc_rule.specs.declared.view.View.{View};
-ghost use Rattle.hcc_rule.specs.Acts.{IsAllowed, IsFront, IsKnown, IsRun, events_of};
+ghost use Rattle.hcc_rule.specs.Acts.{IsAllowed, IsFront, IsKnown, IsRun, KeepsTrails, events_of};
 ghost use Rattle.hcc_rule.specs.Closing.{key_at};
 ghost use Rattle.hcc_rule.specs.Images.{entries_in};
 ghost use Rattle.hcc_rule.specs.ImageLimits.{AreRising, IsImageFor};
@@ -169,6 +169,11 @@ pub fn law_run<T: Tag>()
     // So that is the world after these events.
     ensures world { (p : Plan T) (s : LoggedStateOf T) (h : HoldsLogged T.fits p s)
         → h.rule.world ≡ after_all (begun_world p) (events_of h.history) }
+
+    // In the world after each front of it the trail of each entry is the probes of its key before
+    // its slot.
+    ensures trails { (p : Plan T) (s : LoggedStateOf T) (h : HoldsLogged T.fits p s)
+        → KeepsTrails p h.history }
 
     // With no image the shard began with the opening world, in which client 0 was started.
     ensures opening { (p : Plan T) → IsPlanned p.geometry p.capacity → entries_in p.image ≡ []

@@ -3,11 +3,15 @@ use Rattle.std.proofs.Common.{◌≡◌, ℕ, ◌≤◌, ◌⊎◌, inl, inr, Bo
 use Rattle.std.proofs.lemmas.Bool.{cases_eq, leb-true, leb-false}
 use Rattle.std.proofs.lemmas.List.{append_assoc, append-nil}
 use Rattle.std.specs.Prelude.{if◌then◌else◌}
+use Rattle.hcc_core.specs.Runs.{after, after_all, world_after}
 use Rattle.hcc_core.specs.World.{State}
 use Rattle.hcc_core.proofs.ListLemmas.{read_here, read_other}
+use Rattle.hcc_rule.specs.declared.rule.Plan.{Plan}
 use Rattle.hcc_rule.specs.declared.view.Done.{Done}
 use Rattle.hcc_rule.specs.declared.view.Logged.{Logged}
-use Rattle.hcc_rule.specs.Acts.{Follows, GoesBy, IsFront, IsKnown, IsNoStep, IsNoStepOf, IsRun, Leads, longer, with_done}
+use Rattle.hcc_rule.specs.Acts.{Follows, GoesBy, IsFront, IsKnown, IsNoStep, IsNoStepOf, IsRun, KeepsTrails, Leads, RecordsStand, events_of, longer, with_done, world_of}
+use Rattle.hcc_rule.specs.Opening.{begun_world}
+use Rattle.hcc_rule.specs.Rule.{AreTrailed}
 use Rattle.hcc_rule.specs.Views.{Each, is_seated, names}
 use Rattle.hcc_rule.proofs.Basics.Lists.{each_append}
 
@@ -43,7 +47,29 @@ run_front world last [] rest is = (world, refl)
 run_front world last (done ∷ front) rest is =
     let later = run_front is.0 last front rest is.2 in (later.0, (is.0, is.1, later.1))
 
+-- the world at the end of a run is the one after its events
+pub run_is : (history : List Done) (world last : State) → IsRun world history last
+    → last ≡ after_all world (events_of history)
+run_is [] world last is = is
+run_is (done ∷ rest) world last is =
+    let next : is.0 ≡ after world done.event = sym (ap (world_after world) is.1) in
+    run_is rest is.0 last is.2 ∙ ap (λ w. after_all w (events_of rest)) next
+
 -- Two fronts of one history.
+
+-- a front of a list with one member more is all of it, or a front of the list
+front_of_more : {A : Type 0} (front later xs : List A) (x : A) → front ++ later ≡ xs ++ x ∷ []
+    → (front ≡ xs ++ x ∷ []) ⊎ ((rest : List A) × (xs ≡ front ++ rest))
+front_of_more [] later xs x is = inr (xs, refl)
+front_of_more (z ∷ []) later [] x is = inl (cc)
+front_of_more (z ∷ y ∷ zs) later [] x is = cc
+front_of_more (z ∷ zs) later (y ∷ ys) x is =
+    let same : z ≡ y = cc in
+    let rest : zs ++ later ≡ ys ++ x ∷ [] = cc in
+    elim (front_of_more zs later ys x rest) [
+      | inl all ↦ inl (rw (same, all) refl)
+      | inr part ↦ inr (part.0, rw (same, part.1) refl)
+    ]
 
 -- what holds of each member of a list holds of those behind a front of it
 each_behind : {A : Type 0} (P : A → Type 0) (xs ys : List A) → Each P (xs ++ ys) → Each P ys
@@ -80,6 +106,44 @@ module _ {T : Type 0} where
   abbrev pub past_after : List Done → Option Done → Logged T → List Done
   past_after history None l = l.past
   past_after history (Some done) l = history ++ done ∷ []
+
+  -- Trails on the way.
+
+  -- a front of a history that keeps trails
+  pub trails_front : (p : Plan T) (front later : List Done) → KeepsTrails p (front ++ later)
+      → KeepsTrails p front
+  trails_front p front later kept first rest is =
+      kept first (rest ++ later)
+      (ap (λ h. h ++ later) is ∙ append_assoc first rest later)
+
+  -- no event yet
+  pub trails_none : (p : Plan T) → AreTrailed p.geometry.slots (begun_world p).slots
+      → KeepsTrails p []
+  trails_none p begun [] later is = begun
+  trails_none p begun (done ∷ front) later is = cc
+
+  -- one event more, after which trails are kept
+  pub trails_more : (p : Plan T) (history : List Done) (done : Done) (next : State)
+      → IsRun (begun_world p) (history ++ done ∷ []) next
+      → AreTrailed p.geometry.slots next.slots → KeepsTrails p history
+      → KeepsTrails p (history ++ done ∷ [])
+  trails_more p history done next run after kept front later is =
+      elim (front_of_more front later history done (sym is)) [
+        | inl all ↦
+            subst (λ (w : State). AreTrailed p.geometry.slots w.slots)
+            (run_is (history ++ done ∷ []) (begun_world p) next run
+            ∙ ap (λ h. world_of p h) (sym all)) after
+        | inr part ↦ kept front part.0 part.1
+      ]
+
+  -- or what a step was
+  pub trails_on : (p : Plan T) (history : List Done) (done : Option Done) (next : State)
+      → IsRun (begun_world p) (with_done history done) next
+      → AreTrailed p.geometry.slots next.slots → KeepsTrails p history
+      → KeepsTrails p (with_done history done)
+  trails_on p history None next run after kept = kept
+  trails_on p history (Some done) next run after kept =
+      trails_more p history done next run after kept
 
   -- Fronts.
 
@@ -218,13 +282,16 @@ module _ {T : Type 0} where
   }
 
   -- What a seat did is behind what others did since its last event.
-  pub follows_is : (clients : ℕ) (history : List Done) (done : Option Done) (old new : Logged T)
+  pub follows_is : (p : Plan T) (clients : ℕ) (history : List Done) (done : Option Done)
+      (old new : Logged T)
       → is_seated old.known ≡ true → new.past ≡ past_after history done old
-      → IsFront clients history old → Follows clients done old new
-  follows_is clients history None old new seated past f = past
-  follows_is clients history (Some done) old new seated past f = record {
+      → (new.past ≡ with_done history done → RecordsStand p new)
+      → IsFront clients history old → Follows p clients done old new
+  follows_is p clients history None old new seated past stand f = past
+  follows_is p clients history (Some done) old new seated past stand f = record {
     others = f.later;
     past = past ∙ (ap (λ h. h ++ done ∷ []) f.is ∙ append_assoc old.past f.later (done ∷ []));
     apart = f.apart;
     alone = λ one. f.alone one seated;
+    stand = stand past;
   }

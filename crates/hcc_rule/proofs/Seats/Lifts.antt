@@ -3,12 +3,17 @@
 -- views do.
 use prog.Atomic.{either}
 use mathlib.Core.Option as maybe
-use Rattle.std.proofs.Common.{◌≡◌, ℕ, ◌+◌, ◌-◌, ◌%◌, ◌^◌, ◌==◌, bit_and, bit_or, ◌≤◌, true, false, is_some, Option, Some, None, List, [], ◌∷◌, ◌++◌, length, map, slice_get, slice_index, slice_set, sym, refl, ap, ◌∙◌, subst, arith}
+use Rattle.std.proofs.Common.{◌≡◌, ℕ, ◌+◌, ◌-◌, ◌%◌, ◌^◌, ◌==◌, bit_and, bit_or, ◌≤◌, Bool, true, false, cond, is_some, Option, Some, None, List, [], ◌∷◌, ◌++◌, length, map, slice_get, slice_index, slice_set, sym, refl, ap, ◌∙◌, subst, arith}
+use Rattle.std.specs.Prelude.{option_and_then}
 use Rattle.std.proofs.lemmas.List.{map-set, map-append}
 use Rattle.atomic_table.specs.Table as table
 use Rattle.atomic_table.specs.Table.{Allows, Splits, Joins, Final, Seen}
 use Rattle.hcc_core.specs.Sums.{when}
-use Rattle.hcc_core.specs.World.{State}
+use Rattle.hcc_core.specs.declared.slot.Entry.{Entry}
+use Rattle.hcc_core.specs.declared.slot.Slot.{Slot}
+use Rattle.hcc_core.specs.declared.slot.Slot.TheVariants as slots
+use Rattle.hcc_core.specs.Runs.{FindsOne, entry_held, held_at}
+use Rattle.hcc_core.specs.World.{State, has_reference, slot_holding}
 use Rattle.hcc_core.proofs.ListLemmas.{read_here, read_other}
 use Rattle.hcc_core.proofs.SumLemmas.{length-push, total-set, total-member}
 use Rattle.atomic_table.proofs.Lists.{at_map}
@@ -18,19 +23,22 @@ use Rattle.hcc_rule.specs.declared.view.Done.{Done}
 use Rattle.hcc_rule.specs.declared.view.Logged.{Logged}
 use Rattle.hcc_rule.specs.declared.view.Other.{Other}
 use Rattle.hcc_rule.specs.declared.view.View.{View}
-use Rattle.hcc_rule.specs.Acts.{Acts, Becomes, IsAllowed, IsRun, with_done}
+use Rattle.hcc_rule.specs.Acts.{Acts, Becomes, IsAllowed, IsRun, KeepsTrails, RecordsStand, events_of, with_done, world_of}
 use Rattle.hcc_rule.specs.Logs.{Logs, HoldsLogged, known_of, unlogged}
 use Rattle.hcc_rule.specs.Opening.{begun_world}
 use Rattle.hcc_rule.specs.PassedLogs.{left_logged, right_logged, joined_logged, spent_logged}
 use Rattle.hcc_rule.specs.Passing.{left_view, right_view, spent_view}
-use Rattle.hcc_rule.specs.Rule.{Holds}
+use Rattle.hcc_rule.specs.Rule.{Holds, IsRecorded, entry_by, entry_in}
 use Rattle.hcc_rule.specs.Seats.{atomic, moves_of}
 use Rattle.hcc_rule.specs.Told.{Held}
-use Rattle.hcc_rule.specs.Views.{is_seated, named_by}
+use Rattle.hcc_rule.specs.Views.{is_called, is_seated, named_by}
+use Rattle.hcc_rule.proofs.Basics.Findings.{find_each}
 use Rattle.hcc_rule.proofs.Basics.Lists.{each_set, read_at}
+use Rattle.hcc_rule.proofs.Parts.HeldReferences.{slot_held}
 use Rattle.hcc_rule.proofs.Seats.Fronts.{Meets, fronts_after, join_fronts, join_known, known, known_at, named_all, names_same, names_two, split_fronts, split_known}
-use Rattle.hcc_rule.proofs.Seats.Histories.{follows_is, known_after, past_after, run_front, run_more, run_on}
+use Rattle.hcc_rule.proofs.Seats.Histories.{follows_is, known_after, past_after, run_front, run_more, run_on, trails_front, trails_more, trails_on}
 use Rattle.hcc_rule.proofs.Seats.Joins.{total_joined}
+use Rattle.hcc_rule.proofs.Seats.Runs.{run_finds, world_is}
 use Rattle.hcc_rule.proofs.Seats.Passes.{JoinsBy, Passed, SplitsBy}
 use Rattle.hcc_rule.proofs.Seats.Splits.{each_snoc, total_split}
 
@@ -55,6 +63,34 @@ ored k n = bit_or n k
 
 abbrev pub exchanged : (old new : ℕ) → ℕ → ℕ
 exchanged old new n = either (n == old) new n
+
+-- a client that holds a name on a slot with this entry holds it on the entry
+held_there : (world : State) (client name slot : ℕ) (entry : Entry) → FindsOne world
+    → entry_in (slice_get world.slots slot) ≡ Some entry
+    → ((seen : Slot) → slice_get world.slots slot ≡ Some seen
+    → slot_holding world.slots client name ≡ Some slot)
+    → held_at world client name slot ≡ Some entry
+held_there world client name slot entry one there holds = by (slice_get world.slots slot) refl there
+  where
+    same : (seen : Slot) (e : Entry) → entry_by seen ≡ Some entry
+        → entry_held client name seen ≡ Some e → entry_held client name seen ≡ Some entry
+    same (slots.Empty strays) e is held = cc
+    same (slots.Building other strays) e is held = cc
+    same (slots.Shareable r) e is held = named (has_reference client name (slots.Shareable r)) held
+      where
+        named : (b : Bool) → cond b (Some r.entry) None ≡ Some e
+            → cond b (Some r.entry) None ≡ Some entry
+        named true held = is
+        named false held = cc
+
+    by : (o : Option Slot) → slice_get world.slots slot ≡ o → entry_in o ≡ Some entry
+        → held_at world client name slot ≡ Some entry
+    by None at is = cc
+    by (Some seen) at is =
+        let stands = one.stands client name slot (holds seen at) in
+        ap (option_and_then (entry_held client name)) at
+        ∙ same seen stands.0 is
+        (sym (ap (option_and_then (entry_held client name)) at) ∙ stands.1)
 
 module _ {T : Type 0} (fits : T → Key → List ℕ → Type 0) (p : Plan T) where
   -- what a step tells of views
@@ -114,6 +150,8 @@ module _ {T : Type 0} (fits : T → Key → List ℕ → Type 0) (p : Plan T) wh
       (sym (map-set known s.views id w)) becomes in
       let same = names_same fits p (unlogged s) holds.rule words homes id l.known w.known
       (known_at fits p s id l at) becomes.0 in
+      let run = run_on l.known.client (begun_world p) holds.rule.world now.0.world holds.history
+      done holds.run now.1 in
       record {
         rule = now.0;
         begins = λ none. absurd (omega arith);
@@ -123,8 +161,8 @@ module _ {T : Type 0} (fits : T → Key → List ℕ → Type 0) (p : Plan T) wh
             (known_at fits p s id l at) seated becomes.0 none in absurd (omega arith))
             (λ j m other there. holds.spent j m there);
         history = with_done holds.history done;
-        run = run_on l.known.client (begun_world p) holds.rule.world now.0.world holds.history done
-            holds.run now.1;
+        run = run;
+        trails = trails_on p holds.history done now.0.world run now.0.trails.entries holds.trails;
         fronts = fronts_after fits p s holds id l w at seated same now.0.world done now.1 past;
         known = known_after holds.history s.views id l w done at past holds.known;
       }
@@ -134,8 +172,41 @@ module _ {T : Type 0} (fits : T → Key → List ℕ → Type 0) (p : Plan T) wh
       (l : Logged T) → slice_get s.views j ≡ Some l → IsAllowed p l.past
   known_allowed s holds j l at =
       let front = holds.fronts j l at in
-      run_front (begun_world p) holds.rule.world l.past front.later
-      (subst (λ ds. IsRun (begun_world p) ds holds.rule.world) front.is holds.run)
+      let run = run_front (begun_world p) holds.rule.world l.past front.later
+      (subst (λ ds. IsRun (begun_world p) ds holds.rule.world) front.is holds.run) in
+      record {
+        world = run.0;
+        run = run.1;
+        trails = trails_front p l.past front.later
+            (subst (λ ds. KeepsTrails p ds) front.is holds.trails);
+      }
+
+  -- what a client holds stands in the world after all that its seat knows, where that is all there
+  -- is to know
+  records_stand : (s : table.State (Unit {0}) (Logged T)) (holds : HoldsLogged fits p s) (j : ℕ)
+      (l : Logged T) → slice_get s.views j ≡ Some l → is_seated l.known ≡ true
+      → l.past ≡ holds.history → RecordsStand p l
+  records_stand s holds j l at seated all name r called =
+      let there = known_at fits p s j l at in
+      let world : holds.rule.world ≡ world_of p l.past =
+      world_is fits p s holds ∙ ap (λ h. world_of p h) (sym all) in
+      let mine = holds.rule.holding j l.known there in
+      let kept = find_each (is_called name) (IsRecorded holds.rule.world.slots) l.known.records r
+      mine.recorded called in
+      held_there (world_of p l.past) l.known.client name r.slot r.entry
+      (run_finds p (events_of l.past))
+      (subst (λ (w : State). entry_in (slice_get w.slots r.slot) ≡ Some r.entry) world kept.there)
+      (λ slot at_slot.
+      subst (λ (w : State). slot_holding w.slots l.known.client name ≡ Some r.slot) world
+      (slot_held p.tag holds.rule.world.slots holds.rule.world.clients holds.rule.books
+      (unlogged s).views holds.rule.references holds.rule.seats j l.known there seated name r called
+      (mine.once name) slot r.slot refl
+      (ap (λ (w : State). slice_get w.slots r.slot) world ∙ at_slot)))
+
+  -- a view that can't have lost its tag stands for a client
+  sits : (v : View T) (o : Option T) → v.tag ≡ o → (v.tag ≡ None → 1 ≤ 0) → is_seated v ≡ true
+  sits v None is never = absurd (let bad = never is in omega arith)
+  sits v (Some tag) is never = ap is_some is
 
   -- A step that leaves f of the word, and tells of `word` of it: the word itself, but at a store
   -- the one that it leaves.
@@ -143,6 +214,7 @@ module _ {T : Type 0} (fits : T → Key → List ℕ → Type 0) (p : Plan T) wh
       {me : table.Me (Unit {0}) (Logged T)} (f word : ℕ → ℕ) → is_seated me.0.known ≡ true
       → Acts fits p count id (known_of me) a f (λ n. then step (known_of me) (word n))
       → Allows (HoldsLogged fits p) count id me a f (λ n. Logs p then step me (word n))
+  unfolding stepped_logged
   lifted {then} {step} {count} {id} {a} {me} f word seated acts s holds homes at low =
       let given = acts (unlogged s) holds.rule homes (at_map known s.views id me.0 at) low in
       let here = read_at s.views id me.0 at in
@@ -151,7 +223,8 @@ module _ {T : Type 0} (fits : T → Key → List ℕ → Type 0) (p : Plan T) wh
       let w : Logged T = seat_after given.0 step me found (past_after holds.history given.3 me.0)
       in
       let after = stepped_logged s holds _ _ id me.0 w given.3 here seated (omega arith) refl
-      given.4 in (
+      given.4 in
+      let there = read_here s.views id me.0 w here in (
         w,
         given.1,
         given.2,
@@ -159,9 +232,11 @@ module _ {T : Type 0} (fits : T → Key → List ℕ → Type 0) (p : Plan T) wh
         record {
           done = given.3;
           told = given.5;
-          follows = follows_is p.geometry.clients holds.history given.3 me.0 w seated refl
-              (holds.fronts id me.0 here);
-          allowed = known_allowed _ after id w (read_here s.views id me.0 w here);
+          follows = follows_is p p.geometry.clients holds.history given.3 me.0 w seated refl
+              (λ all. records_stand _ after id w there
+              (sits w.known w.known.tag refl (λ none. let never = after.spent id w there none in
+              omega arith)) all) (holds.fronts id me.0 here);
+          allowed = known_allowed _ after id w there;
           logged_is = refl;
           one = push;
         },
@@ -190,6 +265,8 @@ module _ {T : Type 0} (fits : T → Key → List ℕ → Type 0) (p : Plan T) wh
       (record { words = s.words; homes = s.homes; views = vs })) (sym views) passed in
       let two = names_two fits p (unlogged s) holds.rule id l.known o os
       (known_at fits p s id l here) seated another in
+      let run = run_more done holds.rule.world now.0.world holds.history (begun_world p) holds.run
+      now.1.1 in
       record {
         rule = now.0;
         begins = λ none.
@@ -202,8 +279,8 @@ module _ {T : Type 0} (fits : T → Key → List ℕ → Type 0) (p : Plan T) wh
             (each_set (λ j m. Spent m) s.views id (left_logged l) (holds.spent id l here)
             (λ j m other there. holds.spent j m there));
         history = holds.history ++ done ∷ [];
-        run = run_more done holds.rule.world now.0.world holds.history (begun_world p) holds.run
-            now.1.1;
+        run = run;
+        trails = trails_more p holds.history done now.0.world run now.0.trails.entries holds.trails;
         fronts = split_fronts fits p s holds id l done here seated now.1.0 two;
         known = split_known fits p s holds id l done here now.1.0;
       }
@@ -235,6 +312,8 @@ module _ {T : Type 0} (fits : T → Key → List ℕ → Type 0) (p : Plan T) wh
       }) =
       subst (λ vs. Passed fits p holds.rule.world done
       (record { words = s.words; homes = s.homes; views = vs })) (sym views) passed in
+      let run = run_more done holds.rule.world now.0.world holds.history (begun_world p) holds.run
+      now.1.1 in
       record {
         rule = now.0;
         begins = λ none.
@@ -247,8 +326,8 @@ module _ {T : Type 0} (fits : T → Key → List ℕ → Type 0) (p : Plan T) wh
             (λ none. let bad : is_seated l.known ≡ false = ap is_some none in cc)
             (λ j o other there. holds.spent j o there) j o);
         history = holds.history ++ done ∷ [];
-        run = run_more done holds.rule.world now.0.world holds.history (begun_world p) holds.run
-            now.1.1;
+        run = run;
+        trails = trails_more p holds.history done now.0.world run now.0.trails.entries holds.trails;
         fronts = join_fronts fits p s holds id other l m here apart before seated sits done now.1.0;
         known = join_known fits p s holds id other l m here apart before seated sits done now.1.0;
       }

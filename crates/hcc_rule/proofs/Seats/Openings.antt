@@ -40,7 +40,7 @@ use Rattle.hcc_rule.specs.Seats.{moves_of}
 use Rattle.hcc_rule.proofs.Basics.Bounds.{total-bound}
 use Rattle.hcc_rule.proofs.Basics.Lists.{each_set, within}
 use Rattle.hcc_rule.proofs.Parts.ViewParts.{when_is}
-use Rattle.hcc_rule.proofs.Seats.Histories.{front_all}
+use Rattle.hcc_rule.proofs.Seats.Histories.{front_all, trails_none}
 use Rattle.hcc_rule.proofs.Images.Fillings.{each_get, made_length, made_get, made_only, filled_length, filled_each, filled_total, read_with}
 
 -- a list of one member over and over has it at each place
@@ -519,6 +519,7 @@ module _ {T : Type 0} (fits : T → Key → List ℕ → Type 0) (p : Plan T) (c
       spent = only (λ l. l.known.tag ≡ None → moves_of l ≡ 0) (first_logged p) (λ none. refl);
       history = [];
       run = refl;
+      trails = trails_none p opens_rule.trails.entries;
       fronts = only (IsFront p.geometry.clients []) (first_logged p)
           (front_all p.geometry.clients [] (first_logged p) refl);
       known = record {

@@ -12,7 +12,7 @@ use Rattle.hcc_core.specs.declared.slot.Slot.{Slot}
 use Rattle.hcc_core.specs.declared.slot.Stamp.{Stamp}
 use Rattle.hcc_core.specs.Lawful.{Lawful, stamps_by}
 use Rattle.hcc_core.specs.Opening.{CanOpen, new_client, new_slot, opening_of}
-use Rattle.hcc_core.specs.Runs.{FindsOne, KeepsPlaces, after, after_all, entry_given, entry_held, entry_of, named_on, world_after}
+use Rattle.hcc_core.specs.Runs.{FindsOne, KeepsPlaces, after_all, entry_given, entry_held, entry_of, named_on}
 use Rattle.hcc_core.specs.Steps.{outcome_of}
 use Rattle.hcc_core.specs.Sums.{total, when}
 use Rattle.hcc_core.specs.World.{State, is_named, references_of}
@@ -37,15 +37,8 @@ use Rattle.hcc_rule.specs.Seats.{IsPlanned}
 use Rattle.hcc_rule.specs.Views.{is_seated}
 use Rattle.hcc_rule.specs.Words.{entry_of as entry_made}
 use Rattle.hcc_rule.proofs.Images.Fillings.{filled_each, made_length, read_with}
+use Rattle.hcc_rule.proofs.Seats.Histories.{run_is}
 use Rattle.hcc_rule.proofs.Seats.Openings.{first_lawful, replicate_at}
-
--- the world at the end of a run is the one after its events
-pub run_is : (history : List Done) (world last : State) → IsRun world history last
-    → last ≡ after_all world (events_of history)
-run_is [] world last is = is
-run_is (done ∷ rest) world last is =
-    let next : is.0 ≡ after world done.event = sym (ap (world_after world) is.1) in
-    run_is rest is.0 last is.2 ∙ ap (λ w. after_all w (events_of rest)) next
 
 -- what no member has, a list has none of
 total_none : {A : Type 0} (f : A → ℕ) (xs : List A)

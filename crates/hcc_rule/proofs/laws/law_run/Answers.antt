@@ -11,6 +11,9 @@ returns-clause-run g c = λ p s h. h.run
 pub returns-clause-world : goal.returns-clause-world
 returns-clause-world g c = world_is g.T.Tag.fits
 
+pub returns-clause-trails : goal.returns-clause-trails
+returns-clause-trails g c = λ p s h. h.trails
+
 pub returns-clause-opening : goal.returns-clause-opening
 returns-clause-opening g c = λ p planned. starts_opening p planned.some_client
 
