@@ -71,6 +71,14 @@ module _ {T : Type 0} where
       saw : w.saw ≡ v.saw + 1
       saw = ap (λ (z : View T). z.saw) same
 
+  -- it meets no key
+  pub occupy_meets : (slot word : ℕ) (v w : View T) → is_empty word ≡ false
+      → w ≡ after_occupy slot word v → w.met ≡ v.met
+  occupy_meets slot word v w taken tells = ap (λ (z : View T). z.met) same
+    where
+      same : w ≡ record (after_look slot word v) { saw = v.saw + 1 }
+      same = tells ∙ rw taken refl
+
   -- the try of a slot that isn't empty, and a search there
   pub tried_there : (slot word : ℕ) (v a w : View T) → is_empty word ≡ false
       → a ≡ after_occupy slot word v

@@ -1,10 +1,13 @@
 pub mod Rises
 pub mod Logs
 pub mod Searches
+pub mod Seeking
 pub mod Reaches
 pub mod Probes
 pub mod Probings
 pub mod Quiet
+pub mod Shown
+pub mod Lasting
 pub mod Finds
 pub mod TakesBack
 pub mod Gives

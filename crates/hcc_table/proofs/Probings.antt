@@ -1,12 +1,13 @@
 -- What calls find at the probes of a key, one after the other.
-use Rattle.std.proofs.Common.{◌≡◌, ℕ, ◌+◌, ◌<◌, ◌++◌, Bool, true, false, List, [], ◌∷◌, inl, inr, length, sym, subst, refl, ap, ◌∙◌, arith}
+use Rattle.std.proofs.Common.{◌≡◌, ◌⊎◌, ℕ, ◌+◌, ◌<◌, ◌++◌, Bool, true, false, List, [], ◌∷◌, inl, inr, length, sym, subst, refl, ap, ◌∙◌, arith}
 use Rattle.std.proofs.lemmas.Bool.{eqb-true}
 use Rattle.hcc_word.specs.declared.layout.TheConstants.{HIT_BIT, VISIBLE}
 use Rattle.hcc_word.specs.Word.{hit_of, is_shareable, is_visible, state_of}
 use Rattle.hcc_rule.specs.declared.key.Key.{Key}
 use Rattle.hcc_rule.specs.declared.layout.TheConstants.{KEY0, KEY1}
 use Rattle.hcc_rule.specs.declared.table.RuleTable.{RuleTable}
-use Rattle.hcc_rule.specs.Callers.{slots_of}
+use Rattle.hcc_rule.specs.Callers.{slots_of, IsEvent}
+use Rattle.hcc_rule.specs.Events.{count_done, mark_done}
 use Rattle.hcc_rule.specs.Addresses.{address_of_data, address_of_displacement, address_of_meta}
 use Rattle.hcc_rule.specs.Probes.{probe_slot}
 use Rattle.hcc_rule.specs.Seats.{SeatOf, Makes, MakesSome, atomic, steps, view}
@@ -170,12 +171,14 @@ module _ {T A : Type 0} (fits : T → Key → List ℕ → Type 0) (table : Rule
       (h : HasPassed i e f old now) (there : slot ≡ probe_slot (slots_of table) key i)
       (passes : Passes fits table key name (Looks table slot) slot 1 word f g now mid)
       (counts : Makes (address_of_displacement table slot) 0 0 n mid new)
+      (event : IsEvent table (count_done slot n (view mid)) mid new)
       (kept : view new ≡ view mid) where
     abbrev here : Probe
     here = record { word = word; displacement = n }
 
     abbrev probed : Probed fits table key name slot here f g now new
-    probed = record { mid = mid; passes = passes; counts = counts; kept = kept }
+    probed =
+        record { mid = mid; passes = passes; counts = counts; event = event; kept = kept }
 
     -- It goes on,
     pub passed_then : ¬ (n ≡ 0) → HasPassed (i + 1) e g old new
@@ -228,9 +231,10 @@ module _ {T A : Type 0} (fits : T → Key → List ℕ → Type 0) (table : Rule
       → (marks ≡ true → hit_of word ≡ false
       → MakesSome (address_of_meta table slot) HIT_BIT 0 held new)
       → (hit_of word ≡ true → MakesNone held new) → (marks ≡ false → MakesNone held new)
+      → (new ≡ held) ⊎ IsEvent table (mark_done name (view held)) held new
       → Finds fits table key name marks slot word e all old new
   finds_here marks i slot word e f g all old now held new h there catches visited marked hit
-      unasked = record {
+      unasked by = record {
         earlier = h.seen;
         between = f;
         mid = now;
@@ -244,6 +248,7 @@ module _ {T A : Type 0} (fits : T → Key → List ℕ → Type 0) (table : Rule
         marked = marked;
         hit = hit;
         unasked = unasked;
+        by = by;
       }
 
 module _ {T : Type 0} (address : ℕ) (a b : SeatOf T) where

@@ -8,8 +8,10 @@ pub mod Erased
 pub mod Readings
 pub mod Inserted
 pub mod Steps
+pub mod Seeking
 pub mod Probed
 pub mod Quiet
+pub mod Standing
 pub mod Hides
 pub mod Tries
 pub mod Pinned

@@ -5,7 +5,8 @@ use Rattle.hcc_word.specs.Word.{hit_of, is_counting, is_empty, is_visible}
 use Rattle.hcc_rule.specs.declared.key.Key.{Key}
 use Rattle.hcc_rule.specs.declared.layout.TheConstants.{KEY0, KEY1}
 use Rattle.hcc_rule.specs.declared.table.RuleTable.{RuleTable}
-use Rattle.hcc_rule.specs.Callers.{room_of, slots_of}
+use Rattle.hcc_rule.specs.Callers.{room_of, slots_of, IsEvent}
+use Rattle.hcc_rule.specs.Events.{count_done, look_done, mark_done, occupy_done}
 use Rattle.hcc_rule.specs.Addresses.{address_of_data, address_of_displacement, address_of_meta}
 use Rattle.hcc_rule.specs.Probes.{probe_slot}
 use Rattle.hcc_rule.specs.Seats.{SeatOf, Makes, MakesSome, atomic, view}
@@ -18,6 +19,7 @@ use Rattle.hcc_table.specs.declared.efforts.Effort.{Effort}
 use Rattle.hcc_table.specs.declared.pins.Pin.{Pin}
 use Rattle.hcc_table.specs.Efforts.{VisitedSlots}
 use Rattle.hcc_table.specs.Searched.{Reached}
+use Rattle.hcc_table.specs.Seeking.{ReachesBy, Seeks}
 use Rattle.hcc_table.specs.Steps.{Acquires, Adds, Among, Corrects, MakesNone, MakesTwo}
 
 -- What was found at one probe: the meta word of its slot, as the add of a reference found it where
@@ -46,12 +48,14 @@ module _ {T A : Type 0} (table : RuleTable T A) where
   Looks slot seen old new =
       Makes (address_of_meta table slot) 0 0 seen old new
       × (view new ≡ after_look slot seen (view old))
+      × IsEvent table (look_done slot seen (view old)) old new
 
   -- The first step of an insertion at a slot that was taken: it set the occupied bit of this word.
   abbrev pub FindsTaken : (slot seen : ℕ) → SeatOf T → SeatOf T → Type 0
   FindsTaken slot seen old new =
       Makes (address_of_meta table slot) OCCUPIED_BIT 0 seen old new
       × (view new ≡ after_occupy slot seen (view old)) × (is_empty seen ≡ false)
+      × IsEvent table (occupy_done slot seen (view old)) old new
 
   -- a load of this data word of a slot found another than this
   abbrev pub LoadsNot : (slot index half : ℕ) → SeatOf T → SeatOf T → Type 0
@@ -77,6 +81,7 @@ module _ {T A : Type 0} (fits : T → Key → List ℕ → Type 0) (table : Rule
     pub reached : Reached fits (room_of table) slot weight name word (view old) (view new)
     pub acquires : Acquires (address_of_meta table slot) weight word old new
     pub corrects : Corrects (address_of_meta table slot) weight word before after old new
+    pub by : ReachesBy table slot weight name word old new
 
 module _ {T A : Type 0} (fits : T → Key → List ℕ → Type 0) (table : RuleTable T A) (key : Key)
     (name : ℕ) where
@@ -87,6 +92,7 @@ module _ {T A : Type 0} (fits : T → Key → List ℕ → Type 0) (table : Rule
     pub mid : SeatOf T
     pub reaches : Reaches fits table name slot weight word before after old mid
     pub adds : Adds mid new
+    pub seeks : Seeks table mid new
     pub other : is_visible word ≡ true → IsSomeAnd (record_in name (view mid).records)
         (λ r. (r.slot ≡ slot) × ¬ (key_of r.entry ≡ key))
     pub loads : is_visible word ≡ true → LoadsOther table key slot mid new
@@ -115,6 +121,7 @@ module _ {T A : Type 0} (fits : T → Key → List ℕ → Type 0) (table : Rule
     pub same : IsSomeAnd (record_in name (view mid).records)
         (λ r. (r.slot ≡ slot) × (key_of r.entry ≡ key))
     pub loads : LoadsKey table key slot mid new
+    pub seeks : Seeks table mid new
 
   -- A search passed this slot, and found this there.
   pub record Probed (slot : ℕ) (p : Probe) (before after : Effort) (old new : SeatOf T)
@@ -122,6 +129,7 @@ module _ {T A : Type 0} (fits : T → Key → List ℕ → Type 0) (table : Rule
     pub mid : SeatOf T
     pub passes : Passes (Looks table slot) slot 1 p.word before after old mid
     pub counts : Makes (address_of_displacement table slot) 0 0 p.displacement mid new
+    pub event : IsEvent table (count_done slot p.displacement (view mid)) mid new
     pub kept : view new ≡ view mid
 
   -- the first so many probes, as a search passed them
@@ -157,6 +165,7 @@ module _ {T A : Type 0} (fits : T → Key → List ℕ → Type 0) (table : Rule
         → MakesSome (address_of_meta table slot) HIT_BIT 0 held new
     pub hit : hit_of word ≡ true → MakesNone held new
     pub unasked : marks ≡ false → MakesNone held new
+    pub by : (new ≡ held) ⊎ IsEvent table (mark_done name (view held)) held new
 
   -- What a search found at each probe of the key, by its answer.
   abbrev pub Searches : (marks : Bool) → Option Pin → (before after : Effort)

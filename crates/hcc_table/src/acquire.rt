@@ -1,11 +1,12 @@
 //! One more reference on an entry, and the one try to take its counters back.
-ghost use Rattle.std.specs.Prelude.{◌≡◌, ◌+◌, ◌++◌, ◌∷◌, ◌<◌, ◌≤◌, [], false, true, None, IfSome, IsSomeAnd, ℕ};
+ghost use Rattle.std.specs.Prelude.{◌≡◌, ◌⊎◌, ◌+◌, ◌++◌, ◌∷◌, ◌<◌, ◌≤◌, [], false, true, None, IfSome, IsSomeAnd, ℕ};
 ghost use Rattle.hcc_word.specs.Changes.{IsCorrectable, corrected_word};
 ghost use Rattle.hcc_word.specs.Word.{is_counting};
 ghost use Rattle.hcc_core.specs.declared.limits.TheConstants.{MOST_WEIGHT, REFERENCES_PER_CLIENT};
 ghost use Rattle.hcc_rule.specs.declared.view.Record.{Record};
-ghost use Rattle.hcc_rule.specs.Callers.{room_of, IsSeatAt, IsSlotOf};
+ghost use Rattle.hcc_rule.specs.Callers.{room_of, IsEvent, IsSeatAt, IsSlotOf};
 ghost use Rattle.hcc_rule.specs.Addresses.{address_of_meta};
+ghost use Rattle.hcc_rule.specs.Events.{correct_done};
 ghost use Rattle.hcc_rule.specs.Seats.{IsSameSeat, view, Makes};
 ghost use Rattle.hcc_rule.specs.ToldReferences.{may_reach};
 ghost use Rattle.hcc_rule.specs.Views.{load_of};
@@ -13,6 +14,7 @@ ghost use Rattle.hcc_rule.specs.Records.{record_in};
 ghost use Rattle.hcc_table.specs.Efforts.{Corrected, Lost, Took};
 ghost use Rattle.hcc_table.specs.Pins.{IsOf, IsPinned};
 ghost use Rattle.hcc_table.specs.Searched.{Searched, Sought, Reached};
+ghost use Rattle.hcc_table.specs.Seeking.{ReachesBy};
 ghost use Rattle.hcc_table.specs.Steps.{Acquires, AddsUnmarked, Corrects, MakesAtMost, MakesNone};
 
 use crate::efforts::Effort;
@@ -84,6 +86,7 @@ pub(crate) fn reach<T: Tag, A: Allocator>(
     ensures acquires { Acquires (address_of_meta table.now slot) weight result seat.old seat.new }
     ensures corrects { Corrects (address_of_meta table.now slot) weight result
         effort.old effort.new seat.old seat.new }
+    ensures by { ReachesBy table.now slot weight name result seat.old seat.new }
     ensures adds { AddsUnmarked seat.old seat.new }
     ensures steps { MakesAtMost 2 seat.old seat.new }
 {
@@ -125,6 +128,9 @@ fn relieve<T: Tag, A: Allocator>(
         × (¬ (other ≡ word) → Lost 1 1 effort.old effort.new) }
     ensures passes { ¬ (IsCorrectable word)
         → MakesNone seat.old seat.new × (effort.new ≡ effort.old) }
+    ensures tries { (seat.new ≡ seat.old) ⊎ ((other : ℕ)
+        × IsEvent table.now (correct_done slot name word other (view seat.old))
+        seat.old seat.new) }
     ensures adds { AddsUnmarked seat.old seat.new }
     ensures steps { MakesAtMost 1 seat.old seat.new }
 {

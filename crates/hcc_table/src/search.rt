@@ -1,11 +1,12 @@
 //! The search for a key's entry.
-ghost use Rattle.std.specs.Prelude.{◌≡◌, ◌+◌, ◌<◌, ◌≤◌, true, false, None, IfSome, IfNone, ℕ};
+ghost use Rattle.std.specs.Prelude.{◌≡◌, ◌⊎◌, ◌+◌, ◌<◌, ◌≤◌, true, false, None, IfSome, IfNone, ℕ};
 ghost use Rattle.hcc_word.specs.declared.layout.TheConstants.{HIT_BIT};
 ghost use Rattle.hcc_word.specs.Word.{is_counting, is_visible, hit_of};
 ghost use Rattle.hcc_core.specs.declared.limits.TheConstants.{REFERENCES_PER_CLIENT};
 ghost use Rattle.hcc_rule.specs.declared.view.Record.{Record};
-ghost use Rattle.hcc_rule.specs.Callers.{slots_of, room_of, IsSeatAt, IsSlotOf, HasOn};
+ghost use Rattle.hcc_rule.specs.Callers.{slots_of, room_of, IsEvent, IsSeatAt, IsSlotOf, HasOn};
 ghost use Rattle.hcc_rule.specs.Addresses.{address_of_meta};
+ghost use Rattle.hcc_rule.specs.Events.{mark_done};
 ghost use Rattle.hcc_rule.specs.Seats.{IsSameSeat, view, Makes, atomic};
 ghost use Rattle.hcc_rule.specs.ToldOwners.{with_met};
 ghost use Rattle.hcc_rule.specs.Views.{load_of};
@@ -14,6 +15,7 @@ ghost use Rattle.hcc_rule.specs.Words.{key_of};
 ghost use Rattle.hcc_table.specs.Efforts.{Took};
 ghost use Rattle.hcc_table.specs.Probed.{Catches, LoadsKey, LoadsOther, Looks, Passes, Searches};
 ghost use Rattle.hcc_table.specs.Searched.{Sought, IsFound, IsMissed, Buried};
+ghost use Rattle.hcc_table.specs.Seeking.{Seeks};
 ghost use Rattle.hcc_table.specs.Steps.{AddsUnmarked, Among, MakesAtMost, MakesFor, MakesNone, Marks};
 
 use crate::acquire::reach;
@@ -167,6 +169,7 @@ pub(crate) fn matches<T: Tag, A: Allocator>(
     ensures loads { result ≡ true → LoadsKey table.now key slot seat.old seat.new }
     ensures differs { result ≡ false → is_visible found ≡ true
         → LoadsOther table.now key slot seat.old seat.new }
+    ensures seeks { Seeks table.now seat.old seat.new }
     ensures adds { AddsUnmarked seat.old seat.new }
     ensures steps { MakesAtMost 2 seat.old seat.new }
 {
@@ -196,6 +199,7 @@ fn has_key<T: Tag, A: Allocator>(
         ≡ with_met (record_in name (view seat.old).records) (view seat.old).met }
     ensures loads { result ≡ true → LoadsKey table.now key slot seat.old seat.new }
     ensures differs { result ≡ false → LoadsOther table.now key slot seat.old seat.new }
+    ensures seeks { Seeks table.now seat.old seat.new }
     ensures adds { AddsUnmarked seat.old seat.new }
     ensures steps { MakesAtMost 2 seat.old seat.new }
 {
@@ -223,6 +227,8 @@ fn mark_if<T: Tag, A: Allocator>(
         × Makes (address_of_meta table.now slot) HIT_BIT 0 other seat.old seat.new }
     ensures unmarked { hit_of found ≡ true → MakesNone seat.old seat.new }
     ensures unasked { marks ≡ false → MakesNone seat.old seat.new }
+    ensures by { (seat.new ≡ seat.old)
+        ⊎ IsEvent table.now (mark_done name (view seat.old)) seat.old seat.new }
     ensures steps { MakesAtMost 1 seat.old seat.new }
 {
     if marks && !hit(found) {

@@ -1,15 +1,21 @@
 use Rattle.std.proofs.Common.{length, ap, sym, ◌∙◌}
 use Rattle.hcc_rule.specs.declared.view.Atomic.{Atomic}
 use Rattle.hcc_rule.specs.Addresses.{address_of_meta}
-use Rattle.hcc_rule.specs.Seats.{Makes, atomic}
+use Rattle.hcc_rule.specs.Seats.{Makes, atomic, view}
 use Rattle.hcc_table.proofs.Logs.{begins_then, light, makes_two, unmarked_adds, unmarked_one, unmarked_then}
-use Rattle.hcc_table.proofs.Reaches.{relieves}
+use Rattle.hcc_table.proofs.Reaches.{reached_of, relieves}
 use Rattle.hcc_table.proofs.acquire.reach.Goals as goal
 
 pub relieve-requires-clause-holds : goal.relieve-requires-clause-holds
 relieve-requires-clause-holds g c =
     relieves g.T.Tag.fits _ c.args.slot c.args.weight c.args.name _ _ _ c.acquire-found.ensures.view
     (sym c.if-has_entry.ensures) c.requires.fresh (sym c.if-not-counts.ensures)
+
+pub returns-then-not-counts-clause-view : goal.returns-then-not-counts-clause-view
+returns-then-not-counts-clause-view g c =
+    reached_of g.T.Tag.fits c.args.table.now.geometry.room c.args.slot c.args.weight c.args.name
+    c.acquire-found.result (view c.args.seat.now) (view c.acquire-found.new.seat)
+    c.acquire-found.ensures.view (view c.relieve.new.seat) c.relieve.ensures.view
 
 pub returns-then-not-counts-clause-acquires : goal.returns-then-not-counts-clause-acquires
 returns-then-not-counts-clause-acquires g c = record {

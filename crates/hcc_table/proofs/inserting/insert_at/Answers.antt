@@ -1,13 +1,13 @@
-use Rattle.std.proofs.Common.{◌≡◌, ◌+◌, refl, sym}
+use Rattle.std.proofs.Common.{◌≡◌, ◌+◌, ◌++◌, [], ◌∷◌, refl, sym, ap, ◌∙◌}
 use Rattle.hcc_word.specs.Word.{is_visible}
 use Rattle.hcc_table.specs.Steps.{Adds}
-use Rattle.hcc_table.proofs.Logs.{adds_one, adds_then}
+use Rattle.hcc_table.proofs.Logs.{adds_one, adds_then, among_after}
 use Rattle.hcc_table.proofs.Probings.{neither}
 use Rattle.hcc_rule.specs.Seats.{view}
-use Rattle.hcc_table.specs.Inserted.{Tried}
+use Rattle.hcc_table.specs.Inserted.{Meets, Tried}
 use Rattle.hcc_table.specs.Searched.{Buried, Sought}
 use Rattle.hcc_table.proofs.Searches.{searched_refl}
-use Rattle.hcc_table.proofs.Inserts.{tried_there, unshown_there, shown_there}
+use Rattle.hcc_table.proofs.Inserts.{occupy_meets, tried_there, unshown_there, shown_there}
 use Rattle.hcc_table.proofs.inserting.insert_at.Goals as goal
 use Rattle.hcc_table.proofs.inserting.insert_at.Goals.{else-is_shown-via-then-is_shown+else-meet, else-is_shown-via-else-is_shown}
 
@@ -18,7 +18,12 @@ returns-clause-tries g c = elim c.else-is_shown.branch [
     record {
       seen = c.occupy-found.result;
       mid = c.occupy-found.new.seat;
-      first = (c.occupy-found.ensures.step, c.occupy-found.ensures.view, sym c.if-is_free.ensures);
+      first = (
+        c.occupy-found.ensures.step,
+        c.occupy-found.ensures.view,
+        sym c.if-is_free.ensures,
+        c.occupy-found.ensures.event,
+      );
       unshown = λ unseen. neither (is_visible c.occupy-found.result) (sym w.if-is_shown.ensures)
           unseen;
       shown = λ _. rw (w.seat-is, w.effort-is) (w.meet.ensures.passes w.if-meet.false).1;
@@ -29,7 +34,12 @@ returns-clause-tries g c = elim c.else-is_shown.branch [
     record {
       seen = c.occupy-found.result;
       mid = c.occupy-found.new.seat;
-      first = (c.occupy-found.ensures.step, c.occupy-found.ensures.view, sym c.if-is_free.ensures);
+      first = (
+        c.occupy-found.ensures.step,
+        c.occupy-found.ensures.view,
+        sym c.if-is_free.ensures,
+        c.occupy-found.ensures.event,
+      );
       unshown = λ _. (refl, w.effort-is, w.seat-is);
       shown = λ shown. neither (is_visible c.occupy-found.result) shown
           (sym w.if-is_shown.ensures);
@@ -77,3 +87,35 @@ returns-clause-view g c = (tried.0, tried.1, buried)
           (view c.occupy-found.new.seat) (sym c.if-is_free.ensures) (sym w.if-is_shown.ensures)
           c.occupy-found.ensures.backs c.occupy-found.ensures.view)
     ]
+
+pub returns-then-meet-clause-view : goal.returns-then-meet-clause-view
+returns-then-meet-clause-view g c = (
+  tried.0,
+  tried.1,
+  (met.0, met.1 ∙ ap (λ ks. ks ++ met.0 ++ c.args.draft.key ∷ []) same),
+)
+  where
+    tried : Tried (view c.args.seat.now) (view c.meet.new.seat)
+        × ((view c.meet.new.seat).saw ≡ (view c.args.seat.now).saw + 1)
+    tried =
+        tried_there c.args.slot c.occupy-found.result (view c.args.seat.now)
+        (view c.occupy-found.new.seat) (view c.meet.new.seat) (sym c.if-is_free.ensures)
+        c.occupy-found.ensures.view c.meet.ensures.view
+
+    met : Meets c.args.draft.key (view c.occupy-found.new.seat) (view c.meet.new.seat)
+    met = c.meet.ensures.met c.if-meet.true
+
+    same : (view c.occupy-found.new.seat).met ≡ (view c.args.seat.now).met
+    same = occupy_meets c.args.slot c.occupy-found.result (view c.args.seat.now)
+        (view c.occupy-found.new.seat) (sym c.if-is_free.ensures) c.occupy-found.ensures.view
+
+pub returns-then-meet-clause-matched : goal.returns-then-meet-clause-matched
+returns-then-meet-clause-matched g c _ =
+    let uses = c.meet.ensures.matched c.if-meet.true in
+    let occupied = adds_one _ c.args.seat.now c.occupy-found.new.seat
+    c.occupy-found.ensures.step.step in (
+      uses.0,
+      uses.1,
+      among_after _ c.args.seat.now c.occupy-found.new.seat c.meet.new.seat occupied uses.2,
+      among_after _ c.args.seat.now c.occupy-found.new.seat c.meet.new.seat occupied uses.3,
+    )

@@ -7,6 +7,7 @@ use Rattle.hcc_table.specs.Steps.{Adds}
 use Rattle.hcc_table.proofs.Logs.{adds_none, adds_one, adds_then, among_at, among_first, among_then, begins_adds, unmarked_adds}
 use Rattle.hcc_rule.specs.Words.{key_of}
 use Rattle.hcc_table.proofs.Searches.{searched_refl}
+use Rattle.hcc_table.proofs.Seeking.{seeks_none, seeks_one, seeks_then}
 use Rattle.hcc_table.proofs.Probes.{strayed, holds, holds_slot, holds_used, told_key, given_back, met_there, missed_there, on_told}
 use Rattle.hcc_table.proofs.Probings.{neither, other_then, visible_has}
 use Rattle.hcc_table.proofs.inserting.meet.Goals as goal
@@ -138,6 +139,7 @@ returns-then-matches-clause-uses g c _ = (
       reached = c.reach-found.ensures.view;
       acquires = c.reach-found.ensures.acquires;
       corrects = c.reach-found.ensures.corrects;
+      by = c.reach-found.ensures.by;
     };
     visible = c.matches.ensures.shown c.if-matches.true;
     same = on_told g.T.Tag.fits c.args.table.now.geometry.room c.args.slot c.args.weight
@@ -161,8 +163,10 @@ returns-then-not-has_entry-clause-passes g c _ = (
       reached = c.reach-found.ensures.view;
       acquires = c.reach-found.ensures.acquires;
       corrects = c.reach-found.ensures.corrects;
+      by = c.reach-found.ensures.by;
     };
     adds = adds_none c.reach-found.new.seat c.reach-found.new.seat refl;
+    seeks = seeks_none c.args.table.now c.reach-found.new.seat;
     other = λ shown. neither (is_shareable c.reach-found.result)
         (visible_has c.reach-found.result shown) (sym c.if-not-has_entry.ensures);
     loads = λ shown. neither (is_shareable c.reach-found.result)
@@ -179,9 +183,13 @@ returns-clause-passes g c _ = (
       reached = c.reach-found.ensures.view;
       acquires = c.reach-found.ensures.acquires;
       corrects = c.reach-found.ensures.corrects;
+      by = c.reach-found.ensures.by;
     };
     adds = adds_then c.reach-found.new.seat c.matches.new.seat c.give.new.seat
         (unmarked_adds c.reach-found.new.seat c.matches.new.seat c.matches.ensures.adds) given;
+    seeks = seeks_then c.args.table.now c.reach-found.new.seat c.matches.new.seat c.give.new.seat
+        c.matches.ensures.seeks (seeks_one c.args.table.now _ c.matches.new.seat c.give.new.seat
+        c.give.ensures.event refl);
     other = λ shown. on_told g.T.Tag.fits c.args.table.now.geometry.room c.args.slot c.args.weight
         c.args.name c.reach-found.result c.args.key (view c.args.seat.now) (view c.args.seat.now)
         (view c.reach-found.new.seat) (searched_refl (view c.args.seat.now))

@@ -80,7 +80,7 @@ pub returns-then-not-has_entry-2-clause-counts : goal.returns-then-not-has_entry
 returns-then-not-has_entry-2-clause-counts g c = record {
   seen = c.look-word.result;
   mid = c.look-word.new.seat;
-  looks = (c.look-word.ensures.step, c.look-word.ensures.view);
+  looks = (c.look-word.ensures.step, c.look-word.ensures.view, c.look-word.ensures.event);
   unheld = λ none. neither (is_held c.look-word.result) held none;
   held = λ _. record {
     word = c.reach-found.result;
@@ -89,6 +89,7 @@ returns-then-not-has_entry-2-clause-counts g c = record {
       reached = c.reach-found.ensures.view;
       acquires = c.reach-found.ensures.acquires;
       corrects = c.reach-found.ensures.corrects;
+      by = c.reach-found.ensures.by;
     };
     counted = λ some. neither (is_held c.reach-found.result) some
         (no_entry c.reach-found.result (sym c.if-not-has_entry-2.ensures));
@@ -105,7 +106,7 @@ pub returns-then-refs-eq0-2-clause-counts : goal.returns-then-refs-eq0-2-clause-
 returns-then-refs-eq0-2-clause-counts g c = record {
   seen = c.look-word.result;
   mid = c.look-word.new.seat;
-  looks = (c.look-word.ensures.step, c.look-word.ensures.view);
+  looks = (c.look-word.ensures.step, c.look-word.ensures.view, c.look-word.ensures.event);
   unheld = λ none. neither (is_held c.look-word.result) held none;
   held = λ _. record {
     word = c.reach-found.result;
@@ -114,6 +115,7 @@ returns-then-refs-eq0-2-clause-counts g c = record {
       reached = c.reach-found.ensures.view;
       acquires = c.reach-found.ensures.acquires;
       corrects = c.reach-found.ensures.corrects;
+      by = c.reach-found.ensures.by;
     };
     counted = λ some. neither (is_held c.reach-found.result) some
         (no_references c.reach-found.result (sym c.refs-2.ensures.field ∙ c.if-refs-eq0-2.true));
@@ -132,7 +134,7 @@ pub returns-clause-counts : goal.returns-clause-counts
 returns-clause-counts g c = record {
   seen = c.look-word.result;
   mid = c.look-word.new.seat;
-  looks = (c.look-word.ensures.step, c.look-word.ensures.view);
+  looks = (c.look-word.ensures.step, c.look-word.ensures.view, c.look-word.ensures.event);
   unheld = λ none. neither (is_held c.look-word.result) held none;
   held = λ _. record {
     word = c.reach-found.result;
@@ -141,6 +143,7 @@ returns-clause-counts g c = record {
       reached = c.reach-found.ensures.view;
       acquires = c.reach-found.ensures.acquires;
       corrects = c.reach-found.ensures.corrects;
+      by = c.reach-found.ensures.by;
     };
     counted = λ _. on_entry g.T.Tag.fits c.args.table.now.geometry.room c.args.slot 1 c.args.name
         c.reach-found.result no_key (view c.args.seat.now) (view c.look-word.new.seat)

@@ -8,6 +8,7 @@ use Rattle.hcc_table.proofs.Logs.{adds_none, adds_one, adds_then, among_after, a
 use Rattle.hcc_table.proofs.Probes.{looked_at, buried_by_look, strayed, holds, holds_slot, told_key, missed_there, found_there, got_record, on_told}
 use Rattle.hcc_table.proofs.Probings.{neither, other_then, visible_has}
 use Rattle.hcc_table.proofs.Searches.{searched_refl}
+use Rattle.hcc_table.proofs.Seeking.{seeks_none, seeks_one, seeks_then}
 use Rattle.hcc_table.proofs.search.acquire_at.Goals as goal
 
 pub returns-then-not-is_shown-clause-missed : goal.returns-then-not-is_shown-clause-missed
@@ -125,7 +126,7 @@ returns-then-not-is_shown-clause-passes g c = (
   record {
     seen = c.look-seen.result;
     mid = c.look-seen.new.seat;
-    first = (c.look-seen.ensures.step, c.look-seen.ensures.view);
+    first = (c.look-seen.ensures.step, c.look-seen.ensures.view, c.look-seen.ensures.event);
     unshown = λ _. (refl, refl, refl);
     shown = λ shown. neither (is_visible c.look-seen.result) shown (sym c.if-not-is_shown.ensures);
   },
@@ -137,7 +138,7 @@ returns-then-not-has_entry-clause-passes g c = (
   record {
     seen = c.look-seen.result;
     mid = c.look-seen.new.seat;
-    first = (c.look-seen.ensures.step, c.look-seen.ensures.view);
+    first = (c.look-seen.ensures.step, c.look-seen.ensures.view, c.look-seen.ensures.event);
     unshown = λ unseen. neither (is_visible c.look-seen.result) (sym c.if-not-is_shown.ensures)
         unseen;
     shown = λ _. record {
@@ -146,8 +147,10 @@ returns-then-not-has_entry-clause-passes g c = (
         reached = c.reach-found.ensures.view;
         acquires = c.reach-found.ensures.acquires;
         corrects = c.reach-found.ensures.corrects;
+        by = c.reach-found.ensures.by;
       };
       adds = adds_none c.reach-found.new.seat c.reach-found.new.seat refl;
+      seeks = seeks_none c.args.table.now c.reach-found.new.seat;
       other = λ shown. neither (is_shareable c.reach-found.result)
           (visible_has c.reach-found.result shown) (sym c.if-not-has_entry.ensures);
       loads = λ shown. neither (is_shareable c.reach-found.result)
@@ -162,7 +165,7 @@ returns-clause-passes g c = (
   record {
     seen = c.look-seen.result;
     mid = c.look-seen.new.seat;
-    first = (c.look-seen.ensures.step, c.look-seen.ensures.view);
+    first = (c.look-seen.ensures.step, c.look-seen.ensures.view, c.look-seen.ensures.event);
     unshown = λ unseen. neither (is_visible c.look-seen.result) (sym c.if-not-is_shown.ensures)
         unseen;
     shown = λ _. record {
@@ -171,9 +174,13 @@ returns-clause-passes g c = (
         reached = c.reach-found.ensures.view;
         acquires = c.reach-found.ensures.acquires;
         corrects = c.reach-found.ensures.corrects;
+        by = c.reach-found.ensures.by;
       };
       adds = adds_then c.reach-found.new.seat c.matches.new.seat c.give.new.seat
           (unmarked_adds c.reach-found.new.seat c.matches.new.seat c.matches.ensures.adds) given;
+      seeks = seeks_then c.args.table.now c.reach-found.new.seat c.matches.new.seat c.give.new.seat
+          c.matches.ensures.seeks (seeks_one c.args.table.now _ c.matches.new.seat c.give.new.seat
+          c.give.ensures.event refl);
       other = λ shown. on_told g.T.Tag.fits c.args.table.now.geometry.room c.args.slot 1
           c.args.name c.reach-found.result c.args.key (view c.args.seat.now)
           (view c.look-seen.new.seat) (view c.reach-found.new.seat)
@@ -195,13 +202,14 @@ pub returns-then-matches-clause-catches : goal.returns-then-matches-clause-catch
 returns-then-matches-clause-catches g c = record {
   seen = c.look-seen.result;
   looked = c.look-seen.new.seat;
-  first = (c.look-seen.ensures.step, c.look-seen.ensures.view);
+  first = (c.look-seen.ensures.step, c.look-seen.ensures.view, c.look-seen.ensures.event);
   shown = sym c.if-not-is_shown.ensures;
   mid = c.reach-found.new.seat;
   reaches = record {
     reached = c.reach-found.ensures.view;
     acquires = c.reach-found.ensures.acquires;
     corrects = c.reach-found.ensures.corrects;
+    by = c.reach-found.ensures.by;
   };
   visible = c.matches.ensures.shown c.if-matches.true;
   same = on_told g.T.Tag.fits c.args.table.now.geometry.room c.args.slot 1 c.args.name
@@ -211,4 +219,5 @@ returns-then-matches-clause-catches g c = record {
       c.reach-found.ensures.view (sym c.if-not-has_entry.ensures) c.requires.fresh
       (λ e. key_of e ≡ c.args.key) (c.matches.ensures.equal c.if-matches.true);
   loads = c.matches.ensures.loads c.if-matches.true;
+  seeks = c.matches.ensures.seeks;
 }

@@ -62,7 +62,7 @@ loop-probe-preserved g c =
           c.acquire_at.new.effort c.args.seat.now c.loop-probe.seat c.acquire_at.new.seat
           c.count.new.seat
           c.loop-probe.invariant.4 (c.slot-slot.ensures ∙ c.loop-probe.invariant.0.walking.probe)
-          c.in_default.ensures.passes.1 told.step told.view c.if-count-eq0.false,
+          c.in_default.ensures.passes.1 told.step told.event told.view c.if-count-eq0.false,
     )
   where
     visited : Took 0 0 (c.loop-probe.probe + 1) c.args.effort.now c.acquire_at.new.effort
@@ -259,7 +259,7 @@ returns-in-Some-clause-searches g c =
           c.loop-probe.seat c.acquire_at.new.seat c.mark_if.new.seat c.loop-probe.invariant.4
           (c.slot-slot.ensures ∙ c.loop-probe.invariant.0.walking.probe) c.in-Some.ensures.catches
           (counted.probes, counted.corrections, counted.lost) c.mark_if.ensures.marked
-          c.mark_if.ensures.unmarked c.mark_if.ensures.unasked,
+          c.mark_if.ensures.unmarked c.mark_if.ensures.unasked c.mark_if.ensures.by,
       c.counts.ensures,
     )
 
@@ -273,7 +273,7 @@ returns-then-count-eq0-clause-searches g c =
     c.acquire_at.new.seat
     c.count.new.seat c.loop-probe.invariant.4
     (c.slot-slot.ensures ∙ c.loop-probe.invariant.0.walking.probe) c.in_default.ensures.passes.1
-    told.step told.view c.probes-then-count-eq0.new.self c.if-count-eq0.true
+    told.step told.event told.view c.probes-then-count-eq0.new.self c.if-count-eq0.true
     (counted.probes, counted.corrections, counted.lost)
 
 pub returns-clause-searches : goal.returns-clause-searches

@@ -1,0 +1,492 @@
+-- A search that missed: no entry of its key was shown in one slot through the whole call.
+use Rattle.std.proofs.Common.{◌≡◌, ◌⊎◌, inl, inr, ℕ, suc, ◌+◌, ◌==◌, ◌<◌, ◌≤◌, Bool, true, false, List, [], ◌∷◌, ◌++◌, Option, Some, None, length, slice_get, sym, subst, refl, ap, ◌∙◌, arith}
+use Rattle.std.specs.Prelude.{IsSomeAnd, option_and_then, if◌then◌else◌}
+use Rattle.std.proofs.lemmas.Bool.{cases_lt}
+use Rattle.std.proofs.lemmas.List.{append_assoc, append-nil}
+use Rattle.hcc_word.specs.Word.{is_visible}
+use Rattle.hcc_core.specs.declared.event.Event.TheVariants as events
+use Rattle.hcc_core.specs.declared.event.Reply.TheVariants as replies
+use Rattle.hcc_core.specs.declared.slot.Entry.{Entry}
+use Rattle.hcc_core.specs.declared.slot.Slot.{Slot}
+use Rattle.hcc_core.specs.declared.slot.Slot.TheVariants as slots
+use Rattle.hcc_core.specs.Runs.{after, after_all, entry_held, held_at}
+use Rattle.hcc_core.specs.World.{State, has_reference}
+use Rattle.hcc_rule.specs.declared.geometry.Geometry.{Geometry}
+use Rattle.hcc_rule.specs.declared.key.Key.{Key}
+use Rattle.hcc_rule.specs.declared.table.RuleTable.{RuleTable}
+use Rattle.hcc_rule.specs.declared.view.Done.{Done}
+use Rattle.hcc_rule.specs.declared.view.Record.{Record}
+use Rattle.hcc_rule.specs.declared.view.View.{View}
+use Rattle.hcc_rule.specs.Acts.{IsRun, Leads, did, events_of, past, world_of}
+use Rattle.hcc_rule.specs.Callers.{IsEvent, clients_of, plan_of, slots_of}
+use Rattle.hcc_rule.specs.Events.{acquire_done, correct_done, count_done, look_done, mark_done}
+use Rattle.hcc_rule.specs.Opening.{begun_world}
+use Rattle.hcc_rule.specs.Probes.{probe_slot}
+use Rattle.hcc_rule.specs.Records.{record_in}
+use Rattle.hcc_rule.specs.Rule.{AreTrailed}
+use Rattle.hcc_rule.specs.Seats.{SeatOf, view}
+use Rattle.hcc_rule.specs.Words.{key_of}
+use Rattle.hcc_rule.proofs.Probes.ProbeLaws.{probe_of_slot}
+use Rattle.hcc_rule.proofs.Seats.Histories.{run_is}
+use Rattle.hcc_table.specs.declared.efforts.Effort.{Effort}
+use Rattle.hcc_table.specs.declared.pins.Pin.{Pin}
+use Rattle.hcc_table.specs.Probed.{AtProbes, Catches, Finds, Looks, Misses, Passes, PassesEntry, Probe, Probed, Searches}
+use Rattle.hcc_table.specs.Seeking.{Does, ReachesBy, Seeks, is_seeking}
+use Rattle.hcc_table.specs.Standing.{FindsFirst, FindsLasting, IsBetween, LacksOnce, ShowsKey, ShowsOnce, entry_shown, shown_at, world_at}
+use Rattle.hcc_table.specs.Steps.{acquired}
+use Rattle.hcc_table.proofs.Probings.{one_longer}
+use Rattle.hcc_table.proofs.Seeking.{seeks_none, seeks_one, seeks_then}
+use Rattle.hcc_table.proofs.Shown.{acquire_hides, acquire_shows, count_tells, look_tells, seeking_stays, shown_counted}
+
+-- What holds of a member holds of it where it is known.
+
+some_and : {A : Type 0} (o : Option A) (P : A → Type 0) → IsSomeAnd o P
+    → (x : A) × (o ≡ Some x) × P x
+some_and None P h = absurd h
+some_and (Some x) P h = (x, refl, h)
+
+none_shown : (world : State) (key : Key) (slot : ℕ) → shown_at world slot ≡ None
+    → ¬ ShowsKey world key slot
+none_shown world key slot none shows =
+    absurd (subst (λ o. IsSomeAnd o (λ e. key_of e ≡ key)) none shows)
+
+-- what a slot shows is what a client holds there
+held_shown : (world : State) (client name slot : ℕ) (held shown : Entry)
+    → held_at world client name slot ≡ Some held → shown_at world slot ≡ Some shown
+    → shown ≡ held
+held_shown world client name slot held shown = by (slice_get world.slots slot)
+  where
+    one : (a b : Bool) (e : Entry) → (if a then Some e else None) ≡ Some held
+        → (if b then Some e else None) ≡ Some shown → shown ≡ held
+    one true true e is same = cc
+    one true false e is same = cc
+    one false b e is same = cc
+
+    by : (o : Option Slot) → option_and_then (entry_held client name) o ≡ Some held
+        → option_and_then entry_shown o ≡ Some shown → shown ≡ held
+    by None is same = cc
+    by (Some (slots.Empty strays)) is same = cc
+    by (Some (slots.Building other strays)) is same = cc
+    by (Some (slots.Shareable r)) is same =
+        one (has_reference client name (slots.Shareable r)) r.shown r.entry is same
+
+-- the last event of a run
+run_last : (history : List Done) (done : Done) (world last : State)
+    → IsRun world (history ++ done ∷ []) last → (w : State) × Leads w done last
+run_last [] done world last is = (world, subst (λ w. Leads world done w) (sym is.2) is.1)
+run_last (d ∷ ds) done world last is = run_last ds done is.0 last is.2
+
+-- the world after a history and more
+after_more : (h ds : List Done) (w : State)
+    → after_all w (events_of (h ++ ds)) ≡ after_all (after_all w (events_of h)) (events_of ds)
+after_more [] ds w = refl
+after_more (d ∷ h) ds w = after_more h ds (after w d.event)
+
+module _ {T A : Type 0} (table : RuleTable T A) where
+  -- What a seat's own event led to.
+  event_leads : (done : Done) (a b : SeatOf T) → IsEvent table done a b
+      → (w : State) × Leads w done (world_at table b)
+  event_leads done a b event =
+      let known : past b ≡ past a ++ event.0.others ++ done ∷ [] =
+      event.0.past ∙ sym (append_assoc (past a) event.0.others (done ∷ [])) in
+      let last = run_last (past a ++ event.0.others) done (begun_world (plan_of table))
+      event.1.world
+      (subst (λ h. IsRun (begun_world (plan_of table)) h event.1.world) known event.1.run) in (
+        last.0,
+        subst (λ w. Leads last.0 done w)
+            (run_is (past b) (begun_world (plan_of table)) event.1.world event.1.run) last.1,
+      )
+
+  event_trails : (done : Done) (a b : SeatOf T) → IsEvent table done a b
+      → AreTrailed (slots_of table) (world_at table b).slots
+  event_trails done a b event =
+      subst (λ (x : Geometry). AreTrailed x.slots (world_at table b).slots) table.planned.0
+      (event.1.trails (past b) [] (sym (append-nil (past b))))
+
+  -- What a search adds to what its seat knows.
+
+  does_more : (ds : List Done) (a b : SeatOf T) → Does table ds a b
+      → (more : List Done) × (past b ≡ past a ++ more)
+  does_more [] a b same = ([], ap past same ∙ sym (append-nil (past a)))
+  does_more (d ∷ ds) a b does =
+      let rest = does_more ds does.0 b does.2 in
+      let first = does.1.0 in (
+        first.others ++ d ∷ [] ++ rest.0,
+        rest.1 ∙ ap (λ h. h ++ rest.0) first.past
+            ∙ append_assoc (past a) (first.others ++ d ∷ []) rest.0,
+      )
+
+  does_alone : clients_of table ≡ 1 → (ds : List Done) (a b : SeatOf T) → Does table ds a b
+      → past b ≡ past a ++ ds
+  does_alone one [] a b same = ap past same ∙ sym (append-nil (past a))
+  does_alone one (d ∷ ds) a b does =
+      let first = does.1.0 in
+      does_alone one ds does.0 b does.2
+      ∙ ap (λ h. h ++ ds) (first.past ∙ ap (λ os. past a ++ (os ++ d ∷ [])) (first.alone one))
+      ∙ append_assoc (past a) (d ∷ []) ds
+
+  -- in a shard of one client each slot shows what it showed
+  alone_shows : clients_of table ≡ 1 → (a b : SeatOf T) → Seeks table a b → (s : ℕ)
+      → shown_at (world_at table b) s ≡ shown_at (world_at table a) s
+  alone_shows one a b h s =
+      ap (λ ds. shown_at (world_of (plan_of table) ds) s) (does_alone one h.own a b h.does)
+      ∙ ap (λ w. shown_at w s) (after_more (past a) h.own (begun_world (plan_of table)))
+      ∙ seeking_stays h.own h.only (world_at table a) s
+
+  between : (a b c : SeatOf T) → Seeks table a b → Seeks table b c → IsBetween (past b) a c
+  between a b c h g =
+      let first = does_more h.own a b h.does in
+      let second = does_more g.own b c g.does in
+      record { since = first.0; later = second.0; begins = first.1; goes_on = second.1 }
+
+  -- Moments of a search.
+  module _ (key : Key) (slot : ℕ) (old new : SeatOf T) where
+    -- at one the shard lacks the key in the slot, at one it shows it
+    abbrev pub Lacks : Type 0
+    Lacks =
+        (mid : SeatOf T) × Seeks table old mid × Seeks table mid new
+        × ¬ ShowsKey (world_at table mid) key slot
+
+    abbrev pub Shows : Type 0
+    Shows =
+        (mid : SeatOf T) × Seeks table old mid × Seeks table mid new
+        × ShowsKey (world_at table mid) key slot
+
+    lacks_once : Lacks → LacksOnce table key slot old new
+    lacks_once h = (past h.0, between old h.0 new h.1 h.2, h.3)
+
+    shows_once : Shows → ShowsOnce table key slot old new
+    shows_once h = (past h.0, between old h.0 new h.1 h.2, h.3)
+
+    lacks_alone : clients_of table ≡ 1 → Lacks → ¬ ShowsKey (world_at table old) key slot
+    lacks_alone one h shows =
+        h.3 (subst (λ o. IsSomeAnd o (λ e. key_of e ≡ key))
+        (sym (alone_shows one old h.0 h.1 slot)) shows)
+
+    shows_alone : clients_of table ≡ 1 → Shows → ShowsKey (world_at table old) key slot
+    shows_alone one h =
+        subst (λ o. IsSomeAnd o (λ e. key_of e ≡ key)) (alone_shows one old h.0 h.1 slot) h.3
+
+  -- Each part of a search only searches.
+
+  looks_seek : (slot seen : ℕ) (a b : SeatOf T) → Looks table slot seen a b → Seeks table a b
+  looks_seek slot seen a b h = seeks_one table (look_done slot seen (view a)) a b h.2 refl
+
+  tries_seek : (slot name word other : ℕ) (v : View T) (a b : SeatOf T)
+      → IsEvent table (correct_done slot name word other v) a b → Seeks table a b
+  tries_seek slot name word other v a b event =
+      seeks_one table (correct_done slot name word other v) a b event (by (other == word))
+    where
+      by : (b : Bool)
+          → is_seeking (if b then did (events.Correct v.client name) replies.Ok
+          else look_done slot other v).event ≡ true
+      by true = refl
+      by false = refl
+
+  -- behind its acquire
+  reached_seeks : (slot weight name word : ℕ) (a b : SeatOf T)
+      (h : ReachesBy table slot weight name word a b) → Seeks table h.mid b
+  reached_seeks slot weight name word a b h = elim h.tries [
+    | inl same ↦ subst (λ z. Seeks table h.mid z) (sym same) (seeks_none table h.mid)
+    | inr tried ↦
+        tries_seek slot name (acquired weight word) tried.0 (view h.mid) h.mid b tried.1
+  ]
+
+  reach_seeks : (slot weight name word : ℕ) (a b : SeatOf T)
+      (h : ReachesBy table slot weight name word a b) → Seeks table a h.mid
+  reach_seeks slot weight name word a b h =
+      seeks_one table (acquire_done slot weight name word (view a)) a h.mid h.adds refl
+
+  -- what a record of an acquire is on is what the world after it shows there
+  met_there : (slot weight name word : ℕ) (a b : SeatOf T)
+      (h : ReachesBy table slot weight name word a b) (P : Entry → Type 0)
+      → IsSomeAnd (record_in name (view b).records) (λ r. (r.slot ≡ slot) × P r.entry)
+      → (e : Entry) → shown_at (world_at table h.mid) slot ≡ Some e → P e
+  met_there slot weight name word a b h P holds e shown =
+      let found = some_and (record_in name (view h.mid).records) _
+      (subst (λ rs. IsSomeAnd (record_in name rs) (λ (r : Record). (r.slot ≡ slot) × P r.entry))
+      h.kept holds) in
+      let held = h.adds.0.stand name found.0 found.1 in
+      let here = subst (λ s. held_at (world_at table h.mid) (view h.mid).client name s
+      ≡ Some found.0.entry) found.2.0 held in
+      subst P (sym (held_shown (world_at table h.mid) (view h.mid).client name slot found.0.entry e
+      here shown)) found.2.1
+
+module _ {T A : Type 0} (fits : T → Key → List ℕ → Type 0) (table : RuleTable T A) (key : Key)
+    (name : ℕ) where
+  entry_seeks : (slot weight word : ℕ) (e f : Effort) (a b : SeatOf T)
+      → PassesEntry fits table key name slot weight word e f a b → Seeks table a b
+  entry_seeks slot weight word e f a b h =
+      seeks_then table a h.mid b
+      (seeks_then table a h.reaches.by.mid h.mid
+      (reach_seeks table slot weight name word a h.mid h.reaches.by)
+      (reached_seeks table slot weight name word a h.mid h.reaches.by)) h.seeks
+
+  passes_seek : (slot word : ℕ) (e f : Effort) (a b : SeatOf T)
+      → Passes fits table key name (Looks table slot) slot 1 word e f a b → Seeks table a b
+  passes_seek slot word e f a b h = by (is_visible h.seen) refl
+    where
+      by : (shown : Bool) → is_visible h.seen ≡ shown → Seeks table a b
+      by false off =
+          subst (λ z. Seeks table a z) (sym (h.unshown off).2)
+          (looks_seek table slot h.seen a h.mid h.first)
+      by true on =
+          seeks_then table a h.mid b (looks_seek table slot h.seen a h.mid h.first)
+          (entry_seeks slot 1 word e f h.mid b (h.shown on))
+
+  probed_seeks : (slot : ℕ) (p : Probe) (e f : Effort) (a b : SeatOf T)
+      → Probed fits table key name slot p e f a b → Seeks table a b
+  probed_seeks slot p e f a b h =
+      seeks_then table a h.mid b (passes_seek slot p.word e f a h.mid h.passes)
+      (seeks_one table (count_done slot p.displacement (view h.mid)) h.mid b h.event refl)
+
+  probes_seek : (i : ℕ) (ps : List Probe) (e f : Effort) (a b : SeatOf T)
+      → AtProbes (slots_of table) key (Probed fits table key name) i ps e f a b
+      → Seeks table a b
+  probes_seek i [] e f a b h = subst (λ z. Seeks table a z) (sym h.1) (seeks_none table a)
+  probes_seek i (p ∷ ps) e f a b h =
+      seeks_then table a h.1 b
+      (probed_seeks (probe_slot (slots_of table) key i) p e h.0 a h.1 h.2)
+      (probes_seek (i + 1) ps h.0 f h.1 b h.3)
+
+  -- What each part tells.
+  module _ (old new : SeatOf T) where
+    -- a slot that was passed lacked the key once
+    passes_lack : (slot word : ℕ) (e f : Effort) (a b : SeatOf T) → Seeks table old a
+        → Seeks table b new → Passes fits table key name (Looks table slot) slot 1 word e f a b
+        → Lacks table key slot old new
+    passes_lack slot word e f a b before behind h = by (is_visible h.seen) refl
+      where
+        looked : Seeks table old h.mid
+        looked = seeks_then table old a h.mid before (looks_seek table slot h.seen a h.mid h.first)
+
+        by : (shown : Bool) → is_visible h.seen ≡ shown → Lacks table key slot old new
+        by false off =
+            let led = event_leads table (look_done slot h.seen (view a)) a h.mid h.first.2 in (
+              h.mid,
+              looked,
+              subst (λ z. Seeks table z new) (h.unshown off).2 behind,
+              none_shown (world_at table h.mid) key slot
+                  (look_tells led.0 (world_at table h.mid) (view a).client slot h.seen led.1 off),
+            )
+        by true on = here (is_visible word) refl
+          where
+            entry : PassesEntry fits table key name slot 1 word e f h.mid b
+            entry = h.shown on
+
+            got : SeatOf T
+            got = entry.reaches.by.mid
+
+            led : (w : State) × Leads w (acquire_done slot 1 name word (view h.mid))
+                (world_at table got)
+            led = event_leads table (acquire_done slot 1 name word (view h.mid)) h.mid got
+                entry.reaches.by.adds
+
+            moment : ¬ ShowsKey (world_at table got) key slot → Lacks table key slot old new
+            moment none = (
+              got,
+              seeks_then table old h.mid got looked
+                  (reach_seeks table slot 1 name word h.mid entry.mid entry.reaches.by),
+              seeks_then table got entry.mid new
+                  (reached_seeks table slot 1 name word h.mid entry.mid entry.reaches.by)
+                  (seeks_then table entry.mid b new entry.seeks behind),
+              none,
+            )
+
+            here : (shown : Bool) → is_visible word ≡ shown → Lacks table key slot old new
+            here false off =
+                moment (none_shown (world_at table got) key slot
+                (acquire_hides led.0 (world_at table got) (view h.mid).client slot 1 name word
+                led.1 off))
+            here true visible =
+                moment (λ shows.
+                let found = some_and (shown_at (world_at table got) slot) _ shows in
+                met_there table slot 1 name word h.mid entry.mid entry.reaches.by
+                (λ e. ¬ (key_of e ≡ key)) (entry.other visible) found.0 found.1 found.2)
+
+    -- so did each of the slots that were passed
+    probes_lack : (i : ℕ) (ps : List Probe) (e f : Effort) (a b : SeatOf T) → Seeks table old a
+        → Seeks table b new
+        → AtProbes (slots_of table) key (Probed fits table key name) i ps e f a b
+        → (k : ℕ) → i ≤ k → k < i + length ps
+        → Lacks table key (probe_slot (slots_of table) key k) old new
+    probes_lack i [] e f a b before behind h k low high = absurd (omega arith)
+    probes_lack i (p ∷ ps) e f a b before behind h k low high = elim (cases_lt i k) [
+      | inl later ↦
+          probes_lack (i + 1) ps h.0 f h.1 b
+          (seeks_then table old a h.1 before
+          (probed_seeks (probe_slot (slots_of table) key i) p e h.0 a h.1 h.2)) behind h.3 k
+          (omega arith) (omega arith)
+      | inr here ↦
+          let same : i ≡ k = omega arith in
+          subst (λ n. Lacks table key (probe_slot (slots_of table) key n) old new) same
+          (passes_lack (probe_slot (slots_of table) key i) p.word e h.0 a h.2.mid before
+          (seeks_then table h.2.mid b new
+          (seeks_then table h.2.mid h.1 b
+          (seeks_one table (count_done (probe_slot (slots_of table) key i) p.displacement
+          (view h.2.mid)) h.2.mid h.1 h.2.event refl)
+          (probes_seek (i + 1) ps h.0 f h.1 b h.3)) behind)
+          h.2.passes)
+    ]
+
+    -- an entry that was caught was shown once
+    catches_show : (slot word : ℕ) (e f : Effort) (a b : SeatOf T) → Seeks table old a
+        → Seeks table b new → Catches fits table key name (Looks table slot) slot 1 word e f a b
+        → Shows table key slot old new
+    catches_show slot word e f a b before behind h =
+        let by = h.reaches.by in
+        let led = event_leads table (acquire_done slot 1 name word (view h.looked)) h.looked by.mid
+        by.adds in
+        let shown = acquire_shows led.0 (world_at table by.mid) (view h.looked).client slot 1 name
+        word led.1 h.visible in (
+          by.mid,
+          seeks_then table old h.looked by.mid
+              (seeks_then table old a h.looked before
+              (looks_seek table slot h.seen a h.looked h.first))
+              (reach_seeks table slot 1 name word h.looked h.mid by),
+          seeks_then table by.mid h.mid new
+              (reached_seeks table slot 1 name word h.looked h.mid by)
+              (seeks_then table h.mid b new h.seeks behind),
+          subst (λ o. IsSomeAnd o (λ e. key_of e ≡ key)) (sym shown.1)
+              (met_there table slot 1 name word h.looked h.mid by (λ e. key_of e ≡ key) h.same
+              shown.0 shown.1),
+        )
+
+  -- the count at the last of some probes
+  last_count : (i : ℕ) (ps : List Probe) (p : Probe) (e f : Effort) (a b : SeatOf T)
+      → AtProbes (slots_of table) key (Probed fits table key name) i (ps ++ p ∷ []) e f a b
+      → (c : SeatOf T) × IsEvent table (count_done
+      (probe_slot (slots_of table) key (i + length ps)) p.displacement (view c)) c b
+  last_count i [] p e f a b h = (
+    h.2.mid,
+    subst (λ n. IsEvent table (count_done (probe_slot (slots_of table) key n) p.displacement
+        (view h.2.mid)) h.2.mid b) here
+        (subst (λ z. IsEvent table (count_done (probe_slot (slots_of table) key i) p.displacement
+        (view h.2.mid)) h.2.mid z) (sym h.3.1) h.2.event),
+  )
+    where
+      here : i ≡ i + 0
+      here = omega arith
+  last_count i (q ∷ ps) p e f a b h =
+      let rest = last_count (i + 1) ps p h.0 f h.1 b h.3 in (
+        rest.0,
+        subst (λ n. IsEvent table (count_done (probe_slot (slots_of table) key n) p.displacement
+            (view rest.0)) rest.0 b) on rest.1,
+      )
+    where
+      on : i + 1 + length ps ≡ i + suc (length ps)
+      on = omega arith
+
+  -- A search that missed.
+  module _ (before after : Effort) (old new : SeatOf T)
+      (m : Misses fits table key name before after old new) where
+    whole : Seeks table old new
+    whole = probes_seek 0 (m.earlier ++ m.last ∷ []) before m.between old new m.probes
+
+    -- where no trail went on, no later probe shows the key
+    beyond_lacks : (i : ℕ) → length m.earlier < i → i < slots_of table → m.last.displacement ≡ 0
+        → Lacks table key (probe_slot (slots_of table) key i) old new
+    beyond_lacks i beyond inside none =
+        let count = last_count 0 m.earlier m.last before m.between old new m.probes in
+        let done : Done = count_done (probe_slot (slots_of table) key (0 + length m.earlier))
+        m.last.displacement (view count.0) in
+        let led = event_leads table done count.0 new count.1 in
+        let told = count_tells led.0 (world_at table new) (view count.0).client
+        (probe_slot (slots_of table) key (0 + length m.earlier)) m.last.displacement led.1 in (
+          new,
+          whole,
+          seeks_none table new,
+          λ shows.
+              let found = some_and (shown_at (world_at table new)
+              (probe_slot (slots_of table) key i)) _ shows in
+              let some = shown_counted (slots_of table) (world_at table new) key i
+              (0 + length m.earlier) found.0 table.limits.power
+              (event_trails table done count.0 new count.1) (omega arith) inside found.1 found.2
+              in
+              absurd (omega arith),
+        )
+
+    pub misses_lack : (slot : ℕ) → slot < slots_of table → Lacks table key slot old new
+    misses_lack slot near =
+        let at = probe_of_slot (slots_of table) key table.limits.power slot near in
+        subst (λ s. Lacks table key s old new) at.2 (by at.0 at.1)
+      where
+        long : length (m.earlier ++ m.last ∷ []) ≡ length m.earlier + 1
+        long = one_longer m.earlier m.last
+
+        by : (i : ℕ) → i < slots_of table
+            → Lacks table key (probe_slot (slots_of table) key i) old new
+        by i inside = elim (cases_lt (length m.earlier) i) [
+          | inl beyond ↦ elim m.ends [
+            | inl none ↦ beyond_lacks i beyond inside none
+            | inr all ↦ absurd (omega arith)
+          ]
+          | inr visited ↦
+              probes_lack old new 0 (m.earlier ++ m.last ∷ []) before m.between old new
+              (seeks_none table old) (seeks_none table new) m.probes i (omega arith)
+              (omega (arith, long))
+        ]
+
+  -- A search that found an entry.
+  module _ (marks : Bool) (slot word : ℕ) (before after : Effort) (old new : SeatOf T)
+      (f : Finds fits table key name marks slot word before after old new) where
+    marked_seeks : Seeks table f.held new
+    marked_seeks = elim f.by [
+      | inl same ↦ subst (λ z. Seeks table f.held z) (sym same) (seeks_none table f.held)
+      | inr event ↦ seeks_one table (mark_done name (view f.held)) f.held new event refl
+    ]
+
+    passed_seeks : Seeks table old f.mid
+    passed_seeks = probes_seek 0 f.earlier before f.between old f.mid f.probes
+
+    caught_seeks : Seeks table f.mid f.held
+    caught_seeks =
+        let h = f.catches in
+        seeks_then table f.mid h.looked f.held
+        (looks_seek table slot h.seen f.mid h.looked h.first)
+        (seeks_then table h.looked h.mid f.held
+        (seeks_then table h.looked h.reaches.by.mid h.mid
+        (reach_seeks table slot 1 name word h.looked h.mid h.reaches.by)
+        (reached_seeks table slot 1 name word h.looked h.mid h.reaches.by)) h.seeks)
+
+    pub finds_show : Shows table key slot old new
+    finds_show = catches_show old new slot word f.between f.later f.mid f.held passed_seeks
+        marked_seeks f.catches
+
+    pub finds_lack : (j : ℕ) → j < length f.earlier
+        → Lacks table key (probe_slot (slots_of table) key j) old new
+    finds_lack j first =
+        probes_lack old new 0 f.earlier before f.between old f.mid (seeks_none table old)
+        (seeks_then table f.mid f.held new caught_seeks marked_seeks) f.probes j (omega arith)
+        (omega arith)
+
+  -- Any number of clients.
+  pub finds_lasting : (marks : Bool) (answer : Option Pin) (before after : Effort)
+      (old new : SeatOf T) → Searches fits table key name marks answer before after old new
+      → FindsLasting table key answer old new
+  finds_lasting marks None before last old new m = λ slot near.
+      lacks_once table key slot old new (misses_lack before last old new m slot near)
+  finds_lasting marks (Some pin) before last old new h = (
+    length h.1.earlier,
+    h.1.probe,
+    shows_once table key pin.slot old new
+        (finds_show marks pin.slot h.0 before last old new h.1),
+    λ j first. lacks_once table key (probe_slot (slots_of table) key j) old new
+        (finds_lack marks pin.slot h.0 before last old new h.1 j first),
+  )
+
+  -- One client.
+  pub finds_first : clients_of table ≡ 1 → (marks : Bool) (answer : Option Pin)
+      (before after : Effort) (old new : SeatOf T)
+      → Searches fits table key name marks answer before after old new
+      → FindsFirst table key (world_at table old) answer
+  finds_first one marks None before last old new m = λ slot near.
+      lacks_alone table key slot old new one (misses_lack before last old new m slot near)
+  finds_first one marks (Some pin) before last old new h = (
+    length h.1.earlier,
+    h.1.probe,
+    shows_alone table key pin.slot old new one
+        (finds_show marks pin.slot h.0 before last old new h.1),
+    λ j first. lacks_alone table key (probe_slot (slots_of table) key j) old new one
+        (finds_lack marks pin.slot h.0 before last old new h.1 j first),
+  )

@@ -1,0 +1,51 @@
+-- What a seat does while it searches: step by step, and with what other clients do meanwhile.
+use Rattle.std.proofs.Common.{◌≡◌, ◌⊎◌, inl, inr, ℕ, true, List, [], ◌∷◌, ◌++◌, Option, Some, None, sym, subst, refl, ap, ◌∙◌}
+use Rattle.std.specs.Prelude.{IfSome, IsSomeAnd}
+use Rattle.hcc_rule.specs.declared.table.RuleTable.{RuleTable}
+use Rattle.hcc_rule.specs.declared.view.Done.{Done}
+use Rattle.hcc_rule.specs.declared.view.Record.{Record}
+use Rattle.hcc_rule.specs.Callers.{IsEvent}
+use Rattle.hcc_rule.specs.Events.{read_done}
+use Rattle.hcc_rule.specs.Records.{record_in}
+use Rattle.hcc_rule.specs.Seats.{SeatOf, view}
+use Rattle.hcc_rule.specs.Views.{Each}
+use Rattle.hcc_rule.proofs.Basics.Lists.{each_append}
+use Rattle.hcc_table.specs.Seeking.{Does, Seeks, is_seeking}
+
+module _ {T A : Type 0} (table : RuleTable T A) where
+  -- nothing was done
+  pub seeks_none : (a : SeatOf T) → Seeks table a a
+  seeks_none a = record { own = []; does = refl; only = tt }
+
+  -- one event of a search
+  pub seeks_one : (done : Done) (a b : SeatOf T) → IsEvent table done a b
+      → is_seeking done.event ≡ true → Seeks table a b
+  seeks_one done a b event seeking =
+      record { own = done ∷ []; does = (b, event, refl); only = (seeking, tt) }
+
+  does_then : (xs ys : List Done) (a b c : SeatOf T) → Does table xs a b → Does table ys b c
+      → Does table (xs ++ ys) a c
+  does_then [] ys a b c same more = subst (λ z. Does table ys z c) same more
+  does_then (x ∷ xs) ys a b c does more =
+      (does.0, does.1, does_then xs ys does.0 b c does.2 more)
+
+  -- one search and then another
+  pub seeks_then : (a b c : SeatOf T) → Seeks table a b → Seeks table b c → Seeks table a c
+  seeks_then a b c h g = record {
+    own = h.own ++ g.own;
+    does = does_then h.own g.own a b c h.does g.does;
+    only = each_append (λ (done : Done). is_seeking done.event ≡ true) h.own g.own h.only g.only;
+  }
+
+  -- a read of the entry that the record of a name is on
+  pub seeks_read : (name : ℕ) (P : Record → Type 0) (a b : SeatOf T)
+      → IsSomeAnd (record_in name (view a).records) P
+      → IfSome (record_in name (view a).records)
+      (λ r. IsEvent table (read_done name r.entry (view a)) a b)
+      → Seeks table a b
+  seeks_read name P a b = by (record_in name (view a).records)
+    where
+      by : (o : Option Record) → IsSomeAnd o P
+          → IfSome o (λ r. IsEvent table (read_done name r.entry (view a)) a b) → Seeks table a b
+      by None holds event = absurd holds
+      by (Some r) holds event = seeks_one (read_done name r.entry (view a)) a b event refl

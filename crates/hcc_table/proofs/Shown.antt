@@ -1,0 +1,359 @@
+-- What the events of a search tell of what the world shows: they change nothing of it.
+use Rattle.std.proofs.Common.{◌≡◌, ℕ, ◌+◌, ◌-◌, ◌%◌, ◌<◌, ◌≤◌, ◌==◌, Bool, true, false, cond, List, [], ◌∷◌, Option, Some, None, Result, Ok, Err, length, slice_get, slice_set, nat_lt, sym, refl, ap, ◌∙◌, arith}
+use Rattle.std.specs.Prelude.{option_and_then, if◌then◌else◌}
+use Rattle.std.proofs.lemmas.Bool.{lt-ltb}
+use Rattle.hcc_word.specs.Word.{is_empty, is_shareable, is_visible}
+use Rattle.hcc_core.specs.declared.client.Client.{Client}
+use Rattle.hcc_core.specs.declared.event.CoreError.{CoreError}
+use Rattle.hcc_core.specs.declared.event.CoreError.TheVariants.{NotAllowed}
+use Rattle.hcc_core.specs.declared.event.Event.{Event}
+use Rattle.hcc_core.specs.declared.event.Event.TheVariants as events
+use Rattle.hcc_core.specs.declared.event.Phase.{Phase}
+use Rattle.hcc_core.specs.declared.event.Phase.TheVariants as phases
+use Rattle.hcc_core.specs.declared.event.Reply.{Reply}
+use Rattle.hcc_core.specs.declared.event.Reply.TheVariants as replies
+use Rattle.hcc_core.specs.declared.limits.TheConstants.{CORRECTION, MOST_SLOTS}
+use Rattle.hcc_core.specs.declared.slot.Entry.{Entry}
+use Rattle.hcc_core.specs.declared.slot.Reference.{Reference}
+use Rattle.hcc_core.specs.declared.slot.Slot.{Slot}
+use Rattle.hcc_core.specs.declared.slot.Slot.TheVariants as slots
+use Rattle.hcc_core.specs.Entries.{entry_read, read_of}
+use Rattle.hcc_core.specs.Outcomes.{◌>>=◌, Outcome, allow, holding, live_at, slot_at, with_both}
+use Rattle.hcc_core.specs.References.{acquire_of, acquired, give_of, look_of, may_acquire, new_reference, slot_acquired, slot_given}
+use Rattle.hcc_core.specs.Runs.{after, after_all, world_after}
+use Rattle.hcc_core.specs.Steps.{in_range, outcome_of, rule_of}
+use Rattle.hcc_core.specs.Trails.{count_of}
+use Rattle.hcc_core.specs.Uses.{correct_of, mark_of, may_correct, slot_marked, slot_with_uses}
+use Rattle.hcc_core.specs.World.{State, counts_in, passed_at, passed_by, phase_if, phase_of, times, trail_of, uses_of}
+use Rattle.hcc_core.proofs.Keeps.{found_ok}
+use Rattle.hcc_core.proofs.ListLemmas.{read_same}
+use Rattle.hcc_core.proofs.SumLemmas.{total-member}
+use Rattle.hcc_rule.specs.declared.key.Key.{Key}
+use Rattle.hcc_rule.specs.declared.view.Done.{Done}
+use Rattle.hcc_rule.specs.Acts.{events_of}
+use Rattle.hcc_rule.specs.Events.{got_in, phase_in}
+use Rattle.hcc_rule.specs.Probes.{probe_slot, trail_to}
+use Rattle.hcc_rule.specs.Rule.{AreTrailed}
+use Rattle.hcc_rule.specs.Views.{Each}
+use Rattle.hcc_rule.specs.Words.{key_of}
+use Rattle.hcc_rule.proofs.Basics.Lists.{within}
+use Rattle.hcc_rule.proofs.Probes.ProbeLaws.{passed_before}
+use Rattle.hcc_table.specs.Seeking.{is_seeking}
+use Rattle.hcc_table.specs.Standing.{entry_shown, shown_at}
+use Rattle.hcc_table.proofs.Probings.{visible_has}
+
+-- What each event of a search leaves.
+
+-- each slot shows what it showed, whatever the outcome
+abbrev Stays : State → Outcome → Type 0
+Stays w o = (s : ℕ) → shown_at (world_after w o) s ≡ shown_at w s
+
+-- a reading on the way
+chain : (w : State) {A : Type 0} (r : Result A CoreError) (f : A → Outcome)
+    → ((x : A) → r ≡ Ok x → Stays w (f x)) → Stays w (r >>= f)
+chain w (Ok x) f h = h x refl
+chain w (Err e) f h = λ s. refl
+
+-- a change of a slot that shows the same
+both_stay : (w : State) (slot : ℕ) (seen left : Slot) → slot_at w slot ≡ Ok seen
+    → entry_shown left ≡ entry_shown seen → (s : ℕ)
+    → option_and_then entry_shown (slice_get (slice_set w.slots slot left) s) ≡ shown_at w s
+both_stay w slot seen left at same s =
+    read_same (option_and_then entry_shown) w.slots slot s seen left (found_ok _ _ seen at) same
+
+look_stays : (w : State) (client slot : ℕ) → Stays w (look_of w client slot)
+look_stays w client slot =
+    chain w (slot_at w slot) _ (λ seen at. chain w (live_at w client) _ (λ found live. λ s. refl))
+
+acquired_shows : (seen : Slot) (k : Reference) → entry_shown (slot_acquired seen k)
+    ≡ entry_shown seen
+acquired_shows (slots.Empty strays) k = refl
+acquired_shows (slots.Building client strays) k = refl
+acquired_shows (slots.Shareable r) k = refl
+
+acquire_stays : (w : State) (client slot weight name : ℕ)
+    → Stays w (acquire_of w client slot weight name)
+unfolding acquire_of
+acquire_stays w client slot weight name =
+    chain w (slot_at w slot) _ (λ seen at. chain w (live_at w client) _ (λ found live.
+    chain w (allow (may_acquire w.setup w.slots client found slot seen weight name)) _ (λ u may.
+    both_stay w slot seen _ at
+    (acquired_shows seen (new_reference client name weight seen)))))
+
+given_shows : (client name : ℕ) (seen : Slot) → entry_shown (slot_given client name seen)
+    ≡ entry_shown seen
+given_shows client name (slots.Empty strays) = refl
+given_shows client name (slots.Building other strays) = refl
+given_shows client name (slots.Shareable r) = refl
+
+give_stays : (w : State) (client name : ℕ) → Stays w (give_of w client name)
+unfolding give_of
+give_stays w client name =
+    chain w (live_at w client) _ (λ found live. chain w (holding w client name) _ (λ slot held.
+    chain w (slot_at w slot) _ (λ seen at.
+    both_stay w slot seen _ at (given_shows client name seen))))
+
+read_stays : (w : State) (client name : ℕ) → Stays w (read_of w client name)
+unfolding read_of
+read_stays w client name =
+    chain w (live_at w client) _ (λ found live. chain w (holding w client name) _ (λ slot held.
+    chain w (slot_at w slot) _ (λ seen at. chain w (entry_read seen) _ (λ entry is. λ s. refl))))
+
+count_stays : (w : State) (client slot : ℕ) → Stays w (count_of w client slot)
+unfolding count_of
+count_stays w client slot =
+    chain w (slot_at w slot) _ (λ seen at. chain w (live_at w client) _ (λ found live. λ s. refl))
+
+marked_shows : (seen : Slot) → entry_shown (slot_marked seen) ≡ entry_shown seen
+marked_shows (slots.Empty strays) = refl
+marked_shows (slots.Building client strays) = refl
+marked_shows (slots.Shareable r) = refl
+
+mark_stays : (w : State) (client name : ℕ) → Stays w (mark_of w client name)
+unfolding mark_of
+mark_stays w client name =
+    chain w (live_at w client) _ (λ found live. chain w (holding w client name) _ (λ slot held.
+    chain w (slot_at w slot) _ (λ seen at.
+    both_stay w slot seen _ at (marked_shows seen))))
+
+recounted_shows : (uses : ℕ) (seen : Slot) → entry_shown (slot_with_uses uses seen)
+    ≡ entry_shown seen
+recounted_shows uses (slots.Empty strays) = refl
+recounted_shows uses (slots.Building client strays) = refl
+recounted_shows uses (slots.Shareable r) = refl
+
+correct_stays : (w : State) (client name : ℕ) → Stays w (correct_of w client name)
+unfolding correct_of
+correct_stays w client name =
+    chain w (live_at w client) _ (λ found live. chain w (holding w client name) _ (λ slot held.
+    chain w (slot_at w slot) _ (λ seen at.
+    chain w (allow (may_correct client name seen)) _ (λ u may.
+    both_stay w slot seen _ at
+    (recounted_shows (uses_of seen - CORRECTION) seen)))))
+
+rule_stays : (w : State) (event : Event) → is_seeking event ≡ true → Stays w (rule_of w event)
+rule_stays w (events.Look client slot) is = look_stays w client slot
+rule_stays w (events.Acquire client slot weight name) is = acquire_stays w client slot weight name
+rule_stays w (events.Read client name) is = read_stays w client name
+rule_stays w (events.Give client name) is = give_stays w client name
+rule_stays w (events.Count client slot) is = count_stays w client slot
+rule_stays w (events.Mark client name) is = mark_stays w client name
+rule_stays w (events.Correct client name) is = correct_stays w client name
+rule_stays w (events.Start client) is = cc
+rule_stays w (events.Use client name) is = cc
+rule_stays w (events.Occupy client slot) is = cc
+rule_stays w (events.Show client key0 key1 charge countdown name value) is = cc
+rule_stays w (events.Hide client name) is = cc
+rule_stays w (events.Free client slot name) is = cc
+rule_stays w (events.Empty client) is = cc
+rule_stays w (events.Write client) is = cc
+rule_stays w (events.Enter client) is = cc
+rule_stays w (events.Charge client charge) is = cc
+rule_stays w (events.Slots client) is = cc
+rule_stays w (events.Settle client) is = cc
+rule_stays w (events.End client) is = cc
+rule_stays w (events.Clock client slot) is = cc
+rule_stays w (events.Waive client) is = cc
+rule_stays w (events.Quit client) is = cc
+rule_stays w (events.Usage client) is = cc
+rule_stays w (events.Occupancy client) is = cc
+rule_stays w (events.Standing client) is = cc
+rule_stays w (events.Stand client charge name) is = cc
+rule_stays w (events.Fall client name) is = cc
+rule_stays w (events.Pass client slot) is = cc
+rule_stays w (events.Unpass client slot) is = cc
+rule_stays w (events.Turn client) is = cc
+
+outcome_stays : (w : State) (event : Event) → is_seeking event ≡ true
+    → Stays w (outcome_of w event)
+unfolding outcome_of
+outcome_stays w event is = by (in_range event) (rule_stays w event is)
+  where
+    by : (b : Bool) → Stays w (rule_of w event)
+        → Stays w (if b then rule_of w event else Err NotAllowed)
+    by true h = h
+    by false h = λ s. refl
+
+-- Events of searches leave what each slot shows.
+pub seeking_stays : (ds : List Done) → Each (λ (done : Done). is_seeking done.event ≡ true) ds
+    → (w : State) (s : ℕ) → shown_at (after_all w (events_of ds)) s ≡ shown_at w s
+seeking_stays [] only w s = refl
+seeking_stays (d ∷ ds) only w s =
+    seeking_stays ds only.1 (after w d.event) s ∙ outcome_stays w d.event only.0 s
+
+-- What replies tell.
+
+-- a reading on the way to an outcome that isn't refused was made
+bound : {A B : Type 0} (r : Result A CoreError) (f : A → Result B CoreError) (z : B)
+    → (r >>= f) ≡ Ok z → (x : A) × (r ≡ Ok x) × (f x ≡ Ok z)
+bound (Ok x) f z h = (x, refl, h)
+bound (Err e) f z h = cc
+
+same_outcome : (x y : Reply × State) → ◌≡◌ {A = Outcome} (Ok x) (Ok y) → x ≡ y
+same_outcome x y h = cc
+
+same_phase : (p q : Phase) → replies.Saw p ≡ replies.Saw q → p ≡ q
+same_phase p q h = cc
+
+same_count : (m n : ℕ) → replies.Count m ≡ replies.Count n → m ≡ n
+same_count m n h = cc
+
+ruled : (w : State) (event : Event) (z : Reply × State) → outcome_of w event ≡ Ok z
+    → rule_of w event ≡ Ok z
+unfolding outcome_of
+ruled w event z h = by (in_range event) h
+  where
+    by : (b : Bool) → (if b then rule_of w event else Err NotAllowed) ≡ Ok z → rule_of w event ≡ Ok z
+    by true is = is
+    by false is = cc
+
+-- An event of a search that was allowed leaves what each slot shows.
+leads_stays : (w w' : State) (event : Event) (reply : Reply) → is_seeking event ≡ true
+    → outcome_of w event ≡ Ok (reply, w') → (s : ℕ) → shown_at w' s ≡ shown_at w s
+leads_stays w w' event reply seeking is s =
+    ap (λ o. shown_at (world_after w o) s) (sym is) ∙ outcome_stays w event seeking s
+
+module _ (w w' : State) (client slot : ℕ) where
+  -- a slot's phase is no visible one where the word is none
+  unshown_phase : (word : ℕ) (seen : Slot) → phase_in word ≡ phase_of seen
+      → is_visible word ≡ false → entry_shown seen ≡ None
+  unshown_phase word (slots.Empty strays) is off = refl
+  unshown_phase word (slots.Building other strays) is off = refl
+  unshown_phase word (slots.Shareable r) is off = by r.shown is
+    where
+      never : (a b c : Bool) → c ≡ false
+          → (if a then phases.Empty else if b then phase_if c else phases.Building)
+          ≡ phases.Shown → ⊥
+      never true b c off bad = cc
+      never false true false off bad = cc
+      never false true true off bad = cc
+      never false false c off bad = cc
+
+      by : (b : Bool) → phase_in word ≡ phase_if b → (if b then Some r.entry else None) ≡ None
+      by false same = refl
+      by true same =
+          absurd (never (is_empty word) (is_shareable word) (is_visible word) off same)
+
+  -- A look that found the slot not visible: nothing is shown there.
+  pub look_tells : (word : ℕ)
+      → outcome_of w (events.Look client slot) ≡ Ok (replies.Saw (phase_in word), w')
+      → is_visible word ≡ false → shown_at w' slot ≡ None
+  look_tells word is off =
+      let first = bound (slot_at w slot) _ _ (ruled w (events.Look client slot) _ is) in
+      let second = bound (live_at w client) _ _ first.2 in
+      let reply = same_phase (phase_of first.0) (phase_in word)
+      (ap (λ z. z.0) (same_outcome _ _ second.2)) in
+      leads_stays w w' (events.Look client slot) _ refl is slot
+      ∙ ap (option_and_then entry_shown) (found_ok _ _ first.0 first.1)
+      ∙ unshown_phase word first.0 (sym reply) off
+
+  module _ (weight name word : ℕ)
+      (is : outcome_of w (events.Acquire client slot weight name) ≡ Ok (got_in word, w')) where
+    -- what an acquire found there
+    found_there : (seen : Slot) × (slice_get w.slots slot ≡ Some seen)
+        × (acquired seen (counts_in seen) ≡ got_in word)
+    unfolding acquire_of
+    found_there =
+        let first = bound (slot_at w slot) _ _
+        (ruled w (events.Acquire client slot weight name) _ is) in
+        let second = bound (live_at w client) _ _ first.2 in
+        let third = bound (allow (may_acquire w.setup w.slots client second.0 slot first.0 weight name))
+        _ _ second.2 in
+        let reply : acquired first.0 (counts_in first.0) ≡ got_in word =
+        ap (λ z. z.0) (same_outcome _ _ third.2) in
+        (first.0, found_ok _ _ first.0 first.1, reply)
+
+    got_shown : (a b c d counting : Bool)
+        → replies.Got b counting ≡ (if a then replies.Got c d else replies.Stray) → b ≡ c
+    got_shown true b c d counting same = cc
+    got_shown false b c d counting same = cc
+
+    -- An acquire that found the slot not visible: nothing is shown there.
+    pub acquire_hides : is_visible word ≡ false → shown_at w' slot ≡ None
+    acquire_hides off =
+        leads_stays w w' (events.Acquire client slot weight name) _ refl is slot
+        ∙ ap (option_and_then entry_shown) found_there.1
+        ∙ by found_there.0 found_there.2
+      where
+        by : (seen : Slot) → acquired seen (counts_in seen) ≡ got_in word
+            → entry_shown seen ≡ None
+        by (slots.Empty strays) same = refl
+        by (slots.Building other strays) same = refl
+        by (slots.Shareable r) same =
+            let shown = got_shown _ _ _ _ _ same in
+            ap (λ b. if b then Some r.entry else None) (shown ∙ off)
+
+    -- An acquire that found the slot visible: an entry is shown there.
+    pub acquire_shows : is_visible word ≡ true
+        → (entry : Entry) × (shown_at w' slot ≡ Some entry)
+    acquire_shows on =
+        let there = by found_there.0 found_there.2 in (
+          there.0,
+          leads_stays w w' (events.Acquire client slot weight name) _ refl is slot
+              ∙ ap (option_and_then entry_shown) found_there.1
+              ∙ there.1,
+        )
+      where
+        stray : (a c d : Bool) → a ≡ true
+            → replies.Stray ≡ (if a then replies.Got c d else replies.Stray) → ⊥
+        stray true c d has same = cc
+        stray false c d has same = cc
+
+        by : (seen : Slot) → acquired seen (counts_in seen) ≡ got_in word
+            → (entry : Entry) × (entry_shown seen ≡ Some entry)
+        by (slots.Empty strays) same = absurd (stray _ _ _ (visible_has word on) same)
+        by (slots.Building other strays) same = absurd (stray _ _ _ (visible_has word on) same)
+        by (slots.Shareable r) same =
+            let shown = got_shown _ _ _ _ _ same in
+            (r.entry, ap (λ b. if b then Some r.entry else None) (shown ∙ on))
+
+  -- A count: how often the slot stands in trails.
+  pub count_tells : (n : ℕ) → outcome_of w (events.Count client slot) ≡ Ok (replies.Count n, w')
+      → n ≡ passed_by w'.slots w'.clients slot
+  unfolding count_of
+  count_tells n is =
+      let first = bound (slot_at w slot) _ _ (ruled w (events.Count client slot) _ is) in
+      let second = bound (live_at w client) _ _ first.2 in
+      let reply = same_count (passed_at w slot) n (ap (λ z. z.0) (same_outcome _ _ second.2)) in
+      let same : w ≡ w' = ap (λ z. z.1) (same_outcome _ _ second.2) in
+      let near = within w.slots slot first.0 (found_ok _ _ first.0 first.1) in
+      sym reply
+      ∙ ap (λ b. if b then passed_by w.slots w.clients slot else 0)
+      (lt-ltb slot (length w.slots) near)
+      ∙ ap (λ (z : State). passed_by z.slots z.clients slot) same
+
+-- Each probe before that of an entry that is shown counts it.
+pub shown_counted : (size : ℕ) (w : State) (key : Key) (i j : ℕ) (entry : Entry)
+    → MOST_SLOTS % size ≡ 0 → AreTrailed size w.slots → j < i → i < size
+    → shown_at w (probe_slot size key i) ≡ Some entry → key_of entry ≡ key
+    → 1 ≤ passed_by w.slots w.clients (probe_slot size key j)
+shown_counted size w key i j entry power trailed first inside shown asked =
+    by (slice_get w.slots slot) refl shown
+  where
+    slot : ℕ
+    slot = probe_slot size key i
+
+    passed : (seen : Slot) → slice_get w.slots slot ≡ Some seen
+        → trail_of seen ≡ trail_to size key slot
+        → 1 ≤ passed_by w.slots w.clients (probe_slot size key j)
+    passed seen at trail =
+        let there = passed_before size key power j i first inside in
+        let same = ap (times (probe_slot size key j)) trail in
+        let member = total-member (λ (x : Slot). times (probe_slot size key j) (trail_of x)) w.slots
+        slot seen at in
+        omega arith
+
+    by : (o : Option Slot) → slice_get w.slots slot ≡ o
+        → option_and_then entry_shown o ≡ Some entry
+        → 1 ≤ passed_by w.slots w.clients (probe_slot size key j)
+    by None at is = cc
+    by (Some (slots.Empty strays)) at is = cc
+    by (Some (slots.Building other strays)) at is = cc
+    by (Some (slots.Shareable r)) at is =
+        passed (slots.Shareable r) at
+        (trailed slot (slots.Shareable r) at
+        ∙ ap (λ k. trail_to size k slot) (ap key_of (same r.shown is) ∙ asked))
+      where
+        same : (b : Bool) → (if b then Some r.entry else None) ≡ Some entry → r.entry ≡ entry
+        same true is = cc
+        same false is = cc
