@@ -2,13 +2,14 @@
 //!
 //! No function here does anything when it runs: its contract is the law. `m.holds.world` is the
 //! lawful world that the shard's words and what its clients know show.
-ghost use Rattle.std.specs.Prelude.{◌≡◌, ℕ, ◌+◌, ◌*◌, ◌/◌, ◌<◌, ◌≤◌, true, None, Some, slice_get};
+ghost use Rattle.std.specs.Prelude.{◌≡◌, ℕ, ◌+◌, ◌*◌, ◌/◌, ◌<◌, ◌≤◌, ◌↔◌, true, List, Option, None, Some, IsNone, slice_get};
 ghost use Rattle.hcc_core.specs.declared.limits.TheConstants.{OCCUPANCY_PERCENT};
 ghost use Rattle.hcc_core.specs.Lawful.{real_in, taken_in};
 ghost use Rattle.hcc_rule.specs.declared.layout.TheConstants.{OCCUPANCY};
 ghost use Rattle.hcc_rule.specs.declared.key.Key.{Key};
 ghost use Rattle.hcc_rule.specs.declared.view.View.{View};
 ghost use Rattle.hcc_rule.specs.Laws.{StateOf, ledger_word, AreMade, AreOfMade};
+ghost use Rattle.hcc_table.specs.Standing.{FindsFirst, FindsLasting, ShowsKey, world_at};
 ghost use Rattle.hcc_cache.specs.declared.cache.Cache.{Cache};
 ghost use Rattle.hcc_cache.specs.declared.client.Client.{Client};
 ghost use Rattle.hcc_cache.specs.declared.config.Config.{Config};
@@ -20,11 +21,13 @@ ghost use Rattle.hcc_cache.specs.Configs.{shard_capacity};
 ghost use Rattle.hcc_cache.specs.Keys.{fits_seeded};
 ghost use Rattle.hcc_cache.specs.Known.{Knows};
 ghost use Rattle.hcc_cache.specs.Moments.{IsMoment, IsQuietMiss, ShowsKeyIn, plan_in};
+ghost use Rattle.hcc_cache.specs.Opened.{IsOpened};
+ghost use Rattle.hcc_cache.specs.Sharding.{key_to};
 
 use crate::seeded::Seeded;
 use hcc_rule::Tag;
 use hcc_rule::laws::{law_ledgers, law_made};
-use hcc_table::laws::law_miss;
+use hcc_table::laws::{law_found_alone, law_lasting, law_miss};
 use std::alloc::Global;
 
 /// The limits that each shard of a cache keeps at every moment, by what the cache was made with.
@@ -78,6 +81,38 @@ pub fn law_misses<T: Tag>()
         → ¬ ShowsKeyIn m key slot }
 {
     law_miss::<Seeded<T>, Global>();
+}
+
+/// A look-up finds what stands, whatever other clients do meanwhile.
+pub fn law_lookups<T: Tag>()
+    // One that misses: each slot of the key's shard lacks a visible entry of the key at some moment
+    // of the call. So none stood visible in one slot through the whole call. One that finds an
+    // entry: at some moment it was visible in its slot, and each slot of an earlier probe lacked
+    // one at some.
+    ensures lasting { (cache : Cache T) (key : Key) (found : Option Handle) (old new : Client T)
+        (h : SearchesFor cache T.fits key found old new)
+        → FindsLasting h.shard.table (key_to cache.seed key) h.did.0 h.was.seat h.is.seat }
+
+    // In a cache of one client it misses where the world that the client knows of the shard when
+    // the call begins shows the key in no slot, else it finds the slot of the earliest probe that
+    // shows it.
+    ensures first { (config : Config) (tag : T) (cache : Cache T) (clients : List (Client T))
+        → IsOpened config tag cache clients → config.clients ≡ 1
+        → (key : Key) (found : Option Handle) (old new : Client T)
+        (h : SearchesFor cache T.fits key found old new)
+        → FindsFirst h.shard.table (key_to cache.seed key) (world_at h.shard.table h.was.seat)
+        h.did.0 }
+
+    // So it misses exactly where no slot of that world shows the key.
+    ensures misses { (config : Config) (tag : T) (cache : Cache T) (clients : List (Client T))
+        → IsOpened config tag cache clients → config.clients ≡ 1
+        → (key : Key) (found : Option Handle) (old new : Client T)
+        (h : SearchesFor cache T.fits key found old new)
+        → IsNone found ↔ ((slot : ℕ) → slot < config.slots
+        → ¬ ShowsKey (world_at h.shard.table h.was.seat) (key_to cache.seed key) slot) }
+{
+    law_lasting::<Seeded<T>, Global>();
+    law_found_alone::<Seeded<T>, Global>();
 }
 
 /// No handle comes back.

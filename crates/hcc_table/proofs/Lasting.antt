@@ -1,6 +1,6 @@
 -- A search that missed: no entry of its key was shown in one slot through the whole call.
-use Rattle.std.proofs.Common.{◌≡◌, ◌⊎◌, inl, inr, ℕ, suc, ◌+◌, ◌==◌, ◌<◌, ◌≤◌, Bool, true, false, List, [], ◌∷◌, ◌++◌, Option, Some, None, length, slice_get, sym, subst, refl, ap, ◌∙◌, arith}
-use Rattle.std.specs.Prelude.{IsSomeAnd, option_and_then, if◌then◌else◌}
+use Rattle.std.proofs.Common.{◌≡◌, inl, inr, ℕ, suc, ◌+◌, ◌==◌, ◌<◌, ◌≤◌, Bool, true, false, List, [], ◌∷◌, ◌++◌, Option, Some, None, length, slice_get, sym, subst, refl, ap, ◌∙◌, arith}
+use Rattle.std.specs.Prelude.{IsNone, IsSomeAnd, ◌↔◌, option_and_then, if◌then◌else◌}
 use Rattle.std.proofs.lemmas.Bool.{cases_lt}
 use Rattle.std.proofs.lemmas.List.{append_assoc, append-nil}
 use Rattle.hcc_word.specs.Word.{is_visible}
@@ -26,13 +26,13 @@ use Rattle.hcc_rule.specs.Records.{record_in}
 use Rattle.hcc_rule.specs.Rule.{AreTrailed}
 use Rattle.hcc_rule.specs.Seats.{SeatOf, view}
 use Rattle.hcc_rule.specs.Words.{key_of}
-use Rattle.hcc_rule.proofs.Probes.ProbeLaws.{probe_of_slot}
+use Rattle.hcc_rule.proofs.Probes.ProbeLaws.{probe_inside, probe_of_slot, some_slots}
 use Rattle.hcc_rule.proofs.Seats.Histories.{run_is}
 use Rattle.hcc_table.specs.declared.efforts.Effort.{Effort}
 use Rattle.hcc_table.specs.declared.pins.Pin.{Pin}
 use Rattle.hcc_table.specs.Probed.{AtProbes, Catches, Finds, Looks, Misses, Passes, PassesEntry, Probe, Probed, Searches}
 use Rattle.hcc_table.specs.Seeking.{Does, ReachesBy, Seeks, is_seeking}
-use Rattle.hcc_table.specs.Standing.{FindsFirst, FindsLasting, IsBetween, LacksOnce, ShowsKey, ShowsOnce, entry_shown, shown_at, world_at}
+use Rattle.hcc_table.specs.Standing.{FindsFirst, FindsLasting, IsMomentOf, LacksOnce, ShowsKey, ShowsOnce, entry_shown, shown_at, world_at}
 use Rattle.hcc_table.specs.Steps.{acquired}
 use Rattle.hcc_table.proofs.Probings.{one_longer}
 use Rattle.hcc_table.proofs.Seeking.{seeks_none, seeks_one, seeks_then}
@@ -133,39 +133,49 @@ module _ {T A : Type 0} (table : RuleTable T A) where
       ∙ ap (λ w. shown_at w s) (after_more (past a) h.own (begun_world (plan_of table)))
       ∙ seeking_stays h.own h.only (world_at table a) s
 
-  between : (a b c : SeatOf T) → Seeks table a b → Seeks table b c → IsBetween (past b) a c
-  between a b c h g =
-      let first = does_more h.own a b h.does in
-      let second = does_more g.own b c g.does in
-      record { since = first.0; later = second.0; begins = first.1; goes_on = second.1 }
-
   -- Moments of a search.
+
+  moment_of : (done : Done) (old before moment new : SeatOf T) → Seeks table old before
+      → IsEvent table done before moment → is_seeking done.event ≡ true → Seeks table moment new
+      → IsMomentOf table moment old new
+  moment_of done old before moment new began step seeking rest =
+      let first = seeks_then table old before moment began
+      (seeks_one table done before moment step seeking) in
+      let since = does_more first.own old moment first.does in
+      let later = does_more rest.own moment new rest.does in
+      record {
+        before = before;
+        done = done;
+        began = began;
+        step = step;
+        seeking = seeking;
+        rest = rest;
+        since = since.0;
+        begins = since.1;
+        later = later.0;
+        goes_on = later.1;
+      }
+
+  -- in a shard of one client what is shown at one is shown when the call began
+  moment_shows : clients_of table ≡ 1 → (old moment new : SeatOf T)
+      → IsMomentOf table moment old new → (s : ℕ)
+      → shown_at (world_at table moment) s ≡ shown_at (world_at table old) s
+  moment_shows one old moment new m s =
+      alone_shows one old moment
+      (seeks_then table old m.before moment m.began
+      (seeks_one table m.done m.before moment m.step m.seeking)) s
+
   module _ (key : Key) (slot : ℕ) (old new : SeatOf T) where
-    -- at one the shard lacks the key in the slot, at one it shows it
-    abbrev pub Lacks : Type 0
-    Lacks =
-        (mid : SeatOf T) × Seeks table old mid × Seeks table mid new
-        × ¬ ShowsKey (world_at table mid) key slot
-
-    abbrev pub Shows : Type 0
-    Shows =
-        (mid : SeatOf T) × Seeks table old mid × Seeks table mid new
-        × ShowsKey (world_at table mid) key slot
-
-    lacks_once : Lacks → LacksOnce table key slot old new
-    lacks_once h = (past h.0, between old h.0 new h.1 h.2, h.3)
-
-    shows_once : Shows → ShowsOnce table key slot old new
-    shows_once h = (past h.0, between old h.0 new h.1 h.2, h.3)
-
-    lacks_alone : clients_of table ≡ 1 → Lacks → ¬ ShowsKey (world_at table old) key slot
+    lacks_alone : clients_of table ≡ 1 → LacksOnce table key slot old new
+        → ¬ ShowsKey (world_at table old) key slot
     lacks_alone one h shows =
-        h.3 (subst (λ o. IsSomeAnd o (λ e. key_of e ≡ key))
-        (sym (alone_shows one old h.0 h.1 slot)) shows)
+        h.2 (subst (λ o. IsSomeAnd o (λ e. key_of e ≡ key))
+        (sym (moment_shows one old h.0 new h.1 slot)) shows)
 
-    shows_alone : clients_of table ≡ 1 → Shows → ShowsKey (world_at table old) key slot
+    shows_alone : clients_of table ≡ 1 → ShowsOnce table key slot old new
+        → ShowsKey (world_at table old) key slot
     shows_alone one h =
-        subst (λ o. IsSomeAnd o (λ e. key_of e ≡ key)) (alone_shows one old h.0 h.1 slot) h.3
+        subst (λ o. IsSomeAnd o (λ e. key_of e ≡ key)) (moment_shows one old h.0 new h.1 slot) h.2
 
   -- Each part of a search only searches.
 
@@ -254,18 +264,18 @@ module _ {T A : Type 0} (fits : T → Key → List ℕ → Type 0) (table : Rule
     -- a slot that was passed lacked the key once
     passes_lack : (slot word : ℕ) (e f : Effort) (a b : SeatOf T) → Seeks table old a
         → Seeks table b new → Passes fits table key name (Looks table slot) slot 1 word e f a b
-        → Lacks table key slot old new
+        → LacksOnce table key slot old new
     passes_lack slot word e f a b before behind h = by (is_visible h.seen) refl
       where
         looked : Seeks table old h.mid
         looked = seeks_then table old a h.mid before (looks_seek table slot h.seen a h.mid h.first)
 
-        by : (shown : Bool) → is_visible h.seen ≡ shown → Lacks table key slot old new
+        by : (shown : Bool) → is_visible h.seen ≡ shown → LacksOnce table key slot old new
         by false off =
             let led = event_leads table (look_done slot h.seen (view a)) a h.mid h.first.2 in (
               h.mid,
-              looked,
-              subst (λ z. Seeks table z new) (h.unshown off).2 behind,
+              moment_of table (look_done slot h.seen (view a)) old a h.mid new before h.first.2 refl
+                  (subst (λ z. Seeks table z new) (h.unshown off).2 behind),
               none_shown (world_at table h.mid) key slot
                   (look_tells led.0 (world_at table h.mid) (view a).client slot h.seen led.1 off),
             )
@@ -282,18 +292,18 @@ module _ {T A : Type 0} (fits : T → Key → List ℕ → Type 0) (table : Rule
             led = event_leads table (acquire_done slot 1 name word (view h.mid)) h.mid got
                 entry.reaches.by.adds
 
-            moment : ¬ ShowsKey (world_at table got) key slot → Lacks table key slot old new
+            moment : ¬ ShowsKey (world_at table got) key slot → LacksOnce table key slot old new
             moment none = (
               got,
-              seeks_then table old h.mid got looked
-                  (reach_seeks table slot 1 name word h.mid entry.mid entry.reaches.by),
-              seeks_then table got entry.mid new
+              moment_of table (acquire_done slot 1 name word (view h.mid)) old h.mid got new looked
+                  entry.reaches.by.adds refl
+                  (seeks_then table got entry.mid new
                   (reached_seeks table slot 1 name word h.mid entry.mid entry.reaches.by)
-                  (seeks_then table entry.mid b new entry.seeks behind),
+                  (seeks_then table entry.mid b new entry.seeks behind)),
               none,
             )
 
-            here : (shown : Bool) → is_visible word ≡ shown → Lacks table key slot old new
+            here : (shown : Bool) → is_visible word ≡ shown → LacksOnce table key slot old new
             here false off =
                 moment (none_shown (world_at table got) key slot
                 (acquire_hides led.0 (world_at table got) (view h.mid).client slot 1 name word
@@ -309,7 +319,7 @@ module _ {T A : Type 0} (fits : T → Key → List ℕ → Type 0) (table : Rule
         → Seeks table b new
         → AtProbes (slots_of table) key (Probed fits table key name) i ps e f a b
         → (k : ℕ) → i ≤ k → k < i + length ps
-        → Lacks table key (probe_slot (slots_of table) key k) old new
+        → LacksOnce table key (probe_slot (slots_of table) key k) old new
     probes_lack i [] e f a b before behind h k low high = absurd (omega arith)
     probes_lack i (p ∷ ps) e f a b before behind h k low high = elim (cases_lt i k) [
       | inl later ↦
@@ -319,7 +329,7 @@ module _ {T A : Type 0} (fits : T → Key → List ℕ → Type 0) (table : Rule
           (omega arith) (omega arith)
       | inr here ↦
           let same : i ≡ k = omega arith in
-          subst (λ n. Lacks table key (probe_slot (slots_of table) key n) old new) same
+          subst (λ n. LacksOnce table key (probe_slot (slots_of table) key n) old new) same
           (passes_lack (probe_slot (slots_of table) key i) p.word e h.0 a h.2.mid before
           (seeks_then table h.2.mid b new
           (seeks_then table h.2.mid h.1 b
@@ -332,7 +342,7 @@ module _ {T A : Type 0} (fits : T → Key → List ℕ → Type 0) (table : Rule
     -- an entry that was caught was shown once
     catches_show : (slot word : ℕ) (e f : Effort) (a b : SeatOf T) → Seeks table old a
         → Seeks table b new → Catches fits table key name (Looks table slot) slot 1 word e f a b
-        → Shows table key slot old new
+        → ShowsOnce table key slot old new
     catches_show slot word e f a b before behind h =
         let by = h.reaches.by in
         let led = event_leads table (acquire_done slot 1 name word (view h.looked)) h.looked by.mid
@@ -340,13 +350,12 @@ module _ {T A : Type 0} (fits : T → Key → List ℕ → Type 0) (table : Rule
         let shown = acquire_shows led.0 (world_at table by.mid) (view h.looked).client slot 1 name
         word led.1 h.visible in (
           by.mid,
-          seeks_then table old h.looked by.mid
+          moment_of table (acquire_done slot 1 name word (view h.looked)) old h.looked by.mid new
               (seeks_then table old a h.looked before
-              (looks_seek table slot h.seen a h.looked h.first))
-              (reach_seeks table slot 1 name word h.looked h.mid by),
-          seeks_then table by.mid h.mid new
+              (looks_seek table slot h.seen a h.looked h.first)) by.adds refl
+              (seeks_then table by.mid h.mid new
               (reached_seeks table slot 1 name word h.looked h.mid by)
-              (seeks_then table h.mid b new h.seeks behind),
+              (seeks_then table h.mid b new h.seeks behind)),
           subst (λ o. IsSomeAnd o (λ e. key_of e ≡ key)) (sym shown.1)
               (met_there table slot 1 name word h.looked h.mid by (λ e. key_of e ≡ key) h.same
               shown.0 shown.1),
@@ -355,10 +364,11 @@ module _ {T A : Type 0} (fits : T → Key → List ℕ → Type 0) (table : Rule
   -- the count at the last of some probes
   last_count : (i : ℕ) (ps : List Probe) (p : Probe) (e f : Effort) (a b : SeatOf T)
       → AtProbes (slots_of table) key (Probed fits table key name) i (ps ++ p ∷ []) e f a b
-      → (c : SeatOf T) × IsEvent table (count_done
+      → (c : SeatOf T) × Seeks table a c × IsEvent table (count_done
       (probe_slot (slots_of table) key (i + length ps)) p.displacement (view c)) c b
   last_count i [] p e f a b h = (
     h.2.mid,
+    passes_seek (probe_slot (slots_of table) key i) p.word e h.0 a h.2.mid h.2.passes,
     subst (λ n. IsEvent table (count_done (probe_slot (slots_of table) key n) p.displacement
         (view h.2.mid)) h.2.mid b) here
         (subst (λ z. IsEvent table (count_done (probe_slot (slots_of table) key i) p.displacement
@@ -370,8 +380,10 @@ module _ {T A : Type 0} (fits : T → Key → List ℕ → Type 0) (table : Rule
   last_count i (q ∷ ps) p e f a b h =
       let rest = last_count (i + 1) ps p h.0 f h.1 b h.3 in (
         rest.0,
+        seeks_then table a h.1 rest.0
+            (probed_seeks (probe_slot (slots_of table) key i) q e h.0 a h.1 h.2) rest.1,
         subst (λ n. IsEvent table (count_done (probe_slot (slots_of table) key n) p.displacement
-            (view rest.0)) rest.0 b) on rest.1,
+            (view rest.0)) rest.0 b) on rest.2,
       )
     where
       on : i + 1 + length ps ≡ i + suc (length ps)
@@ -380,42 +392,38 @@ module _ {T A : Type 0} (fits : T → Key → List ℕ → Type 0) (table : Rule
   -- A search that missed.
   module _ (before after : Effort) (old new : SeatOf T)
       (m : Misses fits table key name before after old new) where
-    whole : Seeks table old new
-    whole = probes_seek 0 (m.earlier ++ m.last ∷ []) before m.between old new m.probes
-
     -- where no trail went on, no later probe shows the key
     beyond_lacks : (i : ℕ) → length m.earlier < i → i < slots_of table → m.last.displacement ≡ 0
-        → Lacks table key (probe_slot (slots_of table) key i) old new
+        → LacksOnce table key (probe_slot (slots_of table) key i) old new
     beyond_lacks i beyond inside none =
         let count = last_count 0 m.earlier m.last before m.between old new m.probes in
         let done : Done = count_done (probe_slot (slots_of table) key (0 + length m.earlier))
         m.last.displacement (view count.0) in
-        let led = event_leads table done count.0 new count.1 in
+        let led = event_leads table done count.0 new count.2 in
         let told = count_tells led.0 (world_at table new) (view count.0).client
         (probe_slot (slots_of table) key (0 + length m.earlier)) m.last.displacement led.1 in (
           new,
-          whole,
-          seeks_none table new,
+          moment_of table done old count.0 new new count.1 count.2 refl (seeks_none table new),
           λ shows.
               let found = some_and (shown_at (world_at table new)
               (probe_slot (slots_of table) key i)) _ shows in
               let some = shown_counted (slots_of table) (world_at table new) key i
               (0 + length m.earlier) found.0 table.limits.power
-              (event_trails table done count.0 new count.1) (omega arith) inside found.1 found.2
+              (event_trails table done count.0 new count.2) (omega arith) inside found.1 found.2
               in
               absurd (omega arith),
         )
 
-    pub misses_lack : (slot : ℕ) → slot < slots_of table → Lacks table key slot old new
+    pub misses_lack : (slot : ℕ) → slot < slots_of table → LacksOnce table key slot old new
     misses_lack slot near =
         let at = probe_of_slot (slots_of table) key table.limits.power slot near in
-        subst (λ s. Lacks table key s old new) at.2 (by at.0 at.1)
+        subst (λ s. LacksOnce table key s old new) at.2 (by at.0 at.1)
       where
         long : length (m.earlier ++ m.last ∷ []) ≡ length m.earlier + 1
         long = one_longer m.earlier m.last
 
         by : (i : ℕ) → i < slots_of table
-            → Lacks table key (probe_slot (slots_of table) key i) old new
+            → LacksOnce table key (probe_slot (slots_of table) key i) old new
         by i inside = elim (cases_lt (length m.earlier) i) [
           | inl beyond ↦ elim m.ends [
             | inl none ↦ beyond_lacks i beyond inside none
@@ -449,12 +457,12 @@ module _ {T A : Type 0} (fits : T → Key → List ℕ → Type 0) (table : Rule
         (reach_seeks table slot 1 name word h.looked h.mid h.reaches.by)
         (reached_seeks table slot 1 name word h.looked h.mid h.reaches.by)) h.seeks)
 
-    pub finds_show : Shows table key slot old new
+    pub finds_show : ShowsOnce table key slot old new
     finds_show = catches_show old new slot word f.between f.later f.mid f.held passed_seeks
         marked_seeks f.catches
 
     pub finds_lack : (j : ℕ) → j < length f.earlier
-        → Lacks table key (probe_slot (slots_of table) key j) old new
+        → LacksOnce table key (probe_slot (slots_of table) key j) old new
     finds_lack j first =
         probes_lack old new 0 f.earlier before f.between old f.mid (seeks_none table old)
         (seeks_then table f.mid f.held new caught_seeks marked_seeks) f.probes j (omega arith)
@@ -465,14 +473,12 @@ module _ {T A : Type 0} (fits : T → Key → List ℕ → Type 0) (table : Rule
       (old new : SeatOf T) → Searches fits table key name marks answer before after old new
       → FindsLasting table key answer old new
   finds_lasting marks None before last old new m = λ slot near.
-      lacks_once table key slot old new (misses_lack before last old new m slot near)
+      misses_lack before last old new m slot near
   finds_lasting marks (Some pin) before last old new h = (
     length h.1.earlier,
     h.1.probe,
-    shows_once table key pin.slot old new
-        (finds_show marks pin.slot h.0 before last old new h.1),
-    λ j first. lacks_once table key (probe_slot (slots_of table) key j) old new
-        (finds_lack marks pin.slot h.0 before last old new h.1 j first),
+    finds_show marks pin.slot h.0 before last old new h.1,
+    λ j first. finds_lack marks pin.slot h.0 before last old new h.1 j first,
   )
 
   -- One client.
@@ -490,3 +496,16 @@ module _ {T A : Type 0} (fits : T → Key → List ℕ → Type 0) (table : Rule
     λ j first. lacks_alone table key (probe_slot (slots_of table) key j) old new one
         (finds_lack marks pin.slot h.0 before last old new h.1 j first),
   )
+
+-- Such a search misses exactly where the world shows the key nowhere.
+pub misses_exactly : {T A : Type 0} (table : RuleTable T A) (key : Key) (world : State)
+    (answer : Option Pin) → FindsFirst table key world answer
+    → IsNone answer ↔ ((slot : ℕ) → slot < slots_of table → ¬ ShowsKey world key slot)
+misses_exactly table key world None h = (λ none. h, λ never. refl)
+misses_exactly table key world (Some pin) h = (
+  λ none. cc,
+  λ never.
+      let near = probe_inside (slots_of table) key h.0
+      (some_slots (slots_of table) table.limits.power) in
+      absurd (never pin.slot (subst (λ s. s < slots_of table) (sym h.1) near) h.2),
+)

@@ -1,5 +1,5 @@
 -- What a seat does while it searches: step by step, and with what other clients do meanwhile.
-use Rattle.std.proofs.Common.{◌≡◌, ◌⊎◌, inl, inr, ℕ, true, List, [], ◌∷◌, ◌++◌, Option, Some, None, sym, subst, refl, ap, ◌∙◌}
+use Rattle.std.proofs.Common.{◌≡◌, ℕ, true, List, [], ◌∷◌, ◌++◌, Option, Some, None, subst, refl}
 use Rattle.std.specs.Prelude.{IfSome, IsSomeAnd}
 use Rattle.hcc_rule.specs.declared.table.RuleTable.{RuleTable}
 use Rattle.hcc_rule.specs.declared.view.Done.{Done}
@@ -8,7 +8,6 @@ use Rattle.hcc_rule.specs.Callers.{IsEvent}
 use Rattle.hcc_rule.specs.Events.{read_done}
 use Rattle.hcc_rule.specs.Records.{record_in}
 use Rattle.hcc_rule.specs.Seats.{SeatOf, view}
-use Rattle.hcc_rule.specs.Views.{Each}
 use Rattle.hcc_rule.proofs.Basics.Lists.{each_append}
 use Rattle.hcc_table.specs.Seeking.{Does, Seeks, is_seeking}
 

@@ -1,9 +1,8 @@
 -- What the events of a search tell of what the world shows: they change nothing of it.
-use Rattle.std.proofs.Common.{◌≡◌, ℕ, ◌+◌, ◌-◌, ◌%◌, ◌<◌, ◌≤◌, ◌==◌, Bool, true, false, cond, List, [], ◌∷◌, Option, Some, None, Result, Ok, Err, length, slice_get, slice_set, nat_lt, sym, refl, ap, ◌∙◌, arith}
+use Rattle.std.proofs.Common.{◌≡◌, ℕ, ◌-◌, ◌%◌, ◌<◌, ◌≤◌, Bool, true, false, List, [], ◌∷◌, Option, Some, None, Result, Ok, Err, length, slice_get, slice_set, sym, refl, ap, ◌∙◌, arith}
 use Rattle.std.specs.Prelude.{option_and_then, if◌then◌else◌}
 use Rattle.std.proofs.lemmas.Bool.{lt-ltb}
 use Rattle.hcc_word.specs.Word.{is_empty, is_shareable, is_visible}
-use Rattle.hcc_core.specs.declared.client.Client.{Client}
 use Rattle.hcc_core.specs.declared.event.CoreError.{CoreError}
 use Rattle.hcc_core.specs.declared.event.CoreError.TheVariants.{NotAllowed}
 use Rattle.hcc_core.specs.declared.event.Event.{Event}
@@ -18,7 +17,7 @@ use Rattle.hcc_core.specs.declared.slot.Reference.{Reference}
 use Rattle.hcc_core.specs.declared.slot.Slot.{Slot}
 use Rattle.hcc_core.specs.declared.slot.Slot.TheVariants as slots
 use Rattle.hcc_core.specs.Entries.{entry_read, read_of}
-use Rattle.hcc_core.specs.Outcomes.{◌>>=◌, Outcome, allow, holding, live_at, slot_at, with_both}
+use Rattle.hcc_core.specs.Outcomes.{◌>>=◌, Outcome, allow, holding, live_at, slot_at}
 use Rattle.hcc_core.specs.References.{acquire_of, acquired, give_of, look_of, may_acquire, new_reference, slot_acquired, slot_given}
 use Rattle.hcc_core.specs.Runs.{after, after_all, world_after}
 use Rattle.hcc_core.specs.Steps.{in_range, outcome_of, rule_of}
@@ -203,7 +202,8 @@ ruled : (w : State) (event : Event) (z : Reply × State) → outcome_of w event 
 unfolding outcome_of
 ruled w event z h = by (in_range event) h
   where
-    by : (b : Bool) → (if b then rule_of w event else Err NotAllowed) ≡ Ok z → rule_of w event ≡ Ok z
+    by : (b : Bool) → (if b then rule_of w event else Err NotAllowed) ≡ Ok z
+        → rule_of w event ≡ Ok z
     by true is = is
     by false is = cc
 
@@ -257,8 +257,9 @@ module _ (w w' : State) (client slot : ℕ) where
         let first = bound (slot_at w slot) _ _
         (ruled w (events.Acquire client slot weight name) _ is) in
         let second = bound (live_at w client) _ _ first.2 in
-        let third = bound (allow (may_acquire w.setup w.slots client second.0 slot first.0 weight name))
-        _ _ second.2 in
+        let third = bound
+        (allow (may_acquire w.setup w.slots client second.0 slot first.0 weight name)) _ _
+        second.2 in
         let reply : acquired first.0 (counts_in first.0) ≡ got_in word =
         ap (λ z. z.0) (same_outcome _ _ third.2) in
         (first.0, found_ok _ _ first.0 first.1, reply)

@@ -1,6 +1,6 @@
 -- What a shard shows at the moments of a call: in the worlds to which the histories lead that its
 -- seat knew then.
-use Rattle.std.specs.Prelude.{◌≡◌, ℕ, ◌<◌, List, ◌++◌, Option, Some, None, IsSomeAnd, slice_get, option_and_then, if◌then◌else◌}
+use Rattle.std.specs.Prelude.{◌≡◌, ℕ, ◌<◌, true, List, ◌++◌, Option, Some, None, IsSomeAnd, slice_get, option_and_then, if◌then◌else◌}
 use Rattle.hcc_core.specs.declared.slot.Entry.{Entry}
 use Rattle.hcc_core.specs.declared.slot.Slot.{Slot}
 use Rattle.hcc_core.specs.declared.slot.Slot.TheVariants as slots
@@ -9,11 +9,12 @@ use Rattle.hcc_rule.specs.declared.key.Key.{Key}
 use Rattle.hcc_rule.specs.declared.table.RuleTable.{RuleTable}
 use Rattle.hcc_rule.specs.declared.view.Done.{Done}
 use Rattle.hcc_rule.specs.Acts.{past, world_of}
-use Rattle.hcc_rule.specs.Callers.{plan_of, slots_of}
+use Rattle.hcc_rule.specs.Callers.{plan_of, slots_of, IsEvent}
 use Rattle.hcc_rule.specs.Probes.{probe_slot}
 use Rattle.hcc_rule.specs.Seats.{SeatOf}
 use Rattle.hcc_rule.specs.Words.{key_of}
 use Rattle.hcc_table.specs.declared.pins.Pin.{Pin}
+use Rattle.hcc_table.specs.Seeking.{Seeks, is_seeking}
 
 -- the entry that a slot shows, and that a slot of a world does
 abbrev pub entry_shown : Slot → Option Entry
@@ -28,32 +29,38 @@ shown_at world slot = option_and_then entry_shown (slice_get world.slots slot)
 abbrev pub ShowsKey : State → Key → (slot : ℕ) → Type 0
 ShowsKey world key slot = IsSomeAnd (shown_at world slot) (λ e. key_of e ≡ key)
 
-module _ {T : Type 0} where
-  -- A moment between two that a seat knows: the history up to it goes on from that of the one, and
-  -- that of the other goes on from it.
-  pub record IsBetween (history : List Done) (old new : SeatOf T) : Type 0 where
-    pub since : List Done
-    pub later : List Done
-    pub begins : history ≡ past old ++ since
-    pub goes_on : past new ≡ history ++ later
-
 module _ {T A : Type 0} (table : RuleTable T A) where
   -- the world to which all leads that a seat knows
   abbrev pub world_at : SeatOf T → State
   world_at seat = world_of (plan_of table) (past seat)
 
+  -- A moment of a call that searched: right behind one of its own steps, when its seat was this.
+  -- The history up to it goes on from what the seat knew when the call began, and what it knew at
+  -- the end goes on from that.
+  pub record IsMomentOf (moment old new : SeatOf T) : Type 0 where
+    pub before : SeatOf T
+    pub done : Done
+    pub began : Seeks table old before
+    pub step : IsEvent table done before moment
+    pub seeking : is_seeking done.event ≡ true
+    pub rest : Seeks table moment new
+    pub since : List Done
+    pub begins : past moment ≡ past old ++ since
+    pub later : List Done
+    pub goes_on : past new ≡ past moment ++ later
+
 module _ {T A : Type 0} (table : RuleTable T A) (key : Key) where
-  -- at some moment between these two the shard shows the key in this slot
+  -- at some moment of the call the shard shows the key in this slot
   abbrev pub ShowsOnce : (slot : ℕ) → (old new : SeatOf T) → Type 0
   ShowsOnce slot old new =
-      (history : List Done) × IsBetween history old new
-      × ShowsKey (world_of (plan_of table) history) key slot
+      (moment : SeatOf T) × IsMomentOf table moment old new
+      × ShowsKey (world_at table moment) key slot
 
-  -- at some moment between these two it doesn't
+  -- at some moment of the call it doesn't
   abbrev pub LacksOnce : (slot : ℕ) → (old new : SeatOf T) → Type 0
   LacksOnce slot old new =
-      (history : List Done) × IsBetween history old new
-      × ¬ ShowsKey (world_of (plan_of table) history) key slot
+      (moment : SeatOf T) × IsMomentOf table moment old new
+      × ¬ ShowsKey (world_at table moment) key slot
 
   -- Of each slot this holds where a search missed; where it found an entry, that was shown once,
   -- and each slot of an earlier probe lacked the key once.

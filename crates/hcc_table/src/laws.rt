@@ -1,7 +1,7 @@
 //! What follows of what calls found.
 //!
 //! No function here does anything when it runs: its contract is the law.
-ghost use Rattle.std.specs.Prelude.{◌≡◌, ℕ, ◌<◌, Bool, Option};
+ghost use Rattle.std.specs.Prelude.{◌≡◌, ℕ, ◌<◌, ◌↔◌, Bool, Option, IsNone};
 ghost use Rattle.hcc_rule.specs.declared.key.Key.{Key};
 ghost use Rattle.hcc_rule.specs.declared.table.RuleTable.{RuleTable};
 ghost use Rattle.hcc_rule.specs.Callers.{clients_of, plan_of, slots_of};
@@ -12,7 +12,7 @@ ghost use Rattle.hcc_table.specs.declared.efforts.Effort.{Effort};
 ghost use Rattle.hcc_table.specs.declared.pins.Pin.{Pin};
 ghost use Rattle.hcc_table.specs.Probed.{Misses, Searches};
 ghost use Rattle.hcc_table.specs.Quiet.{IsQuiet, ShowsKeyAt};
-ghost use Rattle.hcc_table.specs.Standing.{FindsFirst, FindsLasting, world_at};
+ghost use Rattle.hcc_table.specs.Standing.{FindsFirst, FindsLasting, ShowsKey, world_at};
 
 use hcc_rule::Tag;
 use hcc_rule::laws::law_trails;
@@ -33,10 +33,17 @@ pub fn law_lasting<T: Tag, A: Allocator>()
 pub fn law_found_alone<T: Tag, A: Allocator>()
     // It misses where the world that the seat knows when the call begins shows the key in no slot,
     // else it finds the slot of the earliest probe that shows it.
-    ensures { (table : RuleTable T A) (key : Key) (name : ℕ) (marks : Bool) (answer : Option Pin)
-        (before after : Effort) (old new : SeatOf T) → clients_of table ≡ 1
+    ensures first { (table : RuleTable T A) (key : Key) (name : ℕ) (marks : Bool)
+        (answer : Option Pin) (before after : Effort) (old new : SeatOf T) → clients_of table ≡ 1
         → Searches T.fits table key name marks answer before after old new
         → FindsFirst table key (world_at table old) answer }
+
+    // So it misses exactly where no slot of that world shows the key.
+    ensures misses { (table : RuleTable T A) (key : Key) (name : ℕ) (marks : Bool)
+        (answer : Option Pin) (before after : Effort) (old new : SeatOf T) → clients_of table ≡ 1
+        → Searches T.fits table key name marks answer before after old new
+        → IsNone answer ↔ ((slot : ℕ) → slot < slots_of table
+        → ¬ ShowsKey (world_at table old) key slot) }
 {}
 
 /// A miss is a miss.

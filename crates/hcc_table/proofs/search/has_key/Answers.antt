@@ -53,7 +53,8 @@ pub returns-then-read_at-key-clause-seeks : goal.returns-then-read_at-key-clause
 returns-then-read_at-key-clause-seeks g c =
     seeks_then c.args.table.now c.args.seat.now c.read_at.new.seat
     c.read_at-then-read_at-key.new.seat
-    (seeks_read c.args.table.now c.args.name (λ r. r.slot ≡ c.args.slot) c.args.seat.now c.read_at.new.seat
+    (seeks_read c.args.table.now c.args.name (λ r. r.slot ≡ c.args.slot) c.args.seat.now
+    c.read_at.new.seat
     c.requires.holds c.read_at.ensures.event)
     (seeks_read c.args.table.now c.args.name (λ r. r.slot ≡ c.args.slot) c.read_at.new.seat
     c.read_at-then-read_at-key.new.seat
@@ -63,5 +64,6 @@ returns-then-read_at-key-clause-seeks g c =
 
 pub returns-else-read_at-key-clause-seeks : goal.returns-else-read_at-key-clause-seeks
 returns-else-read_at-key-clause-seeks g c =
-    seeks_read c.args.table.now c.args.name (λ r. r.slot ≡ c.args.slot) c.args.seat.now c.read_at.new.seat
+    seeks_read c.args.table.now c.args.name (λ r. r.slot ≡ c.args.slot) c.args.seat.now
+    c.read_at.new.seat
     c.requires.holds c.read_at.ensures.event
