@@ -15,7 +15,7 @@ use Rattle.hcc_core.specs.Opening.{CanOpen, new_client, new_slot, opening_of}
 use Rattle.hcc_core.specs.Runs.{FindsOne, KeepsPlaces, after_all, entry_given, entry_held, entry_of, named_on}
 use Rattle.hcc_core.specs.Steps.{outcome_of}
 use Rattle.hcc_core.specs.Sums.{total, when}
-use Rattle.hcc_core.specs.World.{State, is_named, references_of}
+use Rattle.hcc_core.specs.World.{is_named, references_of}
 use Rattle.hcc_core.proofs.EveryRun.{Given, Once, all_given, apart_all, keeps_places, lawful_all, once_all}
 use Rattle.hcc_core.proofs.HeldNames.{Apart, finds_one}
 use Rattle.hcc_core.proofs.ListLemmas.{in_replicate, read_here, read_other, replicate_is}
@@ -23,7 +23,6 @@ use Rattle.hcc_core.proofs.Opening.{is_lawful}
 use Rattle.hcc_rule.specs.declared.image.ImageEntry.{ImageEntry}
 use Rattle.hcc_rule.specs.declared.key.Key.{Key}
 use Rattle.hcc_rule.specs.declared.rule.Plan.{Plan}
-use Rattle.hcc_rule.specs.declared.view.Done.{Done}
 use Rattle.hcc_rule.specs.declared.view.Logged.{Logged}
 use Rattle.hcc_rule.specs.Acts.{IsRun, events_of}
 use Rattle.hcc_rule.specs.ImageLimits.{IsImageFor}
