@@ -1,6 +1,6 @@
 //! Eviction: the shard's hand goes round, and entries that nobody holds and that have no uses left
 //! go.
-ghost use Rattle.std.specs.Prelude.{◌≡◌, ◌+◌, ◌*◌, ◌^◌, ◌<◌, ◌≤◌};
+ghost use Rattle.std.specs.Prelude.{◌≡◌, ◌+◌, ◌*◌, ◌%◌, ◌^◌, ◌<◌, ◌≤◌};
 ghost use Rattle.hcc_core.specs.declared.limits.TheConstants.{MOST_SLOTS};
 ghost use Rattle.hcc_rule.specs.Callers.{slots_of, IsSeatAt, IsSlotOf};
 ghost use Rattle.hcc_rule.specs.Seats.{IsSameSeat, view};
@@ -86,16 +86,23 @@ fn turn<T: Tag, A: Allocator>(
     ensures effort { Lost result.lost result.lost effort.old effort.new }
     ensures steps { MakesAtMost (sweeping (slots_of table.now) 1 result.slots) seat.old seat.new }
 {
-    let slots = table.geometry().slots as u64;
     let hand = table.turn(seat);
-    let from = hand % slots;
+    let from = slot_of(table, hand) as u64;
     let mut all = Swept::TURN;
     for k in 0..SLOTS_PER_TURN {
-        let slot = ((from + k) % slots) as u32;
+        let slot = slot_of(table, from + k);
         let here = visit_slot(table, seat, slot, effort);
         all = all.with(here);
     }
     all
+}
+
+/// The slot of a number in the hand's order. The slots are a power of two, so it costs a mask.
+#[inline(always)]
+fn slot_of<T: Tag, A: Allocator>(table: &RuleTable<T, A>, number: u64) -> u32
+    ensures { result ≡ number % slots_of table.now }
+{
+    (number & (table.geometry().slots as u64 - 1)) as u32
 }
 
 /// Visits one slot.

@@ -1,5 +1,7 @@
 //! The words of a new entry: the owner of an empty slot writes them, and shows the entry.
-ghost use Rattle.std.specs.Prelude.{◌≡◌, ◌+◌, ◌*◌, ◌<◌, ◌≤◌, [], ◌∷◌, ◌++◌, length};
+ghost use Rattle.std.specs.Prelude.{◌≡◌, ◌+◌, ◌*◌, ◌<◌, ◌≤◌, [], ◌∷◌, ◌++◌, drop, length, take};
+ghost use Rattle.std.specs.Int.{from_le_bytes};
+ghost use mir.Syntax.{w64};
 ghost use Rattle.hcc_core.specs.declared.limits.TheConstants.{MOST_CLIENTS, STAMPS_PER_CLIENT};
 ghost use Rattle.hcc_core.specs.declared.client.Owned.TheVariants.{ForBuilding};
 ghost use Rattle.hcc_rule.specs.declared.layout.TheConstants.{PAYLOAD};
@@ -94,7 +96,22 @@ fn write_payload<T: Tag, A: Allocator>(
     ensures steps { MakesAtMost (room_of table.now) seat.old seat.new }
 {
     let first = table.data_of(slot);
-    for k in 0..(value.len() + 7) / 8 {
-        table.write_at(seat, slot, first, PAYLOAD + k, word_at(value, 8 * k));
+    let whole = value.len() / 8;
+    for k in 0..whole {
+        table.write_at(seat, slot, first, PAYLOAD + k, whole_word(value, 8 * k));
     }
+    if value.len() % 8 > 0 {
+        table.write_at(seat, slot, first, PAYLOAD + whole, word_at(value, 8 * whole));
+    }
+}
+
+/// The word of the eight bytes from an offset on, the first lowest.
+#[inline(always)]
+fn whole_word(value: &[u8], offset: usize) -> u64
+    requires { offset + 8 ≤ length value.now }
+    ensures { result ≡ from_le_bytes w64 (take 8 (drop offset value.now)) }
+{
+    let mut bytes = [0u8; 8];
+    bytes.copy_from_slice(&value[offset..offset + 8]);
+    u64::from_le_bytes(bytes)
 }

@@ -1,4 +1,5 @@
-use Rattle.std.proofs.Common.{arith, refl}
+use Rattle.std.proofs.Common.{◌≡◌, ◌+◌, ◌/◌, ◌∙◌, ap, arith, length, refl}
+use Rattle.hcc_rule.specs.Words.{payload_word}
 use Rattle.hcc_table.proofs.Logs.{adds_none, adds_one, adds_then}
 use Rattle.hcc_table.proofs.InsertsWords.{writes_none, still_seat, still_builds, next_word, writes_more, writes_all}
 use Rattle.hcc_table.proofs.build.write_payload.Goals as goal
@@ -32,14 +33,32 @@ loop-k-preserved g c =
     let so_far = c.loop-k.invariant.1 in
     let one = c.write_at.ensures.step.one in (
       writes_more c.args.value.now c.loop-k.k c.args.seat.now c.loop-k.seat c.loop-k.invariant.0
-          c.write_at.new.seat c.word_at.result c.write_at.ensures.seat c.write_at.ensures.view
-          c.word_at.ensures,
+          c.write_at.new.seat c.whole_word.result c.write_at.ensures.seat
+          c.write_at.ensures.view c.whole_word.ensures,
       omega arith,
       adds_then c.args.seat.now c.loop-k.seat c.write_at.new.seat c.loop-k.invariant.2
           (adds_one _ c.loop-k.seat c.write_at.new.seat c.write_at.ensures.step.step),
     )
 
-pub returns-clause-view : goal.returns-clause-view
-returns-clause-view g c =
+pub write_at-requires-then-value-gt0-clause-next : goal.write_at-requires-then-value-gt0-clause-next
+write_at-requires-then-value-gt0-clause-next g c =
+    let all = c.loop-k-test.false in
+    let behind = next_word c.args.value.now c.loop-k.k c.args.seat.now c.loop-k.seat
+    c.loop-k.invariant.0 c.requires.head in
+    (omega arith, omega arith)
+
+pub returns-then-value-gt0-clause-view : goal.returns-then-value-gt0-clause-view
+returns-then-value-gt0-clause-view g c =
+    let last = c.write_at-then-value-gt0 in
+    let all = c.loop-k-test.false in
+    let is : length c.args.value.now / 8 ≡ c.loop-k.k = omega arith in
+    let more = writes_more c.args.value.now c.loop-k.k c.args.seat.now c.loop-k.seat
+    c.loop-k.invariant.0 last.new.seat c.word_at.result last.ensures.seat
+    last.ensures.view (c.word_at.ensures ∙ ap (payload_word c.args.value.now) is) in
+    writes_all c.args.value.now (c.loop-k.k + 1) c.args.seat.now last.new.seat more (omega arith)
+
+pub returns-else-value-gt0-clause-view : goal.returns-else-value-gt0-clause-view
+returns-else-value-gt0-clause-view g c =
+    let all = c.loop-k-test.false in
     writes_all c.args.value.now c.loop-k.k c.args.seat.now c.loop-k.seat c.loop-k.invariant.0
     (omega arith)
