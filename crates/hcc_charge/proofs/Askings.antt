@@ -1,5 +1,5 @@
 -- What a reservation found, and what it evicted for that.
-use Rattle.std.proofs.Common.{◌≡◌, ℕ, ◌+◌, ◌-◌, Bool, true, false, List, sym, subst, refl, ap, ◌∙◌, arith}
+use Rattle.std.proofs.Common.{◌≡◌, ℕ, ◌+◌, ◌-◌, Bool, true, false, List, sym, subst, ap, ◌∙◌, arith}
 use Rattle.hcc_core.specs.Sums.{when}
 use Rattle.hcc_rule.specs.declared.key.Key.{Key}
 use Rattle.hcc_rule.specs.declared.layout.TheConstants.{USAGE}
@@ -8,7 +8,6 @@ use Rattle.hcc_rule.specs.declared.view.View.{View}
 use Rattle.hcc_rule.specs.Callers.{capacity_of, is_strict, slots_of}
 use Rattle.hcc_rule.specs.Addresses.{address_of_ledger}
 use Rattle.hcc_rule.specs.Seats.{SeatOf, Makes, view}
-use Rattle.hcc_table.specs.Steps.{Adds}
 use Rattle.hcc_charge.specs.declared.swept.Swept.{Swept}
 use Rattle.hcc_charge.specs.declared.tally.Tally.{Tally}
 use Rattle.hcc_charge.specs.Asked.{added, is_full, lacked, Enters, EvictsAsAsked, EvictsNothing}
@@ -46,17 +45,17 @@ module _ {T : Type 0} where
       by_takings = omega arith
 
 -- What the code asks eviction for is what is asked for, without strict capacity
-pub asked_lax : (capacity given used charge ask least : ℕ) (full : Bool) → given ≡ capacity
+pub asked_lax : {capacity given ask least : ℕ} (used charge : ℕ) (full : Bool) → given ≡ capacity
     → ask ≡ ask_of given used charge → least ≡ at_least_one full ask
     → least ≡ asked false capacity charge full used
-asked_lax capacity given used charge ask least full within is at_least =
+asked_lax used charge full within is at_least =
     at_least ∙ ap (at_least_one full) (is ∙ ap (λ n. ask_of n used charge) within)
 
 -- and under it.
-pub asked_strict : (capacity given used charge needed least : ℕ) (full : Bool) → given ≡ capacity
-    → needed ≡ still_needed given used charge → least ≡ at_least_one full needed
-    → least ≡ asked true capacity charge full used
-asked_strict capacity given used charge needed least full within is at_least =
+pub asked_strict : {capacity given needed least : ℕ} (used charge : ℕ) (full : Bool)
+    → given ≡ capacity → needed ≡ still_needed given used charge
+    → least ≡ at_least_one full needed → least ≡ asked true capacity charge full used
+asked_strict used charge full within is at_least =
     at_least ∙ ap (at_least_one full) (is ∙ ap (λ n. still_needed n used charge) within)
 
 module _ {T A : Type 0} (table : RuleTable T A) (charge used : ℕ) where
@@ -69,21 +68,21 @@ module _ {T A : Type 0} (table : RuleTable T A) (charge used : ℕ) where
   pub lacked_lax : is_strict table ≡ false → lacked table charge used ≡ 0
   lacked_lax lax = ap (λ s. needed_by s (capacity_of table) used charge) lax
 
-module _ {T A : Type 0} (fits : T → Key → List ℕ → Type 0) (table : RuleTable T A)
-    (charge taken used ask : ℕ) (full strict : Bool) (swept : Swept) (before after : Tally)
-    (a u b c d : SeatOf T) where
-  -- A reservation evicted just for what it asks for.
+module _ {T A : Type 0} (fits : T → Key → List ℕ → Type 0) (table : RuleTable T A) (charge : ℕ)
+    {taken used ask : ℕ} {full strict : Bool} {swept : Swept} {before after : Tally}
+    {a u b c : SeatOf T} where
+  -- A reservation evicted exactly for what it asks for, whatever came behind it.
   abbrev pub evicts_as_asked : full ≡ is_full table taken → is_strict table ≡ strict
       → ask ≡ asked strict (capacity_of table) charge full used
       → Enters table taken a u → view u ≡ entered full (view a)
       → Makes (address_of_ledger table USAGE) (added strict charge) 0 used u b
       → EvictsNothing (view u) (view b)
       → EvictsFor fits table ask swept b c → IsSweptFor (slots_of table) ask swept
-      → Sweeps swept.turns swept.slots swept.charge (view b) (view c) → Adds c d
-      → EvictsNothing (view c) (view d) → Tallied swept before after
+      → Sweeps swept.turns swept.slots swept.charge (view b) (view c)
+      → Tallied swept before after → (d : SeatOf T) → EvictsNothing (view c) (view d)
       → EvictsAsAsked fits table charge before after a d
-  evicts_as_asked is_found is_kind is_asked enters opens finds first evicts within sweeps rest last
-      tallied =
+  evicts_as_asked is_found is_kind is_asked enters opens finds first evicts within sweeps tallied d
+      last =
       record {
         taken = taken;
         used = used;
@@ -97,7 +96,6 @@ module _ {T A : Type 0} (fits : T → Key → List ℕ → Type 0) (table : Rule
             (sym is_kind) finds;
         evicts = subst (λ n. EvictsFor fits table n swept b c) here evicts;
         within = subst (λ n. IsSweptFor (slots_of table) n swept) here within;
-        rest = rest;
         turns =
             last.turns ∙ (ap (λ (z : View T). z.turns) sweeps.same
             ∙ ap (λ n. n + swept.turns) (first.turns ∙ ap (λ (z : View T). z.turns) opens));

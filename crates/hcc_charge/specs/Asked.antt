@@ -1,5 +1,5 @@
 -- What a reservation found, and what it evicted for that, told of its atomic steps.
-use Rattle.std.specs.Prelude.{◌≡◌, ℕ, ◌+◌, ◌<◌, ◌≤◌, Bool, true, nat_le, List, Result, Ok, Err, if◌then◌else◌}
+use Rattle.std.specs.Prelude.{◌≡◌, ℕ, ◌+◌, ◌<◌, ◌≤◌, Bool, true, false, nat_le, List, Result, Ok, Err, if◌then◌else◌}
 use Rattle.hcc_core.specs.Sums.{when}
 use Rattle.hcc_core.specs.World.{limit_of}
 use Rattle.hcc_rule.specs.declared.key.Key.{Key}
@@ -9,8 +9,8 @@ use Rattle.hcc_rule.specs.declared.view.View.{View}
 use Rattle.hcc_rule.specs.Callers.{capacity_of, is_strict, plan_of, slots_of}
 use Rattle.hcc_rule.specs.Addresses.{address_of_ledger}
 use Rattle.hcc_rule.specs.Rule.{setup_of}
-use Rattle.hcc_rule.specs.Seats.{SeatOf, Makes, view}
-use Rattle.hcc_table.specs.Steps.{Adds, MakesNone}
+use Rattle.hcc_rule.specs.Seats.{SeatOf, Makes, MakesSome, view}
+use Rattle.hcc_table.specs.Steps.{MakesNone}
 use Rattle.hcc_charge.specs.declared.reserving.Reservation.{Reservation}
 use Rattle.hcc_charge.specs.declared.reserving.Reservation.TheVariants.{Reserved, NoPlace}
 use Rattle.hcc_charge.specs.declared.reserving.Refused.{Refused}
@@ -19,6 +19,7 @@ use Rattle.hcc_charge.specs.declared.swept.Swept.{Swept}
 use Rattle.hcc_charge.specs.declared.tally.Tally.{Tally}
 use Rattle.hcc_charge.specs.Evicted.{EvictsFor, IsSweptFor}
 use Rattle.hcc_charge.specs.Reserved.{asked, needed_by}
+use Rattle.hcc_charge.specs.Settled.{Settles, TakesOff}
 use Rattle.hcc_charge.specs.Swept.{Tallied}
 
 -- what the step that finds the usage adds to it: the charge under strict capacity, else nothing
@@ -44,11 +45,27 @@ module _ {T A : Type 0} (table : RuleTable T A) where
   abbrev pub Enters : (taken : ℕ) → SeatOf T → SeatOf T → Type 0
   Enters = Makes (address_of_ledger table OCCUPANCY) 1 0
 
+  -- What was freed was settled, and the charge is granted: without strict capacity it was added
+  -- between the two.
+  abbrev pub Grants : (strict : Bool) → (charge : ℕ) → Swept → SeatOf T → SeatOf T → Type 0
+  Grants true charge swept old new = Settles table swept.slots swept.charge old new
+  Grants false charge swept old new =
+      (a : SeatOf T) × (b : SeatOf T) × TakesOff table OCCUPANCY swept.slots old a
+      × MakesSome (address_of_ledger table USAGE) charge 0 a b
+      × TakesOff table USAGE swept.charge b new
+
+  -- The place and the charge were given back, with the slots and the charge that were freed.
+  abbrev pub GivesAllBack : (charge : ℕ) → Swept → SeatOf T → SeatOf T → Type 0
+  GivesAllBack charge swept old new =
+      (mid : SeatOf T)
+      × MakesSome (address_of_ledger table OCCUPANCY) (1 + swept.slots) 0 old mid
+      × MakesSome (address_of_ledger table USAGE) (charge + swept.charge) 0 mid new
+
 module _ {T A : Type 0} (fits : T → Key → List ℕ → Type 0) (table : RuleTable T A) (charge : ℕ)
   where
-    -- A reservation found so many places taken, and this usage, and evicted just for what it asks
-    -- for then. What gives back or settles came behind it. The client's view counts the turns, what
-    -- they took and the open place, and its tally all that they did.
+    -- A reservation found so many places taken, and this usage, and evicted exactly for what it
+    -- asks for then, which left the seat c. The client's view counts the turns, what they took and
+    -- the open place, and its tally all that they did.
     pub record EvictsAsAsked (before after : Tally) (a d : SeatOf T) : Type 0 where
       pub taken : ℕ
       pub used : ℕ
@@ -62,7 +79,6 @@ module _ {T A : Type 0} (fits : T → Key → List ℕ → Type 0) (table : Rule
           (asked (is_strict table) (capacity_of table) charge (is_full table taken) used) swept b c
       pub within : IsSweptFor (slots_of table)
           (asked (is_strict table) (capacity_of table) charge (is_full table taken) used) swept
-      pub rest : Adds c d
       pub turns : (view d).turns ≡ (view a).turns + swept.turns
       pub takings : (view d).takings ≡ (view a).takings + swept.slots
       pub opened : (view d).open_places ≡ (view a).open_places + when (is_full table taken) 1
@@ -70,17 +86,20 @@ module _ {T A : Type 0} (fits : T → Key → List ℕ → Type 0) (table : Rule
 
     -- What a reservation found and evicted, by its answer: what was lacked was freed, and a slot
     -- where the shard was full; no slot was freed in a full shard; or less charge was than was
-    -- lacked.
+    -- lacked. The steps behind its eviction settle or give back exactly what that freed.
     abbrev pub EvictsBy : Result Reservation Refused → (before after : Tally)
         → (a d : SeatOf T) → Type 0
     EvictsBy (Ok Reserved) before after a d =
         (e : EvictsAsAsked before after a d) × (is_full table e.taken ≡ true → 0 < e.swept.slots)
         × (lacked table charge e.used ≤ e.swept.charge)
+        × Grants table (is_strict table) charge e.swept e.c d
     EvictsBy (Ok NoPlace) before after a d =
         (e : EvictsAsAsked before after a d) × (is_full table e.taken ≡ true) × (e.swept.slots ≡ 0)
+        × MakesSome (address_of_ledger table OCCUPANCY) 1 0 e.c d
     EvictsBy (Err TooLarge) before after a d = (after ≡ before) × MakesNone a d
     EvictsBy (Err CapacityFull) before after a d =
         (e : EvictsAsAsked before after a d) × (e.swept.charge < lacked table charge e.used)
+        × GivesAllBack table charge e.swept e.c d
     EvictsBy (Err OccupancyFull) before after a d =
         (e : EvictsAsAsked before after a d) × (is_full table e.taken ≡ true) × (e.swept.slots ≡ 0)
-        × (lacked table charge e.used ≡ 0)
+        × (lacked table charge e.used ≡ 0) × GivesAllBack table charge e.swept e.c d

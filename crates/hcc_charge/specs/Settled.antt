@@ -1,11 +1,16 @@
 -- What is left of a view once amounts and places were given back, and once a standalone entry was
 -- made or let go.
-use Rattle.std.specs.Prelude.{◌≡◌, ℕ, ◌+◌, nat_lt, [], ◌∷◌, ◌++◌, if◌then◌else◌}
+use Rattle.std.specs.Prelude.{◌≡◌, ℕ, ◌+◌, ◌<◌, nat_lt, [], ◌∷◌, ◌++◌, if◌then◌else◌}
 use Rattle.hcc_core.specs.declared.client.Place.{Place}
 use Rattle.hcc_core.specs.declared.client.Place.TheVariants as places
 use Rattle.hcc_core.specs.Ledgers.{is_standing, place_granted}
 use Rattle.hcc_core.specs.Outcomes.{dropped}
+use Rattle.hcc_rule.specs.declared.layout.TheConstants.{OCCUPANCY, USAGE}
+use Rattle.hcc_rule.specs.declared.table.RuleTable.{RuleTable}
 use Rattle.hcc_rule.specs.declared.view.View.{View}
+use Rattle.hcc_rule.specs.Addresses.{address_of_ledger}
+use Rattle.hcc_rule.specs.Seats.{SeatOf, MakesSome}
+use Rattle.hcc_table.specs.Steps.{MakesNone}
 
 -- the place that is left where so many slots were freed
 abbrev pub left_place : (slots : ℕ) → Place → Place
@@ -54,3 +59,14 @@ module _ {T : Type 0} where
   fallen name v = record v {
     work = record v.work { standalones = dropped (is_standing name) v.work.standalones };
   }
+
+module _ {T A : Type 0} (table : RuleTable T A) where
+  -- One step took this much from a ledger word; none did where it is nothing.
+  pub record TakesOff (ledger amount : ℕ) (old new : SeatOf T) : Type 0 where
+    pub none : amount ≡ 0 → MakesNone old new
+    pub some : 0 < amount → MakesSome (address_of_ledger table ledger) amount 0 old new
+
+  -- So many freed slots were taken from the occupancy, and then this charge from the usage.
+  abbrev pub Settles : (slots charge : ℕ) → (old new : SeatOf T) → Type 0
+  Settles slots charge old new =
+      (mid : SeatOf T) × TakesOff OCCUPANCY slots old mid × TakesOff USAGE charge mid new

@@ -9,11 +9,11 @@ ghost use Rattle.hcc_rule.specs.ToldLedgers.{waived};
 ghost use Rattle.hcc_table.specs.Efforts.{Lost};
 ghost use Rattle.hcc_table.specs.Erased.{IsAtRest};
 ghost use Rattle.hcc_charge.specs.declared.reserving.Refused.TheVariants.{TooLarge};
-ghost use Rattle.hcc_charge.specs.Asked.{is_full, Enters, EvictsBy};
+ghost use Rattle.hcc_charge.specs.Asked.{is_full, Enters, EvictsBy, GivesAllBack};
 ghost use Rattle.hcc_charge.specs.Evicted.{asking, most_turns, sweeping, EvictsFor, IsSweptFor, Sweeps};
 ghost use Rattle.hcc_charge.specs.Reserved.{entered, settled_as, sweeping_between, ReservedBy};
 ghost use Rattle.hcc_charge.specs.Swept.{Tallied};
-ghost use Rattle.hcc_table.specs.Steps.{Adds, MakesAtMost};
+ghost use Rattle.hcc_table.specs.Steps.{MakesAtMost};
 
 use crate::asking::{ask, at_least_one, needed};
 use crate::evicting::evict;
@@ -63,8 +63,9 @@ pub enum Refused {
 /// where under strict capacity not all of it was granted at once. So CapacityFull, OccupancyFull
 /// and NoPlace come after an eviction that has ended, and the last two only where it freed nothing.
 ///
-/// The eviction is for just what is asked for, by the words that the first two steps found: before
-/// its last turn less than that was freed, and the last turn frees at most four entries more.
+/// The eviction is for exactly what is asked for, by the words that the first two steps found:
+/// before its last turn less than that was freed, and the last turn frees at most four entries
+/// more. The steps behind it settle or give back exactly what it freed.
 ///
 /// The client has nothing in hand but its references and standalone entries, and the charge isn't
 /// 0. What the eviction did is added to the tally, and compare-exchanges that lost to the effort.
@@ -230,7 +231,7 @@ fn refuse<T: Tag, A: Allocator>(
     requires some { 0 < charge }
     ensures seat { IsSameSeat seat.old seat.new }
     ensures view { view seat.new ≡ settled_as Absent 0 (view seat.old) }
-    ensures adds { Adds seat.old seat.new }
+    ensures gives { GivesAllBack table.now charge swept seat.old seat.new }
     ensures steps { MakesAtMost 2 seat.old seat.new }
 {
     table.quit(seat, 1 + swept.slots);

@@ -3,7 +3,8 @@ ghost use Rattle.std.specs.Prelude.{◌≡◌, ◌<◌, ◌≤◌, true};
 ghost use Rattle.hcc_core.specs.World.{is_placed};
 ghost use Rattle.hcc_rule.specs.Callers.{IsSeatAt};
 ghost use Rattle.hcc_rule.specs.Seats.{IsSameSeat, view};
-ghost use Rattle.hcc_charge.specs.Settled.{paid, placed_anew, settled, without_place, HasFreedNothing};
+ghost use Rattle.hcc_rule.specs.declared.layout.TheConstants.{OCCUPANCY, USAGE};
+ghost use Rattle.hcc_charge.specs.Settled.{paid, placed_anew, settled, without_place, HasFreedNothing, Settles, TakesOff};
 ghost use Rattle.hcc_table.specs.Steps.{Adds, MakesAtMost};
 
 use hcc_rule::{RuleSeat, RuleTable, Tag};
@@ -26,6 +27,7 @@ pub fn settle<T: Tag, A: Allocator>(
     requires covered { (view seat.old).work.needed ≤ charge }
     ensures seat { IsSameSeat seat.old seat.new }
     ensures view { view seat.new ≡ settled (view seat.old) }
+    ensures settles { Settles table.now slots charge seat.old seat.new }
     ensures adds { Adds seat.old seat.new }
     ensures steps { MakesAtMost 2 seat.old seat.new }
 {
@@ -77,6 +79,7 @@ pub(crate) fn give_slots<T: Tag, A: Allocator>(
     requires slots { (view seat.old).work.freed_slots ≡ slots }
     ensures seat { IsSameSeat seat.old seat.new }
     ensures view { view seat.new ≡ placed_anew (view seat.old) }
+    ensures takes { TakesOff table.now OCCUPANCY slots seat.old seat.new }
     ensures adds { Adds seat.old seat.new }
     ensures steps { MakesAtMost 1 seat.old seat.new }
 {
@@ -97,6 +100,7 @@ pub(crate) fn give_charge<T: Tag, A: Allocator>(
     requires covered { (view seat.old).work.needed ≤ charge }
     ensures seat { IsSameSeat seat.old seat.new }
     ensures view { view seat.new ≡ paid (view seat.old) }
+    ensures takes { TakesOff table.now USAGE charge seat.old seat.new }
     ensures adds { Adds seat.old seat.new }
     ensures steps { MakesAtMost 1 seat.old seat.new }
 {

@@ -1,12 +1,13 @@
-use Rattle.std.proofs.Common.{◌≡◌, ◌<◌, true, false, sym, refl, ◌∙◌, arith}
-use Rattle.hcc_rule.specs.Callers.{plan_of}
+use Rattle.std.proofs.Common.{◌≡◌, ◌<◌, true, sym, subst, refl, ◌∙◌, arith}
+use Rattle.hcc_rule.specs.Callers.{plan_of, slots_of}
 use Rattle.hcc_rule.specs.Rule.{setup_of}
-use Rattle.hcc_rule.specs.Seats.{view}
-use Rattle.hcc_table.proofs.Logs.{adds_one, adds_then}
+use Rattle.hcc_rule.specs.Seats.{SeatOf, view}
+use Rattle.hcc_charge.specs.Asked.{EvictsAsAsked, EvictsNothing, Grants}
 use Rattle.hcc_charge.proofs.Answered.{lax_refused, lax_reserved}
-use Rattle.hcc_charge.proofs.Askings.{asked_lax, evicts_as_asked, keeps_by, keeps_then, lacked_lax}
+use Rattle.hcc_charge.proofs.Askings.{asked_lax, between_is, evicts_as_asked, keeps_by, keeps_then, lacked_lax}
+use Rattle.hcc_charge.proofs.reserving.reserve_lax.Given as given
 use Rattle.hcc_charge.proofs.reserving.reserve_lax.Goals as goal
-use Rattle.hcc_charge.proofs.reserving.reserve_lax.Goals.{else-full-via-then-full+else-swept-eq0, else-full-via-else-full}
+use Rattle.hcc_charge.proofs.reserving.reserve_lax.Goals.{After-evict_for-swept, After-give_charge, else-full-via-then-full+else-swept-eq0, else-full-via-else-full}
 
 pub returns-then-swept-eq0-clause-view : goal.returns-then-swept-eq0-clause-view
 returns-then-swept-eq0-clause-view g c =
@@ -20,6 +21,14 @@ returns-then-swept-eq0-clause-view g c =
     (rw (← c.at_least_one-least.ensures.value) told.swept)))
     (view c.quit.new.seat) c.if-full.true c.if-swept-eq0.true c.quit.ensures.view
 
+-- A slot was freed where the shard was full.
+placed : (g : given.Over) (c : After-give_charge g) → c.enter-full.result ≡ true
+    → 0 < c.evict_for-swept.result.slots
+placed g c is = elim c.else-full.branch [
+  | else-full-via-then-full+else-swept-eq0 w ↦ (let some = w.if-swept-eq0.false in omega arith)
+  | else-full-via-else-full w ↦ (let not = w.if-full.false in cc)
+]
+
 pub returns-clause-view : goal.returns-clause-view
 returns-clause-view g c =
     let table = c.args.table.now in
@@ -31,76 +40,69 @@ returns-clause-view g c =
     (rw (← c.capacity.ensures) (rw (← c.ask.ensures.value)
     (rw (← c.at_least_one-least.ensures.value) told.swept)))
     c.charge.result (view c.give_slots.new.seat) (view c.charge.new.seat)
-    (view c.give_charge.new.seat) placed c.give_slots.ensures.view c.charge.ensures.view
+    (view c.give_charge.new.seat) (placed g c) c.give_slots.ensures.view c.charge.ensures.view
     c.give_charge.ensures.view
-  where
-    placed : c.enter-full.result ≡ true → 0 < c.evict_for-swept.result.slots
-    placed is = elim c.else-full.branch [
-      | else-full-via-then-full+else-swept-eq0 w ↦ (let some = w.if-swept-eq0.false in omega arith)
-      | else-full-via-else-full w ↦ (let not = w.if-full.false in cc)
-    ]
+
+-- What was found and evicted, whatever came behind it.
+abbrev evicted : (g : given.Over) (c : After-evict_for-swept g) (d : SeatOf g.row.T.Denot)
+    → EvictsNothing (view c.evict_for-swept.new.seat) (view d)
+    → EvictsAsAsked g.T.Tag.fits c.args.table.now c.args.charge c.args.tally.now
+    c.evict_for-swept.new.tally c.args.seat.now d
+evicted g c =
+    let told = c.evict_for-swept.ensures in
+    let opens = c.enter-full.ensures in
+    evicts_as_asked g.T.Tag.fits c.args.table.now c.args.charge opens.enters.1 c.requires.lax
+    (asked_lax c.usage-used.result c.args.charge c.enter-full.result c.capacity.ensures
+    c.ask.ensures.value c.at_least_one-least.ensures.value)
+    opens.enters.2 opens.view c.usage-used.ensures.step
+    (keeps_by _ _ (view c.enter-full.new.seat) c.usage-used.ensures.view refl refl refl)
+    told.evicts told.swept told.view told.tally
+
+-- What settles takes nothing more.
+idle : (g : given.Over) (c : After-give_charge g)
+    → EvictsNothing (view c.evict_for-swept.new.seat) (view c.give_charge.new.seat)
+idle g c =
+    keeps_then (view c.evict_for-swept.new.seat) (view c.give_slots.new.seat)
+    (view c.give_charge.new.seat)
+    (keeps_by _ (view c.give_slots.new.seat) (view c.evict_for-swept.new.seat)
+    c.give_slots.ensures.view refl refl refl)
+    (keeps_then (view c.give_slots.new.seat) (view c.charge.new.seat) (view c.give_charge.new.seat)
+    (keeps_by _ (view c.charge.new.seat) (view c.give_slots.new.seat) c.charge.ensures.view refl
+    refl refl)
+    (keeps_by _ (view c.give_charge.new.seat) (view c.charge.new.seat) c.give_charge.ensures.view
+    refl refl refl))
 
 pub returns-then-swept-eq0-clause-evicts : goal.returns-then-swept-eq0-clause-evicts
-returns-then-swept-eq0-clause-evicts g c =
-    let table = c.args.table.now in
-    let told = c.evict_for-swept.ensures in
-    let opens = c.enter-full.ensures in
-    let asks = asked_lax table.capacity c.capacity.result c.usage-used.result c.args.charge
-    c.ask.result c.at_least_one-least.result c.enter-full.result c.capacity.ensures
-    c.ask.ensures.value c.at_least_one-least.ensures.value in (
-      evicts_as_asked g.T.Tag.fits table c.args.charge opens.enters.0 c.usage-used.result
-          c.at_least_one-least.result c.enter-full.result false c.evict_for-swept.result
-          c.args.tally.now c.evict_for-swept.new.tally c.args.seat.now
-          c.enter-full.new.seat c.usage-used.new.seat
-          c.evict_for-swept.new.seat c.quit.new.seat opens.enters.1 c.requires.lax
-          asks opens.enters.2 opens.view c.usage-used.ensures.step
-          (keeps_by _ _ (view c.enter-full.new.seat) c.usage-used.ensures.view refl refl refl)
-          told.evicts told.swept told.view
-          (adds_one _ c.evict_for-swept.new.seat c.quit.new.seat c.quit.ensures.step.1.step)
-          (keeps_by _ _ (view c.evict_for-swept.new.seat) c.quit.ensures.view refl refl refl)
-          told.tally,
-      sym opens.enters.1 ∙ c.if-full.true,
-      c.if-swept-eq0.true,
-    )
+returns-then-swept-eq0-clause-evicts g c = (
+  evicted g (goal.at.returns-then-swept-eq0-clause-evicts g c).After-evict_for-swept c.quit.new.seat
+      (keeps_by _ _ (view c.evict_for-swept.new.seat) c.quit.ensures.view refl refl refl),
+  sym c.enter-full.ensures.enters.1 ∙ c.if-full.true,
+  c.if-swept-eq0.true,
+  c.quit.ensures.step,
+)
 
 pub returns-clause-evicts : goal.returns-clause-evicts
-returns-clause-evicts g c =
-    let table = c.args.table.now in
-    let told = c.evict_for-swept.ensures in
-    let opens = c.enter-full.ensures in
-    let asks = asked_lax table.capacity c.capacity.result c.usage-used.result c.args.charge
-    c.ask.result c.at_least_one-least.result c.enter-full.result c.capacity.ensures
-    c.ask.ensures.value c.at_least_one-least.ensures.value in (
-      evicts_as_asked g.T.Tag.fits table c.args.charge opens.enters.0 c.usage-used.result
-          c.at_least_one-least.result c.enter-full.result false c.evict_for-swept.result
-          c.args.tally.now c.evict_for-swept.new.tally c.args.seat.now
-          c.enter-full.new.seat c.usage-used.new.seat
-          c.evict_for-swept.new.seat c.give_charge.new.seat opens.enters.1 c.requires.lax
-          asks opens.enters.2 opens.view c.usage-used.ensures.step
-          (keeps_by _ _ (view c.enter-full.new.seat) c.usage-used.ensures.view refl refl refl)
-          told.evicts told.swept told.view
-          (adds_then c.evict_for-swept.new.seat c.give_slots.new.seat c.give_charge.new.seat
-          c.give_slots.ensures.adds
-          (adds_then c.give_slots.new.seat c.charge.new.seat c.give_charge.new.seat
-          (adds_one _ c.give_slots.new.seat c.charge.new.seat c.charge.ensures.step.step)
-          c.give_charge.ensures.adds))
-          (keeps_then (view c.evict_for-swept.new.seat) (view c.give_slots.new.seat)
-          (view c.give_charge.new.seat)
-          (keeps_by _ (view c.give_slots.new.seat) (view c.evict_for-swept.new.seat)
-          c.give_slots.ensures.view refl refl refl)
-          (keeps_then (view c.give_slots.new.seat) (view c.charge.new.seat)
-          (view c.give_charge.new.seat)
-          (keeps_by _ (view c.charge.new.seat) (view c.give_slots.new.seat)
-          c.charge.ensures.view refl refl refl)
-          (keeps_by _ (view c.give_charge.new.seat) (view c.charge.new.seat)
-          c.give_charge.ensures.view refl refl refl)))
-          told.tally,
-      λ is. placed (opens.enters.1 ∙ is),
-      (let none = lacked_lax table c.args.charge c.usage-used.result c.requires.lax in omega arith),
-    )
-  where
-    placed : c.enter-full.result ≡ true → 0 < c.evict_for-swept.result.slots
-    placed is = elim c.else-full.branch [
-      | else-full-via-then-full+else-swept-eq0 w ↦ (let some = w.if-swept-eq0.false in omega arith)
-      | else-full-via-else-full w ↦ (let not = w.if-full.false in cc)
-    ]
+returns-clause-evicts g c = (
+  evicted g (goal.at.returns-clause-evicts g c).After-evict_for-swept c.give_charge.new.seat
+      (idle g c),
+  λ is. placed g c (c.enter-full.ensures.enters.1 ∙ is),
+  (let none = lacked_lax c.args.table.now c.args.charge c.usage-used.result c.requires.lax in
+      omega arith),
+  subst (λ s. Grants c.args.table.now s c.args.charge c.evict_for-swept.result
+      c.evict_for-swept.new.seat c.give_charge.new.seat) (sym c.requires.lax) (
+        c.give_slots.new.seat,
+        c.charge.new.seat,
+        c.give_slots.ensures.takes,
+        (c.charge.result, c.charge.ensures.step),
+        c.give_charge.ensures.takes,
+      ),
+)
+
+pub returns-clause-steps : goal.returns-clause-steps
+returns-clause-steps g c =
+    let e = evicted g (goal.at.returns-clause-steps g c).After-evict_for-swept
+    c.give_charge.new.seat (idle g c) in
+    rw (between_is (slots_of c.args.table.now) c.evict_for-swept.result.turns
+    c.evict_for-swept.result.slots (view c.args.seat.now) (view c.give_charge.new.seat)
+    e.turns e.takings)
+    (omega arith)

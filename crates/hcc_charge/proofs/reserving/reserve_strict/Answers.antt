@@ -1,13 +1,14 @@
-use Rattle.std.proofs.Common.{◌≡◌, ◌<◌, ◌≤◌, true, sym, refl, ◌∙◌, arith}
+use Rattle.std.proofs.Common.{◌≡◌, ◌<◌, ◌≤◌, true, sym, subst, refl, ◌∙◌, arith}
 use Rattle.hcc_rule.specs.Callers.{plan_of}
 use Rattle.hcc_rule.specs.Rule.{setup_of}
-use Rattle.hcc_rule.specs.Seats.{view}
+use Rattle.hcc_rule.specs.Seats.{SeatOf, view}
 use Rattle.hcc_charge.specs.Reserved.{still_needed}
-use Rattle.hcc_charge.specs.Asked.{lacked}
+use Rattle.hcc_charge.specs.Asked.{lacked, EvictsAsAsked, EvictsNothing, Grants}
 use Rattle.hcc_charge.proofs.Answered.{strict_full, strict_reserved, strict_short}
 use Rattle.hcc_charge.proofs.Askings.{asked_strict, evicts_as_asked, keeps_by, lacked_strict}
+use Rattle.hcc_charge.proofs.reserving.reserve_strict.Given as given
 use Rattle.hcc_charge.proofs.reserving.reserve_strict.Goals as goal
-use Rattle.hcc_charge.proofs.reserving.reserve_strict.Goals.{else-full-via-then-full+else-swept-eq0, else-full-via-else-full}
+use Rattle.hcc_charge.proofs.reserving.reserve_strict.Goals.{After-evict_for-swept, After-settle, else-full-via-then-full+else-swept-eq0, else-full-via-else-full}
 
 pub returns-then-swept-needed-clause-view : goal.returns-then-swept-needed-clause-view
 returns-then-swept-needed-clause-view g c =
@@ -41,6 +42,22 @@ returns-then-swept-eq0-clause-view g c =
         rw (← c.capacity.ensures) (rw (← c.needed-needed.ensures.value)
         (let not = c.if-swept-needed.false in omega arith))
 
+-- A slot was freed where the shard was full,
+placed : (g : given.Over) (c : After-settle g) → c.enter-full.result ≡ true
+    → 0 < c.evict_for-swept.result.slots
+placed g c is = elim c.else-full.branch [
+  | else-full-via-then-full+else-swept-eq0 w ↦ (let some = w.if-swept-eq0.false in omega arith)
+  | else-full-via-else-full w ↦ (let not = w.if-full.false in cc)
+]
+
+-- and what was needed.
+enough : (g : given.Over) (c : After-settle g)
+    → still_needed c.args.table.now.capacity c.charge-used.result c.args.charge
+    ≤ c.evict_for-swept.result.charge
+enough g c =
+    rw (← c.capacity.ensures) (rw (← c.needed-needed.ensures.value)
+    (let not = c.if-swept-needed.false in omega arith))
+
 pub returns-clause-view : goal.returns-clause-view
 returns-clause-view g c =
     let table = c.args.table.now in
@@ -51,64 +68,44 @@ returns-clause-view g c =
     table.planned.1 c.charge-used.ensures.view
     (rw (← c.capacity.ensures) (rw (← c.needed-needed.ensures.value)
     (rw (← c.at_least_one.ensures.value) told.swept)))
-    (view c.settle.new.seat) placed enough c.settle.ensures.view
-  where
-    placed : c.enter-full.result ≡ true → 0 < c.evict_for-swept.result.slots
-    placed is = elim c.else-full.branch [
-      | else-full-via-then-full+else-swept-eq0 w ↦ (let some = w.if-swept-eq0.false in omega arith)
-      | else-full-via-else-full w ↦ (let not = w.if-full.false in cc)
-    ]
+    (view c.settle.new.seat) (placed g c) (enough g c) c.settle.ensures.view
 
-    enough : still_needed c.args.table.now.capacity c.charge-used.result c.args.charge
-        ≤ c.evict_for-swept.result.charge
-    enough =
-        rw (← c.capacity.ensures) (rw (← c.needed-needed.ensures.value)
-        (let not = c.if-swept-needed.false in omega arith))
+-- What was found and evicted, whatever came behind it.
+abbrev evicted : (g : given.Over) (c : After-evict_for-swept g) (d : SeatOf g.row.T.Denot)
+    → EvictsNothing (view c.evict_for-swept.new.seat) (view d)
+    → EvictsAsAsked g.T.Tag.fits c.args.table.now c.args.charge c.args.tally.now
+    c.evict_for-swept.new.tally c.args.seat.now d
+evicted g c =
+    let told = c.evict_for-swept.ensures in
+    let opens = c.enter-full.ensures in
+    evicts_as_asked g.T.Tag.fits c.args.table.now c.args.charge opens.enters.1 c.requires.strict
+    (asked_strict c.charge-used.result c.args.charge c.enter-full.result c.capacity.ensures
+    c.needed-needed.ensures.value c.at_least_one.ensures.value)
+    opens.enters.2 opens.view c.charge-used.ensures.step
+    (keeps_by _ _ (view c.enter-full.new.seat) c.charge-used.ensures.view refl refl refl)
+    told.evicts told.swept told.view told.tally
 
 pub returns-then-swept-needed-clause-evicts : goal.returns-then-swept-needed-clause-evicts
-returns-then-swept-needed-clause-evicts g c =
-    let table = c.args.table.now in
-    let told = c.evict_for-swept.ensures in
-    let opens = c.enter-full.ensures in
-    let asks = asked_strict table.capacity c.capacity.result c.charge-used.result c.args.charge
-    c.needed-needed.result c.at_least_one.result c.enter-full.result c.capacity.ensures
-    c.needed-needed.ensures.value c.at_least_one.ensures.value in (
-      evicts_as_asked g.T.Tag.fits table c.args.charge opens.enters.0 c.charge-used.result
-          c.at_least_one.result c.enter-full.result true c.evict_for-swept.result c.args.tally.now
-          c.evict_for-swept.new.tally c.args.seat.now c.enter-full.new.seat c.charge-used.new.seat
-          c.evict_for-swept.new.seat c.refuse.new.seat opens.enters.1 c.requires.strict
-          asks opens.enters.2 opens.view c.charge-used.ensures.step
-          (keeps_by _ _ (view c.enter-full.new.seat) c.charge-used.ensures.view refl refl refl)
-          told.evicts told.swept told.view c.refuse.ensures.adds
-          (keeps_by _ _ (view c.evict_for-swept.new.seat) c.refuse.ensures.view refl refl refl)
-          told.tally,
-      rw (lacked_strict table c.args.charge c.charge-used.result c.requires.strict)
-          (rw (← c.capacity.ensures) (rw (← c.needed-needed.ensures.value)
-          c.if-swept-needed.true)),
-    )
+returns-then-swept-needed-clause-evicts g c = (
+  evicted g (goal.at.returns-then-swept-needed-clause-evicts g c).After-evict_for-swept
+      c.refuse.new.seat
+      (keeps_by _ _ (view c.evict_for-swept.new.seat) c.refuse.ensures.view refl refl refl),
+  rw (lacked_strict c.args.table.now c.args.charge c.charge-used.result c.requires.strict)
+      (rw (← c.capacity.ensures) (rw (← c.needed-needed.ensures.value) c.if-swept-needed.true)),
+  c.refuse.ensures.gives,
+)
 
 pub returns-then-swept-eq0-clause-evicts : goal.returns-then-swept-eq0-clause-evicts
-returns-then-swept-eq0-clause-evicts g c =
-    let table = c.args.table.now in
-    let told = c.evict_for-swept.ensures in
-    let opens = c.enter-full.ensures in
-    let asks = asked_strict table.capacity c.capacity.result c.charge-used.result c.args.charge
-    c.needed-needed.result c.at_least_one.result c.enter-full.result c.capacity.ensures
-    c.needed-needed.ensures.value c.at_least_one.ensures.value in (
-      evicts_as_asked g.T.Tag.fits table c.args.charge opens.enters.0 c.charge-used.result
-          c.at_least_one.result c.enter-full.result true c.evict_for-swept.result c.args.tally.now
-          c.evict_for-swept.new.tally c.args.seat.now c.enter-full.new.seat c.charge-used.new.seat
-          c.evict_for-swept.new.seat c.refuse-then-swept-eq0.new.seat opens.enters.1
-          c.requires.strict asks opens.enters.2 opens.view c.charge-used.ensures.step
-          (keeps_by _ _ (view c.enter-full.new.seat) c.charge-used.ensures.view refl refl refl)
-          told.evicts told.swept told.view c.refuse-then-swept-eq0.ensures.adds
-          (keeps_by _ _ (view c.evict_for-swept.new.seat) c.refuse-then-swept-eq0.ensures.view refl
-          refl refl)
-          told.tally,
-      sym opens.enters.1 ∙ c.if-full.true,
-      c.if-swept-eq0.true,
-      needless,
-    )
+returns-then-swept-eq0-clause-evicts g c = (
+  evicted g (goal.at.returns-then-swept-eq0-clause-evicts g c).After-evict_for-swept
+      c.refuse-then-swept-eq0.new.seat
+      (keeps_by _ _ (view c.evict_for-swept.new.seat) c.refuse-then-swept-eq0.ensures.view refl
+      refl refl),
+  sym c.enter-full.ensures.enters.1 ∙ c.if-full.true,
+  c.if-swept-eq0.true,
+  needless,
+  c.refuse-then-swept-eq0.ensures.gives,
+)
   where
     needless : lacked c.args.table.now c.args.charge c.charge-used.result ≡ 0
     needless =
@@ -120,34 +117,13 @@ returns-then-swept-eq0-clause-evicts g c =
         omega arith)))
 
 pub returns-clause-evicts : goal.returns-clause-evicts
-returns-clause-evicts g c =
-    let table = c.args.table.now in
-    let told = c.evict_for-swept.ensures in
-    let opens = c.enter-full.ensures in
-    let asks = asked_strict table.capacity c.capacity.result c.charge-used.result c.args.charge
-    c.needed-needed.result c.at_least_one.result c.enter-full.result c.capacity.ensures
-    c.needed-needed.ensures.value c.at_least_one.ensures.value in (
-      evicts_as_asked g.T.Tag.fits table c.args.charge opens.enters.0 c.charge-used.result
-          c.at_least_one.result c.enter-full.result true c.evict_for-swept.result c.args.tally.now
-          c.evict_for-swept.new.tally c.args.seat.now c.enter-full.new.seat c.charge-used.new.seat
-          c.evict_for-swept.new.seat c.settle.new.seat opens.enters.1 c.requires.strict
-          asks opens.enters.2 opens.view c.charge-used.ensures.step
-          (keeps_by _ _ (view c.enter-full.new.seat) c.charge-used.ensures.view refl refl refl)
-          told.evicts told.swept told.view c.settle.ensures.adds
-          (keeps_by _ _ (view c.evict_for-swept.new.seat) c.settle.ensures.view refl refl refl)
-          told.tally,
-      λ is. placed (opens.enters.1 ∙ is),
-      rw (lacked_strict table c.args.charge c.charge-used.result c.requires.strict) enough,
-    )
-  where
-    placed : c.enter-full.result ≡ true → 0 < c.evict_for-swept.result.slots
-    placed is = elim c.else-full.branch [
-      | else-full-via-then-full+else-swept-eq0 w ↦ (let some = w.if-swept-eq0.false in omega arith)
-      | else-full-via-else-full w ↦ (let not = w.if-full.false in cc)
-    ]
-
-    enough : still_needed c.args.table.now.capacity c.charge-used.result c.args.charge
-        ≤ c.evict_for-swept.result.charge
-    enough =
-        rw (← c.capacity.ensures) (rw (← c.needed-needed.ensures.value)
-        (let not = c.if-swept-needed.false in omega arith))
+returns-clause-evicts g c = (
+  evicted g (goal.at.returns-clause-evicts g c).After-evict_for-swept c.settle.new.seat
+      (keeps_by _ _ (view c.evict_for-swept.new.seat) c.settle.ensures.view refl refl refl),
+  λ is. placed g c (c.enter-full.ensures.enters.1 ∙ is),
+  rw (lacked_strict c.args.table.now c.args.charge c.charge-used.result c.requires.strict)
+      (enough g c),
+  subst (λ s. Grants c.args.table.now s c.args.charge c.evict_for-swept.result
+      c.evict_for-swept.new.seat c.settle.new.seat) (sym c.requires.strict)
+      c.settle.ensures.settles,
+)
