@@ -8,8 +8,6 @@ mod line;
 mod play;
 mod report;
 mod tally;
-#[cfg(test)]
-mod tests;
 mod worker;
 
 pub use gate::{Gate, OpenGate};

@@ -21,7 +21,5 @@ mod report;
 pub mod run;
 mod script;
 mod sums;
-#[cfg(test)]
-mod tests;
 mod value;
 mod words;

@@ -3,12 +3,12 @@
 ghost use Rattle.std.specs.Prelude.{◌≡◌, ◌<◌, ◌^◌, IfOk, length, map};
 ghost use Rattle.std.specs.List.{All};
 
-use super::{Gate, OpenGate, play_blocks};
-use crate::fault::PlayError;
-use crate::options::Options;
-use crate::tests::streams::{ALL_SERVED, Calls, End, Sink, Source};
+use crate::streams::{ALL_SERVED, Calls, End, Sink, Source};
 use hcc_block::{BlockSource, FailingSource, MemorySource};
 use hcc_cache::Config;
+use hcc_player::blocks::{Gate, OpenGate, play_blocks};
+use hcc_player::fault::PlayError;
+use hcc_player::options::Options;
 use std::alloc::{AllocError, Global};
 use std::io::ErrorKind;
 use std::sync::atomic::{AtomicU64, Ordering};

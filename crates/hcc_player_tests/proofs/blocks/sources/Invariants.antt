@@ -2,7 +2,7 @@ use Rattle.std.proofs.Common.{◌≡◌, length, map}
 use Rattle.std.specs.List.{All}
 use Rattle.hcc_block.specs.declared.failing.FailingSource.{FailingSource}
 use Rattle.hcc_block.specs.declared.memory.MemorySource.{MemorySource}
-use Rattle.hcc_player.proofs.blocks.tests.sources.Given as goal
+use Rattle.hcc_player_tests.proofs.blocks.sources.Given as goal
 
 abbrev pub invariant-loop : goal.invariant-loop
 invariant-loop l = record {

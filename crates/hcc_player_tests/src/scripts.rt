@@ -1,13 +1,11 @@
 //! Scripts from bytes to bytes: which text each fault names, and what events give.
-use crate::fault::{PlayError, TextFault};
-use crate::play::play_core;
 use hcc_core::setup::Setup;
+use hcc_player::fault::{PlayError, TextFault};
+use hcc_player::play::play_core;
 use std::alloc::Global;
 use std::test::Fail;
 
-pub(crate) mod streams;
-
-const DEFAULTS: Setup = Setup {
+pub(crate) const DEFAULTS: Setup = Setup {
     slots: 2,
     clients: 2,
     capacity: 600,
@@ -15,7 +13,7 @@ const DEFAULTS: Setup = Setup {
 };
 
 /// A worked script in the default world: an entry is shown, held by another client, hidden, freed.
-const FIRST_SCRIPT: &[u8] = b"\
+pub(crate) const FIRST_SCRIPT: &[u8] = b"\
 start 0\n\
 start 1\n\
 enter 0\n\
@@ -33,7 +31,7 @@ slots 0\n\
 settle 0\n";
 
 /// What that script gives.
-const FIRST_OUTPUT: &[u8] = b"\
+pub(crate) const FIRST_OUTPUT: &[u8] = b"\
 ok : E+0/0 E+0/0 | 0 0 0 0\n\
 ok : E+0/0 E+0/0 | 0 0 0 0\n\
 granted : E+0/0 E+0/0 | 0 1 0 0\n\

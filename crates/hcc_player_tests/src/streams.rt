@@ -2,12 +2,12 @@
 //! what a play answers then, and what is out.
 ghost use Rattle.std.specs.Prelude.{◌<◌};
 
-use super::{DEFAULTS, FIRST_OUTPUT, FIRST_SCRIPT};
-use crate::fault::PlayError;
-use crate::options::Options;
-use crate::play::play_core;
-use crate::run::play_run;
+use crate::scripts::{DEFAULTS, FIRST_OUTPUT, FIRST_SCRIPT};
 use hcc_cache::Config;
+use hcc_player::fault::PlayError;
+use hcc_player::options::Options;
+use hcc_player::play::play_core;
+use hcc_player::run::play_run;
 use std::alloc::Global;
 use std::io;
 use std::io::{ErrorKind, Read, Write};
