@@ -31,7 +31,8 @@ returns-clause-misses g c = λ config tag cache clients opened one key found old
     let made = opened.shards _ h.shard h.shard_is in
     let alone : clients_of h.shard.table ≡ 1 =
     ap (λ (x : Geometry). x.clients) made.geometry ∙ one in
-    let few : slots_of h.shard.table ≡ config.slots = ap (λ (x : Geometry). x.slots) made.geometry in
+    let few : slots_of h.shard.table ≡ config.slots =
+    ap (λ (x : Geometry). x.slots) made.geometry in
     let exactly = c.law_found_alone.ensures.misses h.shard.table (key_to cache.seed key) old.used
     h.shard.marks h.did.0 h.was.effort h.is.effort h.was.seat h.is.seat alone h.did.2 in (
       λ none slot near. exactly.0 (h.did.1 ∙ none) slot (subst (λ n. slot < n) (sym few) near),
