@@ -101,7 +101,13 @@ fn write_payload<T: Tag, A: Allocator>(
         table.write_at(seat, slot, first, PAYLOAD + k, whole_word(value, 8 * k));
     }
     if value.len() % 8 > 0 {
-        table.write_at(seat, slot, first, PAYLOAD + whole, word_at(value, 8 * whole));
+        table.write_at(
+            seat,
+            slot,
+            first,
+            PAYLOAD + whole,
+            word_at(value, 8 * whole),
+        );
     }
 }
 
