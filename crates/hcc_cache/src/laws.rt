@@ -2,13 +2,14 @@
 //!
 //! No function here does anything when it runs: its contract is the law. `m.holds.world` is the
 //! lawful world that the shard's words and what its clients know show.
-ghost use Rattle.std.specs.Prelude.{◌≡◌, ℕ, ◌+◌, ◌*◌, ◌/◌, ◌<◌, ◌≤◌, ◌↔◌, true, List, Option, None, Some, IsNone, slice_get};
+ghost use Rattle.std.specs.Prelude.{◌≡◌, ℕ, ◌+◌, ◌*◌, ◌/◌, ◌<◌, ◌≤◌, ◌↔◌, Bool, true, List, Option, None, Some, IsNone, slice_get};
 ghost use Rattle.hcc_core.specs.declared.limits.TheConstants.{OCCUPANCY_PERCENT};
 ghost use Rattle.hcc_core.specs.Lawful.{real_in, taken_in};
 ghost use Rattle.hcc_rule.specs.declared.layout.TheConstants.{OCCUPANCY};
 ghost use Rattle.hcc_rule.specs.declared.key.Key.{Key};
 ghost use Rattle.hcc_rule.specs.declared.view.View.{View};
 ghost use Rattle.hcc_rule.specs.Laws.{StateOf, ledger_word, AreMade, AreOfMade};
+ghost use Rattle.hcc_shard.specs.declared.getting.Got.TheVariants.{Miss};
 ghost use Rattle.hcc_table.specs.Standing.{FindsFirst, FindsLasting, ShowsKey, world_at};
 ghost use Rattle.hcc_cache.specs.declared.cache.Cache.{Cache};
 ghost use Rattle.hcc_cache.specs.declared.client.Client.{Client};
@@ -18,6 +19,7 @@ ghost use Rattle.hcc_cache.specs.declared.seeded.Seeded.{Seeded};
 ghost use Rattle.hcc_cache.specs.Calls.{Gains, SearchesFor};
 ghost use Rattle.hcc_cache.specs.Clients.{Held, Holds};
 ghost use Rattle.hcc_cache.specs.Configs.{shard_capacity};
+ghost use Rattle.hcc_cache.specs.Gets.{GetsAt};
 ghost use Rattle.hcc_cache.specs.Keys.{fits_seeded};
 ghost use Rattle.hcc_cache.specs.Known.{Knows};
 ghost use Rattle.hcc_cache.specs.Moments.{IsMoment, IsQuietMiss, ShowsKeyIn, plan_in};
@@ -93,9 +95,14 @@ pub fn law_lookups<T: Tag>()
         (h : SearchesFor cache T.fits key found old new)
         → FindsLasting h.shard.table (key_to cache.seed key) h.did.0 h.was.seat h.is.seat }
 
-    // In a cache of one client it misses where the world that the client knows of the shard when
-    // the call begins shows the key in no slot, else it finds the slot of the earliest probe that
-    // shows it.
+    // So it is of a read by a key that misses.
+    ensures gets { (cache : Cache T) (key : Key) (useful : Bool) (before after : List ℕ)
+        (old new : Client T) (h : GetsAt cache T.fits key useful Miss before after old new)
+        → FindsLasting h.shard.table (key_to cache.seed key) None h.was.seat h.is.seat }
+
+    // In a cache of one client a look-up misses where the world that the client knows of the shard
+    // when the call begins shows the key in no slot, else it finds the slot of the earliest probe
+    // that shows it.
     ensures first { (config : Config) (tag : T) (cache : Cache T) (clients : List (Client T))
         → IsOpened config tag cache clients → config.clients ≡ 1
         → (key : Key) (found : Option Handle) (old new : Client T)

@@ -3,7 +3,7 @@
 //! No function here does anything when it runs: its contract is the law. `h.world` is the lawful
 //! world that the words and the views of a state show. A state is meant without the seats' logs
 //! (`unlogged`), except what its words are before the first step (`HoldsLogged`).
-ghost use Rattle.std.specs.Prelude.{◌≡◌, ◌≢◌, ℕ, ◌+◌, ◌/◌, ◌^◌, ◌<◌, ◌≤◌, true, false, List, [], Some, Ok, slice_get, slice_index};
+ghost use Rattle.std.specs.Prelude.{◌≡◌, ◌≢◌, ℕ, ◌+◌, ◌/◌, ◌^◌, ◌<◌, ◌≤◌, true, false, List, [], ◌++◌, Some, Ok, slice_get, slice_index};
 ghost use Rattle.atomic_table.specs.Table.{opening};
 ghost use Rattle.hcc_word.specs.declared.layout.TheConstants.{VISIBLE};
 ghost use Rattle.hcc_word.specs.Word.{word_of};
@@ -14,7 +14,7 @@ ghost use Rattle.hcc_core.specs.declared.event.Reply.TheVariants as replies;
 ghost use Rattle.hcc_core.specs.declared.limits.TheConstants.{SLOTS_PER_TURN};
 ghost use Rattle.hcc_core.specs.Lawful.{Lawful, real_in, taken_in};
 ghost use Rattle.hcc_core.specs.Opening.{opening_of};
-ghost use Rattle.hcc_core.specs.Runs.{CountersFit, FindsOne, KeepsPlaces, after_all};
+ghost use Rattle.hcc_core.specs.Runs.{CountersFit, FindsOne, KeepsPlaces, StandsThrough, after_all};
 ghost use Rattle.hcc_core.specs.Steps.{outcome_of};
 ghost use Rattle.hcc_core.specs.Sums.{total};
 ghost use Rattle.hcc_core.specs.World.{limit_of, occupancy_of, passed_by, standing_in, times};
@@ -22,9 +22,11 @@ ghost use Rattle.hcc_rule.specs.declared.image.ImageEntry.{ImageEntry};
 ghost use Rattle.hcc_rule.specs.declared.key.Key.{Key};
 ghost use Rattle.hcc_rule.specs.declared.layout.TheConstants.{META, USAGE, OCCUPANCY, STANDING, HAND};
 ghost use Rattle.hcc_rule.specs.declared.rule.Plan.{Plan};
+ghost use Rattle.hcc_rule.specs.declared.view.Done.{Done};
 ghost use Rattle.hcc_rule.specs.declared.view.Logged.{Logged};
+ghost use Rattle.hcc_rule.specs.declared.view.Record.{Record};
 ghost use Rattle.hcc_rule.specs.declared.view.View.{View};
-ghost use Rattle.hcc_rule.specs.Acts.{IsAllowed, IsFront, IsKnown, IsRun, KeepsTrails, events_of};
+ghost use Rattle.hcc_rule.specs.Acts.{IsAllowed, IsFront, IsKnown, IsRun, KeepsTrails, RecordsStand, events_of, world_of};
 ghost use Rattle.hcc_rule.specs.Closing.{key_at};
 ghost use Rattle.hcc_rule.specs.Images.{entries_in};
 ghost use Rattle.hcc_rule.specs.ImageLimits.{AreRising, IsImageFor};
@@ -32,6 +34,7 @@ ghost use Rattle.hcc_rule.specs.Laws.{LoggedStateOf, StateOf, due_in, ledger_wor
 ghost use Rattle.hcc_rule.specs.Logs.{HasBegun, HoldsLogged, first_logged, moves_in};
 ghost use Rattle.hcc_rule.specs.Opening.{begun_world};
 ghost use Rattle.hcc_rule.specs.Probes.{probe_slot};
+ghost use Rattle.hcc_rule.specs.Records.{record_in};
 ghost use Rattle.hcc_rule.specs.Rule.{hand_after, setup_of, Holds};
 ghost use Rattle.hcc_rule.specs.Runs.{AreShown};
 ghost use Rattle.hcc_rule.specs.Seats.{IsPlanned};
@@ -209,6 +212,18 @@ pub fn law_run<T: Tag>()
     // A reference that stands in two worlds and in all between them has one slot and one entry.
     ensures places { (p : Plan T) (before events : List Event)
         → KeepsPlaces (after_all (begun_world p) before) events }
+
+    // So a record that a client has at two moments, of which the later one's history goes on from
+    // the first one's, and whose reference stood in all worlds between, kept its slot and its
+    // entry, with key and value, whatever steps anybody made. Each step function says of its seat
+    // that its records stand (`event`).
+    ensures kept { (p : Plan T) (old new : Logged T) (since : List Done)
+        → RecordsStand p old → RecordsStand p new → new.past ≡ old.past ++ since
+        → new.known.client ≡ old.known.client → (name : ℕ) (r q : Record)
+        → record_in name old.known.records ≡ Some r
+        → record_in name new.known.records ≡ Some q
+        → StandsThrough (world_of p old.past) (events_of since) old.known.client name
+        → (q.slot ≡ r.slot) × (q.entry ≡ r.entry) }
 
     // A client has one reference of a name at most, and steps find its slot by the name.
     ensures found { (p : Plan T) (events : List Event)

@@ -1,17 +1,34 @@
 -- What a seat does while it searches: step by step, and with what other clients do meanwhile.
-use Rattle.std.proofs.Common.{◌≡◌, ℕ, true, List, [], ◌∷◌, ◌++◌, Option, Some, None, subst, refl}
+use Rattle.std.proofs.Common.{◌≡◌, ℕ, true, List, [], ◌∷◌, ◌++◌, Option, Some, None, refl, sym, subst, ap, ◌∙◌}
 use Rattle.std.specs.Prelude.{IfSome, IsSomeAnd}
+use Rattle.std.proofs.lemmas.List.{append_assoc, append-nil}
 use Rattle.hcc_rule.specs.declared.table.RuleTable.{RuleTable}
 use Rattle.hcc_rule.specs.declared.view.Done.{Done}
 use Rattle.hcc_rule.specs.declared.view.Record.{Record}
+use Rattle.hcc_rule.specs.Acts.{past}
 use Rattle.hcc_rule.specs.Callers.{IsEvent}
 use Rattle.hcc_rule.specs.Events.{read_done}
 use Rattle.hcc_rule.specs.Records.{record_in}
 use Rattle.hcc_rule.specs.Seats.{SeatOf, view}
 use Rattle.hcc_rule.proofs.Basics.Lists.{each_append}
-use Rattle.hcc_table.specs.Seeking.{Does, Seeks, is_seeking}
+use Rattle.hcc_table.specs.Seeking.{Does, GoesOn, Seeks, is_seeking}
+
+module _ {T : Type 0} where
+  -- nothing more is known
+  pub goes_none : (a b : SeatOf T) → past b ≡ past a → GoesOn a b
+  goes_none a b same = ([], same ∙ sym (append-nil (past a)))
+
+  pub goes_then : (a b c : SeatOf T) → GoesOn a b → GoesOn b c → GoesOn a c
+  goes_then a b c h g = (
+    h.0 ++ g.0,
+    g.1 ∙ ap (λ xs. xs ++ g.0) h.1 ∙ append_assoc (past a) h.0 g.0,
+  )
 
 module _ {T A : Type 0} (table : RuleTable T A) where
+  -- what a seat's own event adds
+  pub goes_event : (done : Done) (a b : SeatOf T) → IsEvent table done a b → GoesOn a b
+  goes_event done a b event = (event.0.others ++ done ∷ [], event.0.past)
+
   -- nothing was done
   pub seeks_none : (a : SeatOf T) → Seeks table a a
   seeks_none a = record { own = []; does = refl; only = tt }

@@ -1,12 +1,16 @@
 -- The trail of a taken entry, taken back from its first probe on.
-use Rattle.std.proofs.Common.{◌≡◌, ℕ, suc, ◌+◌, ◌-◌, ◌%◌, ◌^◌, ◌<◌, ◌≤◌, ◌≢◌, ◌==◌, ◌||◌, cond, true, List, [], ◌∷◌, map, sym, refl, ap, ◌∙◌, bit_and, bit_or, arith, ne_eqb, Option, slice_index}
+use Rattle.std.proofs.Common.{◌≡◌, ℕ, suc, ◌+◌, ◌-◌, ◌%◌, ◌^◌, ◌<◌, ◌≤◌, ◌≢◌, ◌==◌, ◌||◌, cond, true, Some, None, List, [], ◌∷◌, map, sym, subst, refl, ap, ◌∙◌, bit_and, bit_or, arith, ne_eqb, Option, slice_index}
 use Rattle.std.specs.List.{list_any, range_with_len}
+use Rattle.std.specs.Prelude.{if◌then◌else◌}
 use Rattle.std.proofs.lemmas.Bool.{eq-eqb, eqb-true}
 use Rattle.hcc_core.specs.declared.limits.TheConstants.{MOST_SLOTS}
 use Rattle.hcc_core.specs.Outcomes.{dropped}
 use Rattle.hcc_core.specs.Trails.{is_slot}
 use Rattle.hcc_rule.specs.declared.key.Key.{Key}
+use Rattle.hcc_rule.specs.declared.table.RuleTable.{RuleTable}
 use Rattle.hcc_rule.specs.declared.view.View.{View}
+use Rattle.hcc_rule.specs.Callers.{IsEvent}
+use Rattle.hcc_rule.specs.Events.{free_done, look_done}
 use Rattle.hcc_rule.specs.Probes.{probe_slot, trail_to, before}
 use Rattle.hcc_rule.specs.Seats.{SeatOf, IsSameSeat, view}
 use Rattle.hcc_rule.specs.ToldTrails.{after_unpass}
@@ -16,7 +20,8 @@ use Rattle.hcc_table.proofs.Finds.{IsAt, seat_then}
 use Rattle.hcc_rule.specs.declared.layout.TheConstants.{CHARGE}
 use Rattle.hcc_rule.specs.Looked.{found_dead}
 use Rattle.hcc_rule.specs.ToldOwners.{Freed, after_free, records_left}
-use Rattle.hcc_table.specs.Freed.{IsFreed, TakenAt, emptied}
+use Rattle.hcc_table.specs.Freed.{IsFreed, TakenAt, TakesBy, emptied, free_event}
+use Rattle.hcc_table.specs.Seeking.{GoesOn}
 use Rattle.hcc_table.proofs.Searches.{grows_joined}
 
 -- the probes from this one on, up to the slot
@@ -185,3 +190,50 @@ module _ {T : Type 0} where
     ap (λ (z : View T). z.records) t.is,
     ap (λ (z : View T). z.work.looked) t.is,
   )
+
+-- The one try to take an entry, as an event.
+module _ {T A : Type 0} (table : RuleTable T A) (slot word : ℕ) (name : Option ℕ)
+    (a b : SeatOf T) where
+  -- It lost: a look that found another word.
+  pub lost_by : (found charge : ℕ) → found ≢ word
+      → IsEvent table (free_done slot name word found charge (view a)) a b
+      → TakesBy table slot word name None a b
+  lost_by found charge other event = record {
+    lost = (found, other, subst (λ done. IsEvent table done a b) same event);
+    won = tt;
+  }
+    where
+      same : free_done slot name word found charge (view a) ≡ look_done slot found (view a)
+      same = ap (λ t. if t then free_event slot name charge (view a)
+          else look_done slot found (view a)) (ne_eqb found word other)
+
+  -- It won: the entry was taken, with its charge.
+  pub taken_by : (fits : T → Key → List ℕ → Type 0) (slots room found charge : ℕ) (c : SeatOf T)
+      → found ≡ word → Freed fits slots room slot word found name (view a) (view b)
+      → charge ≡ slice_index (view b).written CHARGE
+      → IsEvent table (free_done slot name word found
+      ((view b).work.freed - (view a).work.freed) (view a)) a b
+      → GoesOn b c → TakesBy table slot word name (Some charge) a c
+  taken_by fits slots room found charge c is told charged event more = record {
+    lost = tt;
+    won = (b, subst (λ done. IsEvent table done a b) same event, more);
+  }
+    where
+      won : (found == word) ≡ true
+      won = eq-eqb found word is
+
+      amount : (view b).work.freed - (view a).work.freed ≡ charge
+      amount =
+          let got = told.won won in
+          let freed : (view b).work.freed ≡ (view a).work.freed + got.1.charge =
+          ap (λ (z : View T). z.work.freed) got.3 in
+          let paid : charge ≡ got.1.charge =
+          charged ∙ ap (λ (z : View T). slice_index z.written CHARGE) got.3 in
+          omega arith
+
+      same : free_done slot name word found ((view b).work.freed - (view a).work.freed) (view a)
+          ≡ free_event slot name charge (view a)
+      same = ap (λ t. if t then free_event slot name
+          ((view b).work.freed - (view a).work.freed) (view a)
+          else look_done slot found (view a)) won
+          ∙ ap (λ n. free_event slot name n (view a)) amount

@@ -3,14 +3,20 @@ use Rattle.std.specs.Prelude.{◌≡◌, ℕ, ◌+◌, ◌-◌, ◌*◌, ◌%◌
 use Rattle.hcc_word.specs.declared.layout.TheConstants.{ONE_RELEASE}
 use Rattle.hcc_word.specs.Word.{is_shareable, is_visible, refs_of}
 use Rattle.hcc_core.specs.declared.client.Owned.TheVariants as owned
+use Rattle.hcc_core.specs.declared.event.Event.TheVariants as events
+use Rattle.hcc_core.specs.declared.event.Reply.TheVariants as replies
 use Rattle.hcc_core.specs.declared.slot.Stamp.{Stamp}
 use Rattle.hcc_core.specs.Sums.{when}
 use Rattle.hcc_rule.specs.declared.key.Key.{Key}
 use Rattle.hcc_rule.specs.declared.layout.TheConstants.{KEY0, KEY1, PAYLOAD}
 use Rattle.hcc_rule.specs.declared.table.RuleTable.{RuleTable}
+use Rattle.hcc_rule.specs.declared.view.Done.{Done}
 use Rattle.hcc_rule.specs.declared.view.Made.{Made}
 use Rattle.hcc_rule.specs.declared.view.View.{View}
+use Rattle.hcc_rule.specs.Acts.{did}
 use Rattle.hcc_rule.specs.Addresses.{address_of_meta}
+use Rattle.hcc_rule.specs.Callers.{IsEvent}
+use Rattle.hcc_rule.specs.Events.{give_done, look_done, spend_done}
 use Rattle.hcc_rule.specs.Probes.{trail_to}
 use Rattle.hcc_rule.specs.Seats.{SeatOf, Makes, view}
 use Rattle.hcc_rule.specs.ToldOwners.{IsTaken, after_free, is_warm}
@@ -19,6 +25,7 @@ use Rattle.hcc_table.specs.declared.efforts.Effort.{Effort}
 use Rattle.hcc_table.specs.declared.pins.Pin.{Pin}
 use Rattle.hcc_table.specs.Efforts.{Lost}
 use Rattle.hcc_table.specs.Searched.{Grows}
+use Rattle.hcc_table.specs.Seeking.{GoesOn}
 use Rattle.hcc_table.specs.Steps.{MakesNone, TriesToTake, amount_of}
 
 -- what a release of so many references, as uses or not, leaves of a word
@@ -93,12 +100,29 @@ module _ {T : Type 0} where
     pub is : left ≡ left_of used weight found
     pub view : view new ≡ after_give slot name found (view old)
 
+  -- what the step is that takes the entry of a slot, of this charge
+  abbrev pub free_event : (slot : ℕ) → Option ℕ → (charge : ℕ) → View T → Done
+  free_event slot name charge v = did (events.Free v.client slot name) (replies.Freed charge)
+
+  -- what a release of references is that finds this word
+  abbrev pub release_done : (used : Bool) → (weight name word : ℕ) → View T → Done
+  release_done used weight name word v =
+      if used then spend_done weight name word v else give_done weight name word v
+
+  -- The same release, by its event.
+  abbrev pub IsLeftBy : {A : Type 0} → RuleTable T A → (weight name : ℕ) → (used : Bool)
+      → (left : ℕ) → (old new : SeatOf T) → Type 0
+  IsLeftBy table weight name used left old new =
+      (found : ℕ) × (left ≡ left_of used weight found)
+      × IsEvent table (release_done used weight name found (view old)) old new
+
   -- The reference of a pin was given back by one step, as a use where it is useful and counts.
   abbrev pub GivesOnce : {A : Type 0} → RuleTable T A → Pin → (useful : Bool)
       → (old new : SeatOf T) → Type 0
   GivesOnce table pin useful old new =
       (left : ℕ) × IsLeft (address_of_meta table pin.slot) pin.slot 1 pin.name
       (useful && pin.counting) left old new
+      × IsLeftBy table 1 pin.name (useful && pin.counting) left old new
 
   -- To take the entry of the word that was left was tried where it was due: it was freed, or one
   -- exchange more lost. Where it wasn't due no step was made.
@@ -109,3 +133,19 @@ module _ {T : Type 0} where
     pub same : due ≡ false → after ≡ before
     pub tried : due ≡ true → TriesToTake address left freed old new
     pub passed : due ≡ false → MakesNone old new
+
+  -- The same try, by its event: where it lost, a look that found another word; where it won, that
+  -- the entry was taken, and its charge, behind which came what frees the slot.
+  pub record TakesBy {A : Type 0} (table : RuleTable T A) (slot word : ℕ) (name : Option ℕ)
+      (freed : Option ℕ) (old new : SeatOf T) : Type 0 where
+    pub lost : IfNone freed ((found : ℕ) × ¬ (found ≡ word)
+        × IsEvent table (look_done slot found (view old)) old new)
+    pub won : IfSome freed (λ charge. (mid : SeatOf T)
+        × IsEvent table (free_event slot name charge (view old)) old mid × GoesOn mid new)
+
+  -- the same, where it was due
+  abbrev pub TakesByWhereDue : {A : Type 0} → RuleTable T A → (slot word : ℕ) → Option ℕ
+      → (due : Bool) → (freed : Option ℕ) → (old new : SeatOf T) → Type 0
+  TakesByWhereDue table slot word name due freed old new =
+      (due ≡ true → TakesBy table slot word name freed old new)
+      × (due ≡ false → new ≡ old)

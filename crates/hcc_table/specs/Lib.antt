@@ -2,13 +2,13 @@ pub mod Efforts
 pub mod Rises
 pub mod Pins
 pub mod Searched
+pub mod Seeking
 pub mod Freed
 pub mod Visited
 pub mod Erased
 pub mod Readings
 pub mod Inserted
 pub mod Steps
-pub mod Seeking
 pub mod Probed
 pub mod Quiet
 pub mod Standing

@@ -1,9 +1,10 @@
 -- What a seat does while it searches, as events of the protocol's machine.
-use Rattle.std.specs.Prelude.{◌≡◌, ◌⊎◌, ℕ, Bool, true, false, List, [], ◌∷◌}
+use Rattle.std.specs.Prelude.{◌≡◌, ◌⊎◌, ℕ, Bool, true, false, List, [], ◌∷◌, ◌++◌}
 use Rattle.hcc_core.specs.declared.event.Event.{Event}
 use Rattle.hcc_core.specs.declared.event.Event.TheVariants as events
 use Rattle.hcc_rule.specs.declared.table.RuleTable.{RuleTable}
 use Rattle.hcc_rule.specs.declared.view.Done.{Done}
+use Rattle.hcc_rule.specs.Acts.{past}
 use Rattle.hcc_rule.specs.Callers.{IsEvent}
 use Rattle.hcc_rule.specs.Events.{acquire_done, correct_done}
 use Rattle.hcc_rule.specs.Seats.{SeatOf, view}
@@ -20,6 +21,11 @@ is_seeking (events.Count client slot) = true
 is_seeking (events.Mark client name) = true
 is_seeking (events.Correct client name) = true
 is_seeking other = false
+
+module _ {T : Type 0} where
+  -- what the seat knows goes on
+  abbrev pub GoesOn : (old new : SeatOf T) → Type 0
+  GoesOn old new = (more : List Done) × (past new ≡ past old ++ more)
 
 module _ {T A : Type 0} (table : RuleTable T A) where
   -- The seat did these, one after the other, and nothing else.

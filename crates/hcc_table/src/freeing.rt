@@ -9,8 +9,9 @@ ghost use Rattle.hcc_rule.specs.Probes.{trail_to};
 ghost use Rattle.hcc_rule.specs.Seats.{IsSameSeat, view};
 ghost use Rattle.hcc_rule.specs.ToldOwners.{IsLast, records_left};
 ghost use Rattle.hcc_table.specs.Efforts.{Lost};
-ghost use Rattle.hcc_table.specs.Freed.{HasTaken, IsFreed, TakenAt, emptied};
+ghost use Rattle.hcc_table.specs.Freed.{HasTaken, IsFreed, TakenAt, TakesBy, emptied};
 ghost use Rattle.hcc_table.specs.Searched.{Sought};
+ghost use Rattle.hcc_table.specs.Seeking.{GoesOn};
 ghost use Rattle.hcc_table.specs.Steps.{Adds, MakesAtMost, TriesToTake, freeing};
 
 use crate::efforts::Effort;
@@ -36,6 +37,7 @@ pub fn free_taken<T: Tag, A: Allocator>(
     ensures seat { IsSameSeat seat.old seat.new }
     ensures charge { result ≡ slice_index (view seat.old).written CHARGE }
     ensures view { view seat.new ≡ emptied (view seat.old) }
+    ensures past { GoesOn seat.old seat.new }
     ensures adds { Adds seat.old seat.new }
     ensures steps { MakesAtMost (slots_of table.now + 4) seat.old seat.new }
 {
@@ -61,6 +63,7 @@ pub(crate) fn take_back<T: Tag, A: Allocator>(
     ensures seat { IsSameSeat seat.old seat.new }
     ensures view { view seat.new
         ≡ record (view seat.old) { work = record (view seat.old).work { trail = [] } } }
+    ensures past { GoesOn seat.old seat.new }
     ensures adds { Adds seat.old seat.new }
     ensures steps { MakesAtMost (slots_of table.now) seat.old seat.new }
 {
@@ -102,6 +105,7 @@ pub(crate) fn try_free<T: Tag, A: Allocator>(
         × ((view seat.new).records ≡ records_left name (view seat.old).records)
         × ((view seat.new).work.looked ≡ (view seat.old).work.looked)) }
     ensures tried { TriesToTake (address_of_meta table.now slot) word result seat.old seat.new }
+    ensures by { TakesBy table.now slot word name result seat.old seat.new }
     ensures steps { MakesAtMost (freeing (slots_of table.now)) seat.old seat.new }
 {
     if table.free(seat, slot, word, name) != word {

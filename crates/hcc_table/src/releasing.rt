@@ -10,7 +10,7 @@ ghost use Rattle.hcc_rule.specs.Seats.{IsSameSeat, view, SeatOf, atomic};
 ghost use Rattle.hcc_rule.specs.Views.{is_called};
 ghost use Rattle.hcc_rule.specs.Records.{record_in};
 ghost use Rattle.hcc_table.specs.Efforts.{Lost};
-ghost use Rattle.hcc_table.specs.Freed.{GivesOnce, IsFreed, IsLeft, TriedWhereDue, is_due};
+ghost use Rattle.hcc_table.specs.Freed.{GivesOnce, IsFreed, IsLeft, IsLeftBy, TakesByWhereDue, TriedWhereDue, is_due};
 ghost use Rattle.hcc_table.specs.Pins.{IsPinned, erases, is_useful};
 ghost use Rattle.hcc_table.specs.Searched.{Searched};
 ghost use Rattle.hcc_table.specs.Steps.{Among, MakesAtMost, freeing};
@@ -62,7 +62,10 @@ pub fn release<T: Tag, A: Allocator>(
         × IsLeft (address_of_meta table.now pin.slot) pin.slot 1 pin.name
         (is_useful usage && pin.counting) left seat.old between
         × TriedWhereDue (address_of_meta table.now pin.slot) left (is_due (erases last) left) result
-        effort.old effort.new between seat.new }
+        effort.old effort.new between seat.new
+        × IsLeftBy table.now 1 pin.name (is_useful usage && pin.counting) left seat.old between
+        × TakesByWhereDue table.now pin.slot left None (is_due (erases last) left) result
+        between seat.new }
     ensures steps { MakesAtMost (freeing (slots_of table.now) + 1) seat.old seat.new }
 {
     let used = usage.is_use(pin.counting);
@@ -114,6 +117,7 @@ pub(crate) fn let_go<T: Tag, A: Allocator>(
     ensures seat { IsSameSeat seat.old seat.new }
     ensures left { IsLeft (address_of_meta table.now slot) slot weight name used result
         seat.old seat.new }
+    ensures by { IsLeftBy table.now weight name used result seat.old seat.new }
     ensures steps { MakesAtMost 1 seat.old seat.new }
 {
     if used {

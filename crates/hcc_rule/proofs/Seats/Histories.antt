@@ -55,6 +55,13 @@ run_is (done ∷ rest) world last is =
     let next : is.0 ≡ after world done.event = sym (ap (world_after world) is.1) in
     run_is rest is.0 last is.2 ∙ ap (λ w. after_all w (events_of rest)) next
 
+-- the world after a history and more
+pub after_more : (history more : List Done) (world : State)
+    → after_all world (events_of (history ++ more))
+    ≡ after_all (after_all world (events_of history)) (events_of more)
+after_more [] more world = refl
+after_more (done ∷ history) more world = after_more history more (after world done.event)
+
 -- Two fronts of one history.
 
 -- a front of a list with one member more is all of it, or a front of the list

@@ -4,6 +4,7 @@ use Rattle.hcc_rule.specs.declared.geometry.Geometry.{Geometry}
 use Rattle.hcc_rule.specs.declared.key.Key.{Key}
 use Rattle.hcc_rule.specs.Callers.{clients_of, slots_of}
 use Rattle.hcc_table.specs.Standing.{ShowsKey, world_at}
+use Rattle.hcc_shard.specs.declared.erasing.TheConstants.{IN_FLIGHT}
 use Rattle.hcc_cache.specs.declared.cache.Cache.{Cache}
 use Rattle.hcc_cache.specs.declared.client.Client.{Client}
 use Rattle.hcc_cache.specs.declared.config.Config.{Config}
@@ -16,6 +17,11 @@ use Rattle.hcc_cache.proofs.laws.law_lookups.Goals as goal
 pub returns-clause-lasting : goal.returns-clause-lasting
 returns-clause-lasting g c = λ cache key found old new h.
     c.law_lasting.ensures h.shard.table (key_to cache.seed key) old.used h.shard.marks h.did.0
+    h.was.effort h.is.effort h.was.seat h.is.seat h.did.2
+
+pub returns-clause-gets : goal.returns-clause-gets
+returns-clause-gets g c = λ cache key useful before after old new h.
+    c.law_lasting.ensures h.shard.table (key_to cache.seed key) IN_FLIGHT h.shard.marks None
     h.was.effort h.is.effort h.was.seat h.is.seat h.did.2
 
 pub returns-clause-first : goal.returns-clause-first

@@ -7,6 +7,7 @@ use Rattle.hcc_table.specs.Pins.{erases}
 use Rattle.hcc_table.proofs.Gives.{tried_due, not_due, freed_where_due}
 use Rattle.hcc_table.proofs.Logs.{adds_one}
 use Rattle.hcc_table.proofs.Probes.{given_at}
+use Rattle.hcc_table.proofs.Probings.{neither}
 use Rattle.hcc_table.proofs.releasing.release.Goals as goal
 
 pub returns-then-is_free_to_go-clause-tried : goal.returns-then-is_free_to_go-clause-tried
@@ -19,6 +20,11 @@ returns-then-is_free_to_go-clause-tried g c =
           (is_due (erases c.args.last) c.let_go-left.result) c.args.effort.now c.try_free.new.effort
           c.let_go-left.new.seat c.try_free.new.seat _ _ c.try_free.result due
           c.try_free.ensures.won c.try_free.ensures.lost c.try_free.ensures.tried,
+      rw (← c.is_use-used.ensures) c.let_go-left.ensures.by,
+      (
+        (λ _. c.try_free.ensures.by),
+        (λ off. neither (is_due (erases c.args.last) c.let_go-left.result) due off),
+      ),
     )
 
 pub returns-else-is_free_to_go-clause-tried : goal.returns-else-is_free_to_go-clause-tried
@@ -30,6 +36,11 @@ returns-else-is_free_to_go-clause-tried g c =
       not_due (address_of_meta c.args.table.now c.args.pin.slot) c.let_go-left.result
           (is_due (erases c.args.last) c.let_go-left.result) c.args.effort.now c.args.effort.now
           c.let_go-left.new.seat c.let_go-left.new.seat due refl refl,
+      rw (← c.is_use-used.ensures) c.let_go-left.ensures.by,
+      (
+        (λ on. neither (is_due (erases c.args.last) c.let_go-left.result) on due),
+        (λ _. refl),
+      ),
     )
 
 pub returns-then-is_free_to_go-clause-freed : goal.returns-then-is_free_to_go-clause-freed
