@@ -9,7 +9,7 @@ use Rattle.hcc_core.specs.declared.event.Reply.TheVariants as replies
 use Rattle.hcc_core.specs.declared.slot.Entry.{Entry}
 use Rattle.hcc_core.specs.declared.slot.Slot.{Slot}
 use Rattle.hcc_core.specs.declared.slot.Slot.TheVariants as slots
-use Rattle.hcc_core.specs.Runs.{after, after_all, entry_held, held_at}
+use Rattle.hcc_core.specs.Runs.{entry_held, held_at}
 use Rattle.hcc_core.specs.World.{State, has_reference}
 use Rattle.hcc_rule.specs.declared.geometry.Geometry.{Geometry}
 use Rattle.hcc_rule.specs.declared.key.Key.{Key}
@@ -17,7 +17,7 @@ use Rattle.hcc_rule.specs.declared.table.RuleTable.{RuleTable}
 use Rattle.hcc_rule.specs.declared.view.Done.{Done}
 use Rattle.hcc_rule.specs.declared.view.Record.{Record}
 use Rattle.hcc_rule.specs.declared.view.View.{View}
-use Rattle.hcc_rule.specs.Acts.{IsRun, Leads, did, events_of, past, world_of}
+use Rattle.hcc_rule.specs.Acts.{IsRun, Leads, did, past, world_of}
 use Rattle.hcc_rule.specs.Callers.{IsEvent, clients_of, plan_of, slots_of}
 use Rattle.hcc_rule.specs.Events.{acquire_done, correct_done, count_done, look_done, mark_done}
 use Rattle.hcc_rule.specs.Opening.{begun_world}
@@ -27,7 +27,7 @@ use Rattle.hcc_rule.specs.Rule.{AreTrailed}
 use Rattle.hcc_rule.specs.Seats.{SeatOf, view}
 use Rattle.hcc_rule.specs.Words.{key_of}
 use Rattle.hcc_rule.proofs.Probes.ProbeLaws.{probe_inside, probe_of_slot, some_slots}
-use Rattle.hcc_rule.proofs.Seats.Histories.{run_is}
+use Rattle.hcc_rule.proofs.Seats.Histories.{after_more, run_is}
 use Rattle.hcc_table.specs.declared.efforts.Effort.{Effort}
 use Rattle.hcc_table.specs.declared.pins.Pin.{Pin}
 use Rattle.hcc_table.specs.Probed.{AtProbes, Catches, Finds, Looks, Misses, Passes, PassesEntry, Probe, Probed, Searches}
@@ -75,12 +75,6 @@ run_last : (history : List Done) (done : Done) (world last : State)
     → IsRun world (history ++ done ∷ []) last → (w : State) × Leads w done last
 run_last [] done world last is = (world, subst (λ w. Leads world done w) (sym is.2) is.1)
 run_last (d ∷ ds) done world last is = run_last ds done is.0 last is.2
-
--- the world after a history and more
-after_more : (h ds : List Done) (w : State)
-    → after_all w (events_of (h ++ ds)) ≡ after_all (after_all w (events_of h)) (events_of ds)
-after_more [] ds w = refl
-after_more (d ∷ h) ds w = after_more h ds (after w d.event)
 
 module _ {T A : Type 0} (table : RuleTable T A) where
   -- What a seat's own event led to.

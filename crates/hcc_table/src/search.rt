@@ -45,7 +45,9 @@ use std::alloc::Allocator;
 ///
 /// It misses only what it didn't find: at least one slot is visited, and each slot that was passed
 /// was found not visible, by its load or by the add, or with an entry of another key. It ends where
-/// the displacement word of the last slot is 0, or after all slots.
+/// the displacement word of the last slot is 0, or after all slots. So an entry of the key that
+/// stands visible in its slot through the whole call is found, whatever other clients do
+/// (`law_lasting`).
 #[inline(always)]
 pub fn find<T: Tag, A: Allocator>(
     table: &RuleTable<T, A>,
