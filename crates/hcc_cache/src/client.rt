@@ -67,6 +67,20 @@ impl<T> Client<T> {
         Some(handle)
     }
 
+    /// The handle at this index, if it holds one there. It costs a look at the index.
+    pub fn handle_at(&self, index: usize) -> Option<Handle>
+        ensures some { IfSome result (λ handle. (handle.index ≡ index) × Holds self.now handle) }
+        ensures none { IfNone result ((handle : Handle) → handle.index ≡ index
+            → ¬ Holds self.now handle) }
+    {
+        let hold = self.handles.get(index)?;
+        Some(Handle {
+            client: self.number,
+            index,
+            serial: hold.serial,
+        })
+    }
+
     /// What it keeps of a handle, if it holds it.
     pub(crate) fn find(&self, handle: Handle) -> Option<Hold>
         ensures { result ≡ hold_of self.now handle }
