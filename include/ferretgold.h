@@ -4,7 +4,8 @@
  * A cache has keys of 16 bytes, values of at most 4,096 bytes, charges and priorities. Its table is
  * allocated when it is opened. Each call on a client makes at most a stated number of atomic steps,
  * whatever other threads do. What the library does is proved; docs/GUIDE.md says how to use it and
- * how to choose the sizes. The header is for C11, C++11 and later.
+ * how to choose the sizes. The header is for C11, C++11 and later. Program with it and
+ * libferretgold.a, which exports the functions below.
  *
  *     ferretgold_config config = { .slots = 1024, .room = 512, .clients = 2, .handles = 16,
  *                                  .shards = 2, .strict = true, .capacity = 4 << 20,
@@ -23,37 +24,37 @@
  *   - A client is used by one thread at a time. It may go from thread to thread, if a lock, a
  *     thread's start or join, or a sequentially consistent atomic orders the calls.
  *   - All clients of a cache may be used at the same time.
- *   - The cache's own calls (ferretgold_open, _client_open, _client_close, _close) are made by one
- *     thread at a time. Other threads may work with other clients meanwhile.
+ *   - All threads may call ferretgold_client_open and _client_close at once. Neither waits or
+ *     allocates, so a thread may take a client for one operation, and an engine with more threads
+ *     than clients needs no lock. ferretgold_close comes after all other calls on the cache.
+ *   - A client that was given back is refused by NO_CLIENT while it is idle. Once it is out again,
+ *     an old pointer to it is the new owner's client.
  *   - No call is made from a signal handler, or from a child that a process with threads forked.
  *
  * HANDLES
  *   A handle is a reference on an entry: while it is held, the entry keeps its key and its value.
- *   It is a small value, copied freely, that its client knows by its index and serial. One that was
- *   released, or that another client of the cache got, is refused by FERRETGOLD_NO_HANDLE, and
- *   stays so: no serial comes twice. Caches don't know each other's handles apart: a program with
- *   several keeps them apart.
+ *   It is a small value, copied freely. One that was released, or that another client or another
+ *   cache gave, is refused by FERRETGOLD_NO_HANDLE, and stays so: no serial of a client comes
+ *   twice, nor does a cache's number, of 2^32, in one process.
  *
  * REFUSALS
  *   A call that returns FERRETGOLD_OK did what it says. A call that refuses changed nothing: no
  *   object, and nothing that a pointer of the caller's points to, except where its comment says so.
  *   The first refusal that is due is returned, in the order in which each call lists them; before
- *   them all comes FERRETGOLD_NULL, if a pointer is null that may not be.
+ *   them all comes FERRETGOLD_NULL, if a pointer is null that may not be, and then NO_CLIENT, if
+ *   the client is idle.
  *
  * NOT CHECKED
- *   No call can tell that a pointer dangles (to a client or a cache that was closed, or to fewer
- *   bytes than were said), that an output overlaps another argument, that a bool is neither 0 nor 1
- *   (set each field of a config), or that two threads are in one client, or in one cache's own
- *   calls. Then behaviour is undefined.
+ *   No call can tell that a pointer dangles (to a cache that was closed or its clients, or to
+ *   fewer bytes than were said), that an output overlaps another argument, that a bool is neither 0
+ *   nor 1 (set each field of a config), or that two threads are in one client. Then behaviour is
+ *   undefined. libferretgold_check.a, linked in place of libferretgold.a, ends the program when two
+ *   threads meet in one client, and names the client and both calls.
  *
  * COSTS
  *   L stands for the slots of a shard, W for the payload words of a slot, S for the shards. Bounds
  *   are the most atomic steps on the cache's words. Calls neither allocate nor free, except where
  *   it is said; what malloc and free cost there, which may wait for other threads, comes on top.
- *
- * The calls are inline functions: each looks for null pointers, and hands the rest to the library.
- * Other languages declare the functions of the library themselves (ferretgold_raw_*, below); these
- * refuse whatever is refused except null pointers.
  */
 #ifndef FERRETGOLD_H
 #define FERRETGOLD_H
@@ -74,7 +75,8 @@ typedef enum ferretgold_status {
 
     /* A pointer is null that may not be. */
     FERRETGOLD_NULL = 16,
-    /* The handle is none that the client holds: it was released, or another client got it. */
+    /* The handle is none that the client holds: it was released, or another client or another
+     * cache gave it. */
     FERRETGOLD_NO_HANDLE = 17,
     /* The charge is 0. */
     FERRETGOLD_NO_CHARGE = 18,
@@ -107,7 +109,7 @@ typedef enum ferretgold_status {
     FERRETGOLD_BAD_SHARDS = 33,
     FERRETGOLD_BAD_CAPACITY = 34,
     FERRETGOLD_BAD_SERIALS = 35,
-    /* All clients of the cache are out. */
+    /* No client of the cache is idle; or this one is, and so not the caller's. */
     FERRETGOLD_NO_CLIENT = 36,
     /* The client is one of another cache. */
     FERRETGOLD_OTHER_CACHE = 37,
@@ -144,12 +146,14 @@ typedef struct ferretgold_config {
     uint32_t clients;  /* 1 to 1,024 */
     uint32_t handles;  /* that a client may hold at once: 1 to 16,384 */
     uint32_t shards;   /* a power of two, 1 to 64 */
-    bool strict;       /* whether charges stay within the capacity, and insertions may be refused */
+    bool strict;       /* whether each shard's charges stay within its part of the capacity, and
+                          insertions may be refused */
     bool marks;        /* whether look-ups mark entries, for evicted_hit of the statistics */
     uint64_t capacity; /* in charges, at most 2^40; each shard has an equal part, rounded up */
     uint64_t serials;  /* of each client: 1 to 2^54; an insertion uses one, and so does a handle
                           that ferretgold_lookup or ferretgold_reref gives */
-    uint64_t seed;     /* of the keys; 0 only if keys are spread already, as hashes are */
+    uint64_t seed;     /* of the keys; 0 only if keys are spread already, as hashes are: keys of
+                          blocks, say, are found five to twenty times slower without one */
 } ferretgold_config;
 
 /* A key of 16 bytes. */
@@ -158,12 +162,12 @@ typedef struct ferretgold_key {
     uint64_t w1;
 } ferretgold_key;
 
-/* A handle. Its fields are the library's. */
+/* A handle. Its fields are the library's: those of one that a call gave aren't all 0. */
 typedef struct ferretgold_handle {
     size_t index;
     uint64_t serial;
     uint32_t client;
-    uint32_t reserved;
+    uint32_t cache;
 } ferretgold_handle;
 
 /* What the calls of a client did on all shards. Counts saturate. */
@@ -191,155 +195,60 @@ typedef struct ferretgold_totals {
 typedef struct ferretgold_cache ferretgold_cache;
 typedef struct ferretgold_client ferretgold_client;
 
-/* ---- The library's functions. Programs in C and C++ call the inline functions below. --------- */
-
-/* A pointer to a cache or to a client, as a call takes it: by its address, and by value where the
- * object ends. It isn't null, and a call leaves it as it was. If a call gives an object, or hands
- * back as `kept` one that it didn't end, the address is that of a null one before. */
-typedef struct ferretgold_object {
-    void *at;
-} ferretgold_object;
-
-/* None of these pointers is null, even if a length is 0. `home` is the address of the cache's
- * object in both calls that take it. */
-uint32_t ferretgold_raw_open(const ferretgold_config *config, ferretgold_object *cache);
-uint32_t ferretgold_raw_client_open(ferretgold_object *cache, size_t home,
-                                    ferretgold_object *client);
-uint32_t ferretgold_raw_client_close(ferretgold_object *cache, size_t home,
-                                     ferretgold_object client, ferretgold_object *kept);
-uint32_t ferretgold_raw_close(ferretgold_object cache, ferretgold_totals *totals,
-                              ferretgold_object *kept);
-uint32_t ferretgold_raw_lookup(ferretgold_object *client, const ferretgold_key *key,
-                               ferretgold_handle *handle);
-uint32_t ferretgold_raw_reref(ferretgold_object *client, const ferretgold_handle *handle,
-                              ferretgold_handle *more);
-uint32_t ferretgold_raw_release(ferretgold_object *client, const ferretgold_handle *handle,
-                                bool useful, bool erase_if_last, bool *freed);
-uint32_t ferretgold_raw_insert(ferretgold_object *client, const ferretgold_key *key,
-                               const uint8_t *value, size_t length, uint32_t charge,
-                               uint32_t priority, uint32_t *inserted);
-uint32_t ferretgold_raw_insert_pinned(ferretgold_object *client, const ferretgold_key *key,
-                                      const uint8_t *value, size_t length, uint32_t charge,
-                                      uint32_t priority, uint32_t *inserted,
-                                      ferretgold_handle *handle);
-uint32_t ferretgold_raw_erase(ferretgold_object *client, const ferretgold_key *key,
-                              uint32_t *hidden);
-uint32_t ferretgold_raw_key(ferretgold_object *client, const ferretgold_handle *handle,
-                            ferretgold_key *key);
-uint32_t ferretgold_raw_value_len(ferretgold_object *client, const ferretgold_handle *handle,
-                                  size_t *length);
-uint32_t ferretgold_raw_read_value(ferretgold_object *client, const ferretgold_handle *handle,
-                                   uint8_t *buffer, size_t capacity, size_t *length);
-uint32_t ferretgold_raw_get(ferretgold_object *client, const ferretgold_key *key, uint8_t *buffer,
-                            size_t capacity, bool useful, size_t *length);
-uint64_t ferretgold_raw_usage(ferretgold_object *client);
-uint64_t ferretgold_raw_pinned_usage(ferretgold_object *client);
-uint64_t ferretgold_raw_occupancy(ferretgold_object *client);
-uint32_t ferretgold_raw_word(ferretgold_object *client, uint32_t shard, uint32_t slot,
-                             uint64_t *word);
-uint32_t ferretgold_raw_displacement(ferretgold_object *client, uint32_t shard, uint32_t slot,
-                                     uint64_t *displacement);
-uint32_t ferretgold_raw_number(ferretgold_object *client);
-uint32_t ferretgold_raw_held(ferretgold_object *client);
-uint64_t ferretgold_raw_serials_left(ferretgold_object *client);
-bool ferretgold_raw_holds(ferretgold_object *client, const ferretgold_handle *handle);
-void ferretgold_raw_stats(ferretgold_object *client, ferretgold_stats *stats);
-
-static inline ferretgold_object ferretgold_object_of(void *at) {
-    ferretgold_object object;
-    object.at = at;
-    return object;
-}
-
 /* ---- Opening and closing --------------------------------------------------------------------- */
 
 /*
  * Opens a cache with no entries, and with all its clients. None is out yet.
  *
  * Allocates the table and all clients: for each slot 56 bytes and its room, for each client some
- * 100 bytes for each handle that it may hold. ferretgold_client_open and ferretgold_insert_pinned
- * allocate more. Costs a store for each word.
+ * 100 bytes for each handle that it may hold. Costs a store for each word.
  *
  * Refuses BAD_SLOTS, BAD_ROOM, BAD_CLIENTS, BAD_HANDLES, BAD_SHARDS, BAD_CAPACITY, BAD_SERIALS,
  * then OUT_OF_MEMORY. Nothing remains then.
  */
-static inline ferretgold_status ferretgold_open(const ferretgold_config *config,
-                                                ferretgold_cache **cache) {
-    if (config == NULL || cache == NULL) {
-        return FERRETGOLD_NULL;
-    }
-    ferretgold_object opened = ferretgold_object_of(NULL);
-    uint32_t status = ferretgold_raw_open(config, &opened);
-    if (status == FERRETGOLD_OK) {
-        *cache = (ferretgold_cache *)opened.at;
-    }
-    return (ferretgold_status)status;
-}
+ferretgold_status ferretgold_open(const ferretgold_config *config, ferretgold_cache **cache);
 
 /*
- * Gives out a client: one that holds no handle, new or given back before. One that was given back
- * has the serials left that it had, and its statistics.
+ * Gives out an idle client. It holds no handle, and has the serials left that it had, and its
+ * statistics. One with no serials left goes out only if no other was found.
  *
- * Allocates the client's object. Makes no atomic step on the cache's words.
+ * Costs a few loads and one compare-exchange; one more for each that another thread wins. Waits for
+ * nothing, and makes no atomic step on the cache's words.
  *
- * Refuses NO_CLIENT, OUT_OF_MEMORY.
+ * Refuses NO_CLIENT: this call found none idle.
  */
-static inline ferretgold_status ferretgold_client_open(ferretgold_cache *cache,
-                                                       ferretgold_client **client) {
-    if (cache == NULL || client == NULL) {
-        return FERRETGOLD_NULL;
-    }
-    ferretgold_object object = ferretgold_object_of(cache);
-    ferretgold_object opened = ferretgold_object_of(NULL);
-    uint32_t status = ferretgold_raw_client_open(&object, (size_t)cache, &opened);
-    if (status == FERRETGOLD_OK) {
-        *client = (ferretgold_client *)opened.at;
-    }
-    return (ferretgold_status)status;
-}
+ferretgold_status ferretgold_client_open(ferretgold_cache *cache, ferretgold_client **client);
 
 /*
- * Takes a client back. Its pointer stands for nothing from then on.
+ * Takes a client back, which is idle from then on: another thread may get it at once.
  *
- * Frees what ferretgold_client_open allocated. Makes no atomic step on the cache's words.
+ * Costs one atomic step, and none on the cache's words.
  *
- * Refuses OTHER_CACHE, HANDLES_OUT: release them first. After a refusal the client works on.
+ * Refuses OTHER_CACHE; NO_CLIENT, if it is idle already; HANDLES_OUT: release them first. After a
+ * refusal the client is as it was.
  */
-static inline ferretgold_status ferretgold_client_close(ferretgold_cache *cache,
-                                                        ferretgold_client *client) {
-    if (cache == NULL || client == NULL) {
-        return FERRETGOLD_NULL;
-    }
-    ferretgold_object object = ferretgold_object_of(cache);
-    ferretgold_object kept = ferretgold_object_of(NULL);
-    return (ferretgold_status)ferretgold_raw_client_close(
-        &object, (size_t)cache, ferretgold_object_of(client), &kept);
-}
+ferretgold_status ferretgold_client_close(ferretgold_cache *cache, ferretgold_client *client);
+
+/*
+ * The same, and gives back each handle that the client still holds, with no use of its entry.
+ *
+ * Costs a look at each of its handles' places up to the last one held, and a release for each.
+ *
+ * Refuses OTHER_CACHE, NO_CLIENT.
+ */
+ferretgold_status ferretgold_client_close_releasing(ferretgold_cache *cache,
+                                                    ferretgold_client *client);
 
 /*
  * Ends a cache whose clients are all back, and returns what was left in it. Its pointer stands for
- * nothing from then on, and all memory is freed. `totals` may be null.
- *
- * A cache of which a client was lost can't be closed: it stays.
+ * nothing from then on, nor do those of its clients, and all memory is freed. `totals` may be null.
  *
  * Costs at each shard a load for each client and two more, two for each slot, and one for each
  * entry that is left.
  *
- * Refuses MISSING. After a refusal the cache works on.
+ * Refuses MISSING: a client is out. After a refusal the cache works on.
  */
-static inline ferretgold_status ferretgold_close(ferretgold_cache *cache,
-                                                 ferretgold_totals *totals) {
-    if (cache == NULL) {
-        return FERRETGOLD_NULL;
-    }
-    ferretgold_totals answer = {0, 0, 0, 0};
-    ferretgold_object kept = ferretgold_object_of(NULL);
-    uint32_t status = ferretgold_raw_close(ferretgold_object_of(cache), &answer, &kept);
-    if (status == FERRETGOLD_OK && totals != NULL) {
-        *totals = answer;
-    }
-    return (ferretgold_status)status;
-}
+ferretgold_status ferretgold_close(ferretgold_cache *cache, ferretgold_totals *totals);
 
 /* ---- Getting and giving back handles --------------------------------------------------------- */
 
@@ -353,20 +262,8 @@ static inline ferretgold_status ferretgold_close(ferretgold_cache *cache,
  *
  * Refuses HANDLES_FULL, SPENT; also if the key isn't there.
  */
-static inline ferretgold_status ferretgold_lookup(ferretgold_client *client,
-                                                  const ferretgold_key *key,
-                                                  ferretgold_handle *handle) {
-    if (client == NULL || key == NULL || handle == NULL) {
-        return FERRETGOLD_NULL;
-    }
-    ferretgold_object object = ferretgold_object_of(client);
-    ferretgold_handle found = {0, 0, 0, 0};
-    uint32_t status = ferretgold_raw_lookup(&object, key, &found);
-    if (status == FERRETGOLD_OK) {
-        *handle = found;
-    }
-    return (ferretgold_status)status;
-}
+ferretgold_status ferretgold_lookup(ferretgold_client *client, const ferretgold_key *key,
+                                    ferretgold_handle *handle);
 
 /*
  * Gives one handle more on the very entry that a handle is on, also on a standalone one or an
@@ -376,20 +273,8 @@ static inline ferretgold_status ferretgold_lookup(ferretgold_client *client,
  *
  * Refuses NO_HANDLE, HANDLES_FULL, SPENT.
  */
-static inline ferretgold_status ferretgold_reref(ferretgold_client *client,
-                                                 ferretgold_handle handle,
-                                                 ferretgold_handle *more) {
-    if (client == NULL || more == NULL) {
-        return FERRETGOLD_NULL;
-    }
-    ferretgold_object object = ferretgold_object_of(client);
-    ferretgold_handle given = {0, 0, 0, 0};
-    uint32_t status = ferretgold_raw_reref(&object, &handle, &given);
-    if (status == FERRETGOLD_OK) {
-        *more = given;
-    }
-    return (ferretgold_status)status;
-}
+ferretgold_status ferretgold_reref(ferretgold_client *client, ferretgold_handle handle,
+                                   ferretgold_handle *more);
 
 /*
  * Gives a handle back: as a use of its entry if `useful`, which is what keeps entries that are
@@ -402,33 +287,10 @@ static inline ferretgold_status ferretgold_reref(ferretgold_client *client,
  *
  * Refuses NO_HANDLE.
  */
-static inline ferretgold_status ferretgold_release(ferretgold_client *client,
-                                                   ferretgold_handle handle, bool useful,
-                                                   bool erase_if_last, bool *freed) {
-    if (client == NULL) {
-        return FERRETGOLD_NULL;
-    }
-    ferretgold_object object = ferretgold_object_of(client);
-    bool answer = false;
-    uint32_t status = ferretgold_raw_release(&object, &handle, useful,
-                                             erase_if_last, &answer);
-    if (status == FERRETGOLD_OK && freed != NULL) {
-        *freed = answer;
-    }
-    return (ferretgold_status)status;
-}
+ferretgold_status ferretgold_release(ferretgold_client *client, ferretgold_handle handle,
+                                     bool useful, bool erase_if_last, bool *freed);
 
 /* ---- Inserting and erasing ------------------------------------------------------------------- */
-
-/* Whether `length` bytes may be read at `value`; and a pointer to them that isn't null. */
-static inline bool ferretgold_is_readable(const void *value, size_t length) {
-    return value != NULL || length == 0;
-}
-
-static inline const uint8_t *ferretgold_bytes_of(const void *value) {
-    static const uint8_t none[1] = {0};
-    return value != NULL ? (const uint8_t *)value : none;
-}
 
 /*
  * Inserts an entry of this key, value and charge, and keeps no handle on it. A place and the charge
@@ -446,24 +308,9 @@ static inline const uint8_t *ferretgold_bytes_of(const void *value) {
  * that stay made, CAPACITY_FULL, OCCUPANCY_FULL. These two, and DROPPED for lack of a place, may
  * come though nobody holds an entry; then a second try evicts more ("Try again" in the guide).
  */
-static inline ferretgold_status ferretgold_insert(ferretgold_client *client,
-                                                  const ferretgold_key *key, const void *value,
-                                                  size_t length, uint32_t charge,
-                                                  ferretgold_priority priority,
-                                                  ferretgold_inserted *inserted) {
-    if (client == NULL || key == NULL || !ferretgold_is_readable(value, length)) {
-        return FERRETGOLD_NULL;
-    }
-    ferretgold_object object = ferretgold_object_of(client);
-    uint32_t answer = 0;
-    uint32_t status =
-        ferretgold_raw_insert(&object, key, ferretgold_bytes_of(value), length,
-                              charge, (uint32_t)priority, &answer);
-    if (status == FERRETGOLD_OK && inserted != NULL) {
-        *inserted = (ferretgold_inserted)answer;
-    }
-    return (ferretgold_status)status;
-}
+ferretgold_status ferretgold_insert(ferretgold_client *client, const ferretgold_key *key,
+                                    const void *value, size_t length, uint32_t charge,
+                                    ferretgold_priority priority, ferretgold_inserted *inserted);
 
 /*
  * Inserts an entry of this key, value and charge, and gives a handle on it. PLACED: it is in the
@@ -479,31 +326,11 @@ static inline ferretgold_status ferretgold_insert(ferretgold_client *client,
  * Refuses BAD_PRIORITY, NO_CHARGE, TOO_LONG, OUT_OF_MEMORY, HANDLES_FULL, SPENT, TOO_LARGE; and if
  * strict, after evictions that stay made, CAPACITY_FULL, OCCUPANCY_FULL.
  */
-static inline ferretgold_status ferretgold_insert_pinned(ferretgold_client *client,
-                                                         const ferretgold_key *key,
-                                                         const void *value, size_t length,
-                                                         uint32_t charge,
-                                                         ferretgold_priority priority,
-                                                         ferretgold_inserted *inserted,
-                                                         ferretgold_handle *handle) {
-    if (client == NULL || key == NULL || handle == NULL ||
-        !ferretgold_is_readable(value, length)) {
-        return FERRETGOLD_NULL;
-    }
-    ferretgold_object object = ferretgold_object_of(client);
-    uint32_t answer = 0;
-    ferretgold_handle given = {0, 0, 0, 0};
-    uint32_t status = ferretgold_raw_insert_pinned(&object, key,
-                                                   ferretgold_bytes_of(value), length, charge,
-                                                   (uint32_t)priority, &answer, &given);
-    if (status == FERRETGOLD_OK) {
-        *handle = given;
-        if (inserted != NULL) {
-            *inserted = (ferretgold_inserted)answer;
-        }
-    }
-    return (ferretgold_status)status;
-}
+ferretgold_status ferretgold_insert_pinned(ferretgold_client *client, const ferretgold_key *key,
+                                           const void *value, size_t length, uint32_t charge,
+                                           ferretgold_priority priority,
+                                           ferretgold_inserted *inserted,
+                                           ferretgold_handle *handle);
 
 /*
  * Hides each visible entry of the key: no look-up finds them from then on. Makes one try to free
@@ -514,19 +341,8 @@ static inline ferretgold_status ferretgold_insert_pinned(ferretgold_client *clie
  * Costs for each probe what a look-up costs, and for each match what freeing costs.
  * Bound: (L + 14)*L + 2.
  */
-static inline ferretgold_status ferretgold_erase(ferretgold_client *client,
-                                                 const ferretgold_key *key, uint32_t *hidden) {
-    if (client == NULL || key == NULL) {
-        return FERRETGOLD_NULL;
-    }
-    ferretgold_object object = ferretgold_object_of(client);
-    uint32_t answer = 0;
-    uint32_t status = ferretgold_raw_erase(&object, key, &answer);
-    if (hidden != NULL) {
-        *hidden = answer;
-    }
-    return (ferretgold_status)status;
-}
+ferretgold_status ferretgold_erase(ferretgold_client *client, const ferretgold_key *key,
+                                   uint32_t *hidden);
 
 /* ---- Reading --------------------------------------------------------------------------------- */
 
@@ -535,39 +351,16 @@ static inline ferretgold_status ferretgold_erase(ferretgold_client *client,
  *
  * Refuses NO_HANDLE.
  */
-static inline ferretgold_status ferretgold_handle_key(ferretgold_client *client,
-                                                      ferretgold_handle handle,
-                                                      ferretgold_key *key) {
-    if (client == NULL || key == NULL) {
-        return FERRETGOLD_NULL;
-    }
-    ferretgold_object object = ferretgold_object_of(client);
-    ferretgold_key answer = {0, 0};
-    uint32_t status = ferretgold_raw_key(&object, &handle, &answer);
-    if (status == FERRETGOLD_OK) {
-        *key = answer;
-    }
-    return (ferretgold_status)status;
-}
+ferretgold_status ferretgold_handle_key(ferretgold_client *client, ferretgold_handle handle,
+                                        ferretgold_key *key);
 
 /*
  * How many bytes the value has. Costs a load; of a standalone entry none. Bound: 1.
  *
  * Refuses NO_HANDLE.
  */
-static inline ferretgold_status ferretgold_value_len(ferretgold_client *client,
-                                                     ferretgold_handle handle, size_t *length) {
-    if (client == NULL || length == NULL) {
-        return FERRETGOLD_NULL;
-    }
-    ferretgold_object object = ferretgold_object_of(client);
-    size_t answer = 0;
-    uint32_t status = ferretgold_raw_value_len(&object, &handle, &answer);
-    if (status == FERRETGOLD_OK) {
-        *length = answer;
-    }
-    return (ferretgold_status)status;
-}
+ferretgold_status ferretgold_value_len(ferretgold_client *client, ferretgold_handle handle,
+                                       size_t *length);
 
 /*
  * Copies the value to the front of a buffer of `capacity` bytes; `length` gets its length. The rest
@@ -578,23 +371,8 @@ static inline ferretgold_status ferretgold_value_len(ferretgold_client *client,
  *
  * Refuses NO_HANDLE; TOO_SHORT, and then `length` gets how many bytes the value has.
  */
-static inline ferretgold_status ferretgold_read_value(ferretgold_client *client,
-                                                      ferretgold_handle handle, void *buffer,
-                                                      size_t capacity, size_t *length) {
-    if (client == NULL || (buffer == NULL && capacity != 0)) {
-        return FERRETGOLD_NULL;
-    }
-    ferretgold_object object = ferretgold_object_of(client);
-    uint8_t none[1];
-    size_t answer = 0;
-    uint32_t status = ferretgold_raw_read_value(&object, &handle,
-                                                buffer != NULL ? (uint8_t *)buffer : none,
-                                                capacity, &answer);
-    if ((status == FERRETGOLD_OK || status == FERRETGOLD_TOO_SHORT) && length != NULL) {
-        *length = answer;
-    }
-    return (ferretgold_status)status;
-}
+ferretgold_status ferretgold_read_value(ferretgold_client *client, ferretgold_handle handle,
+                                        void *buffer, size_t capacity, size_t *length);
 
 /*
  * Reads the value of a visible entry of the key: what ferretgold_lookup, ferretgold_read_value and
@@ -609,22 +387,8 @@ static inline ferretgold_status ferretgold_read_value(ferretgold_client *client,
  * MISS: nothing of the key was found. Refuses TOO_SHORT: there is an entry, `length` gets how many
  * bytes its value has, and the buffer stays.
  */
-static inline ferretgold_status ferretgold_get(ferretgold_client *client,
-                                               const ferretgold_key *key, void *buffer,
-                                               size_t capacity, bool useful, size_t *length) {
-    if (client == NULL || key == NULL || (buffer == NULL && capacity != 0)) {
-        return FERRETGOLD_NULL;
-    }
-    ferretgold_object object = ferretgold_object_of(client);
-    uint8_t none[1];
-    size_t answer = 0;
-    uint32_t status = ferretgold_raw_get(&object, key, buffer != NULL ? (uint8_t *)buffer : none,
-                                         capacity, useful, &answer);
-    if ((status == FERRETGOLD_OK || status == FERRETGOLD_TOO_SHORT) && length != NULL) {
-        *length = answer;
-    }
-    return (ferretgold_status)status;
-}
+ferretgold_status ferretgold_get(ferretgold_client *client, const ferretgold_key *key, void *buffer,
+                                 size_t capacity, bool useful, size_t *length);
 
 /* ---- Totals ---------------------------------------------------------------------------------- */
 
@@ -633,143 +397,46 @@ static inline ferretgold_status ferretgold_get(ferretgold_client *client,
 
 /* What is charged, also for standalone entries and for what other clients have reserved. Under
  * strict at most S times the capacity of a shard. Bound: S. */
-static inline ferretgold_status ferretgold_usage(ferretgold_client *client, uint64_t *usage) {
-    if (client == NULL || usage == NULL) {
-        return FERRETGOLD_NULL;
-    }
-    ferretgold_object object = ferretgold_object_of(client);
-    *usage = ferretgold_raw_usage(&object);
-    return FERRETGOLD_OK;
-}
+ferretgold_status ferretgold_usage(ferretgold_client *client, uint64_t *usage);
 
 /* What is charged for entries that are held, and for standalone ones. Bound: S*(5*L + 1). */
-static inline ferretgold_status ferretgold_pinned_usage(ferretgold_client *client,
-                                                        uint64_t *usage) {
-    if (client == NULL || usage == NULL) {
-        return FERRETGOLD_NULL;
-    }
-    ferretgold_object object = ferretgold_object_of(client);
-    *usage = ferretgold_raw_pinned_usage(&object);
-    return FERRETGOLD_OK;
-}
+ferretgold_status ferretgold_pinned_usage(ferretgold_client *client, uint64_t *usage);
 
 /* How many entries the table has, with the places and freed slots that other clients have in hand:
  * of each shard at most 84 of a hundred slots, and a place for each client. Standalone ones don't
  * count. Bound: S. */
-static inline ferretgold_status ferretgold_occupancy(ferretgold_client *client,
-                                                     uint64_t *occupancy) {
-    if (client == NULL || occupancy == NULL) {
-        return FERRETGOLD_NULL;
-    }
-    ferretgold_object object = ferretgold_object_of(client);
-    *occupancy = ferretgold_raw_occupancy(&object);
-    return FERRETGOLD_OK;
-}
+ferretgold_status ferretgold_occupancy(ferretgold_client *client, uint64_t *occupancy);
 
 /* The meta word of a slot, and how often it stands in trails: for tests and tools. Bound: 1.
  * Both refuse OUT_OF_RANGE. */
-static inline ferretgold_status ferretgold_word(ferretgold_client *client, uint32_t shard,
-                                                uint32_t slot, uint64_t *word) {
-    if (client == NULL || word == NULL) {
-        return FERRETGOLD_NULL;
-    }
-    ferretgold_object object = ferretgold_object_of(client);
-    uint64_t answer = 0;
-    uint32_t status = ferretgold_raw_word(&object, shard, slot, &answer);
-    if (status == FERRETGOLD_OK) {
-        *word = answer;
-    }
-    return (ferretgold_status)status;
-}
+ferretgold_status ferretgold_word(ferretgold_client *client, uint32_t shard, uint32_t slot,
+                                  uint64_t *word);
 
-static inline ferretgold_status ferretgold_displacement(ferretgold_client *client, uint32_t shard,
-                                                        uint32_t slot, uint64_t *displacement) {
-    if (client == NULL || displacement == NULL) {
-        return FERRETGOLD_NULL;
-    }
-    ferretgold_object object = ferretgold_object_of(client);
-    uint64_t answer = 0;
-    uint32_t status = ferretgold_raw_displacement(&object, shard, slot, &answer);
-    if (status == FERRETGOLD_OK) {
-        *displacement = answer;
-    }
-    return (ferretgold_status)status;
-}
+ferretgold_status ferretgold_displacement(ferretgold_client *client, uint32_t shard, uint32_t slot,
+                                          uint64_t *displacement);
 
-/* ---- Of a client, without an atomic step. A null client has no handle and no serial; its number
- * is 0, and ferretgold_statistics refuses it. ---------------------------------------------- */
+/* ---- Of a client, without an atomic step. One that is null or idle has no handle and no serial;
+ * its number is 0, and ferretgold_statistics refuses it. ------------------------------------ */
 
 /* Its number among the cache's clients, from 0. */
-static inline uint32_t ferretgold_client_number(ferretgold_client *client) {
-    ferretgold_object object = ferretgold_object_of(client);
-    return client == NULL ? 0 : ferretgold_raw_number(&object);
-}
+uint32_t ferretgold_client_number(ferretgold_client *client);
 
 /* How many handles it holds. */
-static inline uint32_t ferretgold_held(ferretgold_client *client) {
-    ferretgold_object object = ferretgold_object_of(client);
-    return client == NULL ? 0 : ferretgold_raw_held(&object);
-}
+uint32_t ferretgold_held(ferretgold_client *client);
 
 /* How many serials it has left. */
-static inline uint64_t ferretgold_serials_left(ferretgold_client *client) {
-    ferretgold_object object = ferretgold_object_of(client);
-    return client == NULL ? 0 : ferretgold_raw_serials_left(&object);
-}
+uint64_t ferretgold_serials_left(ferretgold_client *client);
 
 /* Whether it holds this handle. */
-static inline bool ferretgold_holds(ferretgold_client *client, ferretgold_handle handle) {
-    ferretgold_object object = ferretgold_object_of(client);
-    return client != NULL && ferretgold_raw_holds(&object, &handle);
-}
+bool ferretgold_holds(ferretgold_client *client, ferretgold_handle handle);
 
 /* What its calls did on all shards. */
-static inline ferretgold_status ferretgold_statistics(ferretgold_client *client,
-                                                      ferretgold_stats *stats) {
-    if (client == NULL || stats == NULL) {
-        return FERRETGOLD_NULL;
-    }
-    ferretgold_object object = ferretgold_object_of(client);
-    ferretgold_stats answer = {0, 0, 0, 0, 0, 0, 0, 0};
-    ferretgold_raw_stats(&object, &answer);
-    *stats = answer;
-    return FERRETGOLD_OK;
-}
+ferretgold_status ferretgold_statistics(ferretgold_client *client, ferretgold_stats *stats);
 
 /* ---- Texts ----------------------------------------------------------------------------------- */
 
 /* A status as a sentence; "unknown" if it is none. */
-static inline const char *ferretgold_status_text(ferretgold_status status) {
-    switch (status) {
-    case FERRETGOLD_OK: return "ok";
-    case FERRETGOLD_MISS: return "miss";
-    case FERRETGOLD_NULL: return "a pointer is null";
-    case FERRETGOLD_NO_HANDLE: return "the client holds no such handle";
-    case FERRETGOLD_NO_CHARGE: return "the charge is 0";
-    case FERRETGOLD_TOO_LONG: return "the value is longer than a slot has room for";
-    case FERRETGOLD_TOO_SHORT: return "the buffer is shorter than the value";
-    case FERRETGOLD_BAD_PRIORITY: return "the priority is unknown";
-    case FERRETGOLD_OUT_OF_RANGE: return "there is no such shard or slot";
-    case FERRETGOLD_HANDLES_FULL: return "the client holds as many handles as it may";
-    case FERRETGOLD_SPENT: return "the client has used all its serials";
-    case FERRETGOLD_TOO_LARGE: return "the charge is above a shard's capacity";
-    case FERRETGOLD_CAPACITY_FULL: return "evictions freed too little of the charge";
-    case FERRETGOLD_OCCUPANCY_FULL: return "evictions freed no slot";
-    case FERRETGOLD_OUT_OF_MEMORY: return "an allocation failed";
-    case FERRETGOLD_BAD_SLOTS: return "slots must be a power of two from 8 to 65,536";
-    case FERRETGOLD_BAD_ROOM: return "room must be 1 to 512";
-    case FERRETGOLD_BAD_CLIENTS: return "clients must be 1 to 1,024";
-    case FERRETGOLD_BAD_HANDLES: return "handles must be 1 to 16,384";
-    case FERRETGOLD_BAD_SHARDS: return "shards must be a power of two from 1 to 64";
-    case FERRETGOLD_BAD_CAPACITY: return "capacity must be at most 2^40";
-    case FERRETGOLD_BAD_SERIALS: return "serials must be 1 to 2^54";
-    case FERRETGOLD_NO_CLIENT: return "all clients of the cache are out";
-    case FERRETGOLD_OTHER_CACHE: return "the client is one of another cache";
-    case FERRETGOLD_HANDLES_OUT: return "the client holds handles";
-    case FERRETGOLD_MISSING: return "clients of the cache are out";
-    }
-    return "unknown";
-}
+const char *ferretgold_status_text(ferretgold_status status);
 
 #ifdef __cplusplus
 }

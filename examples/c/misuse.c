@@ -299,7 +299,8 @@ static void used_up(ferretgold_client *client) {
     EXPECT(ferretgold_release(client, first, true, true, NULL), FERRETGOLD_OK);
 }
 
-/* Clients that are out, that hold handles, that another cache has, that there are no more of. */
+/* Clients that are out or idle, that hold handles, that another cache has, that there are no more of;
+ * handles of another cache. */
 static void closings(void) {
     ferretgold_cache *one, *two;
     ferretgold_client *a, *b, *c = NULL, *foreign;
@@ -317,9 +318,12 @@ static void closings(void) {
            FERRETGOLD_OK);
     EXPECT(ferretgold_client_close(one, a), FERRETGOLD_HANDLES_OUT);
     EXPECT(ferretgold_client_close(two, a), FERRETGOLD_OTHER_CACHE);
+    no_handle(__LINE__, foreign, handle);
     EXPECT(ferretgold_holds(a, handle), 1);
     EXPECT(ferretgold_release(a, handle, true, false, NULL), FERRETGOLD_OK);
     EXPECT(ferretgold_client_close(one, a), FERRETGOLD_OK);
+    EXPECT(ferretgold_client_close(one, a), FERRETGOLD_NO_CLIENT);
+    EXPECT(ferretgold_lookup(a, &KEY, &handle), FERRETGOLD_NO_CLIENT);
     EXPECT(ferretgold_close(one, &totals), FERRETGOLD_MISSING);
     EXPECT(totals.usage, 5);
     EXPECT(ferretgold_lookup(b, &KEY, &handle), FERRETGOLD_OK);

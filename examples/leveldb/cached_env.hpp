@@ -15,43 +15,17 @@
 #include <mutex>
 #include <string>
 #include <utility>
-#include <vector>
 
 // How many bytes a block has.
 constexpr std::size_t BLOCK = 4096;
 
-// A cache with its clients, each of which one thread uses at a time.
-class block_cache {
-  public:
-    explicit block_cache(const ferretgold_config &config) : cache_(config) {
-        for (std::uint32_t k = 0; k < config.clients; k++) {
-            idle_.push_back(cache_.open_client());
-        }
-    }
+// A cache of blocks, and how many of them it had.
+struct block_cache {
+    explicit block_cache(const ferretgold_config &config) : cache(config) {}
 
-    // Does something with a client that nobody else uses; without one where all are in use.
-    template <typename Work> void with_client(Work work) {
-        std::unique_lock<std::mutex> lock(mutex_);
-        if (idle_.empty()) {
-            lock.unlock();
-            work(nullptr);
-            return;
-        }
-        ferretgold::client client = std::move(idle_.back());
-        idle_.pop_back();
-        lock.unlock();
-        work(&client);
-        lock.lock();
-        idle_.push_back(std::move(client));
-    }
-
+    ferretgold::cache cache;
     std::atomic<std::uint64_t> hits{0};
     std::atomic<std::uint64_t> misses{0};
-
-  private:
-    ferretgold::cache cache_;
-    std::mutex mutex_;
-    std::vector<ferretgold::client> idle_;
 };
 
 // A table file of LevelDB. It never changes once it is read, so its blocks may be kept.
@@ -65,32 +39,31 @@ class cached_file : public leveldb::RandomAccessFile {
                          char *scratch) const override {
         leveldb::Status status;
         std::size_t count = 0;
-        cache_.with_client([&](ferretgold::client *client) {
-            char block[BLOCK];
-            while (count < length && offset + count < size_) {
-                const std::uint64_t at = offset + count;
-                std::size_t has = 0;
-                status = block_at(client, at / BLOCK, block, &has);
-                const std::size_t from = static_cast<std::size_t>(at % BLOCK);
-                if (!status.ok() || has <= from) {
-                    break;
-                }
-                const std::size_t part = std::min(has - from, length - count);
-                std::memcpy(scratch + count, block + from, part);
-                count += part;
+        const ferretgold::lease client(cache_.cache);
+        char block[BLOCK];
+        while (count < length && offset + count < size_) {
+            const std::uint64_t at = offset + count;
+            std::size_t has = 0;
+            status = block_at(client.get(), at / BLOCK, block, &has);
+            const std::size_t from = static_cast<std::size_t>(at % BLOCK);
+            if (!status.ok() || has <= from) {
+                break;
             }
-        });
+            const std::size_t part = std::min(has - from, length - count);
+            std::memcpy(scratch + count, block + from, part);
+            count += part;
+        }
         *result = leveldb::Slice(scratch, count);
         return status;
     }
 
   private:
     // Reads a block that begins within the file: from the cache where it has it, and else from the
-    // file.
-    leveldb::Status block_at(ferretgold::client *client, std::uint64_t index, char *block,
+    // file. Without a client both calls of the cache are refused.
+    leveldb::Status block_at(ferretgold_client *client, std::uint64_t index, char *block,
                              std::size_t *has) const {
         const ferretgold_key key = {number_, index};
-        if (client != nullptr && is_cached(*client, key, block, has)) {
+        if (ferretgold_get(client, &key, block, BLOCK, true, has) == FERRETGOLD_OK) {
             cache_.hits.fetch_add(1, std::memory_order_relaxed);
             return leveldb::Status::OK();
         }
@@ -103,17 +76,12 @@ class cached_file : public leveldb::RandomAccessFile {
             *has = read.size();
             std::memmove(block, read.data(), read.size());
             // A read may give fewer bytes than there are: such a block isn't kept.
-            if (client != nullptr && *has == length && *has != 0) {
-                (void)client->insert(key, block, *has, static_cast<std::uint32_t>(*has));
+            if (*has == length && *has != 0) {
+                (void)ferretgold_insert(client, &key, block, *has, static_cast<std::uint32_t>(*has),
+                                        FERRETGOLD_LOW, nullptr);
             }
         }
         return status;
-    }
-
-    // Reads a block from the cache, if it is there.
-    static bool is_cached(ferretgold::client &client, const ferretgold_key &key, char *block,
-                          std::size_t *has) noexcept {
-        return client.read(key, block, BLOCK, has) == FERRETGOLD_OK;
     }
 
     std::unique_ptr<leveldb::RandomAccessFile> file_;

@@ -2,7 +2,6 @@
 #ifndef SECONDARY_CACHE_HPP
 #define SECONDARY_CACHE_HPP
 
-#include "client_pool.hpp"
 #include "ferretgold.hpp"
 
 #include <lz4.h>
@@ -85,8 +84,7 @@ class found_block : public rocksdb::SecondaryCacheResultHandle {
 // The secondary cache. RocksDB allows no exception to leave these calls.
 class secondary_cache : public rocksdb::SecondaryCache {
   public:
-    explicit secondary_cache(const ferretgold_config &config)
-        : cache_(config), clients_(cache_, config.clients) {}
+    explicit secondary_cache(const ferretgold_config &config) : cache_(config) {}
 
     const char *Name() const override { return "Ferretgold"; }
 
@@ -119,9 +117,9 @@ class secondary_cache : public rocksdb::SecondaryCache {
 
     void Erase(const rocksdb::Slice &name) noexcept override {
         ferretgold_key key;
-        const client_pool::lease lease = clients_.borrow();
-        if (lease && is_key(name, &key)) {
-            (void)ferretgold_erase(lease->client.get(), &key, nullptr);
+        const ferretgold::lease client(cache_);
+        if (is_key(name, &key)) {
+            (void)ferretgold_erase(client.get(), &key, nullptr);
         }
     }
 
@@ -150,9 +148,9 @@ class secondary_cache : public rocksdb::SecondaryCache {
     count &outcome_of(const rocksdb::Slice &name, const packed_block &packed, std::size_t size) {
         ferretgold_key key;
         ferretgold_inserted inserted = FERRETGOLD_DROPPED;
-        const client_pool::lease lease = clients_.borrow();
-        if (!lease || !is_key(name, &key) ||
-            ferretgold_insert(lease->client.get(), &key, &packed, size,
+        const ferretgold::lease client(cache_);
+        if (!is_key(name, &key) ||
+            ferretgold_insert(client.get(), &key, &packed, size,
                               static_cast<std::uint32_t>(size), FERRETGOLD_LOW,
                               &inserted) != FERRETGOLD_OK) {
             return refused;
@@ -166,13 +164,12 @@ class secondary_cache : public rocksdb::SecondaryCache {
     // Copies a packed block out, if it is here. The client goes back before RocksDB is called.
     bool find(const rocksdb::Slice &name, packed_block *packed, std::size_t *size) {
         ferretgold_key key;
-        const client_pool::lease lease = clients_.borrow();
-        return lease && is_key(name, &key) &&
-               lease->client.read(key, packed, sizeof *packed, size) == FERRETGOLD_OK;
+        const ferretgold::lease client(cache_);
+        return is_key(name, &key) && ferretgold_get(client.get(), &key, packed, sizeof *packed, true,
+                                                    size) == FERRETGOLD_OK;
     }
 
     ferretgold::cache cache_;
-    client_pool clients_;
 };
 
 #endif

@@ -1,18 +1,15 @@
 //! A safe wrapper of the library for Rust: the types rule out what the library can't check.
 //!
-//! A `Cache` is shared by reference. A `Client` is `Send`, and each of its calls takes `&mut`, so one
-//! thread uses it at a time. Clients borrow their cache, so none outlives it.
+//! A `Cache` is shared by reference, and any thread may open a client of it. A `Client` is `Send`, and
+//! each of its calls takes `&mut`, so one thread uses it at a time. Clients borrow their cache, so none
+//! outlives it. One that is dropped gives back the handles that it still holds.
 
 // One example uses a part of it.
 #![allow(dead_code)]
 
 use std::ffi::c_void;
 use std::marker::PhantomData;
-use std::sync::{Mutex, PoisonError};
-
-#[repr(C)]
-#[derive(Clone, Copy)]
-struct Object(*mut c_void);
+use std::ptr::null_mut;
 
 #[repr(C)]
 #[derive(Clone, Copy, Debug)]
@@ -36,14 +33,14 @@ pub struct Key {
     pub w1: u64,
 }
 
-/// A handle: it isn't given back by itself, since only its client can do that.
+/// A handle. It is given back by its client, at the latest when that is dropped.
 #[repr(C)]
 #[derive(Clone, Copy, Debug, Default, PartialEq, Eq)]
 pub struct Handle {
     index: usize,
     serial: u64,
     client: u32,
-    reserved: u32,
+    cache: u32,
 }
 
 #[repr(C)]
@@ -72,29 +69,20 @@ pub const NO_HANDLE: u32 = 17;
 pub const MISSING: u32 = 39;
 
 extern "C" {
-    fn ferretgold_raw_open(config: *const Config, cache: *mut Object) -> u32;
-    fn ferretgold_raw_client_open(
-        cache: *mut Object,
-        home: usize,
-        client: *mut Object,
-    ) -> u32;
-    fn ferretgold_raw_client_close(
-        cache: *mut Object,
-        home: usize,
-        client: Object,
-        kept: *mut Object,
-    ) -> u32;
-    fn ferretgold_raw_close(cache: Object, totals: *mut Totals, kept: *mut Object) -> u32;
-    fn ferretgold_raw_lookup(client: *mut Object, key: *const Key, handle: *mut Handle) -> u32;
-    fn ferretgold_raw_release(
-        client: *mut Object,
-        handle: *const Handle,
+    fn ferretgold_open(config: *const Config, cache: *mut *mut c_void) -> u32;
+    fn ferretgold_client_open(cache: *mut c_void, client: *mut *mut c_void) -> u32;
+    fn ferretgold_client_close_releasing(cache: *mut c_void, client: *mut c_void) -> u32;
+    fn ferretgold_close(cache: *mut c_void, totals: *mut Totals) -> u32;
+    fn ferretgold_lookup(client: *mut c_void, key: *const Key, handle: *mut Handle) -> u32;
+    fn ferretgold_release(
+        client: *mut c_void,
+        handle: Handle,
         useful: bool,
         erase_if_last: bool,
         freed: *mut bool,
     ) -> u32;
-    fn ferretgold_raw_insert(
-        client: *mut Object,
+    fn ferretgold_insert(
+        client: *mut c_void,
         key: *const Key,
         value: *const u8,
         length: usize,
@@ -102,17 +90,17 @@ extern "C" {
         priority: u32,
         inserted: *mut u32,
     ) -> u32;
-    fn ferretgold_raw_get(
-        client: *mut Object,
+    fn ferretgold_get(
+        client: *mut c_void,
         key: *const Key,
         buffer: *mut u8,
         capacity: usize,
         useful: bool,
         length: *mut usize,
     ) -> u32;
-    fn ferretgold_raw_read_value(
-        client: *mut Object,
-        handle: *const Handle,
+    fn ferretgold_read_value(
+        client: *mut c_void,
+        handle: Handle,
         buffer: *mut u8,
         capacity: usize,
         length: *mut usize,
@@ -126,9 +114,9 @@ fn judged(status: u32) -> Result<(), Refused> {
     }
 }
 
-/// A cache. The lock is round its own calls alone: clients don't take it.
+/// A cache.
 pub struct Cache {
-    object: Mutex<Object>,
+    at: *mut c_void,
 }
 
 unsafe impl Send for Cache {}
@@ -136,54 +124,44 @@ unsafe impl Sync for Cache {}
 
 impl Cache {
     pub fn open(config: &Config) -> Result<Cache, Refused> {
-        let mut object = Object(std::ptr::null_mut());
-        judged(unsafe { ferretgold_raw_open(config, &mut object) })?;
-        Ok(Cache {
-            object: Mutex::new(object),
-        })
+        let mut at = null_mut();
+        judged(unsafe { ferretgold_open(config, &mut at) })?;
+        Ok(Cache { at })
     }
 
+    /// A client that nobody has. It waits for nothing and allocates nothing.
     pub fn client(&self) -> Result<Client<'_>, Refused> {
-        let mut cache = self.object.lock().unwrap();
-        let home = cache.0 as usize;
-        let mut object = Object(std::ptr::null_mut());
-        judged(unsafe { ferretgold_raw_client_open(&mut *cache, home, &mut object) })?;
+        let mut at = null_mut();
+        judged(unsafe { ferretgold_client_open(self.at, &mut at) })?;
         Ok(Client {
-            object,
+            at,
             cache: self,
             one_thread: PhantomData,
         })
     }
 
-    /// Ends the cache. A client that went with handles makes it Missing; the cache is kept then.
-    pub fn close(mut self) -> Result<Totals, (Refused, Cache)> {
-        match self.end() {
-            Ok(totals) => {
+    /// Ends the cache. A client that was forgotten makes it Missing; the cache is kept then.
+    pub fn close(self) -> Result<Totals, (Refused, Cache)> {
+        let mut totals = Totals::default();
+        match judged(unsafe { ferretgold_close(self.at, &mut totals) }) {
+            Ok(()) => {
                 std::mem::forget(self);
                 Ok(totals)
             }
             Err(why) => Err((why, self)),
         }
     }
-
-    fn end(&mut self) -> Result<Totals, Refused> {
-        let cache = *self.object.get_mut().unwrap_or_else(PoisonError::into_inner);
-        let mut totals = Totals::default();
-        let mut kept = Object(std::ptr::null_mut());
-        judged(unsafe { ferretgold_raw_close(cache, &mut totals, &mut kept) })?;
-        Ok(totals)
-    }
 }
 
 impl Drop for Cache {
     fn drop(&mut self) {
-        let _ = self.end();
+        let _ = unsafe { ferretgold_close(self.at, null_mut()) };
     }
 }
 
-/// A client of a cache. It gives itself back when it goes, if it holds no handle.
+/// A client of a cache. It gives itself back when it goes, with the handles that it holds.
 pub struct Client<'a> {
-    object: Object,
+    at: *mut c_void,
     cache: &'a Cache,
     one_thread: PhantomData<*mut ()>,
 }
@@ -194,7 +172,7 @@ impl Client<'_> {
     /// A handle on an entry of the key, if there is one.
     pub fn lookup(&mut self, key: Key) -> Result<Option<Handle>, Refused> {
         let mut handle = Handle::default();
-        match unsafe { ferretgold_raw_lookup(&mut self.object, &key, &mut handle) } {
+        match unsafe { ferretgold_lookup(self.at, &key, &mut handle) } {
             0 => Ok(Some(handle)),
             MISS => Ok(None),
             why => Err(Refused(why)),
@@ -210,8 +188,8 @@ impl Client<'_> {
     ) -> Result<(), Refused> {
         let mut inserted = 0;
         judged(unsafe {
-            ferretgold_raw_insert(
-                &mut self.object,
+            ferretgold_insert(
+                self.at,
                 &key,
                 value.as_ptr(),
                 value.len(),
@@ -226,9 +204,9 @@ impl Client<'_> {
     pub fn read(&mut self, handle: Handle, buffer: &mut [u8]) -> Result<usize, Refused> {
         let mut length = 0;
         judged(unsafe {
-            ferretgold_raw_read_value(
-                &mut self.object,
-                &handle,
+            ferretgold_read_value(
+                self.at,
+                handle,
                 buffer.as_mut_ptr(),
                 buffer.len(),
                 &mut length,
@@ -242,8 +220,8 @@ impl Client<'_> {
     pub fn get(&mut self, key: Key, buffer: &mut [u8]) -> Result<Option<usize>, Refused> {
         let mut length = 0;
         match unsafe {
-            ferretgold_raw_get(
-                &mut self.object,
+            ferretgold_get(
+                self.at,
                 &key,
                 buffer.as_mut_ptr(),
                 buffer.len(),
@@ -261,7 +239,7 @@ impl Client<'_> {
     pub fn release(&mut self, handle: Handle) -> Result<bool, Refused> {
         let mut freed = false;
         judged(unsafe {
-            ferretgold_raw_release(&mut self.object, &handle, true, false, &mut freed)
+            ferretgold_release(self.at, handle, true, false, &mut freed)
         })?;
         Ok(freed)
     }
@@ -269,9 +247,6 @@ impl Client<'_> {
 
 impl Drop for Client<'_> {
     fn drop(&mut self) {
-        let mut cache = self.cache.object.lock().unwrap();
-        let home = cache.0 as usize;
-        let mut kept = Object(std::ptr::null_mut());
-        unsafe { ferretgold_raw_client_close(&mut *cache, home, self.object, &mut kept) };
+        let _ = unsafe { ferretgold_client_close_releasing(self.cache.at, self.at) };
     }
 }

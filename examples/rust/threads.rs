@@ -59,6 +59,10 @@ fn main() -> Result<(), Refused> {
         client.release(handle)?;
         assert_eq!(client.release(handle), Err(Refused(NO_HANDLE)));
     }
+    let kept = cache.client()?.lookup(Key { w0: 1, w1: 1 })?;
+    assert!(kept.is_some_and(|handle| cache.client().is_ok_and(|mut client| {
+        client.release(handle) == Err(Refused(NO_HANDLE))
+    })));
     let totals = cache.close().map_err(|(why, _)| why)?;
     assert_eq!(totals.usage, totals.slot_charges);
     assert_eq!(totals.occupied, totals.slot_count);

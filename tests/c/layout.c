@@ -1,6 +1,6 @@
 /* The layout that programs are compiled against: it changes only with intent. That the library has
  * the same, tests/layout looks. */
-#include "ferretgold.h"
+#include "ferretgold_raw.h"
 
 #define SIZE_IS(type, size) \
     _Static_assert(sizeof(type) == (size), "sizeof " #type);
@@ -29,7 +29,7 @@ SIZE_IS(ferretgold_handle, 24)
 AT(ferretgold_handle, index, 0, 8)
 AT(ferretgold_handle, serial, 8, 8)
 AT(ferretgold_handle, client, 16, 4)
-AT(ferretgold_handle, reserved, 20, 4)
+AT(ferretgold_handle, cache, 20, 4)
 
 SIZE_IS(ferretgold_stats, 64)
 AT(ferretgold_stats, probes, 0, 8)

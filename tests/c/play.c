@@ -1,29 +1,27 @@
 /* Plays traces of calls through ferretgold.h alone, and compares each answer with the one recorded
- * beside its call. Then tries what no trace shows: refusals, null pointers, texts. It is what
- * tests/plant-c tries planted bugs by.
+ * beside its call; then tries what no trace shows (edges.c). It is what tests/plant-c tries planted
+ * bugs by.
  * Usage: play FILE.. where a file has cases as tests/calls has, and a letter more:
  *     c T k0 k1 U|N n     reads a key's value to a buffer of n bytes: value V, short LENGTH, miss
  */
-#include "ferretgold.h"
+#include "expect.h"
+#include "heap.h"
 
 #include <inttypes.h>
-#include <stdio.h>
 #include <stdlib.h>
 #include <string.h>
 
 enum { CLIENTS = 4, REGISTERS = 16384, BYTES = 64, WORDS = 12, TEXT = 256 };
 
-static int faults = 0;
+int faults = 0;
+const char *where = "";
 
-static void expect(const char *where, int line, const char *what, long long is, long long wanted) {
+void expect(const char *file, int line, const char *what, long long is, long long wanted) {
     if (is != wanted) {
-        printf("%s, line %d: %s is %lld, not %lld\n", where, line, what, is, wanted);
+        printf("%s: %s, line %d: %s is %lld, not %lld\n", where, file, line, what, is, wanted);
         faults++;
     }
 }
-
-static const char *where = "";
-#define EXPECT(what, wanted) expect(where, __LINE__, #what, (long long)(what), (long long)(wanted))
 
 /* ---- Traces ---------------------------------------------------------------------------------- */
 
@@ -356,201 +354,13 @@ static void play_file(const char *path) {
     fclose(file);
 }
 
-/* ---- What no trace shows --------------------------------------------------------------------- */
-
-static void texts(void) {
-    static const struct { int status; const char *text; } all[] = {
-        {0, "ok"}, {1, "miss"}, {16, "a pointer is null"},
-        {17, "the client holds no such handle"}, {18, "the charge is 0"},
-        {19, "the value is longer than a slot has room for"},
-        {20, "the buffer is shorter than the value"}, {21, "the priority is unknown"},
-        {22, "there is no such shard or slot"},
-        {23, "the client holds as many handles as it may"},
-        {24, "the client has used all its serials"},
-        {25, "the charge is above a shard's capacity"},
-        {26, "evictions freed too little of the charge"}, {27, "evictions freed no slot"},
-        {28, "an allocation failed"}, {29, "slots must be a power of two from 8 to 65,536"},
-        {30, "room must be 1 to 512"}, {31, "clients must be 1 to 1,024"},
-        {32, "handles must be 1 to 16,384"}, {33, "shards must be a power of two from 1 to 64"},
-        {34, "capacity must be at most 2^40"}, {35, "serials must be 1 to 2^54"},
-        {36, "all clients of the cache are out"}, {37, "the client is one of another cache"},
-        {38, "the client holds handles"}, {39, "clients of the cache are out"}, {2, "unknown"}};
-    for (size_t k = 0; k < sizeof all / sizeof *all; k++) {
-        EXPECT(strcmp(ferretgold_status_text((ferretgold_status)all[k].status), all[k].text), 0);
-    }
-}
-
-/* Each field of a configuration, one below and one above what it may be. */
-static void configurations(void) {
-    static const struct { const char *field; uint64_t below, above; int status; } all[] = {
-        {"slots", 4, 131072, 29},  {"slots", 0, 9, 29},      {"room", 0, 513, 30},
-        {"clients", 0, 1025, 31},  {"handles", 0, 16385, 32}, {"shards", 0, 128, 33},
-        {"shards", 3, 65, 33},     {"serials", 0, FERRETGOLD_MOST_SERIALS + 1, 35},
-        {"capacity", (UINT64_C(1) << 40) + 1, UINT64_MAX, 34}};
-    const ferretgold_config good = config;
-    ferretgold_cache *none = NULL;
-    for (size_t k = 0; k < sizeof all / sizeof *all; k++) {
-        config = good;
-        set(all[k].field, all[k].below);
-        EXPECT(ferretgold_open(&config, &none), all[k].status);
-        set(all[k].field, all[k].above);
-        EXPECT(ferretgold_open(&config, &none), all[k].status);
-    }
-    config = good;
-    EXPECT(none == NULL, true);
-}
-
-static const ferretgold_key KEY = {1, 2};
-static const ferretgold_key OTHER = {3, 4};
-
-/* Null where a pointer may not be null, in the calls of a cache. */
-static void nulls_of_cache(void) {
-    ferretgold_client *client = clients[0];
-    EXPECT(ferretgold_open(NULL, &cache), 16);
-    EXPECT(ferretgold_open(&config, NULL), 16);
-    EXPECT(ferretgold_client_open(NULL, &client), 16);
-    EXPECT(ferretgold_client_open(cache, NULL), 16);
-    EXPECT(ferretgold_client_close(NULL, client), 16);
-    EXPECT(ferretgold_client_close(cache, NULL), 16);
-    EXPECT(ferretgold_close(NULL, NULL), 16);
-}
-
-/* And in those of a client. */
-static void nulls(ferretgold_client *it) {
-    ferretgold_handle handle = {0, 0, 0, 0};
-    ferretgold_key key = {0, 0};
-    ferretgold_stats stats;
-    uint64_t wide = 0;
-    size_t length = 0;
-    char byte = 0;
-    EXPECT(ferretgold_lookup(NULL, &KEY, &handle), 16);
-    EXPECT(ferretgold_lookup(it, NULL, &handle), 16);
-    EXPECT(ferretgold_lookup(it, &KEY, NULL), 16);
-    EXPECT(ferretgold_reref(NULL, handle, &handle), 16);
-    EXPECT(ferretgold_reref(it, handle, NULL), 16);
-    EXPECT(ferretgold_release(NULL, handle, true, true, NULL), 16);
-    EXPECT(ferretgold_insert(NULL, &KEY, &byte, 1, 1, FERRETGOLD_LOW, NULL), 16);
-    EXPECT(ferretgold_insert(it, NULL, &byte, 1, 1, FERRETGOLD_LOW, NULL), 16);
-    EXPECT(ferretgold_insert(it, &KEY, NULL, 1, 1, FERRETGOLD_LOW, NULL), 16);
-    EXPECT(ferretgold_insert_pinned(NULL, &KEY, &byte, 1, 1, FERRETGOLD_LOW, NULL, &handle), 16);
-    EXPECT(ferretgold_insert_pinned(it, NULL, &byte, 1, 1, FERRETGOLD_LOW, NULL, &handle), 16);
-    EXPECT(ferretgold_insert_pinned(it, &KEY, NULL, 1, 1, FERRETGOLD_LOW, NULL, &handle), 16);
-    EXPECT(ferretgold_insert_pinned(it, &KEY, &byte, 1, 1, FERRETGOLD_LOW, NULL, NULL), 16);
-    EXPECT(ferretgold_erase(NULL, &KEY, NULL), 16);
-    EXPECT(ferretgold_erase(it, NULL, NULL), 16);
-    EXPECT(ferretgold_handle_key(NULL, handle, &key), 16);
-    EXPECT(ferretgold_handle_key(it, handle, NULL), 16);
-    EXPECT(ferretgold_value_len(NULL, handle, &length), 16);
-    EXPECT(ferretgold_value_len(it, handle, NULL), 16);
-    EXPECT(ferretgold_read_value(NULL, handle, &byte, 1, &length), 16);
-    EXPECT(ferretgold_read_value(it, handle, NULL, 1, &length), 16);
-    EXPECT(ferretgold_get(NULL, &KEY, &byte, 1, true, &length), 16);
-    EXPECT(ferretgold_get(it, NULL, &byte, 1, true, &length), 16);
-    EXPECT(ferretgold_get(it, &KEY, NULL, 1, true, &length), 16);
-    EXPECT(ferretgold_usage(NULL, &wide), 16);
-    EXPECT(ferretgold_usage(it, NULL), 16);
-    EXPECT(ferretgold_pinned_usage(NULL, &wide), 16);
-    EXPECT(ferretgold_pinned_usage(it, NULL), 16);
-    EXPECT(ferretgold_occupancy(NULL, &wide), 16);
-    EXPECT(ferretgold_occupancy(it, NULL), 16);
-    EXPECT(ferretgold_word(NULL, 0, 0, &wide), 16);
-    EXPECT(ferretgold_word(it, 0, 0, NULL), 16);
-    EXPECT(ferretgold_displacement(NULL, 0, 0, &wide), 16);
-    EXPECT(ferretgold_displacement(it, 0, 0, NULL), 16);
-    EXPECT(ferretgold_statistics(NULL, &stats), 16);
-    EXPECT(ferretgold_statistics(it, NULL), 16);
-    EXPECT(ferretgold_holds(NULL, handle), 0);
-    EXPECT(ferretgold_held(NULL), 0);
-    EXPECT(ferretgold_serials_left(NULL), 0);
-    EXPECT(ferretgold_client_number(NULL), 0);
-}
-
-/* A handle that the client doesn't hold: each call refuses it, and leaves its outputs. */
-static void no_handle(ferretgold_client *it, ferretgold_handle handle) {
-    ferretgold_handle more = {5, 5, 5, 5};
-    ferretgold_key key = {5, 5};
-    size_t length = 5;
-    bool freed = true;
-    char byte = 5;
-    EXPECT(ferretgold_holds(it, handle), 0);
-    EXPECT(ferretgold_reref(it, handle, &more), 17);
-    EXPECT(ferretgold_release(it, handle, true, true, &freed), 17);
-    EXPECT(ferretgold_handle_key(it, handle, &key), 17);
-    EXPECT(ferretgold_value_len(it, handle, &length), 17);
-    EXPECT(ferretgold_read_value(it, handle, &byte, 1, &length), 17);
-    EXPECT(more.serial == 5 && key.w0 == 5 && length == 5 && freed && byte == 5, true);
-}
-
-/* What a client refuses of values, charges, priorities, slots; outputs that may be null. */
-static void refusals(ferretgold_client *it, ferretgold_client *other) {
-    ferretgold_handle handle = {0, 5, 0, 0}, held = {0, 0, 0, 0};
-    ferretgold_inserted inserted = (ferretgold_inserted)7;
-    uint64_t wide = 5;
-    const uint32_t least = 1;
-    char bytes[17] = {0};
-    for (int k = 0; k < 2; k++) {
-        uint32_t charge = k == 0 ? 0 : least;
-        size_t length = k == 0 ? 1 : 17;
-        EXPECT(ferretgold_insert(it, &KEY, bytes, length, charge, FERRETGOLD_LOW, &inserted), 18 + k);
-        EXPECT(ferretgold_insert_pinned(it, &KEY, bytes, length, charge, FERRETGOLD_LOW, &inserted,
-                                        &handle), 18 + k);
-    }
-    EXPECT(ferretgold_insert(it, &KEY, bytes, 1, 1, (ferretgold_priority)3, &inserted), 21);
-    EXPECT(ferretgold_insert_pinned(it, &KEY, bytes, 1, 1, (ferretgold_priority)3, &inserted,
-                                    &handle), 21);
-    EXPECT(handle.serial == 5 && (int)inserted == 7, true);
-    EXPECT(ferretgold_word(it, 1, 0, &wide), 22);
-    EXPECT(ferretgold_word(it, 0, 8, &wide), 22);
-    EXPECT(ferretgold_displacement(it, 1, 0, &wide), 22);
-    EXPECT(ferretgold_displacement(it, 0, 8, &wide), 22);
-    EXPECT(wide, 5);
-    EXPECT(ferretgold_insert(it, &OTHER, "", 0, 1, FERRETGOLD_LOW, NULL), 0);
-    EXPECT(ferretgold_insert_pinned(it, &KEY, "ab", 2, 1, FERRETGOLD_LOW, NULL, &held), 0);
-    no_handle(other, held);
-    no_handle(it, handle);
-    EXPECT(ferretgold_get(it, &KEY, bytes, 2, true, NULL), 0);
-    EXPECT(memcmp(bytes, "ab", 2), 0);
-    EXPECT(ferretgold_erase(it, &OTHER, NULL), 0);
-    EXPECT(ferretgold_erase(it, &KEY, NULL), 0);
-    EXPECT(ferretgold_release(it, held, true, false, NULL), 0);
-    no_handle(it, held);
-}
-
-/* Clients that go out and come back, and those of another cache. */
-static void closings(void) {
-    ferretgold_cache *second = NULL;
-    ferretgold_client *foreign = NULL, *more = NULL;
-    EXPECT(ferretgold_client_open(cache, &more), 36);
-    EXPECT(more == NULL, true);
-    EXPECT(ferretgold_open(&config, &second), 0);
-    EXPECT(ferretgold_client_open(second, &foreign), 0);
-    EXPECT(ferretgold_client_close(cache, foreign), 37);
-    EXPECT(ferretgold_client_close(second, clients[0]), 37);
-    EXPECT(ferretgold_client_close(second, foreign), 0);
-    EXPECT(ferretgold_close(second, NULL), 0);
-}
-
-static void edges(void) {
-    char *words[] = {NULL, NULL, NULL}, clients_word[] = "--clients", two[] = "2", out[TEXT];
-    where = "edges";
-    words[0] = clients_word, words[1] = two;
-    begin(words);
-    EXPECT(clients[0] != NULL && clients[1] != NULL && clients[0] != clients[1], true);
-    texts();
-    configurations();
-    nulls_of_cache();
-    nulls(clients[0]);
-    refusals(clients[0], clients[1]);
-    closings();
-    end(out);
-    EXPECT(strcmp(out, "{\"charges\":0,\"occupied\":0,\"slots\":0,\"usage\":0}"), 0);
-}
-
 int main(int count, char **files) {
+    edges();
+    EXPECT(heap_blocks, 0);
     for (int k = 1; k < count; k++) {
         play_file(files[k]);
+        EXPECT(heap_blocks, 0);
     }
-    edges();
     printf("play: %d faults\n", faults);
     return faults != 0;
 }

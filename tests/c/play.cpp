@@ -2,12 +2,12 @@
 // its call; then moves the wrapper's objects about. It is what tests/plant-c tries planted bugs by.
 // Usage: play FILE.. where a file has cases as tests/calls has
 #include "ferretgold.hpp"
+#include "heap.h"
 
 #include <cinttypes>
 #include <cstdio>
 #include <cstdlib>
 #include <fstream>
-#include <malloc.h>
 #include <map>
 #include <memory>
 #include <sstream>
@@ -380,10 +380,14 @@ void moved_caches() {
     client one = it.open_client();
     client two(std::move(one));
     EXPECT(one.get() == nullptr && two.get() != nullptr);
+    EXPECT(one.insert(KEY, "", 0, 1) == 16);
     {
         client last = it.open_client();
         EXPECT(refuses([&] { (void)it.open_client(); }, 36));
         EXPECT(refuses([&] { (void)it.close(); }, 39));
+        ferretgold_client *const was = two.get();
+        two = std::move(last);
+        EXPECT(two.get() != was && last.get() == was);
     }
     EXPECT(it.get() != nullptr);
     EXPECT(two.insert(KEY, "ab", 2, 3) == 0);
@@ -392,32 +396,57 @@ void moved_caches() {
     const ferretgold_totals left = it.close();
     EXPECT(left.usage == 3 && left.slot_count == 1);
     EXPECT(it.get() == nullptr);
+    EXPECT(refuses([&] { (void)it.close(); }, 16));
     ferretgold_config bad = small();
     bad.slots = 9;
     EXPECT(refuses([&] { cache none(bad); }, 29));
 }
 
-// How many bytes of the heap are in use.
-std::size_t in_use() {
-    const auto it = mallinfo2();
-    return it.uordblks + it.hblkhd;
+// Handles that go after their client, and clients after their cache: nothing is lost.
+void outlived() {
+    handle last;
+    {
+        cache it(small());
+        {
+            client one = it.open_client();
+            last = one.insert_pinned(KEY, "ab", 2, 3);
+        }
+        char bytes[2];
+        EXPECT(last.size() == 2 && last.read(bytes, 2) == 2);
+        client two = it.open_client();
+        EXPECT(refuses([&] { (void)it.open_client(); }, 36));
+        EXPECT(refuses([&] { (void)it.close(); }, 39));
+        handle more = last.again();
+        last = std::move(more);
+        EXPECT(ferretgold_held(two.get()) == 0);
+        last.release();
+        last.release();
+        client one = it.open_client();
+        EXPECT(one.stats().probes == 1 && ferretgold_held(one.get()) == 0);
+        last = one.lookup(KEY);
+        EXPECT(last);
+    }
+    EXPECT(last.size() == 2);
+    EXPECT(heap_blocks != 0);
+    last.release();
+    EXPECT(heap_blocks == 0);
 }
 
 void edges() {
     moved_handles();
     defaults();
     moved_caches();
+    outlived();
 }
 
 } // namespace
 
 int main(int count, char **files) {
     edges();
-    const std::size_t was = in_use();
-    edges();
-    EXPECT(in_use() == was);
+    EXPECT(heap_blocks == 0);
     for (int k = 1; k < count; k++) {
         play_file(files[k]);
+        EXPECT(heap_blocks == 0);
     }
     std::printf("play: %d faults\n", faults);
     return faults != 0;

@@ -16,7 +16,7 @@ use Rattle.hcc_cache.specs.declared.handle.Handle.{Handle}
 use Rattle.hcc_cache.specs.declared.inserting.Inserted.{Inserted}
 use Rattle.hcc_cache.specs.declared.priority.Priority.{Priority}
 use Rattle.hcc_cache.specs.Calls.{Erases, Finds, GivesUp, KeepsAll, Misses, Reads, Releases, Rerefs, TakesAtMost, TakesFor, Works, shard_in}
-use Rattle.hcc_cache.specs.Clients.{held_by, held_of, view_at}
+use Rattle.hcc_cache.specs.Clients.{Holds, held_by, held_of, view_at}
 use Rattle.hcc_cache.specs.Gets.{GetsAt, GetsFor, SeeksAt}
 use Rattle.hcc_cache.specs.Inserts.{Inserts, InsertsWith, RefusesWith}
 use Rattle.hcc_cache.specs.Totals.{LoadsEachOccupancy, LoadsEachUsage, LoadsUsages, SearchesAll, charge_by, entries_by, made_by, taken_by}
@@ -40,7 +40,7 @@ pub record LooksUp (key : Key) (answer : Result (Option Number) LookupError) (ol
   pub refused : OnErr answer (new ≡ old)
   pub found : IfOk answer (λ o. IfSome o (λ number. (handle : Handle)
       × Finds (arc_value old.cache) any key handle old.client new.client
-      × (number ≡ number_of handle)))
+      × (number ≡ number_of old.home handle)))
   pub missed : IfOk answer (λ o. IfNone o (Misses (arc_value old.cache) key old.client
       new.client))
   pub rest : KeepsRest old new
@@ -59,7 +59,7 @@ pub record RefersAgain (number : Number) (answer : Option (Result Number LookupE
   pub again : IfSome answer (λ a. IfOk a (λ more. (was : Handle) × (handle : Handle)
       × IsHandle old number was
       × Rerefs (arc_value old.cache) was handle old.client new.client
-      × (more ≡ number_of handle)))
+      × (more ≡ number_of old.home handle)))
   pub rest : KeepsRest old new
   pub steps : TakesAtMost 2 old.client new.client
 
@@ -73,6 +73,13 @@ pub record GivesBack (number : Number) (useful erase : Bool) (answer : Option Bo
   pub rest : KeepsRest old new
   pub steps : TakesAtMost (freeing (arc_value old.cache).geometry.slots + 3)
       old.client new.client
+
+-- The handle at an index is told, by its numbers; none where the client holds none there.
+pub record TellsHandle (index : ℕ) (answer : Option Number) (session : Session) : Type 0 where
+  pub some : IfSome answer (λ number. (number.index ≡ index)
+      × (handle : Handle) × IsHandle session number handle)
+  pub none : IfNone answer
+      ((handle : Handle) → handle.index ≡ index → ¬ Holds session.client handle)
 
 -- Each visible entry of a key is hidden.
 pub record Hides (key : Key) (hidden : ℕ) (old new : Session) : Type 0 where
@@ -124,7 +131,7 @@ module _ (key : Key) (charge : ℕ) (priority : Priority) (value : List ℕ) whe
         (λ made. (handle : Handle)
         × InsertsWith (arc_value old.cache) key charge priority value handle made.1
         old.client new.client
-        × (made.0 ≡ number_of handle))
+        × (made.0 ≡ number_of old.home handle))
         (λ why. RefusesWith (arc_value old.cache) key charge priority value why
         old.client new.client))
     pub rest : KeepsRest old new

@@ -43,21 +43,22 @@ pub record IsWholePool (pool : Pool) : Type 0 where
   pub clients : Each (IsBack (arc_value pool.cache) pool.config) pool.back.items
   pub room : pool.config.clients ≤ vec_capacity pool.back
 
--- a new cache as it was configured, with all its clients back
-pub record Opens (config : Config) (pool : Pool) : Type 0 where
+-- a new cache of this number as it was configured, with all its clients back
+pub record Opens (config : Config) (number : ℕ) (pool : Pool) : Type 0 where
   pub tag : AnyBytes
   pub opened : IsOpened config tag (arc_value pool.cache) pool.back.items
   pub config_is : pool.config ≡ config
+  pub number_is : pool.number ≡ number
 
 -- the same cache, which has these clients back
 abbrev pub HasBack : List (Client AnyBytes) → (old new : Pool) → Type 0
 HasBack clients old new =
     (new.back.items ≡ clients) × (new ≡ record old { back = new.back })
 
--- why a client isn't taken back
-abbrev pub judged_back : (home : ℕ) → Session → Result (Unit {0}) Refusal
-judged_back home session =
-    if session.home == home
+-- why a client isn't taken back by the cache of this number
+abbrev pub judged_back : (number : ℕ) → Session → Result (Unit {0}) Refusal
+judged_back number session =
+    if session.home == number
     then (if held_by session.client == 0 then Ok tt else Err HandlesOut)
     else Err OtherCache
 
@@ -107,11 +108,11 @@ IsSameRack old new = by old.pool new.pool
     by (Some was) (Some is) = HasBack was.back.items was is
 
 -- The client of this session was one of those that were back, and is out now: it works on the same
--- cache, which it knows by this number.
-pub record GivesOut (session : Session) (home : ℕ) (old new : Pool) : Type 0 where
+-- cache, which it knows by its number.
+pub record GivesOut (session : Session) (old new : Pool) : Type 0 where
   pub last : old.back.items ≡ new.back.items ++ session.client ∷ []
   pub cache : arc_value session.cache ≡ arc_value old.cache
-  pub home_is : session.home ≡ home
+  pub home_is : session.home ≡ old.number
   pub rest : new ≡ record old { back = new.back }
 
 -- the session is one of this cache's
@@ -119,14 +120,14 @@ abbrev pub IsOf : Pool → Session → Type 0
 IsOf pool session =
     (arc_value session.cache ≡ arc_value pool.cache) × (session.client.most ≡ pool.config.handles)
 
--- a session that knows its cache by this number is one of this cache's
-abbrev pub IsHome : (home : ℕ) → Session → Rack → Type 0
-IsHome home session rack = IfAny rack.pool (λ pool. session.home ≡ home → IsOf pool session)
+-- a session that knows its cache by this cache's number is one of this cache's
+abbrev pub IsHome : Session → Rack → Type 0
+IsHome session rack = IfAny rack.pool (λ pool. session.home ≡ pool.number → IsOf pool session)
 
 -- why a client isn't taken back by a cache that may be closed
-abbrev pub judged_at : (home : ℕ) → Session → Option Pool → Result (Unit {0}) Refusal
-judged_at home session None = Err OtherCache
-judged_at home session (Some pool) = judged_back home session
+abbrev pub judged_at : Session → Option Pool → Result (Unit {0}) Refusal
+judged_at session None = Err OtherCache
+judged_at session (Some pool) = judged_back pool.number session
 
 -- the session's client is back
 abbrev pub TakesBack : Session → (old new : Pool) → Type 0
@@ -147,26 +148,26 @@ pub record Closes (totals : Totals) (pool : Pool) : Type 0 where
 -- What each call of a cache comes to: what it answers, and what it leaves.
 
 -- A cache is opened.
-pub record OpensAs (config : Config) (answer : Result (Box Rack Global) Refusal) : Type 0 where
+pub record OpensAs (config : Config) (number : ℕ) (answer : Result (Box Rack Global) Refusal)
+    : Type 0 where
   pub refused : IfErr (checked config) (λ e. answer ≡ Err (opening_of e))
   pub memory : OnOk (checked config) (IsOkUnless answer OutOfMemory)
-  pub opened : IfOk answer (λ rack. IfOpen rack.value.pool (Opens config))
+  pub opened : IfOk answer (λ rack. IfOpen rack.value.pool (Opens config number))
   pub whole : IfOk answer (λ rack. IsWholeRack rack.value)
 
 -- A client is given out.
-pub record TakesOut (home : ℕ) (answer : Result (Box Session Global) Refusal) (old new : Rack)
-    : Type 0 where
+pub record TakesOut (answer : Result (Box Session Global) Refusal) (old new : Rack) : Type 0 where
   pub empty : length (backs old.pool) ≡ 0 → answer ≡ Err NoClient
   pub memory : 0 < length (backs old.pool) → IsOkUnless answer OutOfMemory
   pub nothing : OnErr answer (IsSameRack old new)
-  pub taken : IfOk answer (λ session. IfBoth old.pool new.pool (GivesOut session.value home))
+  pub taken : IfOk answer (λ session. IfBoth old.pool new.pool (GivesOut session.value))
   pub whole : IfOk answer (λ session. IsWhole session.value)
 
 -- A client is taken back, or handed back as it was.
-pub record TakesIn (home : ℕ) (session : Box Session Global)
+pub record TakesIn (session : Box Session Global)
     (answer : Result (Unit {0}) (Refusal × Box Session Global)) (old new : Rack) : Type 0 where
-  pub unfit : IfErr (judged_at home session.value old.pool) (λ why. answer ≡ Err (why, session))
-  pub memory : OnOk (judged_at home session.value old.pool) (IfErr answer (λ e.
+  pub unfit : IfErr (judged_at session.value old.pool) (λ why. answer ≡ Err (why, session))
+  pub memory : OnOk (judged_at session.value old.pool) (IfErr answer (λ e.
       (e.0 ≡ OutOfMemory)
       × IfOpen old.pool (λ pool. pool.config.clients ≤ length pool.back.items)))
   pub nothing : IfErr answer (λ e. IsSameRack old new × (e.1 ≡ session))

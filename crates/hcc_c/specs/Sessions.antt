@@ -24,14 +24,14 @@ pub record IsWhole (session : Session) : Type 0 where
 abbrev pub any : AnyBytes → Key → List ℕ → Type 0
 any tag key value = Unit {0}
 
--- The numbers are those of a handle that the client holds.
+-- The numbers are those of a handle that the client holds: its cache's, its own, and the serial.
 abbrev pub IsHandle : Session → Number → Handle → Type 0
-IsHandle session number handle =
-    (handle ≡ handle_of (numbers_in number)) × Holds session.client handle
+IsHandle session number handle = (number.cache ≡ session.home)
+    × (handle ≡ handle_of (numbers_in number)) × Holds session.client handle
 
 -- They are those of none.
 abbrev pub IsNone : Session → Number → Type 0
-IsNone session number = HoldsNone session.client (numbers_in number)
+IsNone session number = number.cache ≡ session.home → HoldsNone session.client (numbers_in number)
 
 -- why a value isn't inserted, before the cache is asked
 abbrev pub judged : (room len charge : ℕ) → Result (Unit {0}) Unfit

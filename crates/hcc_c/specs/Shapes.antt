@@ -1,4 +1,5 @@
 -- The cache's values of what crosses to C.
+use Rattle.std.specs.Prelude.{ℕ}
 use Rattle.hcc_rule.specs.declared.key.Key.{Key as CacheKey}
 use Rattle.hcc_shard.specs.declared.seat.Stats.{Stats as CacheStats}
 use Rattle.hcc_cache.specs.declared.config.Config.{Config}
@@ -15,12 +16,12 @@ key_of key = record { w0 = key.w0; w1 = key.w1 }
 abbrev pub words_of : CacheKey → Key
 words_of key = record { w0 = key.w0; w1 = key.w1 }
 
-abbrev pub number_of : Handle → Number
-number_of handle = record {
+abbrev pub number_of : (cache : ℕ) → Handle → Number
+number_of cache handle = record {
   index = handle.index;
   serial = handle.serial;
   client = handle.client;
-  reserved = 0;
+  cache = cache;
 }
 
 abbrev pub numbers_in : Number → Numbers

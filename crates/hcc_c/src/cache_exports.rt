@@ -14,12 +14,17 @@ use crate::shapes::{Setup, Totals};
 use std::alloc::Global;
 
 #[unsafe(no_mangle)]
-pub extern "C" fn ferretgold_raw_open(alloc: Global, setup: &Setup, cache: &mut CachePlace) -> u32
+pub extern "C" fn ferretgold_raw_open(
+    alloc: Global,
+    setup: &Setup,
+    number: u32,
+    cache: &mut CachePlace,
+) -> u32
     requires { cache.old.value ≡ None }
-    ensures opens { (answer : _) × OpensAs (config_of setup.now) answer
+    ensures opens { (answer : _) × OpensAs (config_of setup.now) number answer
         × (result ≡ status_of_given answer) × (cache.new.value ≡ placed answer) }
 {
-    let answer = Rack::open(alloc, setup.config());
+    let answer = Rack::open(alloc, setup.config(), number);
     told_cache(answer, cache)
 }
 
@@ -27,42 +32,40 @@ pub extern "C" fn ferretgold_raw_open(alloc: Global, setup: &Setup, cache: &mut 
 pub extern "C" fn ferretgold_raw_client_open(
     alloc: Global,
     cache: &mut CacheObject,
-    home: usize,
     client: &mut ClientPlace,
 ) -> u32
     requires cache { IsWholeRack cache.old.value }
     requires client { client.old.value ≡ None }
     ensures there { IsCacheThere cache.old cache.new }
     ensures whole { IsWholeRack cache.new.value }
-    ensures takes { (answer : _) × TakesOut home answer cache.old.value cache.new.value
+    ensures takes { (answer : _) × TakesOut answer cache.old.value cache.new.value
         × (result ≡ status_of_given answer) × (client.new.value ≡ placed answer) }
 {
-    let answer = cache.rack().take(alloc, home);
+    let answer = cache.rack().take(alloc);
     told_client(answer, client)
 }
 
-/// The header gives the address of the cache's object as `home`: no two that are open have one.
-/// Where the client isn't taken back, `kept` has it as it was.
+/// No two caches that are open have one number: so a client that has this cache's number is one of
+/// it. Where the client isn't taken back, `kept` has it as it was.
 #[unsafe(no_mangle)]
 pub extern "C" fn ferretgold_raw_client_close(
     alloc: Global,
     cache: &mut CacheObject,
-    home: usize,
     client: ClientObject,
     kept: &mut ClientPlace,
 ) -> u32
     requires cache { IsWholeRack cache.old.value }
     requires client { IsWhole client.value }
-    requires home { IsHome home client.value cache.old.value }
+    requires home { IsHome client.value cache.old.value }
     requires kept { kept.old.value ≡ None }
     ensures there { IsCacheThere cache.old cache.new }
     ensures whole { IsWholeRack cache.new.value }
     ensures takes { (session : _) × (session.value ≡ client.value) × (answer : _)
-        × TakesIn home session answer cache.old.value cache.new.value
+        × TakesIn session answer cache.old.value cache.new.value
         × (result ≡ status_of_back answer) × (kept.new.value ≡ kept_of answer) }
 {
     let client = client.client(alloc);
-    let answer = cache.rack().give_back(home, client);
+    let answer = cache.rack().give_back(client);
     told_back(answer, kept)
 }
 

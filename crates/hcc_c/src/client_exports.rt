@@ -4,7 +4,7 @@ ghost use Rattle.std.specs.Prelude.{◌≡◌, None, IfSome, true, false};
 ghost use Rattle.hcc_cache.specs.Clients.{held_by};
 ghost use Rattle.hcc_cache.specs.Totals.{no_stats, stats_over};
 ghost use Rattle.hcc_c.specs.Answers.{handle_of_pinned, inserted_of, inserted_of_pinned, key_or, length_got, length_of, more_of, number_of, status_of, status_of_got, status_of_insert, status_of_look, status_of_pinned, status_of_read, status_of_reref, value_or};
-ghost use Rattle.hcc_c.specs.Calls.{GetsValue, GivesBack, Hides, LooksUp, Puts, PutsPinned, ReadsValue, RefersAgain, TellsDisplacement, TellsKey, TellsLength, TellsOccupancy, TellsPinned, TellsUsage, TellsWord};
+ghost use Rattle.hcc_c.specs.Calls.{GetsValue, GivesBack, Hides, LooksUp, Puts, PutsPinned, ReadsValue, RefersAgain, TellsDisplacement, TellsHandle, TellsKey, TellsLength, TellsOccupancy, TellsPinned, TellsUsage, TellsWord};
 ghost use Rattle.hcc_c.specs.Lending.{IsThere};
 ghost use Rattle.hcc_c.specs.Refusals.{code_of, priority_of};
 ghost use Rattle.hcc_c.specs.Sessions.{IsHandle, IsNone, IsWhole};
@@ -277,6 +277,21 @@ pub extern "C" fn ferretgold_raw_displacement(
 {
     let answer = client.session().displacement(shard, slot);
     told(answer, Refusal::OutOfRange, displacement)
+}
+
+#[unsafe(no_mangle)]
+pub extern "C" fn ferretgold_raw_handle_at(
+    client: &mut ClientObject,
+    index: usize,
+    handle: &mut Number,
+) -> u32
+    ensures there { IsThere client.old client.new }
+    ensures same { client.new.value ≡ client.old.value }
+    ensures tells { (answer : _) × TellsHandle index answer client.old.value
+        × (result ≡ status_of answer Refusal.NoHandle) × (handle.new ≡ value_or answer handle.old) }
+{
+    let answer = client.session().handle_at(index);
+    told(answer, Refusal::NoHandle, handle)
 }
 
 #[unsafe(no_mangle)]

@@ -62,7 +62,7 @@ impl Session {
             .cache
             .insert_pinned(&mut self.client, key, copy, charge, priority);
         match answer {
-            Ok((handle, inserted)) => Ok(Ok((Number::of(handle), inserted))),
+            Ok((handle, inserted)) => Ok(Ok((Number::of(self.home, handle), inserted))),
             Err((why, _)) => Ok(Err(why)),
         }
     }

@@ -18,14 +18,16 @@ pub struct Pool {
     pub(crate) cache: Arc<Cache<AnyBytes>, Global>,
     pub(crate) back: Vec<Client<AnyBytes>>,
     pub(crate) config: Config,
+    /// The cache's number, among those that are open.
+    pub(crate) number: u32,
 }
 
 impl Pool {
-    /// A new cache, with all its clients. It refuses what the cache's `new` does.
-    pub fn open(alloc: Global, config: Config) -> Result<Pool, NewError>
+    /// A new cache of this number, with all its clients. It refuses what the cache's `new` does.
+    pub fn open(alloc: Global, config: Config, number: u32) -> Result<Pool, NewError>
         ensures refused { IfErr (checked config) (λ e. result ≡ Err e) }
         ensures memory { OnOk (checked config) (IsOkUnless result NewError.OutOfMemory) }
-        ensures opened { IfOk result (Opens config) }
+        ensures opened { IfOk result (Opens config number) }
         ensures whole { IfOk result IsWholePool }
     {
         let (cache, back) = Cache::new(alloc, config, AnyBytes)?;
@@ -34,14 +36,15 @@ impl Pool {
                 cache,
                 back,
                 config,
+                number,
             }),
             Err(_) => Err(NewError::OutOfMemory),
         }
     }
 
-    /// Gives out one of the clients that are back, which knows its cache by this number. It is
+    /// Gives out one of the clients that are back, which knows its cache by its number. It is
     /// refused where none is back, and else only for memory; nothing is changed then.
-    pub fn take(&mut self, alloc: Global, home: usize) -> Result<Box<Session>, Refusal>
+    pub fn take(&mut self, alloc: Global) -> Result<Box<Session>, Refusal>
         requires { IsWholePool self.old }
         ensures whole { IsWholePool self.new }
         ensures session { IfOk result (λ session. IsWhole session.value) }
@@ -49,7 +52,7 @@ impl Pool {
         ensures memory { 0 < length self.old.back.items
             → IsOkUnless result Refusal.OutOfMemory }
         ensures nothing { OnErr result (HasBack self.old.back.items self.old self.new) }
-        ensures taken { IfOk result (λ session. GivesOut session.value home self.old self.new) }
+        ensures taken { IfOk result (λ session. GivesOut session.value self.old self.new) }
     {
         if self.back.is_empty() {
             return Err(Refusal::NoClient);
@@ -63,7 +66,7 @@ impl Pool {
         let session = Session {
             cache,
             client,
-            home,
+            home: self.number,
             shards: self.config.shards,
             slots: self.config.slots,
         };
@@ -81,25 +84,21 @@ impl Pool {
     /// Takes a client back. It is refused where the client's cache has another number, then where
     /// the client holds a handle, and else only where all clients of the cache are back already;
     /// nothing is changed then.
-    pub fn give_back(
-        &mut self,
-        home: usize,
-        session: Box<Session>,
-    ) -> Result<(), (Refusal, Box<Session>)>
+    pub fn give_back(&mut self, session: Box<Session>) -> Result<(), (Refusal, Box<Session>)>
         requires whole { IsWholePool self.old }
         requires session { IsWhole session.value }
-        requires home { session.value.home ≡ home → IsOf self.old session.value }
+        requires home { session.value.home ≡ self.old.number → IsOf self.old session.value }
         ensures whole { IsWholePool self.new }
-        ensures unfit { IfErr (judged_back home session.value) (λ why.
+        ensures unfit { IfErr (judged_back self.old.number session.value) (λ why.
             result ≡ Err (why, session)) }
-        ensures memory { OnOk (judged_back home session.value) (IfErr result (λ e.
+        ensures memory { OnOk (judged_back self.old.number session.value) (IfErr result (λ e.
             (e.0 ≡ Refusal.OutOfMemory)
             × (self.old.config.clients ≤ length self.old.back.items))) }
         ensures nothing { IfErr result (λ e. HasBack self.old.back.items self.old self.new
             × (e.1 ≡ session)) }
         ensures back { OnOk result (TakesBack session.value self.old self.new) }
     {
-        if session.home != home {
+        if session.home != self.number {
             return Err((Refusal::OtherCache, session));
         }
         if session.client.held() != 0 {
@@ -127,6 +126,7 @@ impl Pool {
             cache,
             back,
             config,
+            number,
         } = self;
         match Arc::try_unwrap(cache) {
             Ok(cache) => Ok(totals(&closed(cache, back))),
@@ -134,6 +134,7 @@ impl Pool {
                 cache,
                 back,
                 config,
+                number,
             }),
         }
     }
@@ -169,11 +170,11 @@ pub struct Rack {
 }
 
 impl Rack {
-    /// A new cache, with all its clients. It refuses what the cache's `new` does.
-    pub fn open(alloc: Global, config: Config) -> Result<Box<Rack>, Refusal>
-        ensures opens { OpensAs config result }
+    /// A new cache of this number, with all its clients. It refuses what the cache's `new` does.
+    pub fn open(alloc: Global, config: Config, number: u32) -> Result<Box<Rack>, Refusal>
+        ensures opens { OpensAs config number result }
     {
-        let pool = match Pool::open(alloc, config) {
+        let pool = match Pool::open(alloc, config, number) {
             Ok(pool) => pool,
             Err(why) => return Err(Refusal::opening(why)),
         };
@@ -184,31 +185,27 @@ impl Rack {
     }
 
     /// Gives out a client, as its pool does; none where the cache is closed.
-    pub fn take(&mut self, alloc: Global, home: usize) -> Result<Box<Session>, Refusal>
+    pub fn take(&mut self, alloc: Global) -> Result<Box<Session>, Refusal>
         requires { IsWholeRack self.old }
         ensures whole { IsWholeRack self.new }
-        ensures takes { TakesOut home result self.old self.new }
+        ensures takes { TakesOut result self.old self.new }
     {
         match &mut self.pool {
-            Some(pool) => pool.take(alloc, home),
+            Some(pool) => pool.take(alloc),
             None => Err(Refusal::NoClient),
         }
     }
 
     /// Takes a client back, as its pool does; one that is closed has no clients.
-    pub fn give_back(
-        &mut self,
-        home: usize,
-        session: Box<Session>,
-    ) -> Result<(), (Refusal, Box<Session>)>
+    pub fn give_back(&mut self, session: Box<Session>) -> Result<(), (Refusal, Box<Session>)>
         requires whole { IsWholeRack self.old }
         requires session { IsWhole session.value }
-        requires home { IsHome home session.value self.old }
+        requires home { IsHome session.value self.old }
         ensures whole { IsWholeRack self.new }
-        ensures takes { TakesIn home session result self.old self.new }
+        ensures takes { TakesIn session result self.old self.new }
     {
         match &mut self.pool {
-            Some(pool) => pool.give_back(home, session),
+            Some(pool) => pool.give_back(session),
             None => Err((Refusal::OtherCache, session)),
         }
     }

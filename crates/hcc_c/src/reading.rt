@@ -14,7 +14,8 @@ impl Session {
         ensures whole { IsWhole self.new }
         ensures tells { TellsKey number result self.old self.new }
     {
-        let handle = self.client.handle(number.numbers())?;
+        let numbers = self.numbers(number)?;
+        let handle = self.client.handle(numbers)?;
         Some(self.cache.key(&mut self.client, handle))
     }
 
@@ -24,7 +25,8 @@ impl Session {
         ensures whole { IsWhole self.new }
         ensures tells { TellsLength number result self.old self.new }
     {
-        let handle = self.client.handle(number.numbers())?;
+        let numbers = self.numbers(number)?;
+        let handle = self.client.handle(numbers)?;
         Some(self.cache.value_len(&mut self.client, handle))
     }
 
@@ -36,8 +38,8 @@ impl Session {
         ensures whole { IsWhole self.new }
         ensures reads { ReadsValue number result buffer.old buffer.new self.old self.new }
     {
-        self.cache
-            .try_read(&mut self.client, number.numbers(), buffer)
+        let numbers = self.numbers(number)?;
+        self.cache.try_read(&mut self.client, numbers, buffer)
     }
 
     /// Copies the value of a key to the front of the buffer, with no handle: how many bytes it has,

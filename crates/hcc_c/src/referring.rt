@@ -1,5 +1,5 @@
 //! Handles that are given by their numbers, and given back.
-ghost use Rattle.hcc_c.specs.Calls.{GivesBack, Hides, LooksUp, RefersAgain};
+ghost use Rattle.hcc_c.specs.Calls.{GivesBack, Hides, LooksUp, RefersAgain, TellsHandle};
 ghost use Rattle.hcc_c.specs.Sessions.{IsWhole};
 
 use crate::session::Session;
@@ -15,7 +15,7 @@ impl Session {
         ensures looks { LooksUp key result self.old self.new }
     {
         match self.cache.lookup(&mut self.client, key)? {
-            Some(handle) => Ok(Some(Number::of(handle))),
+            Some(handle) => Ok(Some(Number::of(self.home, handle))),
             None => Ok(None),
         }
     }
@@ -27,9 +27,10 @@ impl Session {
         ensures whole { IsWhole self.new }
         ensures again { RefersAgain number result self.old self.new }
     {
-        let handle = self.client.handle(number.numbers())?;
+        let numbers = self.numbers(number)?;
+        let handle = self.client.handle(numbers)?;
         match self.cache.reref(&mut self.client, handle) {
-            Ok(more) => Some(Ok(Number::of(more))),
+            Ok(more) => Some(Ok(Number::of(self.home, more))),
             Err(why) => Some(Err(why)),
         }
     }
@@ -41,9 +42,17 @@ impl Session {
         ensures whole { IsWhole self.new }
         ensures released { GivesBack number useful erase_if_last result self.old self.new }
     {
-        let numbers = number.numbers();
+        let numbers = self.numbers(number)?;
         self.cache
             .try_release(&mut self.client, numbers, useful, erase_if_last)
+    }
+
+    /// The handle at an index, by its numbers, if the client holds one there.
+    pub fn handle_at(&self, index: usize) -> Option<Number>
+        ensures { TellsHandle index result self.now }
+    {
+        let handle = self.client.handle_at(index)?;
+        Some(Number::of(self.home, handle))
     }
 
     /// Hides each visible entry of the key, as the cache does: how many it hid.

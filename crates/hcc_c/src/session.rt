@@ -1,6 +1,9 @@
 //! A client in the hands of C, with the cache that it works on.
+ghost use Rattle.std.specs.Prelude.{◌≡◌, IfNone, IfSome};
+ghost use Rattle.hcc_c.specs.Shapes.{numbers_in};
 
-use hcc_cache::{AnyBytes, Cache, Client};
+use crate::shapes::Number;
+use hcc_cache::{AnyBytes, Cache, Client, Numbers};
 use std::alloc::Global;
 use std::sync::Arc;
 
@@ -9,9 +12,24 @@ use std::sync::Arc;
 pub struct Session {
     pub(crate) cache: Arc<Cache<AnyBytes>, Global>,
     pub(crate) client: Client<AnyBytes>,
-    /// The number by which its cache is known, among those that are open.
-    pub(crate) home: usize,
+    /// The number of its cache, among those that are open.
+    pub(crate) home: u32,
     /// How many shards the cache has, and how many slots each of them.
     pub(crate) shards: u32,
     pub(crate) slots: u32,
+}
+
+impl Session {
+    /// The cache's numbers of a handle; none where it is another cache's.
+    pub(crate) fn numbers(&self, number: Number) -> Option<Numbers>
+        ensures some { IfSome result (λ numbers. (numbers ≡ numbers_in number)
+            × (number.cache ≡ self.now.home)) }
+        ensures none { IfNone result (¬ (number.cache ≡ self.now.home)) }
+    {
+        if number.cache == self.home {
+            Some(number.numbers())
+        } else {
+            None
+        }
+    }
 }

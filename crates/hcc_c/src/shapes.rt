@@ -3,6 +3,18 @@ ghost use Rattle.std.specs.Prelude.{◌≡◌};
 ghost use Rattle.hcc_c.specs.Shapes.{config_of, key_of, number_of, numbers_in, stats_of, words_of};
 
 use hcc_cache::{Config, Handle, Numbers};
+use std::mem::size_of;
+
+// The sizes that C has.
+const _: () = prove!(size_of::<Key>() == 16);
+
+const _: () = prove!(size_of::<Number>() == 24);
+
+const _: () = prove!(size_of::<Setup>() == 48);
+
+const _: () = prove!(size_of::<Stats>() == 64);
+
+const _: () = prove!(size_of::<Totals>() == 32);
 
 /// A key of 16 bytes, as two words.
 #[derive(Clone, Copy, Debug, PartialEq, Eq)]
@@ -41,14 +53,14 @@ pub struct Number {
     pub index: usize,
     pub serial: u64,
     pub client: u32,
-    /// 0 in each that a call gives; no call looks at it.
-    pub reserved: u32,
+    /// The number of its cache.
+    pub cache: u32,
 }
 
 impl Number {
-    /// Those of a handle.
-    pub(crate) fn of(handle: Handle) -> Number
-        ensures { result ≡ number_of handle }
+    /// Those of a handle of the cache of this number.
+    pub(crate) fn of(cache: u32, handle: Handle) -> Number
+        ensures { result ≡ number_of cache handle }
     {
         let Numbers {
             client,
@@ -59,7 +71,7 @@ impl Number {
             index,
             serial,
             client,
-            reserved: 0,
+            cache,
         }
     }
 

@@ -90,7 +90,10 @@ impl Session {
         ensures yes { (handle : _) → IsHandle self.now number handle → result ≡ true }
         ensures no { IsNone self.now number → result ≡ false }
     {
-        self.client.handle(number.numbers()).is_some()
+        match self.numbers(number) {
+            Some(numbers) => self.client.handle(numbers).is_some(),
+            None => false,
+        }
     }
 
     /// What its calls did on all shards.

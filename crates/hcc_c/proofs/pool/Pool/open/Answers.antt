@@ -7,6 +7,7 @@ returns-in-Ok-clause-opened c = record {
   tag = _;
   opened = rw c.in-Ok.ensures.ok c.in_ok-cache.ensures.made;
   config_is = refl;
+  number_is = refl;
 }
 
 pub returns-in-Ok-clause-whole : goal.returns-in-Ok-clause-whole

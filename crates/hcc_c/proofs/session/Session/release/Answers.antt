@@ -1,4 +1,4 @@
-use Rattle.std.proofs.Common.{rules, Bool, Option, None, Some, IfSome, refl}
+use Rattle.std.proofs.Common.{rules, ◌≡◌, Bool, Option, None, Some, IfSome, refl}
 use Rattle.std.specs.Arc.{arc_value}
 use Rattle.hcc_cache.specs.declared.handle.Handle.{Handle}
 use Rattle.hcc_cache.specs.Calls.{GivesUp, Releases}
@@ -12,6 +12,7 @@ use Rattle.hcc_c.proofs.session.Session.release.Goals as goal
 
 -- What the cache says of a release by numbers, it says of the handle that they are.
 given : (old new : Session) (number : Number) (useful erase : Bool) (answer : Option Bool)
+    → number.cache ≡ old.home
     → IfSome answer (λ _. Holds old.client (handle_of (numbers_in number)))
     → IfSome answer (λ freed. Releases (arc_value old.cache) (handle_of (numbers_in number)) erase
     freed old.client new.client)
@@ -20,21 +21,21 @@ given : (old new : Session) (number : Number) (useful erase : Bool) (answer : Op
     → IfSome answer (λ freed. (handle : Handle) × IsHandle old number handle
     × Releases (arc_value old.cache) handle erase freed old.client new.client
     × GivesUp (arc_value old.cache) handle useful erase freed old.client new.client)
-given old new number useful erase None holds releases gives = tt
-given old new number useful erase (Some freed) holds releases gives =
-    (handle_of (numbers_in number), (refl, holds), releases, gives)
+given old new number useful erase None its holds releases gives = tt
+given old new number useful erase (Some freed) its holds releases gives =
+    (handle_of (numbers_in number), (its, refl, holds), releases, gives)
 
 pub returns-clause-released : goal.returns-clause-released
 returns-clause-released c =
     let told = c.try_release.ensures in
+    let numbers = c.in_ok-numbers.ensures.some in
     record {
       none = search rules;
       released =
           given c.args.self.now (record c.args.self.now { client = c.try_release.new.client })
-          c.args.number c.args.useful c.args.erase_if_last c.try_release.result
-          (rw c.numbers-numbers.ensures at told.some)
-          (rw (c.deref.ensures, c.numbers-numbers.ensures) at told.released)
-          (rw (c.deref.ensures, c.numbers-numbers.ensures) at told.gives);
+          c.args.number c.args.useful c.args.erase_if_last c.try_release.result numbers.1
+          (rw numbers.0 at told.some) (rw (c.deref.ensures, numbers.0) at told.released)
+          (rw (c.deref.ensures, numbers.0) at told.gives);
       rest = search rules;
       steps = search rules;
     }

@@ -1,0 +1,76 @@
+/*
+ * ferretgold_raw.h - the proved library's own functions, which src/ferretgold.c calls. A program
+ * calls those of ferretgold.h.
+ *
+ * These refuse what the functions of ferretgold.h refuse, except null pointers and clients that are
+ * idle. Each object is in one call at a time: so one thread at a time opens and closes clients. A
+ * call that refuses leaves its outputs as they were, except where ferretgold.h says so.
+ */
+#ifndef FERRETGOLD_RAW_H
+#define FERRETGOLD_RAW_H
+
+#include "ferretgold.h"
+
+#ifdef __cplusplus
+extern "C" {
+#endif
+
+/* A pointer to a cache or to a client, as a call takes it: by its address, and by value where the
+ * object ends. It isn't null, and a call leaves it as it was. If a call gives an object, or hands
+ * back as `kept` one that it didn't end, the address is that of a null one before. */
+typedef struct ferretgold_object {
+    void *at;
+} ferretgold_object;
+
+/* None of these pointers is null, even if a length is 0. No two caches that are open have one
+ * number, which their handles have too. */
+uint32_t ferretgold_raw_open(const ferretgold_config *config, uint32_t number,
+                             ferretgold_object *cache);
+uint32_t ferretgold_raw_client_open(ferretgold_object *cache, ferretgold_object *client);
+uint32_t ferretgold_raw_client_close(ferretgold_object *cache, ferretgold_object client,
+                                     ferretgold_object *kept);
+uint32_t ferretgold_raw_close(ferretgold_object cache, ferretgold_totals *totals,
+                              ferretgold_object *kept);
+uint32_t ferretgold_raw_lookup(ferretgold_object *client, const ferretgold_key *key,
+                               ferretgold_handle *handle);
+uint32_t ferretgold_raw_reref(ferretgold_object *client, const ferretgold_handle *handle,
+                              ferretgold_handle *more);
+uint32_t ferretgold_raw_release(ferretgold_object *client, const ferretgold_handle *handle,
+                                bool useful, bool erase_if_last, bool *freed);
+uint32_t ferretgold_raw_insert(ferretgold_object *client, const ferretgold_key *key,
+                               const uint8_t *value, size_t length, uint32_t charge,
+                               uint32_t priority, uint32_t *inserted);
+uint32_t ferretgold_raw_insert_pinned(ferretgold_object *client, const ferretgold_key *key,
+                                      const uint8_t *value, size_t length, uint32_t charge,
+                                      uint32_t priority, uint32_t *inserted,
+                                      ferretgold_handle *handle);
+uint32_t ferretgold_raw_erase(ferretgold_object *client, const ferretgold_key *key,
+                              uint32_t *hidden);
+uint32_t ferretgold_raw_key(ferretgold_object *client, const ferretgold_handle *handle,
+                            ferretgold_key *key);
+uint32_t ferretgold_raw_value_len(ferretgold_object *client, const ferretgold_handle *handle,
+                                  size_t *length);
+uint32_t ferretgold_raw_read_value(ferretgold_object *client, const ferretgold_handle *handle,
+                                   uint8_t *buffer, size_t capacity, size_t *length);
+uint32_t ferretgold_raw_get(ferretgold_object *client, const ferretgold_key *key, uint8_t *buffer,
+                            size_t capacity, bool useful, size_t *length);
+uint64_t ferretgold_raw_usage(ferretgold_object *client);
+uint64_t ferretgold_raw_pinned_usage(ferretgold_object *client);
+uint64_t ferretgold_raw_occupancy(ferretgold_object *client);
+uint32_t ferretgold_raw_word(ferretgold_object *client, uint32_t shard, uint32_t slot,
+                             uint64_t *word);
+uint32_t ferretgold_raw_displacement(ferretgold_object *client, uint32_t shard, uint32_t slot,
+                                     uint64_t *displacement);
+uint32_t ferretgold_raw_handle_at(ferretgold_object *client, size_t index,
+                                  ferretgold_handle *handle);
+uint32_t ferretgold_raw_number(ferretgold_object *client);
+uint32_t ferretgold_raw_held(ferretgold_object *client);
+uint64_t ferretgold_raw_serials_left(ferretgold_object *client);
+bool ferretgold_raw_holds(ferretgold_object *client, const ferretgold_handle *handle);
+void ferretgold_raw_stats(ferretgold_object *client, ferretgold_stats *stats);
+
+#ifdef __cplusplus
+}
+#endif
+
+#endif

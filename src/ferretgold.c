@@ -1,0 +1,575 @@
+/* What the calls of ferretgold.h do round the proved library, which ferretgold_raw.h declares: they
+ * look for null pointers, number the caches, and give out and take back clients. It is tested, not
+ * proved.
+ *
+ * With FERRETGOLD_CHECK each call on a client looks whether another thread is in a call on it, and
+ * ends the program then. */
+#include "ferretgold.h"
+#include "ferretgold_raw.h"
+
+#include <stdatomic.h>
+#include <stdlib.h>
+#include <string.h>
+#ifdef FERRETGOLD_CHECK
+#include <stdio.h>
+#endif
+
+enum { LINE = 64, BITS = 64 };
+
+struct ferretgold_client {
+    _Alignas(LINE) ferretgold_object session;
+    ferretgold_cache *cache;
+    atomic_bool out; /* given out, and not given back yet */
+#ifdef FERRETGOLD_CHECK
+    _Atomic(const char *) inside; /* the call that a thread is in */
+#endif
+};
+
+/* The clients that are idle, 64 in a row: a bit for each, in the one word or in the other. */
+typedef struct ferretgold_row {
+    _Alignas(LINE) _Atomic(uint64_t) idle;
+    _Atomic(uint64_t) spent; /* idle, with no serial left */
+} ferretgold_row;
+
+struct ferretgold_cache {
+    ferretgold_object rack;
+    uint32_t clients;
+    uint32_t rows;
+    ferretgold_client *client;
+    _Alignas(LINE) ferretgold_row row[];
+};
+
+/* ---- Entering a client and leaving it -------------------------------------------------------- */
+
+#ifdef FERRETGOLD_CHECK
+static void meet(const ferretgold_client *client, const char *call, const char *other) {
+    (void)fprintf(stderr, "ferretgold: two threads use client %zu at once: %s and %s\n",
+                  (size_t)(client - client->cache->client), call, other);
+    abort();
+}
+
+static bool enter(ferretgold_client *client, const char *call) {
+    const char *other = atomic_exchange(&client->inside, call);
+    if (other != NULL) {
+        meet(client, call, other);
+    }
+    if (!atomic_load(&client->out)) {
+        atomic_store(&client->inside, NULL);
+        return false;
+    }
+    return true;
+}
+
+static ferretgold_status leave(ferretgold_client *client, const char *call, uint32_t status) {
+    const char *other = atomic_exchange(&client->inside, NULL);
+    if (other != call) {
+        meet(client, call, other == NULL ? "another" : other);
+    }
+    return (ferretgold_status)status;
+}
+#else
+static inline bool enter(ferretgold_client *client, const char *call) {
+    (void)call;
+    return atomic_load_explicit(&client->out, memory_order_relaxed);
+}
+
+static inline ferretgold_status leave(ferretgold_client *client, const char *call,
+                                      uint32_t status) {
+    (void)client;
+    (void)call;
+    return (ferretgold_status)status;
+}
+#endif
+
+/* ---- Clients that are idle ------------------------------------------------------------------- */
+
+/* Takes one of a word's bits, at `first` or after it if one is there: its place, or BITS if the
+ * word was seen 0. */
+static uint32_t take_bit(_Atomic(uint64_t) *word, uint32_t first) {
+    uint64_t seen = atomic_load(word);
+    while (seen != 0) {
+        uint32_t place = first;
+        while ((seen >> place & 1) == 0) {
+            place = (place + 1) % BITS;
+        }
+        if (atomic_compare_exchange_strong(word, &seen, seen & ~(UINT64_C(1) << place))) {
+            return place;
+        }
+    }
+    return BITS;
+}
+
+/* Takes a client that is idle: one with serials left if this call found one, beginning where this
+ * thread found one last. Its number, or the count of all clients if each word was seen 0. */
+static uint32_t take(ferretgold_cache *cache) {
+    static _Thread_local uint32_t last = 0;
+    for (uint32_t spent = 0; spent < 2; spent++) {
+        for (uint32_t k = 0; k < cache->rows; k++) {
+            const uint32_t at = (last / BITS + k) % cache->rows;
+            ferretgold_row *row = &cache->row[at];
+            const uint32_t place = take_bit(spent ? &row->spent : &row->idle, last % BITS);
+            if (place < BITS) {
+                last = at * BITS + place;
+                return last;
+            }
+        }
+    }
+    return cache->clients;
+}
+
+/* Puts a client back among those that are idle. */
+static void put_back(ferretgold_client *client) {
+    ferretgold_cache *cache = client->cache;
+    const size_t number = (size_t)(client - cache->client);
+    ferretgold_row *row = &cache->row[number / BITS];
+    const bool spent = ferretgold_raw_serials_left(&client->session) == 0;
+    atomic_fetch_or(spent ? &row->spent : &row->idle, UINT64_C(1) << number % BITS);
+}
+
+static bool are_all_idle(ferretgold_cache *cache) {
+    for (uint32_t number = 0; number < cache->clients; number++) {
+        ferretgold_row *row = &cache->row[number / BITS];
+        const uint64_t idle = atomic_load(&row->idle) | atomic_load(&row->spent);
+        if ((idle >> number % BITS & 1) == 0) {
+            return false;
+        }
+    }
+    return true;
+}
+
+/* ---- Opening and closing --------------------------------------------------------------------- */
+
+/* Ends a cache that has its clients from `first` on, all idle. */
+static ferretgold_status end(ferretgold_cache *cache, uint32_t first, ferretgold_totals *totals) {
+    ferretgold_object kept = {NULL};
+    for (uint32_t number = first; number < cache->clients; number++) {
+        (void)ferretgold_raw_client_close(&cache->rack, cache->client[number].session, &kept);
+    }
+    const uint32_t status = ferretgold_raw_close(cache->rack, totals, &kept);
+    free(cache);
+    return (ferretgold_status)status;
+}
+
+/* The cache's part of this file, for so many clients, of which it has none yet; NULL if memory is
+ * refused. */
+static ferretgold_cache *made(ferretgold_object rack, uint32_t clients) {
+    const uint32_t rows = (clients + BITS - 1) / BITS;
+    const size_t before = sizeof(ferretgold_cache) + rows * sizeof(ferretgold_row);
+    ferretgold_cache *cache = aligned_alloc(LINE, before + clients * sizeof(ferretgold_client));
+    if (cache == NULL) {
+        return NULL;
+    }
+    memset(cache, 0, before + clients * sizeof(ferretgold_client));
+    cache->rack = rack;
+    cache->clients = clients;
+    cache->rows = rows;
+    cache->client = (ferretgold_client *)(void *)&cache->row[rows];
+    return cache;
+}
+
+/* Makes all clients of a cache, which are idle then. */
+static ferretgold_status make_clients(ferretgold_cache *cache) {
+    for (uint32_t number = cache->clients; number-- > 0;) {
+        ferretgold_client *client = &cache->client[number];
+        const uint32_t status = ferretgold_raw_client_open(&cache->rack, &client->session);
+        if (status != FERRETGOLD_OK) {
+            ferretgold_totals totals = {0, 0, 0, 0};
+            (void)end(cache, number + 1, &totals);
+            return (ferretgold_status)status;
+        }
+        client->cache = cache;
+        put_back(client);
+    }
+    return FERRETGOLD_OK;
+}
+
+ferretgold_status ferretgold_open(const ferretgold_config *config, ferretgold_cache **cache) {
+    static atomic_uint opened = 0;
+    if (config == NULL || cache == NULL) {
+        return FERRETGOLD_NULL;
+    }
+    ferretgold_object rack = {NULL}, kept = {NULL};
+    ferretgold_totals totals = {0, 0, 0, 0};
+    uint32_t status = ferretgold_raw_open(config, atomic_fetch_add(&opened, 1) + 1, &rack);
+    if (status != FERRETGOLD_OK) {
+        return (ferretgold_status)status;
+    }
+    ferretgold_cache *it = made(rack, config->clients);
+    if (it == NULL) {
+        (void)ferretgold_raw_close(rack, &totals, &kept);
+        return FERRETGOLD_OUT_OF_MEMORY;
+    }
+    status = make_clients(it);
+    if (status == FERRETGOLD_OK) {
+        *cache = it;
+    }
+    return (ferretgold_status)status;
+}
+
+ferretgold_status ferretgold_close(ferretgold_cache *cache, ferretgold_totals *totals) {
+    ferretgold_totals left = {0, 0, 0, 0};
+    if (cache == NULL) {
+        return FERRETGOLD_NULL;
+    }
+    if (!are_all_idle(cache)) {
+        return FERRETGOLD_MISSING;
+    }
+    return end(cache, 0, totals != NULL ? totals : &left);
+}
+
+ferretgold_status ferretgold_client_open(ferretgold_cache *cache, ferretgold_client **client) {
+    if (cache == NULL || client == NULL) {
+        return FERRETGOLD_NULL;
+    }
+    const uint32_t number = take(cache);
+    if (number == cache->clients) {
+        return FERRETGOLD_NO_CLIENT;
+    }
+    *client = &cache->client[number];
+    atomic_store(&(*client)->out, true);
+    return FERRETGOLD_OK;
+}
+
+/* Gives back each handle that a client holds. */
+static void release_all(ferretgold_client *client) {
+    ferretgold_handle handle = {0, 0, 0, 0};
+    bool freed = false;
+    for (size_t index = 0; ferretgold_raw_held(&client->session) != 0; index++) {
+        if (ferretgold_raw_handle_at(&client->session, index, &handle) == FERRETGOLD_OK) {
+            (void)ferretgold_raw_release(&client->session, &handle, false, false, &freed);
+        }
+    }
+}
+
+/* Gives a client back, once it holds no handle. */
+static ferretgold_status give_back(ferretgold_cache *cache, ferretgold_client *client,
+                                   bool releasing, const char *call) {
+    if (cache == NULL || client == NULL) {
+        return FERRETGOLD_NULL;
+    }
+    if (client->cache != cache) {
+        return FERRETGOLD_OTHER_CACHE;
+    }
+    if (!enter(client, call)) {
+        return FERRETGOLD_NO_CLIENT;
+    }
+    if (releasing) {
+        release_all(client);
+    }
+    if (ferretgold_raw_held(&client->session) != 0) {
+        return leave(client, call, FERRETGOLD_HANDLES_OUT);
+    }
+    atomic_store(&client->out, false);
+    (void)leave(client, call, FERRETGOLD_OK);
+    put_back(client);
+    return FERRETGOLD_OK;
+}
+
+ferretgold_status ferretgold_client_close(ferretgold_cache *cache, ferretgold_client *client) {
+    return give_back(cache, client, false, __func__);
+}
+
+ferretgold_status ferretgold_client_close_releasing(ferretgold_cache *cache,
+                                                    ferretgold_client *client) {
+    return give_back(cache, client, true, __func__);
+}
+
+/* ---- Handles --------------------------------------------------------------------------------- */
+
+ferretgold_status ferretgold_lookup(ferretgold_client *client, const ferretgold_key *key,
+                                    ferretgold_handle *handle) {
+    if (client == NULL || key == NULL || handle == NULL) {
+        return FERRETGOLD_NULL;
+    }
+    if (!enter(client, __func__)) {
+        return FERRETGOLD_NO_CLIENT;
+    }
+    return leave(client, __func__, ferretgold_raw_lookup(&client->session, key, handle));
+}
+
+ferretgold_status ferretgold_reref(ferretgold_client *client, ferretgold_handle handle,
+                                   ferretgold_handle *more) {
+    if (client == NULL || more == NULL) {
+        return FERRETGOLD_NULL;
+    }
+    if (!enter(client, __func__)) {
+        return FERRETGOLD_NO_CLIENT;
+    }
+    return leave(client, __func__, ferretgold_raw_reref(&client->session, &handle, more));
+}
+
+ferretgold_status ferretgold_release(ferretgold_client *client, ferretgold_handle handle,
+                                     bool useful, bool erase_if_last, bool *freed) {
+    if (client == NULL) {
+        return FERRETGOLD_NULL;
+    }
+    if (!enter(client, __func__)) {
+        return FERRETGOLD_NO_CLIENT;
+    }
+    bool answer = false;
+    const uint32_t status =
+        ferretgold_raw_release(&client->session, &handle, useful, erase_if_last, &answer);
+    if (status == FERRETGOLD_OK && freed != NULL) {
+        *freed = answer;
+    }
+    return leave(client, __func__, status);
+}
+
+/* ---- Inserting and erasing ------------------------------------------------------------------- */
+
+/* The library asks for pointers that aren't null, also to no bytes. */
+static const uint8_t *bytes_of(const void *value) {
+    static const uint8_t none[1] = {0};
+    return value != NULL ? value : none;
+}
+
+static uint8_t *room_of(void *buffer, uint8_t *none) {
+    return buffer != NULL ? buffer : none;
+}
+
+ferretgold_status ferretgold_insert(ferretgold_client *client, const ferretgold_key *key,
+                                    const void *value, size_t length, uint32_t charge,
+                                    ferretgold_priority priority, ferretgold_inserted *inserted) {
+    if (client == NULL || key == NULL || (value == NULL && length != 0)) {
+        return FERRETGOLD_NULL;
+    }
+    if (!enter(client, __func__)) {
+        return FERRETGOLD_NO_CLIENT;
+    }
+    uint32_t answer = 0;
+    const uint32_t status = ferretgold_raw_insert(&client->session, key, bytes_of(value), length,
+                                                  charge, (uint32_t)priority, &answer);
+    if (status == FERRETGOLD_OK && inserted != NULL) {
+        *inserted = (ferretgold_inserted)answer;
+    }
+    return leave(client, __func__, status);
+}
+
+ferretgold_status ferretgold_insert_pinned(ferretgold_client *client, const ferretgold_key *key,
+                                           const void *value, size_t length, uint32_t charge,
+                                           ferretgold_priority priority,
+                                           ferretgold_inserted *inserted,
+                                           ferretgold_handle *handle) {
+    if (client == NULL || key == NULL || handle == NULL || (value == NULL && length != 0)) {
+        return FERRETGOLD_NULL;
+    }
+    if (!enter(client, __func__)) {
+        return FERRETGOLD_NO_CLIENT;
+    }
+    uint32_t answer = 0;
+    const uint32_t status =
+        ferretgold_raw_insert_pinned(&client->session, key, bytes_of(value), length, charge,
+                                     (uint32_t)priority, &answer, handle);
+    if (status == FERRETGOLD_OK && inserted != NULL) {
+        *inserted = (ferretgold_inserted)answer;
+    }
+    return leave(client, __func__, status);
+}
+
+ferretgold_status ferretgold_erase(ferretgold_client *client, const ferretgold_key *key,
+                                   uint32_t *hidden) {
+    if (client == NULL || key == NULL) {
+        return FERRETGOLD_NULL;
+    }
+    if (!enter(client, __func__)) {
+        return FERRETGOLD_NO_CLIENT;
+    }
+    uint32_t ignored = 0;
+    return leave(client, __func__, ferretgold_raw_erase(&client->session, key,
+                                                        hidden != NULL ? hidden : &ignored));
+}
+
+/* ---- Reading --------------------------------------------------------------------------------- */
+
+ferretgold_status ferretgold_handle_key(ferretgold_client *client, ferretgold_handle handle,
+                                        ferretgold_key *key) {
+    if (client == NULL || key == NULL) {
+        return FERRETGOLD_NULL;
+    }
+    if (!enter(client, __func__)) {
+        return FERRETGOLD_NO_CLIENT;
+    }
+    return leave(client, __func__, ferretgold_raw_key(&client->session, &handle, key));
+}
+
+ferretgold_status ferretgold_value_len(ferretgold_client *client, ferretgold_handle handle,
+                                       size_t *length) {
+    if (client == NULL || length == NULL) {
+        return FERRETGOLD_NULL;
+    }
+    if (!enter(client, __func__)) {
+        return FERRETGOLD_NO_CLIENT;
+    }
+    return leave(client, __func__, ferretgold_raw_value_len(&client->session, &handle, length));
+}
+
+ferretgold_status ferretgold_read_value(ferretgold_client *client, ferretgold_handle handle,
+                                        void *buffer, size_t capacity, size_t *length) {
+    if (client == NULL || (buffer == NULL && capacity != 0)) {
+        return FERRETGOLD_NULL;
+    }
+    if (!enter(client, __func__)) {
+        return FERRETGOLD_NO_CLIENT;
+    }
+    uint8_t none[1];
+    size_t ignored = 0;
+    return leave(client, __func__,
+                 ferretgold_raw_read_value(&client->session, &handle, room_of(buffer, none),
+                                           capacity, length != NULL ? length : &ignored));
+}
+
+ferretgold_status ferretgold_get(ferretgold_client *client, const ferretgold_key *key, void *buffer,
+                                 size_t capacity, bool useful, size_t *length) {
+    if (client == NULL || key == NULL || (buffer == NULL && capacity != 0)) {
+        return FERRETGOLD_NULL;
+    }
+    if (!enter(client, __func__)) {
+        return FERRETGOLD_NO_CLIENT;
+    }
+    uint8_t none[1];
+    size_t ignored = 0;
+    return leave(client, __func__,
+                 ferretgold_raw_get(&client->session, key, room_of(buffer, none), capacity, useful,
+                                    length != NULL ? length : &ignored));
+}
+
+/* ---- Totals and words ------------------------------------------------------------------------ */
+
+ferretgold_status ferretgold_usage(ferretgold_client *client, uint64_t *usage) {
+    if (client == NULL || usage == NULL) {
+        return FERRETGOLD_NULL;
+    }
+    if (!enter(client, __func__)) {
+        return FERRETGOLD_NO_CLIENT;
+    }
+    *usage = ferretgold_raw_usage(&client->session);
+    return leave(client, __func__, FERRETGOLD_OK);
+}
+
+ferretgold_status ferretgold_pinned_usage(ferretgold_client *client, uint64_t *usage) {
+    if (client == NULL || usage == NULL) {
+        return FERRETGOLD_NULL;
+    }
+    if (!enter(client, __func__)) {
+        return FERRETGOLD_NO_CLIENT;
+    }
+    *usage = ferretgold_raw_pinned_usage(&client->session);
+    return leave(client, __func__, FERRETGOLD_OK);
+}
+
+ferretgold_status ferretgold_occupancy(ferretgold_client *client, uint64_t *occupancy) {
+    if (client == NULL || occupancy == NULL) {
+        return FERRETGOLD_NULL;
+    }
+    if (!enter(client, __func__)) {
+        return FERRETGOLD_NO_CLIENT;
+    }
+    *occupancy = ferretgold_raw_occupancy(&client->session);
+    return leave(client, __func__, FERRETGOLD_OK);
+}
+
+ferretgold_status ferretgold_word(ferretgold_client *client, uint32_t shard, uint32_t slot,
+                                  uint64_t *word) {
+    if (client == NULL || word == NULL) {
+        return FERRETGOLD_NULL;
+    }
+    if (!enter(client, __func__)) {
+        return FERRETGOLD_NO_CLIENT;
+    }
+    return leave(client, __func__, ferretgold_raw_word(&client->session, shard, slot, word));
+}
+
+ferretgold_status ferretgold_displacement(ferretgold_client *client, uint32_t shard, uint32_t slot,
+                                          uint64_t *displacement) {
+    if (client == NULL || displacement == NULL) {
+        return FERRETGOLD_NULL;
+    }
+    if (!enter(client, __func__)) {
+        return FERRETGOLD_NO_CLIENT;
+    }
+    return leave(client, __func__,
+                 ferretgold_raw_displacement(&client->session, shard, slot, displacement));
+}
+
+/* ---- Of a client ----------------------------------------------------------------------------- */
+
+uint32_t ferretgold_client_number(ferretgold_client *client) {
+    uint32_t number = 0;
+    if (client != NULL && enter(client, __func__)) {
+        number = ferretgold_raw_number(&client->session);
+        (void)leave(client, __func__, FERRETGOLD_OK);
+    }
+    return number;
+}
+
+uint32_t ferretgold_held(ferretgold_client *client) {
+    uint32_t held = 0;
+    if (client != NULL && enter(client, __func__)) {
+        held = ferretgold_raw_held(&client->session);
+        (void)leave(client, __func__, FERRETGOLD_OK);
+    }
+    return held;
+}
+
+uint64_t ferretgold_serials_left(ferretgold_client *client) {
+    uint64_t left = 0;
+    if (client != NULL && enter(client, __func__)) {
+        left = ferretgold_raw_serials_left(&client->session);
+        (void)leave(client, __func__, FERRETGOLD_OK);
+    }
+    return left;
+}
+
+bool ferretgold_holds(ferretgold_client *client, ferretgold_handle handle) {
+    bool holds = false;
+    if (client != NULL && enter(client, __func__)) {
+        holds = ferretgold_raw_holds(&client->session, &handle);
+        (void)leave(client, __func__, FERRETGOLD_OK);
+    }
+    return holds;
+}
+
+ferretgold_status ferretgold_statistics(ferretgold_client *client, ferretgold_stats *stats) {
+    if (client == NULL || stats == NULL) {
+        return FERRETGOLD_NULL;
+    }
+    if (!enter(client, __func__)) {
+        return FERRETGOLD_NO_CLIENT;
+    }
+    ferretgold_raw_stats(&client->session, stats);
+    return leave(client, __func__, FERRETGOLD_OK);
+}
+
+/* ---- Texts ----------------------------------------------------------------------------------- */
+
+const char *ferretgold_status_text(ferretgold_status status) {
+    switch (status) {
+    case FERRETGOLD_OK: return "ok";
+    case FERRETGOLD_MISS: return "miss";
+    case FERRETGOLD_NULL: return "a pointer is null";
+    case FERRETGOLD_NO_HANDLE: return "the client holds no such handle";
+    case FERRETGOLD_NO_CHARGE: return "the charge is 0";
+    case FERRETGOLD_TOO_LONG: return "the value is longer than a slot has room for";
+    case FERRETGOLD_TOO_SHORT: return "the buffer is shorter than the value";
+    case FERRETGOLD_BAD_PRIORITY: return "the priority is unknown";
+    case FERRETGOLD_OUT_OF_RANGE: return "there is no such shard or slot";
+    case FERRETGOLD_HANDLES_FULL: return "the client holds as many handles as it may";
+    case FERRETGOLD_SPENT: return "the client has used all its serials";
+    case FERRETGOLD_TOO_LARGE: return "the charge is above a shard's capacity";
+    case FERRETGOLD_CAPACITY_FULL: return "evictions freed too little of the charge";
+    case FERRETGOLD_OCCUPANCY_FULL: return "evictions freed no slot";
+    case FERRETGOLD_OUT_OF_MEMORY: return "an allocation failed";
+    case FERRETGOLD_BAD_SLOTS: return "slots must be a power of two from 8 to 65,536";
+    case FERRETGOLD_BAD_ROOM: return "room must be 1 to 512";
+    case FERRETGOLD_BAD_CLIENTS: return "clients must be 1 to 1,024";
+    case FERRETGOLD_BAD_HANDLES: return "handles must be 1 to 16,384";
+    case FERRETGOLD_BAD_SHARDS: return "shards must be a power of two from 1 to 64";
+    case FERRETGOLD_BAD_CAPACITY: return "capacity must be at most 2^40";
+    case FERRETGOLD_BAD_SERIALS: return "serials must be 1 to 2^54";
+    case FERRETGOLD_NO_CLIENT: return "all clients of the cache are out";
+    case FERRETGOLD_OTHER_CACHE: return "the client is one of another cache";
+    case FERRETGOLD_HANDLES_OUT: return "the client holds handles";
+    case FERRETGOLD_MISSING: return "clients of the cache are out";
+    }
+    return "unknown";
+}

@@ -1,0 +1,20 @@
+/* What the files of the program that plays traces share. */
+#ifndef EXPECT_H
+#define EXPECT_H
+
+#include "ferretgold.h"
+
+#include <stdio.h>
+
+extern int faults;
+extern const char *where;
+
+/* Notes a fault, if a number isn't as it should be. */
+void expect(const char *file, int line, const char *what, long long is, long long wanted);
+#define EXPECT(what, wanted) \
+    expect(__FILE__, __LINE__, #what, (long long)(what), (long long)(wanted))
+
+/* What no trace shows. */
+void edges(void);
+
+#endif

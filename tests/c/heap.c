@@ -1,0 +1,82 @@
+/* Counts what the library allocates. A program with it is linked with
+ * -Wl,--wrap=malloc,--wrap=realloc,--wrap=aligned_alloc,--wrap=free. */
+#include "heap.h"
+
+#include <stdint.h>
+#include <stdlib.h>
+
+enum { PLACES = 1 << 14 };
+
+size_t heap_blocks = 0;
+size_t heap_bytes = 0;
+
+/* Each block's address and size. */
+static struct block {
+    void *at;
+    size_t size;
+} blocks[PLACES];
+
+void *__real_malloc(size_t size);
+void *__real_realloc(void *at, size_t size);
+void *__real_aligned_alloc(size_t alignment, size_t size);
+void __real_free(void *at);
+void *__wrap_malloc(size_t size);
+void *__wrap_realloc(void *at, size_t size);
+void *__wrap_aligned_alloc(size_t alignment, size_t size);
+void __wrap_free(void *at);
+
+/* The place of a block, or an empty one for it. */
+static struct block *place_of(void *at) {
+    size_t place = (uintptr_t)at / 16 % PLACES;
+    while (blocks[place].at != at && blocks[place].at != NULL) {
+        place = (place + 1) % PLACES;
+    }
+    return &blocks[place];
+}
+
+static void *counted(void *at, size_t size) {
+    if (at != NULL) {
+        *place_of(at) = (struct block){at, size};
+        heap_blocks += 1;
+        heap_bytes += size;
+    }
+    return at;
+}
+
+/* Forgets a block, and puts those behind it where they belong. */
+static void uncount(void *at) {
+    if (at == NULL) {
+        return;
+    }
+    struct block *it = place_of(at);
+    if (it->at == NULL) {
+        abort();
+    }
+    heap_blocks -= 1;
+    heap_bytes -= it->size;
+    it->at = NULL;
+    for (size_t place = (size_t)(it - blocks + 1) % PLACES; blocks[place].at != NULL;
+         place = (place + 1) % PLACES) {
+        const struct block moved = blocks[place];
+        blocks[place].at = NULL;
+        *place_of(moved.at) = moved;
+    }
+}
+
+void *__wrap_malloc(size_t size) {
+    return counted(__real_malloc(size), size);
+}
+
+void *__wrap_realloc(void *at, size_t size) {
+    uncount(at);
+    return counted(__real_realloc(at, size), size);
+}
+
+void *__wrap_aligned_alloc(size_t alignment, size_t size) {
+    return counted(__real_aligned_alloc(alignment, size), size);
+}
+
+void __wrap_free(void *at) {
+    uncount(at);
+    __real_free(at);
+}

@@ -1,0 +1,18 @@
+/* What heap.c counts. */
+#ifndef HEAP_H
+#define HEAP_H
+
+#include <stddef.h>
+
+#ifdef __cplusplus
+extern "C" {
+#endif
+
+extern size_t heap_blocks; /* allocated and not freed */
+extern size_t heap_bytes;  /* of these */
+
+#ifdef __cplusplus
+}
+#endif
+
+#endif
