@@ -3,15 +3,14 @@
  *
  * A cache has keys of 16 bytes, values of at most 4,096 bytes, charges and priorities. Its table is
  * allocated when it is opened. Each call on a client makes at most a stated number of atomic steps,
- * whatever other threads do. What the library does is proved; docs/GUIDE.md says how to use it and
- * how to choose the sizes. The header is for C11, C++11 and later. Program with it and
- * libferretgold.a, which exports the functions below.
+ * whatever other threads do. What the library does is proved, except for a little C round it that is
+ * tested (SECURITY.md); docs/GUIDE.md says how to use it and how to choose the sizes. The header is
+ * for C11, C++11 and later; libferretgold.a exports its functions.
  *
- *     ferretgold_config config = { .slots = 1024, .room = 512, .clients = 2, .handles = 16,
- *                                  .shards = 2, .strict = true, .capacity = 4 << 20,
- *                                  .serials = FERRETGOLD_MOST_SERIALS, .seed = 0x5eed };
+ *     ferretgold_config config;
  *     ferretgold_cache *cache;
  *     ferretgold_client *client;
+ *     ferretgold_config_for(64 << 20, 4096, 2, &config);   64 MiB, blocks of 4,096 bytes, 2 threads
  *     if (ferretgold_open(&config, &cache) != FERRETGOLD_OK) ...
  *     if (ferretgold_client_open(cache, &client) != FERRETGOLD_OK) ...
  *     ... each thread works with a client of its own ...
@@ -156,6 +155,12 @@ typedef struct ferretgold_config {
                           blocks, say, are found five to twenty times slower without one */
 } ferretgold_config;
 
+/* A configuration to begin with: 4,096 slots with room for 4,096 bytes each (17 MB), not strict,
+ * 16 clients. Its seed is known to whoever reads this: draw one if others choose the keys. */
+#define FERRETGOLD_CONFIG \
+    {1024, 512, 16, 16, 4, false, false, 11743232, FERRETGOLD_MOST_SERIALS, \
+     UINT64_C(0x9e3779b97f4a7c15)}
+
 /* A key of 16 bytes. */
 typedef struct ferretgold_key {
     uint64_t w0;
@@ -195,13 +200,34 @@ typedef struct ferretgold_totals {
 typedef struct ferretgold_cache ferretgold_cache;
 typedef struct ferretgold_client ferretgold_client;
 
+/* ---- Sizes ----------------------------------------------------------------------------------- */
+
+/*
+ * How many bytes a cache of this configuration allocates by malloc:
+ *     shards * (145 + slots * 8 * (7 + room)) + clients * (360 + 72 * shards + 104 * handles)
+ *     + 64 * (clients / 64, rounded up) + 240
+ * ferretgold_open needs one shard's table more for a while. 0 if `config` is null.
+ */
+uint64_t ferretgold_memory(const ferretgold_config *config);
+
+/*
+ * Makes a configuration of at most so many bytes of memory, for values of at most `value` bytes and
+ * as many threads at work: FERRETGOLD_CONFIG with as many slots as these bytes allow, a power of
+ * two; a client for each thread; as many shards, rounded up to a power of two, but none of fewer
+ * than 1,024 slots beside others; and as capacity 70 of a hundred slots' bytes.
+ *
+ * Refuses NULL; BAD_ROOM: the value has more than 4,096 bytes; BAD_CLIENTS: threads are 0, or above
+ * 1,024; BAD_SLOTS: 8 slots need more bytes.
+ */
+ferretgold_status ferretgold_config_for(uint64_t bytes, size_t value, uint32_t threads,
+                                        ferretgold_config *config);
+
 /* ---- Opening and closing --------------------------------------------------------------------- */
 
 /*
  * Opens a cache with no entries, and with all its clients. None is out yet.
  *
- * Allocates the table and all clients: for each slot 56 bytes and its room, for each client some
- * 100 bytes for each handle that it may hold. Costs a store for each word.
+ * Allocates the table and all clients (ferretgold_memory). Costs a store for each word.
  *
  * Refuses BAD_SLOTS, BAD_ROOM, BAD_CLIENTS, BAD_HANDLES, BAD_SHARDS, BAD_CAPACITY, BAD_SERIALS,
  * then OUT_OF_MEMORY. Nothing remains then.

@@ -299,8 +299,8 @@ static void used_up(ferretgold_client *client) {
     EXPECT(ferretgold_release(client, first, true, true, NULL), FERRETGOLD_OK);
 }
 
-/* Clients that are out or idle, that hold handles, that another cache has, that there are no more of;
- * handles of another cache. */
+/* Clients that are out or idle, that hold handles, that another cache has, that there are no more
+ * of; handles of another cache. */
 static void closings(void) {
     ferretgold_cache *one, *two;
     ferretgold_client *a, *b, *c = NULL, *foreign;

@@ -165,8 +165,8 @@ class secondary_cache : public rocksdb::SecondaryCache {
     bool find(const rocksdb::Slice &name, packed_block *packed, std::size_t *size) {
         ferretgold_key key;
         const ferretgold::lease client(cache_);
-        return is_key(name, &key) && ferretgold_get(client.get(), &key, packed, sizeof *packed, true,
-                                                    size) == FERRETGOLD_OK;
+        return is_key(name, &key) && ferretgold_get(client.get(), &key, packed, sizeof *packed,
+                                                    true, size) == FERRETGOLD_OK;
     }
 
     ferretgold::cache cache_;

@@ -26,6 +26,23 @@ pub struct Config {
     pub seed: u64,
 }
 
+impl Config {
+    /// A configuration to begin with, as `FERRETGOLD_CONFIG` of ferretgold.h. Its seed is known to
+    /// whoever reads this: draw one if others choose the keys.
+    pub const BEGIN: Config = Config {
+        slots: 1024,
+        room: 512,
+        clients: 16,
+        handles: 16,
+        shards: 4,
+        strict: false,
+        marks: false,
+        capacity: 11_743_232,
+        serials: 1 << 54,
+        seed: 0x9e37_79b9_7f4a_7c15,
+    };
+}
+
 #[repr(C)]
 #[derive(Clone, Copy, Debug, PartialEq, Eq)]
 pub struct Key {

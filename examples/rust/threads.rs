@@ -11,11 +11,8 @@ const CONFIG: Config = Config {
     clients: 4,
     handles: 4,
     shards: 1,
-    strict: false,
-    marks: false,
     capacity: 100,
-    serials: 1_000_000,
-    seed: 0x5eed,
+    ..Config::BEGIN
 };
 
 /// The square of a number, from the cache where it has it.

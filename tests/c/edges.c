@@ -1,6 +1,7 @@
 /* What no trace shows: configurations, texts, null pointers, what a client refuses; clients that go
  * out and come back. */
 #include "expect.h"
+#include "heap.h"
 
 #include <string.h>
 
@@ -52,6 +53,69 @@ static void configurations(void) {
         EXPECT(ferretgold_open(&all[k], &none), wanted[k]);
     }
     EXPECT(none == NULL, true);
+}
+
+/* What is allocated is what ferretgold_memory says. */
+static void memory(void) {
+    static const struct { uint32_t slots, room, clients, handles, shards; } all[] = {
+        {8, 1, 1, 1, 1},   {16, 1, 1, 1, 1},  {8, 2, 1, 1, 1},       {8, 1, 2, 1, 1},
+        {8, 1, 1, 3, 1},   {8, 1, 1, 1, 8},   {8, 3, 5, 7, 64},      {32, 5, 64, 9, 2},
+        {32, 5, 65, 9, 2}, {8, 1, 999, 1, 1}, {64, 512, 3, 99, 16}};
+    for (size_t k = 0; k < sizeof all / sizeof *all; k++) {
+        ferretgold_config sizes = SMALL;
+        ferretgold_cache *cache = NULL;
+        const size_t was = heap_bytes;
+        sizes.slots = all[k].slots, sizes.room = all[k].room, sizes.clients = all[k].clients;
+        sizes.handles = all[k].handles, sizes.shards = all[k].shards;
+        EXPECT(ferretgold_open(&sizes, &cache), 0);
+        EXPECT(heap_bytes - was, ferretgold_memory(&sizes));
+        EXPECT(ferretgold_close(cache, NULL), 0);
+    }
+    EXPECT(ferretgold_memory(NULL), 0);
+}
+
+/* Configurations from a budget: slots, room, clients, shards, capacity. */
+static void budgets(void) {
+    static const struct {
+        uint64_t bytes;
+        uint32_t value, threads, slots, room, shards;
+        uint64_t capacity;
+    } all[] = {
+        {UINT64_C(1) << 30, 4096, 32, 4096, 512, 32, UINT64_C(91750) * 4096},
+        {1 << 20, 15, 4, 2048, 2, 4, 5734 * 16},
+        {1 << 20, 16, 1, 8192, 2, 1, 5734 * 16},
+        {100000, 8, 7, 1024, 1, 1, 716 * 8},
+        {3 * 1024, 0, 1, 8, 1, 1, 5 * 8},
+        {UINT64_MAX, 4096, 1, 65536, 512, 64, UINT64_C(2936012) * 4096}};
+    ferretgold_config it = SMALL;
+    for (size_t k = 0; k < sizeof all / sizeof *all; k++) {
+        EXPECT(ferretgold_config_for(all[k].bytes, all[k].value, all[k].threads, &it), 0);
+        EXPECT(it.slots, all[k].slots);
+        EXPECT(it.room, all[k].room);
+        EXPECT(it.shards, all[k].shards);
+        EXPECT(it.clients, all[k].threads);
+        EXPECT(it.capacity, all[k].capacity);
+        EXPECT(ferretgold_memory(&it) <= all[k].bytes, true);
+        EXPECT(it.seed != 0 && it.serials == FERRETGOLD_MOST_SERIALS && it.handles == 16, true);
+    }
+    it = SMALL;
+    EXPECT(ferretgold_config_for(1 << 20, 8, 1, NULL), 16);
+    EXPECT(ferretgold_config_for(1 << 20, 4097, 1, &it), 30);
+    EXPECT(ferretgold_config_for(1 << 20, 8, 0, &it), 31);
+    EXPECT(ferretgold_config_for(1 << 20, 8, 1025, &it), 31);
+    EXPECT(ferretgold_config_for(1 << 10, 8, 1, &it), 29);
+    EXPECT(it.slots == SMALL.slots && it.room == SMALL.room && it.seed == SMALL.seed, true);
+    EXPECT(ferretgold_config_for(UINT64_MAX, 4096, 1024, &it), 0);
+    EXPECT(it.shards == 64 && it.clients == 1024, true);
+}
+
+/* The configuration to begin with is one that a cache can have. */
+static void initialiser(void) {
+    const ferretgold_config config = FERRETGOLD_CONFIG;
+    ferretgold_cache *cache = NULL;
+    EXPECT(ferretgold_open(&config, &cache), 0);
+    EXPECT(ferretgold_close(cache, NULL), 0);
+    EXPECT(config.capacity, config.slots * config.shards * UINT64_C(7) / 10 * config.room * 8);
 }
 
 /* Null where a pointer may not be null, in the calls of a cache. */
@@ -320,6 +384,9 @@ void edges(void) {
     where = "edges";
     texts();
     configurations();
+    memory();
+    budgets();
+    initialiser();
     EXPECT(ferretgold_open(&SMALL, &cache), 0);
     EXPECT(ferretgold_client_open(cache, &client[0]), 0);
     two_caches(cache, client[0]);

@@ -1,5 +1,6 @@
-// Plays traces of calls through ferretgold.hpp, and compares each answer with the one recorded beside
-// its call; then moves the wrapper's objects about. It is what tests/plant-c tries planted bugs by.
+// Plays traces of calls through ferretgold.hpp, and compares each answer with the one recorded
+// beside its call; then moves the wrapper's objects about. It is what tests/plant-c tries planted
+// bugs by.
 // Usage: play FILE.. where a file has cases as tests/calls has
 #include "ferretgold.hpp"
 #include "heap.h"
@@ -44,7 +45,7 @@ template <typename Call> bool refuses(Call call, int status) {
     return false;
 }
 
-// ---- Traces --------------------------------------------------------------------------------------
+// ---- Traces ------------------------------------------------------------------------------------
 
 const char *const CAME[] = {"placed", "dropped", "standalone"};
 
@@ -299,7 +300,7 @@ void play_file(const char *path) {
     }
 }
 
-// ---- What no trace shows -------------------------------------------------------------------------
+// ---- What no trace shows -----------------------------------------------------------------------
 
 constexpr ferretgold_key KEY = {1, 2};
 constexpr ferretgold_key OTHER = {3, 4};

@@ -17,8 +17,7 @@ static void *work(void *argument) {
 }
 
 int main(void) {
-    const ferretgold_config config = {.slots = 8, .room = 1, .clients = 1, .handles = 1,
-                                      .shards = 1, .capacity = 8, .serials = 1, .seed = 1};
+    const ferretgold_config config = FERRETGOLD_CONFIG;
     ferretgold_cache *cache = NULL;
     pthread_t other;
     if (ferretgold_open(&config, &cache) != FERRETGOLD_OK ||
