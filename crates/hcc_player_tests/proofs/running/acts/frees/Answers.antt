@@ -1,0 +1,9 @@
+use Rattle.std.proofs.Common.{rules, ◌≡◌, [], None, refl}
+use Rattle.hcc_rule_tests.proofs.Hands.{taken}
+use Rattle.hcc_player_tests.proofs.running.acts.frees.Goals as goal
+
+pub taken_charge-charge-requires-clause-took : goal.taken_charge-charge-requires-clause-took
+taken_charge-charge-requires-clause-took g c =
+    let sized : c.args.zero.now.table.now.geometry.slots ≡ 8 = search rules in
+    taken _ _ _ 8 2 _ _ None [] _ _ sized (search rules) refl c.free-found.ensures.view
+    (search rules)
