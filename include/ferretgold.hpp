@@ -206,7 +206,6 @@ class cache {
         ferretgold_totals totals{};
         must(ferretgold_close(get(), &totals));
         shared_->it = nullptr;
-        shared_.reset();
         return totals;
     }
 

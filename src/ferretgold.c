@@ -42,16 +42,12 @@ struct ferretgold_cache {
 /* ---- Entering a client and leaving it -------------------------------------------------------- */
 
 #ifdef FERRETGOLD_CHECK
-static void meet(const ferretgold_client *client, const char *call, const char *other) {
-    (void)fprintf(stderr, "ferretgold: two threads use client %zu at once: %s and %s\n",
-                  (size_t)(client - client->cache->client), call, other);
-    abort();
-}
-
 static bool enter(ferretgold_client *client, const char *call) {
     const char *other = atomic_exchange(&client->inside, call);
     if (other != NULL) {
-        meet(client, call, other);
+        (void)fprintf(stderr, "ferretgold: two threads use client %zu at once: %s and %s\n",
+                      (size_t)(client - client->cache->client), call, other);
+        abort();
     }
     if (!atomic_load(&client->out)) {
         atomic_store(&client->inside, NULL);
@@ -60,12 +56,8 @@ static bool enter(ferretgold_client *client, const char *call) {
     return true;
 }
 
-static ferretgold_status leave(ferretgold_client *client, const char *call, uint32_t status) {
-    const char *other = atomic_exchange(&client->inside, NULL);
-    if (other != call) {
-        meet(client, call, other == NULL ? "another" : other);
-    }
-    return (ferretgold_status)status;
+static void quit(ferretgold_client *client) {
+    atomic_store(&client->inside, NULL);
 }
 #else
 static inline bool enter(ferretgold_client *client, const char *call) {
@@ -73,13 +65,15 @@ static inline bool enter(ferretgold_client *client, const char *call) {
     return atomic_load_explicit(&client->out, memory_order_relaxed);
 }
 
-static inline ferretgold_status leave(ferretgold_client *client, const char *call,
-                                      uint32_t status) {
+static inline void quit(ferretgold_client *client) {
     (void)client;
-    (void)call;
-    return (ferretgold_status)status;
 }
 #endif
+
+static inline ferretgold_status leave(ferretgold_client *client, uint32_t status) {
+    quit(client);
+    return (ferretgold_status)status;
+}
 
 /* ---- Clients that are idle ------------------------------------------------------------------- */
 
@@ -257,10 +251,10 @@ static ferretgold_status give_back(ferretgold_cache *cache, ferretgold_client *c
         release_all(client);
     }
     if (ferretgold_raw_held(&client->session) != 0) {
-        return leave(client, call, FERRETGOLD_HANDLES_OUT);
+        return leave(client, FERRETGOLD_HANDLES_OUT);
     }
     atomic_store(&client->out, false);
-    (void)leave(client, call, FERRETGOLD_OK);
+    quit(client);
     put_back(client);
     return FERRETGOLD_OK;
 }
@@ -284,7 +278,7 @@ ferretgold_status ferretgold_lookup(ferretgold_client *client, const ferretgold_
     if (!enter(client, __func__)) {
         return FERRETGOLD_NO_CLIENT;
     }
-    return leave(client, __func__, ferretgold_raw_lookup(&client->session, key, handle));
+    return leave(client, ferretgold_raw_lookup(&client->session, key, handle));
 }
 
 ferretgold_status ferretgold_reref(ferretgold_client *client, ferretgold_handle handle,
@@ -295,7 +289,7 @@ ferretgold_status ferretgold_reref(ferretgold_client *client, ferretgold_handle 
     if (!enter(client, __func__)) {
         return FERRETGOLD_NO_CLIENT;
     }
-    return leave(client, __func__, ferretgold_raw_reref(&client->session, &handle, more));
+    return leave(client, ferretgold_raw_reref(&client->session, &handle, more));
 }
 
 ferretgold_status ferretgold_release(ferretgold_client *client, ferretgold_handle handle,
@@ -312,7 +306,7 @@ ferretgold_status ferretgold_release(ferretgold_client *client, ferretgold_handl
     if (status == FERRETGOLD_OK && freed != NULL) {
         *freed = answer;
     }
-    return leave(client, __func__, status);
+    return leave(client, status);
 }
 
 /* ---- Inserting and erasing ------------------------------------------------------------------- */
@@ -342,7 +336,7 @@ ferretgold_status ferretgold_insert(ferretgold_client *client, const ferretgold_
     if (status == FERRETGOLD_OK && inserted != NULL) {
         *inserted = (ferretgold_inserted)answer;
     }
-    return leave(client, __func__, status);
+    return leave(client, status);
 }
 
 ferretgold_status ferretgold_insert_pinned(ferretgold_client *client, const ferretgold_key *key,
@@ -363,7 +357,7 @@ ferretgold_status ferretgold_insert_pinned(ferretgold_client *client, const ferr
     if (status == FERRETGOLD_OK && inserted != NULL) {
         *inserted = (ferretgold_inserted)answer;
     }
-    return leave(client, __func__, status);
+    return leave(client, status);
 }
 
 ferretgold_status ferretgold_erase(ferretgold_client *client, const ferretgold_key *key,
@@ -375,7 +369,7 @@ ferretgold_status ferretgold_erase(ferretgold_client *client, const ferretgold_k
         return FERRETGOLD_NO_CLIENT;
     }
     uint32_t ignored = 0;
-    return leave(client, __func__, ferretgold_raw_erase(&client->session, key,
+    return leave(client, ferretgold_raw_erase(&client->session, key,
                                                         hidden != NULL ? hidden : &ignored));
 }
 
@@ -389,7 +383,7 @@ ferretgold_status ferretgold_handle_key(ferretgold_client *client, ferretgold_ha
     if (!enter(client, __func__)) {
         return FERRETGOLD_NO_CLIENT;
     }
-    return leave(client, __func__, ferretgold_raw_key(&client->session, &handle, key));
+    return leave(client, ferretgold_raw_key(&client->session, &handle, key));
 }
 
 ferretgold_status ferretgold_value_len(ferretgold_client *client, ferretgold_handle handle,
@@ -400,7 +394,7 @@ ferretgold_status ferretgold_value_len(ferretgold_client *client, ferretgold_han
     if (!enter(client, __func__)) {
         return FERRETGOLD_NO_CLIENT;
     }
-    return leave(client, __func__, ferretgold_raw_value_len(&client->session, &handle, length));
+    return leave(client, ferretgold_raw_value_len(&client->session, &handle, length));
 }
 
 ferretgold_status ferretgold_read_value(ferretgold_client *client, ferretgold_handle handle,
@@ -413,7 +407,7 @@ ferretgold_status ferretgold_read_value(ferretgold_client *client, ferretgold_ha
     }
     uint8_t none[1];
     size_t ignored = 0;
-    return leave(client, __func__,
+    return leave(client,
                  ferretgold_raw_read_value(&client->session, &handle, room_of(buffer, none),
                                            capacity, length != NULL ? length : &ignored));
 }
@@ -428,7 +422,7 @@ ferretgold_status ferretgold_get(ferretgold_client *client, const ferretgold_key
     }
     uint8_t none[1];
     size_t ignored = 0;
-    return leave(client, __func__,
+    return leave(client,
                  ferretgold_raw_get(&client->session, key, room_of(buffer, none), capacity, useful,
                                     length != NULL ? length : &ignored));
 }
@@ -443,7 +437,7 @@ ferretgold_status ferretgold_usage(ferretgold_client *client, uint64_t *usage) {
         return FERRETGOLD_NO_CLIENT;
     }
     *usage = ferretgold_raw_usage(&client->session);
-    return leave(client, __func__, FERRETGOLD_OK);
+    return leave(client, FERRETGOLD_OK);
 }
 
 ferretgold_status ferretgold_pinned_usage(ferretgold_client *client, uint64_t *usage) {
@@ -454,7 +448,7 @@ ferretgold_status ferretgold_pinned_usage(ferretgold_client *client, uint64_t *u
         return FERRETGOLD_NO_CLIENT;
     }
     *usage = ferretgold_raw_pinned_usage(&client->session);
-    return leave(client, __func__, FERRETGOLD_OK);
+    return leave(client, FERRETGOLD_OK);
 }
 
 ferretgold_status ferretgold_occupancy(ferretgold_client *client, uint64_t *occupancy) {
@@ -465,7 +459,7 @@ ferretgold_status ferretgold_occupancy(ferretgold_client *client, uint64_t *occu
         return FERRETGOLD_NO_CLIENT;
     }
     *occupancy = ferretgold_raw_occupancy(&client->session);
-    return leave(client, __func__, FERRETGOLD_OK);
+    return leave(client, FERRETGOLD_OK);
 }
 
 ferretgold_status ferretgold_word(ferretgold_client *client, uint32_t shard, uint32_t slot,
@@ -476,7 +470,7 @@ ferretgold_status ferretgold_word(ferretgold_client *client, uint32_t shard, uin
     if (!enter(client, __func__)) {
         return FERRETGOLD_NO_CLIENT;
     }
-    return leave(client, __func__, ferretgold_raw_word(&client->session, shard, slot, word));
+    return leave(client, ferretgold_raw_word(&client->session, shard, slot, word));
 }
 
 ferretgold_status ferretgold_displacement(ferretgold_client *client, uint32_t shard, uint32_t slot,
@@ -487,7 +481,7 @@ ferretgold_status ferretgold_displacement(ferretgold_client *client, uint32_t sh
     if (!enter(client, __func__)) {
         return FERRETGOLD_NO_CLIENT;
     }
-    return leave(client, __func__,
+    return leave(client,
                  ferretgold_raw_displacement(&client->session, shard, slot, displacement));
 }
 
@@ -497,7 +491,7 @@ uint32_t ferretgold_client_number(ferretgold_client *client) {
     uint32_t number = 0;
     if (client != NULL && enter(client, __func__)) {
         number = ferretgold_raw_number(&client->session);
-        (void)leave(client, __func__, FERRETGOLD_OK);
+        quit(client);
     }
     return number;
 }
@@ -506,7 +500,7 @@ uint32_t ferretgold_held(ferretgold_client *client) {
     uint32_t held = 0;
     if (client != NULL && enter(client, __func__)) {
         held = ferretgold_raw_held(&client->session);
-        (void)leave(client, __func__, FERRETGOLD_OK);
+        quit(client);
     }
     return held;
 }
@@ -515,7 +509,7 @@ uint64_t ferretgold_serials_left(ferretgold_client *client) {
     uint64_t left = 0;
     if (client != NULL && enter(client, __func__)) {
         left = ferretgold_raw_serials_left(&client->session);
-        (void)leave(client, __func__, FERRETGOLD_OK);
+        quit(client);
     }
     return left;
 }
@@ -524,7 +518,7 @@ bool ferretgold_holds(ferretgold_client *client, ferretgold_handle handle) {
     bool holds = false;
     if (client != NULL && enter(client, __func__)) {
         holds = ferretgold_raw_holds(&client->session, &handle);
-        (void)leave(client, __func__, FERRETGOLD_OK);
+        quit(client);
     }
     return holds;
 }
@@ -537,7 +531,7 @@ ferretgold_status ferretgold_statistics(ferretgold_client *client, ferretgold_st
         return FERRETGOLD_NO_CLIENT;
     }
     ferretgold_raw_stats(&client->session, stats);
-    return leave(client, __func__, FERRETGOLD_OK);
+    return leave(client, FERRETGOLD_OK);
 }
 
 /* ---- Texts ----------------------------------------------------------------------------------- */

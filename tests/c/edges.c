@@ -3,6 +3,7 @@
 #include "expect.h"
 #include "heap.h"
 
+#include <stdint.h>
 #include <string.h>
 
 static const ferretgold_key KEY = {1, 2};
@@ -72,6 +73,22 @@ static void memory(void) {
         EXPECT(ferretgold_close(cache, NULL), 0);
     }
     EXPECT(ferretgold_memory(NULL), 0);
+}
+
+/* Each request of an opening refused in turn: nothing remains. */
+static void no_memory(void) {
+    const size_t was = heap_blocks;
+    ferretgold_cache *cache = NULL;
+    size_t met = 0;
+    for (ferretgold_status status = FERRETGOLD_NULL; status != FERRETGOLD_OK; met++) {
+        heap_left = met;
+        status = ferretgold_open(&SMALL, &cache);
+        heap_left = SIZE_MAX;
+        EXPECT(status, cache == NULL ? 28 : 0);
+        EXPECT(heap_blocks - was > 0, cache != NULL);
+    }
+    EXPECT(met > 10, true);
+    EXPECT(ferretgold_close(cache, NULL), 0);
 }
 
 /* Configurations from a budget: slots, room, clients, shards, capacity. */
@@ -385,6 +402,7 @@ void edges(void) {
     texts();
     configurations();
     memory();
+    no_memory();
     budgets();
     initialiser();
     EXPECT(ferretgold_open(&SMALL, &cache), 0);

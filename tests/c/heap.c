@@ -9,6 +9,7 @@ enum { PLACES = 1 << 14 };
 
 size_t heap_blocks = 0;
 size_t heap_bytes = 0;
+size_t heap_left = SIZE_MAX;
 
 /* Each block's address and size. */
 static struct block {
@@ -43,6 +44,15 @@ static void *counted(void *at, size_t size) {
     return at;
 }
 
+/* Whether the next request is refused. */
+static int refuses(void) {
+    if (heap_left == 0) {
+        return 1;
+    }
+    heap_left -= heap_left != SIZE_MAX;
+    return 0;
+}
+
 /* Forgets a block, and puts those behind it where they belong. */
 static void uncount(void *at) {
     if (at == NULL) {
@@ -64,16 +74,19 @@ static void uncount(void *at) {
 }
 
 void *__wrap_malloc(size_t size) {
-    return counted(__real_malloc(size), size);
+    return refuses() ? NULL : counted(__real_malloc(size), size);
 }
 
 void *__wrap_realloc(void *at, size_t size) {
+    if (refuses()) {
+        return NULL;
+    }
     uncount(at);
     return counted(__real_realloc(at, size), size);
 }
 
 void *__wrap_aligned_alloc(size_t alignment, size_t size) {
-    return counted(__real_aligned_alloc(alignment, size), size);
+    return refuses() ? NULL : counted(__real_aligned_alloc(alignment, size), size);
 }
 
 void __wrap_free(void *at) {

@@ -10,6 +10,7 @@ extern "C" {
 
 extern size_t heap_blocks; /* allocated and not freed */
 extern size_t heap_bytes;  /* of these */
+extern size_t heap_left;   /* how many requests are met before one is refused */
 
 #ifdef __cplusplus
 }

@@ -433,8 +433,23 @@ void outlived() {
     EXPECT(heap_blocks == 0);
 }
 
+// Clients for an operation: as many as there are, and each is back at its end, with its handles.
+void lent() {
+    cache it(small());
+    {
+        const ferretgold::lease first(it), second(it), third(it);
+        ferretgold_handle held{};
+        EXPECT(first.get() != nullptr && second.get() != nullptr && third.get() == nullptr);
+        EXPECT(ferretgold_insert_pinned(first.get(), &KEY, "", 0, 1, FERRETGOLD_LOW, nullptr,
+                                        &held) == 0);
+        EXPECT(refuses([&] { (void)it.close(); }, 39));
+    }
+    EXPECT(it.close().slot_count == 1);
+}
+
 void edges() {
     moved_handles();
+    lent();
     defaults();
     moved_caches();
     outlived();
