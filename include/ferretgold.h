@@ -203,7 +203,7 @@ typedef struct ferretgold_client ferretgold_client;
 /* ---- Sizes ----------------------------------------------------------------------------------- */
 
 /*
- * How many bytes a cache of this configuration allocates by malloc:
+ * How many bytes a cache of this configuration allocates:
  *     shards * (145 + slots * 8 * (7 + room)) + clients * (360 + 72 * shards + 104 * handles)
  *     + 64 * (clients / 64, rounded up) + 240
  * ferretgold_open needs one shard's table more for a while. 0 if `config` is null.
@@ -238,8 +238,8 @@ ferretgold_status ferretgold_open(const ferretgold_config *config, ferretgold_ca
  * Gives out an idle client. It holds no handle, and has the serials left that it had, and its
  * statistics. One with no serials left goes out only if no other was found.
  *
- * Costs a few loads and one compare-exchange; one more for each that another thread wins. Waits for
- * nothing, and makes no atomic step on the cache's words.
+ * Costs a few loads, a store and one compare-exchange; one more for each that another thread wins.
+ * Waits for nothing, and makes no atomic step on the cache's words.
  *
  * Refuses NO_CLIENT: this call found none idle.
  */
@@ -248,7 +248,7 @@ ferretgold_status ferretgold_client_open(ferretgold_cache *cache, ferretgold_cli
 /*
  * Takes a client back, which is idle from then on: another thread may get it at once.
  *
- * Costs one atomic step, and none on the cache's words.
+ * Costs a few loads, a store and an atomic or, and no step on the cache's words.
  *
  * Refuses OTHER_CACHE; NO_CLIENT, if it is idle already; HANDLES_OUT: release them first. After a
  * refusal the client is as it was.
