@@ -3,7 +3,7 @@ ghost use Rattle.std.specs.Prelude.{◌≡◌, ◌<◌, ◌^◌, IfOk, length, m
 ghost use Rattle.std.specs.List.{All};
 
 use crate::progress::Progress;
-use crate::run::told;
+use crate::run::{Terminals, awaits, told};
 use crate::status::Status;
 use hcc_block::{BlockSource, MemorySource};
 use hcc_player::blocks::play_blocks;
@@ -15,13 +15,12 @@ use std::rt::Files;
 use std::thread::Threads;
 use std::{fs, io};
 
-/// Plays the trace of block reads on standard input over the files of these paths. On a terminal it
-/// reports how far it is.
+/// Plays the trace of block reads on standard input over the files of these paths.
 pub fn blocks<R: AllocGlobal + Input + Print + Eprint + Files + Threads + Sync>(
     rt: &R,
     options: &Options,
     paths: &[&str],
-    terminal: bool,
+    terminals: Terminals,
 ) -> Status {
     if paths.len() >= 1 << 32 {
         let _ = rt.eprintln("error: too many files");
@@ -39,7 +38,8 @@ pub fn blocks<R: AllocGlobal + Input + Print + Eprint + Files + Threads + Sync>(
     };
     let mut reader = rt.reader();
     let mut writer = io::writer(rt);
-    let gate = Progress::new(rt, terminal);
+    let gate = Progress::new(rt, terminals.errors);
+    awaits(rt, terminals, "a trace of block reads");
     let played = play_blocks(
         rt.alloc(),
         rt,

@@ -16,12 +16,22 @@ the block, by their numbers from 0, with one space between.
   0 0 5                 client 0 reads block 5 of the first file
   1 0 5                 client 1 reads the same block
 
-Each client reads its own lines, in order. The whole trace is judged first; at a
-fault nothing is read, and `line N: FAULT` is told. The line of JSON has the
-charges and the slots of the entries that are left in the cache, what its usage
-and occupancy words say, and for each client how many reads gave a block, how
-many the source failed, how many the cache had and had not, how many were of
-blocks that aren't there, and the sum of all bytes read.";
+Each client reads its own lines, in order. Where the system starts no thread for
+a client, its lines are played after those of another one. Blocks of several
+files want a seed: without one reads can take twenty times as long.
+
+The whole trace is judged first; at a fault nothing is read, and `line N: FAULT`
+is told (`hcc_play run --help` has the faults). The line of JSON has in
+`charges` and `slots` the charges and the number of the entries that are left in
+the cache, in `usage` and `occupied` what its books say, and for each of the
+`clients`:
+
+  blocks    how many of its reads gave a block
+  faults    how many the source failed
+  hits      how many the cache had
+  misses    how many it had not, the faults among them
+  missing   how many were of blocks that aren't there
+  sum       all bytes read, added up modulo 2^64";
 
 /// The subcommand `blocks`.
 pub fn blocks_command<'a>(alloc: Global) -> Result<Command<'a>, AllocError> {

@@ -16,6 +16,9 @@ const PLAYED_SLOTS: u32 = 16;
 /// The most capacity of a world that is played.
 const PLAYED_CAPACITY: u64 = 1 << 40;
 
+/// The version of the C interface and of the public calls of the cache, as CHANGELOG.md has it.
+const VERSION: &str = "0.1.0";
+
 const ABOUT: &str = "\
 Plays scripts of a block cache's protocol and traces of calls on the cache, and
 reads files through it";
@@ -56,8 +59,11 @@ standing and hand. An empty slot is E, one that is built is B and its client,
 each with + and its stray acquires. An entry is S if shown and H if hidden, then
 its key, @ its stamp, # its charge, u its uses, r its references (client, name
 and weight of each) and h whether it was hit. Behind / is how often the slot
-stands in trails. The whole script is judged first; at a fault nothing is
-played, and `line N: FAULT` is told.";
+stands in trails. A refused event is answered `refused` and why: NoSuchSlot,
+NoSuchClient, or NotAllowed by the protocol now. The whole script is judged
+first; at a fault nothing is played, and `line N: FAULT` is told: the line is
+TooLong, Unended or NotAscii, or has a BadWord, a BadNumber, a number OutOfRange,
+a BadValue or one above 64 bytes, ValueTooLong (`hcc_play run --help` says more).";
 
 fn slots_arg<'a>(alloc: Global) -> Arg<'a> {
     Arg::new(alloc, "slots")
@@ -110,6 +116,7 @@ pub fn command<'a>(alloc: Global) -> Result<Command<'a>, AllocError> {
     let run = run_command(alloc)?;
     let blocks = blocks_command(alloc)?;
     Command::new(alloc, "hcc_play")
+        .version(VERSION)
         .about(ABOUT)
         .after_help(AFTER)
         .override_usage("hcc_play [COMMAND]")

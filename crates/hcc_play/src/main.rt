@@ -13,7 +13,7 @@ mod status;
 #[cfg(test)]
 mod tests;
 
-use crate::run::run;
+use crate::run::{Terminals, run};
 use crate::status::Status;
 use std::io;
 use std::io::{ErrorKind, IsTerminal};
@@ -35,9 +35,17 @@ fn unread(rt: &HostRuntime, error: &io::Error) -> Status {
     Status::Refused
 }
 
+/// Which of its streams are terminals.
+fn terminals_of(rt: &HostRuntime) -> Terminals {
+    Terminals {
+        input: rt.stdin().is_terminal(),
+        errors: rt.stderr().is_terminal(),
+    }
+}
+
 fn main(rt: HostRuntime) -> ExitCode {
     let status = match words_of(&rt) {
-        Ok(words) => run(&rt, words.as_slice(), rt.stderr().is_terminal()),
+        Ok(words) => run(&rt, words.as_slice(), terminals_of(&rt)),
         Err(error) => unread(&rt, &error),
     };
     ExitCode::from(status.code())

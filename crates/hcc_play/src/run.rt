@@ -34,18 +34,41 @@ pub enum Request<'a> {
     Nothing(Status),
 }
 
-/// Does what the words ask for: the first is the program's name. On a terminal a long play shows
-/// how far it is.
+/// Which of the program's streams are terminals.
+#[derive(Clone, Copy, Debug)]
+pub struct Terminals {
+    /// Standard input: somebody has to type the text.
+    pub input: bool,
+    /// Standard error: a long play shows there how far it is.
+    pub errors: bool,
+}
+
+/// Does what the words ask for: the first is the program's name.
 pub fn run<R: AllocGlobal + Input + Print + Eprint + Files + Threads + Sync>(
     rt: &R,
     words: &[String],
-    terminal: bool,
+    terminals: Terminals,
 ) -> Status {
     match asked(rt, words) {
-        Request::Core(setup) => core(rt, setup),
-        Request::Run(config) => calls(rt, config),
-        Request::Blocks(options, paths) => blocks(rt, &options, &paths, terminal),
+        Request::Core(setup) => {
+            awaits(rt, terminals, "a script");
+            core(rt, setup)
+        }
+        Request::Run(config) => {
+            if config.check().is_ok() {
+                awaits(rt, terminals, "a trace of calls");
+            }
+            calls(rt, config)
+        }
+        Request::Blocks(options, paths) => blocks(rt, &options, &paths, terminals),
         Request::Nothing(status) => status,
+    }
+}
+
+/// Says on standard error what is read, where somebody has to type it.
+pub fn awaits<R: Eprint>(rt: &R, terminals: Terminals, what: &str) {
+    if terminals.input {
+        let _ = eprintln!(rt; "reads {what} from the terminal, up to the end of file (Ctrl-D)");
     }
 }
 

@@ -27,14 +27,39 @@ numbered 0 to 16383 and empty at first.
 
 Priorities are H, L and B for high, low and bottom. A release is U, useful, or
 N; and E, erase if it was the last, or K. A value is hexadecimal, two digits for
-each byte, or - for none. A call may be answered `refused` and why. `busy` says
-that the register to be filled holds a handle, and `none` that the register to
-be read is empty: no call is made then.
+each byte, or - for none. `busy` says that the register to be filled holds a
+handle, and `none` that the register to be read is empty: no call is made then.
 
-The whole trace is judged first; at a fault nothing is played, and
-`line N: FAULT` is told. At the end all handles are released, the cache is
-closed, and a line of JSON has the charges and the number of the entries, slot
-by slot, beside what the cache's own books say.";
+A call may be answered `refused` and why:
+
+  HandlesFull     the client holds as many handles as it may
+  Spent           it has used all of its serials
+  TooLarge        strict: the charge is above the capacity of a shard
+  CapacityFull    strict: too little charge could be freed
+  OccupancyFull   strict: the shard had no place, and no slot could be freed
+
+The stats are counted from the beginning: `probes` are slots visited for a key,
+`boosts` insertions that met an entry of their key, `evicted` entries that
+evictions freed, `hit` those of them that a look-up had marked, `freed` their
+charges in sum, `turns` turns of the hand, `corrections` corrections of counters
+near their end, `lost` compare-exchanges that another client's step forestalled.
+
+At the end all handles are released, the cache is closed, and a line of JSON has
+in `charges` and `slots` the charges and the number of the entries that are
+left, slot by slot, and in `usage` and `occupied` what the cache's books say.
+
+The whole trace is judged first. At a fault nothing is played, and `line N:
+FAULT` is told, of the first line at fault:
+
+  TooLong        it has more than 8400 bytes
+  Unended        no line feed ends it
+  NotAscii       a byte is neither a space nor a visible character of ASCII
+  BadWord        a word is empty or unknown, or there are too few or too many
+  BadNumber      a word is no decimal number below 2^64 without leading zeros
+  OutOfRange     a number is outside its range
+  BadChoice      a word is none of those that may stand in its place
+  BadValue       a value is no hexadecimal text
+  ValueTooLong   a value is longer than the room of a slot";
 
 /// The subcommand `run`.
 pub fn run_command<'a>(alloc: Global) -> Result<Command<'a>, AllocError> {

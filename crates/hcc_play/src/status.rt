@@ -7,7 +7,7 @@ use hcc_player::fault::PlayError;
 /// How a run ended.
 #[derive(Clone, Copy, Debug, PartialEq, Eq)]
 pub enum Status {
-    /// All is done, or help was asked for.
+    /// All is done, or help or the version was asked for.
     Done,
     /// The arguments or the input were refused.
     Refused,

@@ -182,7 +182,13 @@ fn refuses_arguments(rt: HostRuntime) -> Result<(), Fail> {
 
 #[test]
 fn helps(rt: HostRuntime) -> Result<(), Fail> {
-    let cases: [&[&str]; 4] = [&["--help"], &["-h"], &["help"], &["core", "--help"]];
+    let cases: [&[&str]; 5] = [
+        &["--help"],
+        &["-h"],
+        &["help"],
+        &["core", "--help"],
+        &["--version"],
+    ];
     for words in cases {
         let ran = play(rt.alloc(), words, b"")?;
         assert_eq!(rt; ran.status, Status::Done);
