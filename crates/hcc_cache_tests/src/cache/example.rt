@@ -1,9 +1,10 @@
 //! The example of this crate's README: clients on threads of their own read blocks through a cache.
-ghost use Rattle.std.specs.Prelude.{◌≡◌, ℕ, Some, IfOk, length, slice_get};
+ghost use Rattle.std.specs.Prelude.{◌≡◌, ℕ, Some, IfOk, IsSome, length, slice_get};
 ghost use Rattle.std.specs.Thread.{IsSync};
+ghost use Rattle.hcc_cache.specs.Clients.{held_of};
 ghost use Rattle.hcc_cache.specs.Known.{Knows};
 
-use hcc_cache::{AnyBytes, Cache, Client, Config, Key, Priority};
+use hcc_cache::{AnyBytes, Cache, Client, Config, Handle, Key, Priority};
 use std::alloc::AllocError;
 use std::process::Abort;
 use std::test::Fail;
@@ -38,6 +39,26 @@ fn load(number: u64, block: &mut [u8])
     block.fill(content(number));
 }
 
+/// Copies a block of the same size by a handle, and gives that back. It returns whether it did.
+fn take(
+    cache: &Cache<AnyBytes>,
+    client: &mut Client<AnyBytes>,
+    handle: Handle,
+    block: &mut [u8],
+) -> bool
+    requires known { Knows cache.now client.old }
+    requires stands { IsSome (held_of cache.now client.old handle) }
+    ensures known { Knows cache.now client.new }
+    ensures length { length block.new ≡ length block.old }
+{
+    let whole = cache.value_len(client, handle) == block.len();
+    if whole {
+        cache.read_value(client, handle, block);
+    }
+    cache.release(client, handle, true, false);
+    whole
+}
+
 /// Reads a block through the cache.
 fn read(cache: &Cache<AnyBytes>, client: &mut Client<AnyBytes>, number: u64, block: &mut [u8])
     requires { Knows cache.now client.old }
@@ -46,12 +67,7 @@ fn read(cache: &Cache<AnyBytes>, client: &mut Client<AnyBytes>, number: u64, blo
 {
     let key = Key { w0: 0, w1: number };
     if let Ok(Some(handle)) = cache.lookup(client, key) {
-        let whole = cache.value_len(client, handle) == block.len();
-        if whole {
-            cache.read_value(client, handle, block);
-        }
-        cache.release(client, handle, true, false);
-        if whole {
+        if take(cache, client, handle, block) {
             return;
         }
     }

@@ -1,14 +1,15 @@
 //! Hits to be measured: reads of values that are there, again and again, by one thread or by four
 //! at once. `tests/measure-hits` takes the time.
-ghost use Rattle.std.specs.Prelude.{◌≡◌, ℕ, Some, IfOk, length, slice_get};
+ghost use Rattle.std.specs.Prelude.{◌≡◌, ℕ, Some, IfOk, IsSome, length, slice_get};
 ghost use Rattle.std.specs.Thread.{IsSync};
+ghost use Rattle.hcc_cache.specs.Clients.{held_of};
 ghost use Rattle.hcc_cache.specs.Known.{Knows};
 
 use super::calls::{Answer, stores};
 use super::stage::{SMALL, Store};
 use hcc_cache::Inserted::Placed;
 use hcc_cache::Priority::Low;
-use hcc_cache::{AnyBytes, Cache, Client, Config, Key};
+use hcc_cache::{AnyBytes, Cache, Client, Config, Handle, Key};
 use std::alloc::{AllocError, Global};
 use std::process::Abort;
 use std::test::Fail;
@@ -75,6 +76,16 @@ fn hit(cache: &Store, client: &mut Client<AnyBytes>, key: Key, buffer: &mut [u8]
     let Ok(Some(handle)) = cache.lookup(client, key) else {
         return 0;
     };
+    take(cache, client, handle, buffer)
+}
+
+/// The same by a handle, which it gives back.
+fn take(cache: &Store, client: &mut Client<AnyBytes>, handle: Handle, buffer: &mut [u8]) -> usize
+    requires known { Knows cache.now client.old }
+    requires stands { IsSome (held_of cache.now client.old handle) }
+    ensures known { Knows cache.now client.new }
+    ensures length { length buffer.new ≡ length buffer.old }
+{
     let count = cache.value_len(client, handle);
     if count <= buffer.len() {
         cache.read_value(client, handle, buffer);
