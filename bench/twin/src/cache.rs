@@ -28,10 +28,16 @@ impl Client {
         }
     }
 
+    /// The next serial, which is used then.
+    #[inline(always)]
+    fn next_serial(&mut self) -> u64 {
+        self.serial += 1;
+        self.serial
+    }
+
     #[inline(always)]
     fn keep(&mut self, holding: Holding) -> Option<u32> {
         let handle = self.free.pop()?;
-        self.serial += 1;
         self.held[handle as usize] = Some(holding);
         Some(handle)
     }
@@ -71,6 +77,7 @@ impl Cache {
         }
         let (key, shard) = self.placed(key);
         let pin = self.shard(shard).find(key, &mut client.stats)?;
+        client.next_serial();
         client.keep(Holding::Pinned { shard, pin })
     }
 
@@ -120,8 +127,7 @@ impl Cache {
         }
         let (key, number) = self.placed(key);
         let shard = self.shard(number);
-        client.serial += 1;
-        let stamp = (client.number << 54) | client.serial;
+        let stamp = (client.number << 54) | client.next_serial();
         let draft = Draft { key, value, charge, countdown: 2, stamp, keep };
         let placed = match shard.reserve(charge as u64, &mut client.stats) {
             Err(Refused::Strict) => return None,
