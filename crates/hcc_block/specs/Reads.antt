@@ -8,7 +8,7 @@ use Rattle.hcc_cache.specs.declared.errors.InsertError.TheVariants.{Spent, TooLa
 use Rattle.hcc_cache.specs.declared.handle.Handle.{Handle}
 use Rattle.hcc_cache.specs.declared.inserting.Inserted.{Inserted}
 use Rattle.hcc_cache.specs.declared.priority.Priority.TheVariants.{Low}
-use Rattle.hcc_cache.specs.Calls.{Finds, GivesUp, Misses, Reads, Releases}
+use Rattle.hcc_cache.specs.Calls.{Finds, GivesUp, Misses, Reads, Releases, SearchesFor}
 use Rattle.hcc_cache.specs.Clients.{held_by, held_of}
 use Rattle.hcc_cache.specs.Inserts.{Inserts}
 use Rattle.hcc_block.specs.declared.reader.BlockReader.{BlockReader}
@@ -62,13 +62,16 @@ module _ {T : Type 0} (cache : Cache T) where
       pub was : Client T
       pub freed : Bool
       pub finds : Finds cache fits key handle old found
+      pub searched : SearchesFor cache fits key (Some handle) old found
       pub reads : Reads cache found was
       pub releases : Releases cache handle false freed was new
       pub gives : GivesUp cache handle true false freed was new
 
     -- no look-up may be made, or one found no entry of the key
-    abbrev pub Lacks : (old new : Client T) → Type 0
-    Lacks old new = (IsRefused old × (new ≡ old)) ⊎ Misses cache key old new
+    abbrev pub Lacks : (fits : T → Key → List ℕ → Type 0) → (old new : Client T) → Type 0
+    Lacks fits old new =
+        (IsRefused old × (new ≡ old))
+        ⊎ (Misses cache key old new × SearchesFor cache fits key None old new)
 
     -- The value was handed to an insertion, with its length as the charge and priority Low.
     pub record Hands (value : List ℕ) (old new : Client T) : Type 0 where
@@ -79,11 +82,12 @@ module _ {T : Type 0} (cache : Cache T) where
       pub inserts : Inserts cache key (length value) Low value answer old new
 
     -- The cache lacked the block, which was then inserted.
-    pub record Loads (block : Option (List ℕ)) (old new : Client T) : Type 0 where
+    pub record Loads (fits : T → Key → List ℕ → Type 0) (block : Option (List ℕ))
+        (old new : Client T) : Type 0 where
       pub value : List ℕ
       pub is : block ≡ Some value
       pub looked : Client T
-      pub lacks : Lacks old looked
+      pub lacks : Lacks fits old looked
       pub hands : Hands value looked new
 
 -- Of the counts.
@@ -116,6 +120,6 @@ unfoldable pub GoesThrough : {S T : Type 0} (fits : T → Key → List ℕ → T
     → (was is : Client T) → Type 0
 GoesThrough fits cache key block (Ok count) old new was is =
     (CountsHit old new × Copies cache key fits was is)
-    ⊎ (CountsMiss old new × Loads cache key block was is)
+    ⊎ (CountsMiss old new × Loads cache key fits block was is)
 GoesThrough fits cache key block (Err NoSuchBlock) old new was is = is ≡ was
-GoesThrough fits cache key block (Err SourceFault) old new was is = Lacks cache key was is
+GoesThrough fits cache key block (Err SourceFault) old new was is = Lacks cache key fits was is

@@ -6,6 +6,7 @@
 #![tactic(auto)]
 
 mod failing;
+pub mod laws;
 mod memory;
 mod reader;
 mod reading;

@@ -180,7 +180,7 @@ fn copied<T: Tag>(
         (held_by client.old < client.old.most) × (0 < client.old.left)) }
     ensures copies { IfSome result (λ count.
         Copies cache.now key T.fits client.old client.new) }
-    ensures lacks { IfNone result (Lacks cache.now key client.old client.new) }
+    ensures lacks { IfNone result (Lacks cache.now key T.fits client.old client.new) }
     ensures missed { IfNone result (KeepsAll cache.now client.old client.new) }
     ensures known { Knows cache.now client.new }
     ensures same { HoldsSame cache.now client.old client.new }

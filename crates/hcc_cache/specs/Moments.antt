@@ -1,5 +1,5 @@
 -- What a shard of a cache may be between any two atomic steps of any threads.
-use Rattle.std.specs.Prelude.{◌≡◌, ℕ, List, Option, None, Some, slice_get}
+use Rattle.std.specs.Prelude.{◌≡◌, ℕ, ◌<◌, List, Option, None, Some, slice_get}
 use Rattle.std.specs.declared.alloc.Global.{Global}
 use Rattle.hcc_rule.specs.declared.key.Key.{Key}
 use Rattle.hcc_rule.specs.declared.rule.Plan.{Plan}
@@ -7,6 +7,7 @@ use Rattle.hcc_rule.specs.Laws.{StateOf}
 use Rattle.hcc_rule.specs.Rule.{Holds}
 use Rattle.hcc_table.specs.declared.pins.Pin.{Pin}
 use Rattle.hcc_table.specs.Quiet.{IsQuiet, ShowsKeyAt}
+use Rattle.hcc_table.specs.Standing.{ShowsKey, world_at}
 use Rattle.hcc_shard.specs.declared.seat.ShardSeat.{ShardSeat}
 use Rattle.hcc_shard.specs.declared.shard.Shard.{Shard}
 use Rattle.hcc_shard.specs.Callers.{SearchesAt, plan_of}
@@ -51,6 +52,16 @@ module _ {T : Type 0} (fits : T → Key → List ℕ → Type 0) where
     pub here : m.number ≡ shard_in m.cache key
     pub quiet : IsQuietBy missed.shard (key_to m.cache.seed key) old.used s missed.did.0
         missed.was missed.is missed.did.2
+
+-- The world that a client knows of a key's shard shows the key in a slot.
+pub record KnowsShown {T : Type 0} (cache : Cache T) (key : Key) (client : Client T) : Type 0 where
+  pub shard : Shard (Seeded T) Global
+  pub seat : ShardSeat (Seeded T)
+  pub shard_is : slice_get cache.shards.items (shard_in cache key) ≡ Some shard
+  pub seat_is : slice_get client.seats.items (shard_in cache key) ≡ Some seat
+  pub slot : ℕ
+  pub within : slot < cache.geometry.slots
+  pub shows : ShowsKey (world_at shard.table seat.seat) (key_to cache.seed key) slot
 
 -- A slot of the shard shows a caller's key in this state: look-ups find an entry of it there.
 abbrev pub ShowsKeyIn : {T : Type 0} {fits : T → Key → List ℕ → Type 0} {config : Config} {tag : T}

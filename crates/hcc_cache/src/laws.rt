@@ -2,13 +2,14 @@
 //!
 //! No function here does anything when it runs: its contract is the law. `m.holds.world` is the
 //! lawful world that the shard's words and what its clients know show.
-ghost use Rattle.std.specs.Prelude.{◌≡◌, ℕ, ◌+◌, ◌*◌, ◌/◌, ◌<◌, ◌≤◌, ◌↔◌, Bool, true, List, Option, None, Some, IsNone, slice_get};
+ghost use Rattle.std.specs.Prelude.{◌≡◌, ℕ, ◌+◌, ◌*◌, ◌/◌, ◌<◌, ◌≤◌, ◌↔◌, Bool, true, List, Option, None, Some, IsNone, IsSome, slice_get};
 ghost use Rattle.hcc_core.specs.declared.limits.TheConstants.{OCCUPANCY_PERCENT};
 ghost use Rattle.hcc_core.specs.Lawful.{real_in, taken_in};
 ghost use Rattle.hcc_rule.specs.declared.layout.TheConstants.{OCCUPANCY};
 ghost use Rattle.hcc_rule.specs.declared.key.Key.{Key};
 ghost use Rattle.hcc_rule.specs.declared.view.View.{View};
 ghost use Rattle.hcc_rule.specs.Laws.{StateOf, ledger_word, AreMade, AreOfMade};
+ghost use Rattle.hcc_shard.specs.declared.getting.Got.{Got};
 ghost use Rattle.hcc_shard.specs.declared.getting.Got.TheVariants.{Miss};
 ghost use Rattle.hcc_table.specs.Standing.{FindsFirst, FindsLasting, ShowsKey, world_at};
 ghost use Rattle.hcc_cache.specs.declared.cache.Cache.{Cache};
@@ -22,7 +23,7 @@ ghost use Rattle.hcc_cache.specs.Configs.{shard_capacity};
 ghost use Rattle.hcc_cache.specs.Gets.{GetsAt};
 ghost use Rattle.hcc_cache.specs.Keys.{fits_seeded};
 ghost use Rattle.hcc_cache.specs.Known.{Knows};
-ghost use Rattle.hcc_cache.specs.Moments.{IsMoment, IsQuietMiss, ShowsKeyIn, plan_in};
+ghost use Rattle.hcc_cache.specs.Moments.{IsMoment, IsQuietMiss, KnowsShown, ShowsKeyIn, plan_in};
 ghost use Rattle.hcc_cache.specs.Opened.{IsOpened};
 ghost use Rattle.hcc_cache.specs.Sharding.{key_to};
 
@@ -117,6 +118,20 @@ pub fn law_lookups<T: Tag>()
         (h : SearchesFor cache T.fits key found old new)
         → IsNone found ↔ ((slot : ℕ) → slot < config.slots
         → ¬ ShowsKey (world_at h.shard.table h.was.seat) (key_to cache.seed key) slot) }
+
+    // A read by a key misses exactly there, too.
+    ensures unread { (config : Config) (tag : T) (cache : Cache T) (clients : List (Client T))
+        → IsOpened config tag cache clients → config.clients ≡ 1
+        → (key : Key) (useful : Bool) (got : Got) (before after : List ℕ) (old new : Client T)
+        (h : GetsAt cache T.fits key useful got before after old new)
+        → (got ≡ Miss) ↔ ((slot : ℕ) → slot < config.slots
+        → ¬ ShowsKey (world_at h.shard.table h.was.seat) (key_to cache.seed key) slot) }
+
+    // What the client knows to be there is found.
+    ensures there { (config : Config) (tag : T) (cache : Cache T) (clients : List (Client T))
+        → IsOpened config tag cache clients → config.clients ≡ 1
+        → (key : Key) (found : Option Handle) (old new : Client T)
+        → SearchesFor cache T.fits key found old new → KnowsShown cache key old → IsSome found }
 {
     law_lasting::<Seeded<T>, Global>();
     law_found_alone::<Seeded<T>, Global>();

@@ -15,6 +15,7 @@ returns-clause-copies g c = record {
   was = c.read_value-count.new.client;
   freed = c.release.result;
   finds = rw c.in-Ok-Some.field-0-is at c.in-Ok-Some.ensures.found;
+  searched = rw c.in-Ok-Some.field-0-is at c.in-Ok-Some.ensures.searched;
   reads = c.read_value-count.ensures.reads;
   releases = c.release.ensures.released;
   gives = c.release.ensures.gives;
