@@ -8,7 +8,7 @@ use Rattle.hcc_rule.specs.Closing.{data_at, has_entry, key_at, meta_at, words_of
 use Rattle.hcc_rule.specs.Words.{field_at, ledger_at}
 use Rattle.hcc_shard.specs.declared.entries.ClosedEntry.{ClosedEntry}
 use Rattle.hcc_shard.specs.declared.entries.ClosedShard.{ClosedShard}
-use Rattle.hcc_shard.specs.Left.{length_at, value_at}
+use Rattle.hcc_shard.specs.Left.{length_at, passed_left, value_at}
 use Rattle.hcc_cache.specs.declared.limits.TheConstants.{MOST_SHARDS}
 use Rattle.hcc_cache.specs.Keys.{key_from}
 
@@ -23,6 +23,10 @@ ledger_of ledger left =
 abbrev pub field_of : (slot field : ℕ) → ClosedShard Global → ℕ
 field_of slot field left =
     slice_index (words_of left.table) (field_at left.table.geometry.room slot field)
+
+-- how often a slot of it stands in the trails of its entries
+abbrev pub passed_over : (slot : ℕ) → ClosedShard Global → ℕ
+passed_over slot left = passed_left left.table slot
 
 -- how many bytes the value of a slot's entry has, and which
 abbrev pub length_of : (slot : ℕ) → ClosedShard Global → ℕ

@@ -2,7 +2,7 @@
 ghost use Rattle.std.specs.Prelude.{◌≡◌, ◌<◌, ◌≤◌, ◌^◌, ◌++◌, Some, length, drop, slice_get};
 ghost use Rattle.hcc_rule.specs.declared.layout.TheConstants.{DISPLACEMENT, HAND, META, OCCUPANCY, USAGE};
 ghost use Rattle.hcc_shard.specs.Left.{charges_left, slots_left};
-ghost use Rattle.hcc_cache.specs.Left.{AreWhole, HasRoomFor, InShard, TellsEntry, at_shard, field_of, ledger_of, length_of, over_shards, slots_at, value_of};
+ghost use Rattle.hcc_cache.specs.Left.{AreWhole, HasRoomFor, InShard, TellsEntry, at_shard, field_of, ledger_of, length_of, over_shards, passed_over, slots_at, value_of};
 
 use crate::seeded::key_from;
 use arrayvec::ArrayVec;
@@ -124,7 +124,8 @@ impl Closed {
     /// How often a slot stands in the trails of the shard's entries. It costs one load.
     pub fn displacement(&self, shard: usize, slot: u32) -> u64
         requires { slot < slots_at self.now.shards.items shard }
-        ensures { result ≡ at_shard self.now.shards.items shard (field_of slot DISPLACEMENT) }
+        ensures sum { result ≡ at_shard self.now.shards.items shard (passed_over slot) }
+        ensures word { result ≡ at_shard self.now.shards.items shard (field_of slot DISPLACEMENT) }
     {
         self.shard(shard).displacement(slot)
     }
