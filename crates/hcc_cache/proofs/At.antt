@@ -4,7 +4,7 @@ use Rattle.std.proofs.lemmas.Option.{slice_get_read}
 use Rattle.std.specs.declared.alloc.Global.{Global}
 use Rattle.slab.specs.Slab.{slab_len}
 use Rattle.hcc_core.specs.declared.limits.TheConstants.{MOST_HANDLES, STAMPS_PER_CLIENT}
-use Rattle.hcc_core.proofs.ListLemmas.{read_here}
+use Rattle.hcc_core.proofs.ListLemmas.{read_here, read_other, read_same}
 use Rattle.hcc_core.proofs.SumLemmas.{total-member}
 use Rattle.hcc_rule.specs.declared.view.View.{View}
 use Rattle.hcc_table.specs.Rises.{Rose}
@@ -12,11 +12,12 @@ use Rattle.hcc_table.specs.Steps.{MakesFor}
 use Rattle.hcc_shard.specs.declared.seat.ShardSeat.{ShardSeat}
 use Rattle.hcc_shard.specs.declared.shard.Shard.{Shard}
 use Rattle.hcc_shard.specs.Callers.{steps_of, view_of}
+use Rattle.hcc_shard.specs.Counted.{SameCounts}
 use Rattle.hcc_shard.specs.Seated.{IsNext}
 use Rattle.hcc_cache.specs.declared.cache.Cache.{Cache}
 use Rattle.hcc_cache.specs.declared.client.Client.{Client}
 use Rattle.hcc_cache.specs.declared.seeded.Seeded.{Seeded}
-use Rattle.hcc_cache.specs.Calls.{AtShard, TakesAtMost, TakesFor, Works}
+use Rattle.hcc_cache.specs.Calls.{AtShard, CountsNone, DoesAt, OnlyAt, TakesAtMost, TakesFor, Works, counts_by}
 use Rattle.hcc_cache.specs.Clients.{view_by}
 use Rattle.hcc_cache.specs.Known.{AreHeld, IsSeated, Knows, records_at}
 use Rattle.hcc_cache.proofs.Seats.{seated_set, steps_set, view_else, view_here}
@@ -102,6 +103,28 @@ module _ {T : Type 0} where
         seat_is = rw (change.seats) (read_here old.seats.items i was is at.seat_is);
         did = did;
       }
+
+      -- no other seat changed
+      pub only_at : (number : ℕ) → i ≡ number → OnlyAt number old new
+      only_at number here =
+          subst (λ n. OnlyAt n old new) here
+          (λ s ne. rw (change.seats) (read_other old.seats.items i s is ne))
+
+      pub does_at : (Did : (a b : ShardSeat (Seeded T)) → Type 0) → Did was is → (number : ℕ)
+          → i ≡ number → DoesAt Did number old new
+      does_at Did did number here = subst (λ n. DoesAt Did n old new) here record {
+        was = was;
+        is = is;
+        seat_was = at.seat_is;
+        seat_is = rw (change.seats) (read_here old.seats.items i was is at.seat_is);
+        did = did;
+        others = only_at i refl;
+      }
+
+      -- where the seat counted nothing the client didn't
+      pub counts_none : SameCounts was is → CountsNone old new
+      counts_none same = λ s. rw (change.seats)
+          (read_same counts_by old.seats.items i s was is at.seat_is (ap Some same))
 
       -- the steps that it made are those of the client
       pub takes_at : (most : ℕ) → steps_of is ≤ steps_of was + most → TakesAtMost most old new

@@ -8,6 +8,7 @@ use Rattle.hcc_rule.specs.Records.{record_in}
 use Rattle.hcc_shard.specs.declared.seat.ShardSeat.{ShardSeat}
 use Rattle.hcc_shard.specs.declared.shard.Shard.{Shard}
 use Rattle.hcc_shard.specs.Callers.{geometry_of, view_of}
+use Rattle.hcc_shard.specs.Counted.{SameCounts}
 use Rattle.hcc_shard.specs.Seated.{Rests}
 use Rattle.hcc_cache.specs.declared.cache.Cache.{Cache}
 use Rattle.hcc_cache.specs.declared.client.Client.{Client}
@@ -22,7 +23,7 @@ use Rattle.hcc_cache.specs.Keys.{key_from}
 use Rattle.hcc_cache.specs.Sharding.{key_of_words, key_to}
 use Rattle.hcc_cache.specs.Known.{IsKeptAs, IsSeated, Knows}
 use Rattle.hcc_cache.proofs.Again.{IsPinAt, held_at, pin_at}
-use Rattle.hcc_cache.proofs.At.{ChangesAt, IsAt, seated_at}
+use Rattle.hcc_cache.proofs.At.{ChangesAt, IsAt, counts_none, seated_at}
 use Rattle.hcc_cache.proofs.Found.{IsLeft, keeps_left, knows_left}
 use Rattle.hcc_cache.proofs.Seats.{part_same, seated_by}
 
@@ -57,12 +58,13 @@ module _ {T : Type 0} (cache : Cache T) (old new : Client T) (i : ℕ) (shard : 
         (seated_at cache old new i shard was is at) rests same)
 
     -- and knows and holds what it did
-    pub reads_at : Reads cache old new
-    reads_at = record {
+    pub reads_at : SameCounts was is → Reads cache old new
+    reads_at counted = record {
       rests = record {
         all = λ s. rw (change.seats)
             (part_same (λ v. v) old.seats.items i s was is at.seat_is same);
         self = (change.number, change.most);
+        counts = counts_none cache old new i shard was is at change counted;
       };
       keeps = keeps_left cache old new i shard was is at change left records standalones;
     }
@@ -125,6 +127,7 @@ reads_twice cache a b c first next = record {
   rests = record {
     all = λ s. next.rests.all s ∙ first.rests.all s;
     self = (next.rests.self.0 ∙ first.rests.self.0, next.rests.self.1 ∙ first.rests.self.1);
+    counts = λ s. next.rests.counts s ∙ first.rests.counts s;
   };
   keeps = record {
     all = λ h. next.keeps.all h ∙ first.keeps.all h;

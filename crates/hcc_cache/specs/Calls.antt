@@ -15,17 +15,25 @@ use Rattle.hcc_table.specs.Searched.{AllDead, IsFound, IsMissed, Searched}
 use Rattle.hcc_charge.specs.Settled.{fallen}
 use Rattle.hcc_shard.specs.declared.seat.ShardSeat.{ShardSeat}
 use Rattle.hcc_shard.specs.declared.shard.Shard.{Shard}
-use Rattle.hcc_shard.specs.Callers.{ErasesAt, GivesBackAt, SearchesAt, steps_of}
+use Rattle.hcc_shard.specs.declared.seat.Stats.{Stats}
+use Rattle.hcc_shard.specs.Callers.{AcquiresAt, ErasesAt, GivesBackAt, SearchesAt, steps_of}
+use Rattle.hcc_shard.specs.Counted.{SameEvictions, stats_of}
 use Rattle.hcc_shard.specs.Referred.{IsErasedAll, IsReleased}
 use Rattle.hcc_cache.specs.declared.cache.Cache.{Cache}
 use Rattle.hcc_cache.specs.declared.client.Client.{Client}
 use Rattle.hcc_cache.specs.declared.handle.Handle.{Handle}
 use Rattle.hcc_cache.specs.declared.holding.Hold.{Hold}
-use Rattle.hcc_cache.specs.declared.holding.Kept.TheVariants.{Pinned}
+use Rattle.hcc_cache.specs.declared.holding.Kept.{Kept}
+use Rattle.hcc_cache.specs.declared.holding.Kept.TheVariants.{Pinned, Standing}
 use Rattle.hcc_cache.specs.declared.seeded.Seeded.{Seeded}
 use Rattle.hcc_cache.specs.Clients.{Held, held_by, held_entry, held_of, hold_of, view_at}
 use Rattle.hcc_cache.specs.Keys.{fits_seeded, key_from}
 use Rattle.hcc_cache.specs.Sharding.{key_to, shard_of}
+
+-- the counts of a seat, if there is one
+abbrev pub counts_by : {T : Type 0} → Option (ShardSeat T) → Option Stats
+counts_by None = None
+counts_by (Some seat) = Some (stats_of seat)
 
 module _ {T : Type 0} where
   -- how many atomic steps the client made, at all shards
@@ -55,10 +63,44 @@ module _ {T : Type 0} where
     pub others : (s : ℕ) → ¬ (s ≡ shard) → view_at s new ≡ view_at s old
     pub self : IsSelf old new
 
-  -- it knows what it knew of all shards
+  -- no count rose at any shard
+  abbrev pub CountsNone : (old new : Client T) → Type 0
+  CountsNone old new =
+      (s : ℕ) → counts_by (slice_get new.seats.items s) ≡ counts_by (slice_get old.seats.items s)
+
+  -- no seat changed but the one at the shard of this number
+  abbrev pub OnlyAt : (number : ℕ) → (old new : Client T) → Type 0
+  OnlyAt number old new =
+      (s : ℕ) → ¬ (s ≡ number) → slice_get new.seats.items s ≡ slice_get old.seats.items s
+
+  -- Its seat at the shard of this number did this, and no other seat changed.
+  pub record DoesAt (Did : (old new : ShardSeat (Seeded T)) → Type 0) (number : ℕ)
+      (old new : Client T) : Type 0 where
+    pub was : ShardSeat (Seeded T)
+    pub is : ShardSeat (Seeded T)
+    pub seat_was : slice_get old.seats.items number ≡ Some was
+    pub seat_is : slice_get new.seats.items number ≡ Some is
+    pub did : Did was is
+    pub others : OnlyAt number old new
+
+  -- No count rose but, at this shard, those of probes, corrections and lost exchanges.
+  abbrev pub CountsAt : (number : ℕ) → (old new : Client T) → Type 0
+  CountsAt = DoesAt SameEvictions
+
+  -- What a call counts by what a handle is on: of a standalone entry nothing.
+  abbrev pub CountsOf : (shard : ℕ) → Kept → (old new : Client T) → Type 0
+  CountsOf shard (Pinned slot counting) = CountsAt shard
+  CountsOf shard (Standing index) = CountsNone
+
+  abbrev pub CountsBy : Handle → (old new : Client T) → Type 0
+  CountsBy handle old new =
+      (hold : Hold) → hold_of old handle ≡ Some hold → CountsOf hold.shard hold.kept old new
+
+  -- it knows what it knew of all shards, and no count rose
   pub record Rests (old new : Client T) : Type 0 where
     pub all : (s : ℕ) → view_at s new ≡ view_at s old
     pub self : IsSelf old new
+    pub counts : CountsNone old new
 
 module _ {T : Type 0} (cache : Cache T) where
   -- the number of a key's shard
@@ -183,6 +225,14 @@ module _ {T : Type 0} (cache : Cache T) where
     pub adds : AddsOn more.serial held.entry added
     pub records : w.records ≡ v.records ++ added
     pub gains : Gains more held old new
+
+  -- A reference was acquired for it at the slot of an entry of the table: how the counts rose.
+  abbrev pub AcquiresFor : Handle → (old new : Client T) → Type 0
+  AcquiresFor handle old new =
+      (hold : Hold) (slot : ℕ) (counting : Bool) → hold_of old handle ≡ Some hold
+      → hold.kept ≡ Pinned slot counting
+      → AtShard (λ shard was is. (counts : Bool) × AcquiresAt shard slot counts was is)
+      hold.shard old new
 
   -- what a release leaves of a view: of an entry of the table, or of a standalone one of this name,
   -- which goes with its last handle: it stood there, and stands no more

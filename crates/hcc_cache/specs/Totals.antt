@@ -3,6 +3,7 @@ use Rattle.std.specs.Prelude.{◌≡◌, ◌⊎◌, ℕ, ◌+◌, ◌-◌, ◌^�
 use Rattle.std.specs.declared.alloc.Global.{Global}
 use Rattle.hcc_core.specs.Sums.{total}
 use Rattle.hcc_core.specs.World.{standing_of}
+use Rattle.hcc_rule.specs.declared.key.Key.{Key}
 use Rattle.hcc_rule.specs.declared.view.View.{View}
 use Rattle.hcc_rule.specs.ToldLedgers.{after_usage}
 use Rattle.hcc_rule.specs.Records.{charge_held, different}
@@ -11,12 +12,13 @@ use Rattle.hcc_shard.specs.declared.seat.ShardSeat.{ShardSeat}
 use Rattle.hcc_shard.specs.declared.seat.Stats.{Stats}
 use Rattle.hcc_shard.specs.declared.shard.Shard.{Shard}
 use Rattle.hcc_shard.specs.Callers.{LoadsOccupancy, view_of}
-use Rattle.hcc_shard.specs.Counted.{LoadsUsage, stats_of}
+use Rattle.hcc_shard.specs.Counted.{CountsPinned, LoadsUsage, SameEvictions, stats_of}
 use Rattle.hcc_cache.specs.declared.cache.Cache.{Cache}
 use Rattle.hcc_cache.specs.declared.client.Client.{Client}
 use Rattle.hcc_cache.specs.declared.seeded.Seeded.{Seeded}
 use Rattle.hcc_cache.specs.Calls.{AtShard, IsSelf}
 use Rattle.hcc_cache.specs.Clients.{view_at}
+use Rattle.hcc_cache.specs.Keys.{fits_seeded}
 
 -- the sum of two counts, or the greatest count
 abbrev pub with_count : ℕ → ℕ → ℕ
@@ -64,6 +66,12 @@ module _ {T : Type 0} where
     pub all : (s : ℕ) → Sought (view_at s old) (view_at s new)
     pub self : IsSelf old new
 
+-- What is charged for what is held was counted at a shard, which counted nothing else.
+abbrev pub CountsHeldAt : {T : Type 0} → (fits : T → Key → List ℕ → Type 0)
+    → Shard (Seeded T) Global → (found : ℕ) → (old new : ShardSeat (Seeded T)) → Type 0
+CountsHeldAt fits shard found old new =
+    CountsPinned (fits_seeded fits) shard found old new × SameEvictions old new
+
 module _ {T : Type 0} (cache : Cache T) where
   -- At each shard in turn the client's seat did this, and this number was found there.
   pub record AtEach (Did : Shard (Seeded T) Global → (found : ℕ)
@@ -85,6 +93,13 @@ module _ {T : Type 0} (cache : Cache T) where
     pub counts : List ℕ
     pub loads : AtEach LoadsOccupancy counts old new
     pub sum : result ≡ total (λ n. n) counts
+
+  -- What is charged for what is held was counted at each shard, in turn: this is the sum.
+  pub record CountsEach (fits : T → Key → List ℕ → Type 0) (result : ℕ) (old new : Client T)
+      : Type 0 where
+    pub counts : List ℕ
+    pub loads : AtEach (CountsHeldAt fits) counts old new
+    pub sum : result ≡ min (total (λ n. n) counts) (2 ^ 64 - 1)
 
 -- counts of two shards
 abbrev pub stats_with : Stats → Stats → Stats

@@ -1,7 +1,7 @@
 //! Erasures.
 ghost use Rattle.std.specs.Prelude.{◌≡◌, ◌+◌, ◌-◌, ◌*◌};
 ghost use Rattle.hcc_table.specs.Steps.{freeing};
-ghost use Rattle.hcc_cache.specs.Calls.{Erases, ErasesFor, TakesAtMost, TakesFor, shard_in};
+ghost use Rattle.hcc_cache.specs.Calls.{CountsAt, Erases, ErasesFor, TakesAtMost, TakesFor, shard_in};
 ghost use Rattle.hcc_cache.specs.Known.{Knows};
 
 use crate::cache::Cache;
@@ -24,6 +24,7 @@ impl<T: Tag> Cache<T> {
         ensures known { Knows self.now client.new }
         ensures erased { Erases self.now key result client.old client.new }
         ensures searched { ErasesFor self.now T.fits key result client.old client.new }
+        ensures counts { CountsAt (shard_in self.now key) client.old client.new }
         ensures frees { TakesFor self.now 9
             (λ v w. (self.now.geometry.slots + 4) * (w.takings - v.takings) + 2)
             (shard_in self.now key) client.old client.new }

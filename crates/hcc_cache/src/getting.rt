@@ -1,6 +1,6 @@
 //! Values that are read by their keys, with no handle.
 ghost use Rattle.std.specs.Prelude.{◌≡◌, ◌+◌};
-ghost use Rattle.hcc_cache.specs.Calls.{KeepsAll, TakesFor, shard_in};
+ghost use Rattle.hcc_cache.specs.Calls.{CountsAt, KeepsAll, TakesFor, shard_in};
 ghost use Rattle.hcc_cache.specs.Gets.{GetsAt, GetsFor, SeeksAt};
 ghost use Rattle.hcc_cache.specs.Known.{Knows};
 
@@ -35,6 +35,7 @@ impl<T: Tag> Cache<T> {
             client.old client.new }
         ensures gets { GetsAt self.now T.fits key useful result buffer.old buffer.new
             client.old client.new }
+        ensures counts { CountsAt (shard_in self.now key) client.old client.new }
         ensures steps { TakesFor self.now 7 (λ v w. self.now.geometry.room + 2)
             (shard_in self.now key) client.old client.new }
     {

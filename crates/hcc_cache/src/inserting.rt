@@ -3,7 +3,7 @@ ghost use Rattle.std.specs.Prelude.{◌≡◌, ◌+◌, ◌-◌, ◌*◌, ◌<�
 ghost use Rattle.slab.specs.Slab.{get, slab_len, HasRoomFor, Updates};
 ghost use Rattle.hcc_cache.specs.declared.holding.Kept.TheVariants.{Standing};
 ghost use Rattle.hcc_shard.specs.Inserted.{inserting, inserting_between};
-ghost use Rattle.hcc_cache.specs.Calls.{TakesAtMost, TakesFor, shard_in};
+ghost use Rattle.hcc_cache.specs.Calls.{OnlyAt, TakesAtMost, TakesFor, shard_in};
 ghost use Rattle.hcc_cache.specs.Clients.{held_by};
 ghost use Rattle.hcc_cache.specs.Inserts.{Inserts, InsertsAt, InsertsPinnedAt, InsertsWith, RefusesPinnedAt, RefusesWith, answer_of};
 ghost use Rattle.hcc_cache.specs.Known.{Knows};
@@ -80,6 +80,7 @@ impl<T: Tag> Cache<T> {
             client.old client.new }
         ensures evicts { InsertsAt self.now T.fits key charge priority result
             client.old client.new }
+        ensures others { OnlyAt (shard_in self.now key) client.old client.new }
         ensures frees { 0 < client.old.left
             → (self.now.strict ≡ true → charge ≤ self.now.capacity)
             → TakesFor self.now 7
@@ -120,6 +121,7 @@ impl<T: Tag> Cache<T> {
             client.old client.new }
         ensures no_spent { ¬ IsErrOf result InsertError.Spent }
         ensures no_large { ¬ IsErrOf result InsertError.TooLarge }
+        ensures others { OnlyAt (shard_in self.now key) client.old client.new }
         ensures frees { TakesFor self.now 7
             (inserting_between self.now.geometry.slots self.now.geometry.room)
             (shard_in self.now key) client.old client.new }
@@ -222,6 +224,7 @@ impl<T: Tag> Cache<T> {
             client.old client.new)
             (λ e. RefusesPinnedAt self.now T.fits key charge priority e.0
             client.old client.new) }
+        ensures others { OnlyAt (shard_in self.now key) client.old client.new }
         ensures frees { held_by client.old < client.old.most → 0 < client.old.left
             → (self.now.strict ≡ true → charge ≤ self.now.capacity)
             → TakesFor self.now 7
@@ -271,6 +274,7 @@ impl<T: Tag> Cache<T> {
             client.old client.new)
             (λ e. RefusesPinnedAt self.now T.fits key charge priority e.0
             client.old client.new) }
+        ensures others { OnlyAt (shard_in self.now key) client.old client.new }
         ensures frees { TakesFor self.now 7
             (inserting_between self.now.geometry.slots self.now.geometry.room)
             (shard_in self.now key) client.old client.new }

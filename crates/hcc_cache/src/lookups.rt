@@ -1,7 +1,8 @@
 //! Look-ups, and more handles on what is held.
 ghost use Rattle.std.specs.Prelude.{◌≡◌, ◌*◌, ◌<◌, ◌≤◌, ◌↔◌, IfSome, IfNone, IfOk, OnErr, IsErrOf, Some, length};
+ghost use Rattle.hcc_shard.specs.Callers.{AcquiresAt};
 ghost use Rattle.hcc_cache.specs.declared.holding.Kept.TheVariants.{Pinned, Standing};
-ghost use Rattle.hcc_cache.specs.Calls.{Finds, Misses, Rerefs, SearchesFor, TakesAtMost, TakesFor, shard_in};
+ghost use Rattle.hcc_cache.specs.Calls.{AcquiresFor, AtShard, CountsAt, CountsBy, CountsNone, Finds, Misses, Rerefs, SearchesFor, TakesAtMost, TakesFor, shard_in};
 ghost use Rattle.hcc_cache.specs.Clients.{held_by, hold_of, Holds};
 ghost use Rattle.hcc_cache.specs.Sharding.{shard_of};
 ghost use Rattle.hcc_cache.specs.Known.{AreAlike, Knows};
@@ -41,6 +42,8 @@ impl<T: Tag> Cache<T> {
             (Misses self.now key client.old client.new)) }
         ensures searched { IfOk result (λ found.
             SearchesFor self.now T.fits key found client.old client.new) }
+        ensures counts { IfOk result (λ _. CountsAt (shard_in self.now key)
+            client.old client.new) }
         ensures visits { IfOk result (λ _. TakesFor self.now 7 (λ v w. 0)
             (shard_in self.now key) client.old client.new) }
         ensures steps { TakesAtMost (7 * self.now.geometry.slots) client.old client.new }
@@ -58,6 +61,7 @@ impl<T: Tag> Cache<T> {
             Finds self.now T.fits key handle client.old client.new) }
         ensures missed { IfNone result (Misses self.now key client.old client.new) }
         ensures searched { SearchesFor self.now T.fits key result client.old client.new }
+        ensures counts { CountsAt (shard_in self.now key) client.old client.new }
         ensures visits { TakesFor self.now 7 (λ v w. 0) (shard_in self.now key)
             client.old client.new }
         ensures steps { TakesAtMost (7 * self.now.geometry.slots) client.old client.new }
@@ -94,6 +98,8 @@ impl<T: Tag> Cache<T> {
             ↔ ((held_by client.old < client.old.most) × (client.old.left ≡ 0)) }
         ensures refused { OnErr result (client.new ≡ client.old) }
         ensures again { IfOk result (λ more. Rerefs self.now handle more client.old client.new) }
+        ensures acquires { IfOk result (λ _. AcquiresFor self.now handle client.old client.new) }
+        ensures counts { CountsBy handle client.old client.new }
         ensures steps { TakesAtMost 2 client.old client.new }
     {
         let hold = client.hold(handle);
@@ -121,6 +127,9 @@ impl<T: Tag> Cache<T> {
         requires free { (held_by client.old < client.old.most) × (0 < client.old.left) }
         ensures known { Knows self.now client.new }
         ensures again { Rerefs self.now handle result client.old client.new }
+        ensures acquires { AtShard self.now (λ shard was is. (counts : _)
+            × AcquiresAt shard slot counts was is) hold.shard client.old client.new }
+        ensures counts { CountsAt hold.shard client.old client.new }
         ensures steps { TakesAtMost 2 client.old client.new }
     {
         let serial = client.used;
@@ -148,6 +157,7 @@ impl<T: Tag> Cache<T> {
         requires free { (held_by client.old < client.old.most) × (0 < client.old.left) }
         ensures known { Knows self.now client.new }
         ensures again { Rerefs self.now handle result client.old client.new }
+        ensures counts { CountsNone client.old client.new }
         ensures steps { TakesAtMost 0 client.old client.new }
     {
         client.alone[index].references += 1;

@@ -1,7 +1,7 @@
 //! Handles that are given back.
 ghost use Rattle.std.specs.Prelude.{◌≡◌, ◌+◌, ◌*◌, ◌&&◌, IfNone, IfSome, Some};
 ghost use Rattle.hcc_cache.specs.declared.holding.Kept.TheVariants.{Pinned, Standing};
-ghost use Rattle.hcc_cache.specs.Calls.{GivesBackIn, GivesUp, Releases, TakesAtMost};
+ghost use Rattle.hcc_cache.specs.Calls.{CountsAt, CountsBy, CountsNone, GivesBackIn, GivesUp, Releases, TakesAtMost};
 ghost use Rattle.hcc_cache.specs.Clients.{hold_of, Holds};
 ghost use Rattle.hcc_cache.specs.Handles.{handle_of, HoldsNone};
 ghost use Rattle.hcc_cache.specs.Known.{Knows};
@@ -37,6 +37,7 @@ impl<T: Tag> Cache<T> {
         ensures released { Releases self.now handle erase_if_last result client.old client.new }
         ensures gives { GivesUp self.now handle useful erase_if_last result
             client.old client.new }
+        ensures counts { CountsBy handle client.old client.new }
         ensures steps { TakesAtMost (freeing self.now.geometry.slots + 3) client.old client.new }
     {
         let hold = client.hold(handle);
@@ -63,6 +64,8 @@ impl<T: Tag> Cache<T> {
             erase_if_last freed client.old client.new) }
         ensures gives { IfSome result (λ freed. GivesUp self.now (handle_of numbers) useful
             erase_if_last freed client.old client.new) }
+        ensures counts { IfSome result (λ _. CountsBy (handle_of numbers)
+            client.old client.new) }
         ensures steps { TakesAtMost (freeing self.now.geometry.slots + 3) client.old client.new }
     {
         let handle = numbers.handle();
@@ -85,6 +88,7 @@ impl<T: Tag> Cache<T> {
         ensures released { Releases self.now handle erase_if_last result client.old client.new }
         ensures gives { GivesUp self.now handle useful erase_if_last result
             client.old client.new }
+        ensures counts { CountsBy handle client.old client.new }
         ensures steps { TakesAtMost (freeing self.now.geometry.slots + 3) client.old client.new }
     {
         match hold.kept {
@@ -118,6 +122,7 @@ impl<T: Tag> Cache<T> {
         ensures released { Releases self.now handle erase_if_last result client.old client.new }
         ensures gives { GivesBackIn self.now hold.shard pin.slot (useful && pin.counting)
             erase_if_last result client.old client.new }
+        ensures counts { CountsAt hold.shard client.old client.new }
         ensures steps { TakesAtMost (freeing self.now.geometry.slots + 3) client.old client.new }
     {
         client.let_go(handle);
@@ -145,6 +150,7 @@ impl<T: Tag> Cache<T> {
         ensures known { Knows self.now client.new }
         ensures released { (erase : _) → Releases self.now handle erase result
             client.old client.new }
+        ensures counts { CountsNone client.old client.new }
         ensures steps { TakesAtMost 2 client.old client.new }
     {
         client.let_go(handle);

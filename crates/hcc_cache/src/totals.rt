@@ -1,14 +1,14 @@
 //! Totals of a cache, and words of its shards.
-ghost use Rattle.std.specs.Prelude.{◌≡◌, ◌+◌, ◌-◌, ◌*◌, ◌/◌, ◌^◌, ◌<◌, ◌≤◌, true, ℕ, length, slice_get};
+ghost use Rattle.std.specs.Prelude.{◌≡◌, ◌+◌, ◌-◌, ◌*◌, ◌/◌, ◌^◌, ◌<◌, ◌≤◌, true, ℕ, length};
 ghost use Rattle.hcc_core.specs.declared.limits.TheConstants.{OCCUPANCY_PERCENT};
 ghost use Rattle.hcc_rule.specs.Looked.{after_look, Backs};
 ghost use Rattle.hcc_rule.specs.ToldTrails.{passed_held};
 ghost use Rattle.hcc_shard.specs.Callers.{LoadsDisplacement, LoadsOccupancy, LoadsWord};
 ghost use Rattle.hcc_shard.specs.Counted.{LoadsUsage};
-ghost use Rattle.hcc_cache.specs.Calls.{AtShard, KeepsAll, Reads, TakesAtMost, Works};
+ghost use Rattle.hcc_cache.specs.Calls.{AtShard, CountsNone, KeepsAll, OnlyAt, Reads, TakesAtMost, Works};
 ghost use Rattle.hcc_cache.specs.Clients.{view_at};
 ghost use Rattle.hcc_cache.specs.Known.{Knows};
-ghost use Rattle.hcc_cache.specs.Totals.{charge_by, charge_in, entries_by, made_by, no_stats, stats_over, stats_with, taken_by, LoadsEachOccupancy, LoadsEachUsage, LoadsUsages, SearchesAll};
+ghost use Rattle.hcc_cache.specs.Totals.{charge_by, charge_in, entries_by, made_by, no_stats, stats_over, stats_with, taken_by, CountsEach, CountsHeldAt, LoadsEachOccupancy, LoadsEachUsage, LoadsUsages, SearchesAll};
 ghost use Rattle.hcc_rule.specs.ToldLedgers.{after_usage};
 ghost use Rattle.hcc_rule.specs.Records.{different};
 ghost use Rattle.hcc_table.specs.Searched.{Sought};
@@ -34,6 +34,7 @@ impl<T: Tag> Cache<T> {
         ensures entries { charge_by client.old ≤ result }
         ensures strict { self.now.strict ≡ true
             → result ≤ length self.now.shards.items * self.now.capacity }
+        ensures counts { CountsNone client.old client.new }
         ensures steps { TakesAtMost (length self.now.shards.items) client.old client.new }
     {
         let mut sum: u64 = 0;
@@ -53,10 +54,10 @@ impl<T: Tag> Cache<T> {
             (after_usage used (view_at shard client.old)) }
         ensures entries { charge_in (view_at shard client.old) ≤ result }
         ensures strict { self.now.strict ≡ true → result ≤ self.now.capacity }
+        ensures counts { CountsNone client.old client.new }
         ensures loads { AtShard self.now (λ at was is. LoadsUsage at result was is) shard
             client.old client.new }
-        ensures others { (s : ℕ) → ¬ (s ≡ shard)
-            → slice_get client.new.seats.items s ≡ slice_get client.old.seats.items s }
+        ensures others { OnlyAt shard client.old client.new }
         ensures steps { TakesAtMost 1 client.old client.new }
     {
         let seat = &mut client.seats[shard];
@@ -77,6 +78,7 @@ impl<T: Tag> Cache<T> {
         ensures entries { charge_by client.old ≤ result }
         ensures alone { self.now.geometry.clients ≡ 1
             → result ≡ charge_by client.old }
+        ensures loads { CountsEach self.now T.fits result client.old client.new }
         ensures steps { TakesAtMost
             (length self.now.shards.items * (5 * self.now.geometry.slots + 1))
             client.old client.new }
@@ -100,6 +102,9 @@ impl<T: Tag> Cache<T> {
         ensures entries { charge_in (view_at shard client.old) ≤ result }
         ensures alone { self.now.geometry.clients ≡ 1
             → result ≡ charge_in (view_at shard client.old) }
+        ensures loads { AtShard self.now (λ at was is. CountsHeldAt T.fits at result was is)
+            shard client.old client.new }
+        ensures others { OnlyAt shard client.old client.new }
         ensures steps { TakesAtMost (5 * self.now.geometry.slots + 1) client.old client.new }
     {
         let seat = &mut client.seats[shard];
@@ -147,8 +152,7 @@ impl<T: Tag> Cache<T> {
             ≡ length (view_at shard client.old).made }
         ensures loads { AtShard self.now (λ at was is. LoadsOccupancy at result was is) shard
             client.old client.new }
-        ensures others { (s : ℕ) → ¬ (s ≡ shard)
-            → slice_get client.new.seats.items s ≡ slice_get client.old.seats.items s }
+        ensures others { OnlyAt shard client.old client.new }
         ensures steps { TakesAtMost 1 client.old client.new }
     {
         let seat = &mut client.seats[shard];
@@ -171,6 +175,7 @@ impl<T: Tag> Cache<T> {
         ensures backs { Backs slot result (view_at shard client.old) }
         ensures loads { AtShard self.now (λ at was is. LoadsWord at slot result was is) shard
             client.old client.new }
+        ensures counts { CountsNone client.old client.new }
         ensures steps { TakesAtMost 1 client.old client.new }
     {
         let shard = shard as usize;

@@ -3,6 +3,7 @@ pub mod Seatings
 pub mod Reopenings
 pub mod Resting
 pub mod Settlings
+pub mod Pinning
 pub mod Pins
 pub mod Insertions
 pub mod Joinings

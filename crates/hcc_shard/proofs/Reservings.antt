@@ -19,11 +19,15 @@ use Rattle.hcc_rule.specs.ToldOwners.{after_show, first_word, made_of}
 use Rattle.hcc_rule.specs.Views.{Each}
 use Rattle.hcc_rule.specs.Words.{key_of}
 use Rattle.hcc_table.specs.declared.efforts.Effort.{Effort}
+use Rattle.hcc_table.specs.declared.inserting.Insertion.{Insertion}
+use Rattle.hcc_table.specs.declared.inserting.Insertion.TheVariants.{Placed}
+use Rattle.hcc_table.specs.Efforts.{Lost}
 use Rattle.hcc_table.specs.Rises.{Rose}
 use Rattle.hcc_table.specs.Inserted.{IsPlaced, Meets, Tried}
 use Rattle.hcc_table.specs.Searched.{Buried}
 use Rattle.hcc_table.proofs.Logs.{adds_none, adds_then, ends_adds}
 use Rattle.hcc_table.specs.Steps.{Adds, Among, Ends, MakesAtMost, MakesFor, after}
+use Rattle.hcc_table.specs.Tries.{Inserts}
 use Rattle.hcc_charge.specs.declared.reserving.Refused.{Refused}
 use Rattle.hcc_charge.specs.declared.reserving.Refused.TheVariants.{TooLarge, CapacityFull, OccupancyFull}
 use Rattle.hcc_charge.specs.declared.reserving.Reservation.TheVariants.{Reserved, NoPlace}
@@ -35,7 +39,7 @@ use Rattle.hcc_charge.proofs.Askings.{between_is, keeps_by, keeps_then}
 use Rattle.hcc_shard.specs.declared.seat.ShardSeat.{ShardSeat}
 use Rattle.hcc_shard.specs.declared.shard.Shard.{Shard}
 use Rattle.hcc_shard.specs.Inserted.{RefusedBy, Tries, inserting, inserting_between}
-use Rattle.hcc_shard.specs.Reserving.{IsLeftFor, LeavesOut, PutsIn, Refuses}
+use Rattle.hcc_shard.specs.Reserving.{CountsSlots, IsLeftFor, LeavesOut, PutsIn, Refuses, TriesEach, TriesFrom, left_out}
 
 -- Turns and what they took are within what an eviction may do.
 sweeping_within : (slots turns freed : ℕ) → turns ≤ most_turns slots → freed ≤ 4 * turns
@@ -128,6 +132,18 @@ module _ {T : Type 0} where
 pub rose_same : (old new : ℕ) → new ≡ old → Rose 0 0 old new
 rose_same old new same = (omega arith, λ low. omega arith, omega arith)
 
+-- The slots that were visited are those of the whole call.
+slots_from : {T : Type 0} (answer : Insertion) (old mid between new : ShardSeat T)
+    → (view mid.seat).saw ≡ (view old.seat).saw → mid.effort.probes ≡ old.effort.probes
+    → (view new.seat).saw ≡ (view between.seat).saw → new.effort ≡ between.effort
+    → CountsSlots answer mid between → CountsSlots answer old new
+slots_from answer old mid between new saw probes last same h =
+    let later : new.effort.probes ≡ between.effort.probes = ap (λ (e : Effort). e.probes) same in
+    let low = h.2.0 in
+    let exact = h.2.1 in
+    let high = h.2.2 in
+    (h.0, omega arith, (omega arith, λ end. omega arith, omega arith))
+
 module _ {T A : Type 0} (shard : Shard T A) (draft : Draft) where
   -- Why an entry is in no slot is told of the whole call, too.
   pub left_from : (matched : Bool) (old mid between new : ShardSeat T)
@@ -158,32 +174,55 @@ module _ {T A : Type 0} (shard : Shard T A) (draft : Draft) where
       boosts = boosts;
     }
 
+    -- What was tried from where the reservation ended.
+    tries_from : (answer : Insertion) (old mid between new : ShardSeat T)
+        → Lost 0 (4 * most_turns (slots_of shard.table)) old.effort mid.effort
+        → TriesEach fits shard draft answer mid between → new.effort ≡ between.effort
+        → Adds between.seat new.seat → TriesFrom fits shard draft mid.seat answer old new
+    tries_from answer old mid between new lost tries same behind = record {
+      before = mid.effort;
+      lost = lost;
+      done = between.seat;
+      inserts =
+          subst (λ e. Inserts fits shard.table draft.key draft.serial draft.countdown answer
+          mid.effort e mid.seat between.seat) (sym same) tries.inserts;
+      adds = behind;
+    }
+
     -- The entry was put in a slot that was reserved for it.
     pub puts_in : {slots capacity : ℕ} {strict : Bool} {charge granted i : ℕ} {place : Place}
-        (slot : ℕ) (value : List ℕ) (old new : ShardSeat T) (a : SeatOf T) (tally : Tally)
-        → Reserves slots capacity strict charge place granted (view old.seat) (view a)
-        → new.tally ≡ tally
-        → EvictsBy fits shard.table draft.charge (Ok Reserved) old.tally tally old.seat a
-        → IsPlaced (slots_of shard.table) slot i draft value (view a) (view new.seat)
+        (slot : ℕ) (value : List ℕ) (old mid new : ShardSeat T)
+        → Reserves slots capacity strict charge place granted (view old.seat) (view mid.seat)
+        → Lost 0 (4 * most_turns (slots_of shard.table)) old.effort mid.effort
+        → new.tally ≡ mid.tally
+        → EvictsBy fits shard.table draft.charge (Ok Reserved) old.tally mid.tally old.seat mid.seat
+        → IsPlaced (slots_of shard.table) slot i draft value (view mid.seat) (view new.seat)
         → Ends (atomic (address_of_meta shard.table slot) (first_word draft) 0 (first_word draft))
-        a new.seat
+        mid.seat new.seat
+        → TriesEach fits shard draft (Placed slot) mid new
         → new.boosts ≡ old.boosts → PutsIn fits shard draft slot old new
-    puts_in {i = i} slot value old new a tally r counts evicts told last boosts = record {
+    puts_in {i = i} slot value old mid new r lost counts evicts told last tries boosts = record {
       reserves = record {
-        reserved = a;
+        reserved = mid.seat;
         evicts =
             subst (λ t. EvictsBy fits shard.table draft.charge (Ok Reserved) old.tally t
-            old.seat a) (sym counts) evicts;
-        idle = idle_placed slot draft value (view a) (view new.seat) told.tried;
-        rest = λ less. ends_adds _ a new.seat last;
+            old.seat mid.seat) (sym counts) evicts;
+        idle = idle_placed slot draft value (view mid.seat) (view new.seat) told.tried;
+        rest = λ less. ends_adds _ mid.seat new.seat last;
       };
       i = i;
       probe = told.probe;
       saw = told.saw ∙ ap (λ (z : View T). z.saw + i) r.same;
       dead =
-          buried_from draft.key _ (view old.seat) (view a) (view new.seat)
+          buried_from draft.key _ (view old.seat) (view mid.seat) (view new.seat)
           (ap (λ (z : View T). z.records) r.same) told.dead;
       last = last;
+      tries =
+          tries_from (Placed slot) old mid new new lost tries refl
+          (adds_none new.seat new.seat refl);
+      probes =
+          slots_from (Placed slot) old mid new new (ap (λ (z : View T). z.saw) r.same) lost.0
+          refl refl tries.counts;
       boosts = boosts;
     }
 
@@ -191,6 +230,7 @@ module _ {T A : Type 0} (shard : Shard T A) (draft : Draft) where
     pub leaves_reserved : {slots capacity : ℕ} {strict : Bool} {charge granted : ℕ} {place : Place}
         (matched : Bool) (old mid between new : ShardSeat T)
         → Reserves slots capacity strict charge place granted (view old.seat) (view mid.seat)
+        → Lost 0 (4 * most_turns (slots_of shard.table)) old.effort mid.effort
         → new.tally ≡ mid.tally
         → EvictsBy fits shard.table draft.charge (Ok Reserved) old.tally mid.tally
         old.seat mid.seat
@@ -202,9 +242,10 @@ module _ {T A : Type 0} (shard : Shard T A) (draft : Draft) where
         → (view new.seat).met ≡ (view between.seat).met
         → (view new.seat).saw ≡ (view between.seat).saw → Adds between.seat new.seat
         → Rose (when matched 1) (when matched 1) old.boosts new.boosts
+        → TriesEach fits shard draft (left_out matched) mid between → new.effort ≡ between.effort
         → LeavesOut fits shard draft old new
-    leaves_reserved matched old mid between new r counts evicts tried adds why idle met saw
-        behind boosts = record {
+    leaves_reserved matched old mid between new r lost counts evicts tried adds why idle met saw
+        behind boosts tries same = record {
           told = Reserved;
           matched = matched;
           reserves = record {
@@ -222,6 +263,10 @@ module _ {T A : Type 0} (shard : Shard T A) (draft : Draft) where
           why =
               left_from matched old mid between new (ap (λ (z : View T). z.met) r.same) first met
               saw why;
+          tries = tries_from (left_out matched) old mid between new lost tries same behind;
+          probes =
+              slots_from (left_out matched) old mid between new first lost.0 saw same
+              tries.counts;
           boosts = boosts;
         }
       where
@@ -241,5 +286,11 @@ module _ {T A : Type 0} (shard : Shard T A) (draft : Draft) where
       matched = false;
       reserves = record { reserved = a; evicts = evicts; idle = idle; rest = λ less. behind };
       why = (refl, saw ∙ ap (λ (z : View T). z.saw) r.same, probes);
+      tries = tt;
+      probes = (
+        0,
+        (let before = ap (λ (z : View T). z.saw) r.same in omega arith),
+        rose_same old.effort.probes new.effort.probes probes,
+      );
       boosts = rose_same old.boosts new.boosts boosts;
     }

@@ -1,5 +1,6 @@
 -- What callers say of a shard and of a seat at it, by their public values alone.
 use Rattle.std.specs.Prelude.{◌≡◌, ℕ, ◌+◌, Bool, List, Option}
+use Rattle.hcc_word.specs.Word.{is_counting}
 use Rattle.hcc_rule.specs.declared.geometry.Geometry.{Geometry}
 use Rattle.hcc_rule.specs.declared.key.Key.{Key}
 use Rattle.hcc_rule.specs.declared.layout.TheConstants.{OCCUPANCY}
@@ -12,7 +13,7 @@ use Rattle.hcc_table.specs.declared.hiding.Erased.{Erased}
 use Rattle.hcc_table.specs.declared.pins.Pin.{Pin}
 use Rattle.hcc_table.specs.Hides.{HidesAll}
 use Rattle.hcc_table.specs.Probed.{Searches}
-use Rattle.hcc_table.specs.Steps.{Adds}
+use Rattle.hcc_table.specs.Steps.{Acquires, Adds, Corrects}
 use Rattle.hcc_shard.specs.declared.erasing.TheConstants.{IN_FLIGHT}
 use Rattle.hcc_shard.specs.declared.seat.ShardSeat.{ShardSeat}
 use Rattle.hcc_shard.specs.declared.shard.Shard.{Shard}
@@ -50,6 +51,16 @@ module _ {T : Type 0} where
   steps_of seat = made seat.seat
 
 module _ {T A : Type 0} where
+  -- The client of a seat acquired one reference more at this slot: it counts by the word that the
+  -- add found, and where it doesn't a correction was tried and counted.
+  abbrev pub AcquiresAt : Shard T A → (slot : ℕ) → (counting : Bool) → (old new : ShardSeat T)
+      → Type 0
+  AcquiresAt shard slot counting old new =
+      (found : ℕ) × (counting ≡ is_counting found)
+      × Acquires (address_of_meta shard.table slot) 1 found old.seat new.seat
+      × Corrects (address_of_meta shard.table slot) 1 found old.effort new.effort
+      old.seat new.seat
+
   -- The client of a seat gave a reference at this slot back, as a use or not, and tried to take the
   -- entry where that was due.
   abbrev pub GivesBackAt : Shard T A → (slot : ℕ) → (used erase freed : Bool)

@@ -1,10 +1,16 @@
 -- The counts of a client's calls on a shard, and the totals that it loads there.
-use Rattle.std.specs.Prelude.{◌≡◌, ℕ, Bool, min, if◌then◌else◌}
-use Rattle.hcc_rule.specs.declared.layout.TheConstants.{USAGE}
-use Rattle.hcc_rule.specs.Callers.{capacity_of, is_strict}
+use Rattle.std.specs.Prelude.{◌≡◌, ℕ, ◌+◌, Bool, List, [], ◌∷◌, length, min, if◌then◌else◌}
+use Rattle.hcc_core.specs.Sums.{total}
+use Rattle.hcc_rule.specs.declared.key.Key.{Key}
+use Rattle.hcc_rule.specs.declared.layout.TheConstants.{STANDING, USAGE}
+use Rattle.hcc_rule.specs.declared.table.RuleTable.{RuleTable}
+use Rattle.hcc_rule.specs.Callers.{capacity_of, is_strict, slots_of}
 use Rattle.hcc_rule.specs.Addresses.{address_of_ledger}
-use Rattle.hcc_rule.specs.Seats.{Makes, view}
+use Rattle.hcc_rule.specs.Seats.{SeatOf, Makes, view}
 use Rattle.hcc_rule.specs.ToldLedgers.{after_usage}
+use Rattle.hcc_table.specs.declared.efforts.Effort.{Effort}
+use Rattle.hcc_table.specs.Pinned.{CountsHeld}
+use Rattle.hcc_shard.specs.declared.erasing.TheConstants.{IN_FLIGHT}
 use Rattle.hcc_shard.specs.declared.seat.ShardSeat.{ShardSeat}
 use Rattle.hcc_shard.specs.declared.seat.Stats.{Stats}
 use Rattle.hcc_shard.specs.declared.shard.Shard.{Shard}
@@ -53,3 +59,25 @@ LoadsUsage shard result old new =
     (used : ℕ) × (view new.seat ≡ after_usage used (view old.seat))
     × Makes (address_of_ledger shard.table USAGE) 0 0 used old.seat new.seat
     × (result ≡ within (is_strict shard.table) (capacity_of shard.table) used)
+
+module _ {T A : Type 0} (fits : T → Key → List ℕ → Type 0) (table : RuleTable T A) where
+  -- From this slot on one slot after the other was looked at, and this charge was counted there.
+  abbrev pub CountsFrom : (slot : ℕ) → (charges : List ℕ) → (before after : Effort)
+      → (old new : SeatOf T) → Type 0
+  CountsFrom slot [] before after old new = (after ≡ before) × (new ≡ old)
+  CountsFrom slot (charge ∷ more) before after old new =
+      (between : Effort) × (mid : SeatOf T)
+      × CountsHeld fits table IN_FLIGHT slot charge before between old mid
+      × CountsFrom (slot + 1) more between after mid new
+
+-- What is charged for what is held was counted: the charges that stand, which one load found, and
+-- then what was found at each slot in turn.
+pub record CountsPinned {T A : Type 0} (fits : T → Key → List ℕ → Type 0) (shard : Shard T A)
+    (result : ℕ) (old new : ShardSeat T) : Type 0 where
+  pub standing : ℕ
+  pub loaded : SeatOf T
+  pub loads : Makes (address_of_ledger shard.table STANDING) 0 0 standing old.seat loaded
+  pub charges : List ℕ
+  pub all : length charges ≡ slots_of shard.table
+  pub counts : CountsFrom fits shard.table 0 charges old.effort new.effort loaded new.seat
+  pub sum : result ≡ standing + total (λ charge. charge) charges

@@ -39,6 +39,7 @@ module _ {T A : Type 0} (fits : T → Key → List ℕ → Type 0) (shard : Shar
     pub read : SeatOf T
     pub kept : view read ≡ view_of held
     pub gives : GivesOnce shard.table pin useful read new.seat
+    pub counted : new.effort ≡ held.effort
 
   -- what a reading did, by its answer
   abbrev pub Gets : Got → (before after : List ℕ) → (old new : ShardSeat T) → Type 0

@@ -1,5 +1,5 @@
 -- What an insertion reserved and evicted, and what became of its entry, told of its seats.
-use Rattle.std.specs.Prelude.{◌≡◌, ℕ, ◌+◌, ◌<◌, Bool, true, false, List, Result, Ok, Err}
+use Rattle.std.specs.Prelude.{◌≡◌, ℕ, ◌+◌, ◌*◌, ◌<◌, Bool, true, false, List, Result, Ok, Err}
 use Rattle.hcc_core.specs.Sums.{when}
 use Rattle.hcc_rule.specs.declared.key.Key.{Key}
 use Rattle.hcc_rule.specs.declared.steps.shows.Draft.{Draft}
@@ -8,20 +8,39 @@ use Rattle.hcc_rule.specs.Addresses.{address_of_meta}
 use Rattle.hcc_rule.specs.Probes.{probe_slot}
 use Rattle.hcc_rule.specs.Seats.{SeatOf, atomic, view}
 use Rattle.hcc_rule.specs.ToldOwners.{first_word}
+use Rattle.hcc_table.specs.declared.efforts.Effort.{Effort}
+use Rattle.hcc_table.specs.declared.inserting.Insertion.{Insertion}
+use Rattle.hcc_table.specs.declared.inserting.Insertion.TheVariants.{Placed, Matched, NoSlot}
+use Rattle.hcc_table.specs.Efforts.{Lost}
 use Rattle.hcc_table.specs.Rises.{Rose}
-use Rattle.hcc_table.specs.Inserted.{Meets}
+use Rattle.hcc_table.specs.Inserted.{Meets, visited_by}
 use Rattle.hcc_table.specs.Searched.{Buried, IsBefore}
 use Rattle.hcc_table.specs.Steps.{Adds, Ends}
+use Rattle.hcc_table.specs.Tries.{Inserts}
 use Rattle.hcc_charge.specs.declared.reserving.Reservation.{Reservation}
 use Rattle.hcc_charge.specs.declared.reserving.Reservation.TheVariants.{Reserved, NoPlace}
 use Rattle.hcc_charge.specs.declared.reserving.Refused.{Refused}
 use Rattle.hcc_charge.specs.Asked.{EvictsBy, EvictsNothing}
+use Rattle.hcc_charge.specs.Evicted.{most_turns}
 use Rattle.hcc_shard.specs.declared.inserting.Inserted.{Inserted}
 use Rattle.hcc_shard.specs.declared.inserting.Inserted.TheVariants as inserted
 use Rattle.hcc_shard.specs.declared.inserting.Pinned.{Pinned}
 use Rattle.hcc_shard.specs.declared.inserting.Pinned.TheVariants as pinned
 use Rattle.hcc_shard.specs.declared.seat.ShardSeat.{ShardSeat}
 use Rattle.hcc_shard.specs.declared.shard.Shard.{Shard}
+
+-- what the table answers where nothing is placed
+abbrev pub left_out : (matched : Bool) → Insertion
+left_out true = Matched
+left_out false = NoSlot
+
+-- The slots that were visited are counted: those that were found taken, and one more where the
+-- entry was placed.
+abbrev pub CountsSlots : {T : Type 0} → Insertion → (old new : ShardSeat T) → Type 0
+CountsSlots answer old new =
+    (taken : ℕ) × ((view new.seat).saw ≡ (view old.seat).saw + taken)
+    × Rose (visited_by answer taken) (visited_by answer taken) old.effort.probes
+    new.effort.probes
 
 module _ {T A : Type 0} (shard : Shard T A) (draft : Draft) where
   -- Why an entry that was reserved for, or not, is in no slot: its key was met, last of all, or as
@@ -46,6 +65,29 @@ module _ {T A : Type 0} (fits : T → Key → List ℕ → Type 0) (shard : Shar
     pub rest : (view new.seat).saw < (view old.seat).saw + slots_of shard.table
         → Adds reserved new.seat
 
+  -- The probes of the key were tried, one after the other: what was found at each, by the answer,
+  -- and how the counts rose.
+  pub record TriesEach (answer : Insertion) (old new : ShardSeat T) : Type 0 where
+    pub inserts : Inserts fits shard.table draft.key draft.serial draft.countdown answer old.effort
+        new.effort old.seat new.seat
+    pub counts : CountsSlots answer old new
+
+  -- They were tried from where the reservation ended, which counted nothing but exchanges that its
+  -- eviction lost. Only steps were added behind that.
+  pub record TriesFrom (reserved : SeatOf T) (answer : Insertion) (old new : ShardSeat T)
+      : Type 0 where
+    pub before : Effort
+    pub lost : Lost 0 (4 * most_turns (slots_of shard.table)) old.effort before
+    pub done : SeatOf T
+    pub inserts : Inserts fits shard.table draft.key draft.serial draft.countdown answer before
+        new.effort reserved done
+    pub adds : Adds done new.seat
+
+  -- What was tried where a place was reserved; else nothing was.
+  abbrev pub TriesWhere : Reservation → SeatOf T → Insertion → (old new : ShardSeat T) → Type 0
+  TriesWhere Reserved reserved answer old new = TriesFrom reserved answer old new
+  TriesWhere NoPlace reserved answer old new = Unit {0}
+
   -- The entry was put in this slot, probe i of its key: the i probes before it were taken, and each
   -- entry of the key that the client holds there is dead to it. The last step showed the entry by
   -- the word that its draft says.
@@ -59,14 +101,18 @@ module _ {T A : Type 0} (fits : T → Key → List ℕ → Type 0) (shard : Shar
     pub last : Ends
         (atomic (address_of_meta shard.table slot) (first_word draft) 0 (first_word draft))
         reserves.reserved new.seat
+    pub tries : TriesFrom reserves.reserved (Placed slot) old new
+    pub probes : CountsSlots (Placed slot) old new
     pub boosts : new.boosts ≡ old.boosts
 
-  -- The entry was put in no slot. A match is counted, and nothing else is.
+  -- The entry was put in no slot. A match is counted among the boosts, and nothing else is.
   pub record LeavesOut (old new : ShardSeat T) : Type 0 where
     pub told : Reservation
     pub matched : Bool
     pub reserves : ReservedAs (Ok told) old new
     pub why : IsLeftFor shard draft told matched old new
+    pub tries : TriesWhere told reserves.reserved (left_out matched) old new
+    pub probes : CountsSlots (left_out matched) old new
     pub boosts : Rose (when matched 1) (when matched 1) old.boosts new.boosts
 
   -- Nothing was reserved, and no slot was tried.

@@ -9,6 +9,7 @@ ghost use Rattle.hcc_rule.specs.Callers.{capacity_of, is_strict, plan_of, room_o
 ghost use Rattle.hcc_rule.specs.Addresses.{address_of_meta};
 ghost use Rattle.hcc_rule.specs.Seats.{atomic, IsSameSeat, view};
 ghost use Rattle.hcc_rule.specs.ToldOwners.{first_word};
+ghost use Rattle.hcc_table.specs.declared.inserting.Insertion.TheVariants.{Placed};
 ghost use Rattle.hcc_table.specs.Efforts.{Took};
 ghost use Rattle.hcc_table.specs.Rises.{Rose};
 ghost use Rattle.hcc_table.specs.Inserted.{MayInsert};
@@ -18,7 +19,7 @@ ghost use Rattle.hcc_charge.specs.declared.reserving.Reservation.TheVariants.{Re
 ghost use Rattle.hcc_charge.specs.Evicted.{most_turns};
 ghost use Rattle.hcc_charge.specs.Settled.{HasFreedNothing, stood, without_place};
 ghost use Rattle.hcc_shard.specs.Inserted.{InsertedBy, IsInsertable, PinnedBy, PutBy, inserting, inserting_between};
-ghost use Rattle.hcc_shard.specs.Reserving.{InsertedAs, IsLeftFor, PinnedAs};
+ghost use Rattle.hcc_shard.specs.Reserving.{InsertedAs, IsLeftFor, PinnedAs, TriesEach, left_out};
 ghost use Rattle.hcc_shard.specs.Seated.{Rests};
 
 use crate::seat::ShardSeat;
@@ -199,10 +200,12 @@ impl<T: Tag, A: Allocator> Shard<T, A> {
         ensures tally { seat.new.tally ≡ seat.old.tally }
         ensures placed { IfSome result (λ slot. (seat.new.boosts ≡ seat.old.boosts)
             × Ends (atomic (address_of_meta self.now.table slot) (first_word draft) 0
-            (first_word draft)) seat.old.seat seat.new.seat) }
+            (first_word draft)) seat.old.seat seat.new.seat
+            × TriesEach T.fits self.now draft (Placed slot) seat.old seat.new) }
         ensures left { IfNone result ((matched : Bool)
             × IsLeftFor self.now draft Reserved matched seat.old seat.new
-            × Rose (when matched 1) (when matched 1) seat.old.boosts seat.new.boosts) }
+            × Rose (when matched 1) (when matched 1) seat.old.boosts seat.new.boosts
+            × TriesEach T.fits self.now draft (left_out matched) seat.old seat.new) }
         ensures adds { (view seat.new.seat).saw < (view seat.old.seat).saw + slots_of self.now.table
             → Adds seat.old.seat seat.new.seat }
         ensures steps { MakesFor 7 (slots_of self.now.table + room_of self.now.table)

@@ -13,7 +13,7 @@ ghost use Rattle.hcc_table.specs.Pins.{IsOf, IsPinned, erases, is_useful};
 ghost use Rattle.hcc_table.specs.Searched.{IsFound, IsMissed, Searched};
 ghost use Rattle.hcc_table.specs.Steps.{MakesAtMost, MakesFor, Marks, freeing};
 ghost use Rattle.hcc_charge.specs.Settled.{fallen};
-ghost use Rattle.hcc_shard.specs.Callers.{GivesBackAt, SearchesAt};
+ghost use Rattle.hcc_shard.specs.Callers.{AcquiresAt, GivesBackAt, SearchesAt};
 ghost use Rattle.hcc_shard.specs.Counted.{SameCounts, SameEvictions};
 ghost use Rattle.hcc_shard.specs.Referred.{IsReleased};
 ghost use Rattle.hcc_shard.specs.Seated.{IsNext, Rests};
@@ -92,6 +92,7 @@ impl<T: Tag, A: Allocator> Shard<T, A> {
             × ((view seat.new.seat).records ≡ (view seat.old.seat).records ++ r ∷ [])
             × IsOf result r × (r.name ≡ serial)
             × IfSome (record_in pin.name (view seat.old.seat).records) (λ q. r.entry ≡ q.entry) }
+        ensures acquires { AcquiresAt self.now pin.slot result.counting seat.old seat.new }
         ensures effort { Took 0 0 1 seat.old.effort seat.new.effort }
         ensures counts { SameEvictions seat.old seat.new }
         ensures steps { MakesAtMost 2 seat.old.seat seat.new.seat }

@@ -9,7 +9,7 @@ ghost use Rattle.hcc_table.specs.Efforts.{Took};
 ghost use Rattle.hcc_table.specs.Searched.{Sought};
 ghost use Rattle.hcc_table.specs.Steps.{MakesAtMost};
 ghost use Rattle.hcc_shard.specs.Callers.{LoadsOccupancy};
-ghost use Rattle.hcc_shard.specs.Counted.{LoadsUsage, SameCounts, SameEvictions};
+ghost use Rattle.hcc_shard.specs.Counted.{CountsPinned, LoadsUsage, SameCounts, SameEvictions};
 ghost use Rattle.hcc_shard.specs.Seated.{Rests};
 
 use crate::erasing::IN_FLIGHT;
@@ -69,7 +69,7 @@ impl<T: Tag, A: Allocator> Shard<T, A> {
     /// What is charged for entries that are held, and for standalone ones: slot by slot, where a
     /// look and then an acquire find that the slot's entry is held. It is at least the charges of
     /// the entries that the client holds, each once, and of its standalone entries; in a shard of
-    /// one client it is these.
+    /// one client it is these. Each slot is looked at once, in turn.
     ///
     /// It refuses nothing and allocates nothing. It costs a load, and one for each slot; where that
     /// finds an entry held an add, a load and a subtraction more, with a compare-exchange where the
@@ -83,6 +83,7 @@ impl<T: Tag, A: Allocator> Shard<T, A> {
         ensures alone { clients_of self.now.table ≡ 1
             → result ≡ standing_of (view seat.old.seat).work
             + charge_held (view seat.old.seat).records }
+        ensures loads { CountsPinned T.fits self.now result seat.old seat.new }
         ensures effort { Took 0 0 (slots_of self.now.table) seat.old.effort seat.new.effort }
         ensures counts { SameEvictions seat.old seat.new }
         ensures steps { MakesAtMost (5 * slots_of self.now.table + 1) seat.old.seat seat.new.seat }

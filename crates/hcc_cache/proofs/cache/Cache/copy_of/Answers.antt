@@ -89,7 +89,8 @@ returns-in-Pinned g c =
           knows_read cache old new hold.shard shard was is at change left c.read_value.ensures.view
           c.read_value.ensures.seat;
       reads =
-          reads_at cache old new hold.shard shard was is at change left c.read_value.ensures.view;
+          reads_at cache old new hold.shard shard was is at change left c.read_value.ensures.view
+          c.read_value.ensures.counts;
       length =
           told_of cache old c.args.handle hold slot counting shard was at c.requires.held
           there c.in-Pinned.is

@@ -5,11 +5,12 @@ use Rattle.hcc_rule.specs.declared.view.View.{View}
 use Rattle.hcc_table.specs.Searched.{AllDead}
 use Rattle.hcc_table.specs.Steps.{freeing}
 use Rattle.hcc_shard.specs.Callers.{view_of, ErasesAt}
+use Rattle.hcc_shard.specs.Counted.{SameEvictions}
 use Rattle.hcc_cache.specs.declared.client.Client.{Client}
 use Rattle.hcc_cache.specs.Calls.{Works, shard_in}
 use Rattle.hcc_cache.specs.Keys.{fits_seeded}
 use Rattle.hcc_cache.specs.Sharding.{key_to, shard_of}
-use Rattle.hcc_cache.proofs.At.{did_at, is_at, seated_at, takes_for, works_at}
+use Rattle.hcc_cache.proofs.At.{did_at, does_at, is_at, seated_at, takes_for, works_at}
 use Rattle.hcc_cache.proofs.Dead.{all_held_dead}
 use Rattle.hcc_cache.proofs.Resting.{keeps_same, knows_same, same_erased}
 use Rattle.hcc_cache.proofs.Seats.{steps_set}
@@ -85,6 +86,20 @@ returns-clause-searched g c =
     (record { seats = refl; number = refl; most = refl; capacity = (refl, refl) })
     (λ s a b. ErasesAt (fits_seeded g.T.Tag.fits) s (key_to cache.seed c.args.key) c.erase.result a
     b) (rw (← words) c.erase.ensures.erases) (shard_in cache c.args.key) there
+
+pub returns-clause-counts : goal.returns-clause-counts
+returns-clause-counts g c =
+    let cache = c.args.self.now in
+    let old = c.args.client.now in
+    let i = c.shard_number-shard.result in
+    let was = c.index_mut-seat.result.now in
+    let at = is_at cache old i c.index.result.now was c.requires
+    c.shard_number-shard.ensures.inside c.index.ensures c.index_mut-seat.ensures.value in
+    does_at cache old _ i c.index.result.now was c.erase.new.seat at
+    (record { seats = refl; number = refl; most = refl; capacity = (refl, refl) })
+    SameEvictions c.erase.ensures.counts (shard_in cache c.args.key)
+    (c.shard_number-shard.ensures.value
+    ∙ ap (λ k. shard_of k (length cache.shards.items)) c.key_to-under.ensures.words)
 
 pub returns-clause-frees : goal.returns-clause-frees
 returns-clause-frees g c =

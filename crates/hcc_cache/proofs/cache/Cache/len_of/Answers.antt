@@ -84,7 +84,8 @@ returns-in-Pinned g c =
           knows_read cache old new hold.shard shard was is at change left c.value_len.ensures.view
           c.value_len.ensures.seat;
       reads =
-          reads_at cache old new hold.shard shard was is at change left c.value_len.ensures.view;
+          reads_at cache old new hold.shard shard was is at change left c.value_len.ensures.view
+          c.value_len.ensures.counts;
       exact =
           told_of cache old c.args.handle hold slot counting shard was at c.requires.held
           there c.in-Pinned.is

@@ -1,4 +1,4 @@
-use Rattle.std.proofs.Common.{mul_comm, mul-suc, ◌≡◌, ◌+◌, ◌*◌, ◌/◌, ◌^◌, [], ◌∷◌, ◌++◌, refl, ap, length, arith}
+use Rattle.std.proofs.Common.{mul_comm, mul-suc, ◌≡◌, ◌+◌, ◌*◌, ◌/◌, ◌^◌, [], ◌∷◌, ◌++◌, refl, ap, ◌∙◌, length, arith}
 use Rattle.hcc_core.specs.declared.limits.TheConstants.{OCCUPANCY_PERCENT}
 use Rattle.hcc_core.proofs.SumLemmas.{total-append}
 use Rattle.hcc_rule.specs.Records.{different}
@@ -18,6 +18,7 @@ loop-shard-init g c = (
   [],
   each_first c.args.self.now LoadsOccupancy c.args.client.now,
   refl,
+  λ s. refl,
 )
 
 pub loop-shard-preserved : goal.loop-shard-preserved
@@ -63,6 +64,7 @@ loop-shard-preserved g c =
       (let so = sum.7 in
           let more = total-append (λ n. n) sum.5 (c.occupancy_at-sum.result ∷ []) in
           omega arith),
+      λ s. rests.counts s ∙ sum.8 s,
     )
 
 pub returns-clause-entries : goal.returns-clause-entries

@@ -5,7 +5,7 @@ use Rattle.hcc_core.proofs.ListLemmas.{read_other}
 use Rattle.hcc_rule.specs.declared.geometry.Geometry.{Geometry}
 use Rattle.hcc_shard.specs.Callers.{LoadsOccupancy, view_of}
 use Rattle.hcc_cache.specs.Clients.{view_by}
-use Rattle.hcc_cache.proofs.At.{did_at, is_at, seated_at}
+use Rattle.hcc_cache.proofs.At.{counts_none, did_at, is_at, seated_at}
 use Rattle.hcc_cache.proofs.Resting.{keeps_same, knows_same, same_all}
 use Rattle.hcc_cache.proofs.Seats.{part_same, steps_set}
 use Rattle.hcc_cache.proofs.cache.Cache.occupancy_at.Goals as goal
@@ -42,6 +42,11 @@ returns-clause-reads g c =
         all = λ s. part_same (λ v. v) c.args.client.now.seats.items c.args.shard s was
             c.occupancy.new.seat at.seat_is c.occupancy.ensures.view;
         self = (refl, refl);
+        counts =
+            counts_none c.args.self.now c.args.client.now _ c.args.shard c.index.result.now was
+            c.occupancy.new.seat at
+            (record { seats = refl; number = refl; most = refl; capacity = (refl, refl) })
+            c.occupancy.ensures.counts;
       };
       keeps = keeps_same c.args.self.now c.args.client.now _ c.args.shard c.index.result.now was
           c.occupancy.new.seat at

@@ -1,10 +1,12 @@
-use Rattle.std.proofs.Common.{◌≡◌, ◌∙◌, ◌-◌, ap, refl, sym, arith}
+use Rattle.std.proofs.Common.{◌≡◌, ◌∙◌, ◌-◌, Bool, ap, refl, sym, arith}
 use Rattle.slab.specs.Slab.{get}
 use Rattle.hcc_rule.specs.Words.{key_of}
+use Rattle.hcc_shard.specs.Callers.{AcquiresAt}
+use Rattle.hcc_shard.specs.Counted.{SameEvictions}
 use Rattle.hcc_cache.specs.declared.client.Client.{Client}
 use Rattle.hcc_cache.specs.declared.holding.Hold.{Hold}
 use Rattle.hcc_cache.proofs.Again.{entry_at, held_at, hold_within, pin_at, pinned_at, rerefs_pinned}
-use Rattle.hcc_cache.proofs.At.{ChangesAt, few_at, is_at, next_at, seated_at, takes_at}
+use Rattle.hcc_cache.proofs.At.{ChangesAt, did_at, does_at, few_at, is_at, next_at, seated_at, takes_at}
 use Rattle.hcc_cache.proofs.Framing.{hold_there}
 use Rattle.hcc_cache.proofs.Found.{gains_pinned, knows_more}
 use Rattle.hcc_cache.proofs.Gained.{IsGiven}
@@ -171,6 +173,13 @@ returns g c =
           c.requires.kept r c.args.handle c.requires.held same)
           (gains_pinned cache old new first.shard shard was is at change c.keep.result hold slot
           counting r given alone refl c.pinned.ensures searched told.1 told.3 told.2 key);
+      acquires =
+          did_at cache old new first.shard shard was is at change
+          (λ s a b. (counts : Bool) × AcquiresAt s c.args.slot counts a b)
+          (counting, c.reref-pin.ensures.acquires) first.shard refl;
+      counts =
+          does_at cache old new first.shard shard was is at change SameEvictions
+          c.reref-pin.ensures.counts first.shard refl;
       steps =
           takes_at cache old new first.shard shard was is at change 2 c.reref-pin.ensures.steps;
     }

@@ -1,8 +1,10 @@
 use Rattle.std.proofs.Common.{◌≡◌, ◌+◌, ◌*◌, refl, ap, ◌∙◌}
+use Rattle.hcc_core.proofs.ListLemmas.{read_other}
 use Rattle.hcc_shard.specs.Callers.{view_of}
 use Rattle.hcc_rule.specs.declared.geometry.Geometry.{Geometry}
 use Rattle.hcc_cache.specs.Clients.{view_by}
-use Rattle.hcc_cache.proofs.At.{is_at, seated_at, works_at}
+use Rattle.hcc_cache.specs.Totals.{CountsHeldAt}
+use Rattle.hcc_cache.proofs.At.{did_at, is_at, seated_at, works_at}
 use Rattle.hcc_cache.proofs.Resting.{keeps_same, knows_same, same_sought}
 use Rattle.hcc_cache.proofs.Seats.{steps_set, view_here}
 use Rattle.hcc_cache.proofs.cache.Cache.pinned_at.Goals as goal
@@ -80,6 +82,21 @@ returns-clause-alone g c =
     c.requires.known c.requires.within c.index.ensures c.index_mut-seat.ensures.value in
     λ one. rw (ap view_by at.seat_is) (c.pinned_usage.ensures.alone ((ap (λ (x : Geometry).
     x.clients) (at.knows.alike.plans c.args.shard c.index.result.now at.shard_is).0) ∙ one))
+
+pub returns-clause-loads : goal.returns-clause-loads
+returns-clause-loads g c =
+    let was = c.index_mut-seat.result.now in
+    let at = is_at c.args.self.now c.args.client.now c.args.shard c.index.result.now was
+    c.requires.known c.requires.within c.index.ensures c.index_mut-seat.ensures.value in
+    did_at c.args.self.now c.args.client.now _ c.args.shard c.index.result.now was
+    c.pinned_usage.new.seat at
+    (record { seats = refl; number = refl; most = refl; capacity = (refl, refl) })
+    (λ s a b. CountsHeldAt g.T.Tag.fits s c.pinned_usage.result a b)
+    (c.pinned_usage.ensures.loads, c.pinned_usage.ensures.counts) c.args.shard refl
+
+pub returns-clause-others : goal.returns-clause-others
+returns-clause-others g c s ne =
+    read_other c.args.client.now.seats.items c.args.shard s c.pinned_usage.new.seat ne
 
 pub returns-clause-steps : goal.returns-clause-steps
 returns-clause-steps g c =

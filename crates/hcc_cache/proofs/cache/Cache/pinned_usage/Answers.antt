@@ -1,8 +1,10 @@
-use Rattle.std.proofs.Common.{◌≡◌, ◌+◌, ◌-◌, ◌*◌, ◌^◌, ◌≤◌, min, ap, length, ◌∙◌, arith}
+use Rattle.std.proofs.Common.{◌≡◌, ◌+◌, ◌-◌, ◌*◌, ◌^◌, ◌≤◌, [], ◌∷◌, ◌++◌, min, ap, length, ◌∙◌, arith}
+use Rattle.hcc_core.proofs.SumLemmas.{total-append}
 use Rattle.hcc_table.specs.Searched.{Sought}
 use Rattle.hcc_cache.specs.Clients.{view_at}
-use Rattle.hcc_cache.specs.Totals.{charge_by, charge_in}
+use Rattle.hcc_cache.specs.Totals.{CountsHeldAt, charge_by, charge_in}
 use Rattle.hcc_cache.proofs.Charged.{charge_counts}
+use Rattle.hcc_cache.proofs.Each.{each_first, each_next}
 use Rattle.hcc_cache.proofs.Through.{goes_first, goes_on, most_counted, same_counted, sought_all, sum_all, sum_next, sum_to}
 use Rattle.hcc_cache.proofs.cache.Cache.pinned_usage.Goals as goal
 
@@ -12,6 +14,9 @@ loop-shard-init g c = (
       c.requires,
   omega arith,
   λ one. omega arith,
+  [],
+  each_first c.args.self.now (CountsHeldAt g.T.Tag.fits) c.args.client.now,
+  omega arith,
 )
 
 pub loop-shard-preserved : goal.loop-shard-preserved
@@ -24,6 +29,7 @@ loop-shard-preserved g c =
     let stays = c.loop-shard.invariant.0.left k (omega arith) in
     let charge : charge_in (view_at k now) ≡ charge_in (view_at k old) = ap charge_in stays in
     let more = told.entries in
+    let counts = c.loop-shard.invariant.3 in
     let next = c.pinned_at.new.client in (
       goes_on cache Sought (5 * cache.geometry.slots + 1) old now next k (view_at k next)
           c.loop-shard.invariant.0 told.known told.keeps told.view (rw (← stays) told.sought)
@@ -35,6 +41,11 @@ loop-shard-preserved g c =
           (same_counted (sum_to k (λ s. charge_in (view_at s old))) (charge_in (view_at k old))
           c.loop-shard.sum c.pinned_at.result (c.loop-shard.invariant.2 one)
           (told.alone one ∙ charge)),
+      counts ++ c.pinned_at.result ∷ [],
+      each_next cache (CountsHeldAt g.T.Tag.fits) counts old now next k c.pinned_at.result
+          c.loop-shard.invariant.4 told.loads told.others,
+      (let before = c.loop-shard.invariant.5 in let sum = c.saturating_add-sum.ensures in
+          let found = total-append (λ n. n) counts (c.pinned_at.result ∷ []) in omega arith),
     )
 
 pub returns-clause-entries : goal.returns-clause-entries
@@ -70,3 +81,16 @@ returns-clause-views g c = record {
       c.loop-shard.client c.loop-shard.shard c.loop-shard.invariant.0;
   self = c.loop-shard.invariant.0.self;
 }
+
+pub returns-clause-loads : goal.returns-clause-loads
+returns-clause-loads g c =
+    let last = c.loop-shard-test.false in
+    let near = c.loop-shard.auto.shard-end in
+    let size = c.len-shard-end.ensures in
+    let finds = c.loop-shard.invariant.4 in
+    let count = finds.count in
+    record {
+      counts = c.loop-shard.invariant.3;
+      loads = record { count = omega arith; each = finds.each };
+      sum = c.loop-shard.invariant.5;
+    }

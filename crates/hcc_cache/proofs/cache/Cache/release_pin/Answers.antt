@@ -4,9 +4,10 @@ use Rattle.slab.specs.Slab.{get}
 use Rattle.hcc_rule.specs.declared.geometry.Geometry.{Geometry}
 use Rattle.hcc_table.specs.Pins.{erases, is_useful}
 use Rattle.hcc_table.specs.Steps.{freeing}
+use Rattle.hcc_shard.specs.Counted.{SameEvictions}
 use Rattle.hcc_cache.specs.declared.client.Client.{Client}
 use Rattle.hcc_cache.proofs.Again.{hold_within, pin_at, pinned_at}
-use Rattle.hcc_cache.proofs.At.{ChangesAt, is_at, seated_at, takes_at}
+use Rattle.hcc_cache.proofs.At.{ChangesAt, does_at, is_at, seated_at, takes_at}
 use Rattle.hcc_cache.proofs.Framing.{hold_there}
 use Rattle.hcc_cache.proofs.Less.{IsLess}
 use Rattle.hcc_core.proofs.ListLemmas.{read_here}
@@ -126,6 +127,9 @@ returns g c =
         later = rw (change.seats) (read_here old.seats.items hold.shard was is at.seat_is);
         gives = rw (← useful, ← asked) c.release.ensures.gives;
       };
+      counts =
+          does_at cache old new hold.shard shard was is at change SameEvictions
+          c.release.ensures.counts hold.shard refl;
       steps =
           takes_at cache old new hold.shard shard was is at change
           (freeing cache.geometry.slots + 3) (omega arith);

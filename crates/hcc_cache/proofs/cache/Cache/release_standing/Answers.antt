@@ -1,11 +1,11 @@
-use Rattle.std.proofs.Common.{◌≡◌, ◌∙◌, ◌+◌, ◌-◌, ◌≤◌, Some, None, get_or, slice_set, ap, refl, subst, sym, arith}
+use Rattle.std.proofs.Common.{◌≡◌, ◌∙◌, ◌+◌, ◌-◌, ◌≤◌, Some, None, get_or, slice_get, slice_set, ap, refl, subst, sym, arith}
 use Rattle.std.specs.Vec.{with_item}
 use Rattle.slab.specs.Slab.{Updates, get, with_value}
 use Rattle.hcc_cache.specs.declared.client.Client.{Client}
 use Rattle.hcc_cache.specs.declared.holding.Alone.{Alone}
-use Rattle.hcc_cache.specs.Calls.{steps_by}
+use Rattle.hcc_cache.specs.Calls.{counts_by, steps_by}
 use Rattle.hcc_cache.proofs.Again.{hold_within, stand_there}
-use Rattle.hcc_cache.proofs.At.{ChangesAt, is_at, seated_at, takes_at}
+use Rattle.hcc_cache.proofs.At.{ChangesAt, counts_none, is_at, seated_at, takes_at}
 use Rattle.hcc_cache.proofs.Framing.{IsSameAlone, hold_there}
 use Rattle.hcc_cache.proofs.Less.{IsLess}
 use Rattle.hcc_cache.proofs.Released.{knows_fallen, knows_fewer, lets_go, releases_fallen, releases_fewer}
@@ -88,6 +88,7 @@ returns-then-index-gt1 g c =
       released =
           releases_fewer cache old new c.args.handle hold lets c.args.index a c.requires.kept there
           c.requires.known b same reference some updates seats;
+      counts = λ s. ap (λ l. counts_by (slice_get l s)) seats;
       steps = omega arith;
     }
 
@@ -177,6 +178,9 @@ returns g c =
       released =
           releases_fallen cache old new c.args.handle hold lets c.args.index a c.requires.kept there
           shard was is at change c.release_standalone.ensures.view one updates;
+      counts =
+          counts_none cache old new hold.shard shard was is at change
+          c.release_standalone.ensures.counts;
       steps =
           takes_at cache old new hold.shard shard was is at change 2
           c.release_standalone.ensures.steps;

@@ -1,9 +1,11 @@
 use Rattle.std.proofs.Common.{◌≡◌, ◌∙◌, ◌-◌, None, Some, is_some, length, ap, refl, arith}
 use Rattle.std.specs.Vec.{with_item}
+use Rattle.hcc_shard.specs.Counted.{SameEvictions}
 use Rattle.hcc_cache.specs.declared.client.Client.{Client}
 use Rattle.hcc_cache.specs.declared.holding.Hold.{Hold}
+use Rattle.hcc_cache.specs.Calls.{shard_in}
 use Rattle.hcc_cache.specs.Sharding.{shard_of}
-use Rattle.hcc_cache.proofs.At.{ChangesAt, few_at, is_at, next_at, seated_at}
+use Rattle.hcc_cache.proofs.At.{ChangesAt, does_at, few_at, is_at, next_at, seated_at}
 use Rattle.hcc_cache.proofs.Found.{finds, knows_more, knows_sought, looks_at, misses, searched_at, visits_at}
 use Rattle.hcc_cache.proofs.Gained.{IsGiven}
 use Rattle.hcc_cache.proofs.cache.Cache.search.Goals as goal
@@ -94,6 +96,20 @@ returns-in_err-pin-clause-searched g c =
     g.T.Tag.fits c.args.key None
     (c.shard_number-shard.ensures.value ∙ ap (λ k. shard_of k shards) words) c.lookup.result
     (ap is_some c.in_err-pin.was) (rw words at c.lookup.ensures.searches))
+
+pub returns-in_err-pin-clause-counts : goal.returns-in_err-pin-clause-counts
+returns-in_err-pin-clause-counts g c =
+    let cache = c.args.self.now in
+    let old = c.args.client.now in
+    let i = c.shard_number-shard.result in
+    let was = c.index_mut-seat.result.now in
+    let at = is_at cache old i c.index.result.now was c.requires.known
+    c.shard_number-shard.ensures.inside c.index.ensures c.index_mut-seat.ensures.value in
+    does_at cache old _ i c.index.result.now was c.lookup.new.seat at
+    (record { seats = refl; number = refl; most = refl; capacity = (refl, refl) })
+    SameEvictions c.lookup.ensures.counts (shard_in cache c.args.key)
+    (c.shard_number-shard.ensures.value
+    ∙ ap (λ k. shard_of k (length cache.shards.items)) c.key_to-under.ensures.words)
 
 pub returns-in_err-pin-clause-visits : goal.returns-in_err-pin-clause-visits
 returns-in_err-pin-clause-visits g c =
@@ -190,6 +206,10 @@ returns g c =
           (Some c.keep.result)
           (c.shard_number-shard.ensures.value ∙ ap (λ k. shard_of k shards) words) c.lookup.result
           (ap is_some c.in_ok-pin.was) (rw words at c.lookup.ensures.searches);
+      counts =
+          does_at cache old new i shard was is at change SameEvictions c.lookup.ensures.counts
+          (shard_in cache c.args.key)
+          (c.shard_number-shard.ensures.value ∙ ap (λ k. shard_of k shards) words);
       visits =
           visits_at cache old new i shard was is at change c.args.key
           (c.shard_number-shard.ensures.value ∙ ap (λ k. shard_of k shards) words)

@@ -1,8 +1,9 @@
-use Rattle.std.proofs.Common.{◌≡◌, ◌+◌, ◌-◌, Some, ap, refl, subst, sym, arith}
+use Rattle.std.proofs.Common.{◌≡◌, ◌+◌, ◌-◌, Some, slice_get, ap, refl, subst, sym, arith}
 use Rattle.slab.specs.Slab.{get, Updates}
 use Rattle.hcc_cache.specs.declared.client.Client.{Client}
 use Rattle.hcc_cache.specs.declared.holding.Alone.{Alone}
 use Rattle.hcc_cache.specs.declared.holding.Hold.{Hold}
+use Rattle.hcc_cache.specs.Calls.{counts_by}
 use Rattle.hcc_cache.proofs.Again.{stand_there}
 use Rattle.hcc_cache.proofs.Framing.{hold_there, IsSameAlone}
 use Rattle.hcc_cache.proofs.Gained.{IsGiven}
@@ -81,6 +82,7 @@ returns g c =
           index a b c.requires.held c.requires.kept c.requires.kept refl refl
           c.index_mut.ensures.value same refl updates given seats most
           (c.keep.ensures.capacity, alone_capacity);
+      counts = λ s. ap (λ l. counts_by (slice_get l s)) seats;
       steps =
           takes_standing cache old first from knows there new c.args.handle c.keep.result hold
           index a b c.requires.held c.requires.kept c.requires.kept refl refl

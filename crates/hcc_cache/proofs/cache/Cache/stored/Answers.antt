@@ -6,7 +6,7 @@ use Rattle.hcc_cache.specs.declared.client.Client.{Client}
 use Rattle.hcc_cache.specs.Calls.{shard_in}
 use Rattle.hcc_cache.specs.Inserts.{draft_of}
 use Rattle.hcc_cache.specs.Sharding.{shard_of}
-use Rattle.hcc_cache.proofs.At.{ChangesAt, is_at, seated_at}
+use Rattle.hcc_cache.proofs.At.{ChangesAt, is_at, only_at, seated_at}
 use Rattle.hcc_cache.proofs.Insertions.{IsAsked, frees_at, insertable_at, inserts_at, knows_asked, leaves_stored, stores_at, stores_did, told_as}
 use Rattle.hcc_cache.proofs.Refusals.{answers_small, answers_unspent, inserts_did, inserts_told}
 use Rattle.hcc_cache.proofs.cache.Cache.stored.Goals as goal
@@ -116,6 +116,7 @@ returns g c =
           c.args.priority here draft same answer c.insert.ensures.evicts));
       no_spent = rw c.answered.ensures (answers_unspent answer);
       no_large = rw c.answered.ensures small;
+      others = only_at cache old _ i shard was is at change (shard_in cache c.args.key) here;
       frees =
           frees_at cache old _ i shard was is at change (shard_in cache c.args.key) here
           c.insert.ensures.frees;

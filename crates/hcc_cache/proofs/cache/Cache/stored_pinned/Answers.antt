@@ -10,7 +10,7 @@ use Rattle.hcc_cache.specs.Calls.{shard_in}
 use Rattle.hcc_cache.specs.Inserts.{pinned_draft}
 use Rattle.hcc_cache.specs.Sharding.{shard_of}
 use Rattle.hcc_cache.proofs.Alone.{IsJoined}
-use Rattle.hcc_cache.proofs.At.{ChangesAt, few_at, is_at, seated_at}
+use Rattle.hcc_cache.proofs.At.{ChangesAt, few_at, is_at, only_at, seated_at}
 use Rattle.hcc_cache.proofs.Gained.{IsGiven}
 use Rattle.hcc_cache.proofs.Handing.{few_alone, has_room, hold_with, knows_alone, knows_pins, pinned_told, pins_at, stands_at}
 use Rattle.hcc_cache.proofs.Insertions.{IsAsked, fails_at, frees_at, insertable_at, inserts_at, knows_asked, leaves_refused, leaves_unshown, pins_did, told_as}
@@ -145,6 +145,7 @@ returns-in-Ok-Placed g c =
             c.args.priority here draft same (Ok c.in-Ok-Placed.field-0) (Ok (Placed pin))
             (ap Ok c.in-Ok-Placed.field-0-is) c.in-Ok-Placed.ensures.evicts,
       );
+      others = only_at cache old new i shard was is at change (shard_in cache c.args.key) here;
       frees =
           frees_at cache old new i shard was is at change (shard_in cache c.args.key) here
           c.insert_pinned.ensures.frees;
@@ -239,6 +240,7 @@ returns-in-Ok-Standalone g c =
           pins_did cache old new i shard was is at change g.T.Tag.fits c.args.key c.args.charge
           c.args.priority here draft same (Ok c.in-Ok-Standalone.field-0) (Ok Standalone)
           (ap Ok c.in-Ok-Standalone.field-0-is) c.in-Ok-Standalone.ensures.evicts;
+      others = only_at cache old new i shard was is at change (shard_in cache c.args.key) here;
       frees =
           frees_at cache old new i shard was is at change (shard_in cache c.args.key) here
           c.insert_pinned.ensures.frees;
@@ -318,6 +320,7 @@ returns-in-Err g c =
           small
           (pins_did cache old new i shard was is at change g.T.Tag.fits c.args.key c.args.charge
           c.args.priority here draft same (Err why) (Err why) refl c.in-Err.ensures.evicts));
+      others = only_at cache old new i shard was is at change (shard_in cache c.args.key) here;
       frees =
           frees_at cache old new i shard was is at change (shard_in cache c.args.key) here
           c.insert_pinned.ensures.frees;

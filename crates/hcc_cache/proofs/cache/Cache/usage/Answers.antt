@@ -1,4 +1,4 @@
-use Rattle.std.proofs.Common.{mul-suc, ◌≡◌, ◌-◌, ◌^◌, ◌≤◌, [], ◌∷◌, ◌++◌, min, ap, length, arith}
+use Rattle.std.proofs.Common.{mul-suc, ◌≡◌, ◌-◌, ◌^◌, ◌≤◌, [], ◌∷◌, ◌++◌, min, refl, ap, ◌∙◌, length, arith}
 use Rattle.hcc_core.proofs.SumLemmas.{total-append}
 use Rattle.hcc_rule.specs.ToldLedgers.{after_usage}
 use Rattle.hcc_shard.specs.Counted.{LoadsUsage}
@@ -17,6 +17,7 @@ loop-shard-init g c = (
   [],
   each_first c.args.self.now LoadsUsage c.args.client.now,
   omega arith,
+  λ s. refl,
 )
 
 pub loop-shard-preserved : goal.loop-shard-preserved
@@ -47,6 +48,7 @@ loop-shard-preserved g c =
           c.loop-shard.invariant.4 told.loads told.others,
       (let before = c.loop-shard.invariant.5 in let sum = c.saturating_add-sum.ensures in
           let more = total-append (λ n. n) counts (c.usage_at.result ∷ []) in omega arith),
+      λ s. told.counts s ∙ c.loop-shard.invariant.6 s,
     )
 
 pub returns-clause-entries : goal.returns-clause-entries

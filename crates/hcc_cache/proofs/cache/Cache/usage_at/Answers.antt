@@ -3,7 +3,7 @@ use Rattle.hcc_core.proofs.ListLemmas.{read_other}
 use Rattle.hcc_shard.specs.Callers.{view_of}
 use Rattle.hcc_shard.specs.Counted.{LoadsUsage}
 use Rattle.hcc_cache.specs.Clients.{view_by}
-use Rattle.hcc_cache.proofs.At.{did_at, is_at, seated_at, works_at}
+use Rattle.hcc_cache.proofs.At.{counts_none, did_at, is_at, seated_at, works_at}
 use Rattle.hcc_cache.proofs.Resting.{keeps_same, knows_same, same_usage}
 use Rattle.hcc_cache.proofs.Seats.{steps_set}
 use Rattle.hcc_cache.proofs.cache.Cache.usage_at.Goals as goal
@@ -82,6 +82,16 @@ returns-clause-loads g c =
 pub returns-clause-others : goal.returns-clause-others
 returns-clause-others g c s ne =
     read_other c.args.client.now.seats.items c.args.shard s c.usage.new.seat ne
+
+pub returns-clause-counts : goal.returns-clause-counts
+returns-clause-counts g c =
+    let was = c.index_mut-seat.result.now in
+    let at = is_at c.args.self.now c.args.client.now c.args.shard c.index.result.now was
+    c.requires.known c.requires.within c.index.ensures c.index_mut-seat.ensures.value in
+    counts_none c.args.self.now c.args.client.now _ c.args.shard c.index.result.now was
+    c.usage.new.seat at
+    (record { seats = refl; number = refl; most = refl; capacity = (refl, refl) })
+    c.usage.ensures.counts
 
 pub returns-clause-steps : goal.returns-clause-steps
 returns-clause-steps g c =

@@ -1,7 +1,7 @@
 use Rattle.std.proofs.Common.{refl, ap}
 use Rattle.hcc_shard.specs.Callers.{view_of, LoadsWord}
 use Rattle.hcc_cache.specs.Clients.{view_by}
-use Rattle.hcc_cache.proofs.At.{did_at, is_at, seated_at, works_at}
+use Rattle.hcc_cache.proofs.At.{counts_none, did_at, is_at, seated_at, works_at}
 use Rattle.hcc_cache.proofs.Resting.{keeps_same, knows_same, same_look}
 use Rattle.hcc_cache.proofs.Seats.{steps_set}
 use Rattle.hcc_cache.proofs.cache.Cache.word.Goals as goal
@@ -62,6 +62,16 @@ returns-clause-loads g c =
     c.word.new.seat at
     (record { seats = refl; number = refl; most = refl; capacity = (refl, refl) })
     (λ s a b. LoadsWord s c.args.slot c.word.result a b) c.word.ensures.loads c.args.shard refl
+
+pub returns-clause-counts : goal.returns-clause-counts
+returns-clause-counts g c =
+    let was = c.index_mut-seat.result.now in
+    let at = is_at c.args.self.now c.args.client.now c.args.shard c.index.result.now was
+    c.requires.known c.requires.shard c.index.ensures c.index_mut-seat.ensures.value in
+    counts_none c.args.self.now c.args.client.now _ c.args.shard c.index.result.now was
+    c.word.new.seat at
+    (record { seats = refl; number = refl; most = refl; capacity = (refl, refl) })
+    c.word.ensures.counts
 
 pub returns-clause-steps : goal.returns-clause-steps
 returns-clause-steps g c =

@@ -108,6 +108,7 @@ returns-in-Some g c =
             read = c.copy_out-got.new.seat;
             kept = c.copy_out-got.ensures.view;
             gives = gives;
+            counted = refl;
           });
       effort = told.effort;
       counts = (refl, refl);

@@ -91,9 +91,9 @@ returns-in-Some-clause-evicts g c =
     let r = (rw c.in-Reserved.is at c.in_ok-reserved.ensures.view).0 in (
       _,
       puts_in c.args.self.now c.args.draft g.T.Tag.fits _ c.args.value.now c.args.seat.now
-          _ c.reserve.new.seat c.reserve.new.tally r c.put.ensures.tally
+          _ _ r c.in_ok-reserved.ensures.effort c.put.ensures.tally
           (rw c.in-Reserved.is at c.in_ok-reserved.ensures.evicts) told.view.1
-          told.placed.1 told.placed.0,
+          told.placed.1 told.placed.2 told.placed.0,
     )
 
 pub returns-in-Some-clause-frees : goal.returns-in-Some-clause-frees
@@ -120,13 +120,14 @@ returns-in-None-clause-evicts g c =
     let told = c.in-None.ensures in
     let r = (rw c.in-Reserved.is at c.in_ok-reserved.ensures.view).0 in
     leaves_reserved c.args.self.now c.args.draft g.T.Tag.fits told.left.0 c.args.seat.now _
-    c.put.new.seat _ r c.put.ensures.tally
+    c.put.new.seat _ r
+    c.in_ok-reserved.ensures.effort c.put.ensures.tally
     (rw c.in-Reserved.is at c.in_ok-reserved.ensures.evicts)
     told.view.tried c.put.ensures.adds told.left.1
     (keeps_by _ _ (view c.put.new.seat.seat) c.give_up.ensures.view refl refl refl)
     (ap (λ (z : View g.row.T.Denot). z.met) c.give_up.ensures.view)
     (ap (λ (z : View g.row.T.Denot). z.saw) c.give_up.ensures.view) c.give_up.ensures.adds
-    told.left.2
+    told.left.2 told.left.3 refl
 
 pub returns-in-None-clause-frees : goal.returns-in-None-clause-frees
 returns-in-None-clause-frees g c =

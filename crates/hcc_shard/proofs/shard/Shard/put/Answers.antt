@@ -20,7 +20,12 @@ returns-in-NoSlot-clause-view g c =
 
 pub returns-in-Placed-clause-placed : goal.returns-in-Placed-clause-placed
 returns-in-Placed-clause-placed g c =
-    (refl, c.insert-insertion.ensures.placed c.in-Placed.slot c.in-Placed.is)
+    let told = c.in-Placed.ensures in
+    (
+      refl,
+      c.insert-insertion.ensures.placed c.in-Placed.slot c.in-Placed.is,
+      record { inserts = told.inserts; counts = told.probes },
+    )
 
 pub returns-in-Placed-clause-adds : goal.returns-in-Placed-clause-adds
 returns-in-Placed-clause-adds g c less =
@@ -30,7 +35,13 @@ returns-in-Placed-clause-adds g c less =
 pub returns-in-Matched-clause-left : goal.returns-in-Matched-clause-left
 returns-in-Matched-clause-left g c =
     let more = c.saturating_add-seat.ensures in
-    (true, c.in-Matched.ensures.view.2, (omega arith, λ low. omega arith, omega arith))
+    let told = c.in-Matched.ensures in
+    (
+      true,
+      told.view.2,
+      (omega arith, λ low. omega arith, omega arith),
+      record { inserts = told.inserts; counts = told.probes },
+    )
 
 pub returns-in-Matched-clause-adds : goal.returns-in-Matched-clause-adds
 returns-in-Matched-clause-adds g c less =
@@ -39,7 +50,13 @@ returns-in-Matched-clause-adds g c less =
 
 pub returns-in-NoSlot-clause-left : goal.returns-in-NoSlot-clause-left
 returns-in-NoSlot-clause-left g c =
-    (false, c.in-NoSlot.ensures.view.1, rose_same _ c.args.seat.now.boosts refl)
+    let told = c.in-NoSlot.ensures in
+    (
+      false,
+      told.view.1,
+      rose_same _ c.args.seat.now.boosts refl,
+      record { inserts = told.inserts; counts = told.probes },
+    )
 
 pub returns-in-NoSlot-clause-adds : goal.returns-in-NoSlot-clause-adds
 returns-in-NoSlot-clause-adds g c less =
