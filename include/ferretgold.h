@@ -5,7 +5,7 @@
  * allocated when it is opened. Each call on a client makes at most a stated number of atomic steps,
  * whatever other threads do. What the library does is proved, except for a little C round it that is
  * tested (SECURITY.md); docs/GUIDE.md says how to use it and how to choose the sizes. The header is
- * for C11, C++11 and later; libferretgold.a exports its functions.
+ * for C11, C++11 and later; libferretgold.a exports its functions, also those that are inline here.
  *
  *     ferretgold_config config;
  *     ferretgold_cache *cache;
@@ -48,7 +48,8 @@
  *   fewer bytes than were said), that an output overlaps another argument, that a bool is neither 0
  *   nor 1 (set each field of a config), or that two threads are in one client. Then behaviour is
  *   undefined. libferretgold_check.a, linked in place of libferretgold.a, ends the program when two
- *   threads meet in one client, and names the client and both calls.
+ *   threads meet in one client, and names the client and both calls. Code for it is compiled with
+ *   FERRETGOLD_CHECK, so that no call is inline; without that it doesn't link.
  *
  * COSTS
  *   L stands for the slots of a shard, W for the payload words of a slot, S for the shards. Bounds
@@ -61,6 +62,15 @@
 #include <stdbool.h>
 #include <stddef.h>
 #include <stdint.h>
+
+/* How the calls are declared that ferretgold_inline.h defines. */
+#ifndef FERRETGOLD_INLINE
+#ifdef FERRETGOLD_CHECK
+#define FERRETGOLD_INLINE
+#else
+#define FERRETGOLD_INLINE inline
+#endif
+#endif
 
 #ifdef __cplusplus
 extern "C" {
@@ -288,8 +298,9 @@ ferretgold_status ferretgold_close(ferretgold_cache *cache, ferretgold_totals *t
  *
  * Refuses HANDLES_FULL, SPENT; also if the key isn't there.
  */
-ferretgold_status ferretgold_lookup(ferretgold_client *client, const ferretgold_key *key,
-                                    ferretgold_handle *handle);
+FERRETGOLD_INLINE ferretgold_status ferretgold_lookup(ferretgold_client *client,
+                                                      const ferretgold_key *key,
+                                                      ferretgold_handle *handle);
 
 /*
  * Gives one handle more on the very entry that a handle is on, also on a standalone one or an
@@ -299,8 +310,9 @@ ferretgold_status ferretgold_lookup(ferretgold_client *client, const ferretgold_
  *
  * Refuses NO_HANDLE, HANDLES_FULL, SPENT.
  */
-ferretgold_status ferretgold_reref(ferretgold_client *client, ferretgold_handle handle,
-                                   ferretgold_handle *more);
+FERRETGOLD_INLINE ferretgold_status ferretgold_reref(ferretgold_client *client,
+                                                     ferretgold_handle handle,
+                                                     ferretgold_handle *more);
 
 /*
  * Gives a handle back: as a use of its entry if `useful`, which is what keeps entries that are
@@ -313,8 +325,9 @@ ferretgold_status ferretgold_reref(ferretgold_client *client, ferretgold_handle 
  *
  * Refuses NO_HANDLE.
  */
-ferretgold_status ferretgold_release(ferretgold_client *client, ferretgold_handle handle,
-                                     bool useful, bool erase_if_last, bool *freed);
+FERRETGOLD_INLINE ferretgold_status ferretgold_release(ferretgold_client *client,
+                                                       ferretgold_handle handle, bool useful,
+                                                       bool erase_if_last, bool *freed);
 
 /* ---- Inserting and erasing ------------------------------------------------------------------- */
 
@@ -334,9 +347,11 @@ ferretgold_status ferretgold_release(ferretgold_client *client, ferretgold_handl
  * that stay made, CAPACITY_FULL, OCCUPANCY_FULL. These two, and DROPPED for lack of a place, may
  * come though nobody holds an entry; then a second try evicts more ("Try again" in the guide).
  */
-ferretgold_status ferretgold_insert(ferretgold_client *client, const ferretgold_key *key,
-                                    const void *value, size_t length, uint32_t charge,
-                                    ferretgold_priority priority, ferretgold_inserted *inserted);
+FERRETGOLD_INLINE ferretgold_status ferretgold_insert(ferretgold_client *client,
+                                                      const ferretgold_key *key, const void *value,
+                                                      size_t length, uint32_t charge,
+                                                      ferretgold_priority priority,
+                                                      ferretgold_inserted *inserted);
 
 /*
  * Inserts an entry of this key, value and charge, and gives a handle on it. PLACED: it is in the
@@ -352,11 +367,13 @@ ferretgold_status ferretgold_insert(ferretgold_client *client, const ferretgold_
  * Refuses BAD_PRIORITY, NO_CHARGE, TOO_LONG, OUT_OF_MEMORY, HANDLES_FULL, SPENT, TOO_LARGE; and if
  * strict, after evictions that stay made, CAPACITY_FULL, OCCUPANCY_FULL.
  */
-ferretgold_status ferretgold_insert_pinned(ferretgold_client *client, const ferretgold_key *key,
-                                           const void *value, size_t length, uint32_t charge,
-                                           ferretgold_priority priority,
-                                           ferretgold_inserted *inserted,
-                                           ferretgold_handle *handle);
+FERRETGOLD_INLINE ferretgold_status ferretgold_insert_pinned(ferretgold_client *client,
+                                                             const ferretgold_key *key,
+                                                             const void *value, size_t length,
+                                                             uint32_t charge,
+                                                             ferretgold_priority priority,
+                                                             ferretgold_inserted *inserted,
+                                                             ferretgold_handle *handle);
 
 /*
  * Hides each visible entry of the key: no look-up finds them from then on. Makes one try to free
@@ -377,16 +394,17 @@ ferretgold_status ferretgold_erase(ferretgold_client *client, const ferretgold_k
  *
  * Refuses NO_HANDLE.
  */
-ferretgold_status ferretgold_handle_key(ferretgold_client *client, ferretgold_handle handle,
-                                        ferretgold_key *key);
+FERRETGOLD_INLINE ferretgold_status ferretgold_handle_key(ferretgold_client *client,
+                                                          ferretgold_handle handle,
+                                                          ferretgold_key *key);
 
 /*
  * How many bytes the value has. Costs a load; of a standalone entry none. Bound: 1.
  *
  * Refuses NO_HANDLE.
  */
-ferretgold_status ferretgold_value_len(ferretgold_client *client, ferretgold_handle handle,
-                                       size_t *length);
+FERRETGOLD_INLINE ferretgold_status ferretgold_value_len(ferretgold_client *client,
+                                                         ferretgold_handle handle, size_t *length);
 
 /*
  * Copies the value to the front of a buffer of `capacity` bytes; `length` gets its length. The rest
@@ -397,8 +415,9 @@ ferretgold_status ferretgold_value_len(ferretgold_client *client, ferretgold_han
  *
  * Refuses NO_HANDLE; TOO_SHORT, and then `length` gets how many bytes the value has.
  */
-ferretgold_status ferretgold_read_value(ferretgold_client *client, ferretgold_handle handle,
-                                        void *buffer, size_t capacity, size_t *length);
+FERRETGOLD_INLINE ferretgold_status ferretgold_read_value(ferretgold_client *client,
+                                                          ferretgold_handle handle, void *buffer,
+                                                          size_t capacity, size_t *length);
 
 /*
  * Reads the value of a visible entry of the key: what ferretgold_lookup, ferretgold_read_value and
@@ -413,8 +432,9 @@ ferretgold_status ferretgold_read_value(ferretgold_client *client, ferretgold_ha
  * MISS: nothing of the key was found. Refuses TOO_SHORT: there is an entry, `length` gets how many
  * bytes its value has, and the buffer stays.
  */
-ferretgold_status ferretgold_get(ferretgold_client *client, const ferretgold_key *key, void *buffer,
-                                 size_t capacity, bool useful, size_t *length);
+FERRETGOLD_INLINE ferretgold_status ferretgold_get(ferretgold_client *client,
+                                                   const ferretgold_key *key, void *buffer,
+                                                   size_t capacity, bool useful, size_t *length);
 
 /* ---- Totals ---------------------------------------------------------------------------------- */
 
@@ -454,7 +474,7 @@ uint32_t ferretgold_held(ferretgold_client *client);
 uint64_t ferretgold_serials_left(ferretgold_client *client);
 
 /* Whether it holds this handle. */
-bool ferretgold_holds(ferretgold_client *client, ferretgold_handle handle);
+FERRETGOLD_INLINE bool ferretgold_holds(ferretgold_client *client, ferretgold_handle handle);
 
 /* What its calls did on all shards. */
 ferretgold_status ferretgold_statistics(ferretgold_client *client, ferretgold_stats *stats);
@@ -483,5 +503,9 @@ FERRETGOLD_SIZE_IS(ferretgold_handle, 24);
 FERRETGOLD_SIZE_IS(ferretgold_stats, 64);
 FERRETGOLD_SIZE_IS(ferretgold_totals, 32);
 #undef FERRETGOLD_SIZE_IS
+
+#ifndef FERRETGOLD_CHECK
+#include "ferretgold_inline.h"
+#endif
 
 #endif

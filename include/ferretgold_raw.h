@@ -1,15 +1,15 @@
 /*
- * ferretgold_raw.h - the proved library's own functions, which src/ferretgold.c calls. A program
- * calls those of ferretgold.h.
+ * ferretgold_raw.h - the proved library's own functions, which those of ferretgold.h call. A program
+ * calls none of these.
  *
  * These refuse what the functions of ferretgold.h refuse, except null pointers and clients that are
  * idle. Each object is in one call at a time: so one thread at a time opens and closes clients. A
  * call that refuses leaves its outputs as they were, except where ferretgold.h says so.
  */
+#include "ferretgold.h" /* before the guard, as it ends with ferretgold_inline.h */
+
 #ifndef FERRETGOLD_RAW_H
 #define FERRETGOLD_RAW_H
-
-#include "ferretgold.h"
 
 #ifdef __cplusplus
 extern "C" {

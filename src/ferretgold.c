@@ -1,29 +1,27 @@
 /* What the calls of ferretgold.h do round the proved library, which ferretgold_raw.h declares: they
- * look for null pointers, number the caches, and give out and take back clients. It is tested, not
- * proved.
+ * look for null pointers, number the caches, and give out and take back clients. What of it is inline
+ * stands in ferretgold_inline.h. It is tested, not proved.
  *
  * With FERRETGOLD_CHECK each call on a client looks whether another thread is in a call on it, and
  * ends the program then. */
+#ifndef FERRETGOLD_CHECK
+#define FERRETGOLD_INLINE extern inline /* so the functions of ferretgold_inline.h are here */
+#endif
 #include "ferretgold.h"
 #include "ferretgold_raw.h"
 
 #include <stdatomic.h>
 #include <stdlib.h>
 #include <string.h>
+
 #ifdef FERRETGOLD_CHECK
+static bool ferretgold_enter(ferretgold_client *client, const char *call);
+static void ferretgold_quit(ferretgold_client *client);
+#include "ferretgold_inline.h"
 #include <stdio.h>
 #endif
 
 enum { LINE = 64, BITS = 64 };
-
-struct ferretgold_client {
-    _Alignas(LINE) ferretgold_object session;
-    ferretgold_cache *cache;
-    atomic_bool out; /* given out, and not given back yet */
-#ifdef FERRETGOLD_CHECK
-    _Atomic(const char *) inside; /* the call that a thread is in */
-#endif
-};
 
 /* The clients that are idle, 64 in a row: a bit for each, in the one word or in the other. */
 typedef struct ferretgold_row {
@@ -39,41 +37,27 @@ struct ferretgold_cache {
     _Alignas(LINE) ferretgold_row row[];
 };
 
-/* ---- Entering a client and leaving it -------------------------------------------------------- */
+/* ---- Entering a client and leaving it, checked ----------------------------------------------- */
 
 #ifdef FERRETGOLD_CHECK
-static bool enter(ferretgold_client *client, const char *call) {
-    const char *other = atomic_exchange(&client->inside, call);
+static bool ferretgold_enter(ferretgold_client *client, const char *call) {
+    const char *other = __atomic_exchange_n(&client->inside, call, __ATOMIC_SEQ_CST);
     if (other != NULL) {
         (void)fprintf(stderr, "ferretgold: two threads use client %zu at once: %s and %s\n",
                       (size_t)(client - client->cache->client), call, other);
         abort();
     }
-    if (!atomic_load(&client->out)) {
-        atomic_store(&client->inside, NULL);
+    if (!__atomic_load_n(&client->out, __ATOMIC_SEQ_CST)) {
+        __atomic_store_n(&client->inside, NULL, __ATOMIC_SEQ_CST);
         return false;
     }
     return true;
 }
 
-static void quit(ferretgold_client *client) {
-    atomic_store(&client->inside, NULL);
-}
-#else
-static inline bool enter(ferretgold_client *client, const char *call) {
-    (void)call;
-    return atomic_load_explicit(&client->out, memory_order_relaxed);
-}
-
-static inline void quit(ferretgold_client *client) {
-    (void)client;
+static void ferretgold_quit(ferretgold_client *client) {
+    __atomic_store_n(&client->inside, NULL, __ATOMIC_SEQ_CST);
 }
 #endif
-
-static inline ferretgold_status leave(ferretgold_client *client, uint32_t status) {
-    quit(client);
-    return (ferretgold_status)status;
-}
 
 /* ---- Clients that are idle ------------------------------------------------------------------- */
 
@@ -220,7 +204,7 @@ ferretgold_status ferretgold_client_open(ferretgold_cache *cache, ferretgold_cli
         return FERRETGOLD_NO_CLIENT;
     }
     *client = &cache->client[number];
-    atomic_store(&(*client)->out, true);
+    __atomic_store_n(&(*client)->out, true, __ATOMIC_SEQ_CST);
     return FERRETGOLD_OK;
 }
 
@@ -244,17 +228,17 @@ static ferretgold_status give_back(ferretgold_cache *cache, ferretgold_client *c
     if (client->cache != cache) {
         return FERRETGOLD_OTHER_CACHE;
     }
-    if (!enter(client, call)) {
+    if (!ferretgold_enter(client, call)) {
         return FERRETGOLD_NO_CLIENT;
     }
     if (releasing) {
         release_all(client);
     }
     if (ferretgold_raw_held(&client->session) != 0) {
-        return leave(client, FERRETGOLD_HANDLES_OUT);
+        return ferretgold_leave(client, FERRETGOLD_HANDLES_OUT);
     }
-    atomic_store(&client->out, false);
-    quit(client);
+    __atomic_store_n(&client->out, false, __ATOMIC_SEQ_CST);
+    ferretgold_quit(client);
     put_back(client);
     return FERRETGOLD_OK;
 }
@@ -268,163 +252,19 @@ ferretgold_status ferretgold_client_close_releasing(ferretgold_cache *cache,
     return give_back(cache, client, true, __func__);
 }
 
-/* ---- Handles --------------------------------------------------------------------------------- */
-
-ferretgold_status ferretgold_lookup(ferretgold_client *client, const ferretgold_key *key,
-                                    ferretgold_handle *handle) {
-    if (client == NULL || key == NULL || handle == NULL) {
-        return FERRETGOLD_NULL;
-    }
-    if (!enter(client, __func__)) {
-        return FERRETGOLD_NO_CLIENT;
-    }
-    return leave(client, ferretgold_raw_lookup(&client->session, key, handle));
-}
-
-ferretgold_status ferretgold_reref(ferretgold_client *client, ferretgold_handle handle,
-                                   ferretgold_handle *more) {
-    if (client == NULL || more == NULL) {
-        return FERRETGOLD_NULL;
-    }
-    if (!enter(client, __func__)) {
-        return FERRETGOLD_NO_CLIENT;
-    }
-    return leave(client, ferretgold_raw_reref(&client->session, &handle, more));
-}
-
-ferretgold_status ferretgold_release(ferretgold_client *client, ferretgold_handle handle,
-                                     bool useful, bool erase_if_last, bool *freed) {
-    if (client == NULL) {
-        return FERRETGOLD_NULL;
-    }
-    if (!enter(client, __func__)) {
-        return FERRETGOLD_NO_CLIENT;
-    }
-    bool answer = false;
-    const uint32_t status =
-        ferretgold_raw_release(&client->session, &handle, useful, erase_if_last, &answer);
-    if (status == FERRETGOLD_OK && freed != NULL) {
-        *freed = answer;
-    }
-    return leave(client, status);
-}
-
-/* ---- Inserting and erasing ------------------------------------------------------------------- */
-
-/* The library asks for pointers that aren't null, also to no bytes. */
-static const uint8_t *bytes_of(const void *value) {
-    static const uint8_t none[1] = {0};
-    return value != NULL ? value : none;
-}
-
-static uint8_t *room_of(void *buffer, uint8_t *none) {
-    return buffer != NULL ? buffer : none;
-}
-
-ferretgold_status ferretgold_insert(ferretgold_client *client, const ferretgold_key *key,
-                                    const void *value, size_t length, uint32_t charge,
-                                    ferretgold_priority priority, ferretgold_inserted *inserted) {
-    if (client == NULL || key == NULL || (value == NULL && length != 0)) {
-        return FERRETGOLD_NULL;
-    }
-    if (!enter(client, __func__)) {
-        return FERRETGOLD_NO_CLIENT;
-    }
-    uint32_t answer = 0;
-    const uint32_t status = ferretgold_raw_insert(&client->session, key, bytes_of(value), length,
-                                                  charge, (uint32_t)priority, &answer);
-    if (status == FERRETGOLD_OK && inserted != NULL) {
-        *inserted = (ferretgold_inserted)answer;
-    }
-    return leave(client, status);
-}
-
-ferretgold_status ferretgold_insert_pinned(ferretgold_client *client, const ferretgold_key *key,
-                                           const void *value, size_t length, uint32_t charge,
-                                           ferretgold_priority priority,
-                                           ferretgold_inserted *inserted,
-                                           ferretgold_handle *handle) {
-    if (client == NULL || key == NULL || handle == NULL || (value == NULL && length != 0)) {
-        return FERRETGOLD_NULL;
-    }
-    if (!enter(client, __func__)) {
-        return FERRETGOLD_NO_CLIENT;
-    }
-    uint32_t answer = 0;
-    const uint32_t status =
-        ferretgold_raw_insert_pinned(&client->session, key, bytes_of(value), length, charge,
-                                     (uint32_t)priority, &answer, handle);
-    if (status == FERRETGOLD_OK && inserted != NULL) {
-        *inserted = (ferretgold_inserted)answer;
-    }
-    return leave(client, status);
-}
+/* ---- Erasing --------------------------------------------------------------------------------- */
 
 ferretgold_status ferretgold_erase(ferretgold_client *client, const ferretgold_key *key,
                                    uint32_t *hidden) {
     if (client == NULL || key == NULL) {
         return FERRETGOLD_NULL;
     }
-    if (!enter(client, __func__)) {
+    if (!ferretgold_enter(client, __func__)) {
         return FERRETGOLD_NO_CLIENT;
     }
     uint32_t ignored = 0;
-    return leave(client, ferretgold_raw_erase(&client->session, key,
-                                                        hidden != NULL ? hidden : &ignored));
-}
-
-/* ---- Reading --------------------------------------------------------------------------------- */
-
-ferretgold_status ferretgold_handle_key(ferretgold_client *client, ferretgold_handle handle,
-                                        ferretgold_key *key) {
-    if (client == NULL || key == NULL) {
-        return FERRETGOLD_NULL;
-    }
-    if (!enter(client, __func__)) {
-        return FERRETGOLD_NO_CLIENT;
-    }
-    return leave(client, ferretgold_raw_key(&client->session, &handle, key));
-}
-
-ferretgold_status ferretgold_value_len(ferretgold_client *client, ferretgold_handle handle,
-                                       size_t *length) {
-    if (client == NULL || length == NULL) {
-        return FERRETGOLD_NULL;
-    }
-    if (!enter(client, __func__)) {
-        return FERRETGOLD_NO_CLIENT;
-    }
-    return leave(client, ferretgold_raw_value_len(&client->session, &handle, length));
-}
-
-ferretgold_status ferretgold_read_value(ferretgold_client *client, ferretgold_handle handle,
-                                        void *buffer, size_t capacity, size_t *length) {
-    if (client == NULL || (buffer == NULL && capacity != 0)) {
-        return FERRETGOLD_NULL;
-    }
-    if (!enter(client, __func__)) {
-        return FERRETGOLD_NO_CLIENT;
-    }
-    uint8_t none[1];
-    size_t ignored = 0;
-    return leave(client,
-                 ferretgold_raw_read_value(&client->session, &handle, room_of(buffer, none),
-                                           capacity, length != NULL ? length : &ignored));
-}
-
-ferretgold_status ferretgold_get(ferretgold_client *client, const ferretgold_key *key, void *buffer,
-                                 size_t capacity, bool useful, size_t *length) {
-    if (client == NULL || key == NULL || (buffer == NULL && capacity != 0)) {
-        return FERRETGOLD_NULL;
-    }
-    if (!enter(client, __func__)) {
-        return FERRETGOLD_NO_CLIENT;
-    }
-    uint8_t none[1];
-    size_t ignored = 0;
-    return leave(client,
-                 ferretgold_raw_get(&client->session, key, room_of(buffer, none), capacity, useful,
-                                    length != NULL ? length : &ignored));
+    return ferretgold_leave(client, ferretgold_raw_erase(&client->session, key,
+                                                         hidden != NULL ? hidden : &ignored));
 }
 
 /* ---- Totals and words ------------------------------------------------------------------------ */
@@ -433,33 +273,33 @@ ferretgold_status ferretgold_usage(ferretgold_client *client, uint64_t *usage) {
     if (client == NULL || usage == NULL) {
         return FERRETGOLD_NULL;
     }
-    if (!enter(client, __func__)) {
+    if (!ferretgold_enter(client, __func__)) {
         return FERRETGOLD_NO_CLIENT;
     }
     *usage = ferretgold_raw_usage(&client->session);
-    return leave(client, FERRETGOLD_OK);
+    return ferretgold_leave(client, FERRETGOLD_OK);
 }
 
 ferretgold_status ferretgold_pinned_usage(ferretgold_client *client, uint64_t *usage) {
     if (client == NULL || usage == NULL) {
         return FERRETGOLD_NULL;
     }
-    if (!enter(client, __func__)) {
+    if (!ferretgold_enter(client, __func__)) {
         return FERRETGOLD_NO_CLIENT;
     }
     *usage = ferretgold_raw_pinned_usage(&client->session);
-    return leave(client, FERRETGOLD_OK);
+    return ferretgold_leave(client, FERRETGOLD_OK);
 }
 
 ferretgold_status ferretgold_occupancy(ferretgold_client *client, uint64_t *occupancy) {
     if (client == NULL || occupancy == NULL) {
         return FERRETGOLD_NULL;
     }
-    if (!enter(client, __func__)) {
+    if (!ferretgold_enter(client, __func__)) {
         return FERRETGOLD_NO_CLIENT;
     }
     *occupancy = ferretgold_raw_occupancy(&client->session);
-    return leave(client, FERRETGOLD_OK);
+    return ferretgold_leave(client, FERRETGOLD_OK);
 }
 
 ferretgold_status ferretgold_word(ferretgold_client *client, uint32_t shard, uint32_t slot,
@@ -467,10 +307,10 @@ ferretgold_status ferretgold_word(ferretgold_client *client, uint32_t shard, uin
     if (client == NULL || word == NULL) {
         return FERRETGOLD_NULL;
     }
-    if (!enter(client, __func__)) {
+    if (!ferretgold_enter(client, __func__)) {
         return FERRETGOLD_NO_CLIENT;
     }
-    return leave(client, ferretgold_raw_word(&client->session, shard, slot, word));
+    return ferretgold_leave(client, ferretgold_raw_word(&client->session, shard, slot, word));
 }
 
 ferretgold_status ferretgold_displacement(ferretgold_client *client, uint32_t shard, uint32_t slot,
@@ -478,60 +318,51 @@ ferretgold_status ferretgold_displacement(ferretgold_client *client, uint32_t sh
     if (client == NULL || displacement == NULL) {
         return FERRETGOLD_NULL;
     }
-    if (!enter(client, __func__)) {
+    if (!ferretgold_enter(client, __func__)) {
         return FERRETGOLD_NO_CLIENT;
     }
-    return leave(client,
-                 ferretgold_raw_displacement(&client->session, shard, slot, displacement));
+    return ferretgold_leave(
+        client, ferretgold_raw_displacement(&client->session, shard, slot, displacement));
 }
 
 /* ---- Of a client ----------------------------------------------------------------------------- */
 
 uint32_t ferretgold_client_number(ferretgold_client *client) {
     uint32_t number = 0;
-    if (client != NULL && enter(client, __func__)) {
+    if (client != NULL && ferretgold_enter(client, __func__)) {
         number = ferretgold_raw_number(&client->session);
-        quit(client);
+        ferretgold_quit(client);
     }
     return number;
 }
 
 uint32_t ferretgold_held(ferretgold_client *client) {
     uint32_t held = 0;
-    if (client != NULL && enter(client, __func__)) {
+    if (client != NULL && ferretgold_enter(client, __func__)) {
         held = ferretgold_raw_held(&client->session);
-        quit(client);
+        ferretgold_quit(client);
     }
     return held;
 }
 
 uint64_t ferretgold_serials_left(ferretgold_client *client) {
     uint64_t left = 0;
-    if (client != NULL && enter(client, __func__)) {
+    if (client != NULL && ferretgold_enter(client, __func__)) {
         left = ferretgold_raw_serials_left(&client->session);
-        quit(client);
+        ferretgold_quit(client);
     }
     return left;
-}
-
-bool ferretgold_holds(ferretgold_client *client, ferretgold_handle handle) {
-    bool holds = false;
-    if (client != NULL && enter(client, __func__)) {
-        holds = ferretgold_raw_holds(&client->session, &handle);
-        quit(client);
-    }
-    return holds;
 }
 
 ferretgold_status ferretgold_statistics(ferretgold_client *client, ferretgold_stats *stats) {
     if (client == NULL || stats == NULL) {
         return FERRETGOLD_NULL;
     }
-    if (!enter(client, __func__)) {
+    if (!ferretgold_enter(client, __func__)) {
         return FERRETGOLD_NO_CLIENT;
     }
     ferretgold_raw_stats(&client->session, stats);
-    return leave(client, FERRETGOLD_OK);
+    return ferretgold_leave(client, FERRETGOLD_OK);
 }
 
 /* ---- Texts ----------------------------------------------------------------------------------- */

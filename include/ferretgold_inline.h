@@ -1,0 +1,213 @@
+/*
+ * ferretgold_inline.h - the calls that programs make most. ferretgold.h includes it, and declares them
+ * inline, so that they cost their caller no second call; the library has each as a function too.
+ *
+ * With FERRETGOLD_CHECK ferretgold.h doesn't include it. The checking library's functions are made
+ * of it, round an `enter` and a `leave` of its own.
+ */
+#ifndef FERRETGOLD_INLINE_H
+#define FERRETGOLD_INLINE_H
+
+#include "ferretgold_raw.h"
+
+#ifdef __cplusplus
+#define FERRETGOLD_AS(type, value) static_cast<type>(value)
+extern "C" {
+#else
+#define FERRETGOLD_AS(type, value) ((type)(value))
+#endif
+
+/* A client, whose fields are the library's. */
+struct ferretgold_client {
+    ferretgold_object session;
+    ferretgold_cache *cache;
+    bool out; /* given out, and not given back yet: read and written by atomics alone */
+#ifdef FERRETGOLD_CHECK
+    const char *inside; /* the call that a thread is in: likewise */
+#endif
+} __attribute__((aligned(64)));
+
+/* ---- Entering a client and leaving it -------------------------------------------------------- */
+
+#ifndef FERRETGOLD_CHECK
+/* Begins a call, unless the client is idle. */
+FERRETGOLD_INLINE bool ferretgold_enter(ferretgold_client *client, const char *call) {
+    (void)call;
+    return __atomic_load_n(&client->out, __ATOMIC_RELAXED);
+}
+
+/* Ends a call. */
+FERRETGOLD_INLINE void ferretgold_quit(ferretgold_client *client) {
+    (void)client;
+}
+#endif
+
+FERRETGOLD_INLINE ferretgold_status ferretgold_leave(ferretgold_client *client, uint32_t status) {
+    ferretgold_quit(client);
+    return FERRETGOLD_AS(ferretgold_status, status);
+}
+
+/* ---- Handles --------------------------------------------------------------------------------- */
+
+FERRETGOLD_INLINE ferretgold_status ferretgold_lookup(ferretgold_client *client,
+                                                      const ferretgold_key *key,
+                                                      ferretgold_handle *handle) {
+    if (client == NULL || key == NULL || handle == NULL) {
+        return FERRETGOLD_NULL;
+    }
+    if (!ferretgold_enter(client, __func__)) {
+        return FERRETGOLD_NO_CLIENT;
+    }
+    return ferretgold_leave(client, ferretgold_raw_lookup(&client->session, key, handle));
+}
+
+FERRETGOLD_INLINE ferretgold_status ferretgold_reref(ferretgold_client *client,
+                                                     ferretgold_handle handle,
+                                                     ferretgold_handle *more) {
+    if (client == NULL || more == NULL) {
+        return FERRETGOLD_NULL;
+    }
+    if (!ferretgold_enter(client, __func__)) {
+        return FERRETGOLD_NO_CLIENT;
+    }
+    return ferretgold_leave(client, ferretgold_raw_reref(&client->session, &handle, more));
+}
+
+FERRETGOLD_INLINE ferretgold_status ferretgold_release(ferretgold_client *client,
+                                                       ferretgold_handle handle, bool useful,
+                                                       bool erase_if_last, bool *freed) {
+    bool answer = false;
+    if (client == NULL) {
+        return FERRETGOLD_NULL;
+    }
+    if (!ferretgold_enter(client, __func__)) {
+        return FERRETGOLD_NO_CLIENT;
+    }
+    const uint32_t status =
+        ferretgold_raw_release(&client->session, &handle, useful, erase_if_last, &answer);
+    if (freed != NULL && status == FERRETGOLD_OK) {
+        *freed = answer;
+    }
+    return ferretgold_leave(client, status);
+}
+
+FERRETGOLD_INLINE bool ferretgold_holds(ferretgold_client *client, ferretgold_handle handle) {
+    bool holds = false;
+    if (client != NULL && ferretgold_enter(client, __func__)) {
+        holds = ferretgold_raw_holds(&client->session, &handle);
+        ferretgold_quit(client);
+    }
+    return holds;
+}
+
+/* ---- Inserting ------------------------------------------------------------------------------- */
+
+/* The proved library asks for pointers that aren't null, also to no bytes: the key's does then. */
+
+FERRETGOLD_INLINE ferretgold_status ferretgold_insert(ferretgold_client *client,
+                                                      const ferretgold_key *key, const void *value,
+                                                      size_t length, uint32_t charge,
+                                                      ferretgold_priority priority,
+                                                      ferretgold_inserted *inserted) {
+    const void *bytes = value != NULL ? value : key;
+    uint32_t answer = 0;
+    if (client == NULL || key == NULL || (value == NULL && length != 0)) {
+        return FERRETGOLD_NULL;
+    }
+    if (!ferretgold_enter(client, __func__)) {
+        return FERRETGOLD_NO_CLIENT;
+    }
+    const uint32_t status =
+        ferretgold_raw_insert(&client->session, key, FERRETGOLD_AS(const uint8_t *, bytes), length,
+                              charge, FERRETGOLD_AS(uint32_t, priority), &answer);
+    if (inserted != NULL && status == FERRETGOLD_OK) {
+        *inserted = FERRETGOLD_AS(ferretgold_inserted, answer);
+    }
+    return ferretgold_leave(client, status);
+}
+
+FERRETGOLD_INLINE ferretgold_status ferretgold_insert_pinned(
+    ferretgold_client *client, const ferretgold_key *key, const void *value, size_t length,
+    uint32_t charge, ferretgold_priority priority, ferretgold_inserted *inserted,
+    ferretgold_handle *handle) {
+    const void *bytes = value != NULL ? value : key;
+    uint32_t answer = 0;
+    if (client == NULL || key == NULL || handle == NULL || (value == NULL && length != 0)) {
+        return FERRETGOLD_NULL;
+    }
+    if (!ferretgold_enter(client, __func__)) {
+        return FERRETGOLD_NO_CLIENT;
+    }
+    const uint32_t status = ferretgold_raw_insert_pinned(
+        &client->session, key, FERRETGOLD_AS(const uint8_t *, bytes), length, charge,
+        FERRETGOLD_AS(uint32_t, priority), &answer, handle);
+    if (inserted != NULL && status == FERRETGOLD_OK) {
+        *inserted = FERRETGOLD_AS(ferretgold_inserted, answer);
+    }
+    return ferretgold_leave(client, status);
+}
+
+/* ---- Reading --------------------------------------------------------------------------------- */
+
+FERRETGOLD_INLINE ferretgold_status ferretgold_handle_key(ferretgold_client *client,
+                                                          ferretgold_handle handle,
+                                                          ferretgold_key *key) {
+    if (client == NULL || key == NULL) {
+        return FERRETGOLD_NULL;
+    }
+    if (!ferretgold_enter(client, __func__)) {
+        return FERRETGOLD_NO_CLIENT;
+    }
+    return ferretgold_leave(client, ferretgold_raw_key(&client->session, &handle, key));
+}
+
+FERRETGOLD_INLINE ferretgold_status ferretgold_value_len(ferretgold_client *client,
+                                                         ferretgold_handle handle, size_t *length) {
+    if (client == NULL || length == NULL) {
+        return FERRETGOLD_NULL;
+    }
+    if (!ferretgold_enter(client, __func__)) {
+        return FERRETGOLD_NO_CLIENT;
+    }
+    return ferretgold_leave(client, ferretgold_raw_value_len(&client->session, &handle, length));
+}
+
+FERRETGOLD_INLINE ferretgold_status ferretgold_read_value(ferretgold_client *client,
+                                                          ferretgold_handle handle, void *buffer,
+                                                          size_t capacity, size_t *length) {
+    size_t ignored = 0;
+    void *room = buffer != NULL ? buffer : &ignored;
+    if (client == NULL || (buffer == NULL && capacity != 0)) {
+        return FERRETGOLD_NULL;
+    }
+    if (!ferretgold_enter(client, __func__)) {
+        return FERRETGOLD_NO_CLIENT;
+    }
+    return ferretgold_leave(
+        client, ferretgold_raw_read_value(&client->session, &handle,
+                                          FERRETGOLD_AS(uint8_t *, room), capacity,
+                                          length != NULL ? length : &ignored));
+}
+
+FERRETGOLD_INLINE ferretgold_status ferretgold_get(ferretgold_client *client,
+                                                   const ferretgold_key *key, void *buffer,
+                                                   size_t capacity, bool useful, size_t *length) {
+    size_t ignored = 0;
+    void *room = buffer != NULL ? buffer : &ignored;
+    if (client == NULL || key == NULL || (buffer == NULL && capacity != 0)) {
+        return FERRETGOLD_NULL;
+    }
+    if (!ferretgold_enter(client, __func__)) {
+        return FERRETGOLD_NO_CLIENT;
+    }
+    return ferretgold_leave(
+        client, ferretgold_raw_get(&client->session, key, FERRETGOLD_AS(uint8_t *, room), capacity,
+                                   useful, length != NULL ? length : &ignored));
+}
+
+#ifdef __cplusplus
+}
+#endif
+#undef FERRETGOLD_AS
+
+#endif
