@@ -391,7 +391,7 @@ const char *ferretgold_status_text(ferretgold_status status) {
     case FERRETGOLD_BAD_SHARDS: return "shards must be a power of two from 1 to 64";
     case FERRETGOLD_BAD_CAPACITY: return "capacity must be at most 2^40";
     case FERRETGOLD_BAD_SERIALS: return "serials must be 1 to 2^54";
-    case FERRETGOLD_NO_CLIENT: return "all clients of the cache are out";
+    case FERRETGOLD_NO_CLIENT: return "all clients of the cache are out, or this one was given back";
     case FERRETGOLD_OTHER_CACHE: return "the client is one of another cache";
     case FERRETGOLD_HANDLES_OUT: return "the client holds handles";
     case FERRETGOLD_MISSING: return "clients of the cache are out";

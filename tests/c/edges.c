@@ -27,7 +27,8 @@ static void texts(void) {
         {30, "room must be 1 to 512"}, {31, "clients must be 1 to 1,024"},
         {32, "handles must be 1 to 16,384"}, {33, "shards must be a power of two from 1 to 64"},
         {34, "capacity must be at most 2^40"}, {35, "serials must be 1 to 2^54"},
-        {36, "all clients of the cache are out"}, {37, "the client is one of another cache"},
+        {36, "all clients of the cache are out, or this one was given back"},
+        {37, "the client is one of another cache"},
         {38, "the client holds handles"}, {39, "clients of the cache are out"}, {2, "unknown"}};
     for (size_t k = 0; k < sizeof all / sizeof *all; k++) {
         EXPECT(strcmp(ferretgold_status_text((ferretgold_status)all[k].status), all[k].text), 0);
