@@ -45,35 +45,35 @@ class ferret {
     class reader {
       public:
         reader(ferret &cache, const sizes &sizes)
-            : client_(cache.cache_.open_client()), size_(sizes.value_size) {}
+            : opened_(cache.cache_.open_client()), client_(opened_.get()), size_(sizes.value_size) {}
         ~reader() { unpin(); }
         reader(reader &&) = default;
 
         // Copies the value of a key to a buffer, and tells whether it was there.
         bool read(const ferretgold_key &key, std::uint8_t *buffer) {
             ferretgold_handle found;
-            if (ferretgold_lookup(client_.get(), &key, &found) != FERRETGOLD_OK) {
+            if (ferretgold_lookup(client_, &key, &found) != FERRETGOLD_OK) {
                 return false;
             }
-            (void)ferretgold_read_value(client_.get(), found, buffer, size_, nullptr);
-            (void)ferretgold_release(client_.get(), found, true, false, nullptr);
+            (void)ferretgold_read_value(client_, found, buffer, size_, nullptr);
+            (void)ferretgold_release(client_, found, true, false, nullptr);
             return true;
         }
 
         // The same in one call, where the cache has one.
         bool get(const ferretgold_key &key, std::uint8_t *buffer) {
-            return ferretgold_get(client_.get(), &key, buffer, size_, true, nullptr) ==
+            return ferretgold_get(client_, &key, buffer, size_, true, nullptr) ==
                    FERRETGOLD_OK;
         }
 
         void insert(const ferretgold_key &key, const std::uint8_t *value) {
-            (void)ferretgold_insert(client_.get(), &key, value, size_, 1, FERRETGOLD_LOW, nullptr);
+            (void)ferretgold_insert(client_, &key, value, size_, 1, FERRETGOLD_LOW, nullptr);
         }
 
         // Inserts an entry and holds it until `unpin`.
         void pin(const ferretgold_key &key, const std::uint8_t *value) {
             ferretgold_handle held;
-            must(ferretgold_insert_pinned(client_.get(), &key, value, size_, 1, FERRETGOLD_LOW,
+            must(ferretgold_insert_pinned(client_, &key, value, size_, 1, FERRETGOLD_LOW,
                                           nullptr, &held) == FERRETGOLD_OK,
                  "a pinned insertion");
             held_.push_back(held);
@@ -81,13 +81,14 @@ class ferret {
 
         void unpin() {
             for (const ferretgold_handle &held : held_) {
-                (void)ferretgold_release(client_.get(), held, true, false, nullptr);
+                (void)ferretgold_release(client_, held, true, false, nullptr);
             }
             held_.clear();
         }
 
       private:
-        ferretgold::client client_;
+        ferretgold::client opened_;
+        ferretgold_client *client_;
         std::uint32_t size_;
         std::vector<ferretgold_handle> held_;
     };
