@@ -23,8 +23,8 @@
  *   - A client is used by one thread at a time. It may go from thread to thread, if a lock, a
  *     thread's start or join, or a sequentially consistent atomic orders the calls.
  *   - All clients of a cache may be used at the same time.
- *   - All threads may call ferretgold_client_open and _client_close at once. Neither waits or
- *     allocates, so a thread may take a client for one operation, and an engine with more threads
+ *   - All threads may call ferretgold_client_open and _client_close at once, and what tells a
+ *     cache's sizes. None of these waits or allocates, so a thread may take a client for one operation, and an engine with more threads
  *     than clients needs no lock. ferretgold_close comes after all other calls on the cache.
  *   - A client that was given back is refused by NO_CLIENT while it is idle. Once it is out again,
  *     an old pointer to it is the new owner's client.
@@ -232,6 +232,12 @@ uint64_t ferretgold_memory(const ferretgold_config *config);
 ferretgold_status ferretgold_config_for(uint64_t bytes, size_t value, uint32_t threads,
                                         ferretgold_config *config);
 
+/*
+ * Whether a cache can be opened so, whatever memory there is: refuses what ferretgold_open refuses,
+ * but for OUT_OF_MEMORY.
+ */
+ferretgold_status ferretgold_config_check(const ferretgold_config *config);
+
 /* ---- Opening and closing --------------------------------------------------------------------- */
 
 /*
@@ -285,6 +291,12 @@ ferretgold_status ferretgold_client_close_releasing(ferretgold_cache *cache,
  * Refuses MISSING: a client is out. After a refusal the cache works on.
  */
 ferretgold_status ferretgold_close(ferretgold_cache *cache, ferretgold_totals *totals);
+
+/* The configuration that a cache was opened with. */
+ferretgold_status ferretgold_config_of(const ferretgold_cache *cache, ferretgold_config *config);
+
+/* The most bytes of a value: 8 * room. 0 if `cache` is null. */
+size_t ferretgold_room(const ferretgold_cache *cache);
 
 /* ---- Getting and giving back handles --------------------------------------------------------- */
 

@@ -31,6 +31,9 @@ inline void must(ferretgold_status status) {
     }
 }
 
+// Throws what opening a cache of this configuration would, whatever memory there is.
+inline void check(const ferretgold_config &config) { must(ferretgold_config_check(&config)); }
+
 // What a cache shares with its clients.
 struct shared_cache {
     explicit shared_cache(const ferretgold_config &config) { must(ferretgold_open(&config, &it)); }
@@ -200,6 +203,16 @@ class cache {
     cache &operator=(cache &&) noexcept = default;
 
     client open_client() const { return client(shared_); }
+
+    // What it was opened with.
+    ferretgold_config config() const {
+        ferretgold_config config{};
+        must(ferretgold_config_of(get(), &config));
+        return config;
+    }
+
+    // The most bytes of a value.
+    std::size_t room() const noexcept { return ferretgold_room(get()); }
 
     // Ends the cache, once all its clients went.
     ferretgold_totals close() {

@@ -22,7 +22,9 @@ typedef struct ferretgold_object {
     void *at;
 } ferretgold_object;
 
-/* None of these pointers is null, even if a length is 0. No two caches that are open have one
+/* None of these pointers is null, even if a length is 0. */
+uint32_t ferretgold_raw_config_check(const ferretgold_config *config);
+/* No two caches that are open have one
  * number, which their handles have too. */
 uint32_t ferretgold_raw_open(const ferretgold_config *config, uint32_t number,
                              ferretgold_object *cache);

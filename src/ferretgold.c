@@ -31,8 +31,7 @@ typedef struct ferretgold_row {
 
 struct ferretgold_cache {
     ferretgold_object rack;
-    uint32_t clients;
-    uint32_t rows;
+    ferretgold_config config;
     ferretgold_client *client;
     _Alignas(LINE) ferretgold_row row[];
 };
@@ -77,13 +76,18 @@ static uint32_t take_bit(_Atomic(uint64_t) *word, uint32_t first) {
     return BITS;
 }
 
+static uint32_t rows_for(uint32_t clients) {
+    return (clients + BITS - 1) / BITS;
+}
+
 /* Takes a client that is idle: one with serials left if this call found one, beginning where this
  * thread found one last. Its number, or the count of all clients if each word was seen 0. */
 static uint32_t take(ferretgold_cache *cache) {
     static _Thread_local uint32_t last = 0;
+    const uint32_t rows = rows_for(cache->config.clients);
     for (uint32_t spent = 0; spent < 2; spent++) {
-        for (uint32_t k = 0; k < cache->rows; k++) {
-            const uint32_t at = (last / BITS + k) % cache->rows;
+        for (uint32_t k = 0; k < rows; k++) {
+            const uint32_t at = (last / BITS + k) % rows;
             ferretgold_row *row = &cache->row[at];
             const uint32_t place = take_bit(spent ? &row->spent : &row->idle, last % BITS);
             if (place < BITS) {
@@ -92,7 +96,7 @@ static uint32_t take(ferretgold_cache *cache) {
             }
         }
     }
-    return cache->clients;
+    return cache->config.clients;
 }
 
 /* Puts a client back among those that are idle. */
@@ -105,7 +109,7 @@ static void put_back(ferretgold_client *client) {
 }
 
 static bool are_all_idle(ferretgold_cache *cache) {
-    for (uint32_t number = 0; number < cache->clients; number++) {
+    for (uint32_t number = 0; number < cache->config.clients; number++) {
         ferretgold_row *row = &cache->row[number / BITS];
         const uint64_t idle = atomic_load(&row->idle) | atomic_load(&row->spent);
         if ((idle >> number % BITS & 1) == 0) {
@@ -120,7 +124,7 @@ static bool are_all_idle(ferretgold_cache *cache) {
 /* Ends a cache that has its clients from `first` on, all idle. */
 static ferretgold_status end(ferretgold_cache *cache, uint32_t first, ferretgold_totals *totals) {
     ferretgold_object kept = {NULL};
-    for (uint32_t number = first; number < cache->clients; number++) {
+    for (uint32_t number = first; number < cache->config.clients; number++) {
         (void)ferretgold_raw_client_close(&cache->rack, cache->client[number].session, &kept);
     }
     const uint32_t status = ferretgold_raw_close(cache->rack, totals, &kept);
@@ -128,26 +132,25 @@ static ferretgold_status end(ferretgold_cache *cache, uint32_t first, ferretgold
     return (ferretgold_status)status;
 }
 
-/* The cache's part of this file, for so many clients, of which it has none yet; NULL if memory is
- * refused. */
-static ferretgold_cache *made(ferretgold_object rack, uint32_t clients) {
-    const uint32_t rows = (clients + BITS - 1) / BITS;
-    const size_t before = sizeof(ferretgold_cache) + rows * sizeof(ferretgold_row);
-    ferretgold_cache *cache = aligned_alloc(LINE, before + clients * sizeof(ferretgold_client));
+/* The cache's part of this file, with no client yet; NULL if memory is refused. */
+static ferretgold_cache *made(ferretgold_object rack, const ferretgold_config *config) {
+    const uint32_t rows = rows_for(config->clients);
+    const size_t size = sizeof(ferretgold_cache) + rows * sizeof(ferretgold_row) +
+                        config->clients * sizeof(ferretgold_client);
+    ferretgold_cache *cache = aligned_alloc(LINE, size);
     if (cache == NULL) {
         return NULL;
     }
-    memset(cache, 0, before + clients * sizeof(ferretgold_client));
+    memset(cache, 0, size);
     cache->rack = rack;
-    cache->clients = clients;
-    cache->rows = rows;
+    cache->config = *config;
     cache->client = (ferretgold_client *)(void *)&cache->row[rows];
     return cache;
 }
 
 /* Makes all clients of a cache, which are idle then. */
 static ferretgold_status make_clients(ferretgold_cache *cache) {
-    for (uint32_t number = cache->clients; number-- > 0;) {
+    for (uint32_t number = cache->config.clients; number-- > 0;) {
         ferretgold_client *client = &cache->client[number];
         const uint32_t status = ferretgold_raw_client_open(&cache->rack, &client->session);
         if (status != FERRETGOLD_OK) {
@@ -172,7 +175,7 @@ ferretgold_status ferretgold_open(const ferretgold_config *config, ferretgold_ca
     if (status != FERRETGOLD_OK) {
         return (ferretgold_status)status;
     }
-    ferretgold_cache *it = made(rack, config->clients);
+    ferretgold_cache *it = made(rack, config);
     if (it == NULL) {
         (void)ferretgold_raw_close(rack, &totals, &kept);
         return FERRETGOLD_OUT_OF_MEMORY;
@@ -182,6 +185,23 @@ ferretgold_status ferretgold_open(const ferretgold_config *config, ferretgold_ca
         *cache = it;
     }
     return (ferretgold_status)status;
+}
+
+ferretgold_status ferretgold_config_check(const ferretgold_config *config) {
+    return config != NULL ? (ferretgold_status)ferretgold_raw_config_check(config)
+                          : FERRETGOLD_NULL;
+}
+
+ferretgold_status ferretgold_config_of(const ferretgold_cache *cache, ferretgold_config *config) {
+    if (cache == NULL || config == NULL) {
+        return FERRETGOLD_NULL;
+    }
+    *config = cache->config;
+    return FERRETGOLD_OK;
+}
+
+size_t ferretgold_room(const ferretgold_cache *cache) {
+    return cache != NULL ? sizeof(uint64_t) * cache->config.room : 0;
 }
 
 ferretgold_status ferretgold_close(ferretgold_cache *cache, ferretgold_totals *totals) {
@@ -200,7 +220,7 @@ ferretgold_status ferretgold_client_open(ferretgold_cache *cache, ferretgold_cli
         return FERRETGOLD_NULL;
     }
     const uint32_t number = take(cache);
-    if (number == cache->clients) {
+    if (number == cache->config.clients) {
         return FERRETGOLD_NO_CLIENT;
     }
     *client = &cache->client[number];

@@ -12,7 +12,7 @@ use std::marker::PhantomData;
 use std::ptr::null_mut;
 
 #[repr(C)]
-#[derive(Clone, Copy, Debug)]
+#[derive(Clone, Copy, Debug, PartialEq, Eq)]
 pub struct Config {
     pub slots: u32,
     pub room: u32,
@@ -41,6 +41,11 @@ impl Config {
         serials: 1 << 54,
         seed: 0x9e37_79b9_7f4a_7c15,
     };
+
+    /// Whether a cache can be opened so, whatever memory there is.
+    pub fn check(&self) -> Result<(), Refused> {
+        judged(unsafe { ferretgold_config_check(self) })
+    }
 }
 
 #[repr(C)]
@@ -86,6 +91,9 @@ pub const NO_HANDLE: u32 = 17;
 pub const MISSING: u32 = 39;
 
 extern "C" {
+    fn ferretgold_config_check(config: *const Config) -> u32;
+    fn ferretgold_config_of(cache: *const c_void, config: *mut Config) -> u32;
+    fn ferretgold_room(cache: *const c_void) -> usize;
     fn ferretgold_open(config: *const Config, cache: *mut *mut c_void) -> u32;
     fn ferretgold_client_open(cache: *mut c_void, client: *mut *mut c_void) -> u32;
     fn ferretgold_client_close_releasing(cache: *mut c_void, client: *mut c_void) -> u32;
@@ -144,6 +152,18 @@ impl Cache {
         let mut at = null_mut();
         judged(unsafe { ferretgold_open(config, &mut at) })?;
         Ok(Cache { at })
+    }
+
+    /// What it was opened with.
+    pub fn config(&self) -> Config {
+        let mut config = Config::BEGIN;
+        let _ = unsafe { ferretgold_config_of(self.at, &mut config) };
+        config
+    }
+
+    /// The most bytes of a value.
+    pub fn room(&self) -> usize {
+        unsafe { ferretgold_room(self.at) }
     }
 
     /// A client that nobody has. It waits for nothing and allocates nothing.

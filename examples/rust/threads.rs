@@ -30,7 +30,11 @@ fn square(client: &mut Client, number: u64) -> Result<u64, Refused> {
 }
 
 fn main() -> Result<(), Refused> {
+    CONFIG.check()?;
+    let odd = Config { slots: 9, ..CONFIG };
+    assert_eq!(odd.check().err(), Cache::open(&odd).err());
     let cache = Cache::open(&CONFIG)?;
+    assert_eq!((cache.config(), cache.room()), (CONFIG, 8));
     thread::scope(|scope| {
         let workers: Vec<_> = (0..CONFIG.clients)
             .map(|_| {

@@ -53,8 +53,24 @@ static void configurations(void) {
     all[16].serials = 0, all[17].serials = FERRETGOLD_MOST_SERIALS + 1;
     for (size_t k = 0; k < 18; k++) {
         EXPECT(ferretgold_open(&all[k], &none), wanted[k]);
+        EXPECT(ferretgold_config_check(&all[k]), wanted[k]);
     }
     EXPECT(none == NULL, true);
+}
+
+/* A cache says what it was opened with. */
+static void sizes(void) {
+    ferretgold_config config = SMALL, is = {0, 0, 0, 0, 0, false, false, 0, 0, 0};
+    ferretgold_cache *cache = NULL;
+    config.strict = true, config.marks = true, config.shards = 2, config.seed = 77;
+    EXPECT(ferretgold_config_check(&config), 0);
+    EXPECT(ferretgold_open(&config, &cache), 0);
+    EXPECT(ferretgold_config_of(cache, &is), 0);
+    EXPECT(is.slots == 8 && is.room == 2 && is.clients == 2 && is.handles == 8, true);
+    EXPECT(is.shards == 2 && is.strict && is.marks && is.capacity == 600, true);
+    EXPECT(is.serials == FERRETGOLD_MOST_SERIALS && is.seed == 77, true);
+    EXPECT(ferretgold_room(cache), 16);
+    EXPECT(ferretgold_close(cache, NULL), 0);
 }
 
 /* What is allocated is what ferretgold_memory says. */
@@ -139,6 +155,11 @@ static void initialiser(void) {
 /* Null where a pointer may not be null, in the calls of a cache. */
 static void nulls_of_cache(ferretgold_cache *cache, ferretgold_client *client) {
     ferretgold_cache *other = NULL;
+    ferretgold_config config;
+    EXPECT(ferretgold_config_check(NULL), 16);
+    EXPECT(ferretgold_config_of(NULL, &config), 16);
+    EXPECT(ferretgold_config_of(cache, NULL), 16);
+    EXPECT(ferretgold_room(NULL), 0);
     EXPECT(ferretgold_open(NULL, &other), 16);
     EXPECT(ferretgold_open(&SMALL, NULL), 16);
     EXPECT(ferretgold_client_open(NULL, &client), 16);
@@ -402,6 +423,7 @@ void edges(void) {
     where = "edges";
     texts();
     configurations();
+    sizes();
     memory();
     no_memory();
     budgets();

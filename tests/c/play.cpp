@@ -378,6 +378,9 @@ void moved_caches() {
     cache first(small());
     cache it(std::move(first));
     EXPECT(first.get() == nullptr && it.get() != nullptr);
+    EXPECT(first.room() == 0 && it.room() == 8 * small().room);
+    EXPECT(it.config().clients == 2 && it.config().handles == 3);
+    EXPECT(refuses([&] { (void)first.config(); }, 16));
     client one = it.open_client();
     client two(std::move(one));
     EXPECT(one.get() == nullptr && two.get() != nullptr);
@@ -399,8 +402,10 @@ void moved_caches() {
     EXPECT(it.get() == nullptr);
     EXPECT(refuses([&] { (void)it.close(); }, 16));
     ferretgold_config bad = small();
+    ferretgold::check(bad);
     bad.slots = 9;
     EXPECT(refuses([&] { cache none(bad); }, 29));
+    EXPECT(refuses([&] { ferretgold::check(bad); }, 29));
 }
 
 // Handles that go after their client, and clients after their cache: nothing is lost.

@@ -6,6 +6,7 @@ use Rattle.hcc_shard.specs.declared.getting.Got.{Got}
 use Rattle.hcc_shard.specs.declared.getting.Got.TheVariants.{Hit, Miss, Short}
 use Rattle.hcc_cache.specs.declared.errors.InsertError.{InsertError}
 use Rattle.hcc_cache.specs.declared.errors.LookupError.{LookupError}
+use Rattle.hcc_cache.specs.declared.errors.NewError.{NewError}
 use Rattle.hcc_cache.specs.declared.inserting.Inserted.{Inserted}
 use Rattle.hcc_c.specs.declared.inserting.Unfit.{Unfit}
 use Rattle.hcc_c.specs.declared.refusal.Refusal.{Refusal}
@@ -14,7 +15,7 @@ use Rattle.hcc_c.specs.declared.shapes.Key.{Key}
 use Rattle.hcc_c.specs.declared.session.Session.{Session}
 use Rattle.hcc_c.specs.declared.shapes.Number.{Number}
 use Rattle.hcc_c.specs.declared.shapes.Totals.{Totals}
-use Rattle.hcc_c.specs.Refusals.{code_of, inserted_code, inserting_of, looking_of, unfit_of}
+use Rattle.hcc_c.specs.Refusals.{code_of, inserted_code, inserting_of, looking_of, opening_of, unfit_of}
 use Rattle.hcc_c.specs.Shapes.{words_of}
 
 -- a value, or none
@@ -30,6 +31,11 @@ module _ {A : Type 0} where
 abbrev pub key_or : Option CacheKey → Key → Key
 key_or None old = old
 key_or (Some key) old = words_of key
+
+-- a configuration that is judged
+abbrev pub status_of_checked : Result (Unit {0}) NewError → ℕ
+status_of_checked (Ok allowed) = 0
+status_of_checked (Err why) = code_of (opening_of why)
 
 -- a look-up
 abbrev pub status_of_look : Result (Option Number) LookupError → ℕ

@@ -1,17 +1,30 @@
 //! The calls of a cache, as C has them. Each says by its status and its outputs what the call of
 //! the cache behind the pointer answered, and comes to what that call comes to.
 ghost use Rattle.std.specs.Prelude.{◌≡◌, None, Some, OnErr, OnOk};
-ghost use Rattle.hcc_c.specs.Answers.{kept_of, placed, status_of_back, status_of_given, totals_or};
+ghost use Rattle.hcc_cache.specs.Configs.{checked};
+ghost use Rattle.hcc_c.specs.Answers.{kept_of, placed, status_of_back, status_of_checked, status_of_given, totals_or};
 ghost use Rattle.hcc_c.specs.Lending.{IsCacheThere};
 ghost use Rattle.hcc_c.specs.Pools.{EndsAs, IsHome, IsWholeRack, OpensAs, TakesIn, TakesOut};
 ghost use Rattle.hcc_c.specs.Sessions.{IsWhole};
 ghost use Rattle.hcc_c.specs.Shapes.{config_of};
 
-use crate::answers::{told_back, told_cache, told_client, told_totals};
+use crate::answers::{DONE, told_back, told_cache, told_client, told_totals};
 use crate::objects::{CacheObject, CachePlace, ClientObject, ClientPlace, Loose};
 use crate::pool::Rack;
+use crate::refusal::Refusal;
 use crate::shapes::{Setup, Totals};
 use std::alloc::Global;
+
+/// What `ferretgold_raw_open` refuses of these sizes, whatever memory there is.
+#[unsafe(no_mangle)]
+pub extern "C" fn ferretgold_raw_config_check(setup: &Setup) -> u32
+    ensures { result ≡ status_of_checked (checked (config_of setup.now)) }
+{
+    match setup.config().check() {
+        Ok(()) => DONE,
+        Err(why) => Refusal::opening(why).code(),
+    }
+}
 
 #[unsafe(no_mangle)]
 pub extern "C" fn ferretgold_raw_open(
