@@ -55,9 +55,26 @@
  *   L stands for the slots of a shard, W for the payload words of a slot, S for the shards. Bounds
  *   are the most atomic steps on the cache's words. Calls neither allocate nor free, except where
  *   it is said; what malloc and free cost there, which may wait for other threads, comes on top.
+ *
+ * VERSIONS
+ *   Of a version MAJOR.MINOR.PATCH, with one MAJOR and, while that is 0, one MINOR:
+ *   - A program that compiled goes on compiling. Functions and statuses may be added, so a switch
+ *     over statuses has a default; fields are added at the end of ferretgold_config, where 0 stands
+ *     for what was before.
+ *   - A program that was linked with libferretgold.so goes on working with a later one: its soname
+ *     has these numbers. Functions keep their parameters, structs their layout, enumerators their
+ *     numbers, and the library takes each size that ferretgold_config had.
+ *   A PATCH changes neither. libferretgold.so exports the functions of this header, and of
+ *   ferretgold_raw.h those that this header names.
  */
 #ifndef FERRETGOLD_H
 #define FERRETGOLD_H
+
+/* The version of this header; ferretgold_version returns that of the library. */
+#define FERRETGOLD_VERSION_MAJOR 0
+#define FERRETGOLD_VERSION_MINOR 1
+#define FERRETGOLD_VERSION_PATCH 0
+#define FERRETGOLD_VERSION "0.1.0"
 
 #include <stdbool.h>
 #include <stddef.h>
@@ -125,7 +142,9 @@ typedef enum ferretgold_status {
     /* The client holds handles. */
     FERRETGOLD_HANDLES_OUT = 38,
     /* Clients of the cache are out. */
-    FERRETGOLD_MISSING = 39
+    FERRETGOLD_MISSING = 39,
+    /* The configuration has a size that this library doesn't know. */
+    FERRETGOLD_BAD_SIZE = 40
 } ferretgold_status;
 
 /* How many visits of the clock a new entry that nobody looks up survives: 3, 2 or 1. */
@@ -158,6 +177,8 @@ typedef struct ferretgold_config {
     bool strict;       /* whether each shard's charges stay within its part of the capacity, and
                           insertions may be refused */
     bool marks;        /* whether look-ups mark entries, for evicted_hit of the statistics */
+    uint16_t size;     /* of this struct in bytes, as FERRETGOLD_CONFIG has it: a library that knows
+                          fewer fields refuses it; 0 stands for 48 */
     uint64_t capacity; /* in charges, at most 2^40; each shard has an equal part, rounded up */
     uint64_t serials;  /* of each client: 1 to 2^54; an insertion uses one, and so does a handle
                           that ferretgold_lookup or ferretgold_reref gives */
@@ -168,8 +189,8 @@ typedef struct ferretgold_config {
 /* A configuration to begin with: 4,096 slots with room for 4,096 bytes each (17 MB), not strict,
  * 16 clients. Its seed is known to whoever reads this: draw one if others choose the keys. */
 #define FERRETGOLD_CONFIG \
-    {1024, 512, 16, 16, 4, false, false, 11743232, FERRETGOLD_MOST_SERIALS, \
-     UINT64_C(0x9e3779b97f4a7c15)}
+    {1024, 512, 16, 16, 4, false, false, sizeof(ferretgold_config), 11743232, \
+     FERRETGOLD_MOST_SERIALS, UINT64_C(0x9e3779b97f4a7c15)}
 
 /* A key of 16 bytes. */
 typedef struct ferretgold_key {
@@ -245,8 +266,8 @@ ferretgold_status ferretgold_config_check(const ferretgold_config *config);
  *
  * Allocates the table and all clients (ferretgold_memory). Costs a store for each word.
  *
- * Refuses BAD_SLOTS, BAD_ROOM, BAD_CLIENTS, BAD_HANDLES, BAD_SHARDS, BAD_CAPACITY, BAD_SERIALS,
- * then OUT_OF_MEMORY. Nothing remains then.
+ * Refuses BAD_SIZE, BAD_SLOTS, BAD_ROOM, BAD_CLIENTS, BAD_HANDLES, BAD_SHARDS, BAD_CAPACITY,
+ * BAD_SERIALS, then OUT_OF_MEMORY. Nothing remains then.
  */
 ferretgold_status ferretgold_open(const ferretgold_config *config, ferretgold_cache **cache);
 
@@ -495,6 +516,9 @@ ferretgold_status ferretgold_statistics(ferretgold_client *client, ferretgold_st
 
 /* A status as a sentence; "unknown" if it is none. */
 const char *ferretgold_status_text(ferretgold_status status);
+
+/* The version of the library, as FERRETGOLD_VERSION has it. */
+const char *ferretgold_version(void);
 
 #ifdef __cplusplus
 }

@@ -164,10 +164,18 @@ static ferretgold_status make_clients(ferretgold_cache *cache) {
     return FERRETGOLD_OK;
 }
 
+/* Whether the library knows this size of a configuration. */
+static bool knows_size(const ferretgold_config *config) {
+    return config->size == 0 || config->size == sizeof *config;
+}
+
 ferretgold_status ferretgold_open(const ferretgold_config *config, ferretgold_cache **cache) {
     static atomic_uint opened = 0;
     if (config == NULL || cache == NULL) {
         return FERRETGOLD_NULL;
+    }
+    if (!knows_size(config)) {
+        return FERRETGOLD_BAD_SIZE;
     }
     ferretgold_object rack = {NULL}, kept = {NULL};
     ferretgold_totals totals = {0, 0, 0, 0};
@@ -188,8 +196,11 @@ ferretgold_status ferretgold_open(const ferretgold_config *config, ferretgold_ca
 }
 
 ferretgold_status ferretgold_config_check(const ferretgold_config *config) {
-    return config != NULL ? (ferretgold_status)ferretgold_raw_config_check(config)
-                          : FERRETGOLD_NULL;
+    if (config == NULL) {
+        return FERRETGOLD_NULL;
+    }
+    return knows_size(config) ? (ferretgold_status)ferretgold_raw_config_check(config)
+                              : FERRETGOLD_BAD_SIZE;
 }
 
 ferretgold_status ferretgold_config_of(const ferretgold_cache *cache, ferretgold_config *config) {
@@ -415,6 +426,11 @@ const char *ferretgold_status_text(ferretgold_status status) {
     case FERRETGOLD_OTHER_CACHE: return "the client is one of another cache";
     case FERRETGOLD_HANDLES_OUT: return "the client holds handles";
     case FERRETGOLD_MISSING: return "clients of the cache are out";
+    case FERRETGOLD_BAD_SIZE: return "the library doesn't know this size of configuration";
     }
     return "unknown";
+}
+
+const char *ferretgold_version(void) {
+    return FERRETGOLD_VERSION;
 }

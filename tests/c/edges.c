@@ -29,10 +29,12 @@ static void texts(void) {
         {34, "capacity must be at most 2^40"}, {35, "serials must be 1 to 2^54"},
         {36, "all clients of the cache are out, or this one was given back"},
         {37, "the client is one of another cache"},
-        {38, "the client holds handles"}, {39, "clients of the cache are out"}, {2, "unknown"}};
+        {38, "the client holds handles"}, {39, "clients of the cache are out"},
+        {40, "the library doesn't know this size of configuration"}, {2, "unknown"}};
     for (size_t k = 0; k < sizeof all / sizeof *all; k++) {
         EXPECT(strcmp(ferretgold_status_text((ferretgold_status)all[k].status), all[k].text), 0);
     }
+    EXPECT(strcmp(ferretgold_version(), FERRETGOLD_VERSION), 0);
 }
 
 /* Each field of a configuration, one below and one above what it may be. */
@@ -59,8 +61,8 @@ static void configurations(void) {
 }
 
 /* A cache says what it was opened with. */
-static void sizes(void) {
-    ferretgold_config config = SMALL, is = {0, 0, 0, 0, 0, false, false, 0, 0, 0};
+static void opened(void) {
+    ferretgold_config config = SMALL, is = {0, 0, 0, 0, 0, false, false, 0, 0, 0, 0};
     ferretgold_cache *cache = NULL;
     config.strict = true, config.marks = true, config.shards = 2, config.seed = 77;
     EXPECT(ferretgold_config_check(&config), 0);
@@ -71,6 +73,26 @@ static void sizes(void) {
     EXPECT(is.serials == FERRETGOLD_MOST_SERIALS && is.seed == 77, true);
     EXPECT(ferretgold_room(cache), 16);
     EXPECT(ferretgold_close(cache, NULL), 0);
+}
+
+/* A configuration says its size, or none; another one comes before all that it has. */
+static void sizes(void) {
+    static const struct { uint16_t size; int wanted; } all[] = {
+        {0, 0}, {sizeof(ferretgold_config), 0}, {1, 40}, {47, 40}, {49, 40}, {UINT16_MAX, 40}};
+    for (size_t k = 0; k < sizeof all / sizeof *all; k++) {
+        ferretgold_config it = SMALL;
+        ferretgold_cache *cache = NULL;
+        it.size = all[k].size;
+        EXPECT(ferretgold_config_check(&it), all[k].wanted);
+        EXPECT(ferretgold_open(&it, &cache), all[k].wanted);
+        EXPECT(cache == NULL, all[k].wanted != 0);
+        if (cache != NULL) {
+            EXPECT(ferretgold_close(cache, NULL), 0);
+        } else {
+            it.slots = 0;
+            EXPECT(ferretgold_open(&it, &cache), 40);
+        }
+    }
 }
 
 /* What is allocated is what ferretgold_memory says. */
@@ -423,6 +445,7 @@ void edges(void) {
     where = "edges";
     texts();
     configurations();
+    opened();
     sizes();
     memory();
     no_memory();
