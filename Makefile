@@ -41,6 +41,8 @@ install: all
 	$(FILL) src/package/ferretgold.pc > $(DESTDIR)$(LIBDIR)/pkgconfig/ferretgold.pc
 	for file in ferretgoldConfig ferretgoldConfigVersion; do \
 	    $(FILL) src/package/$$file.cmake > $(DESTDIR)$(PACKAGE)/$$file.cmake || exit; \
+	install -d $(DESTDIR)$(DATADIR)/rust
+	cp -R rust/Cargo.toml rust/build.rs rust/src rust/examples rust/tests $(DESTDIR)$(DATADIR)/rust
 	done
 
 dist:

@@ -1,0 +1,27 @@
+//! Finds libferretgold.a: in the folder that FERRETGOLD_LIBRARIES names, else beside the crate where
+//! `make install` puts it, else where the repository builds it.
+
+use std::env;
+use std::path::{Path, PathBuf};
+
+fn found() -> Option<PathBuf> {
+    if let Some(folder) = env::var_os("FERRETGOLD_LIBRARIES") {
+        return Some(folder.into());
+    }
+    let here = PathBuf::from(env::var_os("CARGO_MANIFEST_DIR")?);
+    ["../../../lib", "../src/out"]
+        .iter()
+        .map(|folder| here.join(folder))
+        .find(|folder| is_there(folder))
+}
+
+fn is_there(folder: &Path) -> bool {
+    folder.join("libferretgold.a").exists()
+}
+
+fn main() {
+    println!("cargo:rerun-if-env-changed=FERRETGOLD_LIBRARIES");
+    let folder = found().expect("no libferretgold.a: FERRETGOLD_LIBRARIES names its folder");
+    println!("cargo:rustc-link-search=native={}", folder.display());
+    println!("cargo:rustc-link-lib=static=ferretgold");
+}

@@ -1,0 +1,102 @@
+//! How large a cache is, and how it behaves.
+
+use crate::refused::judged;
+use crate::{raw, Refused};
+
+/// The most serials of a client.
+pub const MOST_SERIALS: u64 = 1 << 54;
+
+/// How large a cache is, and how it behaves, as `ferretgold_config` of ferretgold.h.
+///
+/// ```
+/// use ferretgold::{Cache, Config, Refused};
+///
+/// let config = Config { slots: 64, clients: 2, ..Config::default() };
+/// assert!(config.memory() < Config::default().memory());
+/// let bad = Config { slots: 65, ..config };
+/// assert_eq!(Cache::open(&bad).unwrap_err(), Refused::BAD_SLOTS);
+/// ```
+#[derive(Clone, Copy, Debug, PartialEq, Eq)]
+pub struct Config {
+    /// Slots of each shard: a power of two, 8 to 65,536.
+    pub slots: u32,
+    /// Payload words of 8 bytes in each slot: 1 to 512.
+    pub room: u32,
+    /// Clients: 1 to 1,024.
+    pub clients: u32,
+    /// Handles that a client may hold at once: 1 to 16,384.
+    pub handles: u32,
+    /// Shards: a power of two, 1 to 64.
+    pub shards: u32,
+    /// Whether each shard's charges stay within its part of the capacity.
+    pub strict: bool,
+    /// Whether look-ups mark entries, for `evicted_hit` of the statistics.
+    pub marks: bool,
+    /// In charges, at most 2^40.
+    pub capacity: u64,
+    /// Serials of each client: 1 to 2^54.
+    pub serials: u64,
+    /// Of the keys; 0 only if keys are spread already.
+    pub seed: u64,
+}
+
+/// A configuration to begin with, as `FERRETGOLD_CONFIG` of ferretgold.h. Its seed is known to whoever
+/// reads this: draw one if others choose the keys.
+impl Default for Config {
+    fn default() -> Config {
+        Config {
+            slots: 1024,
+            room: 512,
+            clients: 16,
+            handles: 16,
+            shards: 4,
+            strict: false,
+            marks: false,
+            capacity: 11_743_232,
+            serials: MOST_SERIALS,
+            seed: 0x9e37_79b9_7f4a_7c15,
+        }
+    }
+}
+
+impl Config {
+    /// One of at most so many bytes of memory, for values of at most `value` bytes and as many threads
+    /// at work.
+    pub fn sized(bytes: u64, value: usize, threads: u32) -> Result<Config, Refused> {
+        let mut it = raw::Config::default();
+        judged(unsafe { raw::ferretgold_config_for(bytes, value, threads, &mut it) })?;
+        Ok(Config {
+            slots: it.slots,
+            room: it.room,
+            clients: it.clients,
+            handles: it.handles,
+            shards: it.shards,
+            strict: it.strict,
+            marks: it.marks,
+            capacity: it.capacity,
+            serials: it.serials,
+            seed: it.seed,
+        })
+    }
+
+    /// How many bytes a cache of this configuration allocates.
+    pub fn memory(&self) -> u64 {
+        unsafe { raw::ferretgold_memory(&self.raw()) }
+    }
+
+    pub(crate) fn raw(&self) -> raw::Config {
+        raw::Config {
+            slots: self.slots,
+            room: self.room,
+            clients: self.clients,
+            handles: self.handles,
+            shards: self.shards,
+            strict: self.strict,
+            marks: self.marks,
+            size: std::mem::size_of::<raw::Config>() as u16,
+            capacity: self.capacity,
+            serials: self.serials,
+            seed: self.seed,
+        }
+    }
+}

@@ -1,0 +1,200 @@
+//! A block cache of fixed slots for many threads, without locks: `libferretgold` for Rust. What each
+//! call does, costs and refuses, `ferretgold.h` says. The build links `libferretgold.a` of the folder
+//! that `FERRETGOLD_LIBRARIES` names, else of the place where the crate was installed or checked out.
+//!
+//! A [`Cache`] is shared by reference, and any thread may take a [`Client`] of it. A client is used by
+//! one thread at a time: it is `Send` and not `Sync`. A [`Handle`] borrows its client and gives itself
+//! back when it goes; a client, too, with the handles that were forgotten. So types rule out what
+//! the library can't check.
+//!
+//! ```
+//! use ferretgold::{Cache, Config, Got, Inserted, Key, Priority};
+//!
+//! # fn main() -> Result<(), ferretgold::Refused> {
+//! let cache = Cache::open(&Config::sized(1 << 20, 4096, 2)?)?;
+//! let client = cache.client()?;
+//! let (key, mut block) = (Key { w0: 7, w1: 1 }, [0; 4096]);
+//! assert_eq!(client.get(key, &mut block, true), Got::Miss);
+//! assert_eq!(client.insert(key, b"a block", 7, Priority::Low)?, Inserted::Placed);
+//! assert_eq!(client.get(key, &mut block, true), Got::Value(7));
+//! assert_eq!(&block[..7], b"a block");
+//! # Ok(())
+//! # }
+//! ```
+//!
+//! A handle keeps its entry, whatever other threads do, also if it is erased:
+//!
+//! ```
+//! # use ferretgold::{Cache, Config, Key, Priority};
+//! # fn main() -> Result<(), ferretgold::Refused> {
+//! # let cache = Cache::open(&Config::sized(1 << 20, 4096, 2)?)?;
+//! # let (mine, yours) = (cache.client()?, cache.client()?);
+//! # let (key, mut block) = (Key { w0: 7, w1: 1 }, [0; 4096]);
+//! let (_, handle) = mine.insert_pinned(key, b"kept", 4, Priority::Low)?;
+//! assert_eq!(yours.erase(key), 1);
+//! assert_eq!(handle.read(&mut block)?, 4);
+//! assert!(yours.lookup(key)?.is_none());
+//! assert!(handle.release(true, false)); // freed: it was the last one
+//! # Ok(())
+//! # }
+//! ```
+//!
+//! No handle outlives its client, and no client is used by two threads at once:
+//!
+//! ```compile_fail,E0505
+//! # use ferretgold::{Cache, Config, Key};
+//! # let cache = Cache::open(&Config::default()).unwrap();
+//! # let client = cache.client().unwrap();
+//! let handle = client.lookup(Key { w0: 7, w1: 1 }).unwrap();
+//! drop(client);
+//! drop(handle);
+//! ```
+//!
+//! ```compile_fail,E0277
+//! # use ferretgold::{Cache, Config, Key};
+//! # let cache = Cache::open(&Config::default()).unwrap();
+//! # let client = cache.client().unwrap();
+//! std::thread::scope(|scope| scope.spawn(|| client.held()));
+//! ```
+
+#![warn(missing_docs)]
+
+mod client;
+mod config;
+mod handle;
+#[allow(missing_docs)]
+mod raw;
+mod refused;
+
+use std::ffi::CStr;
+use std::ptr::{null_mut, NonNull};
+
+pub use client::{Client, Got};
+pub use config::{Config, MOST_SERIALS};
+pub use handle::Handle;
+use refused::judged;
+pub use refused::Refused;
+
+/// A key of 16 bytes.
+#[repr(C)]
+#[derive(Clone, Copy, Debug, Default, PartialEq, Eq, Hash)]
+pub struct Key {
+    /// Its first eight bytes.
+    pub w0: u64,
+    /// The others.
+    pub w1: u64,
+}
+
+/// How many visits of the clock a new entry that nobody looks up survives: 3, 2 or 1.
+#[repr(u32)]
+#[derive(Clone, Copy, Debug, Default, PartialEq, Eq, Hash)]
+pub enum Priority {
+    /// Three.
+    High = 0,
+    /// Two.
+    #[default]
+    Low = 1,
+    /// One.
+    Bottom = 2,
+}
+
+/// What came of an insertion.
+#[derive(Clone, Copy, Debug, PartialEq, Eq, Hash)]
+pub enum Inserted {
+    /// The entry is in the table.
+    Placed,
+    /// As if the entry had been placed and evicted at once. Of [`Client::insert`] only.
+    Dropped,
+    /// The entry is in no table, and goes with its last handle. Of [`Client::insert_pinned`] only.
+    Standalone,
+}
+
+/// What the calls of a client did on all shards. Counts saturate.
+#[repr(C)]
+#[derive(Clone, Copy, Debug, Default, PartialEq, Eq)]
+pub struct Stats {
+    /// Slots that were visited for a key.
+    pub probes: u64,
+    /// Insertions that met their key.
+    pub boosts: u64,
+    /// Entries that evictions freed.
+    pub evicted: u64,
+    /// Those of them that were marked.
+    pub evicted_hit: u64,
+    /// The charges of those that evictions freed.
+    pub freed: u64,
+    /// Turns of the clock's hand.
+    pub turns: u64,
+    /// Corrections of words whose uses were near their end.
+    pub corrections: u64,
+    /// Compare-exchanges that lost to another thread's step.
+    pub lost: u64,
+}
+
+/// What was left of a cache that was closed, by the books and slot by slot. They are equal.
+#[repr(C)]
+#[derive(Clone, Copy, Debug, Default, PartialEq, Eq)]
+pub struct Totals {
+    /// The charges of its entries.
+    pub usage: u64,
+    /// How many entries.
+    pub occupied: u64,
+    /// Their charges, slot by slot.
+    pub slot_charges: u64,
+    /// Their number, slot by slot.
+    pub slot_count: u64,
+}
+
+/// The version of the library that is linked.
+pub fn version() -> &'static str {
+    let text = unsafe { CStr::from_ptr(raw::ferretgold_version()) };
+    text.to_str().unwrap_or("unknown")
+}
+
+/// A cache. All threads may take clients of it.
+#[derive(Debug)]
+pub struct Cache {
+    at: NonNull<raw::Cache>,
+}
+
+// Taking a client and giving one back are for all threads at once, and the rest needs it whole.
+unsafe impl Send for Cache {}
+unsafe impl Sync for Cache {}
+
+impl Cache {
+    /// Opens a cache with no entries, and with all its clients.
+    pub fn open(config: &Config) -> Result<Cache, Refused> {
+        let mut at = null_mut();
+        judged(unsafe { raw::ferretgold_open(&config.raw(), &mut at) })?;
+        NonNull::new(at).map(|at| Cache { at }).ok_or(Refused::NULL)
+    }
+
+    /// A client that is idle. It waits for nothing and allocates nothing.
+    pub fn client(&self) -> Result<Client<'_>, Refused> {
+        let mut at = null_mut();
+        judged(unsafe { raw::ferretgold_client_open(self.at.as_ptr(), &mut at) })?;
+        NonNull::new(at)
+            .map(|at| Client::of(self, at))
+            .ok_or(Refused::NULL)
+    }
+
+    /// Ends the cache. A client that was forgotten makes it [`Refused::MISSING`]; the cache is given
+    /// back then.
+    pub fn close(self) -> Result<Totals, (Refused, Cache)> {
+        let mut totals = Totals::default();
+        match judged(unsafe { raw::ferretgold_close(self.at.as_ptr(), &mut totals) }) {
+            Ok(()) => {
+                std::mem::forget(self);
+                Ok(totals)
+            }
+            Err(why) => Err((why, self)),
+        }
+    }
+}
+
+/// Ends the cache, unless a client of it was forgotten.
+impl Drop for Cache {
+    fn drop(&mut self) {
+        let _ = unsafe { raw::ferretgold_close(self.at.as_ptr(), null_mut()) };
+    }
+}

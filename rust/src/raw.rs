@@ -1,0 +1,116 @@
+//! The functions of ferretgold.h, as C has them. tests/wrappers compares the two.
+
+use std::ffi::c_void;
+use std::os::raw::c_char;
+
+/// A configuration, as it crosses to C.
+#[repr(C)]
+#[derive(Clone, Copy, Default)]
+pub struct Config {
+    pub slots: u32,
+    pub room: u32,
+    pub clients: u32,
+    pub handles: u32,
+    pub shards: u32,
+    pub strict: bool,
+    pub marks: bool,
+    pub size: u16,
+    pub capacity: u64,
+    pub serials: u64,
+    pub seed: u64,
+}
+
+#[repr(C)]
+#[derive(Clone, Copy, Debug, Default)]
+pub struct Handle {
+    pub index: usize,
+    pub serial: u64,
+    pub client: u32,
+    pub cache: u32,
+}
+
+pub use crate::{Key, Stats, Totals};
+
+/// A cache, and a client of one.
+#[derive(Debug)]
+pub enum Cache {}
+#[derive(Debug)]
+pub enum Client {}
+
+extern "C" {
+    pub fn ferretgold_memory(config: *const Config) -> u64;
+    pub fn ferretgold_config_for(
+        bytes: u64,
+        value: usize,
+        threads: u32,
+        config: *mut Config,
+    ) -> u32;
+    pub fn ferretgold_open(config: *const Config, cache: *mut *mut Cache) -> u32;
+    pub fn ferretgold_client_open(cache: *mut Cache, client: *mut *mut Client) -> u32;
+    pub fn ferretgold_client_close(cache: *mut Cache, client: *mut Client) -> u32;
+    pub fn ferretgold_client_close_releasing(cache: *mut Cache, client: *mut Client) -> u32;
+    pub fn ferretgold_close(cache: *mut Cache, totals: *mut Totals) -> u32;
+    pub fn ferretgold_lookup(client: *mut Client, key: *const Key, handle: *mut Handle) -> u32;
+    pub fn ferretgold_reref(client: *mut Client, handle: Handle, more: *mut Handle) -> u32;
+    pub fn ferretgold_release(
+        client: *mut Client,
+        handle: Handle,
+        useful: bool,
+        erase_if_last: bool,
+        freed: *mut bool,
+    ) -> u32;
+    pub fn ferretgold_insert(
+        client: *mut Client,
+        key: *const Key,
+        value: *const c_void,
+        length: usize,
+        charge: u32,
+        priority: u32,
+        inserted: *mut u32,
+    ) -> u32;
+    pub fn ferretgold_insert_pinned(
+        client: *mut Client,
+        key: *const Key,
+        value: *const c_void,
+        length: usize,
+        charge: u32,
+        priority: u32,
+        inserted: *mut u32,
+        handle: *mut Handle,
+    ) -> u32;
+    pub fn ferretgold_erase(client: *mut Client, key: *const Key, hidden: *mut u32) -> u32;
+    pub fn ferretgold_handle_key(client: *mut Client, handle: Handle, key: *mut Key) -> u32;
+    pub fn ferretgold_value_len(client: *mut Client, handle: Handle, length: *mut usize) -> u32;
+    pub fn ferretgold_read_value(
+        client: *mut Client,
+        handle: Handle,
+        buffer: *mut c_void,
+        capacity: usize,
+        length: *mut usize,
+    ) -> u32;
+    pub fn ferretgold_get(
+        client: *mut Client,
+        key: *const Key,
+        buffer: *mut c_void,
+        capacity: usize,
+        useful: bool,
+        length: *mut usize,
+    ) -> u32;
+    pub fn ferretgold_usage(client: *mut Client, usage: *mut u64) -> u32;
+    pub fn ferretgold_pinned_usage(client: *mut Client, usage: *mut u64) -> u32;
+    pub fn ferretgold_occupancy(client: *mut Client, occupancy: *mut u64) -> u32;
+    pub fn ferretgold_word(client: *mut Client, shard: u32, slot: u32, word: *mut u64) -> u32;
+    pub fn ferretgold_displacement(
+        client: *mut Client,
+        shard: u32,
+        slot: u32,
+        displacement: *mut u64,
+    ) -> u32;
+    pub fn ferretgold_client_number(client: *mut Client) -> u32;
+    pub fn ferretgold_held(client: *mut Client) -> u32;
+    pub fn ferretgold_serials_left(client: *mut Client) -> u64;
+    pub fn ferretgold_holds(client: *mut Client, handle: Handle) -> bool;
+    pub fn ferretgold_statistics(client: *mut Client, stats: *mut Stats) -> u32;
+    pub fn ferretgold_status_text(status: u32) -> *const c_char;
+    pub fn ferretgold_version() -> *const c_char;
+}

@@ -1,0 +1,179 @@
+//! Each call, and what types can't rule out.
+
+use ferretgold::{Cache, Client, Config, Got, Inserted, Key, Priority, Refused, Stats};
+use std::mem::forget;
+
+const KEY: Key = Key { w0: 1, w1: 2 };
+const OTHER: Key = Key { w0: 3, w1: 4 };
+
+fn small() -> Config {
+    Config {
+        slots: 8,
+        room: 2,
+        clients: 2,
+        handles: 3,
+        shards: 1,
+        capacity: 600,
+        ..Config::default()
+    }
+}
+
+fn inserts(client: &Client, key: Key, value: &[u8]) -> Result<Inserted, Refused> {
+    client.insert(key, value, 7, Priority::default())
+}
+
+#[test]
+fn a_value_is_read_by_its_key() {
+    let cache = Cache::open(&small()).unwrap();
+    let client = cache.client().unwrap();
+    let mut block = [9; 6];
+    assert_eq!(client.get(KEY, &mut block, true), Got::Miss);
+    assert_eq!(inserts(&client, KEY, b"hello"), Ok(Inserted::Placed));
+    assert_eq!(inserts(&client, KEY, b"other"), Ok(Inserted::Dropped));
+    assert_eq!(client.get(KEY, &mut block[..4], true), Got::TooShort(5));
+    assert_eq!(block, [9; 6]);
+    assert_eq!(client.get(KEY, &mut block, false), Got::Value(5));
+    assert_eq!(&block, b"hello\x09");
+    assert_eq!(client.erase(KEY), 1);
+    assert_eq!(client.erase(KEY), 0);
+    assert_eq!(client.get(KEY, &mut [], true), Got::Miss);
+    assert_eq!(inserts(&client, KEY, b""), Ok(Inserted::Placed));
+    assert_eq!(client.get(KEY, &mut [], true), Got::Value(0));
+}
+
+#[test]
+fn a_handle_keeps_its_entry() {
+    let cache = Cache::open(&small()).unwrap();
+    let (mine, yours) = (cache.client().unwrap(), cache.client().unwrap());
+    assert!(mine.lookup(KEY).unwrap().is_none());
+    let (came, first) = mine.insert_pinned(KEY, b"ab", 3, Priority::High).unwrap();
+    assert_eq!(came, Inserted::Placed);
+    let (came, beside) = mine.insert_pinned(KEY, b"", 5, Priority::Bottom).unwrap();
+    assert_eq!((came, beside.is_empty()), (Inserted::Standalone, true));
+    assert_eq!(
+        (mine.usage(), mine.pinned_usage(), mine.occupancy()),
+        (8, 8, 1)
+    );
+    assert!(beside.release(true, false));
+    let again = yours.lookup(KEY).unwrap().unwrap();
+    assert_eq!(
+        (again.key(), again.len(), again.to_vec()),
+        (KEY, 2, b"ab".to_vec())
+    );
+    assert!(yours.holds(&again) && !mine.holds(&again) && mine.holds(&first));
+    assert_eq!(again.read(&mut [0]), Err(Refused::TOO_SHORT));
+    assert!(!first.release(false, true));
+    let more = again.again().unwrap();
+    assert_eq!((mine.held(), yours.held()), (0, 2));
+    assert!(!again.release(false, true));
+    assert!(more.release(false, true));
+    assert_eq!((yours.held(), yours.usage()), (0, 0));
+}
+
+#[test]
+fn refusals_have_a_status_and_a_text() {
+    let cache = Cache::open(&small()).unwrap();
+    let client = cache.client().unwrap();
+    let charge = |it| client.insert(KEY, b"", it, Priority::Low);
+    assert_eq!(charge(0), Err(Refused::NO_CHARGE));
+    assert_eq!(inserts(&client, KEY, &[0; 17]), Err(Refused::TOO_LONG));
+    assert_eq!(charge(1), Ok(Inserted::Placed));
+    let held: Vec<_> = (0..3).map(|_| client.lookup(KEY).unwrap()).collect();
+    let why = client.lookup(KEY).unwrap_err();
+    assert_eq!(why, Refused::HANDLES_FULL);
+    assert_eq!(
+        why.to_string(),
+        "the client holds as many handles as it may"
+    );
+    assert_eq!(held[0].as_ref().unwrap().again().unwrap_err(), why);
+    let why = client
+        .insert_pinned(OTHER, b"", 0, Priority::Low)
+        .unwrap_err();
+    assert_eq!(format!("{why:?}"), "Refused(18: the charge is 0)");
+    assert_eq!(Refused(2).to_string(), "unknown");
+    assert_eq!(client.word(0, 8), Err(Refused::OUT_OF_RANGE));
+    assert_eq!(client.displacement(1, 0), Err(Refused::OUT_OF_RANGE));
+    assert!(client.word(0, 7).is_ok() && client.displacement(0, 7).is_ok());
+    let bad = Config { room: 0, ..small() };
+    assert_eq!(Cache::open(&bad).unwrap_err(), Refused::BAD_ROOM);
+    assert_eq!(Config::sized(1 << 20, 4097, 1), Err(Refused::BAD_ROOM));
+}
+
+#[test]
+fn a_client_tells_of_itself() {
+    let cache = Cache::open(&Config {
+        serials: 4,
+        ..small()
+    })
+    .unwrap();
+    let clients = [cache.client().unwrap(), cache.client().unwrap()];
+    assert_eq!(cache.client().unwrap_err(), Refused::NO_CLIENT);
+    assert_eq!(clients[0].number() + clients[1].number(), 1);
+    assert_eq!(clients[0].stats(), Stats::default());
+    assert_eq!(inserts(&clients[0], KEY, b""), Ok(Inserted::Placed));
+    assert!(clients[0].lookup(KEY).unwrap().is_some());
+    assert_eq!(clients[0].serials_left(), 2);
+    assert!(clients[0].stats().probes > 0);
+    assert_eq!(clients[1].serials_left(), 4);
+}
+
+#[test]
+fn nothing_is_lost_that_is_forgotten() {
+    let cache = Cache::open(&small()).unwrap();
+    let client = cache.client().unwrap();
+    forget(client.insert_pinned(KEY, b"", 7, Priority::Low));
+    let (why, client) = client.close().unwrap_err();
+    assert_eq!((why, client.held()), (Refused::HANDLES_OUT, 1));
+    drop(client);
+    cache.client().unwrap().close().unwrap();
+    let mut client = cache.client().unwrap();
+    assert_eq!((client.held(), client.pinned_usage()), (0, 0));
+    let was = client.number();
+    client = cache.client().unwrap();
+    assert_ne!(client.number(), was);
+    drop(client);
+    let totals = cache.close().unwrap();
+    assert_eq!((totals.usage, totals.occupied), (7, 1));
+    assert_eq!((totals.slot_charges, totals.slot_count), (7, 1));
+}
+
+#[test]
+fn a_cache_with_a_forgotten_client_stays() {
+    let cache = Cache::open(&small()).unwrap();
+    forget(cache.client());
+    let (why, cache) = cache.close().unwrap_err();
+    assert_eq!(why, Refused::MISSING);
+    assert_eq!(
+        inserts(&cache.client().unwrap(), KEY, b""),
+        Ok(Inserted::Placed)
+    );
+    forget(cache);
+}
+
+#[test]
+fn clients_go_from_thread_to_thread() {
+    let cache = Cache::open(&Config {
+        slots: 64,
+        ..small()
+    })
+    .unwrap();
+    let client = cache.client().unwrap();
+    std::thread::scope(|scope| {
+        let worker = scope.spawn(move || {
+            assert_eq!(inserts(&client, KEY, b"sent"), Ok(Inserted::Placed));
+            client
+        });
+        let mine = cache.client().unwrap();
+        let client = worker.join().unwrap();
+        assert_eq!(client.lookup(KEY).unwrap().unwrap().to_vec(), b"sent");
+        assert_eq!(mine.get(KEY, &mut [0; 4], true), Got::Value(4));
+    });
+}
+
+#[test]
+fn sizes_are_those_of_the_budget() {
+    let config = Config::sized(1 << 20, 64, 3).unwrap();
+    assert!(config.memory() <= 1 << 20 && 2 * config.memory() > 1 << 20);
+    assert_eq!((config.room, config.clients), (8, 3));
+    assert_eq!(ferretgold::version(), env!("CARGO_PKG_VERSION"));
+}
