@@ -4,21 +4,23 @@
 #                                       and the Rust crate; DESTDIR= goes before all paths
 #   make dist                           out/ferretgold-VERSION-MACHINE.tar.gz: the same for whoever has
 #                                       no Rattle, with the verdict's line and each file's SHA-256
+# Each with TARGET=aarch64-unknown-linux-gnu for that processor, once `tests/gate-library TARGET` has run.
 PREFIX ?= /usr/local
 INCLUDEDIR ?= $(PREFIX)/include
 LIBDIR ?= $(PREFIX)/lib
 DATADIR ?= $(PREFIX)/share/ferretgold
 DESTDIR ?=
-OUT ?= src/out
+TARGET ?=
+OUT ?= src/out$(TARGET:%=/%)
 DIST ?= out
 # Of what `rt lib` prints the line that begins with logic=proved; tests/gate-library keeps it here.
-VERDICT ?= crates/hcc_c/out/verdict
+VERDICT ?= crates/hcc_c/out$(TARGET:%=/%)/verdict
 SOURCE_DATE_EPOCH ?= $(shell git log -1 --format=%ct 2> /dev/null || echo 0)
 
 NUMBERS := $(shell $(MAKE) -s --no-print-directory -C src version)
 VERSION := $(word 1,$(NUMBERS))
 ABI := $(word 2,$(NUMBERS))
-NAME := ferretgold-$(VERSION)-$(shell $(CC) -dumpmachine)
+NAME := ferretgold-$(VERSION)-$(or $(subst -unknown,,$(TARGET)),$(shell $(CC) -dumpmachine))
 STAGE := $(abspath $(DIST))/$(NAME)
 PACKAGE := $(LIBDIR)/cmake/ferretgold
 # With RELATIVE the prefix is found by the place of the file that is read.
@@ -29,7 +31,7 @@ FILL = sed -e 's|@VERSION@|$(VERSION)|g' -e 's|@ABI@|$(ABI)|g' \
     -e "s|@INCLUDE@|$$(realpath -m --relative-to=$(PACKAGE) $(INCLUDEDIR))|g"
 
 all:
-	@$(MAKE) -s -C src OUT=$(abspath $(OUT))
+	@$(MAKE) -s -C src OUT=$(abspath $(OUT)) TARGET=$(TARGET)
 
 install: all
 	install -d $(DESTDIR)$(INCLUDEDIR) $(DESTDIR)$(LIBDIR)/pkgconfig $(DESTDIR)$(PACKAGE)
@@ -39,10 +41,10 @@ install: all
 	ln -sf libferretgold.so.$(VERSION) $(DESTDIR)$(LIBDIR)/libferretgold.so.$(ABI)
 	ln -sf libferretgold.so.$(VERSION) $(DESTDIR)$(LIBDIR)/libferretgold.so
 	$(FILL) src/package/ferretgold.pc > $(DESTDIR)$(LIBDIR)/pkgconfig/ferretgold.pc
-	for file in ferretgoldConfig ferretgoldConfigVersion; do \
-	    $(FILL) src/package/$$file.cmake > $(DESTDIR)$(PACKAGE)/$$file.cmake || exit; \
 	install -d $(DESTDIR)$(DATADIR)/rust
 	cp -R rust/Cargo.toml rust/build.rs rust/src rust/examples rust/tests $(DESTDIR)$(DATADIR)/rust
+	for file in ferretgoldConfig ferretgoldConfigVersion; do \
+	    $(FILL) src/package/$$file.cmake > $(DESTDIR)$(PACKAGE)/$$file.cmake || exit; \
 	done
 
 dist:
