@@ -1,22 +1,27 @@
-// ferretgold.hpp - a small wrapper of ferretgold.h for C++17: objects that give themselves back.
+// ferretgold.hpp - a wrapper of ferretgold.h for C++17: objects that give themselves back.
 //
-// ferretgold.h says what each call does. Here a refusal is thrown as ferretgold::refused, except a
-// miss, which is an empty handle, and insert's and read's, whose status is returned. What has no
-// member here is called by get(). Objects may go in any order: a client goes back once it and all
-// its handles are gone, and a cache is closed once it and all its clients are.
+// ferretgold.h says what each call does. Here a call that may be refused has a last argument `why`,
+// which gets its status, and throws nothing. Where exceptions are on, each has a form without that
+// argument, too, which throws a refusal as ferretgold::refused; a miss is an empty handle, and is never
+// thrown. client's insert and read return their status.
+//
+// Objects may go in any order: a client goes back once it and all its handles are gone, and a cache is
+// closed once it and all its clients are.
 #ifndef FERRETGOLD_HPP
 #define FERRETGOLD_HPP
 
 #include "ferretgold.h"
 
+#include <atomic>
 #include <cstddef>
 #include <cstdint>
-#include <memory>
+#include <new>
 #include <stdexcept>
 #include <utility>
 
 namespace ferretgold {
 
+#ifdef __cpp_exceptions
 // Why a call was refused.
 class refused : public std::runtime_error {
   public:
@@ -25,55 +30,124 @@ class refused : public std::runtime_error {
     const ferretgold_status status;
 };
 
-inline void must(ferretgold_status status) {
-    if (status != FERRETGOLD_OK) {
-        throw refused(status);
+// What a call returns, which says why it is refused; a refusal is thrown.
+template <typename Call> auto must(Call call) {
+    ferretgold_status why{};
+    auto it = call(why);
+    if (why > FERRETGOLD_MISS) {
+        throw refused(why);
     }
+    return it;
+}
+#endif
+
+// The version of the library.
+inline const char *version() noexcept { return ferretgold_version(); }
+
+// How many bytes a cache of this configuration allocates.
+inline std::uint64_t memory(const ferretgold_config &config) noexcept {
+    return ferretgold_memory(&config);
 }
 
-// Throws what opening a cache of this configuration would, whatever memory there is.
-inline void check(const ferretgold_config &config) { must(ferretgold_config_check(&config)); }
+// A configuration of at most so many bytes, for values of at most so many and as many threads.
+inline ferretgold_config config_for(std::uint64_t bytes, std::size_t value, std::uint32_t threads,
+                                    ferretgold_status &why) noexcept {
+    ferretgold_config config{};
+    why = ferretgold_config_for(bytes, value, threads, &config);
+    return config;
+}
 
-// What a cache shares with its clients.
-struct shared_cache {
-    explicit shared_cache(const ferretgold_config &config) { must(ferretgold_open(&config, &it)); }
-    shared_cache(const shared_cache &) = delete;
-    shared_cache &operator=(const shared_cache &) = delete;
-    ~shared_cache() {
-        if (it != nullptr) {
-            (void)ferretgold_close(it, nullptr);
+#ifdef __cpp_exceptions
+inline ferretgold_config config_for(std::uint64_t bytes, std::size_t value,
+                                    std::uint32_t threads) {
+    return must([&](auto &why) { return config_for(bytes, value, threads, why); });
+}
+#endif
+
+// With which status opening a cache of this configuration refuses it, whatever memory there is; else OK.
+inline ferretgold_status check(const ferretgold_config &config) noexcept {
+    return ferretgold_config_check(&config);
+}
+
+// What a cache shares with its clients, each of which uses it: the last of them that goes closes it.
+class shared_cache {
+  public:
+    static shared_cache *open(const ferretgold_config &config, ferretgold_status &why) noexcept {
+        shared_cache *it = new (std::nothrow) shared_cache;
+        why = FERRETGOLD_OUT_OF_MEMORY;
+        if (it == nullptr) {
+            return nullptr;
         }
+        why = ferretgold_open(&config, &it->raw);
+        if (why != FERRETGOLD_OK) {
+            delete it;
+            return nullptr;
+        }
+        return it;
     }
-    ferretgold_cache *it = nullptr;
-};
 
-// What a client shares with its handles, all of which one thread uses at a time.
-struct shared_client {
-    explicit shared_client(std::shared_ptr<shared_cache> from) : cache(std::move(from)) {
-        must(ferretgold_client_open(cache->it, &it));
-    }
-    shared_client(const shared_client &) = delete;
-    shared_client &operator=(const shared_client &) = delete;
-    ~shared_client() { (void)ferretgold_client_close(cache->it, it); }
+    void join() noexcept { users_.fetch_add(1); }
 
-    // One object less uses it: the last one ends it.
     void leave() noexcept {
-        users -= 1;
-        if (users == 0) {
+        if (users_.fetch_sub(1) == 1) {
+            (void)ferretgold_close(raw, nullptr);
             delete this;
         }
     }
-    std::shared_ptr<shared_cache> cache;
-    ferretgold_client *it = nullptr;
-    std::size_t users = 1;
+
+    ferretgold_cache *raw = nullptr;
+
+  private:
+    std::atomic<std::size_t> users_{1};
 };
 
-// A handle on an entry, or none. It is used on its client's thread.
+// What a client shares with its handles, all of which one thread uses at a time: the last of them that
+// goes gives it back.
+class shared_client {
+  public:
+    static shared_client *open(shared_cache *cache, ferretgold_status &why) noexcept {
+        ferretgold_client *raw = nullptr;
+        why = ferretgold_client_open(cache == nullptr ? nullptr : cache->raw, &raw);
+        if (why != FERRETGOLD_OK) {
+            return nullptr;
+        }
+        shared_client *it = new (std::nothrow) shared_client(cache, raw);
+        if (it == nullptr) {
+            (void)ferretgold_client_close(cache->raw, raw);
+            why = FERRETGOLD_OUT_OF_MEMORY;
+        }
+        return it;
+    }
+
+    void join() noexcept { users_ += 1; }
+
+    void leave() noexcept {
+        users_ -= 1;
+        if (users_ == 0) {
+            (void)ferretgold_client_close(cache_->raw, raw);
+            cache_->leave();
+            delete this;
+        }
+    }
+
+    ferretgold_client *const raw;
+
+  private:
+    shared_client(shared_cache *cache, ferretgold_client *client) noexcept
+        : raw(client), cache_(cache) {
+        cache_->join();
+    }
+
+    shared_cache *const cache_;
+    std::size_t users_ = 1;
+};
+
+// A handle on an entry, or none, which calls refuse by NULL. It is used on its client's thread.
 class handle {
   public:
     handle() = default;
-    handle(shared_client *client, ferretgold_handle held) : client_(client), held_(held) {
-        client_->users += 1;
+    handle(shared_client *client, ferretgold_handle held) noexcept : client_(client), held_(held) {
+        client_->join();
     }
     handle(handle &&other) noexcept
         : client_(std::exchange(other.client_, nullptr)), held_(other.held_) {}
@@ -88,27 +162,48 @@ class handle {
     ~handle() { release(); }
 
     // Whether it is on an entry.
-    explicit operator bool() const { return client_ != nullptr; }
+    explicit operator bool() const noexcept { return client_ != nullptr; }
 
-    std::size_t size() const {
+    ferretgold_key key(ferretgold_status &why) const noexcept {
+        ferretgold_key key{};
+        why = ferretgold_handle_key(raw(), held_, &key);
+        return key;
+    }
+
+    std::size_t size(ferretgold_status &why) const noexcept {
         std::size_t length = 0;
-        must(ferretgold_value_len(raw(), held_, &length));
+        why = ferretgold_value_len(raw(), held_, &length);
         return length;
     }
 
     // Copies the value to a buffer that has room for it, and returns how many bytes it has.
-    std::size_t read(void *buffer, std::size_t capacity) const {
+    std::size_t read(void *buffer, std::size_t capacity, ferretgold_status &why) const noexcept {
         std::size_t length = 0;
-        must(ferretgold_read_value(raw(), held_, buffer, capacity, &length));
+        why = ferretgold_read_value(raw(), held_, buffer, capacity, &length);
         return length;
     }
 
     // One handle more on the same entry.
-    handle again() const {
+    handle again(ferretgold_status &why) const noexcept {
         ferretgold_handle more{};
-        must(ferretgold_reref(raw(), held_, &more));
-        return handle(client_, more);
+        why = ferretgold_reref(raw(), held_, &more);
+        return why == FERRETGOLD_OK ? handle(client_, more) : handle();
     }
+
+#ifdef __cpp_exceptions
+    ferretgold_key key() const {
+        return must([&](auto &why) { return key(why); });
+    }
+    std::size_t size() const {
+        return must([&](auto &why) { return size(why); });
+    }
+    std::size_t read(void *buffer, std::size_t capacity) const {
+        return must([&](auto &why) { return read(buffer, capacity, why); });
+    }
+    handle again() const {
+        return must([&](auto &why) { return again(why); });
+    }
+#endif
 
     // Gives it back, if it is on an entry. `freed` gets whether that was freed; it may be null.
     void release(bool useful = true, bool erase_if_last = false, bool *freed = nullptr) noexcept {
@@ -118,20 +213,23 @@ class handle {
         }
     }
 
-    const ferretgold_handle &get() const { return held_; }
+    const ferretgold_handle &get() const noexcept { return held_; }
 
   private:
-    ferretgold_client *raw() const { return client_ == nullptr ? nullptr : client_->it; }
+    ferretgold_client *raw() const noexcept {
+        return client_ == nullptr ? nullptr : client_->raw;
+    }
 
     shared_client *client_ = nullptr;
     ferretgold_handle held_{};
 };
 
-// A client of a cache, for one thread at a time. Opening one allocates a few words here.
+// A client of a cache, for one thread at a time, or none, which calls refuse by NULL. Opening one
+// allocates a few words here.
 class client {
   public:
-    explicit client(std::shared_ptr<shared_cache> cache)
-        : shared_(new shared_client(std::move(cache))) {}
+    client() = default;
+    explicit client(shared_client *shared) noexcept : shared_(shared) {}
     client(client &&other) noexcept : shared_(std::exchange(other.shared_, nullptr)) {}
     client &operator=(client &&other) noexcept {
         std::swap(shared_, other.shared_);
@@ -143,15 +241,14 @@ class client {
         }
     }
 
+    // Whether it is one.
+    explicit operator bool() const noexcept { return shared_ != nullptr; }
+
     // A handle on an entry of the key; none if there is none.
-    handle lookup(const ferretgold_key &key) {
+    handle lookup(const ferretgold_key &key, ferretgold_status &why) noexcept {
         ferretgold_handle found{};
-        ferretgold_status status = ferretgold_lookup(get(), &key, &found);
-        if (status == FERRETGOLD_MISS) {
-            return handle();
-        }
-        must(status);
-        return handle(shared_, found);
+        why = ferretgold_lookup(get(), &key, &found);
+        return why == FERRETGOLD_OK ? handle(shared_, found) : handle();
     }
 
     // Copies the value of an entry of the key to a buffer, with no handle: OK, MISS or TOO_SHORT.
@@ -167,47 +264,131 @@ class client {
         return ferretgold_insert(get(), &key, value, length, charge, priority, inserted);
     }
 
+    // The same, and a handle on it.
     handle insert_pinned(const ferretgold_key &key, const void *value, std::size_t length,
-                         std::uint32_t charge, ferretgold_priority priority = FERRETGOLD_LOW,
-                         ferretgold_inserted *inserted = nullptr) {
+                         std::uint32_t charge, ferretgold_priority priority,
+                         ferretgold_inserted *inserted, ferretgold_status &why) noexcept {
         ferretgold_handle given{};
-        must(ferretgold_insert_pinned(get(), &key, value, length, charge, priority, inserted,
-                                      &given));
-        return handle(shared_, given);
+        why = ferretgold_insert_pinned(get(), &key, value, length, charge, priority, inserted,
+                                       &given);
+        return why == FERRETGOLD_OK ? handle(shared_, given) : handle();
     }
 
-    std::uint32_t erase(const ferretgold_key &key) {
+    // Hides each entry of the key, and returns how many.
+    std::uint32_t erase(const ferretgold_key &key, ferretgold_status &why) noexcept {
         std::uint32_t hidden = 0;
-        must(ferretgold_erase(get(), &key, &hidden));
+        why = ferretgold_erase(get(), &key, &hidden);
         return hidden;
     }
 
-    ferretgold_stats stats() const {
+    std::uint64_t usage(ferretgold_status &why) const noexcept {
+        std::uint64_t usage = 0;
+        why = ferretgold_usage(get(), &usage);
+        return usage;
+    }
+
+    std::uint64_t pinned_usage(ferretgold_status &why) const noexcept {
+        std::uint64_t usage = 0;
+        why = ferretgold_pinned_usage(get(), &usage);
+        return usage;
+    }
+
+    std::uint64_t occupancy(ferretgold_status &why) const noexcept {
+        std::uint64_t occupancy = 0;
+        why = ferretgold_occupancy(get(), &occupancy);
+        return occupancy;
+    }
+
+    std::uint64_t word(std::uint32_t shard, std::uint32_t slot,
+                       ferretgold_status &why) const noexcept {
+        std::uint64_t word = 0;
+        why = ferretgold_word(get(), shard, slot, &word);
+        return word;
+    }
+
+    std::uint64_t displacement(std::uint32_t shard, std::uint32_t slot,
+                               ferretgold_status &why) const noexcept {
+        std::uint64_t displacement = 0;
+        why = ferretgold_displacement(get(), shard, slot, &displacement);
+        return displacement;
+    }
+
+    ferretgold_stats stats(ferretgold_status &why) const noexcept {
         ferretgold_stats counts{};
-        must(ferretgold_statistics(get(), &counts));
+        why = ferretgold_statistics(get(), &counts);
         return counts;
     }
 
-    ferretgold_client *get() const { return shared_ == nullptr ? nullptr : shared_->it; }
+#ifdef __cpp_exceptions
+    handle lookup(const ferretgold_key &key) {
+        return must([&](auto &why) { return lookup(key, why); });
+    }
+    handle insert_pinned(const ferretgold_key &key, const void *value, std::size_t length,
+                         std::uint32_t charge, ferretgold_priority priority = FERRETGOLD_LOW,
+                         ferretgold_inserted *inserted = nullptr) {
+        return must([&](auto &why) {
+            return insert_pinned(key, value, length, charge, priority, inserted, why);
+        });
+    }
+    std::uint32_t erase(const ferretgold_key &key) {
+        return must([&](auto &why) { return erase(key, why); });
+    }
+    std::uint64_t usage() const {
+        return must([&](auto &why) { return usage(why); });
+    }
+    std::uint64_t pinned_usage() const {
+        return must([&](auto &why) { return pinned_usage(why); });
+    }
+    std::uint64_t occupancy() const {
+        return must([&](auto &why) { return occupancy(why); });
+    }
+    std::uint64_t word(std::uint32_t shard, std::uint32_t slot) const {
+        return must([&](auto &why) { return word(shard, slot, why); });
+    }
+    std::uint64_t displacement(std::uint32_t shard, std::uint32_t slot) const {
+        return must([&](auto &why) { return displacement(shard, slot, why); });
+    }
+    ferretgold_stats stats() const {
+        return must([&](auto &why) { return stats(why); });
+    }
+#endif
+
+    std::uint32_t number() const noexcept { return ferretgold_client_number(get()); }
+    std::uint32_t held() const noexcept { return ferretgold_held(get()); }
+    std::uint64_t serials_left() const noexcept { return ferretgold_serials_left(get()); }
+    bool holds(const handle &it) const noexcept { return it && ferretgold_holds(get(), it.get()); }
+
+    ferretgold_client *get() const noexcept { return shared_ == nullptr ? nullptr : shared_->raw; }
 
   private:
     shared_client *shared_ = nullptr;
 };
 
-// A cache. All threads may open clients of it at once.
+// A cache, or none, which calls refuse by NULL. All threads may open clients of it at once.
 class cache {
   public:
-    explicit cache(const ferretgold_config &config)
-        : shared_(std::make_shared<shared_cache>(config)) {}
-    cache(cache &&) noexcept = default;
-    cache &operator=(cache &&) noexcept = default;
+    cache() = default;
+    cache(const ferretgold_config &config, ferretgold_status &why) noexcept
+        : shared_(shared_cache::open(config, why)) {}
+    cache(cache &&other) noexcept : shared_(std::exchange(other.shared_, nullptr)) {}
+    cache &operator=(cache &&other) noexcept {
+        std::swap(shared_, other.shared_);
+        return *this;
+    }
+    ~cache() {
+        if (shared_ != nullptr) {
+            shared_->leave();
+        }
+    }
 
-    client open_client() const { return client(shared_); }
+    client open_client(ferretgold_status &why) const noexcept {
+        return client(shared_client::open(shared_, why));
+    }
 
     // What it was opened with.
-    ferretgold_config config() const {
+    ferretgold_config config() const noexcept {
         ferretgold_config config{};
-        must(ferretgold_config_of(get(), &config));
+        (void)ferretgold_config_of(get(), &config);
         return config;
     }
 
@@ -215,17 +396,30 @@ class cache {
     std::size_t room() const noexcept { return ferretgold_room(get()); }
 
     // Ends the cache, once all its clients went.
-    ferretgold_totals close() {
+    ferretgold_totals close(ferretgold_status &why) noexcept {
         ferretgold_totals totals{};
-        must(ferretgold_close(get(), &totals));
-        shared_->it = nullptr;
+        why = ferretgold_close(get(), &totals);
+        if (why == FERRETGOLD_OK) {
+            shared_->raw = nullptr;
+        }
         return totals;
     }
 
-    ferretgold_cache *get() const { return shared_ == nullptr ? nullptr : shared_->it; }
+#ifdef __cpp_exceptions
+    explicit cache(const ferretgold_config &config)
+        : shared_(must([&](auto &why) { return shared_cache::open(config, why); })) {}
+    client open_client() const {
+        return must([&](auto &why) { return open_client(why); });
+    }
+    ferretgold_totals close() {
+        return must([&](auto &why) { return close(why); });
+    }
+#endif
+
+    ferretgold_cache *get() const noexcept { return shared_ == nullptr ? nullptr : shared_->raw; }
 
   private:
-    std::shared_ptr<shared_cache> shared_;
+    shared_cache *shared_ = nullptr;
 };
 
 // A client for one operation, by the calls of ferretgold.h; null if no client is idle. It allocates
@@ -239,7 +433,7 @@ class lease {
     lease &operator=(const lease &) = delete;
     ~lease() { (void)ferretgold_client_close_releasing(cache_, client_); }
 
-    ferretgold_client *get() const { return client_; }
+    ferretgold_client *get() const noexcept { return client_; }
 
   private:
     ferretgold_cache *cache_;

@@ -11,6 +11,7 @@
 #include <fstream>
 #include <map>
 #include <memory>
+#include <new>
 #include <sstream>
 #include <string>
 #include <type_traits>
@@ -24,6 +25,7 @@ using ferretgold::handle;
 using words = std::vector<std::string>;
 
 int faults = 0;
+bool refuses_new = false;
 
 void expect(int line, const char *what, bool is) {
     if (!is) {
@@ -44,6 +46,21 @@ template <typename Call> bool refuses(Call call, int status) {
     }
     return false;
 }
+
+} // namespace
+
+// What objects allocate is counted, too; the wrapper's requests may be refused.
+void *operator new(std::size_t bytes) {
+    void *at = std::malloc(bytes);
+    return at != nullptr ? at : throw std::bad_alloc();
+}
+void *operator new(std::size_t bytes, const std::nothrow_t &) noexcept {
+    return refuses_new ? nullptr : std::malloc(bytes);
+}
+void operator delete(void *at) noexcept { std::free(at); }
+void operator delete(void *at, std::size_t) noexcept { std::free(at); }
+
+namespace {
 
 // ---- Traces ------------------------------------------------------------------------------------
 
@@ -88,7 +105,7 @@ struct stage {
         std::map<std::uint32_t, client> opened;
         for (std::uint32_t k = 0; k < sizes.clients; k++) {
             client one = it.open_client();
-            const std::uint32_t at = ferretgold_client_number(one.get());
+            const std::uint32_t at = one.number();
             opened.emplace(at, std::move(one));
         }
         for (auto &one : opened) {
@@ -96,7 +113,7 @@ struct stage {
         }
     }
 
-    std::uint32_t held(std::size_t c) const { return ferretgold_held(clients[c].get()); }
+    std::uint32_t held(std::size_t c) const { return clients[c].held(); }
 
     std::string insert(std::size_t c, const words &w, std::size_t at, std::uint64_t into) {
         const ferretgold_key key = {number(w[at]), number(w[at + 1])};
@@ -152,7 +169,6 @@ struct stage {
     std::string answer(const words &w) {
         const std::size_t c = number(w[0]);
         const char letter = w[1][0];
-        ferretgold_client *const raw = clients[c].get();
         std::uint64_t at = w.size() > 2 ? number(w[2]) : 0;
         if ((letter == 'P' || letter == 'G' || letter == 'F') && registers[c].count(at) != 0) {
             return "busy";
@@ -187,7 +203,7 @@ struct stage {
         case 'E':
             return "erased " + std::to_string(clients[c].erase({number(w[2]), number(w[3])}));
         case 'T': return get(c, w);
-        default: return counts(raw, letter, w);
+        default: return counts(clients[c], letter, w);
         }
     }
 
@@ -201,24 +217,18 @@ struct stage {
                               : status == 1 ? "miss" : "?";
     }
 
-    std::string counts(ferretgold_client *raw, char letter, const words &w) {
-        std::uint64_t first = 0, second = 0, third = 0;
+    std::string counts(const client &of, char letter, const words &w) {
         char text[200];
         if (letter == 'U') {
-            EXPECT(ferretgold_usage(raw, &first) == 0);
-            EXPECT(ferretgold_pinned_usage(raw, &second) == 0);
-            EXPECT(ferretgold_occupancy(raw, &third) == 0);
             std::snprintf(text, sizeof text, "usage %" PRIu64 " pinned %" PRIu64
-                          " occupancy %" PRIu64, first, second, third);
+                          " occupancy %" PRIu64, of.usage(), of.pinned_usage(), of.occupancy());
         } else if (letter == 'W') {
             const auto shard = static_cast<std::uint32_t>(number(w[2]));
             const auto slot = static_cast<std::uint32_t>(number(w[3]));
-            EXPECT(ferretgold_word(raw, shard, slot, &first) == 0);
-            EXPECT(ferretgold_displacement(raw, shard, slot, &second) == 0);
-            std::snprintf(text, sizeof text, "word %016" PRIx64 " displaced %" PRIu64, first,
-                          second);
+            std::snprintf(text, sizeof text, "word %016" PRIx64 " displaced %" PRIu64,
+                          of.word(shard, slot), of.displacement(shard, slot));
         } else {
-            const ferretgold_stats s = clients[number(w[0])].stats();
+            const ferretgold_stats s = of.stats();
             std::snprintf(text, sizeof text,
                           "stats probes %" PRIu64 " boosts %" PRIu64 " evicted %" PRIu64
                           " hit %" PRIu64 " freed %" PRIu64 " turns %" PRIu64
@@ -314,7 +324,7 @@ ferretgold_config small() { return config_of({"--clients", "2", "--handles", "3"
 void moved_handles() {
     cache it(small());
     client one = it.open_client();
-    const auto held = [&] { return ferretgold_held(one.get()); };
+    const auto held = [&] { return one.held(); };
     handle none;
     EXPECT(!none);
     EXPECT(!one.lookup(KEY));
@@ -323,7 +333,8 @@ void moved_handles() {
     handle second = first.again();
     handle third(std::move(first));
     EXPECT(!first && third && held() == 2);
-    EXPECT(ferretgold_holds(one.get(), third.get()));
+    EXPECT(one.holds(third) && !one.holds(first) && !it.open_client().holds(third));
+    EXPECT(third.key().w0 == KEY.w0 && third.key().w1 == KEY.w1);
     EXPECT(second.get().serial != third.get().serial);
     second = std::move(third);
     EXPECT(second && !third && held() == 1);
@@ -351,11 +362,7 @@ void moved_handles() {
 void defaults() {
     cache it(small());
     client one = it.open_client();
-    std::uint64_t word = 0;
-    const auto uses = [&] {
-        EXPECT(ferretgold_word(one.get(), 0, 2, &word) == 0);
-        return (word >> 30) & 0x3fffffff;
-    };
+    const auto uses = [&] { return (one.word(0, 2) >> 30) & 0x3fffffff; };
     EXPECT(one.insert(KEY, "ab", 2, 1) == 0);
     EXPECT(uses() == 2);
     char bytes[8];
@@ -378,9 +385,8 @@ void moved_caches() {
     cache first(small());
     cache it(std::move(first));
     EXPECT(first.get() == nullptr && it.get() != nullptr);
-    EXPECT(first.room() == 0 && it.room() == 8 * small().room);
+    EXPECT(first.room() == 0 && first.config().slots == 0 && it.room() == 8 * small().room);
     EXPECT(it.config().clients == 2 && it.config().handles == 3);
-    EXPECT(refuses([&] { (void)first.config(); }, 16));
     client one = it.open_client();
     client two(std::move(one));
     EXPECT(one.get() == nullptr && two.get() != nullptr);
@@ -402,10 +408,113 @@ void moved_caches() {
     EXPECT(it.get() == nullptr);
     EXPECT(refuses([&] { (void)it.close(); }, 16));
     ferretgold_config bad = small();
-    ferretgold::check(bad);
+    EXPECT(ferretgold::check(bad) == FERRETGOLD_OK);
     bad.slots = 9;
+    EXPECT(ferretgold::check(bad) == FERRETGOLD_BAD_SLOTS);
     EXPECT(refuses([&] { cache none(bad); }, 29));
-    EXPECT(refuses([&] { ferretgold::check(bad); }, 29));
+    cache second(small());
+    ferretgold_cache *const was = second.get();
+    it = std::move(second);
+    EXPECT(it.get() == was && second.get() == nullptr);
+}
+
+// What is none is refused, by both forms of each call.
+void nobody() {
+    ferretgold_status why{};
+    cache none;
+    client one;
+    handle it;
+    EXPECT(!one && !it && none.get() == nullptr && one.get() == nullptr);
+    const auto is_null = [&](auto told, auto thrown) {
+        why = FERRETGOLD_OK;
+        (void)told();
+        EXPECT(why == FERRETGOLD_NULL);
+        EXPECT(refuses([&] { (void)thrown(); }, FERRETGOLD_NULL));
+    };
+    is_null([&] { return none.open_client(why); }, [&] { return none.open_client(); });
+    is_null([&] { return none.close(why); }, [&] { return none.close(); });
+    is_null([&] { return one.lookup(KEY, why); }, [&] { return one.lookup(KEY); });
+    is_null([&] { return one.insert_pinned(KEY, "", 0, 1, FERRETGOLD_LOW, nullptr, why); },
+            [&] { return one.insert_pinned(KEY, "", 0, 1); });
+    is_null([&] { return one.erase(KEY, why); }, [&] { return one.erase(KEY); });
+    is_null([&] { return one.usage(why); }, [&] { return one.usage(); });
+    is_null([&] { return one.pinned_usage(why); }, [&] { return one.pinned_usage(); });
+    is_null([&] { return one.occupancy(why); }, [&] { return one.occupancy(); });
+    is_null([&] { return one.word(0, 0, why); }, [&] { return one.word(0, 0); });
+    is_null([&] { return one.displacement(0, 0, why); }, [&] { return one.displacement(0, 0); });
+    is_null([&] { return one.stats(why); }, [&] { return one.stats(); });
+    is_null([&] { return it.key(why); }, [&] { return it.key(); });
+    is_null([&] { return it.size(why); }, [&] { return it.size(); });
+    is_null([&] { return it.read(nullptr, 0, why); }, [&] { return it.read(nullptr, 0); });
+    is_null([&] { return it.again(why); }, [&] { return it.again(); });
+    EXPECT(one.number() == 0 && one.held() == 0 && one.serials_left() == 0 && !one.holds(it));
+    EXPECT(one.read(KEY, nullptr, 0, nullptr) == FERRETGOLD_NULL);
+}
+
+// What calls say by `why`, and return.
+void told() {
+    ferretgold_status why = FERRETGOLD_NULL;
+    char bytes[4];
+    cache it(small(), why);
+    EXPECT(why == FERRETGOLD_OK);
+    client first = it.open_client(why), second = it.open_client();
+    EXPECT(why == FERRETGOLD_OK && first && first.number() + second.number() == 1);
+    EXPECT(!it.open_client(why) && why == FERRETGOLD_NO_CLIENT);
+    EXPECT(!first.lookup(KEY, why) && why == FERRETGOLD_MISS);
+    ferretgold_inserted came = FERRETGOLD_DROPPED;
+    handle held = first.insert_pinned(KEY, "ab", 2, 3, FERRETGOLD_HIGH, &came, why);
+    EXPECT(held && why == FERRETGOLD_OK && came == FERRETGOLD_PLACED);
+    EXPECT(!first.insert_pinned(KEY, "", 0, 0, FERRETGOLD_LOW, nullptr, why) && why == 18);
+    EXPECT(first.lookup(KEY, why) && why == FERRETGOLD_OK);
+    EXPECT(held.key(why).w1 == KEY.w1 && held.size(why) == 2 && why == FERRETGOLD_OK);
+    EXPECT(held.read(bytes, 1, why) == 2 && why == FERRETGOLD_TOO_SHORT);
+    EXPECT(held.read(bytes, 4, why) == 2 && why == FERRETGOLD_OK && bytes[1] == 'b');
+    handle more = held.again(why), most = held.again(why);
+    EXPECT(most && why == FERRETGOLD_OK && !held.again(why) && why == FERRETGOLD_HANDLES_FULL);
+    EXPECT(first.serials_left() == small().serials - 4);
+    EXPECT(second.insert(OTHER, "", 0, 4) == 0);
+    EXPECT(first.usage(why) == 7 && first.pinned_usage(why) == 3 && first.occupancy(why) == 2);
+    EXPECT(second.lookup(OTHER) && first.word(0, 8, why) == 0 && why == FERRETGOLD_OUT_OF_RANGE);
+    EXPECT(first.displacement(1, 0, why) == 0 && why == FERRETGOLD_OUT_OF_RANGE);
+    EXPECT(second.stats(why).probes > 1 && why == FERRETGOLD_OK);
+    EXPECT(second.erase(KEY, why) == 1 && why == FERRETGOLD_OK);
+    (void)it.close(why);
+    EXPECT(why == FERRETGOLD_MISSING && it.get() != nullptr);
+    for (handle *one : {&held, &more, &most}) {
+        *one = handle();
+    }
+    first = client();
+    second = client();
+    EXPECT(it.close(why).usage == 4 && why == FERRETGOLD_OK && it.get() == nullptr);
+}
+
+// Memory that is refused: nothing remains, and each client is still there.
+void no_memory() {
+    ferretgold_status why{};
+    refuses_new = true;
+    EXPECT(cache(small(), why).get() == nullptr && why == FERRETGOLD_OUT_OF_MEMORY);
+    refuses_new = false;
+    heap_left = 3;
+    EXPECT(cache(small(), why).get() == nullptr && why == FERRETGOLD_OUT_OF_MEMORY);
+    heap_left = SIZE_MAX;
+    EXPECT(heap_blocks == 0);
+    cache it(small());
+    refuses_new = true;
+    EXPECT(!it.open_client(why) && why == FERRETGOLD_OUT_OF_MEMORY);
+    refuses_new = false;
+    const client first = it.open_client(), second = it.open_client();
+    EXPECT(first && second);
+}
+
+// Sizes and texts.
+void sizes() {
+    ferretgold_status why = FERRETGOLD_NULL;
+    const ferretgold_config config = ferretgold::config_for(1 << 20, 64, 3, why);
+    EXPECT(why == FERRETGOLD_OK && config.room == 8 && config.clients == 3);
+    EXPECT(ferretgold::config_for(1 << 20, 64, 3).slots == config.slots);
+    EXPECT(refuses([&] { (void)ferretgold::config_for(1 << 20, 64, 0); }, 31));
+    EXPECT(ferretgold::memory(config) == ferretgold_memory(&config));
+    EXPECT(ferretgold::version() == std::string(FERRETGOLD_VERSION));
 }
 
 // Handles that go after their client, and clients after their cache: nothing is lost.
@@ -424,11 +533,11 @@ void outlived() {
         EXPECT(refuses([&] { (void)it.close(); }, 39));
         handle more = last.again();
         last = std::move(more);
-        EXPECT(ferretgold_held(two.get()) == 0);
+        EXPECT(two.held() == 0);
         last.release();
         last.release();
         client one = it.open_client();
-        EXPECT(one.stats().probes == 1 && ferretgold_held(one.get()) == 0);
+        EXPECT(one.stats().probes == 1 && one.held() == 0);
         last = one.lookup(KEY);
         EXPECT(last);
     }
@@ -458,6 +567,10 @@ void edges() {
     defaults();
     moved_caches();
     outlived();
+    nobody();
+    told();
+    no_memory();
+    sizes();
 }
 
 } // namespace
