@@ -14,7 +14,10 @@ pub const MOST_SERIALS: u64 = 1 << 54;
 /// let config = Config { slots: 64, clients: 2, ..Config::default() };
 /// assert!(config.memory() < Config::default().memory());
 /// let bad = Config { slots: 65, ..config };
+/// assert_eq!(bad.check(), Err(Refused::BAD_SLOTS));
 /// assert_eq!(Cache::open(&bad).unwrap_err(), Refused::BAD_SLOTS);
+/// assert_eq!(Cache::open(&config)?.config(), config);
+/// # Ok::<(), Refused>(())
 /// ```
 #[derive(Clone, Copy, Debug, PartialEq, Eq)]
 pub struct Config {
@@ -65,7 +68,21 @@ impl Config {
     pub fn sized(bytes: u64, value: usize, threads: u32) -> Result<Config, Refused> {
         let mut it = raw::Config::default();
         judged(unsafe { raw::ferretgold_config_for(bytes, value, threads, &mut it) })?;
-        Ok(Config {
+        Ok(Config::of(&it))
+    }
+
+    /// Whether a cache can be opened so, whatever memory there is.
+    pub fn check(&self) -> Result<(), Refused> {
+        judged(unsafe { raw::ferretgold_config_check(&self.raw()) })
+    }
+
+    /// How many bytes a cache of this configuration allocates.
+    pub fn memory(&self) -> u64 {
+        unsafe { raw::ferretgold_memory(&self.raw()) }
+    }
+
+    pub(crate) fn of(it: &raw::Config) -> Config {
+        Config {
             slots: it.slots,
             room: it.room,
             clients: it.clients,
@@ -76,12 +93,7 @@ impl Config {
             capacity: it.capacity,
             serials: it.serials,
             seed: it.seed,
-        })
-    }
-
-    /// How many bytes a cache of this configuration allocates.
-    pub fn memory(&self) -> u64 {
-        unsafe { raw::ferretgold_memory(&self.raw()) }
+        }
     }
 
     pub(crate) fn raw(&self) -> raw::Config {

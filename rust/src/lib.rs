@@ -169,6 +169,18 @@ impl Cache {
         NonNull::new(at).map(|at| Cache { at }).ok_or(Refused::NULL)
     }
 
+    /// What it was opened with.
+    pub fn config(&self) -> Config {
+        let mut config = raw::Config::default();
+        let _ = unsafe { raw::ferretgold_config_of(self.at.as_ptr(), &mut config) };
+        Config::of(&config)
+    }
+
+    /// The most bytes of a value.
+    pub fn room(&self) -> usize {
+        unsafe { raw::ferretgold_room(self.at.as_ptr()) }
+    }
+
     /// A client that is idle. It waits for nothing and allocates nothing.
     pub fn client(&self) -> Result<Client<'_>, Refused> {
         let mut at = null_mut();

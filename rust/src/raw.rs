@@ -45,6 +45,9 @@ extern "C" {
         threads: u32,
         config: *mut Config,
     ) -> u32;
+    pub fn ferretgold_config_check(config: *const Config) -> u32;
+    pub fn ferretgold_config_of(cache: *const Cache, config: *mut Config) -> u32;
+    pub fn ferretgold_room(cache: *const Cache) -> usize;
     pub fn ferretgold_open(config: *const Config, cache: *mut *mut Cache) -> u32;
     pub fn ferretgold_client_open(cache: *mut Cache, client: *mut *mut Client) -> u32;
     pub fn ferretgold_client_close(cache: *mut Cache, client: *mut Client) -> u32;

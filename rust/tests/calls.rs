@@ -25,6 +25,7 @@ fn inserts(client: &Client, key: Key, value: &[u8]) -> Result<Inserted, Refused>
 #[test]
 fn a_value_is_read_by_its_key() {
     let cache = Cache::open(&small()).unwrap();
+    assert_eq!((cache.config(), cache.room()), (small(), 16));
     let client = cache.client().unwrap();
     let mut block = [9; 6];
     assert_eq!(client.get(KEY, &mut block, true), Got::Miss);
