@@ -6,6 +6,7 @@
  * whatever other threads do. What the library does is proved, except for a little C round it that is
  * tested (SECURITY.md); docs/GUIDE.md says how to use it and how to choose the sizes. The header is
  * for C11, C++11 and later; libferretgold.a exports its functions, also those that are inline here.
+ * ferretgold_large.h has calls for values of up to 16 MiB.
  *
  *     ferretgold_config config;
  *     ferretgold_cache *cache;

@@ -9,6 +9,7 @@
 #endif
 #include "ferretgold.h"
 #include "ferretgold_raw.h"
+#include "large.h"
 
 #include <stdatomic.h>
 #include <stdlib.h>
@@ -33,6 +34,7 @@ struct ferretgold_cache {
     ferretgold_object rack;
     ferretgold_config config;
     ferretgold_client *client;
+    large_setup large;
     _Alignas(LINE) ferretgold_row row[];
 };
 
@@ -188,6 +190,7 @@ ferretgold_status ferretgold_open(const ferretgold_config *config, ferretgold_ca
         (void)ferretgold_raw_close(rack, &totals, &kept);
         return FERRETGOLD_OUT_OF_MEMORY;
     }
+    it->large = large_setup_of(config);
     status = make_clients(it);
     if (status == FERRETGOLD_OK) {
         *cache = it;
@@ -394,6 +397,14 @@ ferretgold_status ferretgold_statistics(ferretgold_client *client, ferretgold_st
     }
     ferretgold_raw_stats(&client->session, stats);
     return ferretgold_leave(client, FERRETGOLD_OK);
+}
+
+const large_setup *large_setup_at(ferretgold_client *client) {
+    if (!ferretgold_enter(client, "a call of a large value")) {
+        return NULL;
+    }
+    ferretgold_quit(client);
+    return &client->cache->large;
 }
 
 /* ---- Texts ----------------------------------------------------------------------------------- */
