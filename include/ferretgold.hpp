@@ -11,6 +11,7 @@
 #define FERRETGOLD_HPP
 
 #include "ferretgold.h"
+#include "ferretgold_large.h"
 
 #include <atomic>
 #include <cstddef>
@@ -439,6 +440,29 @@ class lease {
     ferretgold_cache *cache_;
     ferretgold_client *client_ = nullptr;
 };
+
+// ---- Large values, by the calls of ferretgold_large.h ------------------------------------------
+
+// Puts a value in; `inserted` gets what came of it, and may be null.
+inline ferretgold_status put_large(client &by, const ferretgold_key &key, const void *value,
+                                   std::size_t length, std::uint32_t charge,
+                                   ferretgold_priority priority = FERRETGOLD_LOW,
+                                   ferretgold_inserted *inserted = nullptr) noexcept {
+    return ferretgold_put_large(by.get(), &key, value, length, charge, priority, inserted);
+}
+
+// Copies the value under a key to a buffer: OK, MISS or TOO_SHORT.
+inline ferretgold_status get_large(client &by, const ferretgold_key &key, void *buffer,
+                                   std::size_t capacity, std::size_t *length,
+                                   bool useful = true) noexcept {
+    return ferretgold_get_large(by.get(), &key, buffer, capacity, useful, length);
+}
+
+// Erases the value under a key; `hidden` gets whether one was there, and may be null.
+inline ferretgold_status erase_large(client &by, const ferretgold_key &key,
+                                     std::uint32_t *hidden = nullptr) noexcept {
+    return ferretgold_erase_large(by.get(), &key, hidden);
+}
 
 } // namespace ferretgold
 

@@ -1,4 +1,4 @@
-//! The functions of ferretgold.h, as C has them. tests/wrappers compares the two.
+//! The functions of ferretgold.h and ferretgold_large.h, as C has them. tests/wrappers compares the two.
 
 use std::ffi::c_void;
 use std::os::raw::c_char;
@@ -99,6 +99,24 @@ extern "C" {
         useful: bool,
         length: *mut usize,
     ) -> u32;
+    pub fn ferretgold_put_large(
+        client: *mut Client,
+        key: *const Key,
+        value: *const c_void,
+        length: usize,
+        charge: u32,
+        priority: u32,
+        inserted: *mut u32,
+    ) -> u32;
+    pub fn ferretgold_get_large(
+        client: *mut Client,
+        key: *const Key,
+        buffer: *mut c_void,
+        capacity: usize,
+        useful: bool,
+        length: *mut usize,
+    ) -> u32;
+    pub fn ferretgold_erase_large(client: *mut Client, key: *const Key, hidden: *mut u32) -> u32;
     pub fn ferretgold_usage(client: *mut Client, usage: *mut u64) -> u32;
     pub fn ferretgold_pinned_usage(client: *mut Client, usage: *mut u64) -> u32;
     pub fn ferretgold_occupancy(client: *mut Client, occupancy: *mut u64) -> u32;
