@@ -1,4 +1,5 @@
-// Writes a database, and reads all of it with four threads: with the cache and without.
+// Writes a database, and reads all of it with four threads: through the cache by blocks and by pages,
+// and without.
 #include "cached_env.hpp"
 
 #include <leveldb/cache.h>
@@ -104,10 +105,12 @@ bool timed(const char *how, const std::string &folder, leveldb::Env *env) {
     return wrong == 0;
 }
 
-ferretgold_config tenth_of_the_data() {
+// Slots with room for a page; or for half a block of LevelDB's default size, which is up to 4,224
+// bytes long here, with 40 bytes that large values put before it.
+ferretgold_config tenth_of_the_data(kept what) {
     ferretgold_config config{};
-    config.slots = 512;
-    config.room = BLOCK / 8;
+    config.slots = what == kept::blocks ? 1024 : 512;
+    config.room = what == kept::blocks ? (4224 / 2 + 40) / 8 : PAGE / 8;
     config.clients = THREADS + 2;
     config.handles = 4;
     config.shards = 1;
@@ -118,6 +121,15 @@ ferretgold_config tenth_of_the_data() {
     return config;
 }
 
+// Reads all through a cache of a tenth of the data.
+bool through_a_cache(const char *how, const std::string &folder, kept what) {
+    file_cache cache(tenth_of_the_data(what), what);
+    cached_env env(leveldb::Env::Default(), cache);
+    const bool is_right = timed(how, folder, &env);
+    std::cout << "    " << cache.hits << " hits, " << cache.misses << " misses\n";
+    return is_right && cache.hits > 0 && cache.misses > 0;
+}
+
 } // namespace
 
 int main(int count, char **words) {
@@ -126,15 +138,14 @@ int main(int count, char **words) {
         return 2;
     }
     const std::string folder = words[1];
-    leveldb::Env *plain = leveldb::Env::Default();
-    block_cache cache(tenth_of_the_data());
-    cached_env env(plain, cache);
-    write_all(folder, &env);
-    cache.hits = 0;
-    cache.misses = 0;
-    const bool with = timed("with the cache", folder, &env);
-    std::cout << "blocks: " << cache.hits << " hits, " << cache.misses << " misses\n";
-    const bool without = timed("without", folder, plain);
+    {
+        file_cache cache(tenth_of_the_data(kept::blocks), kept::blocks);
+        cached_env env(leveldb::Env::Default(), cache);
+        write_all(folder, &env);
+    }
+    const bool blocks = through_a_cache("blocks in the cache", folder, kept::blocks);
+    const bool pages = through_a_cache("pages in the cache", folder, kept::pages);
+    const bool without = timed("without", folder, leveldb::Env::Default());
     must(leveldb::DestroyDB(folder, leveldb::Options()));
-    return with && without && cache.hits > 0 && cache.misses > 0 ? 0 : 1;
+    return blocks && pages && without ? 0 : 1;
 }
