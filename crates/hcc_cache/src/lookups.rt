@@ -99,7 +99,7 @@ impl<T: Tag> Cache<T> {
         ensures refused { OnErr result (client.new ≡ client.old) }
         ensures again { IfOk result (λ more. Rerefs self.now handle more client.old client.new) }
         ensures acquires { IfOk result (λ _. AcquiresFor self.now handle client.old client.new) }
-        ensures counts { CountsBy handle client.old client.new }
+        ensures counts { IfOk result (λ _. CountsBy handle client.old client.new) }
         ensures steps { TakesAtMost 2 client.old client.new }
     {
         let hold = client.hold(handle);

@@ -1,4 +1,5 @@
 use Rattle.std.proofs.Common.{◌≡◌, refl, ap}
+use Rattle.std.specs.Vec.{with_item}
 use Rattle.hcc_shard.specs.Callers.{view_of, LoadsDisplacement}
 use Rattle.hcc_rule.specs.declared.geometry.Geometry.{Geometry}
 use Rattle.hcc_cache.specs.Clients.{view_by}
@@ -37,7 +38,10 @@ returns-clause-reads g c =
             c.displacement.new.seat at.seat_is c.displacement.ensures.view;
         self = (refl, refl);
         counts =
-            counts_none c.args.self.now c.args.client.now _ c.args.shard c.index.result.now was
+            counts_none c.args.self.now c.args.client.now
+            (record c.args.client.now {
+              seats = with_item c.args.client.now.seats c.args.shard c.displacement.new.seat;
+            }) c.args.shard c.index.result.now was
             c.displacement.new.seat at
             (record { seats = refl; number = refl; most = refl; capacity = (refl, refl) })
             c.displacement.ensures.counts;

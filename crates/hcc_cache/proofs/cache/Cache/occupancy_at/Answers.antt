@@ -1,5 +1,6 @@
 use native.Mathlib.Omega.{arith}
 use Rattle.std.proofs.Common.{◌*◌, ◌/◌, refl, ap, ◌∙◌}
+use Rattle.std.specs.Vec.{with_item}
 use Rattle.hcc_core.specs.declared.limits.TheConstants.{OCCUPANCY_PERCENT}
 use Rattle.hcc_core.proofs.ListLemmas.{read_other}
 use Rattle.hcc_rule.specs.declared.geometry.Geometry.{Geometry}
@@ -43,7 +44,10 @@ returns-clause-reads g c =
             c.occupancy.new.seat at.seat_is c.occupancy.ensures.view;
         self = (refl, refl);
         counts =
-            counts_none c.args.self.now c.args.client.now _ c.args.shard c.index.result.now was
+            counts_none c.args.self.now c.args.client.now
+            (record c.args.client.now {
+              seats = with_item c.args.client.now.seats c.args.shard c.occupancy.new.seat;
+            }) c.args.shard c.index.result.now was
             c.occupancy.new.seat at
             (record { seats = refl; number = refl; most = refl; capacity = (refl, refl) })
             c.occupancy.ensures.counts;

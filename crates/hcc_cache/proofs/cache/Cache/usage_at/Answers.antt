@@ -1,4 +1,5 @@
 use Rattle.std.proofs.Common.{refl, ap, ◌∙◌}
+use Rattle.std.specs.Vec.{with_item}
 use Rattle.hcc_core.proofs.ListLemmas.{read_other}
 use Rattle.hcc_shard.specs.Callers.{view_of}
 use Rattle.hcc_shard.specs.Counted.{LoadsUsage}
@@ -88,7 +89,10 @@ returns-clause-counts g c =
     let was = c.index_mut-seat.result.now in
     let at = is_at c.args.self.now c.args.client.now c.args.shard c.index.result.now was
     c.requires.known c.requires.within c.index.ensures c.index_mut-seat.ensures.value in
-    counts_none c.args.self.now c.args.client.now _ c.args.shard c.index.result.now was
+    counts_none c.args.self.now c.args.client.now
+    (record c.args.client.now {
+      seats = with_item c.args.client.now.seats c.args.shard c.usage.new.seat;
+    }) c.args.shard c.index.result.now was
     c.usage.new.seat at
     (record { seats = refl; number = refl; most = refl; capacity = (refl, refl) })
     c.usage.ensures.counts

@@ -1,4 +1,5 @@
 use Rattle.std.proofs.Common.{refl, ap}
+use Rattle.std.specs.Vec.{with_item}
 use Rattle.hcc_shard.specs.Callers.{view_of, LoadsWord}
 use Rattle.hcc_cache.specs.Clients.{view_by}
 use Rattle.hcc_cache.proofs.At.{counts_none, did_at, is_at, seated_at, works_at}
@@ -68,7 +69,10 @@ returns-clause-counts g c =
     let was = c.index_mut-seat.result.now in
     let at = is_at c.args.self.now c.args.client.now c.args.shard c.index.result.now was
     c.requires.known c.requires.shard c.index.ensures c.index_mut-seat.ensures.value in
-    counts_none c.args.self.now c.args.client.now _ c.args.shard c.index.result.now was
+    counts_none c.args.self.now c.args.client.now
+    (record c.args.client.now {
+      seats = with_item c.args.client.now.seats c.args.shard c.word.new.seat;
+    }) c.args.shard c.index.result.now was
     c.word.new.seat at
     (record { seats = refl; number = refl; most = refl; capacity = (refl, refl) })
     c.word.ensures.counts

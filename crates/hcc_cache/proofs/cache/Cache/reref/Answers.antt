@@ -1,0 +1,26 @@
+use Rattle.std.proofs.Common.{◌≡◌, ℕ, Bool, sym, subst, ◌∙◌}
+use Rattle.std.proofs.lemmas.Option.{same_Some}
+use Rattle.hcc_shard.specs.Callers.{AcquiresAt}
+use Rattle.hcc_cache.specs.declared.holding.Hold.{Hold}
+use Rattle.hcc_cache.specs.declared.holding.Kept.TheVariants.{Pinned}
+use Rattle.hcc_cache.specs.Calls.{AtShard, CountsOf}
+use Rattle.hcc_cache.proofs.cache.Cache.reref.Goals as goal
+
+pub returns-in-Pinned-clause-acquires : goal.returns-in-Pinned-clause-acquires
+returns-in-Pinned-clause-acquires g c = λ hold slot counting at kept.
+    let same : hold ≡ c.hold-hold.result = same_Some _ _ (sym at ∙ c.hold-hold.ensures.held) in
+    let there : c.in-Pinned.slot ≡ slot = cc in
+    subst (λ (h : Hold). AtShard c.args.self.now (λ shard was is. (counts : Bool)
+    × AcquiresAt shard slot counts was is) h.shard c.args.client.now c.pinned_again.new.client)
+    (sym same)
+    (subst (λ s. AtShard c.args.self.now (λ shard was is. (counts : Bool)
+    × AcquiresAt shard s counts was is) c.hold-hold.result.shard c.args.client.now
+    c.pinned_again.new.client) there c.pinned_again.ensures.acquires)
+
+pub returns-in-Pinned-clause-counts : goal.returns-in-Pinned-clause-counts
+returns-in-Pinned-clause-counts g c = λ hold at.
+    let same : hold ≡ c.hold-hold.result = same_Some _ _ (sym at ∙ c.hold-hold.ensures.held) in
+    subst (λ (h : Hold). CountsOf h.shard h.kept c.args.client.now c.pinned_again.new.client)
+    (sym same)
+    (subst (λ k. CountsOf c.hold-hold.result.shard k c.args.client.now
+    c.pinned_again.new.client) (sym c.in-Pinned.is) c.pinned_again.ensures.counts)
