@@ -265,27 +265,29 @@ static size_t make_piece(const large_value *it, uint32_t number, const uint8_t *
     return HEAD + length;
 }
 
-/* Inserts a piece in place of what is under its key; not the first one, if there are these very
- * bytes. */
+/* Inserts a piece in place of what is under its key. MISS: it was dropped; or it is the first one,
+ * and these very bytes are there. */
 static ferretgold_status place(const large_value *it, uint32_t number, const uint8_t *value,
-                               uint32_t charge, ferretgold_priority priority,
-                               ferretgold_inserted *inserted) {
+                               uint32_t charge, ferretgold_priority priority) {
     const ferretgold_key key = piece_key(it, number);
-    ferretgold_status status;
     uint8_t piece[MOST_PIECE];
     const size_t length = make_piece(it, number, value, piece);
     int left = TRIES;
-    *inserted = FERRETGOLD_DROPPED;
+    ferretgold_inserted came;
+    ferretgold_status status;
     do {
         if (number != 0) {
             (void)ferretgold_erase(it->client, &key, NULL);
         } else if (keeps_same(it, value)) {
+            return FERRETGOLD_MISS;
+        }
+        status = ferretgold_insert(it->client, &key, piece, length, charge, priority, &came);
+        if (status == FERRETGOLD_OK && came == FERRETGOLD_PLACED) {
             return FERRETGOLD_OK;
         }
-        status = ferretgold_insert(it->client, &key, piece, length, charge, priority, inserted);
         left--;
-    } while (left != 0 && *inserted == FERRETGOLD_DROPPED);
-    return status;
+    } while (left != 0);
+    return status == FERRETGOLD_OK ? FERRETGOLD_MISS : status;
 }
 
 /* Whether no piece was evicted for a later one. */
@@ -302,19 +304,19 @@ static bool are_there(const large_value *it, size_t count) {
 
 /* Inserts all pieces, the first one last. What isn't whole then is erased. */
 static ferretgold_status place_all(const large_value *it, const uint8_t *value, uint32_t charge,
-                                   ferretgold_priority priority, ferretgold_inserted *inserted) {
+                                   ferretgold_priority priority) {
     const uint32_t count = (uint32_t)pieces(it, it->head.length);
     for (uint32_t number = count; number-- > 0;) {
         const uint32_t share = charge / count + (number < charge % count);
-        const ferretgold_status status = place(it, number, value, share, priority, inserted);
-        if (status != FERRETGOLD_OK || *inserted == FERRETGOLD_DROPPED) {
+        const ferretgold_status status = place(it, number, value, share, priority);
+        if (status != FERRETGOLD_OK) {
             erase_pieces(it, number + 1, count);
             return status;
         }
     }
     if (!are_there(it, count)) {
         erase_rest(it);
-        *inserted = FERRETGOLD_DROPPED;
+        return FERRETGOLD_MISS;
     }
     return FERRETGOLD_OK;
 }
@@ -323,7 +325,6 @@ ferretgold_status ferretgold_put_large(ferretgold_client *client, const ferretgo
                                        const void *value, size_t length, uint32_t charge,
                                        ferretgold_priority priority,
                                        ferretgold_inserted *inserted) {
-    ferretgold_inserted came = FERRETGOLD_DROPPED;
     large_value it;
     if (client == NULL || key == NULL || (value == NULL && length != 0)) {
         return FERRETGOLD_NULL;
@@ -336,13 +337,14 @@ ferretgold_status ferretgold_put_large(ferretgold_client *client, const ferretgo
         return status;
     }
     note_insertion(&it, length);
-    if (!keeps_same(&it, value)) {
-        status = place_all(&it, value, charge, priority, &came);
+    status = keeps_same(&it, value) ? FERRETGOLD_MISS : place_all(&it, value, charge, priority);
+    if (status != FERRETGOLD_OK && status != FERRETGOLD_MISS) {
+        return status;
     }
-    if (status == FERRETGOLD_OK && inserted != NULL) {
-        *inserted = came;
+    if (inserted != NULL) {
+        *inserted = status == FERRETGOLD_OK ? FERRETGOLD_PLACED : FERRETGOLD_DROPPED;
     }
-    return status;
+    return FERRETGOLD_OK;
 }
 
 /* ---- Getting --------------------------------------------------------------------------------- */

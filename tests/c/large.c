@@ -358,6 +358,46 @@ static void no_place(void) {
     }
 }
 
+/* Where evictions give up at entries that are held, the first piece finds no place, and the others
+ * go again. */
+static void gives_up(void) {
+    for (int strict = 0; strict < 2; strict++) {
+        const ferretgold_config config = sizes_of(64, ROOM, strict != 0, 1 << 20);
+        const ferretgold_key key = {5, 0};
+        ferretgold_inserted came = FERRETGOLD_STANDALONE;
+        ferretgold_handle handle;
+        ferretgold_cache *cache;
+        ferretgold_client *client;
+        begin(&config, &cache, &client);
+        for (uint64_t n = 0; n < 51; n++) {
+            const ferretgold_key pinned = {n, 1};
+            EXPECT(ferretgold_insert_pinned(client, &pinned, "", 0, 1, FERRETGOLD_LOW, NULL,
+                                            &handle), 0);
+        }
+        EXPECT(ferretgold_put_large(client, &key, source, 3 * FULL, 3, FERRETGOLD_HIGH, &came),
+               strict != 0 ? 27 : 0);
+        EXPECT(came, strict != 0 ? 2 : 1);
+        EXPECT(usage_of(client), 51);
+        end(cache, client);
+    }
+}
+
+/* An eviction that frees too little leaves entries that a second one frees: it is made. */
+static void second_try(void) {
+    const ferretgold_config config = sizes_of(64, ROOM, true, 400);
+    const ferretgold_key key = {5, 0};
+    ferretgold_cache *cache;
+    ferretgold_client *client;
+    begin(&config, &cache, &client);
+    for (uint64_t n = 0; n < 40; n++) {
+        const ferretgold_key other = {n, 1};
+        EXPECT(ferretgold_insert(client, &other, "", 0, 10, FERRETGOLD_HIGH, NULL), 0);
+    }
+    EXPECT(ferretgold_put_large(client, &key, source, 1, 100, FERRETGOLD_LOW, NULL), 0);
+    EXPECT(ferretgold_get_large(client, &key, buffer, 1, false, NULL), 0);
+    end(cache, client);
+}
+
 int main(int count, char **words) {
     make_pattern();
     all_lengths();
@@ -368,6 +408,8 @@ int main(int count, char **words) {
     replacing();
     uses();
     no_place();
+    gives_up();
+    second_try();
     few_keys();
     threads(count > 1 ? (unsigned)strtoul(words[1], NULL, 10) : 5);
     printf("large: %d faults\n", faults);
