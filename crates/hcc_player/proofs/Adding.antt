@@ -83,9 +83,9 @@ comes steady (one ∷ found) old new adds =
 -- all lines were played
 pub is_tally : (steady : Type 0) (found : List (Option (List ℕ))) (r : ClientReport)
     → AddsAll steady found nothing r.tally
-    → r.hits + r.misses ≡ r.tally.blocks + r.tally.faults
+    → r.hits + r.misses ≡ r.tally.blocks + r.tally.faults → r.tally.faults ≤ r.misses
     → IsTally steady found r
-is_tally steady found r adds counted =
+is_tally steady found r adds counted failed =
     let all = comes steady found nothing r.tally adds in
     let there = all.there in
     let gone = all.gone in
@@ -95,6 +95,8 @@ is_tally steady found r adds counted =
       there = omega arith;
       gone = omega arith;
       counted = counted;
+      failed = failed;
+      had = omega arith;
       exact = λ s.
           let e = all.exact s in
           let faults = e.0 in
@@ -120,5 +122,7 @@ tally_for steady now found r keeps tally = record {
   there = tally.there;
   gone = tally.gone;
   counted = tally.counted;
+  failed = tally.failed;
+  had = tally.had;
   exact = λ s. tally.exact (keeps s);
 }

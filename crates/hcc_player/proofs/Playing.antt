@@ -1,5 +1,5 @@
 -- Workers that begin with a new cache, and end.
-use Rattle.std.proofs.Common.{◌≡◌, ℕ, ◌<◌, ◌≤◌, List, [], Some, length, map, get_or, slice_get, ap, subst, arith}
+use Rattle.std.proofs.Common.{◌≡◌, ℕ, ◌<◌, ◌≤◌, List, [], Some, length, map, get_or, slice_get, ap, subst, sym, ◌∙◌, arith}
 use Rattle.std.specs.List.{All}
 use Rattle.std.proofs.lemmas.Option.{get_or_from_slice_get, slice_get_within}
 use Rattle.hcc_cache.specs.declared.cache.Cache.{Cache}
@@ -20,7 +20,7 @@ use Rattle.hcc_player.specs.declared.sums.Sums.{Sums}
 use Rattle.hcc_player.specs.Deal.{AreDealt}
 use Rattle.hcc_player.specs.PlayBlocks.{ArePlayed}
 use Rattle.hcc_player.specs.Tally.{found_by, lines_for, IsTally}
-use Rattle.hcc_player.specs.Work.{AllWith, EachAt, Ends, IsIdle, IsReady, IsSetUp}
+use Rattle.hcc_player.specs.Work.{AllWith, EachAt, Ends, IsIdle, IsReady, IsSetUp, IsSteady}
 use Rattle.hcc_player.proofs.Adding.{tally_for}
 use Rattle.hcc_player.proofs.Fine.{IsBlockSize}
 use Rattle.hcc_player.proofs.Places.{all_at, each_all, each_map, each_with}
@@ -89,13 +89,15 @@ module _ {S : Type 0} (content : S → List (List ℕ)) (reliable : S → Type 0
       (λ k w here. one_ready begins k w (set k w here))
 
   -- A worker that has ended, for the client of a number.
-  pub record HasEnded (steady : Type 0) (number : ℕ) (d : Done FilesTag) : Type 0 where
-    pub idle : IsIdle cache d.client
-    pub tally : IsTally steady (found_by (files_of tag) tag.block (get_or lists number [])) d.report
+  pub record HasEnded (steady : (client : ℕ) → Type 0) (number : ℕ) (d : Done FilesTag) : Type 0
+    where
+      pub idle : IsIdle cache d.client
+      pub tally : IsTally (steady number)
+          (found_by (files_of tag) tag.block (get_or lists number [])) d.report
 
   one_ended : Begins → (k : ℕ) (w : Worker FilesTag S) (d : Done FilesTag)
       → IsSetUp clients sources lists tag.block k w → Ends fits_files content reliable cache w d
-      → HasEnded (All reliable sources) k d
+      → HasEnded (IsSteady reliable sources) k d
   one_ended begins k w d set ends =
       let files : content w.reader.source ≡ files_of tag =
       all_at (λ source. content source ≡ files_of tag) sources k w.reader.source
@@ -105,39 +107,43 @@ module _ {S : Type 0} (content : S → List (List ℕ)) (reliable : S → Type 0
       let tally = rw (files, set.block_is, ← lines) at ends.tally in
       record {
         idle = ends.idle;
-        tally = tally_for (All reliable sources) (reliable w.reader.source)
+        tally = tally_for (IsSteady reliable sources k) (reliable w.reader.source)
             (found_by (files_of tag) tag.block (get_or lists k [])) d.report
-            (λ all. all_at reliable sources k w.reader.source all set.source_is) tally;
+            (λ steady.
+            let told : Some steady.0 ≡ Some w.reader.source = sym steady.1 ∙ set.source_is in
+            let same : steady.0 ≡ w.reader.source = cc in subst reliable same steady.2) tally;
       }
 
   -- all workers have ended
   pub all_ended : Begins → (ws : List (Worker FilesTag S)) (ds : List (Done FilesTag))
       → EachAt (IsSetUp clients sources lists tag.block) ws
       → AllWith (Ends fits_files content reliable cache) ws ds
-      → EachAt (HasEnded (All reliable sources)) ds
+      → EachAt (HasEnded (IsSteady reliable sources)) ds
   all_ended begins ws ds set ends =
       each_with (IsSetUp clients sources lists tag.block)
-      (Ends fits_files content reliable cache) (HasEnded (All reliable sources)) ws ds
+      (Ends fits_files content reliable cache) (HasEnded (IsSteady reliable sources)) ws ds
       (one_ended begins) set ends
 
   -- their clients
-  pub all_idle : (steady : Type 0) (ds : List (Done FilesTag)) → EachAt (HasEnded steady) ds
+  pub all_idle : (steady : (client : ℕ) → Type 0) (ds : List (Done FilesTag))
+      → EachAt (HasEnded steady) ds
       → EachAt (λ k client. IsIdle cache client) (map (λ d. d.client) ds)
   all_idle steady ds ended =
       each_map (λ k client. IsIdle cache client) (λ d. d.client) ds
       (λ k d here. (ended k d here).idle)
 
   -- their reports
-  pub all_told : (steady : Type 0) (ds : List (Done FilesTag)) → EachAt (HasEnded steady) ds
-      → EachAt (λ k r. IsTally steady
+  pub all_told : (steady : (client : ℕ) → Type 0) (ds : List (Done FilesTag))
+      → EachAt (HasEnded steady) ds
+      → EachAt (λ k r. IsTally (steady k)
       (found_by (files_of tag) tag.block (get_or lists k [])) r) (map (λ d. d.report) ds)
   all_told steady ds ended =
-      each_map (λ k r. IsTally steady
+      each_map (λ k r. IsTally (steady k)
       (found_by (files_of tag) tag.block (get_or lists k [])) r) (λ d. d.report) ds
       (λ k d here. (ended k d here).tally)
 
 -- what clients report of the reads that were dealt to them is what they report of their lines
-pub played_lines : (files : List (List ℕ)) (size clients : ℕ) (steady : Type 0)
+pub played_lines : (files : List (List ℕ)) (size clients : ℕ) (steady : (client : ℕ) → Type 0)
     (reads : List BlockRead) (lists : List (List BlockRead)) (sums : Sums)
     (told : List ClientReport) → AreDealt clients reads lists
     → ArePlayed files size clients steady (λ client. get_or lists client []) sums told

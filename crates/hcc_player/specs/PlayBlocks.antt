@@ -18,16 +18,18 @@ use Rattle.hcc_player.specs.Work.{EachAt}
 
 -- What each of so many clients reports of its own reads over these files, in blocks of this size,
 -- and what is left of the cache: the charges and the slots of its entries are what its words say.
-pub record ArePlayed (files : List (List ℕ)) (size clients : ℕ) (steady : Type 0)
+-- A client whose own source is steady has no faults, whatever others do.
+pub record ArePlayed (files : List (List ℕ)) (size clients : ℕ) (steady : (client : ℕ) → Type 0)
     (reads_of : (client : ℕ) → List BlockRead) (sums : Sums) (told : List ClientReport)
     : Type 0 where
   pub count : length told ≡ clients
-  pub tallies : EachAt (λ client r. IsTally steady (found_by files size (reads_of client)) r) told
+  pub tallies : EachAt
+      (λ client r. IsTally (steady client) (found_by files size (reads_of client)) r) told
   pub charged : sums.charges ≡ sums.usage
   pub occupies : sums.slots ≡ sums.occupied
 
 -- These bytes report the reads of a trace, each client's by itself.
-pub record IsReport (files : List (List ℕ)) (o : Options) (steady : Type 0)
+pub record IsReport (files : List (List ℕ)) (o : Options) (steady : (client : ℕ) → Type 0)
     (text bytes : List ℕ) : Type 0 where
   pub reads : List BlockRead
   pub said : reads_in o.config.clients text ≡ Ok reads
@@ -38,14 +40,14 @@ pub record IsReport (files : List (List ℕ)) (o : Options) (steady : Type 0)
   pub bytes_are : bytes ≡ report_text sums told
 
 -- a report of the text was written, or a front of one
-abbrev pub Writes : List (List ℕ) → Options → (steady : Type 0) → (old new : Option (List ℕ))
-    → (text : List ℕ) → Type 0
+abbrev pub Writes : List (List ℕ) → Options → (steady : (client : ℕ) → Type 0)
+    → (old new : Option (List ℕ)) → (text : List ℕ) → Type 0
 Writes files o steady old new text =
     (bytes : List ℕ) × (length text ≤ MOST_INPUT) × IsReport files o steady text bytes
     × Appends old new bytes
 
-abbrev pub WritesPart : List (List ℕ) → Options → (steady : Type 0) → (old new : Option (List ℕ))
-    → (text : List ℕ) → Type 0
+abbrev pub WritesPart : List (List ℕ) → Options → (steady : (client : ℕ) → Type 0)
+    → (old new : Option (List ℕ)) → (text : List ℕ) → Type 0
 WritesPart files o steady old new text =
     (bytes : List ℕ) × (length text ≤ MOST_INPUT) × IsReport files o steady text bytes
     × AppendsPart old new bytes

@@ -1,5 +1,5 @@
 -- What a client's lines of a trace come to, whatever the cache keeps.
-use Rattle.std.specs.Prelude.{◌≡◌, ◌⊎◌, ℕ, ◌+◌, ◌%◌, ◌^◌, ◌==◌, List, [], ◌∷◌, Option, Some, None}
+use Rattle.std.specs.Prelude.{◌≡◌, ◌⊎◌, ℕ, ◌+◌, ◌%◌, ◌^◌, ◌≤◌, ◌==◌, List, [], ◌∷◌, Option, Some, None}
 use Rattle.std.specs.Prelude.{map, if◌then◌else◌, sum}
 use Rattle.hcc_block.specs.Blocks.{block_of}
 use Rattle.hcc_player.specs.declared.blocks.line.BlockRead.{BlockRead}
@@ -62,13 +62,15 @@ AddsAll steady (one ∷ found) old new =
     (between : Tally) × Adds steady one old between × AddsAll steady found between new
 
 -- What a client reports of blocks that were found so. Each line is a block, a fault or missing;
--- each that is there is a hit or a miss. Where the source is steady there is no fault, and the sum
--- is that of all bytes.
+-- each that is there is a hit or a miss, and a fault is a miss, so that hits are blocks. Where the
+-- source is steady there is no fault, and the sum is that of all bytes.
 pub record IsTally (steady : Type 0) (found : List (Option (List ℕ))) (r : ClientReport) : Type 0
   where
     pub adds : AddsAll steady found nothing r.tally
     pub there : r.tally.blocks + r.tally.faults ≡ count_there found
     pub gone : r.tally.missing ≡ count_missing found
     pub counted : r.hits + r.misses ≡ r.tally.blocks + r.tally.faults
+    pub failed : r.tally.faults ≤ r.misses
+    pub had : r.hits ≤ r.tally.blocks
     pub exact : steady → (r.tally.blocks ≡ count_there found) × (r.tally.faults ≡ 0)
         × (r.tally.sum ≡ sum_found found % 2 ^ 64)

@@ -24,6 +24,11 @@ AllWith P [] (y ∷ ys) = ⊥
 AllWith P (x ∷ xs) [] = ⊥
 AllWith P (x ∷ xs) (y ∷ ys) = P x y × AllWith P xs ys
 
+-- the source of the client of this number never fails
+abbrev pub IsSteady : {S : Type 0} → (reliable : S → Type 0) → List S → (client : ℕ) → Type 0
+IsSteady {S} reliable sources client =
+    (source : S) × (slice_get sources client ≡ Some source) × reliable source
+
 -- Of one worker.
 
 -- a client of this cache that holds nothing

@@ -9,7 +9,7 @@ ghost use Rattle.hcc_player.specs.Options.{options_check};
 ghost use Rattle.hcc_player.specs.PlayBlocks.{ArePlayed, EndsBlocks, FailsToReport, IsReport};
 ghost use Rattle.hcc_player.specs.PlayBlocks.{Writes, WritesAtEnd, WritesPart};
 ghost use Rattle.hcc_player.specs.Script.{lines_of, AllSay};
-ghost use Rattle.hcc_player.specs.Work.{EachAt, IsIdle};
+ghost use Rattle.hcc_player.specs.Work.{EachAt, IsIdle, IsSteady};
 
 use super::crew::{apart, crew};
 use super::deal::dealt;
@@ -73,7 +73,7 @@ pub fn play_blocks<
 
     // In every order of the threads' steps, what is written reports the reads of the text.
     ensures written { OnOk result (IfSome (R.remaining reader.old)
-        (Writes (map (λ file. file.items) files.now) options.now (All S.reliable sources.items)
+        (Writes (map (λ file. file.items) files.now) options.now (IsSteady S.reliable sources.items)
         (W.contents writer.old) (W.contents writer.new))) }
 
     // Each line of it says a read, and nothing stands behind the last line feed.
@@ -91,7 +91,7 @@ pub fn play_blocks<
     ensures part { OnErr result (IfSome (R.remaining reader.old) (λ text.
         Keeps (W.contents writer.old) (W.contents writer.new)
         ⊎ WritesPart (map (λ file. file.items) files.now) options.now
-        (All S.reliable sources.items) (W.contents writer.old) (W.contents writer.new)
+        (IsSteady S.reliable sources.items) (W.contents writer.old) (W.contents writer.new)
         text)) }
 
     // The reading ends with the first byte that is too many.
@@ -120,8 +120,8 @@ fn report_of<S: BlockSource + Send + Drop, G: Gate + Sync, X: Threads + Sync>(
     requires content { All (λ source. S.content source ≡ map (λ file. file.items) files.now)
         sources.items }
     ensures report { IfOk result (λ report.
-        IsReport (map (λ file. file.items) files.now) options.now (All S.reliable sources.items)
-        text.now (string_bytes report)) }
+        IsReport (map (λ file. file.items) files.now) options.now
+        (IsSteady S.reliable sources.items) text.now (string_bytes report)) }
     ensures lines { OnOk result
         (AllSay (block_line options.now.config.clients) (lines_of text.now)) }
     ensures err { IfErr result (λ error.
@@ -152,7 +152,7 @@ fn played<S: BlockSource + Send + Drop, G: Gate + Sync, X: Threads + Sync>(
     requires reads { length reads.items ≡ options.now.config.clients }
     ensures { IfOk result (λ played.
         ArePlayed (map (λ file. file.items) files.now) options.now.block
-        options.now.config.clients (All S.reliable sources.items)
+        options.now.config.clients (IsSteady S.reliable sources.items)
         (λ client. slice_index_or (map (λ list. list.items) reads.items) client [])
         played.0 played.1.items) }
 {

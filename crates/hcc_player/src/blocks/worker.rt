@@ -133,6 +133,7 @@ fn play_line<T: Tag + Copy + Drop, S: BlockSource>(
     requires few { lines_of_tally tally.old < 2 ^ 63 }
     requires counted { reader.old.hits + reader.old.misses
         ≡ tally.old.blocks + tally.old.faults }
+    requires failed { tally.old.faults ≤ reader.old.misses }
     ensures adds { Adds (S.reliable reader.old.source)
         (block_of (S.content reader.old.source) reader.old.block line.file line.index)
         tally.old tally.new }
@@ -140,6 +141,7 @@ fn play_line<T: Tag + Copy + Drop, S: BlockSource>(
         ⊎ Fails (S.failed reader.old.source) (S.failed reader.new.source) }
     ensures counted { reader.new.hits + reader.new.misses
         ≡ tally.new.blocks + tally.new.faults }
+    ensures failed { tally.new.faults ≤ reader.new.misses }
     ensures lines { lines_of_tally tally.new ≡ lines_of_tally tally.old + 1 }
     ensures reliable { S.reliable reader.old.source → S.reliable reader.new.source }
     ensures content { S.content reader.new.source ≡ S.content reader.old.source }

@@ -1,6 +1,6 @@
 use Rattle.std.proofs.Common.{map, string_bytes}
-use Rattle.std.specs.List.{All}
 use Rattle.hcc_player.specs.PlayBlocks.{IsReport, WritesPart}
+use Rattle.hcc_player.specs.Work.{IsSteady}
 use Rattle.hcc_player.proofs.ByteLemmas.{on_error}
 use Rattle.hcc_player.proofs.Reporting.{flushed, part_known}
 use Rattle.hcc_player.proofs.blocks.play.play_blocks.Goals as goal
@@ -9,7 +9,7 @@ pub returns-clause-part : goal.returns-clause-part
 returns-clause-part g c =
     let options = c.args.options.now in
     let files = map (λ file. file.items) c.args.files.now in
-    let steady = All g.S.BlockSource.reliable c.args.sources.items in
+    let steady = IsSteady g.S.BlockSource.reliable c.args.sources.items in
     let whole = c.in_ok-text.ensures.whole in
     let bytes = string_bytes c.in_ok-report.report in
     let out = c.in_ok-write_out.ensures.ok in

@@ -1,6 +1,6 @@
 use Rattle.std.proofs.Common.{map, length, ap, ◌∙◌}
-use Rattle.std.specs.List.{All}
 use Rattle.hcc_block.specs.declared.tag.FilesTag.{FilesTag}
+use Rattle.hcc_player.specs.Work.{IsSteady}
 use Rattle.hcc_player.proofs.Fine.{block_size}
 use Rattle.hcc_player.proofs.Places.{count_map}
 use Rattle.hcc_player.proofs.Playing.{all_ended, all_idle, all_ready, all_told, Begins}
@@ -39,7 +39,7 @@ closed-closed-requires-clause-idle g c =
     rw c.in_ok-clients.ensures.clients
     (all_idle g.S.BlockSource.content g.S.BlockSource.reliable options.config tag c.in-Ok.cache
     c.in-Ok.clients.items c.args.sources.items lists
-    (All g.S.BlockSource.reliable c.args.sources.items) done ended)
+    (IsSteady g.S.BlockSource.reliable c.args.sources.items) done ended)
 
 pub returns : goal.returns
 returns g c =
@@ -63,7 +63,7 @@ returns g c =
       tallies = rw reports
           (all_told g.S.BlockSource.content g.S.BlockSource.reliable options.config tag
           c.in-Ok.cache c.in-Ok.clients.items c.args.sources.items lists
-          (All g.S.BlockSource.reliable c.args.sources.items) done ended);
+          (IsSteady g.S.BlockSource.reliable c.args.sources.items) done ended);
       charged = c.sums_of.ensures.charged;
       occupies = c.sums_of.ensures.occupies;
     }

@@ -1,6 +1,6 @@
 use Rattle.std.proofs.Common.{map}
-use Rattle.std.specs.List.{All}
 use Rattle.hcc_player.specs.BlocksLine.{reads_in}
+use Rattle.hcc_player.specs.Work.{IsSteady}
 use Rattle.hcc_player.proofs.Playing.{played_lines}
 use Rattle.hcc_player.proofs.Splits.{said_of}
 use Rattle.hcc_player.proofs.blocks.play.report_of.Goals as goal
@@ -10,7 +10,7 @@ returns-clause-report g c =
     let options = c.args.options.now in
     let clients = options.config.clients in
     let files = map (λ file. file.items) c.args.files.now in
-    let steady = All g.S.BlockSource.reliable c.args.sources.items in
+    let steady = IsSteady g.S.BlockSource.reliable c.args.sources.items in
     let reads = said_of (reads_in clients c.args.text.now) c.in_ok-judge_all.ensures.ok in
     let dealt = rw reads.1 at c.in_ok-reads.ensures.dealt in
     record {

@@ -27,6 +27,7 @@ loop-line-preserved g c =
       lines = told.lines ∙ ap (λ n. n + 1) so_far.lines;
       calls = ap (λ n. n + 1) so_far.calls;
       counted = told.counted;
+      failed = told.failed;
       steady = λ s. told.reliable (so_far.steady s);
       adds = λ new rest.
           so_far.adds new
@@ -47,7 +48,9 @@ returns-clause-tally g c =
     let lines = c.args.lines.now in
     let tally = c.loop-line.tally in
     let counted = rw (← c.hits.ensures, ← c.misses.ensures) at so_far.counted in
+    let failed = rw (← c.misses.ensures) at so_far.failed in
     let none = rest_none files size lines c.loop-line.line-index c.loop-line-test.false in
     is_tally steady (found_by files size lines)
     (record { tally = tally; hits = c.hits.result; misses = c.misses.result })
     (so_far.adds tally (subst (λ found. AddsAll steady found tally tally) (sym none) refl)) counted
+    failed

@@ -18,6 +18,7 @@ invariant-loop-line g l =
       lines : lines_of_tally l.tally ≡ l.line-index;
       calls : l.call ≡ l.line-index;
       counted : l.reader.hits + l.reader.misses ≡ l.tally.blocks + l.tally.faults;
+      failed : l.tally.faults ≤ l.reader.misses;
       steady : reliable l.initial.reader.source → reliable l.reader.source;
       adds : (new : Tally)
           → AddsAll (reliable l.initial.reader.source)
