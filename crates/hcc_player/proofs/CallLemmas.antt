@@ -1,10 +1,14 @@
 -- What the calls of a trace leave of a client and its registers.
-use Rattle.std.proofs.Common.{◌≡◌, ◌≢◌, ℕ, ◌+◌, ◌<◌, true, false, List, ◌++◌, Option, Some}
-use Rattle.std.proofs.Common.{None, Result, Ok, Err, IsSome, length, refl, sym, ap, ◌∙◌, subst}
-use Rattle.std.specs.Prelude.{is_some, slice_set}
+use Rattle.std.proofs.Common.{◌≡◌, ℕ, zero, suc, ◌+◌, ◌<◌, ◌≤◌, true, false, List, Option, Some}
+use Rattle.std.proofs.Common.{None, Result, Ok, Err, IsSome, length, inl, inr, refl, sym, ap, ◌∙◌}
+use Rattle.std.proofs.Common.{subst, arith}
+use Rattle.std.specs.Prelude.{◌↔◌, is_some, slice_set}
+use Rattle.std.proofs.lemmas.Bool.{cases_lt}
+use Rattle.std.proofs.Math.Nat.{eq-or-lt_of_le}
 use Rattle.hcc_rule.specs.declared.key.Key.{Key}
 use Rattle.hcc_cache.specs.declared.cache.Cache.{Cache}
 use Rattle.hcc_cache.specs.declared.client.Client.{Client}
+use Rattle.hcc_cache.specs.declared.config.Config.{Config}
 use Rattle.hcc_cache.specs.declared.errors.InsertError.{InsertError}
 use Rattle.hcc_cache.specs.declared.errors.InsertError.TheVariants as errors
 use Rattle.hcc_cache.specs.declared.errors.LookupError.{LookupError}
@@ -14,16 +18,30 @@ use Rattle.hcc_cache.specs.declared.holding.Hold.{Hold}
 use Rattle.hcc_cache.specs.declared.inserting.Inserted.{Inserted}
 use Rattle.hcc_cache.specs.declared.inserting.Inserted.TheVariants as inserted
 use Rattle.hcc_cache.specs.declared.priority.Priority.{Priority}
-use Rattle.hcc_cache.specs.Calls.{Finds, Loses, Rerefs}
-use Rattle.hcc_cache.specs.Clients.{Held, held_of, hold_of, Holds}
+use Rattle.hcc_cache.specs.Calls.{Finds, Misses, Releases, Rerefs}
+use Rattle.hcc_cache.specs.Clients.{Held, Insertion, held_by, held_entry, held_of, hold_of, Holds}
+use Rattle.hcc_cache.specs.Configs.{shard_capacity}
 use Rattle.hcc_cache.specs.Inserts.{Inserts, InsertsWith, RefusesWith}
 use Rattle.hcc_cache.specs.Known.{Knows}
+use Rattle.hcc_player.specs.declared.run.answer.Answer.{Answer}
 use Rattle.hcc_player.specs.declared.run.answer.Answer.TheVariants as answers
+use Rattle.hcc_player.specs.declared.run.call.Call.{Call}
 use Rattle.hcc_player.specs.declared.run.call.Call.TheVariants as calls
-use Rattle.hcc_player.specs.Registers.{at, AreFilled, IsFilled, IsOn}
-use Rattle.hcc_player.specs.RunAnswers.{Keys, with_key, keys_by, placed_answer, refusal_of, IsRight}
+use Rattle.hcc_player.specs.Registers.{at, AreFilled, IsFilled, IsLimited, IsOn}
+use Rattle.hcc_player.specs.RunAnswers.{insert_answer, placed_answer, refusal_of, IsRight}
+use Rattle.hcc_player.specs.RunStates.{IsRefused, MayHold, MayInsert, RefusesPin, State}
+use Rattle.hcc_player.specs.RunStates.{with_emptied, with_filled, with_serial}
 use Rattle.hcc_player.proofs.RegisterLemmas.{less_filled, more_filled, on_register}
-use Rattle.hcc_player.proofs.RegisterLemmas.{same_filled}
+use Rattle.hcc_player.proofs.RegisterLemmas.{same_filled, serial_filled}
+
+-- no handle is in a register that a look finds empty
+pub no_handle : (handles : List (Option Handle)) (r : ℕ) → is_some (at handles r) ≡ false
+    → at handles r ≡ None
+no_handle handles r none = by (at handles r) none
+  where
+    by : (x : Option Handle) → is_some x ≡ false → x ≡ None
+    by None e = refl
+    by (Some h) e = cc
 
 module _ {T : Type 0} (fits : T → Key → List ℕ → Type 0) (cache : Cache T) where
   -- a handle that stands for something is held
@@ -34,189 +52,371 @@ module _ {T : Type 0} (fits : T → Key → List ℕ → Type 0) (cache : Cache 
       let no : None ≡ Some held = sym none ∙ stands in cc
   held_some client h held (Some hold) e stands = rw e refl
 
-  pub on_holds : (client : Client T) (h : Handle) (key : Option Key)
-      → IsOn fits cache client h key → Holds client h
-  on_holds client h key on = held_some client h on.held (hold_of client h) refl on.here
+  pub on_holds : (client : Client T) (h : Handle) (told : Option Insertion)
+      → IsOn fits cache client h told → Holds client h
+  on_holds client h told on = held_some client h on.held (hold_of client h) refl on.here
 
-  -- the key of a register that is full, or empty
-  pub full_key : (keys : Keys) (client : Client T) (handles : List (Option Handle)) (r : ℕ)
-      (h : Handle) → at handles r ≡ Some h → AreFilled fits cache keys client handles
-      → IsSome (keys r)
-  full_key keys client handles r h full filled =
-      let on = on_register fits cache keys client handles r h full filled in rw on.keyed refl
+module _ {T : Type 0} (fits : T → Key → List ℕ → Type 0) (cache : Cache T) (config : Config) where
+  -- Of registers.
 
-  some_key : (keys : Keys) (client : Client T) (handles : List (Option Handle)) (r : ℕ)
+  pub full_told : (s : State) (client : Client T) (handles : List (Option Handle)) (r : ℕ)
+      (h : Handle) → at handles r ≡ Some h → AreFilled fits cache config s client handles
+      → IsSome (s.registers r)
+  full_told s client handles r h full filled =
+      let on = on_register fits cache config s client handles r h full filled in
+      rw on.inserted refl
+
+  some_told : (s : State) (client : Client T) (handles : List (Option Handle)) (r : ℕ)
       (x : Option Handle) → at handles r ≡ x → is_some x ≡ true
-      → AreFilled fits cache keys client handles → IsSome (keys r)
-  some_key keys client handles r None full told filled = cc
-  some_key keys client handles r (Some h) full told filled =
-      full_key keys client handles r h full filled
+      → AreFilled fits cache config s client handles → IsSome (s.registers r)
+  some_told s client handles r None full told filled = cc
+  some_told s client handles r (Some h) full told filled =
+      full_told s client handles r h full filled
 
-  pub busy_key : (keys : Keys) (client : Client T) (handles : List (Option Handle)) (r : ℕ)
-      → is_some (at handles r) ≡ true → AreFilled fits cache keys client handles → IsSome (keys r)
-  busy_key keys client handles r full filled =
-      some_key keys client handles r (at handles r) refl full filled
+  pub busy_told : (s : State) (client : Client T) (handles : List (Option Handle)) (r : ℕ)
+      → is_some (at handles r) ≡ true → AreFilled fits cache config s client handles
+      → IsSome (s.registers r)
+  busy_told s client handles r full filled =
+      some_told s client handles r (at handles r) refl full filled
 
-  pub empty_key : (keys : Keys) (client : Client T) (handles : List (Option Handle)) (r : ℕ)
-      → at handles r ≡ None → AreFilled fits cache keys client handles → keys r ≡ None
-  empty_key keys client handles r empty filled =
-      subst (IsFilled fits cache client (keys r)) empty (filled.each r)
-
-  pub no_handle : (handles : List (Option Handle)) (r : ℕ) → is_some (at handles r) ≡ false
-      → at handles r ≡ None
-  no_handle handles r none = by (at handles r) none
-    where
-      by : (x : Option Handle) → is_some x ≡ false → x ≡ None
-      by None e = refl
-      by (Some h) e = cc
+  pub empty_told : (s : State) (client : Client T) (handles : List (Option Handle)) (r : ℕ)
+      → at handles r ≡ None → AreFilled fits cache config s client handles
+      → s.registers r ≡ None
+  empty_told s client handles r empty filled =
+      subst (IsFilled fits cache client (s.registers r)) empty (filled.each r)
 
   -- nothing happened to the client
-  pub stays : (keys : Keys) (old new : Client T) (handles : List (Option Handle)) → new ≡ old
-      → AreFilled fits cache keys old handles → AreFilled fits cache keys new handles
-  stays keys old new handles same filled = rw same filled
+  pub stays : (s : State) (old new : Client T) (handles : List (Option Handle)) → new ≡ old
+      → AreFilled fits cache config s old handles → AreFilled fits cache config s new handles
+  stays s old new handles same filled = rw same filled
+
+  -- Of limits.
+
+  may_hold : (s : State) (client : Client T) → IsLimited fits cache config s client
+      → held_by client < client.most → 0 < client.left → MayHold config s
+  may_hold s client l room some =
+      let full = l.full in
+      let most = l.most in
+      let serials = l.serials in (omega arith, omega arith)
+
+  may_insert : (s : State) (client : Client T) (charge : ℕ) → IsLimited fits cache config s client
+      → 0 < client.left → (cache.strict ≡ true → charge ≤ cache.capacity)
+      → MayInsert config s charge
+  may_insert s client charge l some small =
+      let serials = l.serials in (
+        omega arith,
+        λ strict. subst (λ n. charge ≤ n) l.capacity (small (l.strict ∙ strict)),
+      )
+
+  -- a client with no serial left
+  all_used : (s : State) (client : Client T) → IsLimited fits cache config s client
+      → client.left ≡ 0 → config.serials ≤ s.used
+  all_used s client l none = let serials = l.serials in omega arith
+
+  -- or with some left, as it wasn't told that it has none
+  some_left : (left : ℕ) → ¬ (left ≡ 0) → 0 < left
+  some_left zero none = absurd (none refl)
+  some_left (suc left) none = omega arith
+
+  within_most : (held most : ℕ) → held ≤ most → ¬ (held ≡ most) → held < most
+  within_most held most few other =
+      elim (eq-or-lt_of_le few) [ inl same ↦ absurd (other same) | inr less ↦ less ]
+
+  -- what is not too large
+  small_enough : (charge capacity : ℕ) → (capacity < charge → ⊥) → charge ≤ capacity
+  small_enough charge capacity never =
+      elim (cases_lt capacity charge) [ inl over ↦ absurd (never over) | inr fine ↦ fine ]
+
+  -- Of look-ups, and of more handles: by what was answered, and when that is refused.
+  module _ {A : Type 0} (s : State) (client : Client T) (result : Result A LookupError) where
+    pub may_look : (a : A) → result ≡ Ok a → Knows cache client
+        → IsLimited fits cache config s client
+        → ((result ≡ Err lookups.HandlesFull) ↔ (held_by client ≡ client.most))
+        → ((result ≡ Err lookups.Spent)
+        ↔ ((held_by client < client.most) × (client.left ≡ 0)))
+        → MayHold config s
+    may_look a is known l full spent =
+        let room : held_by client < client.most =
+        within_most (held_by client) client.most known.few
+        (λ same. let no : Ok a ≡ Err lookups.HandlesFull = sym is ∙ full.1 same in cc) in
+        may_hold s client l room
+        (some_left client.left
+        (λ none. let no : Ok a ≡ Err lookups.Spent = sym is ∙ spent.1 (room, none) in cc))
+
+    pub look_refused : (error : LookupError) → result ≡ Err error
+        → IsLimited fits cache config s client
+        → ((result ≡ Err lookups.HandlesFull) ↔ (held_by client ≡ client.most))
+        → ((result ≡ Err lookups.Spent)
+        ↔ ((held_by client < client.most) × (client.left ≡ 0)))
+        → IsRefused config (refusal_of error) s
+    look_refused lookups.HandlesFull is l full spent =
+        let same = full.0 is in
+        let held = l.full in
+        let most = l.most in omega arith
+    look_refused lookups.Spent is l full spent =
+        let due = spent.0 is in
+        let room = due.0 in
+        let held = l.full in
+        let most = l.most in (omega arith, all_used s client l due.1)
 
   -- Insertions.
 
-  pub insert_filled : (keys : Keys) (old new : Client T) (handles : List (Option Handle))
+  insert_room : (s : State) (client : Client T) (charge : ℕ) (told : Result Inserted InsertError)
+      → IsLimited fits cache config s client
+      → ((told ≡ Err errors.Spent) ↔ (client.left ≡ 0))
+      → ((told ≡ Err errors.TooLarge)
+      ↔ ((0 < client.left) × (cache.strict ≡ true) × (cache.capacity < charge)))
+      → ¬ (told ≡ Err errors.Spent) → ¬ (told ≡ Err errors.TooLarge)
+      → MayInsert config s charge
+  insert_room s client charge told l spent large unspent fine =
+      let some : 0 < client.left = some_left client.left (λ none. unspent (spent.1 none)) in
+      may_insert s client charge l some
+      (λ strict. small_enough charge cache.capacity (λ over. fine (large.1 (some, strict, over))))
+
+  pub insert_goes : (s : State) (old new : Client T) (handles : List (Option Handle))
       (key : Key) (charge : ℕ) (priority : Priority) (value : List ℕ)
-      (answer : Result Inserted InsertError) → Knows cache new
-      → Inserts cache key charge priority value answer old new
-      → AreFilled fits cache keys old handles → AreFilled fits cache keys new handles
-  insert_filled keys old new handles k t q v (Ok inserted.Placed) known i filled =
-      same_filled fits cache keys old new handles known i.keeps.all i.keeps.count filled
-  insert_filled keys old new handles k t q v (Ok inserted.Dropped) known i filled =
-      same_filled fits cache keys old new handles known i.keeps.all i.keeps.count filled
-  insert_filled keys old new handles k t q v (Ok inserted.Standalone) known i filled = absurd i
-  insert_filled keys old new handles k t q v (Err errors.HandlesFull) known i filled = absurd i
-  insert_filled keys old new handles k t q v (Err errors.Spent) known i filled =
-      stays keys old new handles i filled
-  insert_filled keys old new handles k t q v (Err errors.TooLarge) known i filled =
-      stays keys old new handles i filled
-  insert_filled keys old new handles k t q v (Err errors.CapacityFull) known i filled =
-      same_filled fits cache keys old new handles known i.keeps.all i.keeps.count filled
-  insert_filled keys old new handles k t q v (Err errors.OccupancyFull) known i filled =
-      same_filled fits cache keys old new handles known i.keeps.all i.keeps.count filled
-
-  pub insert_placed : (keys : Keys) (old new : Client T) (key : Key) (charge : ℕ)
-      (priority : Priority) (value : List ℕ) (told : Inserted)
-      → Inserts cache key charge priority value (Ok told) old new
-      → IsRight (fits cache.tag) keys (calls.Insert key charge priority value) (placed_answer told)
+      (told : Result Inserted InsertError) → Knows cache new
+      → ((told ≡ Err errors.Spent) ↔ (old.left ≡ 0))
+      → ((told ≡ Err errors.TooLarge)
+      ↔ ((0 < old.left) × (cache.strict ≡ true) × (cache.capacity < charge)))
+      → Inserts cache key charge priority value told old new
+      → AreFilled fits cache config s old handles
+      → (next : State)
+      × IsRight (fits cache.tag) config s (calls.Insert key charge priority value)
+      (insert_answer told) next
+      × AreFilled fits cache config next new handles
   unfolding IsRight
-  insert_placed keys old new k t q v inserted.Placed i = tt
-  insert_placed keys old new k t q v inserted.Dropped i = tt
-  insert_placed keys old new k t q v inserted.Standalone i = absurd i
-
-  pub insert_refused : (old new : Client T) (key : Key) (charge : ℕ)
-      (priority : Priority) (value : List ℕ) (error : InsertError)
-      → Inserts cache key charge priority value (Err error) old new → error ≢ errors.HandlesFull
-  insert_refused old new k t q v errors.HandlesFull i same = absurd i
-  insert_refused old new k t q v errors.Spent i same = cc
-  insert_refused old new k t q v errors.TooLarge i same = cc
-  insert_refused old new k t q v errors.CapacityFull i same = cc
-  insert_refused old new k t q v errors.OccupancyFull i same = cc
+  insert_goes s old new handles k t q v (Ok inserted.Placed) known spent large i filled = (
+    with_serial s,
+    (
+      insert_room s old t (Ok inserted.Placed) filled.limited spent large (λ e. cc) (λ e. cc),
+      refl,
+    ),
+    serial_filled fits cache config s old new handles known i.works.self i.keeps filled,
+  )
+  insert_goes s old new handles k t q v (Ok inserted.Dropped) known spent large i filled = (
+    with_serial s,
+    (
+      insert_room s old t (Ok inserted.Dropped) filled.limited spent large (λ e. cc) (λ e. cc),
+      refl,
+    ),
+    serial_filled fits cache config s old new handles known i.works.self i.keeps filled,
+  )
+  insert_goes s old new handles k t q v (Ok inserted.Standalone) known spent large i filled =
+      absurd i
+  insert_goes s old new handles k t q v (Err errors.HandlesFull) known spent large i filled =
+      absurd i
+  insert_goes s old new handles k t q v (Err errors.Spent) known spent large i filled = (
+    s,
+    (all_used s old filled.limited (spent.0 refl), refl),
+    stays s old new handles i filled,
+  )
+  insert_goes s old new handles k t q v (Err errors.TooLarge) known spent large i filled =
+      let due = large.0 refl in
+      let serials = filled.limited.serials in
+      let some = due.0 in (
+        s,
+        (
+          omega arith,
+          sym filled.limited.strict ∙ due.1,
+          subst (λ n. n < t) filled.limited.capacity due.2,
+          refl,
+        ),
+        stays s old new handles i filled,
+      )
+  insert_goes s old new handles k t q v (Err errors.CapacityFull) known spent large i filled = (
+    with_serial s,
+    (
+      insert_room s old t (Err errors.CapacityFull) filled.limited spent large (λ e. cc)
+          (λ e. cc),
+      sym filled.limited.strict ∙ i.told.1,
+      refl,
+    ),
+    serial_filled fits cache config s old new handles known i.works.self i.keeps filled,
+  )
+  insert_goes s old new handles k t q v (Err errors.OccupancyFull) known spent large i filled = (
+    with_serial s,
+    (
+      insert_room s old t (Err errors.OccupancyFull) filled.limited spent large (λ e. cc)
+          (λ e. cc),
+      sym filled.limited.strict ∙ i.told.1,
+      refl,
+    ),
+    serial_filled fits cache config s old new handles known i.works.self i.keeps filled,
+  )
 
   -- Insertions with a handle.
 
-  pub pin_goes : (keys : Keys) (old new : Client T) (handles : List (Option Handle)) (r : ℕ)
+  pub pin_goes : (s : State) (old new : Client T) (handles : List (Option Handle)) (r : ℕ)
       (key : Key) (charge : ℕ) (priority : Priority) (value : List ℕ) (handle : Handle)
       (told : Inserted) → Knows cache new
+      → ((held_by old < old.most) × (0 < old.left)
+      × (cache.strict ≡ true → charge ≤ cache.capacity))
       → InsertsWith cache key charge priority value handle told old new → fits cache.tag key value
-      → at handles r ≡ None → r < length handles → AreFilled fits cache keys old handles
-      → IsRight (fits cache.tag) keys (calls.Pin r key charge priority value) (placed_answer told)
-      × AreFilled fits cache (keys_by keys (calls.Pin r key charge priority value)
-      (placed_answer told)) new (slice_set handles r (Some handle))
-  unfolding IsRight keys_by
-  pin_goes keys old new handles r k t q v handle inserted.Placed known i right empty within
+      → at handles r ≡ None → r < length handles → AreFilled fits cache config s old handles
+      → (next : State)
+      × IsRight (fits cache.tag) config s (calls.Pin r key charge priority value)
+      (placed_answer told) next
+      × AreFilled fits cache config next new (slice_set handles r (Some handle))
+  unfolding IsRight
+  pin_goes s old new handles r k t q v handle inserted.Placed known may i right empty within
       filled = (
-        empty_key keys old handles r empty filled,
-        more_filled fits cache keys old new handles r handle _ known i.gains.free i.gains.stands
-            i.gains.others i.gains.count right empty within filled,
+        with_filled s r (record { key = k; value = v; charge = t }),
+        (
+          empty_told s old handles r empty filled,
+          (
+            (may_hold s old filled.limited may.0 may.1).0,
+            may_insert s old t filled.limited may.1 may.2,
+            refl,
+          ),
+        ),
+        more_filled fits cache config s old new handles r handle _ known i.asks.works.self i.gains
+            right empty within filled,
       )
-  pin_goes keys old new handles r k t q v handle inserted.Standalone known i right empty within
+  pin_goes s old new handles r k t q v handle inserted.Standalone known may i right empty within
       filled = (
-        empty_key keys old handles r empty filled,
-        more_filled fits cache keys old new handles r handle _ known i.gains.free i.gains.stands
-            i.gains.others i.gains.count right empty within filled,
+        with_filled s r (record { key = k; value = v; charge = t }),
+        (
+          empty_told s old handles r empty filled,
+          (
+            (may_hold s old filled.limited may.0 may.1).0,
+            may_insert s old t filled.limited may.1 may.2,
+            refl,
+          ),
+        ),
+        more_filled fits cache config s old new handles r handle _ known i.asks.works.self i.gains
+            right empty within filled,
       )
-  pin_goes keys old new handles r k t q v handle inserted.Dropped known i right empty within
+  pin_goes s old new handles r k t q v handle inserted.Dropped known may i right empty within
       filled =
       absurd i
 
-  pub pin_refused : (keys : Keys) (old new : Client T) (handles : List (Option Handle))
+  -- When one is refused: what is told of each refusal.
+  abbrev IsDue : InsertError → Client T → (charge : ℕ) → Type 0
+  IsDue error client charge =
+      ((error ≡ errors.HandlesFull) ↔ (held_by client ≡ client.most))
+      × ((error ≡ errors.Spent) ↔ ((held_by client < client.most) × (client.left ≡ 0)))
+      × ((error ≡ errors.TooLarge) ↔ ((held_by client < client.most) × (0 < client.left)
+      × (cache.strict ≡ true) × (cache.capacity < charge)))
+
+  -- one that was begun
+  pin_room : (s : State) (client : Client T) (charge : ℕ) (error : InsertError)
+      → Knows cache client → IsLimited fits cache config s client → IsDue error client charge
+      → ¬ (error ≡ errors.HandlesFull) → ¬ (error ≡ errors.Spent) → ¬ (error ≡ errors.TooLarge)
+      → (s.full < config.handles) × MayInsert config s charge
+  pin_room s client charge error known l due free unspent fine =
+      let room : held_by client < client.most =
+      within_most (held_by client) client.most known.few (λ same. free (due.0.1 same)) in
+      let some : 0 < client.left =
+      some_left client.left (λ none. unspent (due.1.1 (room, none))) in (
+        (may_hold s client l room some).0,
+        may_insert s client charge l some (λ strict. small_enough charge cache.capacity
+            (λ over. fine (due.2.1 (room, some, strict, over)))),
+      )
+
+  pub pin_refused : (s : State) (old new : Client T) (handles : List (Option Handle))
       (key : Key) (charge : ℕ) (priority : Priority) (value : List ℕ) (error : InsertError)
-      → Knows cache new → RefusesWith cache key charge priority value error old new
-      → AreFilled fits cache keys old handles → AreFilled fits cache keys new handles
-  pin_refused keys old new handles k t q v errors.HandlesFull known i filled =
-      stays keys old new handles i filled
-  pin_refused keys old new handles k t q v errors.Spent known i filled =
-      stays keys old new handles i filled
-  pin_refused keys old new handles k t q v errors.TooLarge known i filled =
-      stays keys old new handles i filled
-  pin_refused keys old new handles k t q v errors.CapacityFull known i filled =
-      same_filled fits cache keys old new handles known i.keeps.all i.keeps.count filled
-  pin_refused keys old new handles k t q v errors.OccupancyFull known i filled =
-      same_filled fits cache keys old new handles known i.keeps.all i.keeps.count filled
+      → Knows cache new → IsDue error old charge
+      → RefusesWith cache key charge priority value error old new
+      → AreFilled fits cache config s old handles
+      → (next : State) × RefusesPin config charge error s next
+      × AreFilled fits cache config next new handles
+  pin_refused s old new handles k t q v errors.HandlesFull known due i filled =
+      let same = due.0.0 refl in
+      let held = filled.limited.full in
+      let most = filled.limited.most in
+      (s, (omega arith, refl), stays s old new handles i filled)
+  pin_refused s old new handles k t q v errors.Spent known due i filled =
+      let told = due.1.0 refl in
+      let room = told.0 in
+      let held = filled.limited.full in
+      let most = filled.limited.most in (
+        s,
+        (omega arith, (all_used s old filled.limited told.1, refl)),
+        stays s old new handles i filled,
+      )
+  pin_refused s old new handles k t q v errors.TooLarge known due i filled =
+      let told = due.2.0 refl in
+      let may = may_hold s old filled.limited told.0 told.1 in
+      let over = subst (λ n. n < t) filled.limited.capacity told.3 in (
+        s,
+        (may.0, (may.1, sym filled.limited.strict ∙ told.2, over, refl)),
+        stays s old new handles i filled,
+      )
+  pin_refused s old new handles k t q v errors.CapacityFull known due i filled =
+      let room = pin_room s old t errors.CapacityFull filled.known filled.limited due (λ e. cc)
+      (λ e. cc) (λ e. cc) in (
+        with_serial s,
+        (room.0, (room.1, sym filled.limited.strict ∙ i.asks.told.1, refl)),
+        serial_filled fits cache config s old new handles known i.asks.works.self i.keeps filled,
+      )
+  pin_refused s old new handles k t q v errors.OccupancyFull known due i filled =
+      let room = pin_room s old t errors.OccupancyFull filled.known filled.limited due (λ e. cc)
+      (λ e. cc) (λ e. cc) in (
+        with_serial s,
+        (room.0, (room.1, sym filled.limited.strict ∙ i.asks.told.1, refl)),
+        serial_filled fits cache config s old new handles known i.asks.works.self i.keeps filled,
+      )
 
   -- Look-ups, and more handles.
 
-  pub get_goes : (keys : Keys) (old new : Client T) (handles : List (Option Handle)) (r : ℕ)
-      (key : Key) (handle : Handle) → Knows cache new → Finds cache fits key handle old new
-      → at handles r ≡ None → r < length handles → AreFilled fits cache keys old handles
-      → IsRight (fits cache.tag) keys (calls.Get r key) answers.Hit
-      × AreFilled fits cache (keys_by keys (calls.Get r key) answers.Hit) new
-      (slice_set handles r (Some handle))
-  unfolding IsRight keys_by
-  get_goes keys old new handles r key handle known found empty within filled =
-      let right = subst (λ k. fits cache.tag k found.found.entry.value) (sym found.asked)
-      found.right in
-      let more = more_filled fits cache keys old new handles r handle _ known found.gains.free
-      found.gains.stands found.gains.others found.gains.count right empty within filled in (
-        (empty_key keys old handles r empty filled, (found.found.entry.value, found.right)),
-        subst (λ k. AreFilled fits cache (with_key keys r (Some k)) new
-            (slice_set handles r (Some handle))) found.asked more,
+  pub get_goes : (s : State) (old new : Client T) (handles : List (Option Handle)) (r : ℕ)
+      (key : Key) (handle : Handle) → Knows cache new → MayHold config s
+      → Finds cache fits key handle old new
+      → at handles r ≡ None → r < length handles → AreFilled fits cache config s old handles
+      → (next : State) × IsRight (fits cache.tag) config s (calls.Get r key) answers.Hit next
+      × AreFilled fits cache config next new (slice_set handles r (Some handle))
+  unfolding IsRight
+  get_goes s old new handles r key handle known may found empty within filled =
+      let held : Held = held_entry cache.seed found.found.entry in
+      let right = subst (λ k. fits cache.tag k held.insertion.value) (sym found.asked)
+      found.right in (
+        with_filled s r held.insertion,
+        (
+          empty_told s old handles r empty filled,
+          may,
+          (held.insertion, found.asked, found.right, refl),
+        ),
+        more_filled fits cache config s old new handles r handle held known found.works.self
+            found.gains right empty within filled,
       )
 
-  pub is_refusal : (error : LookupError) → Rattle.hcc_player.specs.RunAnswers.IsLookupError
-      (refusal_of error)
-  is_refusal lookups.HandlesFull = tt
-  is_refusal lookups.Spent = tt
-
-  pub fork_goes : (keys : Keys) (old new : Client T) (handles : List (Option Handle)) (r g : ℕ)
-      (handle more : Handle) → Knows cache new → Rerefs cache handle more old new
+  pub fork_goes : (s : State) (old new : Client T) (handles : List (Option Handle)) (r g : ℕ)
+      (handle more : Handle) → Knows cache new → MayHold config s
+      → Rerefs cache handle more old new
       → at handles g ≡ Some handle → at handles r ≡ None → r < length handles
-      → AreFilled fits cache keys old handles
-      → IsRight (fits cache.tag) keys (calls.Fork r g) answers.Held
-      × AreFilled fits cache (keys_by keys (calls.Fork r g) answers.Held) new
-      (slice_set handles r (Some more))
-  unfolding IsRight keys_by
-  fork_goes keys old new handles r g handle more known again full empty within filled =
-      let on = on_register fits cache keys old handles g handle full filled in
+      → AreFilled fits cache config s old handles
+      → (next : State) × IsRight (fits cache.tag) config s (calls.Fork r g) answers.Held next
+      × AreFilled fits cache config next new (slice_set handles r (Some more))
+  unfolding IsRight
+  fork_goes s old new handles r g handle more known may again full empty within filled =
+      let on = on_register fits cache config s old handles g handle full filled in
       let told : Some on.held ≡ Some again.held = sym on.here ∙ again.was in
       let same : on.held ≡ again.held = cc in
       let right = subst (λ (h : Held). fits cache.tag h.insertion.key h.insertion.value) same
       on.right in
-      let keyed : keys g ≡ Some again.held.insertion.key =
-      on.keyed ∙ ap (λ (h : Held). Some h.insertion.key) same in
-      let grown = more_filled fits cache keys old new handles r more again.held known
-      again.gains.free again.gains.stands again.gains.others again.gains.count right empty within
-      filled in (
+      let inserted : s.registers g ≡ Some again.held.insertion =
+      on.inserted ∙ ap (λ (h : Held). Some h.insertion) same in (
+        with_filled s r again.held.insertion,
         (
-          empty_key keys old handles r empty filled,
-          full_key keys old handles g handle full filled,
+          empty_told s old handles r empty filled,
+          may,
+          (again.held.insertion, inserted, refl),
         ),
-        subst (λ k. AreFilled fits cache (with_key keys r k) new (slice_set handles r (Some more)))
-            (sym keyed) grown,
+        more_filled fits cache config s old new handles r more again.held known again.works.self
+            again.gains right empty within filled,
       )
 
   -- Releases.
 
-  pub release_goes : (keys : Keys) (old new : Client T) (handles : List (Option Handle)) (r : ℕ)
-      (handle : Handle) → Knows cache new → Loses cache handle old new → at handles r ≡ Some handle
-      → AreFilled fits cache keys old handles
-      → IsSome (keys r) × AreFilled fits cache (with_key keys r None) new
+  pub release_goes : (s : State) (old new : Client T) (handles : List (Option Handle)) (r : ℕ)
+      (handle : Handle) (erase freed : _) → Knows cache new
+      → Releases cache handle erase freed old new → at handles r ≡ Some handle
+      → AreFilled fits cache config s old handles
+      → IsSome (s.registers r) × AreFilled fits cache config (with_emptied s r) new
       (slice_set handles r None)
-  release_goes keys old new handles r handle known loses full filled = (
-    full_key keys old handles r handle full filled,
-    less_filled fits cache keys old new handles r handle known loses.others loses.count full
-        filled,
+  release_goes s old new handles r handle erase freed known released full filled = (
+    full_told s old handles r handle full filled,
+    less_filled fits cache config s old new handles r handle known released.works.self
+        released.loses full filled,
   )

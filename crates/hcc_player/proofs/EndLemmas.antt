@@ -7,6 +7,7 @@ use Rattle.std.proofs.lemmas.Bool.{cases_eq}
 use Rattle.hcc_rule.specs.declared.key.Key.{Key}
 use Rattle.hcc_cache.specs.declared.cache.Cache.{Cache}
 use Rattle.hcc_cache.specs.declared.client.Client.{Client}
+use Rattle.hcc_cache.specs.declared.config.Config.{Config}
 use Rattle.hcc_cache.specs.declared.errors.CloseError.{CloseError}
 use Rattle.hcc_cache.specs.declared.errors.CloseError.TheVariants.{Missing, HandlesOut}
 use Rattle.hcc_cache.specs.Clients.{held_by}
@@ -17,44 +18,57 @@ use Rattle.hcc_player.specs.declared.run.answer.Answer.TheVariants as answers
 use Rattle.hcc_player.specs.declared.run.call.Call.TheVariants as calls
 use Rattle.hcc_player.specs.declared.run.registers.Registers.{Registers}
 use Rattle.hcc_player.specs.Registers.{at, AreFilled, CanPlay}
-use Rattle.hcc_player.specs.RunAnswers.{Keys, with_key, keys_by, IsRight}
+use Rattle.hcc_player.specs.RunAnswers.{IsRight}
+use Rattle.hcc_player.specs.RunStates.{State, with_emptied}
 use Rattle.hcc_player.proofs.RegisterLemmas.{all_empty, none_empty}
 
-emptied : (keys : Keys) (r : ℕ) → ((q : ℕ) → q < r → keys q ≡ None) → (q : ℕ) → q < r + 1
-    → with_key keys r None q ≡ None
-emptied keys r before q within =
+-- one register more is empty
+gone : (s : State) (r : ℕ) → ((q : ℕ) → q < r → s.registers q ≡ None) → (q : ℕ) → q < r + 1
+    → (with_emptied s r).registers q ≡ None
+gone s r before q within =
     elim (cases_eq q r) [
       | inl same ↦ let here : (q == r) ≡ true = search (rules, tests) in rw here refl
       | inr other ↦
           let no : (q == r) ≡ false = search (rules, tests) in rw no (before q (omega arith))
     ]
 
--- a register that was released is empty, and so are those that were
-pub released : (Puts : Key → List ℕ → Type 0) (keys : Keys) (r : ℕ) (answer : Answer)
-    → IsRight Puts keys (calls.Release r false false) answer
-    → ((q : ℕ) → q < r → keys q ≡ None)
-    → (q : ℕ) → q < r + 1 → keys_by keys (calls.Release r false false) answer q ≡ None
-unfolding IsRight keys_by
-released Puts keys r answers.Freed right before q within = emptied keys r before q within
-released Puts keys r answers.Kept right before q within = emptied keys r before q within
-released Puts keys r answers.Nothing right before q within =
-    elim (cases_eq q r) [
-      | inl same ↦ rw same right
+gone_as : (s next : State) (r : ℕ) → next ≡ with_emptied s r
+    → ((q : ℕ) → q < r → s.registers q ≡ None) → (q : ℕ) → q < r + 1 → next.registers q ≡ None
+gone_as s next r is before q within = rw is (gone s r before q within)
+
+none_as : (s next : State) (r : ℕ) → s.registers r ≡ None → next ≡ s
+    → ((q : ℕ) → q < r → s.registers q ≡ None) → (q : ℕ) → q < r + 1 → next.registers q ≡ None
+none_as s next r empty is before q within =
+    rw is (elim (cases_eq q r) [
+      | inl same ↦ rw same empty
       | inr other ↦ before q (omega arith)
-    ]
-released Puts keys r answers.Placed right before q within = absurd right
-released Puts keys r answers.Dropped right before q within = absurd right
-released Puts keys r answers.Standalone right before q within = absurd right
-released Puts keys r (answers.Refused e) right before q within = absurd right
-released Puts keys r answers.Busy right before q within = absurd right
-released Puts keys r answers.Hit right before q within = absurd right
-released Puts keys r answers.Miss right before q within = absurd right
-released Puts keys r answers.Held right before q within = absurd right
-released Puts keys r (answers.Value v) right before q within = absurd right
-released Puts keys r (answers.Erased n) right before q within = absurd right
-released Puts keys r (answers.Totals u p o) right before q within = absurd right
-released Puts keys r (answers.Word w d) right before q within = absurd right
-released Puts keys r (answers.Stats s) right before q within = absurd right
+    ])
+
+-- a register that was released is empty, and so are those that were
+pub released : (Puts : Key → List ℕ → Type 0) (config : Config) (s next : State) (r : ℕ)
+    (answer : Answer) → IsRight Puts config s (calls.Release r false false) answer next
+    → ((q : ℕ) → q < r → s.registers q ≡ None)
+    → (q : ℕ) → q < r + 1 → next.registers q ≡ None
+unfolding IsRight
+released Puts config s next r answers.Freed right before q within =
+    gone_as s next r right.1 before q within
+released Puts config s next r answers.Kept right before q within =
+    gone_as s next r right.1 before q within
+released Puts config s next r answers.Nothing right before q within =
+    none_as s next r right.0 right.1 before q within
+released Puts config s next r answers.Placed right before q within = absurd right
+released Puts config s next r answers.Dropped right before q within = absurd right
+released Puts config s next r answers.Standalone right before q within = absurd right
+released Puts config s next r (answers.Refused e) right before q within = absurd right
+released Puts config s next r answers.Busy right before q within = absurd right
+released Puts config s next r answers.Hit right before q within = absurd right
+released Puts config s next r answers.Miss right before q within = absurd right
+released Puts config s next r answers.Held right before q within = absurd right
+released Puts config s next r (answers.Value v) right before q within = absurd right
+released Puts config s next r (answers.Erased n) right before q within = absurd right
+released Puts config s next r (answers.Totals u p o) right before q within = absurd right
+released Puts config s next r (answers.Word w d) right before q within = absurd right
+released Puts config s next r (answers.Stats t) right before q within = absurd right
 
 -- the list with one member set
 pub at_member : {A : Type 0} (xs : List A) (n : ℕ) (x y : A)
@@ -75,12 +89,12 @@ off_member (z ∷ zs) (suc n) (suc k) x other = off_member zs n k x (λ e. other
 
 module _ {T : Type 0} (fits : T → Key → List ℕ → Type 0) (cache : Cache T) where
   -- a client whose registers are all empty holds nothing
-  pub holds_none : (keys : Keys) (client : Client T) (handles : List (Option _))
-      → AreFilled fits cache keys client handles
-      → ((r : ℕ) → r < length handles → keys r ≡ None) → held_by client ≡ 0
-  holds_none keys client handles filled none =
+  pub holds_none : (config : Config) (s : State) (client : Client T) (handles : List (Option _))
+      → AreFilled fits cache config s client handles
+      → ((r : ℕ) → r < length handles → s.registers r ≡ None) → held_by client ≡ 0
+  holds_none config s client handles filled none =
       filled.count
-      ∙ all_empty handles (λ r within. none_empty fits cache client (keys r) (at handles r)
+      ∙ all_empty handles (λ r within. none_empty fits cache client (s.registers r) (at handles r)
       (filled.each r) (none r within))
 
   -- The clients below this number have let go of all that they held; the others may play.

@@ -19,6 +19,7 @@ pub mod RegisterLemmas
 pub mod RunLemmas
 pub mod RunningLemmas
 pub mod CallLemmas
+pub mod DoesLemmas
 pub mod EndLemmas
 pub mod PlayRunLemmas
 pub mod Fine

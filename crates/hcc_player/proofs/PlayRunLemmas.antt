@@ -1,6 +1,7 @@
 -- A whole play of a trace: what is written for its text.
 use Rattle.std.proofs.Common.{◌≡◌, ◌⊎◌, inl, inr, ℕ, zero, suc, ◌≤◌, List, [], ◌∷◌, ◌++◌, Option, Some}
 use Rattle.std.proofs.Common.{None, Result, Ok, Err, IsOk, IfSome, length, refl, sym, ◌∙◌, subst}
+use Rattle.std.proofs.Common.{zero-add}
 use Rattle.std.specs.Io.KnownBytes.{Appends, Keeps}
 use Rattle.hcc_rule.specs.declared.key.Key.{Key}
 use Rattle.hcc_cache.specs.declared.cache.Cache.{Cache}
@@ -23,12 +24,13 @@ use Rattle.hcc_player.specs.RunLine.{run_line}
 use Rattle.hcc_player.specs.PlayRun.{Agree, Answered, AnsweredPart, AreEmpty, AreManned, Ended}
 use Rattle.hcc_player.specs.PlayRun.{EndedPart, EndsRun, FitsIn, IsOutput, Writes, WritesFront}
 use Rattle.hcc_player.specs.Registers.{at, AreFilled, IsFilled}
+use Rattle.hcc_player.specs.RunStates.{States, new_states}
 use Rattle.hcc_player.specs.Report.{sums_text}
-use Rattle.hcc_player.specs.RunAnswers.{answers_text, no_keys, AreRight, Inserts, IsPlayed}
+use Rattle.hcc_player.specs.RunAnswers.{answers_text, AreRight, Inserts, IsPlayed}
 use Rattle.hcc_player.specs.TraceTag.{fits_trace, run_trace, said}
 use Rattle.hcc_player.proofs.ByteLemmas.{all_out, leaves_less, leaves_more, leaves_none}
 use Rattle.hcc_player.proofs.ByteLemmas.{writes_nothing}
-use Rattle.hcc_player.proofs.RunLemmas.{can_go_on, put_none}
+use Rattle.hcc_player.proofs.RunLemmas.{can_go_on}
 
 -- The beginning.
 
@@ -40,18 +42,27 @@ none_at (suc r) = refl
 pub manned_new : {T : Type 0} (fits : T → Key → List ℕ → Type 0) (config : Config) (tag : T)
     (cache : Cache T) (clients : List (Client T)) (registers : List Registers)
     → IsOpened config tag cache clients → AreEmpty registers → length registers ≡ length clients
-    → AreManned fits cache no_keys clients registers
+    → AreManned fits cache config new_states clients registers
 manned_new fits config tag cache clients registers opened empty count = record {
   count = count;
   each = λ c client held here there.
-      subst (λ handles. AreFilled fits cache (no_keys c) client handles) (sym (empty c held there))
+      let unused = (opened.dealt.each c client here).unused in
+      subst (λ handles. AreFilled fits cache config (new_states c) client handles)
+      (sym (empty c held there))
       (record {
         known = opened.known c client here;
+        limited = record {
+          full = unused.held;
+          most = unused.most;
+          serials = zero-add client.left ∙ unused.left;
+          strict = opened.strict;
+          capacity = opened.capacity;
+        };
         each = λ r.
-            subst (λ x. IsFilled fits cache client (no_keys c r) x) (sym (none_at r)) refl;
+            subst (λ x. IsFilled fits cache client None x) (sym (none_at r)) refl;
         apart = λ r s h first second.
             let no : None ≡ Some h = sym (none_at r) ∙ first in cc;
-        count = (opened.dealt.each c client here).unused.held;
+        count = unused.held;
       });
 }
 
@@ -67,13 +78,15 @@ fits_named tag cache same key value puts =
 abbrev no_sums : Sums
 no_sums = record { charges = 0; occupied = 0; slots = 0; usage = 0 }
 
-pub some_played : (lines : List RunLine) → (out : List ℕ) × IsPlayed lines out
-some_played lines =
-    let some = can_go_on (Inserts lines) no_keys lines (put_none (Inserts lines)) in (
+pub some_played : (config : Config) (lines : List RunLine)
+    → (out : List ℕ) × IsPlayed config lines out
+some_played config lines =
+    let some = can_go_on (Inserts lines) config new_states lines in (
       answers_text some.0 ++ sums_text no_sums,
       record {
         told = some.0;
-        right = some.1;
+        last = some.1;
+        right = some.2;
         sums = no_sums;
         charged = refl;
         occupies = refl;
@@ -81,11 +94,12 @@ some_played lines =
       },
     )
 
-pub played_as : (lines : List RunLine) (told : List Answer) (sums : Sums)
-    → AreRight (Inserts lines) no_keys lines told → Agree sums
-    → IsPlayed lines (answers_text told ++ sums_text sums)
-played_as lines told sums right agree = record {
+pub played_as : (config : Config) (lines : List RunLine) (told : List Answer) (last : States)
+    (sums : Sums) → AreRight (Inserts lines) config new_states lines told last → Agree sums
+    → IsPlayed config lines (answers_text told ++ sums_text sums)
+played_as config lines told last sums right agree = record {
   told = told;
+  last = last;
   right = right;
   sums = sums;
   charged = agree.charged;
@@ -94,52 +108,55 @@ played_as lines told sums right agree = record {
 }
 
 -- all answers and the sums are out
-pub play_whole : (lines : List RunLine) (old mid new : Option (List ℕ)) (pending : List ℕ)
-    → Answered (Inserts lines) lines old mid [] pending → Ended mid new pending
-    → (out : List ℕ) × IsPlayed lines out × Appends old new out
-play_whole lines old mid new pending answered ended =
+pub play_whole : (config : Config) (lines : List RunLine) (old mid new : Option (List ℕ))
+    (pending : List ℕ)
+    → Answered (Inserts lines) config lines old mid [] pending → Ended mid new pending
+    → (out : List ℕ) × IsPlayed config lines out × Appends old new out
+play_whole config lines old mid new pending answered ended =
     let text = answers_text answered.0 in
     let more = sums_text ended.0 in (
       text ++ more,
-      played_as lines answered.0 ended.0 answered.1 ended.1,
+      played_as config lines answered.0 answered.1 ended.0 answered.2 ended.1,
       all_out old new (text ++ more) (leaves_less old mid new (text ++ more) (pending ++ more) []
-          (leaves_more old mid text pending more answered.2)
+          (leaves_more old mid text pending more answered.3)
           (leaves_none mid new (pending ++ more) ended.2)),
     )
 
 -- a front of that is
-pub play_cut : (lines : List RunLine) (old mid new : Option (List ℕ)) (pending : List ℕ)
-    → Answered (Inserts lines) lines old mid [] pending → EndedPart mid new pending
-    → (out : List ℕ) × IsPlayed lines out × AppendsPart old new out
-play_cut lines old mid new pending answered ended =
+pub play_cut : (config : Config) (lines : List RunLine) (old mid new : Option (List ℕ))
+    (pending : List ℕ)
+    → Answered (Inserts lines) config lines old mid [] pending → EndedPart mid new pending
+    → (out : List ℕ) × IsPlayed config lines out × AppendsPart old new out
+play_cut config lines old mid new pending answered ended =
     let text = answers_text answered.0 in
     let more = sums_text ended.0 in (
       text ++ more,
-      played_as lines answered.0 ended.0 answered.1 ended.1,
+      played_as config lines answered.0 answered.1 ended.0 answered.2 ended.1,
       (
         ended.2.0,
         leaves_less old mid new (text ++ more) (pending ++ more) ended.2.0
-            (leaves_more old mid text pending more answered.2) ended.2.1,
+            (leaves_more old mid text pending more answered.3) ended.2.1,
       ),
     )
 
 -- it stopped before the end
-pub play_stopped : (lines : List RunLine) (old new : Option (List ℕ))
-    → AnsweredPart (Inserts lines) lines old new []
-    → (out : List ℕ) × IsPlayed lines out × AppendsPart old new out
-play_stopped lines old new part =
+pub play_stopped : (config : Config) (lines : List RunLine) (old new : Option (List ℕ))
+    → AnsweredPart (Inserts lines) config lines old new []
+    → (out : List ℕ) × IsPlayed config lines out × AppendsPart old new out
+play_stopped config lines old new part =
     let text = answers_text part.0 in
     let more = sums_text no_sums in (
       text ++ more,
-      played_as lines part.0 no_sums part.1 (record { charged = refl; occupies = refl }),
-      (part.2.0 ++ more, leaves_more old new text part.2.0 more part.2.1),
+      played_as config lines part.0 part.1 no_sums part.2
+          (record { charged = refl; occupies = refl }),
+      (part.3.0 ++ more, leaves_more old new text part.3.0 more part.3.1),
     )
 
 -- it stopped before anything was written
-pub play_unbegun : (lines : List RunLine) (a : Option (List ℕ))
-    → (out : List ℕ) × IsPlayed lines out × AppendsPart a a out
-play_unbegun lines a =
-    let some = some_played lines in (some.0, some.1, writes_nothing a some.0)
+pub play_unbegun : (config : Config) (lines : List RunLine) (a : Option (List ℕ))
+    → (out : List ℕ) × IsPlayed config lines out × AppendsPart a a out
+play_unbegun config lines a =
+    let some = some_played config lines in (some.0, some.1, writes_nothing a some.0)
 
 -- Of the text that a reader had left.
 
@@ -149,7 +166,7 @@ good_lines (Ok lines) fine = refl
 good_lines (Err fault) fine = cc
 
 pub output_of : (config : Config) (text out : List ℕ) → length text ≤ MOST_INPUT
-    → IsOk (run_trace config text) → IsPlayed (said (run_trace config text)) out
+    → IsOk (run_trace config text) → IsPlayed config (said (run_trace config text)) out
     → IsOutput config text out
 output_of config text out short good played = record {
   lines = said (run_trace config text);
@@ -159,7 +176,7 @@ output_of config text out short good played = record {
 
 pub writes_known : (config : Config) (known old new : Option (List ℕ)) (bytes : List ℕ)
     → IsWhole known bytes → IsOk (run_trace config bytes)
-    → ((out : List ℕ) × IsPlayed (said (run_trace config bytes)) out × Appends old new out)
+    → ((out : List ℕ) × IsPlayed config (said (run_trace config bytes)) out × Appends old new out)
     → IfSome known (Writes config old new)
 writes_known config None old new bytes whole good done = tt
 writes_known config (Some text) old new bytes whole good done =
@@ -168,7 +185,8 @@ writes_known config (Some text) old new bytes whole good done =
 
 pub fronts_known : (config : Config) (known old new : Option (List ℕ)) (bytes : List ℕ)
     → IsWhole known bytes → IsOk (run_trace config bytes)
-    → ((out : List ℕ) × IsPlayed (said (run_trace config bytes)) out × AppendsPart old new out)
+    → ((out : List ℕ) × IsPlayed config (said (run_trace config bytes)) out
+    × AppendsPart old new out)
     → IfSome known (WritesFront config old new)
 fronts_known config None old new bytes whole good done = tt
 fronts_known config (Some text) old new bytes whole good done =
@@ -198,17 +216,18 @@ run_judged config (Some text) bytes plays.BadBlock allowed whole fails = absurd 
 
 -- the tag names the trace, whatever it is called
 pub answered_as : (tag : TraceTag) (cache : Cache TraceTag) → cache.tag ≡ tag
-    → (lines : List RunLine) (old new : Option (List ℕ)) (pending first rest : List ℕ)
-    → pending ≡ first → Answered (fits_trace cache.tag) lines old new pending rest
-    → Answered (fits_trace tag) lines old new first rest
-answered_as tag cache same lines old new pending first rest begun answered =
-    subst (λ p. Answered (fits_trace tag) lines old new p rest) begun
-    (subst (λ t. Answered (fits_trace t) lines old new pending rest) same answered)
+    → (config : Config) (lines : List RunLine) (old new : Option (List ℕ))
+    (pending first rest : List ℕ)
+    → pending ≡ first → Answered (fits_trace cache.tag) config lines old new pending rest
+    → Answered (fits_trace tag) config lines old new first rest
+answered_as tag cache same config lines old new pending first rest begun answered =
+    subst (λ p. Answered (fits_trace tag) config lines old new p rest) begun
+    (subst (λ t. Answered (fits_trace t) config lines old new pending rest) same answered)
 
 pub part_as : (tag : TraceTag) (cache : Cache TraceTag) → cache.tag ≡ tag
-    → (lines : List RunLine) (old new : Option (List ℕ)) (pending first : List ℕ)
-    → pending ≡ first → AnsweredPart (fits_trace cache.tag) lines old new pending
-    → AnsweredPart (fits_trace tag) lines old new first
-part_as tag cache same lines old new pending first begun part =
-    subst (λ p. AnsweredPart (fits_trace tag) lines old new p) begun
-    (subst (λ t. AnsweredPart (fits_trace t) lines old new pending) same part)
+    → (config : Config) (lines : List RunLine) (old new : Option (List ℕ)) (pending first : List ℕ)
+    → pending ≡ first → AnsweredPart (fits_trace cache.tag) config lines old new pending
+    → AnsweredPart (fits_trace tag) config lines old new first
+part_as tag cache same config lines old new pending first begun part =
+    subst (λ p. AnsweredPart (fits_trace tag) config lines old new p) begun
+    (subst (λ t. AnsweredPart (fits_trace t) config lines old new pending) same part)

@@ -8,13 +8,15 @@ use Rattle.hcc_rule.specs.declared.key.Key.{Key}
 use Rattle.hcc_cache.specs.declared.cache.Cache.{Cache}
 use Rattle.hcc_cache.specs.declared.client.Client.{Client}
 use Rattle.hcc_cache.specs.declared.handle.Handle.{Handle}
-use Rattle.hcc_cache.specs.Calls.{KeepsBut}
-use Rattle.hcc_cache.specs.Clients.{Held, held_by, held_of, hold_of}
+use Rattle.hcc_cache.specs.declared.config.Config.{Config}
+use Rattle.hcc_cache.specs.Calls.{Gains, IsSelf, KeepsAll, Loses, UsesNone, UsesOne}
+use Rattle.hcc_cache.specs.Clients.{Held, Insertion, held_by, held_of, hold_of}
+use Rattle.hcc_cache.specs.Inserts.{KeepsHandles}
 use Rattle.hcc_cache.specs.Known.{Knows}
 use Rattle.hcc_player.specs.declared.run.registers.Registers.{Registers}
 use Rattle.hcc_player.specs.PlayRun.{AreEmpty}
-use Rattle.hcc_player.specs.Registers.{at, how_many, IsOn, IsFilled, AreFilled}
-use Rattle.hcc_player.specs.RunAnswers.{Keys, with_key}
+use Rattle.hcc_player.specs.Registers.{at, how_many, AreFilled, IsFilled, IsLimited, IsOn}
+use Rattle.hcc_player.specs.RunStates.{State, with_emptied, with_filled, with_register, with_serial}
 
 -- Of the list of registers that are kept.
 
@@ -76,89 +78,139 @@ empty_more (y ∷ ys) x empty here (suc c) held at =
     empty_more ys x (λ k. empty (suc k)) here c held at
 
 module _ {T : Type 0} (fits : T → Key → List ℕ → Type 0) (cache : Cache T) where
-  -- a register is full where it was filled for a key, and empty where for none
-  pub none_empty : (client : Client T) (key : Option Key) (held : Option Handle)
-      → IsFilled fits cache client key held → key ≡ None → held ≡ None
-  none_empty client key None filled none = refl
-  none_empty client key (Some h) filled none =
-      let no : None ≡ Some filled.held.insertion.key = sym none ∙ filled.keyed in cc
+  -- a register of which nothing is told is empty
+  pub none_empty : (client : Client T) (told : Option Insertion) (held : Option Handle)
+      → IsFilled fits cache client told held → told ≡ None → held ≡ None
+  none_empty client told None filled none = refl
+  none_empty client told (Some h) filled none =
+      let no : None ≡ Some filled.held.insertion = sym none ∙ filled.inserted in cc
 
-  kept_filled : (old new : Client T) (key : Option Key) (held : Option Handle)
+  kept_filled : (old new : Client T) (told : Option Insertion) (held : Option Handle)
       → ((h : Handle) → held ≡ Some h → held_of cache new h ≡ held_of cache old h)
-      → IsFilled fits cache old key held → IsFilled fits cache new key held
-  kept_filled old new key None same filled = filled
-  kept_filled old new key (Some h) same filled = record {
+      → IsFilled fits cache old told held → IsFilled fits cache new told held
+  kept_filled old new told None same filled = filled
+  kept_filled old new told (Some h) same filled = record {
     held = filled.held;
     here = same h refl ∙ filled.here;
-    keyed = filled.keyed;
+    inserted = filled.inserted;
     right = filled.right;
   }
 
-  -- the client holds what it held
-  pub same_filled : (keys : Keys) (old new : Client T) (handles : List (Option Handle))
-      → Knows cache new → ((h : Handle) → held_of cache new h ≡ held_of cache old h)
-      → held_by new ≡ held_by old → AreFilled fits cache keys old handles
-      → AreFilled fits cache keys new handles
-  same_filled keys old new handles known same count so_far = record {
-    known = known;
-    each = λ r. kept_filled old new (keys r) (at handles r) (λ h full. same h) (so_far.each r);
-    apart = so_far.apart;
-    count = count ∙ so_far.count;
-  }
-
-  -- registers that are kept otherwise
-  pub moved_filled : (keys : Keys) (client : Client T) (was now : List (Option Handle))
-      → ((r : ℕ) → at now r ≡ at was r) → how_many now ≡ how_many was
-      → AreFilled fits cache keys client was → AreFilled fits cache keys client now
-  moved_filled keys client was now same count so_far = record {
-    known = so_far.known;
-    each = λ r. rw (same r) (so_far.each r);
-    apart = λ r s h here there. so_far.apart r s h (sym (same r) ∙ here) (sym (same s) ∙ there);
-    count = so_far.count ∙ sym count;
-  }
-
   -- what a filled register says of a handle that it holds
-  on_at : (client : Client T) (key : Option Key) (held : Option Handle) (h : Handle)
-      → held ≡ Some h → IsFilled fits cache client key held → IsOn fits cache client h key
-  on_at client key None h full filled = cc
-  on_at client key (Some g) h full filled =
-      let same : g ≡ h = cc in subst (λ x. IsOn fits cache client x key) same filled
-
-  pub on_register : (keys : Keys) (client : Client T) (handles : List (Option Handle)) (r : ℕ)
-      (h : Handle) → at handles r ≡ Some h → AreFilled fits cache keys client handles
-      → IsOn fits cache client h (keys r)
-  on_register keys client handles r h full so_far =
-      on_at client (keys r) (at handles r) h full (so_far.each r)
+  on_at : (client : Client T) (told : Option Insertion) (held : Option Handle) (h : Handle)
+      → held ≡ Some h → IsFilled fits cache client told held → IsOn fits cache client h told
+  on_at client told None h full filled = cc
+  on_at client told (Some g) h full filled =
+      let same : g ≡ h = cc in subst (λ x. IsOn fits cache client x told) same filled
 
   -- a handle that nobody holds stands for nothing
   unheld : (client : Client T) (h : Handle) → hold_of client h ≡ None
       → held_of cache client h ≡ None
   unheld client h free = rw free refl
 
+module _ {T : Type 0} (fits : T → Key → List ℕ → Type 0) (cache : Cache T) (config : Config) where
+  -- Limits, where the client used no serial, or one.
+
+  limits_kept : (s : State) (old new : Client T) → IsSelf old new → held_by new ≡ held_by old
+      → UsesNone old new → IsLimited fits cache config s old → IsLimited fits cache config s new
+  limits_kept s old new self count serials l = record {
+    full = count ∙ l.full;
+    most = self.1 ∙ l.most;
+    serials = ap (λ n. s.used + n) serials.1 ∙ l.serials;
+    strict = l.strict;
+    capacity = l.capacity;
+  }
+
+  serials_less : (used left left' all : ℕ) → left' + 1 ≡ left → used + left ≡ all
+      → (used + 1) + left' ≡ all
+  serials_less used left left' all less whole = omega arith
+
+  -- the client holds what it held, and used no serial
+  pub same_filled : (s : State) (old new : Client T) (handles : List (Option Handle))
+      → Knows cache new → IsSelf old new → KeepsAll cache old new
+      → AreFilled fits cache config s old handles → AreFilled fits cache config s new handles
+  same_filled s old new handles known self keeps so_far = record {
+    known = known;
+    limited = limits_kept s old new self keeps.count keeps.serials so_far.limited;
+    each = λ r. kept_filled fits cache old new (s.registers r) (at handles r)
+        (λ h full. keeps.all h) (so_far.each r);
+    apart = so_far.apart;
+    count = keeps.count ∙ so_far.count;
+  }
+
+  -- or one
+  pub serial_filled : (s : State) (old new : Client T) (handles : List (Option Handle))
+      → Knows cache new → IsSelf old new → KeepsHandles cache old new
+      → AreFilled fits cache config s old handles
+      → AreFilled fits cache config (with_serial s) new handles
+  serial_filled s old new handles known self keeps so_far = record {
+    known = known;
+    limited = record {
+      full = keeps.count ∙ so_far.limited.full;
+      most = self.1 ∙ so_far.limited.most;
+      serials = serials_less s.used old.left new.left config.serials keeps.serials.1
+          so_far.limited.serials;
+      strict = so_far.limited.strict;
+      capacity = so_far.limited.capacity;
+    };
+    each = λ r. kept_filled fits cache old new (s.registers r) (at handles r)
+        (λ h full. keeps.all h) (so_far.each r);
+    apart = so_far.apart;
+    count = keeps.count ∙ so_far.count;
+  }
+
+  -- registers that are kept otherwise
+  pub moved_filled : (s : State) (client : Client T) (was now : List (Option Handle))
+      → ((r : ℕ) → at now r ≡ at was r) → how_many now ≡ how_many was
+      → AreFilled fits cache config s client was → AreFilled fits cache config s client now
+  moved_filled s client was now same count so_far = record {
+    known = so_far.known;
+    limited = so_far.limited;
+    each = λ r. rw (same r) (so_far.each r);
+    apart = λ r q h here there. so_far.apart r q h (sym (same r) ∙ here) (sym (same q) ∙ there);
+    count = so_far.count ∙ sym count;
+  }
+
+  pub on_register : (s : State) (client : Client T) (handles : List (Option Handle)) (r : ℕ)
+      (h : Handle) → at handles r ≡ Some h → AreFilled fits cache config s client handles
+      → IsOn fits cache client h (s.registers r)
+  on_register s client handles r h full so_far =
+      on_at fits cache client (s.registers r) (at handles r) h full (so_far.each r)
+
   -- an empty register is filled
-  pub more_filled : (keys : Keys) (old new : Client T) (handles : List (Option Handle)) (r : ℕ)
-      (handle : Handle) (held : Held) → Knows cache new → hold_of old handle ≡ None
-      → held_of cache new handle ≡ Some held → KeepsBut cache handle old new
-      → held_by new ≡ held_by old + 1 → fits cache.tag held.insertion.key held.insertion.value
-      → at handles r ≡ None → r < length handles → AreFilled fits cache keys old handles
-      → AreFilled fits cache (with_key keys r (Some held.insertion.key)) new
+  pub more_filled : (s : State) (old new : Client T) (handles : List (Option Handle)) (r : ℕ)
+      (handle : Handle) (held : Held) → Knows cache new → IsSelf old new
+      → Gains cache handle held old new
+      → fits cache.tag held.insertion.key held.insertion.value
+      → at handles r ≡ None → r < length handles → AreFilled fits cache config s old handles
+      → AreFilled fits cache config (with_filled s r held.insertion) new
       (slice_set handles r (Some handle))
-  more_filled keys old new handles r handle held known free stands others count right empty within
-      so_far = record {
-        known = known;
-        each = each;
-        apart = apart;
-        count = count ∙ ap (λ n. n + 1) so_far.count ∙ sym (one_more handles r handle empty within);
-      }
+  more_filled s old new handles r handle held known self gains right empty within so_far = record {
+    known = known;
+    limited = record {
+      full = gains.count ∙ ap (λ n. n + 1) so_far.limited.full;
+      most = self.1 ∙ so_far.limited.most;
+      serials = serials_less s.used old.left new.left config.serials gains.serials.1
+          so_far.limited.serials;
+      strict = so_far.limited.strict;
+      capacity = so_far.limited.capacity;
+    };
+    each = each;
+    apart = apart;
+    count = gains.count ∙ ap (λ n. n + 1) so_far.count
+        ∙ sym (one_more handles r handle empty within);
+  }
     where
       -- a handle that was held is another one
       other_held : (q : ℕ) (h : Handle) → at handles q ≡ Some h → h ≢ handle
       other_held q h full same =
-          let on = on_register keys old handles q h full so_far in
-          let none : held_of cache old h ≡ None = rw same (unheld old handle free) in
+          let on = on_register s old handles q h full so_far in
+          let none : held_of cache old h ≡ None =
+          rw same (unheld fits cache old handle gains.free) in
           let no : None ≡ Some on.held = sym none ∙ on.here in cc
 
-      each : (q : ℕ) → IsFilled fits cache new (with_key keys r (Some held.insertion.key) q)
+      each : (q : ℕ) → IsFilled fits cache new
+          (with_register s.registers r (Some held.insertion) q)
           (at (slice_set handles r (Some handle)) q)
       each q =
           elim (cases_eq q r) [
@@ -167,12 +219,12 @@ module _ {T : Type 0} (fits : T → Key → List ℕ → Type 0) (cache : Cache 
                 let here : at (slice_set handles r (Some handle)) q ≡ Some handle =
                 rw same (at_set handles r (Some handle) within) in
                 rw (yes, here)
-                (record { held = held; here = stands; keyed = refl; right = right })
+                (record { held = held; here = gains.stands; inserted = refl; right = right })
             | inr other ↦
                 let no : (q == r) ≡ false = search (rules, tests) in
                 rw (no, off_set handles r q (Some handle) other)
-                (kept_filled old new (keys q) (at handles q)
-                (λ h full. others h (other_held q h full)) (so_far.each q))
+                (kept_filled fits cache old new (s.registers q) (at handles q)
+                (λ h full. gains.others h (other_held q h full)) (so_far.each q))
           ]
 
       -- the other registers hold others
@@ -187,43 +239,49 @@ module _ {T : Type 0} (fits : T → Key → List ℕ → Type 0) (cache : Cache 
           rw same (at_set handles r (Some handle) within) in
           let told : Some h ≡ Some handle = sym full ∙ here in cc
 
-      apart : (q s : ℕ) (h : Handle) → at (slice_set handles r (Some handle)) q ≡ Some h
-          → at (slice_set handles r (Some handle)) s ≡ Some h → q ≡ s
-      apart q s h here there =
+      apart : (q p : ℕ) (h : Handle) → at (slice_set handles r (Some handle)) q ≡ Some h
+          → at (slice_set handles r (Some handle)) p ≡ Some h → q ≡ p
+      apart q p h here there =
           elim (cases_eq q r) [
             | inl first ↦
-                elim (cases_eq s r) [
+                elim (cases_eq p r) [
                   | inl second ↦ first ∙ sym second
                   | inr second ↦
-                      absurd (other_held s h (old_at s h second there) (new_at q h first here))
+                      absurd (other_held p h (old_at p h second there) (new_at q h first here))
                 ]
             | inr first ↦
-                elim (cases_eq s r) [
+                elim (cases_eq p r) [
                   | inl second ↦
-                      absurd (other_held q h (old_at q h first here) (new_at s h second there))
+                      absurd (other_held q h (old_at q h first here) (new_at p h second there))
                   | inr second ↦
-                      so_far.apart q s h (old_at q h first here) (old_at s h second there)
+                      so_far.apart q p h (old_at q h first here) (old_at p h second there)
                 ]
           ]
 
   -- a full register is emptied
-  pub less_filled : (keys : Keys) (old new : Client T) (handles : List (Option Handle)) (r : ℕ)
-      (handle : Handle) → Knows cache new → KeepsBut cache handle old new
-      → held_by new + 1 ≡ held_by old → at handles r ≡ Some handle
-      → AreFilled fits cache keys old handles
-      → AreFilled fits cache (with_key keys r None) new (slice_set handles r None)
-  less_filled keys old new handles r handle known others count full so_far = record {
+  pub less_filled : (s : State) (old new : Client T) (handles : List (Option Handle)) (r : ℕ)
+      (handle : Handle) → Knows cache new → IsSelf old new → Loses cache handle old new
+      → at handles r ≡ Some handle → AreFilled fits cache config s old handles
+      → AreFilled fits cache config (with_emptied s r) new (slice_set handles r None)
+  less_filled s old new handles r handle known self loses full so_far = record {
     known = known;
+    limited = record {
+      full = let less = loses.count in let whole = so_far.limited.full in omega arith;
+      most = self.1 ∙ so_far.limited.most;
+      serials = ap (λ n. s.used + n) loses.serials.1 ∙ so_far.limited.serials;
+      strict = so_far.limited.strict;
+      capacity = so_far.limited.capacity;
+    };
     each = each;
     apart = apart;
     count = let less = one_less handles r handle full in
-        let whole = so_far.count in omega arith;
+        let whole = so_far.count in let fewer = loses.count in omega arith;
   }
     where
       within : r < length handles
       within = full_within handles r handle full
 
-      each : (q : ℕ) → IsFilled fits cache new (with_key keys r None q)
+      each : (q : ℕ) → IsFilled fits cache new (with_register s.registers r None q)
           (at (slice_set handles r None) q)
       each q =
           elim (cases_eq q r) [
@@ -235,8 +293,8 @@ module _ {T : Type 0} (fits : T → Key → List ℕ → Type 0) (cache : Cache 
             | inr other ↦
                 let no : (q == r) ≡ false = search (rules, tests) in
                 rw (no, off_set handles r q None other)
-                (kept_filled old new (keys q) (at handles q)
-                (λ h there. others h (λ same. other (so_far.apart q r handle
+                (kept_filled fits cache old new (s.registers q) (at handles q)
+                (λ h there. loses.others h (λ same. other (so_far.apart q r handle
                 (rw same at there) full))) (so_far.each q))
           ]
 
@@ -251,6 +309,6 @@ module _ {T : Type 0} (fits : T → Key → List ℕ → Type 0) (cache : Cache 
             | inr other ↦ sym (off_set handles r q None other) ∙ there
           ]
 
-      apart : (q s : ℕ) (h : Handle) → at (slice_set handles r None) q ≡ Some h
-          → at (slice_set handles r None) s ≡ Some h → q ≡ s
-      apart q s h here there = so_far.apart q s h (old_at q h here) (old_at s h there)
+      apart : (q p : ℕ) (h : Handle) → at (slice_set handles r None) q ≡ Some h
+          → at (slice_set handles r None) p ≡ Some h → q ≡ p
+      apart q p h here there = so_far.apart q p h (old_at q h here) (old_at p h there)

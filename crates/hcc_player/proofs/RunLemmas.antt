@@ -1,19 +1,24 @@
 -- A trace that is played line by line: the answers so far are right, and can be followed by right
 -- answers to the lines that are left.
-use Rattle.std.proofs.Common.{◌≡◌, ℕ, ◌+◌, ◌==◌, inl, inr, true, false, Bool, List, []}
+use Rattle.std.proofs.Common.{◌≡◌, ℕ, ◌<◌, ◌⊎◌, inl, inr, true, false, Bool, List, []}
 use Rattle.std.proofs.Common.{◌∷◌, ◌++◌, Option, Some, None, refl, sym, ap, ◌∙◌, subst}
-use Rattle.std.proofs.Common.{append_assoc, rules, tests}
-use Rattle.std.proofs.lemmas.Bool.{cases_Bool, cases_eq}
+use Rattle.std.proofs.Common.{append_assoc, arith}
+use Rattle.std.proofs.lemmas.Bool.{cases_lt}
 use Rattle.hcc_rule.specs.declared.key.Key.{Key}
+use Rattle.hcc_cache.specs.declared.config.Config.{Config}
+use Rattle.hcc_cache.specs.declared.errors.InsertError.{InsertError}
 use Rattle.hcc_cache.specs.declared.errors.InsertError.TheVariants as errors
+use Rattle.hcc_cache.specs.Clients.{Insertion}
+use Rattle.hcc_cache.specs.Configs.{shard_capacity}
 use Rattle.hcc_player.specs.declared.run.answer.Answer.{Answer}
 use Rattle.hcc_player.specs.declared.run.answer.Answer.TheVariants as answers
 use Rattle.hcc_player.specs.declared.run.call.Call.{Call}
 use Rattle.hcc_player.specs.declared.run.call.Call.TheVariants as calls
 use Rattle.hcc_player.specs.declared.run.call.RunLine.{RunLine}
-use Rattle.hcc_player.specs.RunAnswers.{Keys, AllKeys, with_key, with_key_if, fills, keys_by}
-use Rattle.hcc_player.specs.RunAnswers.{keys_after, keys_at, no_keys, IsRight, AreRight, PutsIn}
-use Rattle.hcc_player.specs.RunAnswers.{answer_line, answers_text}
+use Rattle.hcc_player.specs.RunAnswers.{IsRight, AreRight, answer_line, answers_text}
+use Rattle.hcc_player.specs.RunStates.{IsRefused, MayHold, MayInsert, RefusesInsert, RefusesPin}
+use Rattle.hcc_player.specs.RunStates.{State, States, with_emptied, with_filled, with_serial}
+use Rattle.hcc_player.specs.RunStates.{with_state}
 
 -- Texts.
 
@@ -24,190 +29,185 @@ answers_more (a ∷ told) more =
     ap (λ t. answer_line a ++ t) (answers_more told more)
     ∙ sym (append_assoc (answer_line a) (answers_text told) (answers_text more))
 
-module _ (Puts : Key → List ℕ → Type 0) where
-  -- Lists of answers.
-
-  -- the registers after right answers, and then after more
-  pub keys_more : (keys : AllKeys) (front : List RunLine) (told : List Answer) (line : RunLine)
-      (answer : Answer) → AreRight Puts keys front told
-      → keys_at keys (front ++ line ∷ []) (told ++ answer ∷ [])
-      ≡ keys_after (keys_at keys front told) line answer
-  keys_more keys [] [] line answer right = refl
-  keys_more keys [] (a ∷ told) line answer right = absurd right
-  keys_more keys (l ∷ front) [] line answer right = absurd right
-  keys_more keys (l ∷ front) (a ∷ told) line answer right =
-      keys_more (keys_after keys l a) front told line answer right.1
-
+module _ (Puts : Key → List ℕ → Type 0) (config : Config) where
   -- right answers to lines, and then to more
-  pub right_more : (keys : AllKeys) (front rest : List RunLine) (told more : List Answer)
-      → AreRight Puts keys front told → AreRight Puts (keys_at keys front told) rest more
-      → AreRight Puts keys (front ++ rest) (told ++ more)
-  right_more keys [] rest [] more right then = then
-  right_more keys [] rest (a ∷ told) more right then = absurd right
-  right_more keys (l ∷ front) rest [] more right then = absurd right
-  right_more keys (l ∷ front) rest (a ∷ told) more right then =
-      (right.0, right_more (keys_after keys l a) front rest told more right.1 then)
+  pub right_more : (old mid new : States) (front rest : List RunLine) (told more : List Answer)
+      → AreRight Puts config old front told mid → AreRight Puts config mid rest more new
+      → AreRight Puts config old (front ++ rest) (told ++ more) new
+  right_more old mid new [] rest [] more right then =
+      subst (λ s. AreRight Puts config s rest more new) right then
+  right_more old mid new [] rest (a ∷ told) more right then = absurd right
+  right_more old mid new (l ∷ front) rest [] more right then = absurd right
+  right_more old mid new (l ∷ front) rest (a ∷ told) more right then = (
+    right.0,
+    right.1,
+    right_more (with_state old l.client right.0) mid new front rest told more right.2 then,
+  )
 
-  -- Something is inserted under the key of each register that is full.
-
-  abbrev pub IsPut : Keys → Type 0
-  IsPut keys = (r : ℕ) (key : Key) → keys r ≡ Some key → (value : List ℕ) × Puts key value
-
-  abbrev pub AllPut : AllKeys → Type 0
-  AllPut keys = (c : ℕ) → IsPut (keys c)
-
-  -- one register changed
-  put_with : (keys : Keys) (r : ℕ) (x : Option Key) → IsPut keys
-      → ((key : Key) → x ≡ Some key → (value : List ℕ) × Puts key value)
-      → IsPut (with_key keys r x)
-  put_with keys r x put here q key full =
-      elim (cases_Bool (q == r)) [
-        | inl same ↦ let told : x ≡ Some key = rw same at full in here key told
-        | inr other ↦ let told : keys q ≡ Some key = rw other at full in put q key told
-      ]
-
-  put_if : (changed : Bool) (keys : Keys) (r : ℕ) (x : Option Key) → IsPut keys
-      → (changed ≡ true → (key : Key) → x ≡ Some key → (value : List ℕ) × Puts key value)
-      → IsPut (with_key_if changed keys r x)
-  put_if true keys r x put here = put_with keys r x put (here refl)
-  put_if false keys r x put here = put
-
-  -- a look-up that filled its register was a hit
-  hit_put : (keys : Keys) (r : ℕ) (key : Key) (answer : Answer) → fills answer ≡ true
-      → IsRight Puts keys (calls.Get r key) answer → (value : List ℕ) × Puts key value
-  unfolding IsRight
-  hit_put keys r key answers.Hit filled right = right.1
-  hit_put keys r key answers.Placed filled right = absurd right
-  hit_put keys r key answers.Standalone filled right = absurd right
-  hit_put keys r key answers.Held filled right = absurd right
-  hit_put keys r key answers.Dropped filled right = cc
-  hit_put keys r key (answers.Refused e) filled right = cc
-  hit_put keys r key answers.Busy filled right = cc
-  hit_put keys r key answers.Miss filled right = cc
-  hit_put keys r key answers.Freed filled right = cc
-  hit_put keys r key answers.Kept filled right = cc
-  hit_put keys r key answers.Nothing filled right = cc
-  hit_put keys r key (answers.Value v) filled right = cc
-  hit_put keys r key (answers.Erased n) filled right = cc
-  hit_put keys r key (answers.Totals u p o) filled right = cc
-  hit_put keys r key (answers.Word w d) filled right = cc
-  hit_put keys r key (answers.Stats s) filled right = cc
-
-  -- after a call
-  put_by : (keys : Keys) (call : Call) (answer : Answer) → IsPut keys
-      → IsRight Puts keys call answer
-      → ((key : Key) (value : List ℕ) → PutsIn call key value → Puts key value)
-      → IsPut (keys_by keys call answer)
-  unfolding keys_by
-  put_by keys (calls.Insert k t q v) answer put right puts = put
-  put_by keys (calls.Pin r k t q v) answer put right puts =
-      put_if (fills answer) keys r (Some k) put
-      (λ filled key same. (v, puts key v ((let e : k ≡ key = cc in e), refl)))
-  put_by keys (calls.Get r k) answer put right puts =
-      put_if (fills answer) keys r (Some k) put
-      (λ filled key same. let e : k ≡ key = cc in
-      subst (λ x. (value : List ℕ) × Puts x value) e (hit_put keys r k answer filled right))
-  put_by keys (calls.Fork r g) answer put right puts =
-      put_if (fills answer) keys r (keys g) put (λ filled key same. put g key same)
-  put_by keys (calls.Release r u e) answer put right puts =
-      put_if _ keys r None put (λ filled key same. cc)
-  put_by keys (calls.Value r) answer put right puts = put
-  put_by keys (calls.Erase k) answer put right puts = put
-  put_by keys calls.Totals answer put right puts = put
-  put_by keys (calls.Word s n) answer put right puts = put
-  put_by keys calls.Stats answer put right puts = put
-
-  -- after a client's line
-  pub put_after : (keys : AllKeys) (line : RunLine) (answer : Answer) → AllPut keys
-      → IsPut (keys_by (keys line.client) line.call answer)
-      → AllPut (keys_after keys line answer)
-  put_after keys line answer put here c =
-      elim (cases_eq c line.client) [
-        | inl same ↦
-            let here_is : (c == line.client) ≡ true = search (rules, tests) in
-            rw here_is (rw same here)
-        | inr other ↦
-            let elsewhere : (c == line.client) ≡ false = search (rules, tests) in
-            rw elsewhere (put c)
-      ]
-
-  pub put_line : (keys : AllKeys) (line : RunLine) (answer : Answer) → AllPut keys
-      → IsRight Puts (keys line.client) line.call answer
-      → ((key : Key) (value : List ℕ) → PutsIn line.call key value → Puts key value)
-      → AllPut (keys_after keys line answer)
-  put_line keys line answer put right puts =
-      put_after keys line answer put
-      (put_by (keys line.client) line.call answer (put line.client) right puts)
-
-  pub put_none : AllPut no_keys
-  put_none c r key full = cc
+  -- and to one line more
+  pub right_one : (old mid : States) (front : List RunLine) (told : List Answer) (line : RunLine)
+      (answer : Answer) (next : State) → AreRight Puts config old front told mid
+      → IsRight Puts config (mid line.client) line.call answer next
+      → AreRight Puts config old (front ++ line ∷ []) (told ++ answer ∷ [])
+      (with_state mid line.client next)
+  right_one old mid front told line answer next right here =
+      right_more old mid (with_state mid line.client next) front (line ∷ []) told (answer ∷ [])
+      right (next, here, refl)
 
   -- Right answers to the lines that are left.
 
   -- a right answer to a call
-  record Choice (keys : Keys) (call : Call) : Type 0 where
+  record Choice (s : State) (call : Call) : Type 0 where
     answer : Answer
-    right : IsRight Puts keys call answer
-    put : IsPut (keys_by keys call answer)
+    next : State
+    right : IsRight Puts config s call answer next
 
-  pin_choice : (keys : Keys) (r : ℕ) (k : Key) (t : ℕ) (q : _) (v : List ℕ) (x : Option Key)
-      → IsPut keys → keys r ≡ x → Choice keys (calls.Pin r k t q v)
-  unfolding IsRight keys_by
-  pin_choice keys r k t q v None put e =
-      record { answer = answers.Refused errors.HandlesFull; right = e; put = put }
-  pin_choice keys r k t q v (Some key) put e =
-      record { answer = answers.Busy; right = rw e refl; put = put }
+  -- what is told of a handle that may be given, or not
+  look_choice : (s : State) → MayHold config s ⊎ ((error : InsertError) × IsRefused config error s)
+  look_choice s =
+      elim (cases_lt s.full config.handles) [
+        | inl room ↦
+            elim (cases_lt s.used config.serials) [
+              | inl some ↦ inl (room, some)
+              | inr none ↦ inr (errors.Spent, (room, none))
+            ]
+        | inr full ↦ inr (errors.HandlesFull, full)
+      ]
 
-  get_choice : (keys : Keys) (r : ℕ) (k : Key) (x : Option Key)
-      → IsPut keys → keys r ≡ x → Choice keys (calls.Get r k)
-  unfolding IsRight keys_by
-  get_choice keys r k None put e = record { answer = answers.Miss; right = e; put = put }
-  get_choice keys r k (Some key) put e =
-      record { answer = answers.Busy; right = rw e refl; put = put }
+  -- and of an insertion
+  abbrev InsertRefusal : State → ℕ → Type 0
+  InsertRefusal s charge = (error : InsertError) × RefusesInsert config charge error s s
 
-  fork_choice : (keys : Keys) (r g : ℕ) (x y : Option Key)
-      → IsPut keys → keys r ≡ x → keys g ≡ y → Choice keys (calls.Fork r g)
-  unfolding IsRight keys_by
-  fork_choice keys r g None None put e f =
-      record { answer = answers.Nothing; right = (e, f); put = put }
-  fork_choice keys r g None (Some key) put e f =
-      record { answer = answers.Refused errors.Spent; right = (e, (rw f refl, tt)); put = put }
-  fork_choice keys r g (Some key) y put e f =
-      record { answer = answers.Busy; right = rw e refl; put = put }
+  strict_choice : (s : State) (charge : ℕ) (strict : Bool) → config.strict ≡ strict
+      → s.used < config.serials → MayInsert config s charge ⊎ InsertRefusal s charge
+  strict_choice s charge false is some =
+      inl (some, λ strict. let no : true ≡ false = sym strict ∙ is in cc)
+  strict_choice s charge true is some =
+      elim (cases_lt (shard_capacity config) charge) [
+        | inl over ↦ inr (errors.TooLarge, (some, is, over, refl))
+        | inr small ↦ inl (some, λ strict. small)
+      ]
 
-  release_choice : (keys : Keys) (r : ℕ) (u e : Bool) (x : Option Key)
-      → IsPut keys → keys r ≡ x → Choice keys (calls.Release r u e)
-  unfolding IsRight keys_by
-  release_choice keys r u e None put f =
-      record { answer = answers.Nothing; right = f; put = put }
-  release_choice keys r u e (Some key) put f =
-      record {
-        answer = answers.Kept;
-        right = rw f refl;
-        put = put_with keys r None put (λ key same. cc);
-      }
+  insert_choice : (s : State) (charge : ℕ) → MayInsert config s charge ⊎ InsertRefusal s charge
+  insert_choice s charge =
+      elim (cases_lt s.used config.serials) [
+        | inl some ↦ strict_choice s charge config.strict refl some
+        | inr none ↦ inr (errors.Spent, (none, refl))
+      ]
 
-  value_choice : (keys : Keys) (r : ℕ) (x : Option Key)
-      → IsPut keys → keys r ≡ x → Choice keys (calls.Value r)
-  unfolding IsRight keys_by
-  value_choice keys r None put e = record { answer = answers.Nothing; right = e; put = put }
-  value_choice keys r (Some key) put e =
-      let some = put r key e in
-      record { answer = answers.Value some.0; right = (key, e, some.1); put = put }
+  refuses_pin : (s : State) (charge : ℕ) (error : InsertError) → s.full < config.handles
+      → RefusesInsert config charge error s s → RefusesPin config charge error s s
+  refuses_pin s charge errors.HandlesFull room refused = absurd refused
+  refuses_pin s charge errors.Spent room refused = (room, refused)
+  refuses_pin s charge errors.TooLarge room refused = (room, refused)
+  refuses_pin s charge errors.CapacityFull room refused = (room, refused)
+  refuses_pin s charge errors.OccupancyFull room refused = (room, refused)
 
-  choice : (keys : Keys) (call : Call) → IsPut keys → Choice keys call
-  unfolding IsRight keys_by
-  choice keys (calls.Insert k t q v) put =
-      record { answer = answers.Dropped; right = tt; put = put }
-  choice keys (calls.Pin r k t q v) put = pin_choice keys r k t q v (keys r) put refl
-  choice keys (calls.Get r k) put = get_choice keys r k (keys r) put refl
-  choice keys (calls.Fork r g) put = fork_choice keys r g (keys r) (keys g) put refl refl
-  choice keys (calls.Release r u e) put = release_choice keys r u e (keys r) put refl
-  choice keys (calls.Value r) put = value_choice keys r (keys r) put refl
-  choice keys (calls.Erase k) put = record { answer = answers.Erased 0; right = tt; put = put }
-  choice keys calls.Totals put = record { answer = answers.Totals 0 0 0; right = tt; put = put }
-  choice keys (calls.Word s n) put = record { answer = answers.Word 0 0; right = tt; put = put }
-  choice keys calls.Stats put =
+  pin_choice : (s : State) (r : ℕ) (k : Key) (t : ℕ) (q : _) (v : List ℕ) (x : Option Insertion)
+      → s.registers r ≡ x → Choice s (calls.Pin r k t q v)
+  unfolding IsRight
+  pin_choice s r k t q v (Some held) e =
+      record { answer = answers.Busy; next = s; right = (rw e refl, refl) }
+  pin_choice s r k t q v None e =
+      elim (cases_lt s.full config.handles) [
+        | inl room ↦
+            elim (insert_choice s t) [
+              | inl may ↦ record {
+                answer = answers.Standalone;
+                next = with_filled s r (record { key = k; value = v; charge = t });
+                right = (e, (room, may, refl));
+              }
+              | inr refused ↦ record {
+                answer = answers.Refused refused.0;
+                next = s;
+                right = (e, refuses_pin s t refused.0 room refused.1);
+              }
+            ]
+        | inr full ↦ record {
+          answer = answers.Refused errors.HandlesFull;
+          next = s;
+          right = (e, (full, refl));
+        }
+      ]
+
+  get_choice : (s : State) (r : ℕ) (k : Key) (x : Option Insertion) → s.registers r ≡ x
+      → Choice s (calls.Get r k)
+  unfolding IsRight
+  get_choice s r k (Some held) e =
+      record { answer = answers.Busy; next = s; right = (rw e refl, refl) }
+  get_choice s r k None e =
+      elim (look_choice s) [
+        | inl may ↦ record { answer = answers.Miss; next = s; right = (e, may, refl) }
+        | inr refused ↦ record {
+          answer = answers.Refused refused.0;
+          next = s;
+          right = (e, refused.1, refl);
+        }
+      ]
+
+  fork_choice : (s : State) (r g : ℕ) (x y : Option Insertion) → s.registers r ≡ x
+      → s.registers g ≡ y → Choice s (calls.Fork r g)
+  unfolding IsRight
+  fork_choice s r g (Some held) y e f =
+      record { answer = answers.Busy; next = s; right = (rw e refl, refl) }
+  fork_choice s r g None None e f =
+      record { answer = answers.Nothing; next = s; right = (e, f, refl) }
+  fork_choice s r g None (Some held) e f =
+      elim (look_choice s) [
+        | inl may ↦ record {
+          answer = answers.Held;
+          next = with_filled s r held;
+          right = (e, may, (held, f, refl));
+        }
+        | inr refused ↦ record {
+          answer = answers.Refused refused.0;
+          next = s;
+          right = (e, rw f refl, refused.1, refl);
+        }
+      ]
+
+  release_choice : (s : State) (r : ℕ) (u e : Bool) (x : Option Insertion) → s.registers r ≡ x
+      → Choice s (calls.Release r u e)
+  unfolding IsRight
+  release_choice s r u e None f = record { answer = answers.Nothing; next = s; right = (f, refl) }
+  release_choice s r u e (Some held) f =
+      record { answer = answers.Kept; next = with_emptied s r; right = (rw f refl, refl) }
+
+  value_choice : (s : State) (r : ℕ) (x : Option Insertion) → s.registers r ≡ x
+      → Choice s (calls.Value r)
+  unfolding IsRight
+  value_choice s r None e = record { answer = answers.Nothing; next = s; right = (e, refl) }
+  value_choice s r (Some held) e =
+      record { answer = answers.Value held.value; next = s; right = ((held, e, refl), refl) }
+
+  put_choice : (s : State) (k : Key) (t : ℕ) (q : _) (v : List ℕ) → Choice s (calls.Insert k t q v)
+  unfolding IsRight
+  put_choice s k t q v =
+      elim (insert_choice s t) [
+        | inl may ↦ record {
+          answer = answers.Dropped;
+          next = with_serial s;
+          right = (may, refl);
+        }
+        | inr refused ↦ record {
+          answer = answers.Refused refused.0;
+          next = s;
+          right = refused.1;
+        }
+      ]
+
+  choice : (s : State) (call : Call) → Choice s call
+  unfolding IsRight
+  choice s (calls.Insert k t q v) = put_choice s k t q v
+  choice s (calls.Pin r k t q v) = pin_choice s r k t q v (s.registers r) refl
+  choice s (calls.Get r k) = get_choice s r k (s.registers r) refl
+  choice s (calls.Fork r g) = fork_choice s r g (s.registers r) (s.registers g) refl refl
+  choice s (calls.Release r u e) = release_choice s r u e (s.registers r) refl
+  choice s (calls.Value r) = value_choice s r (s.registers r) refl
+  choice s (calls.Erase k) = record { answer = answers.Erased 0; next = s; right = refl }
+  choice s calls.Totals = record { answer = answers.Totals 0 0 0; next = s; right = refl }
+  choice s (calls.Word shard slot) = record { answer = answers.Word 0 0; next = s; right = refl }
+  choice s calls.Stats =
       record {
         answer = answers.Stats (record {
           probes = 0;
@@ -219,16 +219,15 @@ module _ (Puts : Key → List ℕ → Type 0) where
           corrections = 0;
           lost = 0;
         });
-        right = tt;
-        put = put;
+        next = s;
+        right = refl;
       }
 
   -- the lines that are left can be answered
-  pub can_go_on : (keys : AllKeys) (lines : List RunLine) → AllPut keys
-      → (told : List Answer) × AreRight Puts keys lines told
-  can_go_on keys [] put = ([], tt)
-  can_go_on keys (line ∷ lines) put =
-      let here = choice (keys line.client) line.call (put line.client) in
-      let rest = can_go_on (keys_after keys line here.answer) lines
-      (put_after keys line here.answer put here.put) in
-      (here.answer ∷ rest.0, (here.right, rest.1))
+  pub can_go_on : (states : States) (lines : List RunLine)
+      → (told : List Answer) × (last : States) × AreRight Puts config states lines told last
+  can_go_on states [] = ([], states, refl)
+  can_go_on states (line ∷ lines) =
+      let here = choice (states line.client) line.call in
+      let rest = can_go_on (with_state states line.client here.next) lines in
+      (here.answer ∷ rest.0, rest.1, (here.next, here.right, rest.2))

@@ -15,16 +15,16 @@ use Rattle.hcc_player.specs.declared.run.registers.Registers.{Registers}
 use Rattle.hcc_player.specs.Bytes.{AppendsPart, Leaves}
 use Rattle.hcc_player.specs.PlayRun.{Answered, AnsweredPart, AreManned, FitsIn, Steps}
 use Rattle.hcc_player.specs.Registers.{AreFilled, Goes}
-use Rattle.hcc_player.specs.RunAnswers.{answer_line, answers_text, keys_after, keys_at, keys_by}
-use Rattle.hcc_player.specs.RunAnswers.{no_keys, AllKeys, AreRight, Inserts, IsRight, PutsIn}
+use Rattle.hcc_player.specs.RunAnswers.{answer_line, answers_text, AreRight, Inserts, IsRight}
+use Rattle.hcc_player.specs.RunAnswers.{PutsIn}
 use Rattle.hcc_player.specs.RunLine.{run_line}
+use Rattle.hcc_player.specs.RunStates.{State, States, new_states, with_state}
 use Rattle.hcc_player.specs.declared.fault.ScriptFault.{ScriptFault}
 use Rattle.hcc_player.specs.Script.{lines_of, script_from, script_of}
 use Rattle.hcc_player.specs.TraceTag.{run_trace, said}
 use Rattle.hcc_player.proofs.ByteLemmas.{leaves_less, leaves_more}
 use Rattle.hcc_player.proofs.EndLemmas.{at_member, off_member}
-use Rattle.hcc_player.proofs.RunLemmas.{answers_more, can_go_on, keys_more, put_line, put_none}
-use Rattle.hcc_player.proofs.RunLemmas.{right_more, AllPut}
+use Rattle.hcc_player.proofs.RunLemmas.{answers_more, can_go_on, right_more, right_one}
 use Rattle.hcc_player.proofs.Splits.{splits, ends}
 
 -- what stands behind a front of a list
@@ -55,8 +55,8 @@ said_good config text good = by (script_from (run_line config) 1 (lines_of text)
     by (Err fault) fine = cc
 
 module _ {T : Type 0} (fits : T → Key → List ℕ → Type 0) (cache : Cache T) (config : Config) where
-  -- So far: these lines were answered, those are left, and the registers are filled as the answers
-  -- say.
+  -- So far: these lines were answered, those are left, and the clients with their registers are as
+  -- the answers say.
   pub record Running (old new : Option (List ℕ)) (before pending rest : List ℕ)
       (all : List RunLine) (clients : List (Client T)) (registers : List Registers)
       : Type 0 where
@@ -66,16 +66,16 @@ module _ {T : Type 0} (fits : T → Key → List ℕ → Type 0) (cache : Cache 
     pub front : List RunLine
     pub cut : front ++ left ≡ all
     pub told : List Answer
-    pub right : AreRight (fits cache.tag) no_keys front told
-    pub put : AllPut (fits cache.tag) (keys_at no_keys front told)
-    pub manned : AreManned fits cache (keys_at no_keys front told) clients registers
+    pub states : States
+    pub right : AreRight (fits cache.tag) config new_states front told states
+    pub manned : AreManned fits cache config states clients registers
     pub out : Leaves old new (before ++ answers_text told) pending
 
   -- nothing is answered yet
   pub running_begins : (old new : Option (List ℕ)) (before text : List ℕ) (all : List RunLine)
       (clients : List (Client T)) (registers : List Registers)
       → script_from (run_line config) 1 (lines_of text) ≡ Ok all
-      → AreManned fits cache no_keys clients registers → Leaves old new before before
+      → AreManned fits cache config new_states clients registers → Leaves old new before before
       → Running old new before before text all clients registers
   running_begins old new before text all clients registers read manned out = record {
     number = 1;
@@ -84,8 +84,8 @@ module _ {T : Type 0} (fits : T → Key → List ℕ → Type 0) (cache : Cache 
     front = [];
     cut = refl;
     told = [];
-    right = tt;
-    put = put_none (fits cache.tag);
+    states = new_states;
+    right = refl;
     manned = manned;
     out = rw (append-nil before) out;
   }
@@ -133,19 +133,12 @@ module _ {T : Type 0} (fits : T → Key → List ℕ → Type 0) (cache : Cache 
       (so_far : Running old mid before pending rest all clients registers) (line : RunLine)
       (answer : Answer)
       → Next old mid before pending rest after all clients registers so_far line
-      → FitsIn fits cache all
       → Steps fits cache line answer clients clients' registers registers'
       → Leaves mid new (pending ++ answer_line answer) pending'
       → Running old new before pending' after all clients' registers'
   running_goes old mid new before pending pending' rest after all clients clients' registers
-      registers' so_far line answer next goes steps out =
-      let keys : AllKeys = keys_at no_keys so_far.front so_far.told in
-      let now = steps keys so_far.manned in
-      let put = put_line (fits cache.tag) keys line answer so_far.put now.0
-      (fits_here old mid before pending rest after all clients registers so_far line next goes) in
-      let same : keys_at no_keys (so_far.front ++ line ∷ []) (so_far.told ++ answer ∷ [])
-      ≡ keys_after keys line answer =
-      keys_more (fits cache.tag) no_keys so_far.front so_far.told line answer so_far.right in
+      registers' so_far line answer next steps out =
+      let now = steps config so_far.states so_far.manned in
       let text : before ++ answers_text (so_far.told ++ answer ∷ [])
       ≡ (before ++ answers_text so_far.told) ++ answer_line answer =
       ap (λ t. before ++ t) (answers_more so_far.told (answer ∷ [])
@@ -159,10 +152,10 @@ module _ {T : Type 0} (fits : T → Key → List ℕ → Type 0) (cache : Cache 
         cut = append_assoc so_far.front (line ∷ []) next.more
             ∙ ap (λ l. so_far.front ++ l) (sym next.left_is) ∙ so_far.cut;
         told = so_far.told ++ answer ∷ [];
-        right = right_more (fits cache.tag) no_keys so_far.front (line ∷ []) so_far.told
-            (answer ∷ []) so_far.right (now.0, tt);
-        put = rw same put;
-        manned = rw same now.1;
+        states = with_state so_far.states line.client now.0;
+        right = right_one (fits cache.tag) config new_states so_far.states so_far.front
+            so_far.told line answer now.0 so_far.right now.1;
+        manned = now.2;
         out = rw text (leaves_less old mid new _ _ _
             (leaves_more old mid (before ++ answers_text so_far.told) pending (answer_line answer)
             so_far.out) out);
@@ -172,13 +165,15 @@ module _ {T : Type 0} (fits : T → Key → List ℕ → Type 0) (cache : Cache 
   pub running_ends : (old new : Option (List ℕ)) (before pending rest : List ℕ)
       (all : List RunLine) (clients : List (Client T)) (registers : List Registers)
       → Running old new before pending rest all clients registers → lines_of rest ≡ rest ∷ []
-      → Answered (fits cache.tag) all old new before pending
+      → Answered (fits cache.tag) config all old new before pending
   running_ends old new before pending rest all clients registers so_far whole =
       let none = ends (run_line config) so_far.number rest so_far.left whole so_far.read in
       let same : so_far.front ≡ all =
       sym (append-nil so_far.front) ∙ ap (λ l. so_far.front ++ l) (sym none) ∙ so_far.cut in (
         so_far.told,
-        subst (λ l. AreRight (fits cache.tag) no_keys l so_far.told) same so_far.right,
+        so_far.states,
+        subst (λ l. AreRight (fits cache.tag) config new_states l so_far.told so_far.states) same
+            so_far.right,
         so_far.out,
       )
 
@@ -186,18 +181,19 @@ module _ {T : Type 0} (fits : T → Key → List ℕ → Type 0) (cache : Cache 
   pub running_stops : (old new : Option (List ℕ)) (before pending rest : List ℕ)
       (all : List RunLine) (clients : List (Client T)) (registers : List Registers)
       → Running old new before pending rest all clients registers
-      → AnsweredPart (fits cache.tag) all old new before
+      → AnsweredPart (fits cache.tag) config all old new before
   running_stops old new before pending rest all clients registers so_far =
-      let keys : AllKeys = keys_at no_keys so_far.front so_far.told in
-      let more = can_go_on (fits cache.tag) keys so_far.left so_far.put in
-      let right = right_more (fits cache.tag) no_keys so_far.front so_far.left so_far.told more.0
-      so_far.right more.1 in
+      let more = can_go_on (fits cache.tag) config so_far.states so_far.left in
+      let right = right_more (fits cache.tag) config new_states so_far.states more.1 so_far.front
+      so_far.left so_far.told more.0 so_far.right more.2 in
       let text : before ++ answers_text (so_far.told ++ more.0)
       ≡ (before ++ answers_text so_far.told) ++ answers_text more.0 =
       ap (λ t. before ++ t) (answers_more so_far.told more.0)
       ∙ sym (append_assoc before (answers_text so_far.told) (answers_text more.0)) in (
         so_far.told ++ more.0,
-        subst (λ l. AreRight (fits cache.tag) no_keys l (so_far.told ++ more.0)) so_far.cut right,
+        more.1,
+        subst (λ l. AreRight (fits cache.tag) config new_states l (so_far.told ++ more.0) more.1)
+            so_far.cut right,
         rw text (
           pending ++ answers_text more.0,
           leaves_more old new
@@ -212,15 +208,14 @@ module _ {T : Type 0} (fits : T → Key → List ℕ → Type 0) (cache : Cache 
       (so_far : Running old mid before pending rest all clients registers) (line : RunLine)
       (answer : Answer)
       → Next old mid before pending rest after all clients registers so_far line
-      → FitsIn fits cache all
       → Steps fits cache line answer clients clients' registers registers'
       → AppendsPart mid new (pending ++ answer_line answer)
-      → AnsweredPart (fits cache.tag) all old new before
+      → AnsweredPart (fits cache.tag) config all old new before
   running_fails old mid new before pending rest after all clients clients' registers registers'
-      so_far line answer next goes steps part =
+      so_far line answer next steps part =
       running_stops old new before part.0 after all clients' registers'
       (running_goes old mid new before pending part.0 rest after all clients clients' registers
-      registers' so_far line answer next goes steps part.1)
+      registers' so_far line answer next steps part.1)
 
 module _ {T : Type 0} (fits : T → Key → List ℕ → Type 0) (cache : Cache T) where
   -- the call of a line, by its client
@@ -231,24 +226,27 @@ module _ {T : Type 0} (fits : T → Key → List ℕ → Type 0) (cache : Cache 
       → Goes fits cache line.call answer client client' held.handles.items held'.handles.items
       → Steps fits cache line answer clients (slice_set clients line.client client') registers
       (slice_set registers line.client held')
-  steps_by line answer clients registers client client' held held' here there goes keys manned = (
-    now.0,
-    record {
-      count = length-set registers line.client held' ∙ manned.count
-          ∙ sym (length-set clients line.client client');
-      each = each;
-    },
-  )
+  steps_by line answer clients registers client client' held held' here there goes config states
+      manned = (
+        now.0,
+        now.1,
+        record {
+          count = length-set registers line.client held' ∙ manned.count
+              ∙ sym (length-set clients line.client client');
+          each = each;
+        },
+      )
     where
-      now : IsRight (fits cache.tag) (keys line.client) line.call answer
-          × AreFilled fits cache (keys_by (keys line.client) line.call answer) client'
-          held'.handles.items
-      now = goes (keys line.client) (manned.each line.client client held here there)
+      now : (next : State)
+          × IsRight (fits cache.tag) config (states line.client) line.call answer next
+          × AreFilled fits cache config next client' held'.handles.items
+      now = goes config (states line.client) (manned.each line.client client held here there)
 
       each : (c : ℕ) (one : Client T) (has : Registers)
           → slice_get (slice_set clients line.client client') c ≡ Some one
           → slice_get (slice_set registers line.client held') c ≡ Some has
-          → AreFilled fits cache (keys_after keys line answer c) one has.handles.items
+          → AreFilled fits cache config (with_state states line.client now.0 c) one
+          has.handles.items
       each c one has at holds =
           elim (cases_eq c line.client) [
             | inl e ↦
@@ -257,7 +255,7 @@ module _ {T : Type 0} (fits : T → Key → List ℕ → Type 0) (cache : Cache 
                 at_member clients line.client client' one (rw e at at) in
                 let has_is : has ≡ held' =
                 at_member registers line.client held' has (rw e at holds) in
-                rw (here_is, e, one_is, has_is) now.1
+                rw (here_is, one_is, has_is) now.2
             | inr other ↦
                 let elsewhere : (c == line.client) ≡ false = search (rules, tests) in
                 rw elsewhere (manned.each c one has

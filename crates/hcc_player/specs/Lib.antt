@@ -12,8 +12,10 @@ pub mod Options
 pub mod Sums
 pub mod Report
 pub mod RunLine
+pub mod RunStates
 pub mod RunAnswers
 pub mod Registers
+pub mod RunCalls
 pub mod TraceTag
 pub mod PlayRun
 pub mod BlocksLine

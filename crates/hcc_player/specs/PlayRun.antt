@@ -21,8 +21,8 @@ use Rattle.hcc_player.specs.Judged.{IsAtFault}
 use Rattle.hcc_player.specs.Options.{config_check}
 use Rattle.hcc_player.specs.Registers.{AreFilled}
 use Rattle.hcc_player.specs.Report.{sums_text}
-use Rattle.hcc_player.specs.RunAnswers.{answers_text, keys_after, no_keys, AllKeys, AreRight}
-use Rattle.hcc_player.specs.RunAnswers.{Inserts, IsPlayed, IsRight}
+use Rattle.hcc_player.specs.RunAnswers.{answers_text, AreRight, Inserts, IsPlayed, IsRight}
+use Rattle.hcc_player.specs.RunStates.{State, States, new_states, with_state}
 use Rattle.hcc_player.specs.RunLine.{run_line}
 use Rattle.hcc_player.specs.Script.{lines_of, AllSay}
 use Rattle.hcc_player.specs.TraceTag.{run_trace}
@@ -37,7 +37,7 @@ IsTrace config text lines = (length text ≤ MOST_INPUT) × (run_trace config te
 pub record IsOutput (config : Config) (text out : List ℕ) : Type 0 where
   pub lines : List RunLine
   pub trace : IsTrace config text lines
-  pub played : IsPlayed lines out
+  pub played : IsPlayed config lines out
 
 -- what was written for this text
 abbrev pub Writes : Config → (old new : Option (List ℕ)) → (text : List ℕ) → Type 0
@@ -66,16 +66,24 @@ EndsRun config plays.WriteFailed text = (config_check config ≡ Ok tt)
 
 -- What its parts promise.
 
--- Each client with its registers is there, and they are filled for these keys.
+-- Each client with its registers is there, and they are as it is told of them.
 pub record AreManned {T : Type 0} (fits : T → Key → List ℕ → Type 0) (cache : Cache T)
-    (keys : AllKeys) (clients : List (Client T)) (registers : List Registers) : Type 0 where
+    (config : Config) (states : States) (clients : List (Client T)) (registers : List Registers)
+    : Type 0 where
   pub count : length registers ≡ length clients
   pub each : (c : ℕ) (client : Client T) (held : Registers) → slice_get clients c ≡ Some client
-      → slice_get registers c ≡ Some held → AreFilled fits cache (keys c) client held.handles.items
+      → slice_get registers c ≡ Some held
+      → AreFilled fits cache config (states c) client held.handles.items
 
 -- no register is kept yet
 abbrev pub AreEmpty : List Registers → Type 0
 AreEmpty all = (c : ℕ) (held : Registers) → slice_get all c ≡ Some held → held.handles.items ≡ []
+
+-- So much is told of the clients with their registers, under some options.
+abbrev pub CanAllPlay : {T : Type 0} → (T → Key → List ℕ → Type 0) → Cache T → List (Client T)
+    → List Registers → Type 0
+CanAllPlay fits cache clients registers =
+    (config : Config) × (states : States) × AreManned fits cache config states clients registers
 
 -- The cache was made in this size, and with as many clients.
 pub record IsOfSize {T : Type 0} (config : Config) (cache : Cache T) (clients : List (Client T))
@@ -89,26 +97,29 @@ abbrev pub FitsIn : {T : Type 0} → (T → Key → List ℕ → Type 0) → Cac
 FitsIn fits cache lines =
     (key : Key) (value : List ℕ) → Inserts lines key value → fits cache.tag key value
 
--- A line's answer is right, and the registers are filled as it says.
+-- A line's answer is right, and the clients with their registers are as it says.
 abbrev pub Steps : {T : Type 0} → (T → Key → List ℕ → Type 0) → Cache T → RunLine → Answer
     → (old new : List (Client T)) → (was now : List Registers) → Type 0
 Steps fits cache line answer old new was now =
-    (keys : AllKeys) → AreManned fits cache keys old was
-    → IsRight (fits cache.tag) (keys line.client) line.call answer
-    × AreManned fits cache (keys_after keys line answer) new now
+    (config : Config) (states : States) → AreManned fits cache config states old was
+    → (next : State)
+    × IsRight (fits cache.tag) config (states line.client) line.call answer next
+    × AreManned fits cache config (with_state states line.client next) new now
 
 -- Right answers to lines, one for each: their text left behind what was pending, but for what is
 -- pending now.
-abbrev pub Answered : (Puts : Key → List ℕ → Type 0) → List RunLine
+abbrev pub Answered : (Puts : Key → List ℕ → Type 0) → Config → List RunLine
     → (old new : Option (List ℕ)) → (pending rest : List ℕ) → Type 0
-Answered Puts lines old new pending rest = (told : List Answer) × AreRight Puts no_keys lines told
+Answered Puts config lines old new pending rest =
+    (told : List Answer) × (last : States) × AreRight Puts config new_states lines told last
     × Leaves old new (pending ++ answers_text told) rest
 
 -- Of some right answers to lines, a front left.
-abbrev pub AnsweredPart : (Puts : Key → List ℕ → Type 0) → List RunLine
+abbrev pub AnsweredPart : (Puts : Key → List ℕ → Type 0) → Config → List RunLine
     → (old new : Option (List ℕ)) → (pending : List ℕ) → Type 0
-AnsweredPart Puts lines old new pending = (told : List Answer)
-    × AreRight Puts no_keys lines told × AppendsPart old new (pending ++ answers_text told)
+AnsweredPart Puts config lines old new pending =
+    (told : List Answer) × (last : States) × AreRight Puts config new_states lines told last
+    × AppendsPart old new (pending ++ answers_text told)
 
 -- sums that agree
 pub record Agree (sums : Sums) : Type 0 where

@@ -3,12 +3,15 @@ use Rattle.std.specs.Prelude.{◌≡◌, ℕ, ◌+◌, List, [], ◌∷◌, Opti
 use Rattle.hcc_rule.specs.declared.key.Key.{Key}
 use Rattle.hcc_cache.specs.declared.cache.Cache.{Cache}
 use Rattle.hcc_cache.specs.declared.client.Client.{Client}
+use Rattle.hcc_cache.specs.declared.config.Config.{Config}
 use Rattle.hcc_cache.specs.declared.handle.Handle.{Handle}
-use Rattle.hcc_cache.specs.Clients.{Held, held_by, held_of}
+use Rattle.hcc_cache.specs.Clients.{Held, Insertion, held_by, held_of}
+use Rattle.hcc_cache.specs.Configs.{shard_capacity}
 use Rattle.hcc_cache.specs.Known.{Knows}
 use Rattle.hcc_player.specs.declared.run.answer.Answer.{Answer}
 use Rattle.hcc_player.specs.declared.run.call.Call.{Call}
-use Rattle.hcc_player.specs.RunAnswers.{Keys, keys_by, IsRight}
+use Rattle.hcc_player.specs.RunAnswers.{IsRight}
+use Rattle.hcc_player.specs.RunStates.{State}
 
 -- what a register holds; those that are not kept are empty
 abbrev pub in_kept : Option (Option Handle) → Option Handle
@@ -25,36 +28,46 @@ how_many (None ∷ more) = how_many more
 how_many (Some handle ∷ more) = 1 + how_many more
 
 module _ {T : Type 0} (fits : T → Key → List ℕ → Type 0) (cache : Cache T) where
-  -- the handle is on an entry of this key, whose value fits it
-  pub record IsOn (client : Client T) (handle : Handle) (key : Option Key) : Type 0 where
+  -- the handle is on an entry of this insertion, whose value fits its key
+  pub record IsOn (client : Client T) (handle : Handle) (told : Option Insertion) : Type 0 where
     pub held : Held
     pub here : held_of cache client handle ≡ Some held
-    pub keyed : key ≡ Some held.insertion.key
+    pub inserted : told ≡ Some held.insertion
     pub right : fits cache.tag held.insertion.key held.insertion.value
 
-  -- A register that was filled for this key holds this.
-  abbrev pub IsFilled : Client T → Option Key → Option Handle → Type 0
-  IsFilled client key None = key ≡ None
-  IsFilled client key (Some handle) = IsOn client handle key
+  -- A register of which this insertion is told, or none, holds this.
+  abbrev pub IsFilled : Client T → Option Insertion → Option Handle → Type 0
+  IsFilled client told None = told ≡ None
+  IsFilled client told (Some handle) = IsOn client handle told
 
-  -- The registers of a client hold its handles, each of them once, and each was filled for the key
-  -- of its entry. No other handle is held.
-  pub record AreFilled (keys : Keys) (client : Client T) (handles : List (Option Handle))
-      : Type 0 where
-    pub known : Knows cache client
-    pub each : (r : ℕ) → IsFilled client (keys r) (at handles r)
-    pub apart : (r s : ℕ) (handle : Handle) → at handles r ≡ Some handle
-        → at handles s ≡ Some handle → r ≡ s
-    pub count : held_by client ≡ how_many handles
+  module _ (config : Config) where
+    -- The client may hold as many handles and use as many serials as the options say, less those
+    -- that are told, and the cache has their capacity.
+    pub record IsLimited (s : State) (client : Client T) : Type 0 where
+      pub full : held_by client ≡ s.full
+      pub most : client.most ≡ config.handles
+      pub serials : s.used + client.left ≡ config.serials
+      pub strict : cache.strict ≡ config.strict
+      pub capacity : cache.capacity ≡ shard_capacity config
 
-  -- A client with its registers may play: they are filled for some keys.
+    -- The registers of a client hold its handles, each of them once, and each is on the entry of
+    -- the insertion that is told of it. No other handle is held.
+    pub record AreFilled (s : State) (client : Client T) (handles : List (Option Handle))
+        : Type 0 where
+      pub known : Knows cache client
+      pub limited : IsLimited s client
+      pub each : (r : ℕ) → IsFilled client (s.registers r) (at handles r)
+      pub apart : (r s : ℕ) (handle : Handle) → at handles r ≡ Some handle
+          → at handles s ≡ Some handle → r ≡ s
+      pub count : held_by client ≡ how_many handles
+
+  -- A client with its registers may play: so much is told of it, under some options.
   abbrev pub CanPlay : Client T → List (Option Handle) → Type 0
-  CanPlay client handles = (keys : Keys) × AreFilled keys client handles
+  CanPlay client handles = (config : Config) × (s : State) × AreFilled config s client handles
 
-  -- What a call leaves of a client and its registers: the answer is right, and the registers are
-  -- filled as it says.
+  -- What a call leaves of a client and its registers: the answer is right, and they are as it says.
   abbrev pub Goes : Call → Answer → (old new : Client T) → (was now : List (Option Handle)) → Type 0
   Goes call answer old new was now =
-      (keys : Keys) → AreFilled keys old was
-      → IsRight (fits cache.tag) keys call answer
-      × AreFilled (keys_by keys call answer) new now
+      (config : Config) (s : State) → AreFilled config s old was
+      → (next : State) × IsRight (fits cache.tag) config s call answer next
+      × AreFilled config next new now

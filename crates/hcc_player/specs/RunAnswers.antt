@@ -1,6 +1,6 @@
 -- What the lines of a trace of calls are answered: which answers are right, and their texts.
-use Rattle.std.specs.Prelude.{◌≡◌, ◌≢◌, ℕ, ◌==◌, Bool, true, false, List, [], ◌∷◌, ◌++◌, Option, Some, None}
-use Rattle.std.specs.Prelude.{IsSome, codes, decimal, slice_get, if◌then◌else◌}
+use Rattle.std.specs.Prelude.{◌≡◌, ℕ, List, [], ◌∷◌, ◌++◌, Some, Result, Ok, Err}
+use Rattle.std.specs.Prelude.{codes, decimal, slice_get}
 use Rattle.std.specs.Int.{to_be_bytes}
 use Rattle.std.specs.List.{flat_map}
 use mir.Syntax.{w64}
@@ -11,6 +11,8 @@ use Rattle.hcc_cache.specs.declared.errors.LookupError.{LookupError}
 use Rattle.hcc_cache.specs.declared.errors.LookupError.TheVariants as lookups
 use Rattle.hcc_cache.specs.declared.inserting.Inserted.{Inserted}
 use Rattle.hcc_cache.specs.declared.inserting.Inserted.TheVariants as inserted
+use Rattle.hcc_cache.specs.declared.config.Config.{Config}
+use Rattle.hcc_cache.specs.Clients.{Insertion}
 use Rattle.hcc_shard.specs.declared.seat.Stats.{Stats}
 use Rattle.hcc_player.specs.declared.run.answer.Answer.{Answer}
 use Rattle.hcc_player.specs.declared.run.answer.Answer.TheVariants as answers
@@ -19,100 +21,81 @@ use Rattle.hcc_player.specs.declared.run.call.Call.TheVariants as calls
 use Rattle.hcc_player.specs.declared.run.call.RunLine.{RunLine}
 use Rattle.hcc_player.specs.declared.sums.Sums.{Sums}
 use Rattle.hcc_player.specs.Report.{sums_text}
+use Rattle.hcc_player.specs.RunStates.{IsEmpty, IsFull, IsPinned, IsRefused, MayHold, MayInsert}
+use Rattle.hcc_player.specs.RunStates.{RefusesInsert, RefusesPin, State, States, new_states}
+use Rattle.hcc_player.specs.RunStates.{with_emptied, with_filled, with_serial, with_state}
 use Rattle.hcc_player.specs.Text.{byte_text, value_text}
 
 -- Which answers are right.
 
--- The key under which each register of a client was filled; none where it is empty.
-abbrev pub Keys : Type 0
-Keys = ℕ → Option Key
-
--- one register changed
-abbrev pub with_key : Keys → ℕ → Option Key → Keys
-with_key keys register key r = if r == register then key else keys r
-
--- whether an answer says that a register was filled, or that one was emptied
-abbrev pub fills : Answer → Bool
-fills answers.Placed = true
-fills answers.Standalone = true
-fills answers.Hit = true
-fills answers.Held = true
-fills other = false
-
-abbrev pub empties : Answer → Bool
-empties answers.Freed = true
-empties answers.Kept = true
-empties other = false
-
-abbrev pub with_key_if : Bool → Keys → ℕ → Option Key → Keys
-with_key_if changed keys register key = if changed then with_key keys register key else keys
-
--- the registers after a call and its answer
-unfoldable pub keys_by : Keys → Call → Answer → Keys
-keys_by keys (calls.Pin register key charge priority value) answer =
-    with_key_if (fills answer) keys register (Some key)
-keys_by keys (calls.Get register key) answer =
-    with_key_if (fills answer) keys register (Some key)
-keys_by keys (calls.Fork register from) answer =
-    with_key_if (fills answer) keys register (keys from)
-keys_by keys (calls.Release register useful erase) answer =
-    with_key_if (empties answer) keys register None
-keys_by keys other answer = keys
-
--- a handle or a lookup is refused so
-abbrev pub IsLookupError : InsertError → Type 0
-IsLookupError errors.HandlesFull = Unit {0}
-IsLookupError errors.Spent = Unit {0}
-IsLookupError other = ⊥
-
-abbrev pub IsFull : Option Key → Type 0
-IsFull register = IsSome register
-
-abbrev pub IsEmpty : Option Key → Type 0
-IsEmpty register = register ≡ None
-
--- Of a relation of the keys and the values that the trace inserts under them.
-module _ (Puts : Key → List ℕ → Type 0) where
-  -- The answers that a call may have, where the registers of its client were filled so. `busy`
+-- Of a relation of the keys and the values that the trace inserts under them, and its options.
+module _ (Puts : Key → List ℕ → Type 0) (config : Config) where
+  -- The answers that a call may have where its client stands so, and how it stands then. `busy`
   -- comes exactly where the register to be filled is full, and else `none` exactly where the
-  -- register to be read is empty. A hit is on a key under which the trace inserts something. A
-  -- value is one that it inserts under the key that the register was filled for.
-  unfoldable pub IsRight : Keys → Call → Answer → Type 0
-  IsRight keys (calls.Insert key charge priority value) answers.Placed = Unit {0}
-  IsRight keys (calls.Insert key charge priority value) answers.Dropped = Unit {0}
-  IsRight keys (calls.Insert key charge priority value) (answers.Refused error) =
-      error ≢ errors.HandlesFull
-  IsRight keys (calls.Pin register key charge priority value) answers.Busy = IsFull (keys register)
-  IsRight keys (calls.Pin register key charge priority value) answers.Placed =
-      IsEmpty (keys register)
-  IsRight keys (calls.Pin register key charge priority value) answers.Standalone =
-      IsEmpty (keys register)
-  IsRight keys (calls.Pin register key charge priority value) (answers.Refused error) =
-      IsEmpty (keys register)
-  IsRight keys (calls.Get register key) answers.Busy = IsFull (keys register)
-  IsRight keys (calls.Get register key) answers.Hit =
-      IsEmpty (keys register) × ((value : List ℕ) × Puts key value)
-  IsRight keys (calls.Get register key) answers.Miss = IsEmpty (keys register)
-  IsRight keys (calls.Get register key) (answers.Refused error) =
-      IsEmpty (keys register) × IsLookupError error
-  IsRight keys (calls.Fork register from) answers.Busy = IsFull (keys register)
-  IsRight keys (calls.Fork register from) answers.Nothing =
-      IsEmpty (keys register) × IsEmpty (keys from)
-  IsRight keys (calls.Fork register from) answers.Held =
-      IsEmpty (keys register) × IsFull (keys from)
-  IsRight keys (calls.Fork register from) (answers.Refused error) =
-      IsEmpty (keys register) × (IsFull (keys from) × IsLookupError error)
-  IsRight keys (calls.Release register useful erase) answers.Freed = IsFull (keys register)
-  IsRight keys (calls.Release register useful erase) answers.Kept = IsFull (keys register)
-  IsRight keys (calls.Release register useful erase) answers.Nothing = IsEmpty (keys register)
-  IsRight keys (calls.Value register) (answers.Value value) =
-      (key : Key) × (keys register ≡ Some key) × Puts key value
-  IsRight keys (calls.Value register) answers.Nothing = IsEmpty (keys register)
-  IsRight keys (calls.Erase key) (answers.Erased count) = Unit {0}
-  IsRight keys calls.Totals (answers.Totals usage pinned occupancy) = Unit {0}
-  IsRight keys (calls.Word shard slot) (answers.Word word displaced) = Unit {0}
-  IsRight keys calls.Stats (answers.Stats stats) = Unit {0}
-  IsRight keys call answer = ⊥
+  -- register to be read is empty. Refusals that change nothing come exactly where they are due. A
+  -- register is filled with its own line's insertion, with what another register holds, or by a
+  -- hit: that is on one insertion of the key, of a value that the trace inserts under it. A value
+  -- is that of the insertion that the register holds.
+  unfoldable pub IsRight : State → Call → Answer → State → Type 0
+  IsRight s (calls.Insert key charge priority value) answers.Placed new =
+      MayInsert config s charge × (new ≡ with_serial s)
+  IsRight s (calls.Insert key charge priority value) answers.Dropped new =
+      MayInsert config s charge × (new ≡ with_serial s)
+  IsRight s (calls.Insert key charge priority value) (answers.Refused error) new =
+      RefusesInsert config charge error s new
+  IsRight s (calls.Pin register key charge priority value) answers.Busy new =
+      IsFull s register × (new ≡ s)
+  IsRight s (calls.Pin register key charge priority value) answers.Placed new =
+      IsEmpty s register × IsPinned config s register
+      (record { key = key; value = value; charge = charge }) new
+  IsRight s (calls.Pin register key charge priority value) answers.Standalone new =
+      IsEmpty s register × IsPinned config s register
+      (record { key = key; value = value; charge = charge }) new
+  IsRight s (calls.Pin register key charge priority value) (answers.Refused error) new =
+      IsEmpty s register × RefusesPin config charge error s new
+  IsRight s (calls.Get register key) answers.Busy new = IsFull s register × (new ≡ s)
+  IsRight s (calls.Get register key) answers.Hit new =
+      IsEmpty s register × MayHold config s
+      × ((held : Insertion) × (held.key ≡ key) × Puts key held.value
+      × (new ≡ with_filled s register held))
+  IsRight s (calls.Get register key) answers.Miss new =
+      IsEmpty s register × MayHold config s × (new ≡ s)
+  IsRight s (calls.Get register key) (answers.Refused error) new =
+      IsEmpty s register × IsRefused config error s × (new ≡ s)
+  IsRight s (calls.Fork register from) answers.Busy new = IsFull s register × (new ≡ s)
+  IsRight s (calls.Fork register from) answers.Nothing new =
+      IsEmpty s register × IsEmpty s from × (new ≡ s)
+  IsRight s (calls.Fork register from) answers.Held new =
+      IsEmpty s register × MayHold config s
+      × ((held : Insertion) × (s.registers from ≡ Some held)
+      × (new ≡ with_filled s register held))
+  IsRight s (calls.Fork register from) (answers.Refused error) new =
+      IsEmpty s register × IsFull s from × IsRefused config error s × (new ≡ s)
+  IsRight s (calls.Release register useful erase) answers.Freed new =
+      IsFull s register × (new ≡ with_emptied s register)
+  IsRight s (calls.Release register useful erase) answers.Kept new =
+      IsFull s register × (new ≡ with_emptied s register)
+  IsRight s (calls.Release register useful erase) answers.Nothing new =
+      IsEmpty s register × (new ≡ s)
+  IsRight s (calls.Value register) (answers.Value value) new =
+      ((held : Insertion) × (s.registers register ≡ Some held) × (value ≡ held.value))
+      × (new ≡ s)
+  IsRight s (calls.Value register) answers.Nothing new = IsEmpty s register × (new ≡ s)
+  IsRight s (calls.Erase key) (answers.Erased count) new = new ≡ s
+  IsRight s calls.Totals (answers.Totals usage pinned occupancy) new = new ≡ s
+  IsRight s (calls.Word shard slot) (answers.Word word displaced) new = new ≡ s
+  IsRight s calls.Stats (answers.Stats stats) new = new ≡ s
+  IsRight s call answer new = ⊥
+
+  -- Answers to lines: one for each, and each of them right where the clients stand as the lines
+  -- before it left them.
+  abbrev pub AreRight : States → List RunLine → List Answer → States → Type 0
+  AreRight old [] [] new = new ≡ old
+  AreRight old [] (answer ∷ told) new = ⊥
+  AreRight old (line ∷ lines) [] new = ⊥
+  AreRight old (line ∷ lines) (answer ∷ told) new =
+      (next : State) × IsRight (old line.client) line.call answer next
+      × AreRight (with_state old line.client next) lines told new
 
 -- what an insertion is answered that was not refused
 abbrev pub placed_answer : Inserted → Answer
@@ -120,38 +103,14 @@ placed_answer inserted.Placed = answers.Placed
 placed_answer inserted.Dropped = answers.Dropped
 placed_answer inserted.Standalone = answers.Standalone
 
+abbrev pub insert_answer : Result Inserted InsertError → Answer
+insert_answer (Ok told) = placed_answer told
+insert_answer (Err error) = answers.Refused error
+
 -- why a handle isn't given, as insertions tell it
 abbrev pub refusal_of : LookupError → InsertError
 refusal_of lookups.HandlesFull = errors.HandlesFull
 refusal_of lookups.Spent = errors.Spent
-
--- Of the registers of all clients, by their numbers.
-
-abbrev pub AllKeys : Type 0
-AllKeys = ℕ → Keys
-
-abbrev pub no_keys : AllKeys
-no_keys client register = None
-
--- all registers after a client's line and its answer
-abbrev pub keys_after : AllKeys → RunLine → Answer → AllKeys
-keys_after keys line answer client =
-    if client == line.client then keys_by (keys client) line.call answer else keys client
-
--- and after several lines
-abbrev pub keys_at : AllKeys → List RunLine → List Answer → AllKeys
-keys_at keys [] told = keys
-keys_at keys (line ∷ lines) [] = keys
-keys_at keys (line ∷ lines) (answer ∷ told) = keys_at (keys_after keys line answer) lines told
-
--- Answers to lines: one for each, and each of them right.
-abbrev pub AreRight : (Key → List ℕ → Type 0) → AllKeys → List RunLine → List Answer → Type 0
-AreRight Puts keys [] [] = Unit {0}
-AreRight Puts keys [] (answer ∷ told) = ⊥
-AreRight Puts keys (line ∷ lines) [] = ⊥
-AreRight Puts keys (line ∷ lines) (answer ∷ told) =
-    IsRight Puts (keys line.client) line.call answer
-    × AreRight Puts (keys_after keys line answer) lines told
 
 -- What a trace inserts.
 
@@ -238,9 +197,10 @@ answers_text [] = []
 answers_text (answer ∷ told) = answer_line answer ++ answers_text told
 
 -- The text of a play of these lines: an answer's line for each, and then the sums, which agree.
-pub record IsPlayed (lines : List RunLine) (text : List ℕ) : Type 0 where
+pub record IsPlayed (config : Config) (lines : List RunLine) (text : List ℕ) : Type 0 where
   pub told : List Answer
-  pub right : AreRight (Inserts lines) no_keys lines told
+  pub last : States
+  pub right : AreRight (Inserts lines) config new_states lines told last
   pub sums : Sums
   pub charged : sums.charges ≡ sums.usage
   pub occupies : sums.slots ≡ sums.occupied

@@ -5,6 +5,7 @@ ghost use Rattle.hcc_cache.specs.declared.handle.Handle.{Handle};
 ghost use Rattle.hcc_cache.specs.Clients.{held_by};
 ghost use Rattle.hcc_cache.specs.Known.{Knows};
 ghost use Rattle.hcc_player.specs.Registers.{CanPlay, Goes};
+ghost use Rattle.hcc_player.specs.RunCalls.{Does};
 ghost use Rattle.hcc_player.specs.RunAnswers.{placed_answer, refusal_of, PutsIn};
 ghost use Rattle.hcc_player.specs.RunLine.{IsSoundCall};
 
@@ -29,7 +30,9 @@ pub(crate) fn answer<T: Tag>(
         cache.now.geometry.slots call }
     requires fits { (key : Key) (value : List ℕ) → PutsIn call key value
         → T.fits cache.now.tag key value }
-    ensures { IfOk result (λ answer. Goes T.fits cache.now call answer client.old client.new
+    ensures goes { IfOk result (λ answer. Goes T.fits cache.now call answer client.old client.new
+        registers.old.handles.items registers.new.handles.items) }
+    ensures did { IfOk result (λ answer. Does T.fits cache.now call answer client.old client.new
         registers.old.handles.items registers.new.handles.items) }
 {
     match call {
@@ -89,7 +92,9 @@ fn insert<T: Tag>(
     requires fits { T.fits cache.now.tag key value.now }
     requires short { length value.now ≤ 8 * cache.now.geometry.room }
     requires paid { 0 < charge }
-    ensures { (handles : List (Option Handle)) → Goes T.fits cache.now
+    ensures goes { (handles : List (Option Handle)) → Goes T.fits cache.now
+        (Call.Insert key charge priority value.now) result client.old client.new handles handles }
+    ensures did { (handles : List (Option Handle)) → Does T.fits cache.now
         (Call.Insert key charge priority value.now) result client.old client.new handles handles }
 {
     match cache.insert(client, key, value, charge, priority) {
@@ -124,7 +129,10 @@ fn pin<T: Tag>(
     requires fits { T.fits cache.now.tag key value }
     requires short { length value ≤ 8 * cache.now.geometry.room }
     requires paid { 0 < charge }
-    ensures { IfOk result (λ answer. Goes T.fits cache.now
+    ensures goes { IfOk result (λ answer. Goes T.fits cache.now
+        (Call.Pin register key charge priority value) answer client.old client.new
+        registers.old.handles.items registers.new.handles.items) }
+    ensures did { IfOk result (λ answer. Does T.fits cache.now
         (Call.Pin register key charge priority value) answer client.old client.new
         registers.old.handles.items registers.new.handles.items) }
 {
@@ -150,7 +158,9 @@ fn get<T: Tag>(
     key: Key,
 ) -> Result<Answer, AllocError>
     requires { CanPlay T.fits cache.now client.old registers.old.handles.items }
-    ensures { IfOk result (λ answer. Goes T.fits cache.now (Call.Get register key) answer
+    ensures goes { IfOk result (λ answer. Goes T.fits cache.now (Call.Get register key) answer
+        client.old client.new registers.old.handles.items registers.new.handles.items) }
+    ensures did { IfOk result (λ answer. Does T.fits cache.now (Call.Get register key) answer
         client.old client.new registers.old.handles.items registers.new.handles.items) }
 {
     if registers.get(register).is_some() {
@@ -176,7 +186,9 @@ fn fork<T: Tag>(
     from: usize,
 ) -> Result<Answer, AllocError>
     requires { CanPlay T.fits cache.now client.old registers.old.handles.items }
-    ensures { IfOk result (λ answer. Goes T.fits cache.now (Call.Fork register from) answer
+    ensures goes { IfOk result (λ answer. Goes T.fits cache.now (Call.Fork register from) answer
+        client.old client.new registers.old.handles.items registers.new.handles.items) }
+    ensures did { IfOk result (λ answer. Does T.fits cache.now (Call.Fork register from) answer
         client.old client.new registers.old.handles.items registers.new.handles.items) }
 {
     if registers.get(register).is_some() {
@@ -217,6 +229,8 @@ fn release<T: Tag>(
     requires { CanPlay T.fits cache.now client.old registers.old.handles.items }
     ensures goes { Goes T.fits cache.now (Call.Release register useful erase) result
         client.old client.new registers.old.handles.items registers.new.handles.items }
+    ensures did { Does T.fits cache.now (Call.Release register useful erase) result
+        client.old client.new registers.old.handles.items registers.new.handles.items }
     ensures count { length registers.new.handles.items ≡ length registers.old.handles.items }
 {
     let Some(handle) = registers.get(register) else {
@@ -239,7 +253,9 @@ fn value<T: Tag>(
     register: usize,
 ) -> Result<Answer, AllocError>
     requires { CanPlay T.fits cache.now client.old registers.now.handles.items }
-    ensures { IfOk result (λ answer. Goes T.fits cache.now (Call.Value register) answer
+    ensures goes { IfOk result (λ answer. Goes T.fits cache.now (Call.Value register) answer
+        client.old client.new registers.now.handles.items registers.now.handles.items) }
+    ensures did { IfOk result (λ answer. Does T.fits cache.now (Call.Value register) answer
         client.old client.new registers.now.handles.items registers.now.handles.items) }
 {
     let Some(handle) = registers.get(register) else {
@@ -254,7 +270,9 @@ fn value<T: Tag>(
 /// The three totals.
 fn totals<T: Tag>(cache: &Cache<T>, client: &mut Client<T>) -> Answer
     requires { Knows cache.now client.old }
-    ensures { (handles : List (Option Handle)) → Goes T.fits cache.now Call.Totals result
+    ensures goes { (handles : List (Option Handle)) → Goes T.fits cache.now Call.Totals result
+        client.old client.new handles handles }
+    ensures did { (handles : List (Option Handle)) → Does T.fits cache.now Call.Totals result
         client.old client.new handles handles }
 {
     let usage = cache.usage(client);
@@ -272,8 +290,10 @@ fn word<T: Tag>(cache: &Cache<T>, client: &mut Client<T>, shard: u32, slot: u32)
     requires known { Knows cache.now client.old }
     requires shard { shard < length cache.now.shards.items }
     requires slot { slot < cache.now.geometry.slots }
-    ensures { (handles : List (Option Handle)) → Goes T.fits cache.now (Call.Word shard slot) result
-        client.old client.new handles handles }
+    ensures goes { (handles : List (Option Handle)) → Goes T.fits cache.now
+        (Call.Word shard slot) result client.old client.new handles handles }
+    ensures did { (handles : List (Option Handle)) → Does T.fits cache.now
+        (Call.Word shard slot) result client.old client.new handles handles }
 {
     let word = cache.word(client, shard, slot);
     let displaced = cache.displacement(client, shard, slot);

@@ -6,10 +6,11 @@ ghost use Rattle.hcc_rule.specs.declared.key.Key.{Key};
 ghost use Rattle.hcc_cache.specs.Configs.{checked};
 ghost use Rattle.hcc_player.specs.Bytes.{Leaves, AppendsPart};
 ghost use Rattle.hcc_player.specs.Play.{FailsToPlay};
-ghost use Rattle.hcc_player.specs.PlayRun.{Answered, AnsweredPart, AreEmpty, AreManned, Ended};
-ghost use Rattle.hcc_player.specs.PlayRun.{EndedPart, FitsIn, IsOfSize, Steps};
-ghost use Rattle.hcc_player.specs.RunAnswers.{answer_line, no_keys, AllKeys, IsPlayed, PutsIn};
+ghost use Rattle.hcc_player.specs.PlayRun.{Answered, AnsweredPart, AreEmpty, AreManned};
+ghost use Rattle.hcc_player.specs.PlayRun.{CanAllPlay, Ended, EndedPart, FitsIn, IsOfSize, Steps};
+ghost use Rattle.hcc_player.specs.RunAnswers.{answer_line, IsPlayed, PutsIn};
 ghost use Rattle.hcc_player.specs.RunLine.{run_line, IsSound, IsSoundCall};
+ghost use Rattle.hcc_player.specs.RunStates.{new_states};
 ghost use Rattle.hcc_player.specs.TraceTag.{run_trace, said};
 
 use crate::fault::{LineError, PlayError};
@@ -36,9 +37,11 @@ pub(crate) fn play_text<W: Write>(
 ) -> Result<(), PlayError>
     requires allowed { checked config ≡ Ok tt }
     requires good { IsOk (run_trace config text.now) }
-    ensures ok { OnOk result ((out : List ℕ) × IsPlayed (said (run_trace config text.now)) out
+    ensures ok { OnOk result ((out : List ℕ)
+        × IsPlayed config (said (run_trace config text.now)) out
         × Appends (W.contents writer.old) (W.contents writer.new) out) }
-    ensures part { OnErr result ((out : List ℕ) × IsPlayed (said (run_trace config text.now)) out
+    ensures part { OnErr result ((out : List ℕ)
+        × IsPlayed config (said (run_trace config text.now)) out
         × AppendsPart (W.contents writer.old) (W.contents writer.new) out) }
     ensures err { IfErr result FailsToPlay }
 {
@@ -87,14 +90,15 @@ fn play_lines<T: Tag, W: Write>(
     requires good { IsOk (run_trace config text.now) }
     requires size { IsOfSize config cache.now clients.old.items }
     requires fits { FitsIn T.fits cache.now (said (run_trace config text.now)) }
-    requires manned { AreManned T.fits cache.now no_keys clients.old.items registers.old.items }
-    ensures ok { OnOk result (Answered (T.fits cache.now.tag) (said (run_trace config text.now))
-        (W.contents writer.old) (W.contents writer.new)
+    requires manned { AreManned T.fits cache.now config new_states clients.old.items
+        registers.old.items }
+    ensures ok { OnOk result (Answered (T.fits cache.now.tag) config
+        (said (run_trace config text.now)) (W.contents writer.old) (W.contents writer.new)
         (string_bytes pending.old) (string_bytes pending.new)) }
-    ensures manned { OnOk result ((keys : AllKeys)
-        × AreManned T.fits cache.now keys clients.new.items registers.new.items) }
+    ensures manned { OnOk result
+        (CanAllPlay T.fits cache.now clients.new.items registers.new.items) }
     ensures count { length clients.new.items ≡ length clients.old.items }
-    ensures part { OnErr result (AnsweredPart (T.fits cache.now.tag)
+    ensures part { OnErr result (AnsweredPart (T.fits cache.now.tag) config
         (said (run_trace config text.now))
         (W.contents writer.old) (W.contents writer.new) (string_bytes pending.old)) }
     ensures err { IfErr result FailsToPlay }
@@ -132,8 +136,7 @@ fn answer_to<T: Tag>(
     line: RunLine,
 ) -> Result<Answer, AllocError>
     requires client { line.client < length clients.old.items }
-    requires manned { (keys : AllKeys)
-        × AreManned T.fits cache.now keys clients.old.items registers.old.items }
+    requires manned { CanAllPlay T.fits cache.now clients.old.items registers.old.items }
     requires sound { IsSoundCall cache.now.geometry.room (length cache.now.shards.items)
         cache.now.geometry.slots line.call }
     requires fits { (key : Key) (value : List ℕ) → PutsIn line.call key value
@@ -175,8 +178,7 @@ fn finish<T: Tag + Copy, W: Write>(
     writer: &mut W,
 ) -> Result<(), PlayError>
     requires enough { cache.geometry.clients ≤ length clients.items }
-    requires manned { (keys : AllKeys)
-        × AreManned T.fits cache keys clients.items registers.items }
+    requires manned { CanAllPlay T.fits cache clients.items registers.items }
     ensures ok { OnOk result (Ended (W.contents writer.old) (W.contents writer.new)
         (string_bytes pending.old)) }
     ensures part { OnErr result (EndedPart (W.contents writer.old) (W.contents writer.new)
@@ -197,8 +199,7 @@ fn closed<T: Tag + Copy>(
     mut registers: Vec<Registers>,
 ) -> Closed
     requires enough { cache.geometry.clients ≤ length clients.items }
-    requires manned { (keys : AllKeys)
-        × AreManned T.fits cache keys clients.items registers.items }
+    requires manned { CanAllPlay T.fits cache clients.items registers.items }
 {
     for number in 0..clients.len() {
         let_go(&cache, &mut clients[number], &mut registers[number]);

@@ -1,46 +1,88 @@
-use Rattle.hcc_player.specs.RunAnswers.{keys_by, IsRight}
+use Rattle.std.proofs.Common.{refl}
+use Rattle.hcc_player.specs.RunAnswers.{IsRight}
+use Rattle.hcc_player.specs.RunCalls.{Does}
 use Rattle.hcc_player.proofs.RegisterLemmas.{same_filled}
 use Rattle.hcc_player.proofs.run.calls.answer.Goals as goal
 
-pub returns-in-Insert : goal.returns-in-Insert
-returns-in-Insert g c =
+pub returns-in-Insert-clause-goes : goal.returns-in-Insert-clause-goes
+returns-in-Insert-clause-goes g c =
     rw c.in-Insert.is
-    (rw c.as_slice.ensures at (c.insert.ensures c.args.registers.now.handles.items))
+    (rw c.as_slice.ensures at (c.insert.ensures.goes c.args.registers.now.handles.items))
 
-pub returns-in-Pin : goal.returns-in-Pin
-returns-in-Pin g c = rw c.in-Pin.is c.pin.ensures
+pub returns-in-Insert-clause-did : goal.returns-in-Insert-clause-did
+returns-in-Insert-clause-did g c =
+    rw c.in-Insert.is
+    (rw c.as_slice.ensures at (c.insert.ensures.did c.args.registers.now.handles.items))
 
-pub returns-in-Get : goal.returns-in-Get
-returns-in-Get g c = rw c.in-Get.is c.get.ensures
+pub returns-in-Pin-clause-goes : goal.returns-in-Pin-clause-goes
+returns-in-Pin-clause-goes g c = rw c.in-Pin.is c.pin.ensures.goes
 
-pub returns-in-Fork : goal.returns-in-Fork
-returns-in-Fork g c = rw c.in-Fork.is c.fork.ensures
+pub returns-in-Pin-clause-did : goal.returns-in-Pin-clause-did
+returns-in-Pin-clause-did g c = rw c.in-Pin.is c.pin.ensures.did
 
-pub returns-in-Release : goal.returns-in-Release
-returns-in-Release g c = rw c.in-Release.is c.release.ensures.goes
+pub returns-in-Get-clause-goes : goal.returns-in-Get-clause-goes
+returns-in-Get-clause-goes g c = rw c.in-Get.is c.get.ensures.goes
 
-pub returns-in-Value : goal.returns-in-Value
-returns-in-Value g c = rw c.in-Value.is c.value-in-Value.ensures
+pub returns-in-Get-clause-did : goal.returns-in-Get-clause-did
+returns-in-Get-clause-did g c = rw c.in-Get.is c.get.ensures.did
 
-pub returns-in-Erase : goal.returns-in-Erase
-unfolding keys_by IsRight
-returns-in-Erase g c =
+pub returns-in-Fork-clause-goes : goal.returns-in-Fork-clause-goes
+returns-in-Fork-clause-goes g c = rw c.in-Fork.is c.fork.ensures.goes
+
+pub returns-in-Fork-clause-did : goal.returns-in-Fork-clause-did
+returns-in-Fork-clause-did g c = rw c.in-Fork.is c.fork.ensures.did
+
+pub returns-in-Release-clause-goes : goal.returns-in-Release-clause-goes
+returns-in-Release-clause-goes g c = rw c.in-Release.is c.release.ensures.goes
+
+pub returns-in-Release-clause-did : goal.returns-in-Release-clause-did
+returns-in-Release-clause-did g c = rw c.in-Release.is c.release.ensures.did
+
+pub returns-in-Value-clause-goes : goal.returns-in-Value-clause-goes
+returns-in-Value-clause-goes g c = rw c.in-Value.is c.value-in-Value.ensures.goes
+
+pub returns-in-Value-clause-did : goal.returns-in-Value-clause-did
+returns-in-Value-clause-did g c = rw c.in-Value.is c.value-in-Value.ensures.did
+
+pub returns-in-Erase-clause-goes : goal.returns-in-Erase-clause-goes
+unfolding IsRight
+returns-in-Erase-clause-goes g c =
     let erased = c.erase.ensures.erased in
-    rw c.in-Erase.is (λ keys filled. (
-      tt,
-      same_filled g.T.Tag.fits c.args.cache.now keys
-          c.args.client.now c.erase.new.client c.args.registers.now.handles.items
-          c.erase.ensures.known
-          erased.keeps.all erased.keeps.count filled,
+    rw c.in-Erase.is (λ config s filled. (
+      s,
+      refl,
+      same_filled g.T.Tag.fits c.args.cache.now config s c.args.client.now c.erase.new.client
+          c.args.registers.now.handles.items c.erase.ensures.known erased.works.self
+          erased.keeps filled,
     ))
 
-pub returns-in-Totals : goal.returns-in-Totals
-returns-in-Totals g c =
-    rw c.in-Totals.is (c.totals.ensures c.args.registers.now.handles.items)
+pub returns-in-Erase-clause-did : goal.returns-in-Erase-clause-did
+unfolding Does
+returns-in-Erase-clause-did g c =
+    rw c.in-Erase.is
+    (record { erases = c.erase.ensures.erased; searched = c.erase.ensures.searched })
 
-pub returns-in-Word : goal.returns-in-Word
-returns-in-Word g c = rw c.in-Word.is (c.word.ensures c.args.registers.now.handles.items)
+pub returns-in-Totals-clause-goes : goal.returns-in-Totals-clause-goes
+returns-in-Totals-clause-goes g c =
+    rw c.in-Totals.is (c.totals.ensures.goes c.args.registers.now.handles.items)
 
-pub returns-in-Stats : goal.returns-in-Stats
-unfolding keys_by IsRight
-returns-in-Stats g c = rw c.in-Stats.is (λ keys filled. (tt, filled))
+pub returns-in-Totals-clause-did : goal.returns-in-Totals-clause-did
+returns-in-Totals-clause-did g c =
+    rw c.in-Totals.is (c.totals.ensures.did c.args.registers.now.handles.items)
+
+pub returns-in-Word-clause-goes : goal.returns-in-Word-clause-goes
+returns-in-Word-clause-goes g c =
+    rw c.in-Word.is (c.word.ensures.goes c.args.registers.now.handles.items)
+
+pub returns-in-Word-clause-did : goal.returns-in-Word-clause-did
+returns-in-Word-clause-did g c =
+    rw c.in-Word.is (c.word.ensures.did c.args.registers.now.handles.items)
+
+pub returns-in-Stats-clause-goes : goal.returns-in-Stats-clause-goes
+unfolding IsRight
+returns-in-Stats-clause-goes g c = rw c.in-Stats.is (λ config s filled. (s, refl, filled))
+
+pub returns-in-Stats-clause-did : goal.returns-in-Stats-clause-did
+unfolding Does
+returns-in-Stats-clause-did g c =
+    rw c.in-Stats.is (c.stats.ensures, record { client = refl; registers = λ r. refl })

@@ -1,15 +1,17 @@
-use Rattle.std.proofs.Common.{◌≡◌, true, Some, None, sym, ◌∙◌}
+use Rattle.std.proofs.Common.{◌≡◌, true, None, Some, Ok, Err, refl, sym, ◌∙◌}
 use Rattle.std.specs.Prelude.{is_some}
 use Rattle.hcc_player.specs.Registers.{at}
-use Rattle.hcc_player.specs.RunAnswers.{keys_by, IsRight}
-use Rattle.hcc_player.proofs.CallLemmas.{busy_key, empty_key, fork_goes, full_key, is_refusal}
-use Rattle.hcc_player.proofs.CallLemmas.{no_handle, stays}
+use Rattle.hcc_player.specs.RunAnswers.{IsRight}
+use Rattle.hcc_player.specs.RunCalls.{Does}
+use Rattle.hcc_player.proofs.CallLemmas.{busy_told, empty_told, fork_goes, full_told, look_refused}
+use Rattle.hcc_player.proofs.CallLemmas.{may_look, no_handle, stays}
+use Rattle.hcc_player.proofs.DoesLemmas.{set_at}
 use Rattle.hcc_player.proofs.RegisterLemmas.{moved_filled}
 use Rattle.hcc_player.proofs.run.calls.fork.Goals as goal
 
-pub returns-then-is_some : goal.returns-then-is_some
-unfolding keys_by IsRight
-returns-then-is_some g c keys filled =
+pub returns-then-is_some-clause-goes : goal.returns-then-is_some-clause-goes
+unfolding IsRight
+returns-then-is_some-clause-goes g c config s filled =
     let fits = g.T.Tag.fits in
     let cache = c.args.cache.now in
     let client = c.args.client.now in
@@ -17,68 +19,103 @@ returns-then-is_some g c keys filled =
     let r = c.args.register in
     let full : is_some (at handles r) ≡ true =
     rw c.get.ensures at (sym c.is_some.ensures ∙ c.if-is_some.true) in
-    (busy_key fits cache keys client handles r full filled, filled)
+    (s, (busy_told fits cache config s client handles r full filled, refl), filled)
 
-pub returns-in_default : goal.returns-in_default
-unfolding keys_by IsRight
-returns-in_default g c keys filled =
+pub returns-then-is_some-clause-did : goal.returns-then-is_some-clause-did
+unfolding Does
+returns-then-is_some-clause-did g c = record { client = refl; registers = λ r. refl }
+
+pub returns-in_default-clause-goes : goal.returns-in_default-clause-goes
+unfolding IsRight
+returns-in_default-clause-goes g c config s filled =
     let fits = g.T.Tag.fits in
     let cache = c.args.cache.now in
     let client = c.args.client.now in
     let handles = c.args.registers.now.handles.items in
     let r = c.args.register in
-    let empty : at handles r ≡ None = no_handle fits cache handles r
+    let empty : at handles r ≡ None = no_handle handles r
     (rw c.get.ensures at (sym c.is_some.ensures ∙ c.if-is_some.false)) in
     let none : at handles c.args.from ≡ None = sym c.get-2.ensures ∙ c.in_default.is in (
+      s,
       (
-        empty_key fits cache keys client handles r empty filled,
-        empty_key fits cache keys client handles c.args.from none filled,
+        empty_told fits cache config s client handles r empty filled,
+        empty_told fits cache config s client handles c.args.from none filled,
+        refl,
       ),
       filled,
     )
 
-pub returns-in-Ok : goal.returns-in-Ok
-returns-in-Ok g c keys filled =
+pub returns-in_default-clause-did : goal.returns-in_default-clause-did
+unfolding Does
+returns-in_default-clause-did g c = record { client = refl; registers = λ r. refl }
+
+pub returns-in-Ok-clause-goes : goal.returns-in-Ok-clause-goes
+returns-in-Ok-clause-goes g c config s filled =
     let fits = g.T.Tag.fits in
     let cache = c.args.cache.now in
     let client = c.args.client.now in
     let handles = c.args.registers.now.handles.items in
     let r = c.args.register in
     let kept = c.reserve.new.self.handles.items in
-    let empty : at handles r ≡ None = no_handle fits cache handles r
+    let reserved = c.in_ok-reserve.ensures in
+    let told = c.in-Ok.ensures in
+    let empty : at handles r ≡ None = no_handle handles r
     (rw c.get.ensures at (sym c.is_some.ensures ∙ c.if-is_some.false)) in
-    let free : at kept r ≡ None = c.in_ok-reserve.ensures.same r ∙ empty in
-    let moved = moved_filled fits cache keys client handles kept c.in_ok-reserve.ensures.same
-    c.in_ok-reserve.ensures.count filled in
+    let free : at kept r ≡ None = reserved.same r ∙ empty in
+    let moved = moved_filled fits cache config s client handles kept reserved.same
+    reserved.count filled in
     let from = c.args.from in
     let full : at kept from ≡ Some c.in-Some.held =
-    c.in_ok-reserve.ensures.same from ∙ sym c.get-2.ensures ∙ c.in-Some.is in
+    reserved.same from ∙ sym c.get-2.ensures ∙ c.in-Some.is in
+    let may = may_look fits cache config s client (Ok c.in-Ok.handle) c.in-Ok.handle refl
+    filled.known filled.limited told.full told.spent in
     rw c.set.ensures
-    (fork_goes fits cache keys client c.reref.new.client kept r from c.in-Some.held c.in-Ok.handle
-    c.in-Ok.ensures.known c.in-Ok.ensures.again full free c.in_ok-reserve.ensures.there moved)
+    (fork_goes fits cache config s client c.reref.new.client kept r from c.in-Some.held
+    c.in-Ok.handle told.known may told.again full free reserved.there moved)
 
-pub returns-in-Err : goal.returns-in-Err
-unfolding keys_by IsRight
-returns-in-Err g c keys filled =
+pub returns-in-Ok-clause-did : goal.returns-in-Ok-clause-did
+unfolding Does
+returns-in-Ok-clause-did g c = record {
+  handle = c.in-Some.held;
+  more = c.in-Ok.handle;
+  held = sym c.get-2.ensures ∙ c.in-Some.is;
+  filled = set_at c.reserve.new.self.handles.items c.set.new.self.handles.items
+      c.args.register (Some c.in-Ok.handle) c.set.ensures c.in_ok-reserve.ensures.there;
+  again = c.in-Ok.ensures.again;
+}
+
+pub returns-in-Err-clause-goes : goal.returns-in-Err-clause-goes
+unfolding IsRight
+returns-in-Err-clause-goes g c config s filled =
     let fits = g.T.Tag.fits in
     let cache = c.args.cache.now in
     let client = c.args.client.now in
     let handles = c.args.registers.now.handles.items in
     let r = c.args.register in
     let kept = c.reserve.new.self.handles.items in
-    let empty : at handles r ≡ None = no_handle fits cache handles r
+    let reserved = c.in_ok-reserve.ensures in
+    let told = c.in-Err.ensures in
+    let empty : at handles r ≡ None = no_handle handles r
     (rw c.get.ensures at (sym c.is_some.ensures ∙ c.if-is_some.false)) in
-    let free : at kept r ≡ None = c.in_ok-reserve.ensures.same r ∙ empty in
-    let moved = moved_filled fits cache keys client handles kept c.in_ok-reserve.ensures.same
-    c.in_ok-reserve.ensures.count filled in
+    let moved = moved_filled fits cache config s client handles kept reserved.same
+    reserved.count filled in
     let from = c.args.from in
-    let full : at handles from ≡ Some c.in-Some.held = sym c.get-2.ensures ∙ c.in-Some.is in (
+    let full : at handles from ≡ Some c.in-Some.held = sym c.get-2.ensures ∙ c.in-Some.is in
+    let refused = look_refused fits cache config s client (Err c.in-Err.error) c.in-Err.error
+    refl filled.limited told.full told.spent in (
+      s,
       (
-        empty_key fits cache keys client handles r empty filled,
-        (
-          full_key fits cache keys client handles from c.in-Some.held full filled,
-          rw c.refusal.ensures (is_refusal fits cache c.in-Err.error),
-        ),
+        empty_told fits cache config s client handles r empty filled,
+        full_told fits cache config s client handles from c.in-Some.held full filled,
+        rw c.refusal.ensures refused,
+        refl,
       ),
-      stays fits cache keys client c.reref.new.client kept c.in-Err.ensures.refused moved,
+      stays fits cache config s client c.reref.new.client kept told.refused moved,
     )
+
+pub returns-in-Err-clause-did : goal.returns-in-Err-clause-did
+unfolding Does
+returns-in-Err-clause-did g c = record {
+  client = c.in-Err.ensures.refused;
+  registers = c.in_ok-reserve.ensures.same;
+}

@@ -1,14 +1,17 @@
-use Rattle.std.proofs.Common.{◌≡◌, true, None, sym, ◌∙◌}
+use Rattle.std.proofs.Common.{◌≡◌, true, None, Some, Ok, Err, refl, sym, ◌∙◌}
 use Rattle.std.specs.Prelude.{is_some}
 use Rattle.hcc_player.specs.Registers.{at}
-use Rattle.hcc_player.specs.RunAnswers.{keys_by, IsRight}
-use Rattle.hcc_player.proofs.CallLemmas.{busy_key, empty_key, get_goes, is_refusal, no_handle, stays}
+use Rattle.hcc_player.specs.RunAnswers.{IsRight}
+use Rattle.hcc_player.specs.RunCalls.{Does}
+use Rattle.hcc_player.proofs.CallLemmas.{busy_told, empty_told, get_goes, look_refused, may_look}
+use Rattle.hcc_player.proofs.CallLemmas.{no_handle, stays}
+use Rattle.hcc_player.proofs.DoesLemmas.{set_at}
 use Rattle.hcc_player.proofs.RegisterLemmas.{moved_filled, same_filled}
 use Rattle.hcc_player.proofs.run.calls.get.Goals as goal
 
-pub returns-then-is_some : goal.returns-then-is_some
-unfolding keys_by IsRight
-returns-then-is_some g c keys filled =
+pub returns-then-is_some-clause-goes : goal.returns-then-is_some-clause-goes
+unfolding IsRight
+returns-then-is_some-clause-goes g c config s filled =
     let fits = g.T.Tag.fits in
     let cache = c.args.cache.now in
     let client = c.args.client.now in
@@ -16,63 +19,107 @@ returns-then-is_some g c keys filled =
     let r = c.args.register in
     let full : is_some (at handles r) ≡ true =
     rw c.get.ensures at (sym c.is_some.ensures ∙ c.if-is_some.true) in
-    (busy_key fits cache keys client handles r full filled, filled)
+    (s, (busy_told fits cache config s client handles r full filled, refl), filled)
 
-pub returns-in-Ok-Some : goal.returns-in-Ok-Some
-returns-in-Ok-Some g c keys filled =
+pub returns-then-is_some-clause-did : goal.returns-then-is_some-clause-did
+unfolding Does
+returns-then-is_some-clause-did g c = record { client = refl; registers = λ r. refl }
+
+pub returns-in-Ok-Some-clause-goes : goal.returns-in-Ok-Some-clause-goes
+returns-in-Ok-Some-clause-goes g c config s filled =
     let fits = g.T.Tag.fits in
     let cache = c.args.cache.now in
     let client = c.args.client.now in
     let handles = c.args.registers.now.handles.items in
     let r = c.args.register in
     let kept = c.reserve.new.self.handles.items in
-    let empty : at handles r ≡ None = no_handle fits cache handles r
+    let reserved = c.in_ok-reserve.ensures in
+    let told = c.in-Ok-Some.ensures in
+    let empty : at handles r ≡ None = no_handle handles r
     (rw c.get.ensures at (sym c.is_some.ensures ∙ c.if-is_some.false)) in
-    let free : at kept r ≡ None = c.in_ok-reserve.ensures.same r ∙ empty in
-    let moved = moved_filled fits cache keys client handles kept c.in_ok-reserve.ensures.same
-    c.in_ok-reserve.ensures.count filled in
-    let found = rw c.in-Ok-Some.field-0-is at c.in-Ok-Some.ensures.found in
+    let free : at kept r ≡ None = reserved.same r ∙ empty in
+    let moved = moved_filled fits cache config s client handles kept reserved.same
+    reserved.count filled in
+    let found = rw c.in-Ok-Some.field-0-is at told.found in
+    let may = may_look fits cache config s client (Ok c.in-Ok-Some.field-0) c.in-Ok-Some.field-0
+    refl filled.known filled.limited told.full told.spent in
     rw c.set.ensures
-    (get_goes fits cache keys client c.lookup.new.client kept r c.args.key c.in-Ok-Some.handle
-    c.in-Ok-Some.ensures.known found free c.in_ok-reserve.ensures.there moved)
+    (get_goes fits cache config s client c.lookup.new.client kept r c.args.key
+    c.in-Ok-Some.handle told.known may found free reserved.there moved)
 
-pub returns-in-Ok-None : goal.returns-in-Ok-None
-unfolding keys_by IsRight
-returns-in-Ok-None g c keys filled =
+pub returns-in-Ok-Some-clause-did : goal.returns-in-Ok-Some-clause-did
+unfolding Does
+returns-in-Ok-Some-clause-did g c =
+    let told = c.in-Ok-Some.ensures in
+    record {
+      handle = c.in-Ok-Some.handle;
+      filled = set_at c.reserve.new.self.handles.items c.set.new.self.handles.items
+          c.args.register (Some c.in-Ok-Some.handle) c.set.ensures
+          c.in_ok-reserve.ensures.there;
+      finds = rw c.in-Ok-Some.field-0-is at told.found;
+      searched = rw c.in-Ok-Some.field-0-is at told.searched;
+    }
+
+pub returns-in-Ok-None-clause-goes : goal.returns-in-Ok-None-clause-goes
+unfolding IsRight
+returns-in-Ok-None-clause-goes g c config s filled =
     let fits = g.T.Tag.fits in
     let cache = c.args.cache.now in
     let client = c.args.client.now in
     let handles = c.args.registers.now.handles.items in
     let r = c.args.register in
     let kept = c.reserve.new.self.handles.items in
-    let empty : at handles r ≡ None = no_handle fits cache handles r
+    let reserved = c.in_ok-reserve.ensures in
+    let told = c.in-Ok-None.ensures in
+    let empty : at handles r ≡ None = no_handle handles r
     (rw c.get.ensures at (sym c.is_some.ensures ∙ c.if-is_some.false)) in
-    let free : at kept r ≡ None = c.in_ok-reserve.ensures.same r ∙ empty in
-    let moved = moved_filled fits cache keys client handles kept c.in_ok-reserve.ensures.same
-    c.in_ok-reserve.ensures.count filled in
-    let missed = rw c.in-Ok-None.field-0-is at c.in-Ok-None.ensures.missed in (
-      empty_key fits cache keys client handles r empty filled,
-      same_filled fits cache keys client c.lookup.new.client kept c.in-Ok-None.ensures.known
-          missed.keeps.all missed.keeps.count moved,
+    let moved = moved_filled fits cache config s client handles kept reserved.same
+    reserved.count filled in
+    let may = may_look fits cache config s client (Ok c.in-Ok-None.field-0) c.in-Ok-None.field-0
+    refl filled.known filled.limited told.full told.spent in
+    let missed = rw c.in-Ok-None.field-0-is at told.missed in (
+      s,
+      (empty_told fits cache config s client handles r empty filled, may, refl),
+      same_filled fits cache config s client c.lookup.new.client kept told.known
+          missed.works.self missed.keeps moved,
     )
 
-pub returns-in-Err : goal.returns-in-Err
-unfolding keys_by IsRight
-returns-in-Err g c keys filled =
+pub returns-in-Ok-None-clause-did : goal.returns-in-Ok-None-clause-did
+unfolding Does
+returns-in-Ok-None-clause-did g c = record {
+  misses = rw c.in-Ok-None.field-0-is at c.in-Ok-None.ensures.missed;
+  searched = rw c.in-Ok-None.field-0-is at c.in-Ok-None.ensures.searched;
+}
+
+pub returns-in-Err-clause-goes : goal.returns-in-Err-clause-goes
+unfolding IsRight
+returns-in-Err-clause-goes g c config s filled =
     let fits = g.T.Tag.fits in
     let cache = c.args.cache.now in
     let client = c.args.client.now in
     let handles = c.args.registers.now.handles.items in
     let r = c.args.register in
     let kept = c.reserve.new.self.handles.items in
-    let empty : at handles r ≡ None = no_handle fits cache handles r
+    let reserved = c.in_ok-reserve.ensures in
+    let told = c.in-Err.ensures in
+    let empty : at handles r ≡ None = no_handle handles r
     (rw c.get.ensures at (sym c.is_some.ensures ∙ c.if-is_some.false)) in
-    let free : at kept r ≡ None = c.in_ok-reserve.ensures.same r ∙ empty in
-    let moved = moved_filled fits cache keys client handles kept c.in_ok-reserve.ensures.same
-    c.in_ok-reserve.ensures.count filled in (
+    let moved = moved_filled fits cache config s client handles kept reserved.same
+    reserved.count filled in
+    let refused = look_refused fits cache config s client (Err c.in-Err.error) c.in-Err.error
+    refl filled.limited told.full told.spent in (
+      s,
       (
-        empty_key fits cache keys client handles r empty filled,
-        rw c.refusal.ensures (is_refusal fits cache c.in-Err.error),
+        empty_told fits cache config s client handles r empty filled,
+        rw c.refusal.ensures refused,
+        refl,
       ),
-      stays fits cache keys client c.lookup.new.client kept c.in-Err.ensures.refused moved,
+      stays fits cache config s client c.lookup.new.client kept told.refused moved,
     )
+
+pub returns-in-Err-clause-did : goal.returns-in-Err-clause-did
+unfolding Does
+returns-in-Err-clause-did g c = record {
+  client = c.in-Err.ensures.refused;
+  registers = c.in_ok-reserve.ensures.same;
+}

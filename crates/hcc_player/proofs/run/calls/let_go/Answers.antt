@@ -1,20 +1,33 @@
-use Rattle.std.proofs.Common.{◌∙◌, false, arith}
-use Rattle.hcc_player.specs.declared.run.call.Call.TheVariants as calls
-use Rattle.hcc_player.specs.RunAnswers.{keys_by}
+use Rattle.std.proofs.Common.{◌∙◌, refl, arith}
 use Rattle.hcc_player.proofs.EndLemmas.{holds_none, released}
 use Rattle.hcc_player.proofs.run.calls.let_go.Goals as goal
+
+pub loop-register-init : goal.loop-register-init
+loop-register-init g c =
+    let can = c.requires in
+    record {
+      filled = (can.0, can.1, can.2, λ r within. absurd (omega arith));
+      count = refl;
+    }
+
+pub release-requires : goal.release-requires
+release-requires g c =
+    let filled = c.loop-register.invariant.filled in (filled.0, filled.1, filled.2)
 
 pub loop-register-preserved : goal.loop-register-preserved
 loop-register-preserved g c =
     let inv = c.loop-register.invariant in
-    let keys = inv.filled.0 in
+    let config = inv.filled.0 in
+    let s = inv.filled.1 in
     let r = c.loop-register.register in
-    let now = c.release.ensures.goes keys inv.filled.1 in
+    let now = c.release.ensures.goes config s inv.filled.2 in
     record {
       filled = (
-        keys_by keys (calls.Release r false false) c.release.result,
-        now.1,
-        released (g.T.Tag.fits c.args.cache.now.tag) keys r c.release.result now.0 inv.filled.2,
+        config,
+        now.0,
+        now.2,
+        released (g.T.Tag.fits c.args.cache.now.tag) config s now.0 r c.release.result now.1
+            inv.filled.3,
       );
       count = c.release.ensures.count ∙ inv.count;
     }
@@ -25,6 +38,6 @@ returns-clause-none g c =
     let count = inv.count in
     let all = c.kept-register-end.ensures in
     let past = c.loop-register-test.false in
-    holds_none g.T.Tag.fits c.args.cache.now inv.filled.0 c.loop-register.client
-    c.loop-register.registers.handles.items inv.filled.1
-    (λ r within. inv.filled.2 r (omega arith))
+    holds_none g.T.Tag.fits c.args.cache.now inv.filled.0 inv.filled.1 c.loop-register.client
+    c.loop-register.registers.handles.items inv.filled.2
+    (λ r within. inv.filled.3 r (omega arith))

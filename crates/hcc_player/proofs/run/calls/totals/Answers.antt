@@ -1,22 +1,41 @@
-use Rattle.hcc_player.specs.RunAnswers.{keys_by, IsRight}
+use Rattle.std.proofs.Common.{refl}
+use Rattle.hcc_player.specs.RunAnswers.{IsRight}
+use Rattle.hcc_player.specs.RunCalls.{Does}
 use Rattle.hcc_player.proofs.RegisterLemmas.{same_filled}
 use Rattle.hcc_player.proofs.run.calls.totals.Goals as goal
 
-pub returns : goal.returns
-unfolding keys_by IsRight
-returns g c handles keys filled =
+pub returns-clause-goes : goal.returns-clause-goes
+unfolding IsRight
+returns-clause-goes g c handles config s filled =
     let fits = g.T.Tag.fits in
     let cache = c.args.cache.now in
     let used = c.usage-usage.ensures in
     let pinned = c.pinned_usage-pinned.ensures in
     let full = c.occupancy-occupancy.ensures in
-    let first = same_filled fits cache keys c.args.client.now c.usage-usage.new.client handles
-    used.known used.keeps.all used.keeps.count filled in
-    let second = same_filled fits cache keys c.usage-usage.new.client
-    c.pinned_usage-pinned.new.client handles pinned.known pinned.keeps.all pinned.keeps.count
-    first in (
-      tt,
-      same_filled fits cache keys c.pinned_usage-pinned.new.client
-          c.occupancy-occupancy.new.client handles full.known full.reads.keeps.all
-          full.reads.keeps.count second,
+    let first = same_filled fits cache config s c.args.client.now c.usage-usage.new.client handles
+    used.known used.views.self used.keeps filled in
+    let second = same_filled fits cache config s c.usage-usage.new.client
+    c.pinned_usage-pinned.new.client handles pinned.known pinned.views.self pinned.keeps first in (
+      s,
+      refl,
+      same_filled fits cache config s c.pinned_usage-pinned.new.client
+          c.occupancy-occupancy.new.client handles full.known full.reads.rests.self
+          full.reads.keeps second,
     )
+
+pub returns-clause-did : goal.returns-clause-did
+unfolding Does
+returns-clause-did g c handles = record {
+  first = c.usage-usage.new.client;
+  second = c.pinned_usage-pinned.new.client;
+  loads = c.usage-usage.ensures.loads;
+  views = c.usage-usage.ensures.views;
+  charged = c.usage-usage.ensures.entries;
+  searches = c.pinned_usage-pinned.ensures.views;
+  held = c.pinned_usage-pinned.ensures.entries;
+  alone = c.pinned_usage-pinned.ensures.alone;
+  counts = c.occupancy-occupancy.ensures.loads;
+  reads = c.occupancy-occupancy.ensures.reads;
+  entries = c.occupancy-occupancy.ensures.entries;
+  lone = c.occupancy-occupancy.ensures.alone;
+}

@@ -11,9 +11,10 @@ answer-requires-clause-can g c =
     let clients = c.args.clients.now.items in
     let registers = c.args.registers.now.items in
     let within = c.requires.client in
-    let count = m.1.count in (
-      m.0 n,
-      m.1.each n c.index_mut.result.now c.index_mut-2.result.now
+    let count = m.2.count in (
+      m.0,
+      m.1 n,
+      m.2.each n c.index_mut.result.now c.index_mut-2.result.now
           (slice_get_read clients (length clients) n c.index_mut.result.now refl within
           c.index_mut.ensures.value)
           (slice_get_read registers (length registers) n c.index_mut-2.result.now refl
@@ -26,7 +27,7 @@ returns-clause-steps g c =
     let clients = c.args.clients.now.items in
     let registers = c.args.registers.now.items in
     let within = c.requires.client in
-    let count = c.requires.manned.1.count in
+    let count = c.requires.manned.2.count in
     if_ok_so c.answer.result _ _ (λ answer goes.
     steps_by g.T.Tag.fits c.args.cache.now c.args.line answer clients registers
     c.index_mut.result.now c.answer.new.client c.index_mut-2.result.now c.answer.new.registers

@@ -8,9 +8,9 @@ loop-number-init g c =
     let m = c.requires.manned in
     record {
       count = refl;
-      alike = m.1.count;
+      alike = m.2.count;
       before = λ c client within at. absurd (omega arith);
-      behind = λ k client held within here there. (m.0 k, m.1.each k client held here there);
+      behind = λ k client held within here there. (m.0, m.1 k, m.2.each k client held here there);
     }
 
 pub let_go-requires : goal.let_go-requires

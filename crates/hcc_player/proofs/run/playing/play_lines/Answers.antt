@@ -29,6 +29,10 @@ returns-in_err-line-clause-part g c =
     (running_stops g.T.Tag.fits c.args.cache.now c.args.config _ _ _ _ _ _ _ _
     c.loop-bytes.invariant.running)
 
+pub answer_to-requires-clause-manned : goal.answer_to-requires-clause-manned
+answer_to-requires-clause-manned g c =
+    let run = c.loop-bytes.invariant.running in (c.args.config, run.states, run.manned)
+
 pub answer_to-requires-clause-fits : goal.answer_to-requires-clause-fits
 answer_to-requires-clause-fits g c =
     let fits = g.T.Tag.fits in
@@ -57,8 +61,7 @@ returns-in_err-tell-clause-part g c =
     c.in-Some.ensures.line c.in_ok-line.ensures.ok in
     on_error c.from_residual-in_err-tell.result _
     (running_fails fits cache config _ _ _ _ _ _ c.in-Some.after.now _ _ _ _ _ run line
-    c.in_ok-answer.answer next c.requires.fits c.in_ok-answer.ensures.steps
-    c.in_err-tell.ensures.part)
+    c.in_ok-answer.answer next c.in_ok-answer.ensures.steps c.in_err-tell.ensures.part)
 
 pub loop-bytes-preserved-in_ok-tell : goal.loop-bytes-preserved-in_ok-tell
 loop-bytes-preserved-in_ok-tell g c =
@@ -71,8 +74,7 @@ loop-bytes-preserved-in_ok-tell g c =
     c.in-Some.ensures.line c.in_ok-line.ensures.ok in
     record {
       running = running_goes fits cache config _ _ _ _ _ _ _ c.in-Some.after.now _ _ _ _ _ run line
-          c.in_ok-answer.answer next c.requires.fits c.in_ok-answer.ensures.steps
-          c.in_ok-tell.ensures.ok;
+          c.in_ok-answer.answer next c.in_ok-answer.ensures.steps c.in_ok-tell.ensures.ok;
       count = c.in_ok-answer.ensures.count ∙ c.loop-bytes.invariant.count;
     }
 
@@ -87,7 +89,6 @@ loop-bytes-preserved g c =
     c.in-Some.ensures.line c.in_ok-line.ensures.ok in
     record {
       running = running_goes fits cache config _ _ _ _ _ _ _ c.in-Some.after.now _ _ _ _ _ run line
-          c.in_ok-answer.answer next c.requires.fits c.in_ok-answer.ensures.steps
-          c.in_ok-tell.ensures.ok;
+          c.in_ok-answer.answer next c.in_ok-answer.ensures.steps c.in_ok-tell.ensures.ok;
       count = c.in_ok-answer.ensures.count ∙ c.loop-bytes.invariant.count;
     }

@@ -8,13 +8,13 @@ use Rattle.hcc_player.proofs.run.playing.play_text.Goals as goal
 
 pub returns-in_default-clause-part : goal.returns-in_default-clause-part
 returns-in_default-clause-part g c =
-    play_unbegun (said (run_trace c.args.config c.args.text.now))
+    play_unbegun c.args.config (said (run_trace c.args.config c.args.text.now))
     (g.W.Write.contents c.args.writer.now)
 
 pub returns-in_err-registers-clause-part : goal.returns-in_err-registers-clause-part
 returns-in_err-registers-clause-part g c =
     on_error c.from_residual.result _
-    (play_unbegun (said (run_trace c.args.config c.args.text.now))
+    (play_unbegun c.args.config (said (run_trace c.args.config c.args.text.now))
     (g.W.Write.contents c.args.writer.now))
 
 pub play_lines-requires-clause-manned : goal.play_lines-requires-clause-manned
@@ -31,8 +31,8 @@ returns-in_err-play_lines-clause-part g c =
     let old = g.W.Write.contents c.args.writer.now in
     let mid = g.W.Write.contents c.play_lines.new.writer in
     on_error c.from_residual-in_err-play_lines.result _
-    (play_stopped lines old mid
-    (part_as tag cache c.in-Ok.ensures.made.tag_is lines old mid
+    (play_stopped c.args.config lines old mid
+    (part_as tag cache c.in-Ok.ensures.made.tag_is c.args.config lines old mid
     (string_bytes c.new-pending.result) [] c.new-pending.ensures.bytes
     c.in_err-play_lines.ensures.part))
 
@@ -46,8 +46,8 @@ returns-clause-ok g c =
     let new = g.W.Write.contents c.finish.new.writer in
     let rest = string_bytes c.play_lines.new.pending in
     on_ok_so c.finish.result _ _
-    (play_whole lines old mid new rest
-    (answered_as tag cache c.in-Ok.ensures.made.tag_is lines old mid
+    (play_whole c.args.config lines old mid new rest
+    (answered_as tag cache c.in-Ok.ensures.made.tag_is c.args.config lines old mid
     (string_bytes c.new-pending.result) [] rest c.new-pending.ensures.bytes
     c.in_ok-play_lines.ensures.ok)) c.finish.ensures.ok
 
@@ -61,7 +61,7 @@ returns-clause-part g c =
     let new = g.W.Write.contents c.finish.new.writer in
     let rest = string_bytes c.play_lines.new.pending in
     on_error_so c.finish.result _ _
-    (play_cut lines old mid new rest
-    (answered_as tag cache c.in-Ok.ensures.made.tag_is lines old mid
+    (play_cut c.args.config lines old mid new rest
+    (answered_as tag cache c.in-Ok.ensures.made.tag_is c.args.config lines old mid
     (string_bytes c.new-pending.result) [] rest c.new-pending.ensures.bytes
     c.in_ok-play_lines.ensures.ok)) c.finish.ensures.part

@@ -1,0 +1,36 @@
+-- What calls that fill a register did.
+use Rattle.std.proofs.Common.{◌≡◌, ℕ, true, false, Bool, List, Option, Some, None, refl}
+use Rattle.std.proofs.Common.{ap, ◌∙◌, ◌<◌, length}
+use Rattle.std.specs.Prelude.{slice_set}
+use Rattle.hcc_rule.specs.declared.key.Key.{Key}
+use Rattle.hcc_cache.specs.declared.cache.Cache.{Cache}
+use Rattle.hcc_cache.specs.declared.client.Client.{Client}
+use Rattle.hcc_cache.specs.declared.handle.Handle.{Handle}
+use Rattle.hcc_cache.specs.declared.inserting.Inserted.{Inserted}
+use Rattle.hcc_cache.specs.declared.inserting.Inserted.TheVariants as inserted
+use Rattle.hcc_cache.specs.declared.priority.Priority.{Priority}
+use Rattle.hcc_cache.specs.Inserts.{InsertsPinnedAt, InsertsWith}
+use Rattle.hcc_player.specs.declared.run.call.Call.TheVariants as calls
+use Rattle.hcc_player.specs.Registers.{at}
+use Rattle.hcc_player.specs.RunAnswers.{placed_answer}
+use Rattle.hcc_player.specs.RunCalls.{Does}
+use Rattle.hcc_player.proofs.RegisterLemmas.{at_set}
+
+-- what a register holds that was set
+pub set_at : (xs ys : List (Option Handle)) (r : ℕ) (x : Option Handle) → ys ≡ slice_set xs r x
+    → r < length xs → at ys r ≡ x
+set_at xs ys r x is within = ap (λ zs. at zs r) is ∙ at_set xs r x within
+
+module _ {T : Type 0} (fits : T → Key → List ℕ → Type 0) (cache : Cache T) where
+  -- an insertion with a handle
+  pub pin_did : (old new : Client T) (was now : List (Option Handle)) (r : ℕ) (key : Key)
+      (charge : ℕ) (priority : Priority) (value : List ℕ) (handle : Handle) (told : Inserted)
+      → InsertsWith cache key charge priority value handle told old new
+      → InsertsPinnedAt cache fits key charge priority told old new → at now r ≡ Some handle
+      → Does fits cache (calls.Pin r key charge priority value) (placed_answer told) old new was now
+  unfolding Does
+  pin_did old new was now r k t q v handle inserted.Placed inserts evicts filled =
+      record { handle = handle; filled = filled; inserts = inserts; evicts = evicts }
+  pin_did old new was now r k t q v handle inserted.Standalone inserts evicts filled =
+      record { handle = handle; filled = filled; inserts = inserts; evicts = evicts }
+  pin_did old new was now r k t q v handle inserted.Dropped inserts evicts filled = absurd inserts

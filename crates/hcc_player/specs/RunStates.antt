@@ -1,0 +1,99 @@
+-- What the lines and answers of a trace of calls tell of its clients, so far.
+use Rattle.std.specs.Prelude.{◌≡◌, ℕ, ◌+◌, ◌-◌, ◌<◌, ◌≤◌, ◌==◌, true, Option, Some, None, IsSome, if◌then◌else◌}
+use Rattle.hcc_cache.specs.declared.config.Config.{Config}
+use Rattle.hcc_cache.specs.declared.errors.InsertError.{InsertError}
+use Rattle.hcc_cache.specs.declared.errors.InsertError.TheVariants.{HandlesFull, Spent, TooLarge, CapacityFull, OccupancyFull}
+use Rattle.hcc_cache.specs.Clients.{Insertion}
+use Rattle.hcc_cache.specs.Configs.{shard_capacity}
+
+-- What is told of a client: the insertion on whose entry each of its registers is, none where it is
+-- empty; how many registers are full; and how many serials were used.
+pub record State : Type 0 where
+  pub registers : ℕ → Option Insertion
+  pub full : ℕ
+  pub used : ℕ
+
+abbrev pub new_state : State
+new_state = record { registers = λ register. None; full = 0; used = 0 }
+
+-- one register changed
+abbrev pub with_register : (ℕ → Option Insertion) → ℕ → Option Insertion → ℕ → Option Insertion
+with_register registers register held r = if r == register then held else registers r
+
+-- a serial more was used
+abbrev pub with_serial : State → State
+with_serial s = record { registers = s.registers; full = s.full; used = s.used + 1 }
+
+-- an empty register was filled, by a handle that used a serial
+abbrev pub with_filled : State → ℕ → Insertion → State
+with_filled s register held = record {
+  registers = with_register s.registers register (Some held);
+  full = s.full + 1;
+  used = s.used + 1;
+}
+
+-- a full register was emptied
+abbrev pub with_emptied : State → ℕ → State
+with_emptied s register = record {
+  registers = with_register s.registers register None;
+  full = s.full - 1;
+  used = s.used;
+}
+
+abbrev pub IsFull : State → ℕ → Type 0
+IsFull s register = IsSome (s.registers register)
+
+abbrev pub IsEmpty : State → ℕ → Type 0
+IsEmpty s register = s.registers register ≡ None
+
+-- By the options: what a client that stands so may do, and why it may not.
+module _ (config : Config) where
+  abbrev pub MayHold : State → Type 0
+  MayHold s = (s.full < config.handles) × (s.used < config.serials)
+
+  abbrev pub MayInsert : State → (charge : ℕ) → Type 0
+  MayInsert s charge =
+      (s.used < config.serials) × (config.strict ≡ true → charge ≤ shard_capacity config)
+
+  -- an insertion with a handle filled a register
+  abbrev pub IsPinned : (old : State) → (register : ℕ) → Insertion → (new : State) → Type 0
+  IsPinned old register made new =
+      (old.full < config.handles) × MayInsert old made.charge
+      × (new ≡ with_filled old register made)
+
+  -- a handle is refused so
+  abbrev pub IsRefused : InsertError → State → Type 0
+  IsRefused HandlesFull s = config.handles ≤ s.full
+  IsRefused Spent s = (s.full < config.handles) × (config.serials ≤ s.used)
+  IsRefused other s = ⊥
+
+  -- An insertion is refused so, and leaves this. What it is refused for after it was begun is told
+  -- under strict capacity alone, and uses a serial.
+  abbrev pub RefusesInsert : (charge : ℕ) → InsertError → (old new : State) → Type 0
+  RefusesInsert charge HandlesFull old new = ⊥
+  RefusesInsert charge Spent old new = (config.serials ≤ old.used) × (new ≡ old)
+  RefusesInsert charge TooLarge old new =
+      (old.used < config.serials) × (config.strict ≡ true) × (shard_capacity config < charge)
+      × (new ≡ old)
+  RefusesInsert charge CapacityFull old new =
+      MayInsert old charge × (config.strict ≡ true) × (new ≡ with_serial old)
+  RefusesInsert charge OccupancyFull old new =
+      MayInsert old charge × (config.strict ≡ true) × (new ≡ with_serial old)
+
+  -- and one that is to give a handle
+  abbrev pub RefusesPin : (charge : ℕ) → InsertError → (old new : State) → Type 0
+  RefusesPin charge HandlesFull old new = (config.handles ≤ old.full) × (new ≡ old)
+  RefusesPin charge other old new =
+      (old.full < config.handles) × RefusesInsert charge other old new
+
+-- Of all clients, by their numbers.
+
+abbrev pub States : Type 0
+States = ℕ → State
+
+abbrev pub new_states : States
+new_states client = new_state
+
+-- one client's changed
+abbrev pub with_state : States → ℕ → State → States
+with_state states client s c = if c == client then s else states c
