@@ -34,4 +34,4 @@ returns-clause-steps g c =
     (slice_get_read clients (length clients) n c.index_mut.result.now refl within
     c.index_mut.ensures.value)
     (slice_get_read registers (length registers) n c.index_mut-2.result.now refl
-    (omega arith) c.index_mut-2.ensures.value) goes) c.answer.ensures
+    (omega arith) c.index_mut-2.ensures.value) goes) c.answer.ensures.goes
