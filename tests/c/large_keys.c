@@ -97,6 +97,27 @@ static void mixed(ferretgold_client *client) {
     EXPECT(tried, PIECES * PIECES);
 }
 
+/* A piece of another client's insertion with the same length, where both clients had as many
+ * serials left. */
+static void clients(void) {
+    static kept old[KEYS];
+    const ferretgold_config config = sizes_of(128, 512, false, 1 << 20);
+    for (uint64_t k = 0; k < PIECES; k++) {
+        ferretgold_cache *cache;
+        ferretgold_client *client, *other;
+        begin(&config, &cache, &client);
+        EXPECT(ferretgold_client_open(cache, &other), 0);
+        EXPECT(put(client, 5, LENGTH, 1), FERRETGOLD_PLACED);
+        keep(client, old);
+        EXPECT(put(other, 5, LENGTH, 2), FERRETGOLD_PLACED);
+        EXPECT(ferretgold_serials_left(other), ferretgold_serials_left(client));
+        plant(client, first_of(old) + k, &old[(first_of(old) + k) % KEYS]);
+        EXPECT(got(client, 5), -1);
+        EXPECT(ferretgold_client_close(cache, other), 0);
+        end(cache, client);
+    }
+}
+
 /* Entries that are no piece, under the key of one. */
 static void no_pieces(ferretgold_client *client) {
     static kept all[KEYS], other;
@@ -106,6 +127,7 @@ static void no_pieces(ferretgold_client *client) {
     for (size_t length = 0; length <= 48; length += 8) {
         for (uint64_t k = 0; k < PIECES; k++) {
             EXPECT(put(client, 5, LENGTH, 1), FERRETGOLD_PLACED);
+            keep(client, all);
             memcpy(other.bytes, all[(first + k) % KEYS].bytes, sizeof other.bytes);
             other.length = length;
             plant(client, first + k, &other);
@@ -187,6 +209,7 @@ void few_keys(void) {
         rows[k](client);
         end(cache, client);
     }
+    clients();
     reopened();
     openings();
 }
