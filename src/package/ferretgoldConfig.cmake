@@ -13,7 +13,8 @@ if(NOT TARGET ferretgold::ferretgold)
   set_target_properties(ferretgold::static PROPERTIES
     IMPORTED_LOCATION "${_ferretgold_libraries}/libferretgold.a")
   set_target_properties(ferretgold::check PROPERTIES
-    IMPORTED_LOCATION "${_ferretgold_libraries}/libferretgold_check.a")
+    IMPORTED_LOCATION "${_ferretgold_libraries}/libferretgold_check.a"
+    INTERFACE_COMPILE_DEFINITIONS FERRETGOLD_CHECK)
   set_target_properties(ferretgold::ferretgold ferretgold::static ferretgold::check PROPERTIES
     INTERFACE_INCLUDE_DIRECTORIES "${_ferretgold_headers}")
 endif()
