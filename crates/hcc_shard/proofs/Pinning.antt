@@ -24,25 +24,23 @@ module _ {T A : Type 0} (fits : T → Key → List ℕ → Type 0) (table : Rule
       (old mid new : SeatOf T) → CountsFrom fits table slot charges before between old mid
       → CountsHeld fits table IN_FLIGHT (slot + length charges) charge between after mid new
       → CountsFrom fits table slot (charges ++ charge ∷ []) before after old new
-  counts_more slot charge [] before between after old mid new counted held =
-      (
-        after,
-        new,
-        subst (λ e. CountsHeld fits table IN_FLIGHT slot charge e after old new) counted.0
-            (subst (λ s. CountsHeld fits table IN_FLIGHT slot charge between after s new) counted.1
-            (subst (λ s. CountsHeld fits table IN_FLIGHT s charge between after mid new)
-            (omega arith) held)),
-        (refl, refl),
-      )
-  counts_more slot charge (first ∷ more) before between after old mid new counted held =
-      (
-        counted.0,
-        counted.1,
-        counted.2,
-        counts_more (slot + 1) charge more counted.0 between after counted.1 mid new counted.3
-            (subst (λ s. CountsHeld fits table IN_FLIGHT s charge between after mid new)
-            (omega arith) held),
-      )
+  counts_more slot charge [] before between after old mid new counted held = (
+    after,
+    new,
+    subst (λ e. CountsHeld fits table IN_FLIGHT slot charge e after old new) counted.0
+        (subst (λ s. CountsHeld fits table IN_FLIGHT slot charge between after s new) counted.1
+        (subst (λ s. CountsHeld fits table IN_FLIGHT s charge between after mid new)
+        (omega arith) held)),
+    (refl, refl),
+  )
+  counts_more slot charge (first ∷ more) before between after old mid new counted held = (
+    counted.0,
+    counted.1,
+    counted.2,
+    counts_more (slot + 1) charge more counted.0 between after counted.1 mid new counted.3
+        (subst (λ s. CountsHeld fits table IN_FLIGHT s charge between after mid new)
+        (omega arith) held),
+  )
 
   total_more : (charge : ℕ) (charges : List ℕ)
       → total (λ n. n) (charges ++ charge ∷ []) ≡ total (λ n. n) charges + charge

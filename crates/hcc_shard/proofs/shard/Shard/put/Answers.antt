@@ -20,8 +20,7 @@ returns-in-NoSlot-clause-view g c =
 
 pub returns-in-Placed-clause-placed : goal.returns-in-Placed-clause-placed
 returns-in-Placed-clause-placed g c =
-    let told = c.in-Placed.ensures in
-    (
+    let told = c.in-Placed.ensures in (
       refl,
       c.insert-insertion.ensures.placed c.in-Placed.slot c.in-Placed.is,
       record { inserts = told.inserts; counts = told.probes },
@@ -35,8 +34,7 @@ returns-in-Placed-clause-adds g c less =
 pub returns-in-Matched-clause-left : goal.returns-in-Matched-clause-left
 returns-in-Matched-clause-left g c =
     let more = c.saturating_add-seat.ensures in
-    let told = c.in-Matched.ensures in
-    (
+    let told = c.in-Matched.ensures in (
       true,
       told.view.2,
       (omega arith, λ low. omega arith, omega arith),
@@ -50,8 +48,7 @@ returns-in-Matched-clause-adds g c less =
 
 pub returns-in-NoSlot-clause-left : goal.returns-in-NoSlot-clause-left
 returns-in-NoSlot-clause-left g c =
-    let told = c.in-NoSlot.ensures in
-    (
+    let told = c.in-NoSlot.ensures in (
       false,
       told.view.1,
       rose_same _ c.args.seat.now.boosts refl,
