@@ -36,7 +36,8 @@ all:
 install: all
 	install -d $(DESTDIR)$(INCLUDEDIR) $(DESTDIR)$(LIBDIR)/pkgconfig $(DESTDIR)$(PACKAGE)
 	install -m 644 include/*.h include/*.hpp $(DESTDIR)$(INCLUDEDIR)
-	install -m 644 $(OUT)/libferretgold.a $(OUT)/libferretgold_check.a $(DESTDIR)$(LIBDIR)
+	install -m 644 $(OUT)/libferretgold.a $(OUT)/libferretgold_check.a \
+	    $(wildcard $(OUT)/libferretgold_file.a) $(DESTDIR)$(LIBDIR)
 	install -m 755 $(OUT)/libferretgold.so.$(VERSION) $(DESTDIR)$(LIBDIR)
 	ln -sf libferretgold.so.$(VERSION) $(DESTDIR)$(LIBDIR)/libferretgold.so.$(ABI)
 	ln -sf libferretgold.so.$(VERSION) $(DESTDIR)$(LIBDIR)/libferretgold.so

@@ -6,7 +6,8 @@
  * whatever other threads do. What the library does is proved, except for a little C round it that is
  * tested (SECURITY.md); docs/GUIDE.md says how to use it and how to choose the sizes. The header is
  * for C11, C++11 and later; libferretgold.a exports its functions, also those that are inline here.
- * ferretgold_large.h has calls for values of up to 16 MiB.
+ * ferretgold_large.h has calls for values of up to 16 MiB, ferretgold_closed.h reads what is left of
+ * a cache, and with ferretgold_image.h one begins with entries.
  *
  *     ferretgold_config config;
  *     ferretgold_cache *cache;
@@ -24,9 +25,10 @@
  *   - A client is used by one thread at a time. It may go from thread to thread, if a lock, a
  *     thread's start or join, or a sequentially consistent atomic orders the calls.
  *   - All clients of a cache may be used at the same time.
- *   - All threads may call ferretgold_client_open and _client_close at once, and what tells a
- *     cache's sizes. None of these waits or allocates, so a thread may take a client for one operation, and an engine with more threads
- *     than clients needs no lock. ferretgold_close comes after all other calls on the cache.
+ *   - All threads may call ferretgold_client_open and _client_close at once, and what reads a
+ *     cache's sizes and counts. None of these waits or allocates, so a thread may take a client for
+ *     one operation, and an engine with more threads than clients needs no lock. ferretgold_close
+ *     comes after all other calls on the cache.
  *   - A client that was given back is refused by NO_CLIENT while it is idle. Once it is out again,
  *     an old pointer to it is the new owner's client.
  *   - No call is made from a signal handler, or from a child that a process with threads forked.
@@ -97,7 +99,7 @@ extern "C" {
 /* What a call returns. */
 typedef enum ferretgold_status {
     FERRETGOLD_OK = 0,
-    /* Nothing of the key was found. Of ferretgold_lookup and ferretgold_get only. */
+    /* Nothing of the key was found, or the slot of a closed cache has no entry. */
     FERRETGOLD_MISS = 1,
 
     /* A pointer is null that may not be. */
@@ -219,6 +221,16 @@ typedef struct ferretgold_stats {
     uint64_t lost;        /* compare-exchanges that lost to another thread's step */
 } ferretgold_stats;
 
+/* What look-ups and insertions came to. */
+typedef struct ferretgold_counts {
+    uint64_t hits;       /* ferretgold_lookup and ferretgold_get that returned OK */
+    uint64_t misses;     /* and MISS */
+    uint64_t placed;     /* ferretgold_insert and ferretgold_insert_pinned, by what came of them */
+    uint64_t dropped;
+    uint64_t standalone;
+    uint64_t refused;    /* those by HANDLES_FULL, SPENT, TOO_LARGE, CAPACITY_FULL, OCCUPANCY_FULL */
+} ferretgold_counts;
+
 /* What was left of a cache that was closed: the charges of its entries in sum and their number, by
  * the books (usage, occupied) and slot by slot (slot_charges, slot_count). They are equal. */
 typedef struct ferretgold_totals {
@@ -236,7 +248,7 @@ typedef struct ferretgold_client ferretgold_client;
 
 /*
  * How many bytes a cache of this configuration allocates:
- *     shards * (145 + slots * 8 * (7 + room)) + clients * (360 + 72 * shards + 104 * handles)
+ *     shards * (145 + slots * 8 * (7 + room)) + clients * (472 + 72 * shards + 104 * handles)
  *     + 64 * (clients / 64, rounded up) + 304
  * ferretgold_open needs one shard's table more for a while. 0 if `config` is null.
  */
@@ -286,7 +298,7 @@ ferretgold_status ferretgold_client_open(ferretgold_cache *cache, ferretgold_cli
 /*
  * Takes a client back, which is idle from then on: another thread may get it at once.
  *
- * Costs a few loads, a store and an atomic or, and no step on the cache's words.
+ * Costs a few loads and stores and an atomic or, and no step on the cache's words.
  *
  * Refuses OTHER_CACHE; NO_CLIENT, if it is idle already; HANDLES_OUT: release them first. After a
  * refusal the client is as it was.
@@ -319,6 +331,15 @@ ferretgold_status ferretgold_config_of(const ferretgold_cache *cache, ferretgold
 
 /* The most bytes of a value: 8 * room. 0 if `cache` is null. */
 size_t ferretgold_room(const ferretgold_cache *cache);
+
+/*
+ * What the calls of all clients came to, in sum: of each client until it was last given back, so not
+ * what one that is out did since. No count falls. It is no picture of one moment.
+ *
+ * Costs six loads for each client.
+ */
+ferretgold_status ferretgold_cache_counts(const ferretgold_cache *cache,
+                                          ferretgold_counts *counts);
 
 /* ---- Getting and giving back handles --------------------------------------------------------- */
 
@@ -394,9 +415,9 @@ FERRETGOLD_INLINE ferretgold_status ferretgold_insert(ferretgold_client *client,
  * be null if `length` is 0, and `inserted` may be null. Uses one serial, also if CAPACITY_FULL or
  * OCCUPANCY_FULL refuses it.
  *
- * Allocates a copy of the value by malloc, and frees it unless the entry is standalone, which keeps
- * it. Costs what ferretgold_insert costs, the copy, and if no place was found two adds more. Bound:
- * the same.
+ * Allocates a copy of the value by malloc, if it has bytes, and frees it unless the entry is
+ * standalone, which keeps it. Costs what ferretgold_insert costs, the copy, and if no place was
+ * found two adds more. Bound: the same.
  *
  * Refuses BAD_PRIORITY, NO_CHARGE, TOO_LONG, OUT_OF_MEMORY, HANDLES_FULL, SPENT, TOO_LARGE; and if
  * strict, after evictions that stay made, CAPACITY_FULL, OCCUPANCY_FULL.
@@ -538,6 +559,7 @@ FERRETGOLD_SIZE_IS(ferretgold_config, 48);
 FERRETGOLD_SIZE_IS(ferretgold_key, 16);
 FERRETGOLD_SIZE_IS(ferretgold_handle, 24);
 FERRETGOLD_SIZE_IS(ferretgold_stats, 64);
+FERRETGOLD_SIZE_IS(ferretgold_counts, 48);
 FERRETGOLD_SIZE_IS(ferretgold_totals, 32);
 #undef FERRETGOLD_SIZE_IS
 

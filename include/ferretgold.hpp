@@ -1,9 +1,10 @@
 // ferretgold.hpp - a wrapper of ferretgold.h for C++17: objects that give themselves back.
 //
-// ferretgold.h says what each call does. Here a call that may be refused has a last argument `why`,
-// which gets its status, and throws nothing. Where exceptions are on, each has a form without that
-// argument, too, which throws a refusal as ferretgold::refused; a miss is an empty handle, and is never
-// thrown. client's insert and read return their status.
+// ferretgold.h, ferretgold_closed.h and ferretgold_large.h say what each call does. Here a call that may
+// be refused has a last argument `why`, which gets its status, and throws nothing. Where exceptions are
+// on, each has a form without that argument, too, which throws a refusal as ferretgold::refused; a miss
+// is an empty handle or no entry, and is never thrown. client's insert and read and closed's value
+// return their status. ferretgold_file.hpp has the calls of ferretgold_file.h.
 //
 // Objects may go in any order: a client goes back once it and all its handles are gone, and a cache is
 // closed once it and all its clients are.
@@ -11,12 +12,14 @@
 #define FERRETGOLD_HPP
 
 #include "ferretgold.h"
+#include "ferretgold_closed.h"
 #include "ferretgold_large.h"
 
 #include <atomic>
 #include <cstddef>
 #include <cstdint>
 #include <new>
+#include <optional>
 #include <stdexcept>
 #include <utility>
 
@@ -74,13 +77,18 @@ inline ferretgold_status check(const ferretgold_config &config) noexcept {
 class shared_cache {
   public:
     static shared_cache *open(const ferretgold_config &config, ferretgold_status &why) noexcept {
-        shared_cache *it = new (std::nothrow) shared_cache;
         why = FERRETGOLD_OUT_OF_MEMORY;
+        return by([&](ferretgold_cache *&opened) { why = ferretgold_open(&config, &opened); });
+    }
+
+    // One whose cache a call opens, into a pointer that is null before; null if the call leaves it so.
+    template <typename Call> static shared_cache *by(Call call) noexcept {
+        shared_cache *it = new (std::nothrow) shared_cache;
         if (it == nullptr) {
             return nullptr;
         }
-        why = ferretgold_open(&config, &it->raw);
-        if (why != FERRETGOLD_OK) {
+        call(it->raw);
+        if (it->raw == nullptr) {
             delete it;
             return nullptr;
         }
@@ -365,10 +373,98 @@ class client {
     shared_client *shared_ = nullptr;
 };
 
+// What is left of a cache that was closed, or none, which calls refuse by NULL. It is read and goes on
+// the thread that closed the cache.
+class closed {
+  public:
+    closed() = default;
+    explicit closed(ferretgold_closed *raw) noexcept : raw_(raw) {}
+    closed(closed &&other) noexcept : raw_(std::exchange(other.raw_, nullptr)) {}
+    closed &operator=(closed &&other) noexcept {
+        std::swap(raw_, other.raw_);
+        return *this;
+    }
+    ~closed() { ferretgold_closed_free(raw_); }
+
+    // Whether it is of one.
+    explicit operator bool() const noexcept { return raw_ != nullptr; }
+
+    // What the cache was opened with.
+    ferretgold_config config() const noexcept {
+        ferretgold_config config{};
+        (void)ferretgold_closed_config(raw_, &config);
+        return config;
+    }
+
+    ferretgold_totals totals(ferretgold_status &why) const noexcept {
+        ferretgold_totals totals{};
+        why = ferretgold_closed_totals(raw_, &totals);
+        return totals;
+    }
+
+    // The entry of a slot; none if it has none.
+    std::optional<ferretgold_entry> entry(std::uint32_t shard, std::uint32_t slot,
+                                          ferretgold_status &why) const noexcept {
+        ferretgold_entry entry{};
+        why = ferretgold_closed_entry(raw_, shard, slot, &entry);
+        return why == FERRETGOLD_OK ? std::optional(entry) : std::nullopt;
+    }
+
+    // Copies the value of a slot's entry to a buffer: OK, MISS, TOO_SHORT or OUT_OF_RANGE.
+    ferretgold_status value(std::uint32_t shard, std::uint32_t slot, void *buffer,
+                            std::size_t capacity, std::size_t *length) const noexcept {
+        return ferretgold_closed_value(raw_, shard, slot, buffer, capacity, length);
+    }
+
+    std::uint64_t word(std::uint32_t shard, std::uint32_t slot,
+                       ferretgold_status &why) const noexcept {
+        std::uint64_t word = 0;
+        why = ferretgold_closed_word(raw_, shard, slot, &word);
+        return word;
+    }
+
+    std::uint64_t displacement(std::uint32_t shard, std::uint32_t slot,
+                               ferretgold_status &why) const noexcept {
+        std::uint64_t displacement = 0;
+        why = ferretgold_closed_displacement(raw_, shard, slot, &displacement);
+        return displacement;
+    }
+
+    std::uint64_t hand(std::uint32_t shard, ferretgold_status &why) const noexcept {
+        std::uint64_t hand = 0;
+        why = ferretgold_closed_hand(raw_, shard, &hand);
+        return hand;
+    }
+
+#ifdef __cpp_exceptions
+    ferretgold_totals totals() const {
+        return must([&](auto &why) { return totals(why); });
+    }
+    std::optional<ferretgold_entry> entry(std::uint32_t shard, std::uint32_t slot) const {
+        return must([&](auto &why) { return entry(shard, slot, why); });
+    }
+    std::uint64_t word(std::uint32_t shard, std::uint32_t slot) const {
+        return must([&](auto &why) { return word(shard, slot, why); });
+    }
+    std::uint64_t displacement(std::uint32_t shard, std::uint32_t slot) const {
+        return must([&](auto &why) { return displacement(shard, slot, why); });
+    }
+    std::uint64_t hand(std::uint32_t shard) const {
+        return must([&](auto &why) { return hand(shard, why); });
+    }
+#endif
+
+    ferretgold_closed *get() const noexcept { return raw_; }
+
+  private:
+    ferretgold_closed *raw_ = nullptr;
+};
+
 // A cache, or none, which calls refuse by NULL. All threads may open clients of it at once.
 class cache {
   public:
     cache() = default;
+    explicit cache(shared_cache *shared) noexcept : shared_(shared) {}
     cache(const ferretgold_config &config, ferretgold_status &why) noexcept
         : shared_(shared_cache::open(config, why)) {}
     cache(cache &&other) noexcept : shared_(std::exchange(other.shared_, nullptr)) {}
@@ -396,6 +492,13 @@ class cache {
     // The most bytes of a value.
     std::size_t room() const noexcept { return ferretgold_room(get()); }
 
+    // What the calls of all clients came to, of each until it was last given back.
+    ferretgold_counts counts() const noexcept {
+        ferretgold_counts counts{};
+        (void)ferretgold_cache_counts(get(), &counts);
+        return counts;
+    }
+
     // Ends the cache, once all its clients went.
     ferretgold_totals close(ferretgold_status &why) noexcept {
         ferretgold_totals totals{};
@@ -406,6 +509,16 @@ class cache {
         return totals;
     }
 
+    // The same, and what is left of it can be read.
+    closed close_keeping(ferretgold_status &why) noexcept {
+        ferretgold_closed *left = nullptr;
+        why = ferretgold_close_keeping(get(), &left);
+        if (why == FERRETGOLD_OK) {
+            shared_->raw = nullptr;
+        }
+        return closed(left);
+    }
+
 #ifdef __cpp_exceptions
     explicit cache(const ferretgold_config &config)
         : shared_(must([&](auto &why) { return shared_cache::open(config, why); })) {}
@@ -414,6 +527,9 @@ class cache {
     }
     ferretgold_totals close() {
         return must([&](auto &why) { return close(why); });
+    }
+    closed close_keeping() {
+        return must([&](auto &why) { return close_keeping(why); });
     }
 #endif
 

@@ -22,17 +22,44 @@ typedef struct ferretgold_object {
     void *at;
 } ferretgold_object;
 
+struct ferretgold_entry; /* of ferretgold_closed.h */
+
 /* None of these pointers is null, even if a length is 0. */
 uint32_t ferretgold_raw_config_check(const ferretgold_config *config);
-/* No two caches that are open have one
- * number, which their handles have too. */
+/* No two caches that are open have one number, which their handles have too. */
 uint32_t ferretgold_raw_open(const ferretgold_config *config, uint32_t number,
                              ferretgold_object *cache);
+/* A cache that begins with entries: first the list of them, which allocates it, then each entry. The
+ * list is gone once a cache was to begin with it, whatever is returned. */
+uint32_t ferretgold_raw_image_open(ferretgold_object *image);
+uint32_t ferretgold_raw_image_add(ferretgold_object *image, const ferretgold_key *key,
+                                  const uint8_t *value, size_t length, uint32_t charge,
+                                  uint32_t uses);
+void ferretgold_raw_image_free(ferretgold_object image);
+uint32_t ferretgold_raw_reopen(const ferretgold_config *config, uint32_t number,
+                               ferretgold_object image, ferretgold_object *cache,
+                               size_t *left_out);
 uint32_t ferretgold_raw_client_open(ferretgold_object *cache, ferretgold_object *client);
 uint32_t ferretgold_raw_client_close(ferretgold_object *cache, ferretgold_object client,
                                      ferretgold_object *kept);
 uint32_t ferretgold_raw_close(ferretgold_object cache, ferretgold_totals *totals,
                               ferretgold_object *kept);
+/* A closed cache: first the place for one, which allocates it, then what is left of a cache. Until
+ * then reading it is refused by MISSING. */
+uint32_t ferretgold_raw_closed_open(ferretgold_object *closed);
+uint32_t ferretgold_raw_close_keeping(ferretgold_object cache, ferretgold_object *closed,
+                                      ferretgold_object *kept);
+uint32_t ferretgold_raw_closed_totals(ferretgold_object *closed, ferretgold_totals *totals);
+uint32_t ferretgold_raw_closed_entry(ferretgold_object *closed, uint32_t shard, uint32_t slot,
+                                     struct ferretgold_entry *entry);
+uint32_t ferretgold_raw_closed_value(ferretgold_object *closed, uint32_t shard, uint32_t slot,
+                                     uint8_t *buffer, size_t capacity, size_t *length);
+uint32_t ferretgold_raw_closed_word(ferretgold_object *closed, uint32_t shard, uint32_t slot,
+                                    uint64_t *word);
+uint32_t ferretgold_raw_closed_displacement(ferretgold_object *closed, uint32_t shard,
+                                            uint32_t slot, uint64_t *displacement);
+uint32_t ferretgold_raw_closed_hand(ferretgold_object *closed, uint32_t shard, uint64_t *hand);
+void ferretgold_raw_closed_free(ferretgold_object closed);
 uint32_t ferretgold_raw_lookup(ferretgold_object *client, const ferretgold_key *key,
                                ferretgold_handle *handle);
 uint32_t ferretgold_raw_reref(ferretgold_object *client, const ferretgold_handle *handle,
@@ -70,6 +97,7 @@ uint32_t ferretgold_raw_held(ferretgold_object *client);
 uint64_t ferretgold_raw_serials_left(ferretgold_object *client);
 bool ferretgold_raw_holds(ferretgold_object *client, const ferretgold_handle *handle);
 void ferretgold_raw_stats(ferretgold_object *client, ferretgold_stats *stats);
+void ferretgold_raw_counts(ferretgold_object *client, ferretgold_counts *counts);
 
 #ifdef __cplusplus
 }

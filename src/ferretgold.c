@@ -9,7 +9,9 @@
 #endif
 #include "ferretgold.h"
 #include "ferretgold_raw.h"
+#include "closed.h"
 #include "large.h"
+#include "opening.h"
 
 #include <stdatomic.h>
 #include <stdlib.h>
@@ -30,10 +32,21 @@ typedef struct ferretgold_row {
     _Atomic(uint64_t) spent; /* idle, with no serial left */
 } ferretgold_row;
 
+/* What a client's calls had come to when it was last given back. */
+typedef struct ferretgold_back {
+    _Alignas(LINE) _Atomic(uint64_t) hits;
+    _Atomic(uint64_t) misses;
+    _Atomic(uint64_t) placed;
+    _Atomic(uint64_t) dropped;
+    _Atomic(uint64_t) standalone;
+    _Atomic(uint64_t) refused;
+} ferretgold_back;
+
 struct ferretgold_cache {
     ferretgold_object rack;
     ferretgold_config config;
     ferretgold_client *client;
+    ferretgold_back *back; /* of each client */
     large_setup large;
     _Alignas(LINE) ferretgold_row row[];
 };
@@ -101,16 +114,29 @@ static uint32_t take(ferretgold_cache *cache) {
     return cache->config.clients;
 }
 
+/* Notes what a client's calls came to. */
+static void note(ferretgold_client *client, ferretgold_back *back) {
+    ferretgold_counts counts = {0, 0, 0, 0, 0, 0};
+    ferretgold_raw_counts(&client->session, &counts);
+    atomic_store_explicit(&back->hits, counts.hits, memory_order_relaxed);
+    atomic_store_explicit(&back->misses, counts.misses, memory_order_relaxed);
+    atomic_store_explicit(&back->placed, counts.placed, memory_order_relaxed);
+    atomic_store_explicit(&back->dropped, counts.dropped, memory_order_relaxed);
+    atomic_store_explicit(&back->standalone, counts.standalone, memory_order_relaxed);
+    atomic_store_explicit(&back->refused, counts.refused, memory_order_relaxed);
+}
+
 /* Puts a client back among those that are idle. */
 static void put_back(ferretgold_client *client) {
     ferretgold_cache *cache = client->cache;
     const size_t number = (size_t)(client - cache->client);
     ferretgold_row *row = &cache->row[number / BITS];
+    note(client, &cache->back[number]);
     const bool spent = ferretgold_raw_serials_left(&client->session) == 0;
     atomic_fetch_or(spent ? &row->spent : &row->idle, UINT64_C(1) << number % BITS);
 }
 
-static bool are_all_idle(ferretgold_cache *cache) {
+bool cache_is_idle(ferretgold_cache *cache) {
     for (uint32_t number = 0; number < cache->config.clients; number++) {
         ferretgold_row *row = &cache->row[number / BITS];
         const uint64_t idle = atomic_load(&row->idle) | atomic_load(&row->spent);
@@ -123,13 +149,16 @@ static bool are_all_idle(ferretgold_cache *cache) {
 
 /* ---- Opening and closing --------------------------------------------------------------------- */
 
-/* Ends a cache that has its clients from `first` on, all idle. */
-static ferretgold_status end(ferretgold_cache *cache, uint32_t first, ferretgold_totals *totals) {
+/* Ends a cache that has its clients from `first` on, all idle: what is left of it goes to `left`, or
+ * else to `totals` in sum. */
+static ferretgold_status end(ferretgold_cache *cache, uint32_t first, ferretgold_totals *totals,
+                             ferretgold_object *left) {
     ferretgold_object kept = {NULL};
     for (uint32_t number = first; number < cache->config.clients; number++) {
         (void)ferretgold_raw_client_close(&cache->rack, cache->client[number].session, &kept);
     }
-    const uint32_t status = ferretgold_raw_close(cache->rack, totals, &kept);
+    const uint32_t status = left != NULL ? ferretgold_raw_close_keeping(cache->rack, left, &kept)
+                                         : ferretgold_raw_close(cache->rack, totals, &kept);
     free(cache);
     return (ferretgold_status)status;
 }
@@ -138,7 +167,7 @@ static ferretgold_status end(ferretgold_cache *cache, uint32_t first, ferretgold
 static ferretgold_cache *made(ferretgold_object rack, const ferretgold_config *config) {
     const uint32_t rows = rows_for(config->clients);
     const size_t size = sizeof(ferretgold_cache) + rows * sizeof(ferretgold_row) +
-                        config->clients * sizeof(ferretgold_client);
+                        config->clients * (sizeof(ferretgold_client) + sizeof(ferretgold_back));
     ferretgold_cache *cache = aligned_alloc(LINE, size);
     if (cache == NULL) {
         return NULL;
@@ -147,6 +176,7 @@ static ferretgold_cache *made(ferretgold_object rack, const ferretgold_config *c
     cache->rack = rack;
     cache->config = *config;
     cache->client = (ferretgold_client *)(void *)&cache->row[rows];
+    cache->back = (ferretgold_back *)(void *)&cache->client[config->clients];
     return cache;
 }
 
@@ -157,7 +187,7 @@ static ferretgold_status make_clients(ferretgold_cache *cache) {
         const uint32_t status = ferretgold_raw_client_open(&cache->rack, &client->session);
         if (status != FERRETGOLD_OK) {
             ferretgold_totals totals = {0, 0, 0, 0};
-            (void)end(cache, number + 1, &totals);
+            (void)end(cache, number + 1, &totals, NULL);
             return (ferretgold_status)status;
         }
         client->cache = cache;
@@ -171,31 +201,42 @@ static bool knows_size(const ferretgold_config *config) {
     return config->size == 0 || config->size == sizeof *config;
 }
 
-ferretgold_status ferretgold_open(const ferretgold_config *config, ferretgold_cache **cache) {
-    static atomic_uint opened = 0;
+ferretgold_status cache_judge(const ferretgold_config *config, ferretgold_cache **cache) {
     if (config == NULL || cache == NULL) {
         return FERRETGOLD_NULL;
     }
-    if (!knows_size(config)) {
-        return FERRETGOLD_BAD_SIZE;
-    }
-    ferretgold_object rack = {NULL}, kept = {NULL};
+    return knows_size(config) ? FERRETGOLD_OK : FERRETGOLD_BAD_SIZE;
+}
+
+uint32_t cache_number(void) {
+    static atomic_uint opened = 0;
+    return atomic_fetch_add(&opened, 1) + 1;
+}
+
+ferretgold_status cache_begin(ferretgold_object rack, const ferretgold_config *config,
+                              ferretgold_cache **cache) {
+    ferretgold_object kept = {NULL};
     ferretgold_totals totals = {0, 0, 0, 0};
-    uint32_t status = ferretgold_raw_open(config, atomic_fetch_add(&opened, 1) + 1, &rack);
-    if (status != FERRETGOLD_OK) {
-        return (ferretgold_status)status;
-    }
     ferretgold_cache *it = made(rack, config);
     if (it == NULL) {
         (void)ferretgold_raw_close(rack, &totals, &kept);
         return FERRETGOLD_OUT_OF_MEMORY;
     }
     it->large = large_setup_of(config);
-    status = make_clients(it);
+    const ferretgold_status status = make_clients(it);
     if (status == FERRETGOLD_OK) {
         *cache = it;
     }
-    return (ferretgold_status)status;
+    return status;
+}
+
+ferretgold_status ferretgold_open(const ferretgold_config *config, ferretgold_cache **cache) {
+    ferretgold_object rack = {NULL};
+    ferretgold_status status = cache_judge(config, cache);
+    if (status == FERRETGOLD_OK) {
+        status = (ferretgold_status)ferretgold_raw_open(config, cache_number(), &rack);
+    }
+    return status == FERRETGOLD_OK ? cache_begin(rack, config, cache) : status;
 }
 
 ferretgold_status ferretgold_config_check(const ferretgold_config *config) {
@@ -218,15 +259,37 @@ size_t ferretgold_room(const ferretgold_cache *cache) {
     return cache != NULL ? sizeof(uint64_t) * cache->config.room : 0;
 }
 
+ferretgold_status ferretgold_cache_counts(const ferretgold_cache *cache,
+                                          ferretgold_counts *counts) {
+    if (cache == NULL || counts == NULL) {
+        return FERRETGOLD_NULL;
+    }
+    memset(counts, 0, sizeof *counts);
+    for (uint32_t number = 0; number < cache->config.clients; number++) {
+        ferretgold_back *back = &cache->back[number];
+        counts->hits += atomic_load_explicit(&back->hits, memory_order_relaxed);
+        counts->misses += atomic_load_explicit(&back->misses, memory_order_relaxed);
+        counts->placed += atomic_load_explicit(&back->placed, memory_order_relaxed);
+        counts->dropped += atomic_load_explicit(&back->dropped, memory_order_relaxed);
+        counts->standalone += atomic_load_explicit(&back->standalone, memory_order_relaxed);
+        counts->refused += atomic_load_explicit(&back->refused, memory_order_relaxed);
+    }
+    return FERRETGOLD_OK;
+}
+
 ferretgold_status ferretgold_close(ferretgold_cache *cache, ferretgold_totals *totals) {
     ferretgold_totals left = {0, 0, 0, 0};
     if (cache == NULL) {
         return FERRETGOLD_NULL;
     }
-    if (!are_all_idle(cache)) {
+    if (!cache_is_idle(cache)) {
         return FERRETGOLD_MISSING;
     }
-    return end(cache, 0, totals != NULL ? totals : &left);
+    return end(cache, 0, totals != NULL ? totals : &left, NULL);
+}
+
+ferretgold_status cache_end(ferretgold_cache *cache, ferretgold_object *left) {
+    return end(cache, 0, NULL, left);
 }
 
 ferretgold_status ferretgold_client_open(ferretgold_cache *cache, ferretgold_client **client) {

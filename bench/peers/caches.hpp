@@ -4,9 +4,11 @@
 #define PEERS_CACHES_HPP
 
 #include "ferretgold.hpp"
+#include "ferretgold_large.h"
 
 #include <rocksdb/cache.h>
 
+#include <algorithm>
 #include <cstdint>
 #include <cstdio>
 #include <cstdlib>
@@ -28,6 +30,9 @@ struct sizes {
     std::uint32_t handles; // that a thread holds at once, at most
 };
 
+// The most bytes of a single value, in this project's cache and in its twin.
+constexpr std::uint32_t most_bytes = 4096;
+
 inline void must(bool is_well, const char *what) {
     if (!is_well) {
         std::fprintf(stderr, "peers: %s failed\n", what);
@@ -35,12 +40,28 @@ inline void must(bool is_well, const char *what) {
     }
 }
 
+// The configuration of this project's cache.
+inline ferretgold_config config_of(const sizes &sizes) {
+    ferretgold_config config{};
+    config.slots = sizes.slots / sizes.shards;
+    config.room = sizes.value_size / 8;
+    config.clients = sizes.threads;
+    config.handles = sizes.handles;
+    config.shards = sizes.shards;
+    config.strict = false;
+    config.marks = false;
+    config.capacity = sizes.capacity;
+    config.serials = FERRETGOLD_MOST_SERIALS;
+    config.seed = 0x5eed;
+    return config;
+}
+
 // This project's cache, through its header for C.
 class ferret {
   public:
     static std::string name() { return "ferretgold"; }
 
-    explicit ferret(const sizes &sizes) : cache_(config(sizes)) {}
+    explicit ferret(const sizes &sizes) : cache_(config_of(sizes)) {}
 
     class reader {
       public:
@@ -94,18 +115,71 @@ class ferret {
     };
 
   private:
+    ferretgold::cache cache_;
+};
+
+// The same by its calls for large values. A value is in as few pieces as its cache can have.
+class ferret_large {
+  public:
+    static std::string name() { return "ferretgold-large"; }
+
+    explicit ferret_large(const sizes &sizes) : cache_(config(sizes)) {}
+
+    class reader {
+      public:
+        reader(ferret_large &cache, const sizes &sizes)
+            : opened_(cache.cache_.open_client()), client_(opened_.get()),
+              size_(sizes.value_size), pieces_(pieces_of(sizes)) {}
+        reader(reader &&) = default;
+
+        bool read(const ferretgold_key &key, std::uint8_t *buffer) { return get(key, buffer); }
+
+        bool get(const ferretgold_key &key, std::uint8_t *buffer) {
+            return ferretgold_get_large(client_, &key, buffer, size_, true, nullptr) ==
+                   FERRETGOLD_OK;
+        }
+
+        void insert(const ferretgold_key &key, const std::uint8_t *value) {
+            (void)ferretgold_put_large(client_, &key, value, size_, pieces_, FERRETGOLD_LOW,
+                                       nullptr);
+        }
+
+        void pin(const ferretgold_key &, const std::uint8_t *) {
+            must(false, "holding a large value");
+        }
+
+      private:
+        ferretgold::client opened_;
+        ferretgold_client *client_;
+        std::uint32_t size_;
+        std::uint32_t pieces_;
+    };
+
+  private:
+    // Before its part of a value a piece has so many bytes, and its slot at least so many words.
+    static constexpr std::uint32_t head = 40;
+    static constexpr std::uint32_t fewest_words = 10;
+    static constexpr std::uint32_t most_slots = 1 << 16; // of a shard
+
+    static std::uint32_t pieces_of(const sizes &sizes) {
+        std::uint32_t most = most_bytes - head;
+        return (sizes.value_size + most - 1) / most;
+    }
+
+    // With room for a piece, and as many slots and charges as all pieces have.
     static ferretgold_config config(const sizes &sizes) {
-        ferretgold_config config{};
-        config.slots = sizes.slots / sizes.shards;
-        config.room = sizes.value_size / 8;
-        config.clients = sizes.threads;
-        config.handles = sizes.handles;
-        config.shards = sizes.shards;
-        config.strict = false;
-        config.marks = false;
-        config.capacity = sizes.capacity;
-        config.serials = FERRETGOLD_MOST_SERIALS;
-        config.seed = 0x5eed;
+        std::uint32_t pieces = pieces_of(sizes);
+        std::uint32_t each = (sizes.value_size + pieces - 1) / pieces;
+        ferretgold_config config = config_of(sizes);
+        while (config.slots < sizes.slots / sizes.shards * pieces) {
+            config.slots *= 2;
+        }
+        for (; config.slots > most_slots; config.slots /= 2) {
+            config.shards *= 2;
+        }
+        config.room = std::max((each + head + 7) / 8, fewest_words);
+        config.handles = 1;
+        config.capacity *= pieces;
         return config;
     }
 

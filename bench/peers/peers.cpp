@@ -4,7 +4,9 @@
 //   peers [--case NAME]... [--cache NAME]... [--value-size N]... [--threads N]...
 //         [--shards N] [--rounds N] [--operations N]
 //
-// An option that is left out stands for all there are. Each thread makes as many operations a round
+// An option that is left out stands for all there are, but for the cache ferretgold-large, which plays
+// all but `pinned` by the calls for large values: then sizes go up to 65,536 bytes, and those above
+// 4,096 leave out ferretgold and its twin. Each thread makes as many operations a round
 // as --operations says; by 0, the default, as many as take the first cache 40 ms, or another 200 ms.
 #include "cases.hpp"
 
@@ -53,7 +55,7 @@ std::uint64_t number_of(const std::string &word, std::uint64_t least, std::uint6
 
 // How many bytes a value has: those of whole words.
 std::uint64_t value_size_of(const std::string &word) {
-    std::uint64_t bytes = number_of(word, 8, 4096);
+    std::uint64_t bytes = number_of(word, 8, 65536);
     if (bytes % 8 != 0) {
         stop("'" + word + "' is no multiple of 8");
     }
@@ -147,7 +149,10 @@ std::uint64_t operations_of(const std::vector<std::unique_ptr<player>> &players)
 }
 
 const char *build_of(const std::string &cache) {
-    return cache == ferret::name() ? "proved" : cache == twin::name() ? "unproved" : PEERS_BUILD;
+    if (cache == ferret::name() || cache == ferret_large::name()) {
+        return "proved";
+    }
+    return cache == twin::name() ? "unproved" : PEERS_BUILD;
 }
 
 void print(const player &of, const char *case_name, const sizes &sizes, std::uint64_t round,
@@ -166,8 +171,13 @@ void print(const player &of, const char *case_name, const sizes &sizes, std::uin
 
 void compare(const options &asked, const named_case &of, const sizes &sizes) {
     std::vector<std::unique_ptr<player>> players;
-    add<ferret>(players, asked, of.is, sizes);
-    add<twin>(players, asked, of.is, sizes);
+    if (sizes.value_size <= most_bytes) {
+        add<ferret>(players, asked, of.is, sizes);
+        add<twin>(players, asked, of.is, sizes);
+    }
+    if (!asked.caches.empty() && of.is != kind::pinned) {
+        add<ferret_large>(players, asked, of.is, sizes);
+    }
     add<hyper_clock>(players, asked, of.is, sizes);
     add<lru>(players, asked, of.is, sizes);
     if (players.empty()) {

@@ -3,18 +3,20 @@
 #ifndef CACHED_ENV_HPP
 #define CACHED_ENV_HPP
 
-#include "ferretgold.hpp"
+#include "../cpp/warm_cache.hpp"
 
 #include <leveldb/env.h>
 
+#include <sys/stat.h>
+
 #include <algorithm>
 #include <atomic>
+#include <chrono>
 #include <cstdint>
 #include <cstring>
-#include <map>
 #include <memory>
-#include <mutex>
 #include <string>
+#include <thread>
 #include <utility>
 
 // How many bytes a page has.
@@ -25,9 +27,9 @@ enum class kept { blocks, pages };
 
 // A cache of blocks or pages, and how many of them it had.
 struct file_cache {
-    file_cache(const ferretgold_config &config, kept what) : cache(config), keeps(what) {}
+    file_cache(ferretgold_cache *opened, kept what) : cache(opened), keeps(what) {}
 
-    ferretgold::cache cache;
+    ferretgold_cache *const cache; // which lives longer
     const kept keeps;
     std::atomic<std::uint64_t> hits{0};
     std::atomic<std::uint64_t> misses{0};
@@ -44,7 +46,7 @@ class block_file : public leveldb::RandomAccessFile {
     // Without a client all calls of the cache are refused.
     leveldb::Status Read(std::uint64_t offset, std::size_t length, leveldb::Slice *result,
                          char *scratch) const override {
-        const ferretgold::lease client(cache_.cache);
+        const lent_client client(cache_.cache);
         const ferretgold_key key = {number_, offset};
         std::size_t has = 0;
         if (ferretgold_get_large(client.get(), &key, scratch, length, true, &has) ==
@@ -81,7 +83,7 @@ class paged_file : public leveldb::RandomAccessFile {
                          char *scratch) const override {
         leveldb::Status status;
         std::size_t count = 0;
-        const ferretgold::lease client(cache_.cache);
+        const lent_client client(cache_.cache);
         char page[PAGE];
         while (count < length && offset + count < size_) {
             const std::uint64_t at = offset + count;
@@ -132,74 +134,95 @@ class paged_file : public leveldb::RandomAccessFile {
     file_cache &cache_;
 };
 
-// Numbers files, and reads them through the cache. A file that is written anew gets another number;
-// LevelDB doesn't open a file while it writes it.
+// A file's number, which it has in each process as long as it stays as it is: 64 bits of its name, inode
+// and size, and of the times when its bytes and its inode were changed last. No call sets the second
+// time, so a file that is written anew, replaced or restored gets another number, and a copy does, too;
+// they are read anew. It holds if the clock isn't set back, and on a file system whose times are finer
+// than a tick of the clock.
+//
+// LevelDB's number of a table wouldn't do. If its MANIFEST can't be written, LevelDB gives the numbers of
+// the newest tables again, to others; and so it does in a database that was restored from a copy.
+//
+// Two files have the same number by chance only, each pair once in 2^64: a pair among a million files
+// once in 37 million such caches.
+class file_number {
+  public:
+    // Tells whether the system knows the file. Waits until what changes it later gives another time.
+    bool find(const std::string &name) {
+        struct stat is;
+        if (stat(name.c_str(), &is) != 0) {
+            return false;
+        }
+        for (const char byte : name) {
+            add(static_cast<unsigned char>(byte));
+        }
+        add(is.st_ino);
+        add(static_cast<std::uint64_t>(is.st_size));
+        add(nanoseconds(is.st_mtim));
+        add(nanoseconds(is.st_ctim));
+        wait_after(is.st_ctim);
+        return true;
+    }
+
+    std::uint64_t get() const { return number_; }
+
+  private:
+    static std::uint64_t nanoseconds(const timespec &time) {
+        return static_cast<std::uint64_t>(time.tv_sec) * 1000000000 +
+               static_cast<std::uint64_t>(time.tv_nsec);
+    }
+
+    // Mixes a word in. Files that differ in one of them only have different numbers.
+    void add(std::uint64_t word) {
+        number_ = (number_ ^ word) + 0x9e3779b97f4a7c15;
+        number_ = (number_ ^ number_ >> 30) * 0xbf58476d1ce4e5b9;
+        number_ = (number_ ^ number_ >> 27) * 0x94d049bb133111eb;
+        number_ ^= number_ >> 31;
+    }
+
+    // Files get their times from a clock that goes on every ten milliseconds, or more often.
+    static void wait_after(const timespec &time) {
+        constexpr std::chrono::milliseconds TICK(10);
+        const auto now = std::chrono::system_clock::now().time_since_epoch();
+        const auto age = now - std::chrono::nanoseconds(nanoseconds(time));
+        if (age.count() >= 0 && age < TICK) {
+            std::this_thread::sleep_for(TICK - age);
+        }
+    }
+
+    std::uint64_t number_ = 0;
+};
+
+// Reads files through the cache. LevelDB doesn't open a file while it writes it.
 class cached_env : public leveldb::EnvWrapper {
   public:
     cached_env(leveldb::Env *target, file_cache &cache)
         : leveldb::EnvWrapper(target), cache_(cache) {}
 
+    // A file that has no number is read as it is.
     leveldb::Status NewRandomAccessFile(const std::string &name,
                                         leveldb::RandomAccessFile **result) override {
-        *result = nullptr;
-        leveldb::RandomAccessFile *file = nullptr;
+        file_number number;
         std::uint64_t size = 0;
+        const bool has_number = number.find(name);
         leveldb::Status status = target()->GetFileSize(name, &size);
+        *result = nullptr;
         if (status.ok()) {
-            status = target()->NewRandomAccessFile(name, &file);
+            status = target()->NewRandomAccessFile(name, result);
         }
-        if (status.ok()) {
-            std::unique_ptr<leveldb::RandomAccessFile> it(file);
-            const std::uint64_t number = number_of(name);
+        if (status.ok() && has_number) {
+            std::unique_ptr<leveldb::RandomAccessFile> it(*result);
             if (cache_.keeps == kept::blocks) {
-                *result = new block_file(std::move(it), number, cache_);
+                *result = new block_file(std::move(it), number.get(), cache_);
             } else {
-                *result = new paged_file(std::move(it), size, number, cache_);
+                *result = new paged_file(std::move(it), size, number.get(), cache_);
             }
         }
         return status;
     }
 
-    leveldb::Status NewWritableFile(const std::string &name,
-                                    leveldb::WritableFile **result) override {
-        forget(name);
-        return target()->NewWritableFile(name, result);
-    }
-
-    leveldb::Status NewAppendableFile(const std::string &name,
-                                      leveldb::WritableFile **result) override {
-        forget(name);
-        return target()->NewAppendableFile(name, result);
-    }
-
-    leveldb::Status RemoveFile(const std::string &name) override {
-        forget(name);
-        return target()->RemoveFile(name);
-    }
-
-    leveldb::Status RenameFile(const std::string &from, const std::string &to) override {
-        forget(from);
-        forget(to);
-        return target()->RenameFile(from, to);
-    }
-
   private:
-    std::uint64_t number_of(const std::string &name) {
-        std::lock_guard<std::mutex> lock(mutex_);
-        auto [at, is_new] = numbers_.try_emplace(name, next_);
-        next_ += is_new;
-        return at->second;
-    }
-
-    void forget(const std::string &name) {
-        std::lock_guard<std::mutex> lock(mutex_);
-        numbers_.erase(name);
-    }
-
     file_cache &cache_;
-    std::mutex mutex_;
-    std::map<std::string, std::uint64_t> numbers_;
-    std::uint64_t next_ = 1;
 };
 
 #endif

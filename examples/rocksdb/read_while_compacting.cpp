@@ -1,98 +1,16 @@
 // Reads a database of RocksDB by three threads while it compacts: with the secondary cache and
 // without, for three sizes of blocks. Each value is compared with what was written.
-#include "secondary_cache.hpp"
+#include "database.hpp"
 
-#include <rocksdb/db.h>
-#include <rocksdb/options.h>
 #include <rocksdb/perf_context.h>
 #include <rocksdb/perf_level.h>
-#include <rocksdb/table.h>
 
-#include <algorithm>
-#include <chrono>
-#include <cstdio>
-#include <cstdlib>
 #include <iomanip>
-#include <iostream>
-#include <map>
-#include <numeric>
-#include <random>
-#include <string>
 #include <thread>
-#include <vector>
 
 namespace {
 
-constexpr std::uint32_t KEYS = 40000;
-constexpr std::uint32_t THREADS = 3;
 constexpr std::uint32_t READS = 60000; // of each thread
-
-// What a database has to hold.
-using contents = std::map<std::string, std::string>;
-
-void must(const rocksdb::Status &status) {
-    if (!status.ok()) {
-        std::cerr << "rocksdb: " << status.ToString() << "\n";
-        std::exit(1);
-    }
-}
-
-std::string key_of(std::uint32_t number) {
-    char text[16];
-    std::snprintf(text, sizeof text, "key%08u", number);
-    return text;
-}
-
-// A value of 100 to 299 bytes. Those of the lower half of the keys repeat eight bytes, so that
-// blocks of them compress well; those of the upper half are random.
-std::string value_of(std::uint32_t number, std::uint32_t version) {
-    std::mt19937 random(version * KEYS + number);
-    std::string value(100 + random() % 200, '\0');
-    for (std::size_t k = 0; k < value.size(); k++) {
-        value[k] = number < KEYS / 2 && k >= 8 ? value[k - 8] : static_cast<char>(random());
-    }
-    return value;
-}
-
-// A database whose own block cache has 256 KiB.
-std::unique_ptr<rocksdb::DB> opened(const std::string &folder, std::size_t block_size,
-                                    std::shared_ptr<secondary_cache> secondary) {
-    rocksdb::LRUCacheOptions blocks;
-    blocks.capacity = 256 << 10;
-    blocks.num_shard_bits = 0;
-    blocks.secondary_cache = std::move(secondary);
-    rocksdb::BlockBasedTableOptions table;
-    table.block_cache = rocksdb::NewLRUCache(blocks);
-    table.block_size = block_size;
-    rocksdb::Options options;
-    options.create_if_missing = true;
-    options.write_buffer_size = 1 << 20;
-    options.table_factory.reset(rocksdb::NewBlockBasedTableFactory(table));
-    rocksdb::DB *db = nullptr;
-    must(rocksdb::DB::Open(options, folder, &db));
-    return std::unique_ptr<rocksdb::DB>(db);
-}
-
-// Writes all keys twice in a random order, and deletes one of twenty.
-contents written(const std::string &folder, std::size_t block_size) {
-    const auto db = opened(folder, block_size, nullptr);
-    contents all;
-    std::vector<std::uint32_t> numbers(KEYS);
-    std::iota(numbers.begin(), numbers.end(), 0);
-    for (std::uint32_t version = 0; version < 2; version++) {
-        std::shuffle(numbers.begin(), numbers.end(), std::mt19937(version));
-        for (std::uint32_t number : numbers) {
-            std::string &value = all[key_of(number)] = value_of(number, version);
-            must(db->Put(rocksdb::WriteOptions(), key_of(number), value));
-        }
-    }
-    for (std::uint32_t number = 0; number < KEYS; number += 20) {
-        must(db->Delete(rocksdb::WriteOptions(), key_of(number)));
-        all.erase(key_of(number));
-    }
-    must(db->Flush(rocksdb::FlushOptions()));
-    return all;
-}
 
 // What came of reading.
 struct outcome {
@@ -107,17 +25,11 @@ struct outcome {
 void read_some(rocksdb::DB &db, const contents &expected, std::uint32_t seed, std::uint32_t reads,
                outcome &came) {
     std::mt19937 random(seed);
-    std::string value;
     std::uint64_t wrong = 0;
     rocksdb::SetPerfLevel(rocksdb::PerfLevel::kEnableCount);
     rocksdb::get_perf_context()->Reset();
     for (std::uint32_t k = 0; k < reads; k++) {
-        const std::string key = key_of(random() % KEYS);
-        const rocksdb::Status status = db.Get(rocksdb::ReadOptions(), key, &value);
-        const auto entry = expected.find(key);
-        const bool right = entry == expected.end() ? status.IsNotFound()
-                                                   : status.ok() && value == entry->second;
-        wrong += !right;
+        wrong += !reads_right(db, expected, random() % KEYS);
     }
     came.wrong += wrong;
     came.reads += reads;
@@ -149,21 +61,6 @@ void read_while_compacting(rocksdb::DB &db, const contents &expected, std::uint3
     compactor.join();
 }
 
-// Room for 1,400 blocks of 4 KiB, which are some two thirds of the data.
-ferretgold_config some_megabytes() {
-    ferretgold_config config{};
-    config.slots = 1024;
-    config.room = sizeof(packed_block) / 8;
-    config.clients = THREADS + 5; // RocksDB has threads of its own
-    config.handles = 1;           // none is ever held
-    config.shards = 2;
-    config.strict = true;
-    config.capacity = 1400 * sizeof(packed_block);
-    config.serials = FERRETGOLD_MOST_SERIALS;
-    config.seed = 0x5eed;
-    return config;
-}
-
 // Reads a database, prints what came of it, and tells whether it was right.
 bool is_right(rocksdb::DB &db, const contents &expected, std::uint32_t reads, const char *how) {
     outcome came;
@@ -184,14 +81,17 @@ bool is_used(const secondary_cache &cache) {
 }
 
 // Writes a database with blocks of some size, and reads it with the cache and without.
-bool is_right_at(const std::string &folder, std::size_t block_size, std::uint32_t reads) {
+bool is_right_at(const std::string &folder, const contents &expected, std::size_t block_size,
+                 std::uint32_t reads) {
     std::cout << "blocks of " << block_size << " bytes\n";
     must(rocksdb::DestroyDB(folder, rocksdb::Options()));
-    const contents expected = written(folder, block_size);
-    const auto cache = std::make_shared<secondary_cache>(some_megabytes());
-    bool right = is_right(*opened(folder, block_size, cache), expected, reads, "with the cache");
-    right &= is_used(*cache);
-    right &= is_right(*opened(folder, block_size, nullptr), expected, reads, "without");
+    write_all(*opened(folder, block_size, block_cache()));
+    const ferretgold::cache cache(some_megabytes());
+    const auto secondary = std::make_shared<secondary_cache>(cache.get());
+    bool right = is_right(*opened(folder, block_size, block_cache(secondary)), expected, reads,
+                          "with the cache");
+    right &= is_used(*secondary);
+    right &= is_right(*opened(folder, block_size, block_cache()), expected, reads, "without");
     must(rocksdb::DestroyDB(folder, rocksdb::Options()));
     return right;
 }
@@ -205,9 +105,10 @@ int main(int count, char **words) {
         return 2;
     }
     std::cout << std::setprecision(3);
+    const contents expected = all_values();
     bool right = true;
     for (const std::size_t block_size : {4096, 8192, 16384}) {
-        right &= is_right_at(words[1], block_size, static_cast<std::uint32_t>(reads));
+        right &= is_right_at(words[1], expected, block_size, static_cast<std::uint32_t>(reads));
     }
     return right ? 0 : 1;
 }

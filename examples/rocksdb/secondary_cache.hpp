@@ -1,8 +1,13 @@
 // A secondary cache for RocksDB 7.8: it keeps the blocks that the block cache evicts, as bytes.
+//
+// RocksDB makes a block's key of what stands in its file, the session of the database that wrote it and
+// the file's number then, and of the block's place. By rocksdb/table_properties.h no other file has these
+// two, and by rocksdb/cache.h keys stay the same after a restart: in a saved cache, too, a key is of the
+// same bytes.
 #ifndef SECONDARY_CACHE_HPP
 #define SECONDARY_CACHE_HPP
 
-#include "ferretgold.hpp"
+#include "../cpp/warm_cache.hpp"
 
 #include <lz4.h>
 #include <rocksdb/secondary_cache.h>
@@ -81,10 +86,10 @@ class found_block : public rocksdb::SecondaryCacheResultHandle {
     std::size_t charge_ = 0;
 };
 
-// The secondary cache. RocksDB allows no exception to leave these calls.
+// The secondary cache, on a cache that lives longer. RocksDB allows no exception to leave these calls.
 class secondary_cache : public rocksdb::SecondaryCache {
   public:
-    explicit secondary_cache(const ferretgold_config &config) : cache_(config) {}
+    explicit secondary_cache(ferretgold_cache *cache) : cache_(cache) {}
 
     const char *Name() const override { return "Ferretgold"; }
 
@@ -117,7 +122,7 @@ class secondary_cache : public rocksdb::SecondaryCache {
 
     void Erase(const rocksdb::Slice &name) noexcept override {
         ferretgold_key key;
-        const ferretgold::lease client(cache_);
+        const lent_client client(cache_);
         if (is_key(name, &key)) {
             (void)ferretgold_erase(client.get(), &key, nullptr);
         }
@@ -148,7 +153,7 @@ class secondary_cache : public rocksdb::SecondaryCache {
     count &outcome_of(const rocksdb::Slice &name, const packed_block &packed, std::size_t size) {
         ferretgold_key key;
         ferretgold_inserted inserted = FERRETGOLD_DROPPED;
-        const ferretgold::lease client(cache_);
+        const lent_client client(cache_);
         if (!is_key(name, &key) ||
             ferretgold_insert(client.get(), &key, &packed, size,
                               static_cast<std::uint32_t>(size), FERRETGOLD_LOW,
@@ -164,12 +169,12 @@ class secondary_cache : public rocksdb::SecondaryCache {
     // Copies a packed block out, if it is here. The client goes back before RocksDB is called.
     bool find(const rocksdb::Slice &name, packed_block *packed, std::size_t *size) {
         ferretgold_key key;
-        const ferretgold::lease client(cache_);
+        const lent_client client(cache_);
         return is_key(name, &key) && ferretgold_get(client.get(), &key, packed, sizeof *packed,
                                                     true, size) == FERRETGOLD_OK;
     }
 
-    ferretgold::cache cache_;
+    ferretgold_cache *const cache_;
 };
 
 #endif

@@ -264,7 +264,7 @@ impl Drop for Client<'_> {
     }
 }
 
-fn got_of(status: u32, length: usize) -> Got {
+pub(crate) fn got_of(status: u32, length: usize) -> Got {
     match status {
         0 => Got::Value(length),
         20 => Got::TooShort(length),

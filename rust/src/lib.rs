@@ -1,6 +1,8 @@
 //! A block cache of fixed slots for many threads, without locks: `libferretgold` for Rust. What each
-//! call does, costs and refuses, `ferretgold.h` says. The build links `libferretgold.a` of the folder
-//! that `FERRETGOLD_LIBRARIES` names, else of the place where the crate was installed or checked out.
+//! call does, costs and refuses, `ferretgold.h` says, and `ferretgold_closed.h` of a closed cache. The
+//! build links `libferretgold.a` of the folder that `FERRETGOLD_LIBRARIES` names, else of the place where
+//! the crate was installed or checked out; and with the feature `file`, which saves and loads caches, also
+//! `libferretgold_file.a`.
 //!
 //! A [`Cache`] is shared by reference, and any thread may take a [`Client`] of it. A client is used by
 //! one thread at a time: it is `Send` and not `Sync`. A [`Handle`] borrows its client and gives itself
@@ -60,7 +62,10 @@
 #![warn(missing_docs)]
 
 mod client;
+mod closed;
 mod config;
+#[cfg(feature = "file")]
+mod file;
 mod handle;
 #[allow(missing_docs)]
 mod raw;
@@ -70,7 +75,10 @@ use std::ffi::CStr;
 use std::ptr::{null_mut, NonNull};
 
 pub use client::{Client, Got};
+pub use closed::{Closed, Entry};
 pub use config::{Config, MOST_SERIALS};
+#[cfg(feature = "file")]
+pub use file::{FileError, Loaded};
 pub use handle::Handle;
 use refused::judged;
 pub use refused::Refused;
@@ -131,6 +139,24 @@ pub struct Stats {
     pub lost: u64,
 }
 
+/// What look-ups and insertions came to.
+#[repr(C)]
+#[derive(Clone, Copy, Debug, Default, PartialEq, Eq)]
+pub struct Counts {
+    /// Look-ups and readings by a key that found one.
+    pub hits: u64,
+    /// And that found none.
+    pub misses: u64,
+    /// Insertions, by what came of them.
+    pub placed: u64,
+    /// Likewise.
+    pub dropped: u64,
+    /// Likewise.
+    pub standalone: u64,
+    /// Those that were refused for lack of handles, serials, capacity or places.
+    pub refused: u64,
+}
+
 /// What was left of a cache that was closed, by the books and slot by slot. They are equal.
 #[repr(C)]
 #[derive(Clone, Copy, Debug, Default, PartialEq, Eq)]
@@ -181,6 +207,13 @@ impl Cache {
         unsafe { raw::ferretgold_room(self.at.as_ptr()) }
     }
 
+    /// What the calls of all clients came to, of each until it last went back.
+    pub fn counts(&self) -> Counts {
+        let mut counts = Counts::default();
+        let _ = unsafe { raw::ferretgold_cache_counts(self.at.as_ptr(), &mut counts) };
+        counts
+    }
+
     /// A client that is idle. It waits for nothing and allocates nothing.
     pub fn client(&self) -> Result<Client<'_>, Refused> {
         let mut at = null_mut();
@@ -198,6 +231,19 @@ impl Cache {
             Ok(()) => {
                 std::mem::forget(self);
                 Ok(totals)
+            }
+            Err(why) => Err((why, self)),
+        }
+    }
+
+    /// Ends the cache, and keeps what is left of it. The cache is given back if that is refused.
+    pub fn close_keeping(self) -> Result<Closed, (Refused, Cache)> {
+        let mut left = null_mut();
+        let status = unsafe { raw::ferretgold_close_keeping(self.at.as_ptr(), &mut left) };
+        match judged(status).and_then(|()| NonNull::new(left).ok_or(Refused::NULL)) {
+            Ok(left) => {
+                std::mem::forget(self);
+                Ok(Closed::of(left))
             }
             Err(why) => Err((why, self)),
         }

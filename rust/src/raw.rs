@@ -1,4 +1,5 @@
-//! The functions of ferretgold.h and ferretgold_large.h, as C has them. tests/wrappers compares the two.
+//! The functions of ferretgold.h, ferretgold_closed.h, ferretgold_large.h and ferretgold_file.h, as C has
+//! them. tests/wrappers compares the two.
 
 use std::ffi::c_void;
 use std::os::raw::c_char;
@@ -29,13 +30,17 @@ pub struct Handle {
     pub cache: u32,
 }
 
-pub use crate::{Key, Stats, Totals};
+#[cfg(feature = "file")]
+pub use crate::Loaded;
+pub use crate::{Counts, Entry, Key, Stats, Totals};
 
-/// A cache, and a client of one.
+/// A cache, a client of one, and what is left of one that was closed.
 #[derive(Debug)]
 pub enum Cache {}
 #[derive(Debug)]
 pub enum Client {}
+#[derive(Debug)]
+pub enum Closed {}
 
 extern "C" {
     pub fn ferretgold_memory(config: *const Config) -> u64;
@@ -48,11 +53,43 @@ extern "C" {
     pub fn ferretgold_config_check(config: *const Config) -> u32;
     pub fn ferretgold_config_of(cache: *const Cache, config: *mut Config) -> u32;
     pub fn ferretgold_room(cache: *const Cache) -> usize;
+    pub fn ferretgold_cache_counts(cache: *const Cache, counts: *mut Counts) -> u32;
     pub fn ferretgold_open(config: *const Config, cache: *mut *mut Cache) -> u32;
     pub fn ferretgold_client_open(cache: *mut Cache, client: *mut *mut Client) -> u32;
     pub fn ferretgold_client_close(cache: *mut Cache, client: *mut Client) -> u32;
     pub fn ferretgold_client_close_releasing(cache: *mut Cache, client: *mut Client) -> u32;
     pub fn ferretgold_close(cache: *mut Cache, totals: *mut Totals) -> u32;
+    pub fn ferretgold_close_keeping(cache: *mut Cache, closed: *mut *mut Closed) -> u32;
+    pub fn ferretgold_closed_free(closed: *mut Closed);
+    pub fn ferretgold_closed_config(closed: *const Closed, config: *mut Config) -> u32;
+    pub fn ferretgold_closed_totals(closed: *mut Closed, totals: *mut Totals) -> u32;
+    pub fn ferretgold_closed_entry(
+        closed: *mut Closed,
+        shard: u32,
+        slot: u32,
+        entry: *mut Entry,
+    ) -> u32;
+    pub fn ferretgold_closed_value(
+        closed: *mut Closed,
+        shard: u32,
+        slot: u32,
+        buffer: *mut c_void,
+        capacity: usize,
+        length: *mut usize,
+    ) -> u32;
+    pub fn ferretgold_closed_word(
+        closed: *mut Closed,
+        shard: u32,
+        slot: u32,
+        word: *mut u64,
+    ) -> u32;
+    pub fn ferretgold_closed_displacement(
+        closed: *mut Closed,
+        shard: u32,
+        slot: u32,
+        displacement: *mut u64,
+    ) -> u32;
+    pub fn ferretgold_closed_hand(closed: *mut Closed, shard: u32, hand: *mut u64) -> u32;
     pub fn ferretgold_lookup(client: *mut Client, key: *const Key, handle: *mut Handle) -> u32;
     pub fn ferretgold_reref(client: *mut Client, handle: Handle, more: *mut Handle) -> u32;
     pub fn ferretgold_release(
@@ -134,4 +171,30 @@ extern "C" {
     pub fn ferretgold_statistics(client: *mut Client, stats: *mut Stats) -> u32;
     pub fn ferretgold_status_text(status: u32) -> *const c_char;
     pub fn ferretgold_version() -> *const c_char;
+}
+
+/// The caller's functions that ferretgold_file.h's call.
+#[cfg(feature = "file")]
+pub type Write =
+    unsafe extern "C" fn(context: *mut c_void, bytes: *const c_void, count: usize) -> bool;
+#[cfg(feature = "file")]
+pub type Read = unsafe extern "C" fn(
+    context: *mut c_void,
+    bytes: *mut c_void,
+    count: usize,
+    could: *mut bool,
+) -> usize;
+
+#[cfg(feature = "file")]
+extern "C" {
+    pub fn ferretgold_save(closed: *mut Closed, write: Write, context: *mut c_void) -> u32;
+    pub fn ferretgold_load(
+        config: *const Config,
+        read: Read,
+        context: *mut c_void,
+        keep_front: bool,
+        cache: *mut *mut Cache,
+        loaded: *mut Loaded,
+    ) -> u32;
+    pub fn ferretgold_file_status_text(status: u32) -> *const c_char;
 }

@@ -1,6 +1,6 @@
 //! Each call, and what types can't rule out.
 
-use ferretgold::{Cache, Client, Config, Got, Inserted, Key, Priority, Refused, Stats};
+use ferretgold::{Cache, Client, Config, Counts, Got, Inserted, Key, Priority, Refused, Stats};
 use std::mem::forget;
 
 const KEY: Key = Key { w0: 1, w1: 2 };
@@ -40,6 +40,16 @@ fn a_value_is_read_by_its_key() {
     assert_eq!(client.get(KEY, &mut [], true), Got::Miss);
     assert_eq!(inserts(&client, KEY, b""), Ok(Inserted::Placed));
     assert_eq!(client.get(KEY, &mut [], true), Got::Value(0));
+    assert_eq!(cache.counts(), Counts::default());
+    drop(client);
+    let counted = Counts {
+        hits: 2,
+        misses: 2,
+        placed: 2,
+        dropped: 1,
+        ..Counts::default()
+    };
+    assert_eq!(cache.counts(), counted);
 }
 
 #[test]
@@ -177,4 +187,61 @@ fn sizes_are_those_of_the_budget() {
     assert!(config.memory() <= 1 << 20 && 2 * config.memory() > 1 << 20);
     assert_eq!((config.room, config.clients), (8, 3));
     assert_eq!(ferretgold::version(), env!("CARGO_PKG_VERSION"));
+}
+
+#[test]
+fn what_is_left_is_read() {
+    let config = Config {
+        shards: 2,
+        ..small()
+    };
+    let cache = Cache::open(&config).unwrap();
+    forget(cache.client());
+    let (why, cache) = cache.close_keeping().unwrap_err();
+    assert_eq!(why, Refused::MISSING);
+    forget(cache);
+    let cache = Cache::open(&config).unwrap();
+    let client = cache.client().unwrap();
+    assert_eq!(
+        client.insert(KEY, b"left", 7, Priority::High),
+        Ok(Inserted::Placed)
+    );
+    let words: Vec<u64> = (0..16)
+        .map(|k| client.word(k / 8, k % 8).unwrap())
+        .collect();
+    drop(client);
+    let left = cache.close_keeping().map_err(|(why, _)| why).unwrap();
+    let all: Vec<_> = left.entries().collect();
+    let (shard, slot, entry) = all[0];
+    assert_eq!(
+        (all.len(), entry.key, entry.length, entry.charge),
+        (1, KEY, 4, 7)
+    );
+    assert_eq!((entry.uses, entry.visible, entry.hit), (3, true, false));
+    let mut bytes = [9; 5];
+    assert_eq!(
+        left.value(shard, slot, &mut bytes[..3]),
+        Ok(Got::TooShort(4))
+    );
+    assert_eq!(left.value(shard, slot, &mut bytes), Ok(Got::Value(4)));
+    assert_eq!(&bytes, b"left\x09");
+    assert_eq!(left.value(1 - shard, slot, &mut bytes), Ok(Got::Miss));
+    assert_eq!(left.entry(1 - shard, slot), Ok(None));
+    for k in 0..16 {
+        assert_eq!(left.word(k / 8, k % 8), Ok(words[k as usize]));
+        assert_eq!(left.displacement(k / 8, k % 8), Ok(0));
+    }
+    assert_eq!((left.hand(0), left.hand(1)), (Ok(0), Ok(0)));
+    assert_eq!((left.totals().usage, left.totals().slot_count), (7, 1));
+    assert_eq!(left.config(), config);
+    for (shard, slot) in [(0, 8), (2, 0)] {
+        assert_eq!(left.entry(shard, slot), Err(Refused::OUT_OF_RANGE));
+        assert_eq!(
+            left.value(shard, slot, &mut bytes),
+            Err(Refused::OUT_OF_RANGE)
+        );
+        assert_eq!(left.word(shard, slot), Err(Refused::OUT_OF_RANGE));
+        assert_eq!(left.displacement(shard, slot), Err(Refused::OUT_OF_RANGE));
+    }
+    assert_eq!(left.hand(2), Err(Refused::OUT_OF_RANGE));
 }

@@ -37,7 +37,7 @@ static void texts(void) {
     EXPECT(strcmp(ferretgold_version(), FERRETGOLD_VERSION), 0);
 }
 
-/* Each field of a configuration, one below and one above what it may be. */
+/* Each field of a configuration, one below and one above what it may be: no memory is asked for. */
 static void configurations(void) {
     ferretgold_cache *none = NULL;
     ferretgold_config all[18];
@@ -54,7 +54,9 @@ static void configurations(void) {
     all[14].capacity = (UINT64_C(1) << 40) + 1, all[15].capacity = UINT64_MAX;
     all[16].serials = 0, all[17].serials = FERRETGOLD_MOST_SERIALS + 1;
     for (size_t k = 0; k < 18; k++) {
+        heap_left = 0;
         EXPECT(ferretgold_open(&all[k], &none), wanted[k]);
+        heap_left = SIZE_MAX;
         EXPECT(ferretgold_config_check(&all[k]), wanted[k]);
     }
     EXPECT(none == NULL, true);
@@ -130,6 +132,41 @@ static void no_memory(void) {
     EXPECT(ferretgold_close(cache, NULL), 0);
 }
 
+/* The one request of an insertion with a handle, which comes after the refusals of its arguments and
+ * before those of the client: refused, it changes nothing; met, it is all that is asked for. */
+static void no_copy(void) {
+    static const struct { int priority; uint32_t charge; size_t length; int none, one; } all[] = {
+        {3, 1, 1, 21, 21},  {1, 0, 1, 18, 18}, {1, 1, 17, 19, 19}, {1, 1, 1, 28, 0},
+        {1, 1, 16, 28, 23}, {1, 1, 0, 23, 23}};
+    ferretgold_config config = SMALL;
+    ferretgold_cache *cache = NULL;
+    ferretgold_client *it = NULL;
+    ferretgold_handle handle = {0, 5, 0, 0};
+    ferretgold_inserted inserted = (ferretgold_inserted)7;
+    char bytes[17] = {0};
+    config.handles = 1;
+    EXPECT(ferretgold_open(&config, &cache), 0);
+    EXPECT(ferretgold_client_open(cache, &it), 0);
+    for (size_t k = 0; k < sizeof all / sizeof *all; k++) {
+        const uint64_t left = ferretgold_serials_left(it);
+        const uint32_t held = ferretgold_held(it);
+        for (size_t more = 0; more < 2; more++) {
+            heap_left = more;
+            const ferretgold_status status = ferretgold_insert_pinned(
+                it, &KEY, bytes, all[k].length, all[k].charge,
+                (ferretgold_priority)all[k].priority, &inserted, &handle);
+            EXPECT(more - heap_left, more == 1 && all[k].none == 28);
+            heap_left = SIZE_MAX;
+            EXPECT(status, more == 0 ? all[k].none : all[k].one);
+            EXPECT(left - ferretgold_serials_left(it), status == 0);
+            EXPECT(ferretgold_held(it) - held, status == 0);
+            EXPECT((int)inserted == 7 && handle.serial == 5, ferretgold_held(it) == 0);
+        }
+    }
+    EXPECT(ferretgold_client_close_releasing(cache, it), 0);
+    EXPECT(ferretgold_close(cache, NULL), 0);
+}
+
 /* Configurations from a budget: slots, room, clients, shards, capacity. */
 static void budgets(void) {
     static const struct {
@@ -141,7 +178,7 @@ static void budgets(void) {
         {1 << 20, 15, 4, 2048, 2, 4, 5734 * 16},
         {1 << 20, 16, 1, 8192, 2, 1, 5734 * 16},
         {100000, 8, 7, 1024, 1, 1, 716 * 8},
-        {3121, 0, 1, 8, 1, 1, 5 * 8},
+        {3233, 0, 1, 8, 1, 1, 5 * 8},
         {UINT64_MAX, 4096, 1, 65536, 512, 64, UINT64_C(2936012) * 4096}};
     ferretgold_config it = SMALL;
     for (size_t k = 0; k < sizeof all / sizeof *all; k++) {
@@ -159,7 +196,7 @@ static void budgets(void) {
     EXPECT(ferretgold_config_for(1 << 20, 4097, 1, &it), 30);
     EXPECT(ferretgold_config_for(1 << 20, 8, 0, &it), 31);
     EXPECT(ferretgold_config_for(1 << 20, 8, 1025, &it), 31);
-    EXPECT(ferretgold_config_for(3120, 8, 1, &it), 29);
+    EXPECT(ferretgold_config_for(3232, 8, 1, &it), 29);
     EXPECT(it.slots == SMALL.slots && it.room == SMALL.room && it.seed == SMALL.seed, true);
     EXPECT(ferretgold_config_for(UINT64_MAX, 4096, 1024, &it), 0);
     EXPECT(it.shards == 64 && it.clients == 1024, true);
@@ -438,6 +475,64 @@ static void taken_again(ferretgold_cache *cache) {
     EXPECT(ferretgold_client_close(cache, second), 0);
 }
 
+/* Whether a cache counts so. */
+static void counts(const ferretgold_cache *cache, ferretgold_counts wanted) {
+    ferretgold_counts is = {5, 5, 5, 5, 5, 5};
+    EXPECT(ferretgold_cache_counts(cache, &is), 0);
+    EXPECT(memcmp(&is, &wanted, sizeof is), 0);
+}
+
+/* What each call counts as, once its client is back. */
+static void counted(void) {
+    ferretgold_config config = SMALL;
+    ferretgold_cache *cache = NULL;
+    ferretgold_client *it[2] = {NULL, NULL};
+    ferretgold_handle handle[5], none;
+    ferretgold_counts is;
+    char byte = 0;
+    config.strict = true, config.handles = 5;
+    EXPECT(ferretgold_cache_counts(NULL, &is), 16);
+    EXPECT(ferretgold_open(&config, &cache), 0);
+    EXPECT(ferretgold_cache_counts(cache, NULL), 16);
+    for (int k = 0; k < 2; k++) {
+        EXPECT(ferretgold_client_open(cache, &it[k]), 0);
+    }
+    EXPECT(ferretgold_lookup(it[0], &KEY, &none), 1);
+    for (int k = 0; k < 3; k++) {
+        EXPECT(ferretgold_get(it[0], &KEY, NULL, 0, true, NULL), 1);
+    }
+    EXPECT(ferretgold_insert(it[0], &KEY, "a", 1, 1, FERRETGOLD_LOW, NULL), 0);
+    EXPECT(ferretgold_insert(it[0], &KEY, "b", 1, 1, FERRETGOLD_LOW, NULL), 0);
+    for (int k = 0; k < 4; k++) {
+        EXPECT(ferretgold_insert_pinned(it[0], &OTHER, "", 0, 1, FERRETGOLD_LOW, NULL, &handle[k]),
+               0);
+    }
+    EXPECT(ferretgold_get(it[0], &KEY, &byte, 1, true, NULL), 0);
+    EXPECT(ferretgold_get(it[0], &KEY, NULL, 0, true, NULL), 20);
+    EXPECT(ferretgold_lookup(it[0], &KEY, &handle[4]), 0);
+    EXPECT(ferretgold_lookup(it[0], &KEY, &none), 23);
+    EXPECT(ferretgold_insert_pinned(it[0], &KEY, "", 0, 1, FERRETGOLD_LOW, NULL, &none), 23);
+    for (int k = 0; k < 5; k++) {
+        EXPECT(ferretgold_insert(it[0], &KEY, "", 0, 601, FERRETGOLD_LOW, NULL), 25);
+    }
+    EXPECT(ferretgold_insert(it[0], &KEY, "", 0, 0, FERRETGOLD_LOW, NULL), 18);
+    EXPECT(ferretgold_insert(it[1], &KEY, "", 0, 601, FERRETGOLD_LOW, NULL), 25);
+    for (int k = 0; k < 3; k++) {
+        EXPECT(ferretgold_get(it[1], &KEY, &byte, 1, true, NULL), 0);
+    }
+    counts(cache, (ferretgold_counts){0, 0, 0, 0, 0, 0});
+    EXPECT(ferretgold_client_close_releasing(cache, it[0]), 0);
+    counts(cache, (ferretgold_counts){2, 4, 2, 1, 3, 6});
+    EXPECT(ferretgold_client_close(cache, it[1]), 0);
+    counts(cache, (ferretgold_counts){5, 4, 2, 1, 3, 7});
+    EXPECT(ferretgold_client_open(cache, &it[1]), 0);
+    EXPECT(ferretgold_get(it[1], &KEY, &byte, 1, true, NULL), 0);
+    counts(cache, (ferretgold_counts){5, 4, 2, 1, 3, 7});
+    EXPECT(ferretgold_client_close(cache, it[1]), 0);
+    counts(cache, (ferretgold_counts){6, 4, 2, 1, 3, 7});
+    EXPECT(ferretgold_close(cache, NULL), 0);
+}
+
 void edges(void) {
     ferretgold_cache *cache = NULL;
     ferretgold_client *client[2] = {NULL, NULL};
@@ -449,8 +544,10 @@ void edges(void) {
     sizes();
     memory();
     no_memory();
+    no_copy();
     budgets();
     initialiser();
+    counted();
     EXPECT(ferretgold_open(&SMALL, &cache), 0);
     EXPECT(ferretgold_client_open(cache, &client[0]), 0);
     two_caches(cache, client[0]);

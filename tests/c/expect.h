@@ -14,6 +14,12 @@ void expect(const char *file, int line, const char *what, long long is, long lon
 #define EXPECT(what, wanted) \
     expect(__FILE__, __LINE__, #what, (long long)(what), (long long)(wanted))
 
+/* What is left of a cache that was closed. */
+void closed_caches(void);
+
+/* Caches that begin with entries. */
+void images(void);
+
 /* What no trace shows. */
 void edges(void);
 

@@ -10,6 +10,7 @@ enum { PLACES = 1 << 14 };
 size_t heap_blocks = 0;
 size_t heap_bytes = 0;
 size_t heap_left = SIZE_MAX;
+int heap_once = 0;
 
 /* Each block's address and size. */
 static struct block {
@@ -47,6 +48,7 @@ static void *counted(void *at, size_t size) {
 /* Whether the next request is refused. */
 static int refuses(void) {
     if (heap_left == 0) {
+        heap_left = heap_once ? SIZE_MAX : 0;
         return 1;
     }
     heap_left -= heap_left != SIZE_MAX;

@@ -1,4 +1,4 @@
-/* What the files of the program that tests large values share. With FERRETGOLD_FEW_KEYS, of it and
+/* What the files of the programs that test large values share. With FERRETGOLD_FEW_KEYS, of them and
  * of the library, pieces have only so many keys: {0, 2^63}, {1, 2^63} and so on. */
 #ifndef LARGE_TESTS_H
 #define LARGE_TESTS_H
@@ -10,6 +10,9 @@
 
 /* How many bytes of a value a piece has, in slots of 4,096. */
 enum { FULL = 4056 };
+
+/* Makes what values are made of: once, before all. */
+void make_pattern(void);
 
 /* The bytes of a value: each key, length and variant has other ones, and they say the variant. */
 void make_value(uint64_t key, size_t length, uint8_t variant, uint8_t *value);

@@ -1,5 +1,6 @@
 /* The layout that programs are compiled against: it changes only with intent. That the library has
  * the same, tests/layout looks. */
+#include "ferretgold_closed.h"
 #include "ferretgold_raw.h"
 
 #define SIZE_IS(type, size) \
@@ -42,11 +43,27 @@ AT(ferretgold_stats, turns, 40, 8)
 AT(ferretgold_stats, corrections, 48, 8)
 AT(ferretgold_stats, lost, 56, 8)
 
+SIZE_IS(ferretgold_counts, 48)
+AT(ferretgold_counts, hits, 0, 8)
+AT(ferretgold_counts, misses, 8, 8)
+AT(ferretgold_counts, placed, 16, 8)
+AT(ferretgold_counts, dropped, 24, 8)
+AT(ferretgold_counts, standalone, 32, 8)
+AT(ferretgold_counts, refused, 40, 8)
+
 SIZE_IS(ferretgold_totals, 32)
 AT(ferretgold_totals, usage, 0, 8)
 AT(ferretgold_totals, occupied, 8, 8)
 AT(ferretgold_totals, slot_charges, 16, 8)
 AT(ferretgold_totals, slot_count, 24, 8)
+
+SIZE_IS(ferretgold_entry, 40)
+AT(ferretgold_entry, key, 0, 16)
+AT(ferretgold_entry, length, 16, 8)
+AT(ferretgold_entry, charge, 24, 4)
+AT(ferretgold_entry, uses, 28, 4)
+AT(ferretgold_entry, visible, 32, 1)
+AT(ferretgold_entry, hit, 33, 1)
 
 SIZE_IS(ferretgold_object, 8)
 SIZE_IS(ferretgold_status, 4)

@@ -1,6 +1,6 @@
 /* Plays traces of calls through ferretgold.h alone, and compares each answer with the one recorded
- * beside its call; then tries what no trace shows (edges.c). It is what tests/plant-c tries planted
- * bugs by.
+ * beside its call; then tries what no trace shows (edges.c, closed.c, image.c). It is what
+ * tests/plant-c tries planted bugs by.
  * Usage: play FILE.. where a file has cases as tests/calls has, and a letter more:
  *     c T k0 k1 U|N n     reads a key's value to a buffer of n bytes: value V, short LENGTH, miss
  */
@@ -356,6 +356,8 @@ static void play_file(const char *path) {
 
 int main(int count, char **files) {
     edges();
+    closed_caches();
+    images();
     EXPECT(heap_blocks, 0);
     for (int k = 1; k < count; k++) {
         play_file(files[k]);

@@ -18,6 +18,9 @@
 #include <type_traits>
 #include <vector>
 
+// What is left of a cache that was closed: how many faults (closed.cpp).
+int closed_caches();
+
 namespace {
 
 using ferretgold::cache;
@@ -606,6 +609,7 @@ void edges() {
 
 int main(int count, char **files) {
     edges();
+    faults += closed_caches();
     EXPECT(heap_blocks == 0);
     for (int k = 1; k < count; k++) {
         play_file(files[k]);

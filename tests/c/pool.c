@@ -1,5 +1,5 @@
 /* Threads borrow clients of one cache: no client has ever two owners, and none is lost. Each
- * insertion and reading by a borrowed client is right.
+ * insertion and reading by a borrowed client is right, and counted; no count falls.
  * Usage: pool CLIENTS BORROWS     so many borrows of all eight threads together */
 #include "ferretgold.h"
 
@@ -12,7 +12,7 @@ enum { THREADS = 8, MOST_CLIENTS = 1024 };
 
 static ferretgold_cache *cache;
 static atomic_uint owners[MOST_CLIENTS];
-static atomic_ulong faults, refused;
+static atomic_ulong faults, refused, readings;
 static unsigned long each;
 
 static void must(int is) {
@@ -21,12 +21,20 @@ static void must(int is) {
     }
 }
 
+/* How many readings the cache has counted. */
+static unsigned long counted(void) {
+    ferretgold_counts counts;
+    must(ferretgold_cache_counts(cache, &counts) == FERRETGOLD_OK);
+    return (unsigned long)(counts.hits + counts.misses);
+}
+
 /* What an owner does with a client: an entry that is there has its key as value. */
 static void use(ferretgold_client *client, uint64_t number) {
     const ferretgold_key key = {1, number % 100};
     uint64_t value = key.w1;
     size_t length = 0;
     ferretgold_status status = ferretgold_get(client, &key, &value, sizeof value, true, &length);
+    atomic_fetch_add(&readings, 1);
     must(status == FERRETGOLD_OK ? length == sizeof value && value == key.w1
                                  : status == FERRETGOLD_MISS);
     if (status == FERRETGOLD_MISS) {
@@ -36,6 +44,7 @@ static void use(ferretgold_client *client, uint64_t number) {
 
 static void *work(void *argument) {
     const unsigned self = *(unsigned *)argument;
+    unsigned long least = 0;
     for (unsigned long done = 0; done < each;) {
         ferretgold_client *client = NULL;
         const ferretgold_status status = ferretgold_client_open(cache, &client);
@@ -48,6 +57,11 @@ static void *work(void *argument) {
         must(atomic_exchange(&owners[number], self) == 0);
         if (done % 16 == 0) {
             use(client, done);
+        }
+        if (done % 256 == 0) {
+            const unsigned long seen = counted();
+            must(seen >= least && seen <= atomic_load(&readings));
+            least = seen;
         }
         must(atomic_exchange(&owners[number], 0) == self);
         must(ferretgold_client_close(cache, client) == FERRETGOLD_OK);
@@ -73,6 +87,7 @@ int main(int count, char **words) {
     for (unsigned k = 0; k < THREADS; k++) {
         must(pthread_join(threads[k], NULL) == 0);
     }
+    must(counted() == atomic_load(&readings));
     must(config.clients < THREADS || atomic_load(&refused) == 0);
     must(ferretgold_close(cache, NULL) == FERRETGOLD_OK);
     printf("pool: %lu faults\n", atomic_load(&faults));

@@ -87,3 +87,16 @@ def owner_in(head):
         return None
     trait = re.sub(r"'\w+", "", found[1] or "")
     return found[2] + "".join(re.findall(r"\w+", trait))
+
+
+def module_of(path):
+    """The module that a file of src/ is, as a path."""
+    words = path.removeprefix("src/").removesuffix(".rt").split("/")
+    if words in (["lib"], ["main"]):
+        return ""
+    return "::".join(words[:-1] if words[-1] == "mod" else words)
+
+
+def symbol_of(owner, path, name):
+    """A function as rattle names it: a method is found where its type stands, and not its impl."""
+    return f"{owner}::{name}" if owner else "::".join(filter(None, [module_of(path), name]))

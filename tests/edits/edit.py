@@ -7,7 +7,7 @@ import glob
 import os
 import re
 
-from crates import FOLDERS, FUNCTION, owner_in
+from crates import FOLDERS, FUNCTION, owner_in, symbol_of
 
 BLOCK = re.compile(r"(unsafe )?impl\b|(pub )?trait ")
 IMPORT = re.compile(r"\s*(?:pub )?(?:ghost )?use ")
@@ -64,14 +64,6 @@ def body_at(text, at):
     return None
 
 
-def module_of(path):
-    """The module that a file of src/ is, as a path."""
-    words = path.removeprefix("src/").removesuffix(".rt").split("/")
-    if words in (["lib"], ["main"]):
-        return ""
-    return "::".join(words[:-1] if words[-1] == "mod" else words)
-
-
 class Edit:
     """An edit, the functions whose bodies alone it changes (none: it changes more than bodies), and
     what came of it."""
@@ -93,9 +85,8 @@ class Edit:
         self.symbols = self.found_symbols()
 
     def found_symbols(self):
-        """The functions whose bodies the edit changes, as rattle names them (a method is found where
-        its type stands, and not its impl); none where it changes anything else. Imports beside a
-        body, and the functions' own proof files, are nothing else."""
+        """The functions whose bodies the edit changes, as rattle names them; none where it changes
+        anything else. Imports beside a body, and the functions' own proof files, are nothing else."""
         found, now = [], dict(self.texts)
         for path, old, new in self.pairs:
             begin = now[path].index(old)
@@ -108,7 +99,7 @@ class Edit:
             if not path.startswith("src/") or not in_body[0] or in_body[0] != in_body[1]:
                 return []
             owner, name = in_body[0]
-            symbol = f"{owner}::{name}" if owner else "::".join(filter(None, [module_of(path), name]))
+            symbol = symbol_of(owner, path, name)
             found += [symbol] if symbol not in found else []
         return found
 

@@ -12,7 +12,7 @@ import functools
 import hashlib
 import re
 
-from crates import FUNCTION, logic, owner_in
+from crates import FUNCTION, logic, owner_in, symbol_of
 
 WORDS = re.compile(r"[^\s(){}\[\],;.⟦⟧`]+")
 IMPORT = re.compile(r"(?:pub |unfoldable |ghost )*use ([\w.+#-]+?)(?:\.\{(.*)\})?(?: as ([^\s;]+))?;?$")
@@ -30,6 +30,7 @@ class Item:
         self.kind, self.name, self.text, self.file = kind, name, text, file
         self.impl, self.body = impl, body
         self.owner = owner_in(impl)
+        self.symbol = symbol_of(self.owner, file.path, name)
 
 
 class File:
@@ -89,7 +90,8 @@ class File:
         """Reads the items of code, those of an impl under its first line."""
         chunks, is_open = [], False
         for line in lines:
-            if line and line[0] not in " }{)" and not is_open:
+            # With '>' begins what stands behind a list of type parameters.
+            if line and line[0] not in " }{)>" and not is_open:
                 chunks.append([line])
             elif chunks:
                 chunks[-1].append(line)
@@ -116,6 +118,16 @@ class File:
             if " for " in first:
                 self.add(Item("type", of[1], text, self))
             self.read_code([it.removeprefix("    ") for it in lines[top + 1 : -1]], first)
+
+
+def closed_over(calls, name):
+    """What a function reaches by these calls, but itself."""
+    todo, found = [name], set()
+    while todo:
+        new = calls.get(todo.pop(), set()) - found
+        found |= new
+        todo += new
+    return found - {name}
 
 
 class Rests:
@@ -175,6 +187,19 @@ class Rests:
             loose = [it for it in all_of if bool(it.owner) == bool(owner or dot or of_self)]
             found += exact or loose
         return found
+
+    def reach(self, name):
+        """Which functions of a crate the code of which may reach, by their symbols. A name that stands
+        for several reaches all of them, and a question mark all conversions of errors."""
+        for it in self.scope(self.crates[name]):
+            self.read(it)
+        items = [it for found in self.functions[name].values() for it in found]
+        errors = [it for it in items if it.owner and it.name == "from"]
+        calls = {}
+        for it in items:
+            called = self.called(it) + (errors if "?" in it.body else [])
+            calls.setdefault(it.symbol, set()).update(of.symbol for of in called if of.file.crate.name == name)
+        return {it: closed_over(calls, it) for it in calls}
 
     @functools.cache
     def leads_to(self, item, with_body):

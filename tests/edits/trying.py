@@ -6,12 +6,10 @@ of its own that isn't proved. What a round leaves in doubt, as a function that c
 the round, is tried again without that one, then alone, and then by a check of the whole crate. At
 the end the crate without an edit has to be proved over what the rounds kept, or nothing counts."""
 import os
-import re
 import shutil
 import tempfile
 import time
 
-from crates import FUNCTION
 from edit import applied
 from room import CALLED, Room, judged, judged_whole
 
@@ -20,38 +18,11 @@ VERDICTS = ("refused", "names", "unread", "doubt", "proved")
 OPEN = ("doubt", "proved")  # of these an edit is tried again
 
 
-def calls_of(crate):
-    """Which functions of the crate reach which, by their bare names, as the texts have them. A name
-    that stands for several reaches nothing: what it calls is learned from what a check says."""
-    called, times = {}, {}
-    for path in crate.files(".rt"):
-        lines = crate.text(path).split("\n")
-        for top, line in enumerate(lines):
-            found = FUNCTION.match(line)
-            if not found:
-                continue
-            end = next((n for n in range(top, len(lines)) if lines[n] == f"{found[1]}}}"), top)
-            code = (it for it in lines[top + 1 : end] if not it.lstrip().startswith(("//", "requires", "ensures")))
-            times[found[2]] = times.get(found[2], 0) + 1
-            called[found[2]] = set(re.findall(r"\b(\w+)(?:::<[^>]*>)?\(", "\n".join(code)))
-    only = {it for it, n in times.items() if n == 1}
-    reach = {}
-    for name in only:
-        todo, seen = list(called[name]), set()
-        while todo:
-            it = todo.pop()
-            if it in only and it not in seen:
-                seen.add(it)
-                todo += called[it]
-        reach[name] = seen - {name}
-    return reach
-
-
 class Rounds:
     """Which edits may stand in one check."""
 
-    def __init__(self, crate):
-        self.reach, self.learned = calls_of(crate), {}
+    def __init__(self, reach):
+        self.reach, self.learned = reach, {}
 
     def learn(self, edit):
         """Keeps what a check said that an edited function calls."""
@@ -61,13 +32,8 @@ class Rounds:
 
     def clash(self, one, other):
         """Whether a function of one is that of the other, or reaches it."""
-        bare = lambda it: it.rpartition("::")[2]
-        for a in one.symbols:
-            for b in other.symbols:
-                near = bare(a) in self.reach.get(bare(b), ()) or bare(b) in self.reach.get(bare(a), ())
-                if a == b or near or a in self.learned.get(b, ()) or b in self.learned.get(a, ()):
-                    return True
-        return False
+        reaches = lambda it, of: of in self.reach.get(it, ()) or of in self.learned.get(it, ())
+        return any(a == b or reaches(a, b) or reaches(b, a) for a in one.symbols for b in other.symbols)
 
     def of(self, edits, texts):
         """The edits in rounds, each with the texts that it makes: first those of the functions that
@@ -95,11 +61,11 @@ class Rounds:
 class Trying:
     """A crate's edits that are being tried, in a room of their own."""
 
-    def __init__(self, crate, edits, folder, rlibs, say, log):
+    def __init__(self, crate, edits, reach, folder, rlibs, say, log):
         self.crate, self.edits, self.say, self.log = crate, edits, say, log
         self.room = Room(crate, folder, rlibs)
         self.texts = {path: text for it in edits for path, text in it.texts.items()}
-        self.rounds, self.wholes, self.tried = Rounds(crate), [], set()
+        self.rounds, self.wholes, self.tried = Rounds(reach), [], set()
 
     def run(self):
         began = time.monotonic()
@@ -168,11 +134,12 @@ class Trying:
                 it.verdict, it.said = "UNSOUND", "the crate isn't proved without it"
 
 
-def try_edits(crate, edits, rlibs, say, log):
-    """Tries a crate's edits, and leaves each one's verdict with it: 'refused' is well."""
+def try_edits(crate, edits, reach, rlibs, say, log):
+    """Tries a crate's edits, of whose functions it is known which reach which, and leaves each one's
+    verdict with it: 'refused' is well."""
     temp = tempfile.mkdtemp(prefix=f"try-edits-{crate.name}-")
     try:
         os.mkdir(f"{temp}/crate")
-        Trying(crate, edits, temp, rlibs, say, log).run()
+        Trying(crate, edits, reach, temp, rlibs, say, log).run()
     finally:
         shutil.rmtree(temp, ignore_errors=True)

@@ -18,8 +18,6 @@ mod plan;
 mod run;
 mod status;
 mod tag;
-#[cfg(test)]
-mod tests;
 mod times;
 mod worker;
 mod zipf;

@@ -7,9 +7,12 @@ use Rattle.hcc_cache.specs.declared.client.Client.{Client}
 use Rattle.hcc_cache.specs.declared.config.Config.{Config}
 use Rattle.hcc_cache.specs.declared.tags.AnyBytes.{AnyBytes}
 use Rattle.hcc_cache.specs.Closings.{AreBack}
+use Rattle.hcc_cache.specs.Images.{AreRight, Visible}
 use Rattle.hcc_cache.specs.Opened.{IsOpened}
+use Rattle.hcc_cache.specs.Reopened.{IsReopened}
 use Rattle.hcc_c.specs.declared.pool.Pool.{Pool}
 use Rattle.hcc_c.specs.Pools.{IsBack, IsSized, IsWholePool}
+use Rattle.hcc_c.specs.Sessions.{any}
 
 -- what holds of each member holds of that at an index, and back
 each_at : {A : Type 0} (P : A → Type 0) (xs : List A) → Each P xs
@@ -35,6 +38,24 @@ module _ (config : Config) (tag : AnyBytes) (cache : Cache AnyBytes)
 
   pub is_sized : IsSized cache config
   is_sized = record { geometry = opened.geometry; shards = opened.count }
+
+-- every value fits every key
+pub all_right : (tag : AnyBytes) (es : List Visible) → AreRight any tag es
+all_right tag [] = tt
+all_right tag (e ∷ es) = (tt, all_right tag es)
+
+module _ (config : Config) (tag : AnyBytes) (es : List Visible) (cache : Cache AnyBytes)
+    (clients : List (Client AnyBytes)) (reopened : IsReopened any config tag es cache clients) where
+  -- the clients of a cache that begins with entries are back, too
+  pub all_back_again : Each (IsBack cache config) clients
+  all_back_again = each_of (IsBack cache config) clients (λ k client at. record {
+    known = reopened.known k client at;
+    none = (reopened.started k client at).held;
+    most = (reopened.started k client at).most;
+  })
+
+  pub is_sized_again : IsSized cache config
+  is_sized_again = record { geometry = reopened.geometry; shards = reopened.count }
 
 -- A cache whose clients are all back may be closed.
 pub are_back : (pool : Pool) → IsWholePool pool

@@ -11,10 +11,10 @@ use Rattle.hcc_cache.specs.declared.inserting.Inserted.{Inserted}
 use Rattle.hcc_c.specs.declared.inserting.Unfit.{Unfit}
 use Rattle.hcc_c.specs.declared.refusal.Refusal.{Refusal}
 use Rattle.hcc_c.specs.declared.refusal.Refusal.TheVariants.{NoHandle, TooShort}
+use Rattle.hcc_c.specs.declared.shapes.Entry.{Entry}
 use Rattle.hcc_c.specs.declared.shapes.Key.{Key}
 use Rattle.hcc_c.specs.declared.session.Session.{Session}
 use Rattle.hcc_c.specs.declared.shapes.Number.{Number}
-use Rattle.hcc_c.specs.declared.shapes.Totals.{Totals}
 use Rattle.hcc_c.specs.Refusals.{code_of, inserted_code, inserting_of, looking_of, opening_of, unfit_of}
 use Rattle.hcc_c.specs.Shapes.{words_of}
 
@@ -115,14 +115,43 @@ module _ {A : Type 0} where
   status_of_given (Ok given) = 0
   status_of_given (Err why) = code_of why
 
+  abbrev pub given_or : Result A Refusal → A → A
+  given_or (Ok given) old = given
+  given_or (Err why) old = old
+
   -- what the place has then for which it was asked
   abbrev pub placed : Result (Box A Global) Refusal → Option A
   placed (Ok given) = Some given.value
   placed (Err why) = None
 
-abbrev pub totals_or : Result Totals Refusal → Totals → Totals
-totals_or (Ok totals) old = totals
-totals_or (Err why) old = old
+  -- the same where a number comes with it, and that number
+  abbrev pub placed_beside : Result (Box A Global × ℕ) Refusal → Option A
+  placed_beside (Ok made) = Some made.0.value
+  placed_beside (Err why) = None
+
+  abbrev pub beside_or : Result (Box A Global × ℕ) Refusal → ℕ → ℕ
+  beside_or (Ok made) old = made.1
+  beside_or (Err why) old = old
+
+-- an entry of a closed cache
+abbrev pub status_of_left : Result (Option Entry) Refusal → ℕ
+status_of_left (Ok None) = 1
+status_of_left (Ok (Some entry)) = 0
+status_of_left (Err why) = code_of why
+
+abbrev pub entry_or : Result (Option Entry) Refusal → Entry → Entry
+entry_or (Ok None) old = old
+entry_or (Ok (Some entry)) old = entry
+entry_or (Err why) old = old
+
+-- and its value
+abbrev pub status_of_copied : Result Got Refusal → ℕ
+status_of_copied (Ok got) = status_of_got got
+status_of_copied (Err why) = code_of why
+
+abbrev pub length_copied : Result Got Refusal → ℕ → ℕ
+length_copied (Ok got) old = length_got got old
+length_copied (Err why) old = old
 
 -- a client that is given back
 abbrev pub status_of_back : Result (Unit {0}) (Refusal × Box Session Global) → ℕ

@@ -23,13 +23,19 @@ use Rattle.hcc_cache.specs.Totals.{LoadsEachOccupancy, LoadsEachUsage, LoadsUsag
 use Rattle.hcc_c.specs.declared.inserting.Unfit.{Unfit}
 use Rattle.hcc_c.specs.declared.inserting.Unfit.TheVariants as reason
 use Rattle.hcc_c.specs.declared.session.Session.{Session}
+use Rattle.hcc_c.specs.declared.shapes.Counts.{Counts}
 use Rattle.hcc_c.specs.declared.shapes.Number.{Number}
+use Rattle.hcc_c.specs.Counts.{counted_get, counted_insert, counted_look, counted_pinned}
 use Rattle.hcc_c.specs.Sessions.{IsHandle, IsNone, any, judged}
 use Rattle.hcc_c.specs.Shapes.{number_of}
 
 -- Nothing of the session changed but its client.
 abbrev pub KeepsRest : (old new : Session) → Type 0
 KeepsRest old new = new ≡ record old { client = new.client }
+
+-- Nor did anything else change but these counts.
+abbrev pub KeepsCounting : Counts → (old new : Session) → Type 0
+KeepsCounting counts old new = new ≡ record old { client = new.client; counts = counts }
 
 -- A look-up for a key.
 pub record LooksUp (key : Key) (answer : Result (Option Number) LookupError) (old new : Session)
@@ -43,7 +49,7 @@ pub record LooksUp (key : Key) (answer : Result (Option Number) LookupError) (ol
       × (number ≡ number_of old.home handle)))
   pub missed : IfOk answer (λ o. IfNone o (Misses (arc_value old.cache) key old.client
       new.client))
-  pub rest : KeepsRest old new
+  pub rest : KeepsCounting (counted_look answer old.counts) old new
   pub steps : TakesAtMost (7 * (arc_value old.cache).geometry.slots) old.client new.client
 
 -- One handle more on the entry of the handle of this number; none where it is that of none.
@@ -110,7 +116,7 @@ module _ (key : Key) (charge : ℕ) (priority : Priority) (value : List ℕ) whe
         × ((arc_value old.cache).capacity < charge)))
     pub inserted : IfOk answer (λ a.
         Inserts (arc_value old.cache) key charge priority value a old.client new.client)
-    pub rest : KeepsRest old new
+    pub rest : KeepsCounting (counted_insert answer old.counts) old new
     pub steps : InsertsWithin old new
 
   -- An insertion with a handle.
@@ -134,7 +140,7 @@ module _ (key : Key) (charge : ℕ) (priority : Priority) (value : List ℕ) whe
         × (made.0 ≡ number_of old.home handle))
         (λ why. RefusesWith (arc_value old.cache) key charge priority value why
         old.client new.client))
-    pub rest : KeepsRest old new
+    pub rest : KeepsCounting (counted_pinned answer old.counts) old new
     pub steps : InsertsWithin old new
 
 -- The key of the handle of this number is told; none where it is that of none.
@@ -181,7 +187,7 @@ pub record GetsValue (key : Key) (useful : Bool) (answer : Got) (before after : 
   pub gets : GetsAt (arc_value old.cache) any key useful answer before after old.client new.client
   pub keeps : KeepsAll (arc_value old.cache) old.client new.client
   pub seeks : SeeksAt (shard_in (arc_value old.cache) key) old.client new.client
-  pub rest : KeepsRest old new
+  pub rest : KeepsCounting (counted_get answer old.counts) old new
   pub steps : TakesFor (arc_value old.cache) 7 (λ v w. (arc_value old.cache).geometry.room + 2)
       (shard_in (arc_value old.cache) key) old.client new.client
 

@@ -1,8 +1,11 @@
 pub mod Shapes
 pub mod Refusals
+pub mod Counts
 pub mod Sessions
 pub mod Calls
+pub mod Left
 pub mod Pools
+pub mod Images
 pub mod Lending
 pub mod Places
 pub mod Answers

@@ -11,16 +11,17 @@ use Rattle.hcc_cache.specs.declared.tags.AnyBytes.{AnyBytes}
 use Rattle.hcc_cache.specs.Clients.{held_by}
 use Rattle.hcc_cache.specs.Configs.{checked, shard_geometry}
 use Rattle.hcc_cache.specs.Known.{Knows}
-use Rattle.hcc_shard.specs.Left.{charges_left, slots_left}
-use Rattle.hcc_cache.specs.Left.{over_shards}
 use Rattle.hcc_cache.specs.Closings.{AreBack, IsClosed}
 use Rattle.hcc_cache.specs.Opened.{IsOpened}
+use Rattle.hcc_c.specs.declared.closed.Left.{Left}
 use Rattle.hcc_c.specs.declared.refusal.Refusal.{Refusal}
 use Rattle.hcc_c.specs.declared.refusal.Refusal.TheVariants.{HandlesOut, Missing, NoClient, OtherCache, OutOfMemory}
 use Rattle.hcc_c.specs.declared.shapes.Totals.{Totals}
 use Rattle.hcc_c.specs.declared.pool.Pool.{Pool}
 use Rattle.hcc_c.specs.declared.pool.Rack.{Rack}
 use Rattle.hcc_c.specs.declared.session.Session.{Session}
+use Rattle.hcc_c.specs.Counts.{no_counts}
+use Rattle.hcc_c.specs.Left.{totals_of}
 use Rattle.hcc_c.specs.Refusals.{opening_of}
 use Rattle.hcc_c.specs.Sessions.{IsWhole, any}
 
@@ -61,15 +62,6 @@ judged_back number session =
     if session.home == number
     then (if held_by session.client == 0 then Ok tt else Err HandlesOut)
     else Err OtherCache
-
--- what the closed cache tells: the sums over its entries, twice
-abbrev pub totals_of : Closed → Totals
-totals_of closed = record {
-  usage = over_shards closed.shards.items (λ left. charges_left left.table);
-  occupied = over_shards closed.shards.items (λ left. slots_left left.table);
-  slot_charges = over_shards closed.shards.items (λ left. charges_left left.table);
-  slot_count = over_shards closed.shards.items (λ left. slots_left left.table);
-}
 
 -- Of caches that C has.
 
@@ -113,6 +105,7 @@ pub record GivesOut (session : Session) (old new : Pool) : Type 0 where
   pub last : old.back.items ≡ new.back.items ++ session.client ∷ []
   pub cache : arc_value session.cache ≡ arc_value old.cache
   pub home_is : session.home ≡ old.number
+  pub counts : session.counts ≡ no_counts
   pub rest : new ≡ record old { back = new.back }
 
 -- the session is one of this cache's
@@ -138,12 +131,10 @@ abbrev pub AreOut : Option Pool → Type 0
 AreOut None = Unit {0}
 AreOut (Some pool) = length pool.back.items < pool.config.clients
 
--- the cache was closed by all its clients, and told this
-pub record Closes (totals : Totals) (pool : Pool) : Type 0 where
-  pub closed : Closed
+-- the cache was closed by all its clients, and this was left of it
+pub record Closes (closed : Closed) (pool : Pool) : Type 0 where
   pub back : AreBack (arc_value pool.cache) pool.back.items
   pub closes : IsClosed any (arc_value pool.cache) pool.back.items closed
-  pub told : totals ≡ totals_of closed
 
 -- What each call of a cache comes to: what it answers, and what it leaves.
 
@@ -173,9 +164,21 @@ pub record TakesIn (session : Box Session Global)
   pub nothing : IfErr answer (λ e. IsSameRack old new × (e.1 ≡ session))
   pub back : OnOk answer (IfBoth old.pool new.pool (TakesBack session.value))
 
--- A cache is closed.
-pub record EndsAs (answer : Result Totals Refusal) (old new : Rack) : Type 0 where
+-- A cache ends, which gives this of what is left of it; one that is refused stays.
+pub record Ends {A : Type 0} (IsOf : A → Closed → Type 0) (answer : Result A Refusal)
+    (old new : Rack) : Type 0 where
   pub out : AreOut old.pool → answer ≡ Err Missing
   pub missing : IfErr answer (λ e. (e ≡ Missing) × (new ≡ old))
-  pub closed : IfOk answer (λ totals. IfOpen old.pool (Closes totals))
+  pub closed : IfOk answer (λ given. (left : Closed) × IfOpen old.pool (Closes left)
+      × IsOf given left)
   pub gone : OnOk answer (new.pool ≡ None)
+
+-- It tells what is left in sum.
+abbrev pub EndsAs : Result Totals Refusal → (old new : Rack) → Type 0
+EndsAs = Ends (λ totals left. totals ≡ totals_of left)
+
+-- What is left of it is kept, in place of what was there.
+pub record EndsKept (answer : Result (Unit {0}) Refusal) (old new : Rack) (was is : Left)
+    : Type 0 where
+  pub ends : Ends (λ _ left. is.closed ≡ Some left) answer old new
+  pub stays : OnErr answer (is ≡ was)

@@ -1,10 +1,13 @@
 -- The cache's values of what crosses to C.
 use Rattle.std.specs.Prelude.{ℕ}
+use Rattle.hcc_word.specs.Word.{hit_of, is_visible, releases_of}
 use Rattle.hcc_rule.specs.declared.key.Key.{Key as CacheKey}
+use Rattle.hcc_shard.specs.declared.entries.ClosedEntry.{ClosedEntry}
 use Rattle.hcc_shard.specs.declared.seat.Stats.{Stats as CacheStats}
 use Rattle.hcc_cache.specs.declared.config.Config.{Config}
 use Rattle.hcc_cache.specs.declared.handle.Handle.{Handle}
 use Rattle.hcc_cache.specs.declared.handle.Numbers.{Numbers}
+use Rattle.hcc_c.specs.declared.shapes.Entry.{Entry}
 use Rattle.hcc_c.specs.declared.shapes.Key.{Key}
 use Rattle.hcc_c.specs.declared.shapes.Number.{Number}
 use Rattle.hcc_c.specs.declared.shapes.Setup.{Setup}
@@ -52,4 +55,15 @@ stats_of stats = record {
   turns = stats.turns;
   corrections = stats.corrections;
   lost = stats.lost;
+}
+
+-- an entry of a closed cache, with the fields of its word
+abbrev pub entry_of : ClosedEntry → Entry
+entry_of left = record {
+  key = words_of left.key;
+  length = left.len;
+  charge = left.charge;
+  uses = releases_of left.word;
+  visible = is_visible left.word;
+  hit = hit_of left.word;
 }

@@ -1,13 +1,15 @@
 //! How a call's result reaches C: by a status, and by outputs that stay if it is refused.
 ghost use Rattle.std.specs.Prelude.{◌≡◌, None};
-ghost use Rattle.hcc_c.specs.Answers.{handle_of_pinned, inserted_of, inserted_of_pinned, kept_of, key_or, length_got, length_of, more_of, number_of, placed, status_of, status_of_back, status_of_given, status_of_got, status_of_insert, status_of_look, status_of_pinned, status_of_read, status_of_reref, totals_or, value_or};
+ghost use Rattle.hcc_c.specs.Answers.{beside_or, entry_or, given_or, handle_of_pinned, inserted_of, inserted_of_pinned, kept_of, key_or, length_copied, length_got, length_of, more_of, number_of, placed, placed_beside, status_of, status_of_back, status_of_copied, status_of_given, status_of_got, status_of_insert, status_of_left, status_of_look, status_of_pinned, status_of_read, status_of_reref, value_or};
 
+use crate::closed::Left;
+use crate::image::Image;
 use crate::inserting::Unfit;
-use crate::objects::{CachePlace, ClientPlace, Loose};
+use crate::objects::{CachePlace, ClientPlace, ClosedPlace, ImagePlace, Loose};
 use crate::pool::Rack;
 use crate::refusal::{Refusal, inserted_code};
 use crate::session::Session;
-use crate::shapes::{Key, Number, Totals};
+use crate::shapes::{Entry, Key, Number};
 use hcc_cache::{Got, InsertError, Inserted, LookupError};
 
 /// The answers that are no refusals.
@@ -163,6 +165,26 @@ pub(crate) fn told_cache(answer: Result<Box<Rack>, Refusal>, cache: &mut CachePl
     }
 }
 
+/// Gives C a cache that begins with entries, and how many are left out, or why there is none.
+pub(crate) fn told_reopened(
+    answer: Result<(Box<Rack>, usize), Refusal>,
+    cache: &mut CachePlace,
+    left_out: &mut usize,
+) -> u32
+    requires { cache.old.value ≡ None }
+    ensures status { result ≡ status_of_given answer }
+    ensures place { cache.new.value ≡ placed_beside answer }
+    ensures left_out { left_out.new ≡ beside_or answer left_out.old }
+{
+    match answer {
+        Ok((rack, count)) => {
+            *left_out = count;
+            told_cache(Ok(rack), cache)
+        }
+        Err(why) => why.code(),
+    }
+}
+
 /// Gives C a client by the place that it has, or why there is none.
 pub(crate) fn told_client(answer: Result<Box<Session>, Refusal>, client: &mut ClientPlace) -> u32
     requires { client.old.value ≡ None }
@@ -193,16 +215,82 @@ pub(crate) fn told_back(answer: Result<(), (Refusal, Box<Session>)>, kept: &mut 
     }
 }
 
-/// Gives C what was left of a cache, or why it isn't closed.
-pub(crate) fn told_totals(answer: Result<Totals, Refusal>, totals: &mut Totals) -> u32
+/// Gives C a place for what is left of a cache, or why there is none.
+pub(crate) fn told_room(answer: Result<Box<Left>, Refusal>, closed: &mut ClosedPlace) -> u32
+    requires { closed.old.value ≡ None }
     ensures status { result ≡ status_of_given answer }
-    ensures totals { totals.new ≡ totals_or answer totals.old }
+    ensures place { closed.new.value ≡ placed answer }
 {
     match answer {
         Ok(left) => {
-            *totals = left;
+            *closed = ClosedPlace::of(Loose::of(left));
             DONE
         }
+        Err(why) => why.code(),
+    }
+}
+
+/// Gives C a place for entries, or why there is none.
+pub(crate) fn told_image(answer: Result<Box<Image>, Refusal>, image: &mut ImagePlace) -> u32
+    requires { image.old.value ≡ None }
+    ensures status { result ≡ status_of_given answer }
+    ensures place { image.new.value ≡ placed answer }
+{
+    match answer {
+        Ok(made) => {
+            *image = ImagePlace::of(Loose::of(made));
+            DONE
+        }
+        Err(why) => why.code(),
+    }
+}
+
+/// Reports to C that it is done, or why it isn't.
+pub(crate) fn told_done(answer: Result<(), Refusal>) -> u32
+    ensures { result ≡ status_of_given answer }
+{
+    match answer {
+        Ok(_) => DONE,
+        Err(why) => why.code(),
+    }
+}
+
+/// Gives C what is told of a closed cache, or why it isn't.
+pub(crate) fn told_given<T: Copy>(answer: Result<T, Refusal>, out: &mut T) -> u32
+    ensures status { result ≡ status_of_given answer }
+    ensures value { out.new ≡ given_or answer out.old }
+{
+    match answer {
+        Ok(given) => {
+            *out = given;
+            DONE
+        }
+        Err(why) => why.code(),
+    }
+}
+
+/// Gives C the entry of a slot of a closed cache, or why there is none.
+pub(crate) fn told_left(answer: Result<Option<Entry>, Refusal>, entry: &mut Entry) -> u32
+    ensures status { result ≡ status_of_left answer }
+    ensures entry { entry.new ≡ entry_or answer entry.old }
+{
+    match answer {
+        Ok(Some(left)) => {
+            *entry = left;
+            DONE
+        }
+        Ok(_) => MISSED,
+        Err(why) => why.code(),
+    }
+}
+
+/// Gives C what came of reading the value of a slot's entry.
+pub(crate) fn told_copied(answer: Result<Got, Refusal>, length: &mut usize) -> u32
+    ensures status { result ≡ status_of_copied answer }
+    ensures length { length.new ≡ length_copied answer length.old }
+{
+    match answer {
+        Ok(got) => told_got(got, length),
         Err(why) => why.code(),
     }
 }

@@ -2,13 +2,13 @@
 //! the cache behind the pointer answered, and comes to what that call comes to.
 ghost use Rattle.std.specs.Prelude.{◌≡◌, None, Some, OnErr, OnOk};
 ghost use Rattle.hcc_cache.specs.Configs.{checked};
-ghost use Rattle.hcc_c.specs.Answers.{kept_of, placed, status_of_back, status_of_checked, status_of_given, totals_or};
+ghost use Rattle.hcc_c.specs.Answers.{kept_of, placed, status_of_back, status_of_checked, status_of_given, given_or};
 ghost use Rattle.hcc_c.specs.Lending.{IsCacheThere};
 ghost use Rattle.hcc_c.specs.Pools.{EndsAs, IsHome, IsWholeRack, OpensAs, TakesIn, TakesOut};
 ghost use Rattle.hcc_c.specs.Sessions.{IsWhole};
 ghost use Rattle.hcc_c.specs.Shapes.{config_of};
 
-use crate::answers::{DONE, told_back, told_cache, told_client, told_totals};
+use crate::answers::{DONE, told_back, told_cache, told_client, told_given};
 use crate::objects::{CacheObject, CachePlace, ClientObject, ClientPlace, Loose};
 use crate::pool::Rack;
 use crate::refusal::Refusal;
@@ -93,7 +93,7 @@ pub extern "C" fn ferretgold_raw_close(
     requires cache { IsWholeRack cache.value }
     requires kept { kept.old.value ≡ None }
     ensures ends { (answer : _) × (left : _) × EndsAs answer cache.value left
-        × (result ≡ status_of_given answer) × (totals.new ≡ totals_or answer totals.old)
+        × (result ≡ status_of_given answer) × (totals.new ≡ given_or answer totals.old)
         × OnErr answer (kept.new.value ≡ Some cache.value)
         × OnOk answer (kept.new.value ≡ None) }
 {
@@ -102,5 +102,5 @@ pub extern "C" fn ferretgold_raw_close(
     if answer.is_err() {
         *kept = CachePlace::of(Loose::of(cache));
     }
-    told_totals(answer, totals)
+    told_given(answer, totals)
 }

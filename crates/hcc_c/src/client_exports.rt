@@ -15,7 +15,7 @@ use crate::answers::{
 };
 use crate::objects::ClientObject;
 use crate::refusal::{Refusal, priority_of};
-use crate::shapes::{Key, Number, Stats};
+use crate::shapes::{Counts, Key, Number, Stats};
 use std::alloc::Global;
 
 #[unsafe(no_mangle)]
@@ -339,4 +339,13 @@ pub extern "C" fn ferretgold_raw_stats(client: &mut ClientObject, stats: &mut St
     ensures stats { stats.new ≡ stats_of (stats_over no_stats client.old.value.client.seats.items) }
 {
     *stats = client.session().stats();
+}
+
+#[unsafe(no_mangle)]
+pub extern "C" fn ferretgold_raw_counts(client: &mut ClientObject, counts: &mut Counts)
+    ensures there { IsThere client.old client.new }
+    ensures same { client.new.value ≡ client.old.value }
+    ensures counts { counts.new ≡ client.old.value.counts }
+{
+    *counts = client.session().counts();
 }

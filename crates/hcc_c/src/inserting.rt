@@ -34,10 +34,11 @@ impl Session {
         ensures puts { Puts key charge priority value.now result self.old self.new }
     {
         judge(self.cache.room(), value.len(), charge)?;
-        Ok(
-            self.cache
-                .insert(&mut self.client, key, value, charge, priority),
-        )
+        let answer = self
+            .cache
+            .insert(&mut self.client, key, value, charge, priority);
+        self.counts.insert(answer);
+        Ok(answer)
     }
 
     /// The same with a handle on what was inserted, which is given by its numbers. Memory is
@@ -61,10 +62,12 @@ impl Session {
         let answer = self
             .cache
             .insert_pinned(&mut self.client, key, copy, charge, priority);
-        match answer {
-            Ok((handle, inserted)) => Ok(Ok((Number::of(self.home, handle), inserted))),
-            Err((why, _)) => Ok(Err(why)),
-        }
+        let told = match answer {
+            Ok((handle, inserted)) => Ok((Number::of(self.home, handle), inserted)),
+            Err((why, _)) => Err(why),
+        };
+        self.counts.insert_pinned(told);
+        Ok(told)
     }
 }
 

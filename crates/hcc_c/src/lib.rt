@@ -8,16 +8,24 @@
 mod answers;
 mod cache_exports;
 mod client_exports;
+mod closed;
+mod closed_exports;
+mod image;
+mod image_exports;
 mod inserting;
 mod objects;
 mod pool;
 mod reading;
 mod referring;
 mod refusal;
+mod reopening;
 mod session;
 mod shapes;
 mod totals;
 
-pub use objects::{CacheObject, CachePlace, ClientObject, ClientPlace, objects_cross};
+pub use objects::{
+    CacheObject, CachePlace, ClientObject, ClientPlace, ClosedObject, ClosedPlace, ImageObject,
+    ImagePlace, objects_cross,
+};
 pub use refusal::Refusal;
-pub use shapes::{Key, Number, Setup, Stats, Totals};
+pub use shapes::{Counts, Entry, Key, Number, Setup, Stats, Totals};

@@ -4,12 +4,18 @@ ghost use Rattle.std.specs.Borrow.{sem};
 ghost use Rattle.std_alloc.specs.Box.Ownership.{box_owns};
 ghost use Rattle.std_heap.specs.contracts.GlobalAllocator.TheImpl as heap;
 ghost use Rattle.std.specs.Global.{Global};
+ghost use Rattle.hcc_c.specs.declared.closed.Left.{Left};
+ghost use Rattle.hcc_c.specs.declared.image.Image.{Image};
 ghost use Rattle.hcc_c.specs.declared.pool.Rack.{Rack};
 ghost use Rattle.hcc_c.specs.declared.session.Session.{Session};
+ghost use Rattle.hcc_c.specs.contracts.closed.Left.{the_row as left_row};
+ghost use Rattle.hcc_c.specs.contracts.image.Image.{the_row as image_row};
 ghost use Rattle.hcc_c.specs.contracts.pool.Rack.{the_row as rack_row};
 ghost use Rattle.hcc_c.specs.contracts.session.Session.{the_row as session_row};
 ghost use Rattle.hcc_c.specs.Places.{owns_if};
 
+use crate::closed::Left;
+use crate::image::Image;
 use crate::pool::Rack;
 use crate::session::Session;
 use std::alloc::Global;
@@ -85,6 +91,72 @@ impl CacheObject {
 
 unsafe impl Send for CacheObject {}
 
+/// What is left of a cache, behind a pointer. It stays on the thread that closed the cache.
+#[repr(C)]
+pub struct ClosedObject {
+    at: *mut u8,
+    ghost alloc: { Global },
+    ghost value: { Left },
+}
+
+impl Model for ClosedObject {
+    ghost also_owns = { λ o.
+        box_owns (heap.ghosts.dealloc_token o.alloc) left_row o.at o.value };
+}
+
+impl ClosedObject {
+    ghost use Rattle.hcc_c.specs.Lending.{LendsLeft};
+
+    /// What is behind the pointer, for one call.
+    pub(crate) fn left(&mut self) -> &mut Left
+        ensures* lends { sem 𝓛 (LendsLeft self.entry result) }
+        ensures value { result.now ≡ self.old.value }
+    {
+        unsafe { &mut *(self.at as *mut Left) }
+    }
+
+    /// What is left itself, which C has no more.
+    pub(crate) fn whole(self, alloc: Global) -> Box<Left>
+        ensures { result.value ≡ self.value }
+    {
+        let ClosedObject { at } = self;
+        unsafe { Box::from_raw(alloc, at as *mut Left) }
+    }
+}
+
+/// Entries behind a pointer. They stay on the thread that opened them.
+#[repr(C)]
+pub struct ImageObject {
+    at: *mut u8,
+    ghost alloc: { Global },
+    ghost value: { Image },
+}
+
+impl Model for ImageObject {
+    ghost also_owns = { λ o.
+        box_owns (heap.ghosts.dealloc_token o.alloc) image_row o.at o.value };
+}
+
+impl ImageObject {
+    ghost use Rattle.hcc_c.specs.Lending.{LendsImage};
+
+    /// The entries behind the pointer, for one call.
+    pub(crate) fn image(&mut self) -> &mut Image
+        ensures* lends { sem 𝓛 (LendsImage self.entry result) }
+        ensures value { result.now ≡ self.old.value }
+    {
+        unsafe { &mut *(self.at as *mut Image) }
+    }
+
+    /// The entries themselves, which C has no more.
+    pub(crate) fn whole(self, alloc: Global) -> Box<Image>
+        ensures { result.value ≡ self.value }
+    {
+        let ImageObject { at } = self;
+        unsafe { Box::from_raw(alloc, at as *mut Image) }
+    }
+}
+
 /// A box as its pointer.
 pub(crate) struct Loose<T> {
     at: *mut T,
@@ -150,6 +222,52 @@ impl CachePlace {
     {
         let Loose { at } = cache;
         CachePlace { at: at as *mut u8 }
+    }
+}
+
+/// The same for what is left of one.
+#[repr(C)]
+#[derive(Drop)]
+pub struct ClosedPlace {
+    at: *mut u8,
+    ghost alloc: { Global },
+    ghost value: { Option Left },
+}
+
+impl Model for ClosedPlace {
+    ghost also_owns = { λ p.
+        owns_if (heap.ghosts.dealloc_token p.alloc) left_row p.at p.value };
+}
+
+impl ClosedPlace {
+    pub(crate) fn of(left: Loose<Left>) -> ClosedPlace
+        ensures { result.value ≡ Some left.value }
+    {
+        let Loose { at } = left;
+        ClosedPlace { at: at as *mut u8 }
+    }
+}
+
+/// The same for entries.
+#[repr(C)]
+#[derive(Drop)]
+pub struct ImagePlace {
+    at: *mut u8,
+    ghost alloc: { Global },
+    ghost value: { Option Image },
+}
+
+impl Model for ImagePlace {
+    ghost also_owns = { λ p.
+        owns_if (heap.ghosts.dealloc_token p.alloc) image_row p.at p.value };
+}
+
+impl ImagePlace {
+    pub(crate) fn of(image: Loose<Image>) -> ImagePlace
+        ensures { result.value ≡ Some image.value }
+    {
+        let Loose { at } = image;
+        ImagePlace { at: at as *mut u8 }
     }
 }
 

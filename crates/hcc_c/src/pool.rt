@@ -1,13 +1,14 @@
 //! A cache in the hands of C, with the clients that it has back.
-ghost use Rattle.std.specs.Prelude.{◌≡◌, ◌<◌, ◌≤◌, Err, IfOk, IfErr, OnOk, OnErr, IsOkUnless, length};
+ghost use Rattle.std.specs.Prelude.{◌≡◌, ◌<◌, ◌≤◌, None, Err, IfOk, IfErr, OnOk, OnErr, IsOkUnless, length};
 ghost use Rattle.hcc_cache.specs.Closings.{AreBack, IsClosed};
 ghost use Rattle.hcc_cache.specs.Configs.{checked};
-ghost use Rattle.hcc_c.specs.Pools.{Closes, EndsAs, GivesOut, HasBack, IsHome, IsOf, IsWholePool, IsWholeRack, Opens, OpensAs, TakesBack, TakesIn, TakesOut, judged_back, totals_of};
+ghost use Rattle.hcc_c.specs.Pools.{AreOut, Closes, EndsAs, EndsKept, GivesOut, HasBack, IfOpen, IsHome, IsOf, IsWholePool, IsWholeRack, Opens, OpensAs, TakesBack, TakesIn, TakesOut, judged_back};
 ghost use Rattle.hcc_c.specs.Sessions.{IsWhole, any};
 
+use crate::closed::{Left, totals};
 use crate::refusal::Refusal;
 use crate::session::Session;
-use crate::shapes::Totals;
+use crate::shapes::{Counts, Totals};
 use hcc_cache::{AnyBytes, Cache, Client, Closed, Config, NewError};
 use std::alloc::Global;
 use std::sync::Arc;
@@ -69,6 +70,7 @@ impl Pool {
             home: self.number,
             shards: self.config.shards,
             slots: self.config.slots,
+            counts: Counts::none(),
         };
         match Box::new(alloc, session) {
             Ok(session) => Ok(session),
@@ -113,11 +115,11 @@ impl Pool {
     }
 
     /// Ends the cache, once all its clients are back. Else it is handed back as it was.
-    pub fn close(self) -> Result<Totals, Pool>
+    pub fn close(self) -> Result<Closed, Pool>
         requires { IsWholePool self }
         ensures out { length self.back.items < self.config.clients → result ≡ Err self }
         ensures back { IfErr result (λ pool. pool ≡ self) }
-        ensures closed { IfOk result (λ totals. Closes totals self) }
+        ensures closed { IfOk result (λ closed. Closes closed self) }
     {
         if self.back.len() < self.config.clients as usize {
             return Err(self);
@@ -129,7 +131,7 @@ impl Pool {
             number,
         } = self;
         match Arc::try_unwrap(cache) {
-            Ok(cache) => Ok(totals(&closed(cache, back))),
+            Ok(cache) => Ok(closed(cache, back)),
             Err(cache) => Err(Pool {
                 cache,
                 back,
@@ -148,18 +150,6 @@ fn closed(cache: Cache<AnyBytes>, back: Vec<Client<AnyBytes>>) -> Closed
     match cache.close(back) {
         Ok(closed) => closed,
         Err(_) => unreachable!(),
-    }
-}
-
-/// What is read of a closed cache.
-fn totals(closed: &Closed) -> Totals
-    ensures { result ≡ totals_of closed.now }
-{
-    Totals {
-        usage: closed.usage(),
-        occupied: closed.occupied(),
-        slot_charges: closed.slot_charges(),
-        slot_count: closed.slot_count(),
     }
 }
 
@@ -210,17 +200,42 @@ impl Rack {
         }
     }
 
-    /// Ends the cache, as its pool does; else nothing is changed.
+    /// Ends the cache, as its pool does, and tells what is left of it in sum; else nothing is
+    /// changed.
     pub fn close(&mut self) -> Result<Totals, Refusal>
         requires { IsWholeRack self.old }
         ensures whole { IsWholeRack self.new }
         ensures ends { EndsAs result self.old self.new }
     {
+        let closed = self.end()?;
+        Ok(totals(&closed))
+    }
+
+    /// The same, and what is left of it is kept.
+    pub fn close_keeping(&mut self, left: &mut Left) -> Result<(), Refusal>
+        requires { IsWholeRack self.old }
+        ensures whole { IsWholeRack self.new }
+        ensures ends { EndsKept result self.old self.new left.old left.new }
+    {
+        let closed = self.end()?;
+        left.closed = Some(closed);
+        Ok(())
+    }
+
+    /// Ends the cache, as its pool does.
+    fn end(&mut self) -> Result<Closed, Refusal>
+        requires { IsWholeRack self.old }
+        ensures whole { IsWholeRack self.new }
+        ensures out { AreOut self.old.pool → result ≡ Err Refusal.Missing }
+        ensures missing { IfErr result (λ e. (e ≡ Refusal.Missing) × (self.new ≡ self.old)) }
+        ensures closed { IfOk result (λ left. IfOpen self.old.pool (Closes left)) }
+        ensures gone { OnOk result (self.new.pool ≡ None) }
+    {
         let Some(pool) = self.pool.take() else {
             return Err(Refusal::Missing);
         };
         match pool.close() {
-            Ok(totals) => Ok(totals),
+            Ok(closed) => Ok(closed),
             Err(pool) => {
                 self.pool = Some(pool);
                 Err(Refusal::Missing)

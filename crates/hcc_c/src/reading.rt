@@ -49,6 +49,8 @@ impl Session {
         ensures whole { IsWhole self.new }
         ensures gets { GetsValue key useful result buffer.old buffer.new self.old self.new }
     {
-        self.cache.get(&mut self.client, key, buffer, useful)
+        let got = self.cache.get(&mut self.client, key, buffer, useful);
+        self.counts.get(got);
+        got
     }
 }

@@ -15,8 +15,14 @@ impl Session {
         ensures looks { LooksUp key result self.old self.new }
     {
         match self.cache.lookup(&mut self.client, key)? {
-            Some(handle) => Ok(Some(Number::of(self.home, handle))),
-            None => Ok(None),
+            Some(handle) => {
+                self.counts.hit();
+                Ok(Some(Number::of(self.home, handle)))
+            }
+            None => {
+                self.counts.miss();
+                Ok(None)
+            }
         }
     }
 

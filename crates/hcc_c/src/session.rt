@@ -2,7 +2,7 @@
 ghost use Rattle.std.specs.Prelude.{◌≡◌, IfNone, IfSome};
 ghost use Rattle.hcc_c.specs.Shapes.{numbers_in};
 
-use crate::shapes::Number;
+use crate::shapes::{Counts, Number};
 use hcc_cache::{AnyBytes, Cache, Client, Numbers};
 use std::alloc::Global;
 use std::sync::Arc;
@@ -17,6 +17,8 @@ pub struct Session {
     /// How many shards the cache has, and how many slots each of them.
     pub(crate) shards: u32,
     pub(crate) slots: u32,
+    /// What its look-ups and insertions came to.
+    pub(crate) counts: Counts,
 }
 
 impl Session {

@@ -1,8 +1,11 @@
 //! What crosses to C by value or by reference, in C's layout.
-ghost use Rattle.std.specs.Prelude.{◌≡◌};
-ghost use Rattle.hcc_c.specs.Shapes.{config_of, key_of, number_of, numbers_in, stats_of, words_of};
+ghost use Rattle.std.specs.Prelude.{◌≡◌, ◌^◌, ◌<◌, Ok};
+ghost use Rattle.hcc_c.specs.Counts.{counted_get, counted_insert, counted_pinned, no_counts, one_hit, one_miss};
+ghost use Rattle.hcc_c.specs.Shapes.{config_of, entry_of, key_of, number_of, numbers_in, stats_of, words_of};
 
-use hcc_cache::{Config, Handle, Numbers};
+use hcc_cache::{ClosedEntry, Config, Got, Handle, InsertError, Inserted, Numbers};
+use hcc_word::layout::VISIBLE;
+use hcc_word::{hit, releases, state};
 use std::mem::size_of;
 
 // The sizes that C has.
@@ -14,7 +17,11 @@ const _: () = prove!(size_of::<Setup>() == 48);
 
 const _: () = prove!(size_of::<Stats>() == 64);
 
+const _: () = prove!(size_of::<Counts>() == 48);
+
 const _: () = prove!(size_of::<Totals>() == 32);
+
+const _: () = prove!(size_of::<Entry>() == 40);
 
 /// A key of 16 bytes, as two words.
 #[derive(Clone, Copy, Debug, PartialEq, Eq)]
@@ -155,6 +162,80 @@ impl Stats {
     }
 }
 
+/// What a client's look-ups and insertions came to. Counts saturate.
+#[derive(Clone, Copy, Debug, PartialEq, Eq)]
+#[repr(C)]
+pub struct Counts {
+    /// Of look-ups and of readings by a key.
+    pub hits: u64,
+    pub misses: u64,
+    /// Of insertions.
+    pub placed: u64,
+    pub dropped: u64,
+    pub standalone: u64,
+    pub refused: u64,
+}
+
+impl Counts {
+    /// None yet.
+    pub(crate) fn none() -> Counts
+        ensures { result ≡ no_counts }
+    {
+        Counts {
+            hits: 0,
+            misses: 0,
+            placed: 0,
+            dropped: 0,
+            standalone: 0,
+            refused: 0,
+        }
+    }
+
+    pub(crate) fn hit(&mut self)
+        ensures { self.new ≡ one_hit self.old }
+    {
+        self.hits = self.hits.saturating_add(1);
+    }
+
+    pub(crate) fn miss(&mut self)
+        ensures { self.new ≡ one_miss self.old }
+    {
+        self.misses = self.misses.saturating_add(1);
+    }
+
+    /// Counts a reading by a key.
+    pub(crate) fn get(&mut self, got: Got)
+        ensures { self.new ≡ counted_get got self.old }
+    {
+        match got {
+            Got::Hit(_) => self.hit(),
+            Got::Miss => self.miss(),
+            Got::Short(_) => (),
+        }
+    }
+
+    /// Counts an insertion, and one with a handle.
+    pub(crate) fn insert(&mut self, answer: Result<Inserted, InsertError>)
+        ensures { self.new ≡ counted_insert (Ok answer) self.old }
+    {
+        match answer {
+            Ok(Inserted::Placed) => self.placed = self.placed.saturating_add(1),
+            Ok(Inserted::Dropped) => self.dropped = self.dropped.saturating_add(1),
+            Ok(Inserted::Standalone) => self.standalone = self.standalone.saturating_add(1),
+            Err(_) => self.refused = self.refused.saturating_add(1),
+        }
+    }
+
+    pub(crate) fn insert_pinned(&mut self, answer: Result<(Number, Inserted), InsertError>)
+        ensures { self.new ≡ counted_pinned (Ok answer) self.old }
+    {
+        match answer {
+            Ok((_, inserted)) => self.insert(Ok(inserted)),
+            Err(why) => self.insert(Err(why)),
+        }
+    }
+}
+
 /// What is left of a cache that was closed: the charges and the number of its entries, by the
 /// ledger words and slot by slot.
 #[derive(Clone, Copy, Debug, PartialEq, Eq)]
@@ -164,4 +245,37 @@ pub struct Totals {
     pub occupied: u64,
     pub slot_charges: u64,
     pub slot_count: u64,
+}
+
+/// An entry that was left of a cache that was closed.
+#[derive(Clone, Copy, Debug, PartialEq, Eq)]
+#[repr(C)]
+pub struct Entry {
+    pub key: Key,
+    /// How many bytes its value has.
+    pub length: usize,
+    pub charge: u32,
+    /// Its countdown.
+    pub uses: u32,
+    /// Whether look-ups found it: it wasn't erased.
+    pub visible: bool,
+    /// Whether a look-up marked it.
+    pub hit: bool,
+}
+
+impl Entry {
+    /// What a slot says of it, with the fields of its word.
+    pub(crate) fn of(left: ClosedEntry) -> Entry
+        requires { left.charge < 2 ^ 32 }
+        ensures { result ≡ entry_of left }
+    {
+        Entry {
+            key: Key::words(left.key),
+            length: left.len as usize,
+            charge: left.charge as u32,
+            uses: releases(left.word),
+            visible: state(left.word) == VISIBLE,
+            hit: hit(left.word),
+        }
+    }
 }

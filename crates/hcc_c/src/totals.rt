@@ -7,7 +7,7 @@ ghost use Rattle.hcc_c.specs.Sessions.{IsHandle, IsNone, IsWhole};
 ghost use Rattle.hcc_c.specs.Shapes.{stats_of};
 
 use crate::session::Session;
-use crate::shapes::{Number, Stats};
+use crate::shapes::{Counts, Number, Stats};
 
 impl Session {
     /// What is charged in all shards.
@@ -101,5 +101,12 @@ impl Session {
         ensures { result ≡ stats_of (stats_over no_stats self.now.client.seats.items) }
     {
         Stats::counts(self.client.stats())
+    }
+
+    /// What its look-ups and insertions came to.
+    pub fn counts(&self) -> Counts
+        ensures { result ≡ self.now.counts }
+    {
+        self.counts
     }
 }

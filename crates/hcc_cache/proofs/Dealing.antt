@@ -126,7 +126,7 @@ module _ {T : Type 0} where
   }
 
   -- a client that got a seat did nothing still
-  unused_still : (config : Config) (k : ℕ) (was client : Client T) (seat : ShardSeat (Seeded T))
+  pub unused_still : (config : Config) (k : ℕ) (was client : Client T) (seat : ShardSeat (Seeded T))
       → IsUnused config k was → Gains was seat client → IsUnused config k client
   unused_still config k was client seat unused gains = record {
     number_is = ap (λ (x : Client T). x.number) gains.same ∙ unused.number_is;
@@ -283,7 +283,7 @@ module _ {T : Type 0} where
         → slice_get cache.shards.items s ≡ Some shard → IsConfigured config tag shard
 
   -- its shards are alike
-  made_alike : (config : Config) (tag : T) (cache : Cache T) → IsAllowed config
+  pub made_alike : (config : Config) (tag : T) (cache : Cache T) → IsAllowed config
       → IsMade config tag cache → AreAlike cache
   made_alike config tag cache allowed made = record {
     some = rw made.count allowed.some_shard;

@@ -35,3 +35,9 @@ pub mod Ended
 pub mod Lefts
 pub mod Each
 pub mod Gotten
+pub mod Imaging
+pub mod Placing
+pub mod DraftsFilled
+pub mod Beginning
+pub mod Reopenings
+pub mod Roomy

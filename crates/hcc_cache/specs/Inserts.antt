@@ -1,18 +1,29 @@
 -- What an insertion leaves of a client.
 use Rattle.std.specs.Prelude.{◌≡◌, ℕ, List, Option, Some, None, Result, Ok, Err}
+use Rattle.std.specs.declared.alloc.Global.{Global}
 use Rattle.hcc_rule.specs.declared.key.Key.{Key}
 use Rattle.hcc_rule.specs.declared.steps.shows.Draft.{Draft}
 use Rattle.hcc_rule.specs.declared.view.View.{View}
+use Rattle.hcc_rule.specs.Callers.{slots_of}
+use Rattle.hcc_rule.specs.Seats.{SeatOf}
 use Rattle.hcc_rule.specs.ToldOwners.{made_of, shown_entry}
+use Rattle.hcc_table.specs.declared.efforts.Effort.{Effort}
+use Rattle.hcc_table.specs.declared.inserting.Insertion.{Insertion}
+use Rattle.hcc_table.specs.declared.inserting.Insertion.TheVariants as insertions
 use Rattle.hcc_table.specs.declared.pins.Pin.{Pin}
+use Rattle.hcc_table.specs.Standing.{InsertsShown, world_at}
 use Rattle.hcc_charge.specs.declared.reserving.Refused.{Refused}
 use Rattle.hcc_charge.specs.declared.reserving.Refused.TheVariants as refused
+use Rattle.hcc_charge.specs.declared.reserving.Reservation.{Reservation}
+use Rattle.hcc_charge.specs.declared.reserving.Reservation.TheVariants.{Reserved, NoPlace}
 use Rattle.hcc_shard.specs.declared.inserting.Inserted.TheVariants as stored
 use Rattle.hcc_shard.specs.declared.inserting.Inserted.{Inserted as Stored}
 use Rattle.hcc_shard.specs.declared.inserting.Pinned.{Pinned}
 use Rattle.hcc_shard.specs.declared.inserting.Pinned.TheVariants as pinned
 use Rattle.hcc_shard.specs.Inserted.{InsertedBy, PinnedBy}
-use Rattle.hcc_shard.specs.Reserving.{InsertedAs, PinnedAs}
+use Rattle.hcc_shard.specs.declared.seat.ShardSeat.{ShardSeat}
+use Rattle.hcc_shard.specs.declared.shard.Shard.{Shard}
+use Rattle.hcc_shard.specs.Reserving.{InsertedAs, PinnedAs, TriesWhere, left_out}
 use Rattle.hcc_cache.specs.declared.cache.Cache.{Cache}
 use Rattle.hcc_cache.specs.declared.client.Client.{Client}
 use Rattle.hcc_cache.specs.declared.errors.InsertError.{InsertError}
@@ -168,3 +179,39 @@ module _ {T : Type 0} (cache : Cache T) (fits : T → Key → List ℕ → Type 
   RefusesPinnedAt TooLarge old new = new ≡ old
   RefusesPinnedAt CapacityFull old new = PinsAt (Err refused.CapacityFull) old new
   RefusesPinnedAt OccupancyFull old new = PinsAt (Err refused.OccupancyFull) old new
+
+-- What an insertion left of what is shown, in the worlds that its client knows of the key's shard:
+-- when its reservation had ended, with its eviction, and when the entry was placed or left out.
+module _ {T : Type 0} (fits : T → Key → List ℕ → Type 0) (shard : Shard (Seeded T) Global)
+    (draft : Draft) where
+  abbrev pub ShowsFrom : (reserved done : SeatOf (Seeded T)) → Insertion → Type 0
+  ShowsFrom reserved done answer =
+      InsertsShown (slots_of shard.table) draft.key answer (world_at shard.table reserved)
+      (world_at shard.table done)
+
+  -- where a place was reserved
+  abbrev pub ShowsWhere : (told : Reservation) (reserved : SeatOf (Seeded T)) (counted : Effort)
+      (answer : Insertion) (new : ShardSeat (Seeded T))
+      → TriesWhere (fits_seeded fits) shard draft told reserved counted answer new → Type 0
+  ShowsWhere Reserved reserved counted answer new tries = ShowsFrom reserved tries.done answer
+  ShowsWhere NoPlace reserved counted answer new tries = Unit {0}
+
+  -- by the answer
+  abbrev pub ShowsAs : (answer : Result Stored Refused) (old new : ShardSeat (Seeded T))
+      → InsertedAs (fits_seeded fits) shard draft answer old new → Type 0
+  ShowsAs (Ok stored.Placed) old new did =
+      ShowsFrom did.1.reserves.reserved did.1.tries.done (insertions.Placed did.0)
+  ShowsAs (Ok stored.Dropped) old new did =
+      ShowsWhere did.told did.reserves.reserved did.reserves.counted (left_out did.matched) new
+      did.tries
+  ShowsAs (Err why) old new did = Unit {0}
+
+  -- of one that keeps a reference
+  abbrev pub ShowsPinnedAs : (answer : Result Pinned Refused) (old new : ShardSeat (Seeded T))
+      → PinnedAs (fits_seeded fits) shard draft answer old new → Type 0
+  ShowsPinnedAs (Ok (pinned.Placed pin)) old new did =
+      ShowsFrom did.reserves.reserved did.tries.done (insertions.Placed pin.slot)
+  ShowsPinnedAs (Ok pinned.Standalone) old new did =
+      ShowsWhere did.told did.reserves.reserved did.reserves.counted (left_out did.matched) new
+      did.tries
+  ShowsPinnedAs (Err why) old new did = Unit {0}

@@ -14,3 +14,7 @@ pub mod Inserts
 pub mod Totals
 pub mod Texts
 pub mod Gets
+pub mod Images
+pub mod Taken
+pub mod Drafts
+pub mod Reopened

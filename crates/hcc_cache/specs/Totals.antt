@@ -2,17 +2,18 @@
 use Rattle.std.specs.Prelude.{◌≡◌, ◌⊎◌, ℕ, ◌+◌, ◌-◌, ◌^◌, min, List, [], ◌∷◌, Some, length, slice_get}
 use Rattle.std.specs.declared.alloc.Global.{Global}
 use Rattle.hcc_core.specs.Sums.{total}
-use Rattle.hcc_core.specs.World.{standing_of}
+use Rattle.hcc_core.specs.World.{State, occupancy_of, standing_of, usage_of}
 use Rattle.hcc_rule.specs.declared.key.Key.{Key}
 use Rattle.hcc_rule.specs.declared.view.View.{View}
 use Rattle.hcc_rule.specs.ToldLedgers.{after_usage}
 use Rattle.hcc_rule.specs.Records.{charge_held, different}
 use Rattle.hcc_table.specs.Searched.{Sought}
+use Rattle.hcc_table.specs.Standing.{world_at}
 use Rattle.hcc_shard.specs.declared.seat.ShardSeat.{ShardSeat}
 use Rattle.hcc_shard.specs.declared.seat.Stats.{Stats}
 use Rattle.hcc_shard.specs.declared.shard.Shard.{Shard}
-use Rattle.hcc_shard.specs.Callers.{LoadsOccupancy, view_of}
-use Rattle.hcc_shard.specs.Counted.{CountsPinned, LoadsUsage, SameEvictions, stats_of}
+use Rattle.hcc_shard.specs.Callers.{LoadsOccupancy, capacity_of, is_strict, view_of}
+use Rattle.hcc_shard.specs.Counted.{CountsPinned, LoadsUsage, SameEvictions, stats_of, within}
 use Rattle.hcc_cache.specs.declared.cache.Cache.{Cache}
 use Rattle.hcc_cache.specs.declared.client.Client.{Client}
 use Rattle.hcc_cache.specs.declared.seeded.Seeded.{Seeded}
@@ -72,6 +73,17 @@ abbrev pub CountsHeldAt : {T : Type 0} → (fits : T → Key → List ℕ → Ty
 CountsHeldAt fits shard found old new =
     CountsPinned (fits_seeded fits) shard found old new × SameEvictions old new
 
+-- what is told of a shard's usage in a world: the charges of all entries in its slots, hidden ones
+-- too, and what stands for its clients, as standalone entries; where the capacity is strict, at
+-- most that
+abbrev pub usage_in : {T : Type 0} → Shard (Seeded T) Global → State → ℕ
+usage_in shard world = within (is_strict shard) (capacity_of shard) (usage_of world)
+
+-- and of its occupancy: how many entries are in its slots, hidden ones too, with the places and the
+-- freed slots that its clients have in hand
+abbrev pub occupancy_in : {T : Type 0} → Shard (Seeded T) Global → State → ℕ
+occupancy_in shard world = occupancy_of world
+
 module _ {T : Type 0} (cache : Cache T) where
   -- At each shard in turn the client's seat did this, and this number was found there.
   pub record AtEach (Did : Shard (Seeded T) Global → (found : ℕ)
@@ -80,6 +92,15 @@ module _ {T : Type 0} (cache : Cache T) where
     pub count : length counts ≡ length cache.shards.items
     pub each : (s found : ℕ) → slice_get counts s ≡ Some found
         → AtShard cache (λ shard was is. Did shard found was is) s old new
+
+  -- At each shard in turn the world that the client knows of it has this number.
+  pub record KnowsEach (number : Shard (Seeded T) Global → State → ℕ) (counts : List ℕ)
+      (client : Client T) : Type 0 where
+    pub count : length counts ≡ length cache.shards.items
+    pub each : (s found : ℕ) → slice_get counts s ≡ Some found → (shard : Shard (Seeded T) Global)
+        × (seat : ShardSeat (Seeded T)) × (slice_get cache.shards.items s ≡ Some shard)
+        × (slice_get client.seats.items s ≡ Some seat)
+        × (found ≡ number shard (world_at shard.table seat.seat))
 
   -- The usage of each shard was loaded once: this is the sum of what its words say, each at most
   -- its shard's capacity where that is strict, or the greatest number.

@@ -139,7 +139,7 @@ impl Closed {
     }
 
     /// The shard of this number.
-    fn shard(&self, shard: usize) -> &ClosedShard<Global>
+    pub(crate) fn shard(&self, shard: usize) -> &ClosedShard<Global>
         requires { shard < length self.now.shards.items }
         ensures { slice_get self.now.shards.items shard ≡ Some (Some result.now) }
     {

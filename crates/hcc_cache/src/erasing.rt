@@ -13,7 +13,8 @@ impl<T: Tag> Cache<T> {
     /// Hides each visible entry of the key: look-ups find none of them from then on. Those on which
     /// there is no handle, this client's neither, are freed, where the one compare-exchange for it
     /// wins. It returns how many were hidden. Each slot that was visited and found visible with the
-    /// key was hidden, and the search ended as a miss does.
+    /// key was hidden, and the search ended as a miss does. In a cache of one client it hides just
+    /// what is shown of the key (`laws::law_erasures`).
     ///
     /// Each entry of the key that the client holds has been seen dead afterwards; its handles show
     /// what they showed. It refuses nothing and allocates nothing. Each probe costs what it costs a

@@ -2,35 +2,44 @@
 //!
 //! No function here does anything when it runs: its contract is the law. `m.holds.world` is the
 //! lawful world that the shard's words and what its clients know show.
-ghost use Rattle.std.specs.Prelude.{◌≡◌, ℕ, ◌+◌, ◌*◌, ◌/◌, ◌<◌, ◌≤◌, ◌↔◌, Bool, true, List, Option, None, Some, IsNone, IsSome, slice_get};
+ghost use Rattle.std.specs.Prelude.{◌≡◌, ℕ, ◌+◌, ◌-◌, ◌*◌, ◌/◌, ◌^◌, ◌<◌, ◌≤◌, ◌↔◌, min, Bool, true, List, Option, None, Some, Result, IsNone, IsSome, slice_get};
 ghost use Rattle.hcc_core.specs.declared.limits.TheConstants.{OCCUPANCY_PERCENT};
 ghost use Rattle.hcc_core.specs.Lawful.{real_in, taken_in};
+ghost use Rattle.hcc_core.specs.Sums.{total};
 ghost use Rattle.hcc_rule.specs.declared.layout.TheConstants.{OCCUPANCY};
 ghost use Rattle.hcc_rule.specs.declared.key.Key.{Key};
 ghost use Rattle.hcc_rule.specs.declared.view.View.{View};
 ghost use Rattle.hcc_rule.specs.Laws.{StateOf, ledger_word, AreMade, AreOfMade};
+ghost use Rattle.hcc_charge.specs.declared.reserving.Refused.{Refused};
 ghost use Rattle.hcc_shard.specs.declared.getting.Got.{Got};
 ghost use Rattle.hcc_shard.specs.declared.getting.Got.TheVariants.{Miss};
-ghost use Rattle.hcc_table.specs.Standing.{FindsFirst, FindsLasting, ShowsKey, world_at};
+ghost use Rattle.hcc_shard.specs.declared.inserting.Inserted.{Inserted};
+ghost use Rattle.hcc_shard.specs.declared.inserting.Pinned.{Pinned};
+ghost use Rattle.hcc_table.specs.Standing.{FindsFirst, FindsLasting, HidesShown, ShowsKey, world_at};
 ghost use Rattle.hcc_cache.specs.declared.cache.Cache.{Cache};
 ghost use Rattle.hcc_cache.specs.declared.client.Client.{Client};
 ghost use Rattle.hcc_cache.specs.declared.config.Config.{Config};
 ghost use Rattle.hcc_cache.specs.declared.handle.Handle.{Handle};
+ghost use Rattle.hcc_cache.specs.declared.priority.Priority.{Priority};
 ghost use Rattle.hcc_cache.specs.declared.seeded.Seeded.{Seeded};
-ghost use Rattle.hcc_cache.specs.Calls.{Gains, SearchesFor};
+ghost use Rattle.hcc_cache.specs.Calls.{ErasesFor, Gains, SearchesFor};
 ghost use Rattle.hcc_cache.specs.Clients.{Held, Holds};
 ghost use Rattle.hcc_cache.specs.Configs.{shard_capacity};
 ghost use Rattle.hcc_cache.specs.Gets.{GetsAt};
+ghost use Rattle.hcc_cache.specs.Inserts.{draft_of, PinsAt, ShowsAs, ShowsPinnedAs, StoresAt};
 ghost use Rattle.hcc_cache.specs.Keys.{fits_seeded};
 ghost use Rattle.hcc_cache.specs.Known.{Knows};
 ghost use Rattle.hcc_cache.specs.Moments.{IsMoment, IsQuietMiss, KnowsShown, ShowsKeyIn, plan_in};
 ghost use Rattle.hcc_cache.specs.Opened.{IsOpened};
 ghost use Rattle.hcc_cache.specs.Sharding.{key_to};
+ghost use Rattle.hcc_cache.specs.Totals.{occupancy_in, usage_in, KnowsEach, LoadsEachOccupancy, LoadsEachUsage};
 
 use crate::seeded::Seeded;
 use hcc_rule::Tag;
 use hcc_rule::laws::{law_ledgers, law_made};
-use hcc_table::laws::{law_found_alone, law_lasting, law_miss};
+use hcc_table::laws::{
+    law_found_alone, law_hidden_alone, law_inserted_alone, law_lasting, law_miss, law_told_alone,
+};
 use std::alloc::Global;
 
 /// The limits that each shard of a cache keeps at every moment, by what the cache was made with.
@@ -135,6 +144,67 @@ pub fn law_lookups<T: Tag>()
 {
     law_lasting::<Seeded<T>, Global>();
     law_found_alone::<Seeded<T>, Global>();
+}
+
+/// In a cache of one client an erasure hides exactly what is shown of the key.
+pub fn law_erasures<T: Tag>()
+    // It answers how many slots show the key in the world that the client knows of the key's shard
+    // when the call begins. In the one that it knows at the end none does, and each other slot
+    // shows what it showed.
+    ensures { (config : Config) (tag : T) (cache : Cache T) (clients : List (Client T))
+        → IsOpened config tag cache clients → config.clients ≡ 1
+        → (key : Key) (hidden : ℕ) (old new : Client T)
+        (h : ErasesFor cache T.fits key hidden old new)
+        → HidesShown config.slots (key_to cache.seed key) hidden
+        (world_at h.shard.table h.was.seat) (world_at h.shard.table h.is.seat) }
+{
+    law_hidden_alone::<Seeded<T>, Global>();
+}
+
+/// In a cache of one client an insertion meets the entry that look-ups find, or comes before it.
+pub fn law_matches<T: Tag>()
+    // By the world that the client knows of the key's shard once the insertion's eviction has
+    // ended. Placed: its slot showed nothing, and is an earlier probe of the key than each that
+    // shows the key; then it shows it. Dropped, though a place was reserved: it met the first probe
+    // that shows the key, or none does. All other slots show what they showed.
+    ensures stores { (config : Config) (tag : T) (cache : Cache T) (clients : List (Client T))
+        → IsOpened config tag cache clients → config.clients ≡ 1
+        → (key : Key) (charge : ℕ) (priority : Priority) (answer : Result Inserted Refused)
+        (old new : Client T) (h : StoresAt cache T.fits key charge priority answer old new)
+        → ShowsAs T.fits h.shard (draft_of cache key charge priority (λ c. None) old) answer h.was
+        h.is h.did }
+
+    // The same of one that gives a handle, on a standalone entry where that is dropped.
+    ensures pins { (config : Config) (tag : T) (cache : Cache T) (clients : List (Client T))
+        → IsOpened config tag cache clients → config.clients ≡ 1
+        → (key : Key) (charge : ℕ) (priority : Priority) (answer : Result Pinned Refused)
+        (old new : Client T) (h : PinsAt cache T.fits key charge priority answer old new)
+        → ShowsPinnedAs T.fits h.shard (draft_of cache key charge priority (λ c. Some c.used) old)
+        answer h.was h.is h.did }
+{
+    law_inserted_alone::<Seeded<T>, Global>();
+}
+
+/// In a cache of one client totals are exact.
+pub fn law_totals<T: Tag>()
+    // The usage is the sum, over all shards, of the charges of all entries there, hidden ones too,
+    // with what stands for the client, as its standalone entries: in the worlds that it knows of
+    // the shards when the call begins. Where the capacity is strict each shard counts as at most
+    // its part.
+    ensures usage { (config : Config) (tag : T) (cache : Cache T) (clients : List (Client T))
+        → IsOpened config tag cache clients → config.clients ≡ 1 → (result : ℕ)
+        (old new : Client T) → LoadsEachUsage cache result old new → (counts : List ℕ)
+        × KnowsEach cache usage_in counts old
+        × (result ≡ min (total (λ n. n) counts) (2 ^ 64 - 1)) }
+
+    // The occupancy is the number of all entries there, hidden ones too, with what the client has
+    // in hand, which between calls is nothing.
+    ensures occupancy { (config : Config) (tag : T) (cache : Cache T) (clients : List (Client T))
+        → IsOpened config tag cache clients → config.clients ≡ 1 → (result : ℕ)
+        (old new : Client T) → LoadsEachOccupancy cache result old new → (counts : List ℕ)
+        × KnowsEach cache occupancy_in counts old × (result ≡ total (λ n. n) counts) }
+{
+    law_told_alone::<Seeded<T>, Global>();
 }
 
 /// No handle comes back.

@@ -19,7 +19,7 @@ impl<T: Tag + Copy> Cache<T> {
     /// nothing, has made nothing, and has all its serials left.
     ///
     /// It refuses what [`Config::check`] refuses, and else only where memory is refused; nothing
-    /// remains then. It is the only call of a cache that allocates memory: for the words of all
+    /// remains then. Of a cache's calls it and `reopen` alone allocate memory: for the words of all
     /// shards, and for each client its seats, and room for its handles and standalone entries. It
     /// costs as many stores as there are words, and a load for each client and shard.
     pub fn new(
@@ -92,7 +92,7 @@ fn configured<T: Tag + Copy>(
 }
 
 /// All clients, with no seats yet.
-fn unseated<T>(alloc: Global, config: Config) -> Result<Vec<Client<T>>, AllocError>
+pub(crate) fn unseated<T>(alloc: Global, config: Config) -> Result<Vec<Client<T>>, AllocError>
     requires { IsAllowed config }
     ensures { IfOk result (λ clients. AreUnseated config clients.items) }
 {
@@ -113,7 +113,7 @@ fn unseated<T>(alloc: Global, config: Config) -> Result<Vec<Client<T>>, AllocErr
 }
 
 /// Gives each client the seat of its number.
-fn deal<T>(
+pub(crate) fn deal<T>(
     clients: &mut Vec<Client<T>>,
     mut seats: Vec<ShardSeat<Seeded<T>>>,
 ) -> Result<(), AllocError>

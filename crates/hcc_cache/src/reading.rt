@@ -72,8 +72,7 @@ impl<T: Tag> Cache<T> {
     /// these numbers. It returns how many bytes the value has, as an error where the buffer has
     /// fewer; then nothing is copied.
     ///
-    /// It allocates nothing. It costs a look at the handle's index, and what `value_len` and
-    /// `read_value` cost.
+    /// It allocates nothing. It costs what `read_value` costs; where it copies nothing, one load.
     #[inline]
     pub fn try_read(
         &self,
@@ -96,17 +95,13 @@ impl<T: Tag> Cache<T> {
             len ≡ length held.insertion.value)
             × (length buffer.old < len) × (buffer.new ≡ buffer.old))) }
         ensures steps { IfSome result (λ a. IfOk a (λ len.
-            TakesAtMost (words_for len + 2) client.old client.new)) }
+            TakesAtMost (words_for len + 1) client.old client.new)) }
         ensures few { IfSome result (λ a. IfErr a (λ len.
             TakesAtMost 1 client.old client.new)) }
     {
         let handle = numbers.handle();
         let hold = client.find(handle)?;
-        let len = self.len_of(client, handle, hold);
-        if buffer.len() < len {
-            return Some(Err(len));
-        }
-        Some(Ok(self.copy_of(client, handle, hold, buffer)))
+        Some(self.try_copy(client, handle, hold, buffer))
     }
 
     /// How many bytes the value has, by what the client keeps of the handle.
@@ -169,6 +164,51 @@ impl<T: Tag> Cache<T> {
                 let value = &client.alone[index].value;
                 buffer[..value.len()].copy_from_slice(value);
                 value.len()
+            }
+        }
+    }
+
+    /// Copies the value into any buffer, by what the client keeps of the handle; where the buffer
+    /// is too short it returns how many bytes the value has, as an error.
+    fn try_copy(
+        &self,
+        client: &mut Client<T>,
+        handle: Handle,
+        hold: Hold,
+        buffer: &mut [u8],
+    ) -> Result<usize, usize>
+        requires known { Knows self.now client.old }
+        requires held { hold_of client.old handle ≡ Some hold }
+        ensures known { Knows self.now client.new }
+        ensures reads { Reads self.now client.old client.new }
+        ensures read { IfOk result (λ len. IfSome (held_of self.now client.old handle) (λ held.
+            (len ≡ length held.insertion.value)
+            × (buffer.new ≡ held.insertion.value ++ drop len buffer.old))) }
+        ensures short { IfErr result (λ len. IfSome (held_of self.now client.old handle) (λ held.
+            len ≡ length held.insertion.value)
+            × (length buffer.old < len) × (buffer.new ≡ buffer.old)) }
+        ensures steps { IfOk result (λ len.
+            TakesAtMost (words_for len + 1) client.old client.new) }
+        ensures few { IfErr result (λ _. TakesAtMost 1 client.old client.new) }
+    {
+        match hold.kept {
+            Kept::Pinned { slot, counting } => {
+                let pin = Pin {
+                    name: hold.serial,
+                    slot,
+                    counting,
+                };
+                let seat = &mut client.seats[hold.shard];
+                self.shards[hold.shard].try_read(seat, pin, buffer)
+            }
+            Kept::Standing { index } => {
+                let value = &client.alone[index].value;
+                let len = value.len();
+                if buffer.len() < len {
+                    return Err(len);
+                }
+                buffer[..len].copy_from_slice(value);
+                Ok(len)
             }
         }
     }

@@ -21,8 +21,8 @@ use hcc_shard::Stats;
 impl<T: Tag> Cache<T> {
     /// What is charged in all shards: the sum of their usage words, each loaded once, in turn, and
     /// counted as at most the shard's capacity where that is strict. It is at least the charges of
-    /// the different entries that the client holds, with its standalone ones. A sum above 2^64 - 1
-    /// is 2^64 - 1.
+    /// the different entries that the client holds, with its standalone ones; in a cache of one
+    /// client it is exact (`laws::law_totals`). A sum above 2^64 - 1 is 2^64 - 1.
     ///
     /// It refuses nothing and allocates nothing. It costs a load for each shard.
     pub fn usage(&self, client: &mut Client<T>) -> u64

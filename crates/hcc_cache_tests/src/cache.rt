@@ -1,6 +1,6 @@
-//! Of the cache: the limits as numbers, the texts of errors, keys from outside, that a cache
-//! is made where there is memory, that entries are placed and found where they can be, and the very
-//! words, turns and totals that stand after each call.
+//! Of the cache: the limits as numbers, the texts of errors, keys from outside, that a cache is
+//! made where there is memory, that entries are placed and found where they can be, also those of
+//! an image, and the very words, turns and totals that stand after each call.
 
 mod calls;
 mod configs;
@@ -14,3 +14,4 @@ mod rows;
 mod shared;
 pub(crate) mod stage;
 mod threads;
+mod warm;

@@ -8,6 +8,8 @@ use Rattle.hcc_rule.specs.declared.view.View.{View}
 use Rattle.hcc_rule.specs.Callers.{capacity_of, is_strict, slots_of}
 use Rattle.hcc_rule.specs.Addresses.{address_of_ledger}
 use Rattle.hcc_rule.specs.Seats.{SeatOf, Makes, view}
+use Rattle.hcc_table.specs.declared.efforts.Effort.{Effort}
+use Rattle.hcc_table.specs.Efforts.{Lost}
 use Rattle.hcc_charge.specs.declared.swept.Swept.{Swept}
 use Rattle.hcc_charge.specs.declared.tally.Tally.{Tally}
 use Rattle.hcc_charge.specs.Asked.{added, is_full, lacked, Enters, EvictsAsAsked, EvictsNothing}
@@ -70,7 +72,7 @@ module _ {T A : Type 0} (table : RuleTable T A) (charge used : ℕ) where
 
 module _ {T A : Type 0} (fits : T → Key → List ℕ → Type 0) (table : RuleTable T A) (charge : ℕ)
     {taken used ask : ℕ} {full strict : Bool} {swept : Swept} {before after : Tally}
-    {a u b c : SeatOf T} where
+    {effort counted : Effort} {a u b c : SeatOf T} where
   -- A reservation evicted exactly for what it asks for, whatever came behind it.
   abbrev pub evicts_as_asked : full ≡ is_full table taken → is_strict table ≡ strict
       → ask ≡ asked strict (capacity_of table) charge full used
@@ -79,10 +81,11 @@ module _ {T A : Type 0} (fits : T → Key → List ℕ → Type 0) (table : Rule
       → EvictsNothing (view u) (view b)
       → EvictsFor fits table ask swept b c → IsSweptFor (slots_of table) ask swept
       → Sweeps swept.turns swept.slots swept.charge (view b) (view c)
-      → Tallied swept before after → (d : SeatOf T) → EvictsNothing (view c) (view d)
-      → EvictsAsAsked fits table charge before after a d
-  evicts_as_asked is_found is_kind is_asked enters opens finds first evicts within sweeps tallied d
-      last =
+      → Tallied swept before after → Lost swept.lost swept.lost effort counted → (d : SeatOf T)
+      → EvictsNothing (view c) (view d)
+      → EvictsAsAsked fits table charge before after effort counted a d
+  evicts_as_asked is_found is_kind is_asked enters opens finds first evicts within sweeps tallied
+      lost d last =
       record {
         taken = taken;
         used = used;
@@ -107,6 +110,7 @@ module _ {T A : Type 0} (fits : T → Key → List ℕ → Type 0) (table : Rule
             ∙ (first.opened ∙ (ap (λ (z : View T). z.open_places) opens
             ∙ ap (λ f. (view a).open_places + when f 1) is_found)));
         tallied = tallied;
+        lost = lost;
       }
     where
       here : ask ≡ asked (is_strict table) (capacity_of table) charge (is_full table taken) used

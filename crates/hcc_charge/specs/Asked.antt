@@ -10,6 +10,8 @@ use Rattle.hcc_rule.specs.Callers.{capacity_of, is_strict, plan_of, slots_of}
 use Rattle.hcc_rule.specs.Addresses.{address_of_ledger}
 use Rattle.hcc_rule.specs.Rule.{setup_of}
 use Rattle.hcc_rule.specs.Seats.{SeatOf, Makes, MakesSome, view}
+use Rattle.hcc_table.specs.declared.efforts.Effort.{Effort}
+use Rattle.hcc_table.specs.Efforts.{Lost}
 use Rattle.hcc_table.specs.Steps.{MakesNone}
 use Rattle.hcc_charge.specs.declared.reserving.Reservation.{Reservation}
 use Rattle.hcc_charge.specs.declared.reserving.Reservation.TheVariants.{Reserved, NoPlace}
@@ -65,8 +67,9 @@ module _ {T A : Type 0} (fits : T → Key → List ℕ → Type 0) (table : Rule
   where
     -- A reservation found so many places taken, and this usage, and evicted exactly for what it
     -- asks for then, which left the seat c. The client's view counts the turns, what they took and
-    -- the open place, and its tally all that they did.
-    pub record EvictsAsAsked (before after : Tally) (a d : SeatOf T) : Type 0 where
+    -- the open place, its tally all that they did, and its effort the exchanges that they lost.
+    pub record EvictsAsAsked (before after : Tally) (effort counted : Effort) (a d : SeatOf T)
+        : Type 0 where
       pub taken : ℕ
       pub used : ℕ
       pub swept : Swept
@@ -83,23 +86,29 @@ module _ {T A : Type 0} (fits : T → Key → List ℕ → Type 0) (table : Rule
       pub takings : (view d).takings ≡ (view a).takings + swept.slots
       pub opened : (view d).open_places ≡ (view a).open_places + when (is_full table taken) 1
       pub tallied : Tallied swept before after
+      pub lost : Lost swept.lost swept.lost effort counted
 
     -- What a reservation found and evicted, by its answer: what was lacked was freed, and a slot
     -- where the shard was full; no slot was freed in a full shard; or less charge was than was
     -- lacked. The steps behind its eviction settle or give back exactly what that freed.
     abbrev pub EvictsBy : Result Reservation Refused → (before after : Tally)
-        → (a d : SeatOf T) → Type 0
-    EvictsBy (Ok Reserved) before after a d =
-        (e : EvictsAsAsked before after a d) × (is_full table e.taken ≡ true → 0 < e.swept.slots)
+        → (effort counted : Effort) → (a d : SeatOf T) → Type 0
+    EvictsBy (Ok Reserved) before after effort counted a d =
+        (e : EvictsAsAsked before after effort counted a d)
+        × (is_full table e.taken ≡ true → 0 < e.swept.slots)
         × (lacked table charge e.used ≤ e.swept.charge)
         × Grants table (is_strict table) charge e.swept e.c d
-    EvictsBy (Ok NoPlace) before after a d =
-        (e : EvictsAsAsked before after a d) × (is_full table e.taken ≡ true) × (e.swept.slots ≡ 0)
+    EvictsBy (Ok NoPlace) before after effort counted a d =
+        (e : EvictsAsAsked before after effort counted a d) × (is_full table e.taken ≡ true)
+        × (e.swept.slots ≡ 0)
         × MakesSome (address_of_ledger table OCCUPANCY) 1 0 e.c d
-    EvictsBy (Err TooLarge) before after a d = (after ≡ before) × MakesNone a d
-    EvictsBy (Err CapacityFull) before after a d =
-        (e : EvictsAsAsked before after a d) × (e.swept.charge < lacked table charge e.used)
+    EvictsBy (Err TooLarge) before after effort counted a d =
+        (after ≡ before) × (counted ≡ effort) × MakesNone a d
+    EvictsBy (Err CapacityFull) before after effort counted a d =
+        (e : EvictsAsAsked before after effort counted a d)
+        × (e.swept.charge < lacked table charge e.used)
         × GivesAllBack table charge e.swept e.c d
-    EvictsBy (Err OccupancyFull) before after a d =
-        (e : EvictsAsAsked before after a d) × (is_full table e.taken ≡ true) × (e.swept.slots ≡ 0)
+    EvictsBy (Err OccupancyFull) before after effort counted a d =
+        (e : EvictsAsAsked before after effort counted a d) × (is_full table e.taken ≡ true)
+        × (e.swept.slots ≡ 0)
         × (lacked table charge e.used ≡ 0) × GivesAllBack table charge e.swept e.c d

@@ -86,11 +86,12 @@ fn turn<T: Tag, A: Allocator>(
     ensures effort { Lost result.lost result.lost effort.old effort.new }
     ensures steps { MakesAtMost (sweeping (slots_of table.now) 1 result.slots) seat.old seat.new }
 {
+    let slots = table.geometry().slots;
     let hand = table.turn(seat);
-    let from = slot_of(table, hand) as u64;
+    let from = slot_of(slots, hand) as u64;
     let mut all = Swept::TURN;
     for k in 0..SLOTS_PER_TURN {
-        let slot = slot_of(table, from + k);
+        let slot = slot_of(slots, from + k);
         let here = visit_slot(table, seat, slot, effort);
         all = all.with(here);
     }
@@ -99,10 +100,12 @@ fn turn<T: Tag, A: Allocator>(
 
 /// The slot of a number in the hand's order. The slots are a power of two, so it costs a mask.
 #[inline(always)]
-fn slot_of<T: Tag, A: Allocator>(table: &RuleTable<T, A>, number: u64) -> u32
-    ensures { result ≡ number % slots_of table.now }
+fn slot_of(slots: u32, number: u64) -> u32
+    requires some { 0 < slots }
+    requires power { MOST_SLOTS % slots ≡ 0 }
+    ensures { result ≡ number % slots }
 {
-    (number & (table.geometry().slots as u64 - 1)) as u32
+    (number & (slots as u64 - 1)) as u32
 }
 
 /// Visits one slot.

@@ -87,7 +87,8 @@ pub fn reserve<T: Tag, A: Allocator>(
         charge result (view seat.old) (view seat.new) }
     ensures large { is_strict table.now ≡ true → capacity_of table.now < charge
         → result ≡ Err TooLarge }
-    ensures evicts { EvictsBy T.fits table.now charge result tally.old tally.new seat.old seat.new }
+    ensures evicts { EvictsBy T.fits table.now charge result tally.old tally.new
+        effort.old effort.new seat.old seat.new }
     ensures effort { Lost 0 (4 * most_turns (slots_of table.now)) effort.old effort.new }
     ensures steps { MakesAtMost (asking
         + sweeping_between (slots_of table.now) (view seat.old) (view seat.new))
@@ -118,7 +119,7 @@ fn reserve_lax<T: Tag, A: Allocator>(
     ensures view { ReservedBy (slots_of table.now) (capacity_of table.now) false
         charge (Ok result) (view seat.old) (view seat.new) }
     ensures evicts { EvictsBy T.fits table.now charge (Ok result) tally.old tally.new
-        seat.old seat.new }
+        effort.old effort.new seat.old seat.new }
     ensures effort { Lost 0 (4 * most_turns (slots_of table.now)) effort.old effort.new }
     ensures steps { MakesAtMost (asking
         + sweeping_between (slots_of table.now) (view seat.old) (view seat.new))
@@ -154,7 +155,8 @@ fn reserve_strict<T: Tag, A: Allocator>(
     ensures view { ReservedBy (slots_of table.now) (capacity_of table.now) true
         charge result (view seat.old) (view seat.new) }
     ensures not_large { result ≢ Err TooLarge }
-    ensures evicts { EvictsBy T.fits table.now charge result tally.old tally.new seat.old seat.new }
+    ensures evicts { EvictsBy T.fits table.now charge result tally.old tally.new
+        effort.old effort.new seat.old seat.new }
     ensures effort { Lost 0 (4 * most_turns (slots_of table.now)) effort.old effort.new }
     ensures steps { MakesAtMost (asking
         + sweeping_between (slots_of table.now) (view seat.old) (view seat.new))
@@ -190,6 +192,7 @@ fn enter<T: Tag, A: Allocator>(table: &RuleTable<T, A>, seat: &mut RuleSeat<T>) 
 }
 
 /// Evicts where something is asked for.
+#[inline(always)]
 fn evict_for<T: Tag, A: Allocator>(
     table: &RuleTable<T, A>,
     seat: &mut RuleSeat<T>,

@@ -5,6 +5,7 @@ ghost use Rattle.hcc_rule.specs.Callers.{IsSeatAt};
 ghost use Rattle.hcc_rule.specs.Seats.{IsSameSeat, view};
 ghost use Rattle.hcc_rule.specs.declared.layout.TheConstants.{OCCUPANCY, USAGE};
 ghost use Rattle.hcc_charge.specs.Settled.{paid, placed_anew, settled, without_place, HasFreedNothing, Settles, TakesOff};
+ghost use Rattle.hcc_table.specs.Seeking.{is_settling, GoesOnBy};
 ghost use Rattle.hcc_table.specs.Steps.{Adds, MakesAtMost};
 
 use hcc_rule::{RuleSeat, RuleTable, Tag};
@@ -28,6 +29,7 @@ pub fn settle<T: Tag, A: Allocator>(
     ensures seat { IsSameSeat seat.old seat.new }
     ensures view { view seat.new ≡ settled (view seat.old) }
     ensures settles { Settles table.now slots charge seat.old seat.new }
+    ensures by { GoesOnBy table.now is_settling seat.old seat.new }
     ensures adds { Adds seat.old seat.new }
     ensures steps { MakesAtMost 2 seat.old seat.new }
 {
@@ -80,6 +82,7 @@ pub(crate) fn give_slots<T: Tag, A: Allocator>(
     ensures seat { IsSameSeat seat.old seat.new }
     ensures view { view seat.new ≡ placed_anew (view seat.old) }
     ensures takes { TakesOff table.now OCCUPANCY slots seat.old seat.new }
+    ensures by { GoesOnBy table.now is_settling seat.old seat.new }
     ensures adds { Adds seat.old seat.new }
     ensures steps { MakesAtMost 1 seat.old seat.new }
 {
@@ -101,6 +104,7 @@ pub(crate) fn give_charge<T: Tag, A: Allocator>(
     ensures seat { IsSameSeat seat.old seat.new }
     ensures view { view seat.new ≡ paid (view seat.old) }
     ensures takes { TakesOff table.now USAGE charge seat.old seat.new }
+    ensures by { GoesOnBy table.now is_settling seat.old seat.new }
     ensures adds { Adds seat.old seat.new }
     ensures steps { MakesAtMost 1 seat.old seat.new }
 {

@@ -14,6 +14,4 @@ mod machine;
 pub mod setup;
 pub mod slot;
 mod sums;
-#[cfg(test)]
-mod tests;
 pub mod world;

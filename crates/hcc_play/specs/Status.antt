@@ -1,5 +1,5 @@
 -- What the exit status tells.
-use Rattle.std.specs.Prelude.{ℕ}
+use Rattle.std.specs.Prelude.{ℕ, Result, Ok, Err}
 use Rattle.hcc_player.specs.declared.fault.PlayError.{PlayError}
 use Rattle.hcc_player.specs.declared.fault.PlayError.TheVariants as plays
 use Rattle.hcc_play.specs.declared.status.Status.{Status}
@@ -21,3 +21,8 @@ status_of plays.OutOfMemory = NoMemory
 status_of plays.WriteFailed = Failed
 status_of (plays.Refused error) = BadOptions
 status_of plays.BadBlock = BadOptions
+
+-- the status after a play
+abbrev pub status_after : Result (Unit {0}) PlayError → Status
+status_after (Ok done) = Done
+status_after (Err error) = status_of error

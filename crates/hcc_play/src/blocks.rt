@@ -1,16 +1,20 @@
 //! The subcommand `blocks`: files are read whole, and their blocks by many threads.
-ghost use Rattle.std.specs.Prelude.{◌≡◌, ◌<◌, ◌^◌, IfOk, length, map};
+ghost use Rattle.std.specs.Prelude.{◌≡◌, ◌<◌, ◌^◌, IfErr, IfOk, length, map};
 ghost use Rattle.std.specs.List.{All};
+ghost use Rattle.hcc_player.specs.Options.{options_check};
+ghost use Rattle.hcc_player.specs.Work.{IsSteady};
+ghost use Rattle.hcc_play.specs.Plays.{EndsReads};
+ghost use Rattle.hcc_play.specs.Status.{status_of};
 
 use crate::progress::Progress;
-use crate::run::{Terminals, awaits, told};
+use crate::run::{Terminals, awaits, ended, told};
 use crate::status::Status;
 use hcc_block::{BlockSource, MemorySource};
 use hcc_player::blocks::play_blocks;
 use hcc_player::fault::PlayError;
 use hcc_player::options::Options;
 use std::alloc::{AllocError, Global};
-use std::io::ErrorKind;
+use std::io::{ErrorKind, Read, Write};
 use std::rt::Files;
 use std::thread::Threads;
 use std::{fs, io};
@@ -21,14 +25,30 @@ pub fn blocks<R: AllocGlobal + Input + Print + Eprint + Files + Threads + Sync>(
     options: &Options,
     paths: &[&str],
     terminals: Terminals,
-) -> Status {
+) -> Status
+    ensures { length paths.now < 2 ^ 32
+        → IfErr (options_check options.now) (λ error. result ≡ status_of error) }
+{
     if paths.len() >= 1 << 32 {
         let _ = rt.eprintln("error: too many files");
         return Status::Refused;
     }
-    if let Err(error) = options.check() {
-        return told(rt, error);
+    match options.check() {
+        Ok(()) => over(rt, options, paths, terminals),
+        Err(error) => told(rt, error),
     }
+}
+
+/// Does so with options that can be, over files that aren't too many.
+fn over<R: AllocGlobal + Input + Print + Eprint + Files + Threads + Sync>(
+    rt: &R,
+    options: &Options,
+    paths: &[&str],
+    terminals: Terminals,
+) -> Status
+    requires few { length paths.now < 2 ^ 32 }
+    requires fine { options_check options.now ≡ Ok tt }
+{
     let files = match files_of(rt, paths) {
         Ok(files) => files,
         Err(status) => return status,
@@ -36,25 +56,52 @@ pub fn blocks<R: AllocGlobal + Input + Print + Eprint + Files + Threads + Sync>(
     let Ok(sources) = sources(rt.alloc(), &files, options.config.clients) else {
         return told(rt, PlayError::OutOfMemory);
     };
+    awaits(rt, terminals, "a trace of block reads");
     let mut reader = rt.reader();
     let mut writer = io::writer(rt);
-    let gate = Progress::new(rt, terminals.errors);
-    awaits(rt, terminals, "a trace of block reads");
-    let played = play_blocks(
-        rt.alloc(),
+    reads(
         rt,
         &mut reader,
         &mut writer,
         options,
         &files,
         sources,
+        terminals.errors,
+    )
+}
+
+/// Plays a trace of block reads over these files, from a reader to a writer, and shows how far it
+/// is.
+fn reads<'a, R: AllocGlobal + Eprint + Threads + Sync, I: Read, O: Write>(
+    rt: &R,
+    input: &mut I,
+    output: &mut O,
+    options: &Options,
+    files: &'a [Vec<u8>],
+    sources: Vec<MemorySource<'a>>,
+    shown: bool,
+) -> Status
+    requires options { options_check options.now ≡ Ok tt }
+    requires count { length sources.items ≡ options.now.config.clients }
+    requires content { All (λ source. ⟦<MemorySource<'a> as BlockSource>⟧.content source
+        ≡ map (λ file. file.items) files.now) sources.items }
+    ensures { EndsReads (map (λ file. file.items) files.now) options.now
+        (IsSteady ⟦<MemorySource<'a> as BlockSource>⟧.reliable sources.entry.items)
+        (I.remaining input.old) (O.contents output.old) (O.contents output.new) result }
+{
+    let gate = Progress::new(rt, shown);
+    let played = play_blocks(
+        rt.alloc(),
+        rt,
+        input,
+        output,
+        options,
+        files,
+        sources,
         &gate,
     );
     gate.end();
-    match played {
-        Ok(()) => Status::Done,
-        Err(error) => told(rt, error),
-    }
+    ended(rt, played)
 }
 
 /// The bytes of the files of these paths, in order.

@@ -1,6 +1,12 @@
 //! The subcommand `blocks` on the command line.
+ghost use Rattle.std.specs.Prelude.{◌≡◌, IfOk, codes, map};
+ghost use Rattle.clap.specs.Words.{found_of, rows_of};
+ghost use Rattle.hcc_play.specs.CommandLine.{IsArgument, IsCommand, block_option, blocks_app, file_option};
+ghost use Rattle.hcc_play.specs.Settings.{Finds, GivesOptions};
+ghost use Rattle.hcc_play.specs.Values.{texts_in};
 
 use crate::cache_options::{config_of, with_cache_args};
+use crate::values::number;
 use clap::{Arg, ArgMatches, Command, value_parser};
 use hcc_player::options::Options;
 use std::alloc::{AllocError, Global};
@@ -34,14 +40,18 @@ the cache, in `usage` and `occupied` what its books say, and for each of the
   sum       all bytes read, added up modulo 2^64";
 
 /// The subcommand `blocks`.
-pub fn blocks_command<'a>(alloc: Global) -> Result<Command<'a>, AllocError> {
+pub fn blocks_command<'a>(alloc: Global) -> Result<Command<'a>, AllocError>
+    ensures { IfOk result (IsCommand blocks_app) }
+{
     let command = Command::new(alloc, "blocks").about(ABOUT).after_help(AFTER);
     with_cache_args(alloc, command)?
         .arg(block_arg(alloc))?
         .arg(file_arg(alloc))
 }
 
-fn block_arg<'a>(alloc: Global) -> Arg<'a> {
+fn block_arg<'a>(alloc: Global) -> Arg<'a>
+    ensures { IsArgument block_option result }
+{
     Arg::new(alloc, "block")
         .long("block")
         .value_name("N")
@@ -50,22 +60,29 @@ fn block_arg<'a>(alloc: Global) -> Arg<'a> {
         .default_value("16")
 }
 
-fn file_arg<'a>(alloc: Global) -> Arg<'a> {
+fn file_arg<'a>(alloc: Global) -> Arg<'a>
+    ensures { IsArgument file_option result }
+{
     Arg::new(alloc, "FILE")
         .help("The files that are read, none or more")
         .num_args(0..)
 }
 
 /// The options that were given. Whether they can be is judged later.
-pub fn options_of(options: &ArgMatches<'_>) -> Option<Options> {
+pub fn options_of(options: &ArgMatches<'_>) -> Option<Options>
+    ensures { Finds (GivesOptions (rows_of (found_of options.now))) result }
+{
     Some(Options {
         config: config_of(options)?,
-        block: options.get_one::<u32>("block")?,
+        block: number(options, "block")?,
     })
 }
 
 /// The paths of the files, in order.
-pub fn paths_of<'a>(alloc: Global, options: &ArgMatches<'a>) -> Result<Vec<&'a str>, AllocError> {
+pub fn paths_of<'a>(alloc: Global, options: &ArgMatches<'a>) -> Result<Vec<&'a str>, AllocError>
+    ensures { IfOk result (λ paths. map (λ path. path.now) paths.items
+        ≡ texts_in (codes "FILE") (rows_of (found_of options.now))) }
+{
     match options.get_strs("FILE") {
         Some(paths) => Vec::from_slice(alloc, paths),
         None => Ok(Vec::new(alloc)),

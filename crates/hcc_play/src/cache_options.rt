@@ -1,11 +1,19 @@
 //! The options that say the size of a cache.
+ghost use Rattle.std.specs.Prelude.{IfOk};
+ghost use Rattle.clap.specs.Words.{app_of, found_of, rows_of};
+ghost use Rattle.hcc_play.specs.CommandLine.{IsArgument, IsCommand, IsLocal, any_u32, any_u64};
+ghost use Rattle.hcc_play.specs.CommandLine.{cache_options, flag_option, number_option, with_rules};
+ghost use Rattle.hcc_play.specs.Settings.{Finds, GivesConfig};
 
+use crate::values::{flag, number, wide_number};
 use clap::{Arg, ArgAction, ArgMatches, Command, value_parser};
 use hcc_cache::Config;
 use std::alloc::{AllocError, Global};
 
 /// A number of at most 32 bits.
-fn number_arg<'a>(alloc: Global, name: &'a str, help: &'a str, default: &'a str) -> Arg<'a> {
+fn number_arg<'a>(alloc: Global, name: &'a str, help: &'a str, default: &'a str) -> Arg<'a>
+    ensures { IsArgument (number_option name.entry.now default.entry.now any_u32) result }
+{
     Arg::new(alloc, name)
         .long(name)
         .value_name("N")
@@ -15,7 +23,9 @@ fn number_arg<'a>(alloc: Global, name: &'a str, help: &'a str, default: &'a str)
 }
 
 /// A number of at most 64 bits.
-fn wide_arg<'a>(alloc: Global, name: &'a str, help: &'a str, default: &'a str) -> Arg<'a> {
+fn wide_arg<'a>(alloc: Global, name: &'a str, help: &'a str, default: &'a str) -> Arg<'a>
+    ensures { IsArgument (number_option name.entry.now default.entry.now any_u64) result }
+{
     Arg::new(alloc, name)
         .long(name)
         .value_name("N")
@@ -24,7 +34,9 @@ fn wide_arg<'a>(alloc: Global, name: &'a str, help: &'a str, default: &'a str) -
         .default_value(default)
 }
 
-fn flag_arg<'a>(alloc: Global, name: &'a str, help: &'a str) -> Arg<'a> {
+fn flag_arg<'a>(alloc: Global, name: &'a str, help: &'a str) -> Arg<'a>
+    ensures { IsArgument (flag_option name.entry.now) result }
+{
     Arg::new(alloc, name)
         .long(name)
         .help(help)
@@ -32,7 +44,10 @@ fn flag_arg<'a>(alloc: Global, name: &'a str, help: &'a str) -> Arg<'a> {
 }
 
 /// A command with these options.
-pub fn with_cache_args<'a>(alloc: Global, command: Command<'a>) -> Result<Command<'a>, AllocError> {
+pub fn with_cache_args<'a>(alloc: Global, command: Command<'a>) -> Result<Command<'a>, AllocError>
+    requires { IsLocal command }
+    ensures { IfOk result (IsCommand (with_rules (app_of command.entry) cache_options)) }
+{
     command
         .arg(number_arg(
             alloc,
@@ -82,17 +97,19 @@ pub fn with_cache_args<'a>(alloc: Global, command: Command<'a>) -> Result<Comman
 }
 
 /// The sizes that these options tell. Whether a cache can have them is judged later.
-pub fn config_of(options: &ArgMatches<'_>) -> Option<Config> {
+pub fn config_of(options: &ArgMatches<'_>) -> Option<Config>
+    ensures { Finds (GivesConfig (rows_of (found_of options.now))) result }
+{
     Some(Config {
-        slots: options.get_one::<u32>("slots")?,
-        room: options.get_one::<u32>("room")?,
-        clients: options.get_one::<u32>("clients")?,
-        handles: options.get_one::<u32>("handles")?,
-        shards: options.get_one::<u32>("shards")?,
-        capacity: options.get_one::<u64>("capacity")?,
-        strict: options.get_flag("strict"),
-        marks: options.get_flag("marks"),
-        serials: options.get_one::<u64>("serials")?,
-        seed: options.get_one::<u64>("seed")?,
+        slots: number(options, "slots")?,
+        room: number(options, "room")?,
+        clients: number(options, "clients")?,
+        handles: number(options, "handles")?,
+        shards: number(options, "shards")?,
+        capacity: wide_number(options, "capacity")?,
+        strict: flag(options, "strict"),
+        marks: flag(options, "marks"),
+        serials: wide_number(options, "serials")?,
+        seed: wide_number(options, "seed")?,
     })
 }

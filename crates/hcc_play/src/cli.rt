@@ -1,11 +1,20 @@
 //! The command line.
-ghost use Rattle.std.specs.Prelude.{◌≡◌, ◌≤◌, IfSome, false};
+ghost use Rattle.std.specs.Prelude.{◌≡◌, [], IfErr, IfOk, IfSome, codes, false, map, pos};
+ghost use Rattle.std.specs.Prelude.{string_bytes};
+ghost use Rattle.clap.specs.Words.{HasKind, found_of, rows_of, subcommand_rows_of};
+ghost use Rattle.clap.specs.declared.builder.value_parser.ValueParser.TheVariants.{Signed, Unsigned};
 ghost use Rattle.hcc_core.specs.Opening.{CanOpen};
+ghost use Rattle.hcc_cache.specs.Configs.{is_within};
+ghost use Rattle.hcc_play.specs.CommandLine.{IsArgument, IsCommand, core_app, flag_option};
+ghost use Rattle.hcc_play.specs.CommandLine.{number_option, program};
+ghost use Rattle.hcc_play.specs.Parsed.{faults_of, used_by};
+ghost use Rattle.hcc_play.specs.Settings.{CanPlay, Finds, GivesSetup, is_played};
 ghost use Rattle.hcc_play.specs.declared.cli.TheConstants.{PLAYED_SLOTS, PLAYED_CAPACITY};
 
 use crate::blocks_command::blocks_command;
 use crate::run_command::run_command;
-use clap::{Arg, ArgAction, ArgMatches, Command, value_parser};
+use crate::values::{flag, number, wide_number};
+use clap::{Arg, ArgAction, ArgMatches, Command, Error, value_parser};
 use hcc_core::limits::MOST_CLIENTS;
 use hcc_core::setup::Setup;
 use std::alloc::{AllocError, Global};
@@ -65,7 +74,10 @@ first; at a fault nothing is played, and `line N: FAULT` is told: the line is
 TooLong, Unended or NotAscii, or has a BadWord, a BadNumber, a number OutOfRange,
 a BadValue or one above 64 bytes, ValueTooLong (`hcc_play run --help` says more).";
 
-fn slots_arg<'a>(alloc: Global) -> Arg<'a> {
+fn slots_arg<'a>(alloc: Global) -> Arg<'a>
+    ensures { IsArgument (number_option (codes "slots") (codes "2")
+        (Signed (pos 1) (pos PLAYED_SLOTS))) result }
+{
     Arg::new(alloc, "slots")
         .long("slots")
         .value_name("N")
@@ -74,7 +86,10 @@ fn slots_arg<'a>(alloc: Global) -> Arg<'a> {
         .default_value("2")
 }
 
-fn clients_arg<'a>(alloc: Global) -> Arg<'a> {
+fn clients_arg<'a>(alloc: Global) -> Arg<'a>
+    ensures { IsArgument (number_option (codes "clients") (codes "2")
+        (Signed (pos 1) (pos MOST_CLIENTS))) result }
+{
     Arg::new(alloc, "clients")
         .long("clients")
         .value_name("N")
@@ -83,7 +98,10 @@ fn clients_arg<'a>(alloc: Global) -> Arg<'a> {
         .default_value("2")
 }
 
-fn capacity_arg<'a>(alloc: Global) -> Arg<'a> {
+fn capacity_arg<'a>(alloc: Global) -> Arg<'a>
+    ensures { IsArgument (number_option (codes "capacity") (codes "600")
+        (Unsigned 0 PLAYED_CAPACITY)) result }
+{
     Arg::new(alloc, "capacity")
         .long("capacity")
         .value_name("N")
@@ -92,7 +110,9 @@ fn capacity_arg<'a>(alloc: Global) -> Arg<'a> {
         .default_value("600")
 }
 
-fn strict_arg<'a>(alloc: Global) -> Arg<'a> {
+fn strict_arg<'a>(alloc: Global) -> Arg<'a>
+    ensures { IsArgument (flag_option (codes "strict")) result }
+{
     Arg::new(alloc, "strict")
         .long("strict")
         .help("Grants no charge beyond the capacity")
@@ -100,7 +120,9 @@ fn strict_arg<'a>(alloc: Global) -> Arg<'a> {
 }
 
 /// The subcommand `core`.
-fn core_command<'a>(alloc: Global) -> Result<Command<'a>, AllocError> {
+fn core_command<'a>(alloc: Global) -> Result<Command<'a>, AllocError>
+    ensures { IfOk result (IsCommand core_app) }
+{
     Command::new(alloc, "core")
         .about(CORE_ABOUT)
         .after_help(CORE_AFTER)
@@ -110,8 +132,20 @@ fn core_command<'a>(alloc: Global) -> Result<Command<'a>, AllocError> {
         .arg(strict_arg(alloc))
 }
 
+/// What the words give, of which the first is the program's name.
+pub fn parsed<'a>(alloc: Global, words: &'a [String]) -> Result<ArgMatches<'a>, Error>
+    ensures ok { IfOk result (λ matches. (faults_of (map string_bytes words.now) ≡ [])
+        × (subcommand_rows_of matches ≡ used_by (map string_bytes words.now))) }
+    ensures err { IfErr result (HasKind (faults_of (map string_bytes words.now))) }
+{
+    let command = command(alloc)?;
+    command.try_get_matches_from(words)
+}
+
 /// The whole command line.
-pub fn command<'a>(alloc: Global) -> Result<Command<'a>, AllocError> {
+fn command<'a>(alloc: Global) -> Result<Command<'a>, AllocError>
+    ensures { IfOk result (IsCommand program) }
+{
     let core = core_command(alloc)?;
     let run = run_command(alloc)?;
     let blocks = blocks_command(alloc)?;
@@ -142,22 +176,30 @@ pub fn default_setup() -> Setup
 /// The setup that the options of `core` tell, if each is in its range.
 pub fn setup_of(options: &ArgMatches<'_>) -> Option<Setup>
     ensures opens { IfSome result CanOpen }
-    ensures slots { IfSome result (λ setup. setup.slots ≤ PLAYED_SLOTS) }
-    ensures capacity { IfSome result (λ setup. setup.capacity ≤ PLAYED_CAPACITY) }
+    ensures given { Finds (λ setup. GivesSetup (rows_of (found_of options.now)) setup
+        × CanPlay setup) result }
 {
-    let slots = options.get_one::<u32>("slots")?;
-    let clients = options.get_one::<u32>("clients")?;
-    let capacity = options.get_one::<u64>("capacity")?;
-    if !(1..=PLAYED_SLOTS).contains(&slots) || !(1..=MOST_CLIENTS).contains(&clients) {
-        return None;
-    }
-    if capacity > PLAYED_CAPACITY {
-        return None;
-    }
-    Some(Setup {
-        slots,
-        clients,
-        capacity,
-        strict: options.get_flag("strict"),
-    })
+    let setup = Setup {
+        slots: number(options, "slots")?,
+        clients: number(options, "clients")?,
+        capacity: wide_number(options, "capacity")?,
+        strict: flag(options, "strict"),
+    };
+    if is_played(&setup) { Some(setup) } else { None }
+}
+
+/// Whether each number is in its range.
+fn is_played(setup: &Setup) -> bool
+    ensures { result ≡ is_played setup.now }
+{
+    is_within(1, PLAYED_SLOTS, setup.slots)
+        && is_within(1, MOST_CLIENTS, setup.clients)
+        && setup.capacity <= PLAYED_CAPACITY
+}
+
+/// Whether a number is in this range.
+fn is_within(least: u32, most: u32, number: u32) -> bool
+    ensures { result ≡ is_within least most number }
+{
+    least <= number && number <= most
 }

@@ -10,8 +10,7 @@ mod progress;
 mod run;
 mod run_command;
 mod status;
-#[cfg(test)]
-mod tests;
+mod values;
 
 use crate::run::{Terminals, run};
 use crate::status::Status;

@@ -1,4 +1,6 @@
 //! The subcommand `run`.
+ghost use Rattle.std.specs.Prelude.{IfOk};
+ghost use Rattle.hcc_play.specs.CommandLine.{IsCommand, run_app};
 
 use crate::cache_options::with_cache_args;
 use clap::Command;
@@ -62,7 +64,9 @@ FAULT` is told, of the first line at fault:
   ValueTooLong   a value is longer than the room of a slot";
 
 /// The subcommand `run`.
-pub fn run_command<'a>(alloc: Global) -> Result<Command<'a>, AllocError> {
+pub fn run_command<'a>(alloc: Global) -> Result<Command<'a>, AllocError>
+    ensures { IfOk result (IsCommand run_app) }
+{
     let command = Command::new(alloc, "run").about(ABOUT).after_help(AFTER);
     with_cache_args(alloc, command)
 }

@@ -1,5 +1,6 @@
 -- Bytes that leave in parts.
-use Rattle.std.proofs.Common.{◌≡◌, ℕ, List, [], ◌++◌, Option, Some, None, Result, Ok, Err, OnErr, OnOk}
+use Rattle.std.proofs.Common.{◌≡◌, ℕ, List, [], ◌++◌, Option, Some, None, Result, Ok, Err, OnErr}
+use Rattle.std.proofs.Common.{OnOk}
 use Rattle.std.proofs.Common.{IfOk, length, take}
 use Rattle.std.proofs.Math.Seq.{take-append_seam}
 use Rattle.std.proofs.Common.{drop, refl, sym, ap, ◌∙◌, append_assoc, append-nil, take-append-drop}
@@ -64,6 +65,10 @@ all_out a b bytes out = rw (← out.cut, append-nil out.front) out.appended
 pub on_error : {A E : Type 0} (result : Result A E) (P : Type 0) → P → OnErr result P
 on_error (Ok value) P holds = tt
 on_error (Err error) P holds = holds
+
+pub on_ok : {A E : Type 0} (result : Result A E) (P : Type 0) → P → OnOk result P
+on_ok (Ok value) P holds = holds
+on_ok (Err error) P holds = tt
 
 -- what follows of a fact that holds at a success, or at an error
 pub on_ok_so : {A E : Type 0} (result : Result A E) (P Q : Type 0) → (P → Q) → OnOk result P

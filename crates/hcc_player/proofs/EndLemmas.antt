@@ -1,13 +1,14 @@
 -- The end of a trace: all that is held is released, and the cache is closed.
 use Rattle.std.proofs.Common.{◌≡◌, ◌≢◌, ℕ, zero, suc, ◌+◌, ◌<◌, ◌≤◌, ◌==◌, inl, inr, true, false}
 use Rattle.std.proofs.Common.{List, [], ◌∷◌, Option, Some, None, length, refl, sym, ap, ◌∙◌}
-use Rattle.std.proofs.Common.{arith, rules, tests}
+use Rattle.std.proofs.Common.{add-one, subst, arith, rules, tests}
 use Rattle.std.specs.Prelude.{slice_get, slice_set}
 use Rattle.std.proofs.lemmas.Bool.{cases_eq}
 use Rattle.hcc_rule.specs.declared.key.Key.{Key}
 use Rattle.hcc_cache.specs.declared.cache.Cache.{Cache}
 use Rattle.hcc_cache.specs.declared.client.Client.{Client}
 use Rattle.hcc_cache.specs.declared.config.Config.{Config}
+use Rattle.hcc_cache.specs.declared.handle.Handle.{Handle}
 use Rattle.hcc_cache.specs.declared.errors.CloseError.{CloseError}
 use Rattle.hcc_cache.specs.declared.errors.CloseError.TheVariants.{Missing, HandlesOut}
 use Rattle.hcc_cache.specs.Clients.{held_by}
@@ -19,6 +20,8 @@ use Rattle.hcc_player.specs.declared.run.call.Call.TheVariants as calls
 use Rattle.hcc_player.specs.declared.run.registers.Registers.{Registers}
 use Rattle.hcc_player.specs.Registers.{at, AreFilled, CanPlay}
 use Rattle.hcc_player.specs.RunAnswers.{IsRight}
+use Rattle.hcc_player.specs.RunCalls.{Does}
+use Rattle.hcc_player.specs.Runs.{LetsAllGo, LetsGo}
 use Rattle.hcc_player.specs.RunStates.{State, with_emptied}
 use Rattle.hcc_player.proofs.RegisterLemmas.{all_empty, none_empty}
 
@@ -97,29 +100,57 @@ module _ {T : Type 0} (fits : T → Key → List ℕ → Type 0) (cache : Cache 
       ∙ all_empty handles (λ r within. none_empty fits cache client (s.registers r) (at handles r)
       (filled.each r) (none r within))
 
+  -- one register more was released
+  pub let_one_more : (r : ℕ) (old mid new : Client T) (was held now : List (Option Handle))
+      (answer : Answer) → LetsGo fits cache r old mid was held
+      → Does fits cache (calls.Release r false false) answer mid new held now
+      → LetsGo fits cache (r + 1) old new was now
+  let_one_more r old mid new was held now answer so_far did =
+      subst (λ n. LetsGo fits cache n old new was now) (sym (add-one r))
+      (mid, held, so_far, (answer, did))
+
+  -- what a client did that let go, of those that were there first
+  abbrev pub HasLetGo : (first : List (Client T)) → (kept : List Registers) → ℕ → Client T → Type 0
+  HasLetGo first kept c last =
+      (client : Client T) (held : Registers) → slice_get first c ≡ Some client
+      → slice_get kept c ≡ Some held → LetsAllGo fits cache client last held.handles.items
+
   -- The clients below this number have let go of all that they held; the others may play.
-  pub record LettingGo (n : ℕ) (first clients : List (Client T)) (registers : List Registers)
+  pub record LettingGo (n : ℕ) (first clients : List (Client T)) (kept registers : List Registers)
       : Type 0 where
     pub count : length clients ≡ length first
     pub alike : length registers ≡ length clients
     pub before : (c : ℕ) (client : Client T) → c < n → slice_get clients c ≡ Some client
         → Knows cache client × (held_by client ≡ 0)
+    pub did : (c : ℕ) (last : Client T) → c < n → slice_get clients c ≡ Some last
+        → HasLetGo first kept c last
+    pub same : (c : ℕ) → n ≤ c → slice_get clients c ≡ slice_get first c
+    pub alone : (c : ℕ) → n ≤ c → slice_get registers c ≡ slice_get kept c
     pub behind : (c : ℕ) (client : Client T) (held : Registers) → n ≤ c
         → slice_get clients c ≡ Some client → slice_get registers c ≡ Some held
         → CanPlay fits cache client held.handles.items
 
   -- one client more
   pub lets_go : (n : ℕ) (first clients clients' : List (Client T))
-      (registers registers' : List Registers) (client : Client T) (held : Registers)
-      → LettingGo n first clients registers → clients' ≡ slice_set clients n client
+      (kept registers registers' : List Registers) (client : Client T) (held : Registers)
+      → LettingGo n first clients kept registers → clients' ≡ slice_set clients n client
       → registers' ≡ slice_set registers n held → length clients' ≡ length clients
       → length registers' ≡ length registers → Knows cache client → held_by client ≡ 0
-      → LettingGo (n + 1) first clients' registers'
-  lets_go n first clients clients' registers registers' client held so_far here there same alike
-      known none = record {
+      → HasLetGo first kept n client → LettingGo (n + 1) first clients' kept registers'
+  lets_go n first clients clients' kept registers registers' client held so_far here there same
+      alike known none went = record {
         count = same ∙ so_far.count;
         alike = alike ∙ so_far.alike ∙ sym same;
         before = before;
+        did = did;
+        same = λ c within.
+            let other : c ≢ n = λ e. absurd (omega (arith, e)) in
+            ap (λ l. slice_get l c) here ∙ off_member clients n c client other
+            ∙ so_far.same c (omega arith);
+        alone = λ c within.
+            let other : c ≢ n = λ e. absurd (omega (arith, e)) in
+            ap (λ l. slice_get l c) there ∙ off_member registers n c held other
+            ∙ so_far.alone c (omega arith);
         behind = λ c one kept within at holds.
             let other : c ≢ n = λ e. absurd (omega (arith, e)) in
             so_far.behind c one kept (omega arith)
@@ -137,6 +168,19 @@ module _ {T : Type 0} (fits : T → Key → List ℕ → Type 0) (cache : Cache 
                 rw same (known, none)
             | inr other ↦
                 so_far.before c one (omega arith)
+                (sym (off_member clients n c client other) ∙ rw here at at)
+          ]
+
+      did : (c : ℕ) (one : Client T) → c < n + 1 → slice_get clients' c ≡ Some one
+          → HasLetGo first kept c one
+      did c one within at =
+          elim (cases_eq c n) [
+            | inl e ↦
+                let told = rw (here, e) at at in
+                let same : one ≡ client = at_member clients n client one told in
+                rw (same, e) went
+            | inr other ↦
+                so_far.did c one (omega arith)
                 (sym (off_member clients n c client other) ∙ rw here at at)
           ]
 

@@ -1,13 +1,17 @@
 -- A whole play of a trace: what is written for its text.
-use Rattle.std.proofs.Common.{◌≡◌, ◌⊎◌, inl, inr, ℕ, zero, suc, ◌≤◌, List, [], ◌∷◌, ◌++◌, Option, Some}
-use Rattle.std.proofs.Common.{None, Result, Ok, Err, IsOk, IfSome, length, refl, sym, ◌∙◌, subst}
+use Rattle.std.proofs.Common.{◌≡◌, ◌⊎◌, inl, inr, ℕ, zero, suc, ◌≤◌, List, [], ◌∷◌, ◌++◌, Option}
+use Rattle.std.proofs.Common.{Some}
+use Rattle.std.proofs.Common.{None, Result, Ok, Err, IsOk, IfSome, ◌+◌, length, refl, sym, ap, ◌∙◌}
+use Rattle.std.proofs.Common.{subst}
 use Rattle.std.proofs.Common.{zero-add}
 use Rattle.std.specs.Io.KnownBytes.{Appends, Keeps}
+use Rattle.hcc_core.specs.Sums.{total}
 use Rattle.hcc_rule.specs.declared.key.Key.{Key}
 use Rattle.hcc_cache.specs.declared.cache.Cache.{Cache}
 use Rattle.hcc_cache.specs.declared.client.Client.{Client}
 use Rattle.hcc_cache.specs.declared.config.Config.{Config}
 use Rattle.hcc_cache.specs.Opened.{IsOpened}
+use Rattle.hcc_cache.specs.Totals.{taken_by}
 use Rattle.hcc_player.specs.declared.limits.TheConstants.{MOST_INPUT}
 use Rattle.hcc_player.specs.declared.fault.PlayError.{PlayError}
 use Rattle.hcc_player.specs.declared.fault.PlayError.TheVariants as plays
@@ -21,8 +25,10 @@ use Rattle.hcc_player.specs.Input.{IsWhole}
 use Rattle.hcc_player.specs.Judged.{FailsToJudge, IsAtFault}
 use Rattle.hcc_player.specs.Options.{config_check}
 use Rattle.hcc_player.specs.RunLine.{run_line}
-use Rattle.hcc_player.specs.PlayRun.{Agree, Answered, AnsweredPart, AreEmpty, AreManned, Ended}
-use Rattle.hcc_player.specs.PlayRun.{EndedPart, EndsRun, FitsIn, IsOutput, Writes, WritesFront}
+use Rattle.hcc_player.specs.Script.{script_of}
+use Rattle.hcc_player.specs.Runs.{AreEmpty, IsRunOf}
+use Rattle.hcc_player.specs.PlayRun.{Agree, Answered, AnsweredPart, AreManned, Ended, EndedPart}
+use Rattle.hcc_player.specs.PlayRun.{EndsRun, FitsIn, IsOutput, PlaysAll, Writes, WritesFront}
 use Rattle.hcc_player.specs.Registers.{at, AreFilled, IsFilled}
 use Rattle.hcc_player.specs.RunStates.{States, new_states}
 use Rattle.hcc_player.specs.Report.{sums_text}
@@ -30,6 +36,8 @@ use Rattle.hcc_player.specs.RunAnswers.{answers_text, AreRight, Inserts, IsPlaye
 use Rattle.hcc_player.specs.TraceTag.{fits_trace, run_trace, said}
 use Rattle.hcc_player.proofs.ByteLemmas.{all_out, leaves_less, leaves_more, leaves_none}
 use Rattle.hcc_player.proofs.ByteLemmas.{writes_nothing}
+use Rattle.hcc_player.proofs.LeavesLemmas.{leaves_placed}
+use Rattle.hcc_player.proofs.LeftLemmas.{all_counted}
 use Rattle.hcc_player.proofs.RunLemmas.{can_go_on}
 
 -- The beginning.
@@ -94,7 +102,7 @@ some_played config lines =
       },
     )
 
-pub played_as : (config : Config) (lines : List RunLine) (told : List Answer) (last : States)
+abbrev pub played_as : (config : Config) (lines : List RunLine) (told : List Answer) (last : States)
     (sums : Sums) → AreRight (Inserts lines) config new_states lines told last → Agree sums
     → IsPlayed config lines (answers_text told ++ sums_text sums)
 played_as config lines told last sums right agree = record {
@@ -108,26 +116,54 @@ played_as config lines told last sums right agree = record {
 }
 
 -- all answers and the sums are out
-pub play_whole : (config : Config) (lines : List RunLine) (old mid new : Option (List ℕ))
-    (pending : List ℕ)
-    → Answered (Inserts lines) config lines old mid [] pending → Ended mid new pending
-    → (out : List ℕ) × IsPlayed config lines out × Appends old new out
-play_whole config lines old mid new pending answered ended =
+pub play_whole : (tag : TraceTag) (cache : Cache TraceTag) (config : Config)
+    (lines : List RunLine) (first last : List (Client TraceTag)) (empty kept : List Registers)
+    (old mid new : Option (List ℕ)) (pending : List ℕ)
+    → IsOpened config tag cache first → length empty ≡ length first → AreEmpty empty
+    → Answered (Inserts lines) fits_trace cache config lines first last empty kept old mid []
+    pending
+    → Ended fits_trace cache last kept mid new pending → PlaysAll config lines old new
+play_whole tag cache config lines first last empty kept old mid new pending opened alike nothing
+    answered ended =
     let text = answers_text answered.0 in
     let more = sums_text ended.0 in (
       text ++ more,
       played_as config lines answered.0 answered.1 ended.0 answered.2 ended.1,
+      record {
+        tag = tag;
+        cache = cache;
+        first = first;
+        last = last;
+        empty = empty;
+        kept = kept;
+        opened = opened;
+        alike = alike;
+        nothing = nothing;
+        plays = answered.3;
+        closed = ended.2.0;
+        ends = ended.2.1;
+        sums_are = ended.2.2;
+        counted = ap (λ n. n + total taken_by ended.2.1.left) ended.2.2.slots
+            ∙ all_counted fits_trace config tag cache lines answered.0 first last empty kept
+            ended.2.0 opened alike answered.3 ended.2.1;
+        leaves = leaves_placed fits_trace config tag cache lines answered.0 first last empty kept
+            ended.2.0 opened alike answered.3 ended.2.1 ended.0 ended.2.2.slots
+            ended.2.2.charges;
+      },
       all_out old new (text ++ more) (leaves_less old mid new (text ++ more) (pending ++ more) []
-          (leaves_more old mid text pending more answered.3)
-          (leaves_none mid new (pending ++ more) ended.2)),
+          (leaves_more old mid text pending more answered.4)
+          (leaves_none mid new (pending ++ more) ended.3)),
     )
 
 -- a front of that is
-pub play_cut : (config : Config) (lines : List RunLine) (old mid new : Option (List ℕ))
-    (pending : List ℕ)
-    → Answered (Inserts lines) config lines old mid [] pending → EndedPart mid new pending
+pub play_cut : (cache : Cache TraceTag) (config : Config) (lines : List RunLine)
+    (first last : List (Client TraceTag)) (empty kept : List Registers)
+    (old mid new : Option (List ℕ)) (pending : List ℕ)
+    → Answered (Inserts lines) fits_trace cache config lines first last empty kept old mid []
+    pending
+    → EndedPart mid new pending
     → (out : List ℕ) × IsPlayed config lines out × AppendsPart old new out
-play_cut config lines old mid new pending answered ended =
+play_cut cache config lines first last empty kept old mid new pending answered ended =
     let text = answers_text answered.0 in
     let more = sums_text ended.0 in (
       text ++ more,
@@ -135,7 +171,7 @@ play_cut config lines old mid new pending answered ended =
       (
         ended.2.0,
         leaves_less old mid new (text ++ more) (pending ++ more) ended.2.0
-            (leaves_more old mid text pending more answered.3) ended.2.1,
+            (leaves_more old mid text pending more answered.4) ended.2.1,
       ),
     )
 
@@ -176,12 +212,13 @@ output_of config text out short good played = record {
 
 pub writes_known : (config : Config) (known old new : Option (List ℕ)) (bytes : List ℕ)
     → IsWhole known bytes → IsOk (run_trace config bytes)
-    → ((out : List ℕ) × IsPlayed config (said (run_trace config bytes)) out × Appends old new out)
+    → PlaysAll config (said (run_trace config bytes)) old new
     → IfSome known (Writes config old new)
+unfolding output_of script_of
 writes_known config None old new bytes whole good done = tt
 writes_known config (Some text) old new bytes whole good done =
     subst (Writes config old new) whole.1
-    (done.0, output_of config bytes done.0 whole.0 good done.1, done.2)
+    (done.0, output_of config bytes done.0 whole.0 good done.1, done.2, done.3)
 
 pub fronts_known : (config : Config) (known old new : Option (List ℕ)) (bytes : List ℕ)
     → IsWhole known bytes → IsOk (run_trace config bytes)
@@ -216,13 +253,19 @@ run_judged config (Some text) bytes plays.BadBlock allowed whole fails = absurd 
 
 -- the tag names the trace, whatever it is called
 pub answered_as : (tag : TraceTag) (cache : Cache TraceTag) → cache.tag ≡ tag
-    → (config : Config) (lines : List RunLine) (old new : Option (List ℕ))
-    (pending first rest : List ℕ)
-    → pending ≡ first → Answered (fits_trace cache.tag) config lines old new pending rest
-    → Answered (fits_trace tag) config lines old new first rest
-answered_as tag cache same config lines old new pending first rest begun answered =
-    subst (λ p. Answered (fits_trace tag) config lines old new p rest) begun
-    (subst (λ t. Answered (fits_trace t) config lines old new pending rest) same answered)
+    → (config : Config) (lines : List RunLine) (clients made : List (Client TraceTag))
+    (was now : List Registers) (old new : Option (List ℕ)) (pending first rest : List ℕ)
+    → pending ≡ first
+    → Answered (fits_trace cache.tag) fits_trace cache config lines clients made was now old new
+    pending rest
+    → Answered (fits_trace tag) fits_trace cache config lines clients made was now old new first
+    rest
+answered_as tag cache same config lines clients made was now old new pending first rest begun
+    answered =
+    subst (λ p. Answered (fits_trace tag) fits_trace cache config lines clients made was now old new
+    p rest) begun
+    (subst (λ t. Answered (fits_trace t) fits_trace cache config lines clients made was now old new
+    pending rest) same answered)
 
 pub part_as : (tag : TraceTag) (cache : Cache TraceTag) → cache.tag ≡ tag
     → (config : Config) (lines : List RunLine) (old new : Option (List ℕ)) (pending first : List ℕ)

@@ -16,14 +16,17 @@ use Rattle.hcc_player.specs.declared.blocks.line.BlockRead.{BlockRead}
 use Rattle.hcc_player.specs.declared.blocks.tally.ClientReport.{ClientReport}
 use Rattle.hcc_player.specs.declared.blocks.worker.Done.{Done}
 use Rattle.hcc_player.specs.declared.blocks.worker.Worker.{Worker}
+use Rattle.hcc_player.specs.declared.options.Options.{Options}
 use Rattle.hcc_player.specs.declared.sums.Sums.{Sums}
 use Rattle.hcc_player.specs.Deal.{AreDealt}
 use Rattle.hcc_player.specs.PlayBlocks.{ArePlayed}
+use Rattle.hcc_player.specs.Reading.{IsReadOf, ReadsLines, counts_of, no_counts}
 use Rattle.hcc_player.specs.Tally.{found_by, lines_for, IsTally}
 use Rattle.hcc_player.specs.Work.{AllWith, EachAt, Ends, IsIdle, IsReady, IsSetUp, IsSteady}
 use Rattle.hcc_player.proofs.Adding.{tally_for}
 use Rattle.hcc_player.proofs.Fine.{IsBlockSize}
 use Rattle.hcc_player.proofs.Places.{all_at, each_all, each_map, each_with}
+use Rattle.hcc_player.proofs.ReadLemmas.{at_map}
 
 -- the block that a key names fits it
 fits_itself : (files : List (List ℕ)) (size : ℕ) → FitsBlocks (IsBlock files size) files size
@@ -92,6 +95,10 @@ module _ {S : Type 0} (content : S → List (List ℕ)) (reliable : S → Type 0
   pub record HasEnded (steady : (client : ℕ) → Type 0) (number : ℕ) (d : Done FilesTag) : Type 0
     where
       pub idle : IsIdle cache d.client
+      pub client : Client FilesTag
+      pub client_was : slice_get clients number ≡ Some client
+      pub reads : ReadsLines fits_files cache (files_of tag) tag.block (get_or lists number [])
+          no_counts (counts_of d.report) client d.client
       pub tally : IsTally (steady number)
           (found_by (files_of tag) tag.block (get_or lists number [])) d.report
 
@@ -107,6 +114,9 @@ module _ {S : Type 0} (content : S → List (List ℕ)) (reliable : S → Type 0
       let tally = rw (files, set.block_is, ← lines) at ends.tally in
       record {
         idle = ends.idle;
+        client = w.client;
+        client_was = set.client_is;
+        reads = rw (files, set.block_is, ← lines) at ends.reads;
         tally = tally_for (IsSteady reliable sources k) (reliable w.reader.source)
             (found_by (files_of tag) tag.block (get_or lists k [])) d.report
             (λ steady.
@@ -141,6 +151,53 @@ module _ {S : Type 0} (content : S → List (List ℕ)) (reliable : S → Type 0
       each_map (λ k r. IsTally (steady k)
       (found_by (files_of tag) tag.block (get_or lists k [])) r) (λ d. d.report) ds
       (λ k d here. (ended k d here).tally)
+
+  -- what their clients did
+  abbrev Read : ℕ → ClientReport → Client FilesTag → Client FilesTag → Type 0
+  Read k r was is =
+      ReadsLines fits_files cache (files_of tag) tag.block (get_or lists k []) no_counts
+      (counts_of r) was is
+
+  pub all_read : (steady : (client : ℕ) → Type 0) (ds : List (Done FilesTag))
+      → EachAt (HasEnded steady) ds → (k : ℕ) (was is : Client FilesTag) (r : ClientReport)
+      → slice_get clients k ≡ Some was → slice_get (map (λ d. d.client) ds) k ≡ Some is
+      → slice_get (map (λ d. d.report) ds) k ≡ Some r
+      → ReadsLines fits_files cache (files_of tag) tag.block (get_or lists k []) no_counts
+      (counts_of r) was is
+  all_read steady ds ended k was is r first last told =
+      let d = at_map (λ (d : Done FilesTag). d.client) ds k is last in
+      let e = at_map (λ (d : Done FilesTag). d.report) ds k r told in
+      let same : e.0 ≡ d.0 = cc (d.1, e.1) in
+      let has = ended k d.0 d.1 in
+      let before : has.client ≡ was = cc (has.client_was, first) in
+      let report : d.0.report ≡ r = subst (λ (x : Done FilesTag). x.report ≡ r) same e.2 in
+      subst (λ x. Read k r was x) d.2
+      (subst (λ x. Read k r x d.0.client) before
+      (subst (λ x. Read k x has.client d.0.client) report has.reads))
+
+-- what clients did for the reads that were dealt to them is what they did for their lines
+pub read_lines : (files : List (List ℕ)) (o : Options) (clients : ℕ) (reads : List BlockRead)
+    (lists : List (List BlockRead)) (sums : Sums) (told : List ClientReport)
+    → length told ≡ clients → AreDealt clients reads lists
+    → IsReadOf files o (λ client. get_or lists client []) sums told
+    → IsReadOf files o (λ client. lines_for client reads) sums told
+read_lines files o clients reads lists sums told count dealt played = record {
+  tag = played.tag;
+  named = played.named;
+  cache = played.cache;
+  first = played.first;
+  last = played.last;
+  opened = played.opened;
+  count = played.count;
+  each = λ k was is r first last here.
+      let within : k < clients = subst (λ n. k < n) count (slice_get_within told k r here) in
+      rw (← dealt.each k within) (played.each k was is r first last here);
+  closed = played.closed;
+  back = played.back;
+  closes = played.closes;
+  sums_are = played.sums_are;
+  few = played.few;
+}
 
 -- what clients report of the reads that were dealt to them is what they report of their lines
 pub played_lines : (files : List (List ℕ)) (size clients : ℕ) (steady : (client : ℕ) → Type 0)

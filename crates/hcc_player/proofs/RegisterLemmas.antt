@@ -14,7 +14,7 @@ use Rattle.hcc_cache.specs.Clients.{Held, Insertion, held_by, held_of, hold_of}
 use Rattle.hcc_cache.specs.Inserts.{KeepsHandles}
 use Rattle.hcc_cache.specs.Known.{Knows}
 use Rattle.hcc_player.specs.declared.run.registers.Registers.{Registers}
-use Rattle.hcc_player.specs.PlayRun.{AreEmpty}
+use Rattle.hcc_player.specs.Runs.{AreEmpty}
 use Rattle.hcc_player.specs.Registers.{at, how_many, AreFilled, IsFilled, IsLimited, IsOn}
 use Rattle.hcc_player.specs.RunStates.{State, with_emptied, with_filled, with_register, with_serial}
 

@@ -19,12 +19,14 @@ use Rattle.hcc_player.specs.RunAnswers.{answer_line, answers_text, AreRight, Ins
 use Rattle.hcc_player.specs.RunAnswers.{PutsIn}
 use Rattle.hcc_player.specs.RunLine.{run_line}
 use Rattle.hcc_player.specs.RunStates.{State, States, new_states, with_state}
+use Rattle.hcc_player.specs.Runs.{Makes, MakesAll}
 use Rattle.hcc_player.specs.declared.fault.ScriptFault.{ScriptFault}
 use Rattle.hcc_player.specs.Script.{lines_of, script_from, script_of}
 use Rattle.hcc_player.specs.TraceTag.{run_trace, said}
 use Rattle.hcc_player.proofs.ByteLemmas.{leaves_less, leaves_more}
 use Rattle.hcc_player.proofs.EndLemmas.{at_member, off_member}
 use Rattle.hcc_player.proofs.RunLemmas.{answers_more, can_go_on, right_more, right_one}
+use Rattle.hcc_player.proofs.RunsLemmas.{makes_one}
 use Rattle.hcc_player.proofs.Splits.{splits, ends}
 
 -- what stands behind a front of a list
@@ -54,7 +56,8 @@ said_good config text good = by (script_from (run_line config) 1 (lines_of text)
     by (Ok lines) fine = refl
     by (Err fault) fine = cc
 
-module _ {T : Type 0} (fits : T → Key → List ℕ → Type 0) (cache : Cache T) (config : Config) where
+module _ {T : Type 0} (fits : T → Key → List ℕ → Type 0) (cache : Cache T) (config : Config)
+    (first : List (Client T)) (empty : List Registers) where
   -- So far: these lines were answered, those are left, and the clients with their registers are as
   -- the answers say.
   pub record Running (old new : Option (List ℕ)) (before pending rest : List ℕ)
@@ -69,15 +72,15 @@ module _ {T : Type 0} (fits : T → Key → List ℕ → Type 0) (cache : Cache 
     pub states : States
     pub right : AreRight (fits cache.tag) config new_states front told states
     pub manned : AreManned fits cache config states clients registers
+    pub made : MakesAll fits cache front told first clients empty registers
     pub out : Leaves old new (before ++ answers_text told) pending
 
   -- nothing is answered yet
   pub running_begins : (old new : Option (List ℕ)) (before text : List ℕ) (all : List RunLine)
-      (clients : List (Client T)) (registers : List Registers)
       → script_from (run_line config) 1 (lines_of text) ≡ Ok all
-      → AreManned fits cache config new_states clients registers → Leaves old new before before
-      → Running old new before before text all clients registers
-  running_begins old new before text all clients registers read manned out = record {
+      → AreManned fits cache config new_states first empty → Leaves old new before before
+      → Running old new before before text all first empty
+  running_begins old new before text all read manned out = record {
     number = 1;
     left = all;
     read = read;
@@ -87,6 +90,7 @@ module _ {T : Type 0} (fits : T → Key → List ℕ → Type 0) (cache : Cache 
     states = new_states;
     right = refl;
     manned = manned;
+    made = (refl, refl);
     out = rw (append-nil before) out;
   }
 
@@ -134,10 +138,11 @@ module _ {T : Type 0} (fits : T → Key → List ℕ → Type 0) (cache : Cache 
       (answer : Answer)
       → Next old mid before pending rest after all clients registers so_far line
       → Steps fits cache line answer clients clients' registers registers'
+      → Makes fits cache line answer clients clients' registers registers'
       → Leaves mid new (pending ++ answer_line answer) pending'
       → Running old new before pending' after all clients' registers'
   running_goes old mid new before pending pending' rest after all clients clients' registers
-      registers' so_far line answer next steps out =
+      registers' so_far line answer next steps makes out =
       let now = steps config so_far.states so_far.manned in
       let text : before ++ answers_text (so_far.told ++ answer ∷ [])
       ≡ (before ++ answers_text so_far.told) ++ answer_line answer =
@@ -156,6 +161,8 @@ module _ {T : Type 0} (fits : T → Key → List ℕ → Type 0) (cache : Cache 
         right = right_one (fits cache.tag) config new_states so_far.states so_far.front
             so_far.told line answer now.0 so_far.right now.1;
         manned = now.2;
+        made = makes_one fits cache so_far.front so_far.told line answer first clients clients'
+            empty registers registers' so_far.made makes;
         out = rw text (leaves_less old mid new _ _ _
             (leaves_more old mid (before ++ answers_text so_far.told) pending (answer_line answer)
             so_far.out) out);
@@ -165,7 +172,8 @@ module _ {T : Type 0} (fits : T → Key → List ℕ → Type 0) (cache : Cache 
   pub running_ends : (old new : Option (List ℕ)) (before pending rest : List ℕ)
       (all : List RunLine) (clients : List (Client T)) (registers : List Registers)
       → Running old new before pending rest all clients registers → lines_of rest ≡ rest ∷ []
-      → Answered (fits cache.tag) config all old new before pending
+      → Answered (fits cache.tag) fits cache config all first clients empty registers old new
+      before pending
   running_ends old new before pending rest all clients registers so_far whole =
       let none = ends (run_line config) so_far.number rest so_far.left whole so_far.read in
       let same : so_far.front ≡ all =
@@ -174,6 +182,8 @@ module _ {T : Type 0} (fits : T → Key → List ℕ → Type 0) (cache : Cache 
         so_far.states,
         subst (λ l. AreRight (fits cache.tag) config new_states l so_far.told so_far.states) same
             so_far.right,
+        subst (λ l. MakesAll fits cache l so_far.told first clients empty registers) same
+            so_far.made,
         so_far.out,
       )
 
@@ -209,13 +219,14 @@ module _ {T : Type 0} (fits : T → Key → List ℕ → Type 0) (cache : Cache 
       (answer : Answer)
       → Next old mid before pending rest after all clients registers so_far line
       → Steps fits cache line answer clients clients' registers registers'
+      → Makes fits cache line answer clients clients' registers registers'
       → AppendsPart mid new (pending ++ answer_line answer)
       → AnsweredPart (fits cache.tag) config all old new before
   running_fails old mid new before pending rest after all clients clients' registers registers'
-      so_far line answer next steps part =
+      so_far line answer next steps makes part =
       running_stops old new before part.0 after all clients' registers'
       (running_goes old mid new before pending part.0 rest after all clients clients' registers
-      registers' so_far line answer next steps part.1)
+      registers' so_far line answer next steps makes part.1)
 
 module _ {T : Type 0} (fits : T → Key → List ℕ → Type 0) (cache : Cache T) where
   -- the call of a line, by its client

@@ -17,10 +17,12 @@ pub mod RunAnswers
 pub mod Registers
 pub mod RunCalls
 pub mod TraceTag
+pub mod Runs
 pub mod PlayRun
 pub mod BlocksLine
 pub mod Tally
 pub mod Deal
+pub mod Reading
 pub mod Work
 pub mod BlocksReport
 pub mod PlayBlocks

@@ -13,6 +13,7 @@ use Rattle.hcc_player.specs.BlocksReport.{report_text}
 use Rattle.hcc_player.specs.Bytes.{AppendsPart}
 use Rattle.hcc_player.specs.Judged.{FailsToJudge, IsAtFault}
 use Rattle.hcc_player.specs.Options.{options_check}
+use Rattle.hcc_player.specs.Reading.{IsReadOf}
 use Rattle.hcc_player.specs.Tally.{found_by, lines_for, IsTally}
 use Rattle.hcc_player.specs.Work.{EachAt}
 
@@ -28,7 +29,8 @@ pub record ArePlayed (files : List (List ℕ)) (size clients : ℕ) (steady : (c
   pub charged : sums.charges ≡ sums.usage
   pub occupies : sums.slots ≡ sums.occupied
 
--- These bytes report the reads of a trace, each client's by itself.
+-- These bytes report the reads of a trace, each client's by itself: all were made on one new cache,
+-- and the sums are those of that cache, closed.
 pub record IsReport (files : List (List ℕ)) (o : Options) (steady : (client : ℕ) → Type 0)
     (text bytes : List ℕ) : Type 0 where
   pub reads : List BlockRead
@@ -37,6 +39,7 @@ pub record IsReport (files : List (List ℕ)) (o : Options) (steady : (client : 
   pub told : List ClientReport
   pub played : ArePlayed files o.block o.config.clients steady
       (λ client. lines_for client reads) sums told
+  pub on_cache : IsReadOf files o (λ client. lines_for client reads) sums told
   pub bytes_are : bytes ≡ report_text sums told
 
 -- a report of the text was written, or a front of one

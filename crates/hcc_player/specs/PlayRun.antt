@@ -5,10 +5,9 @@ use Rattle.std.specs.Io.KnownBytes.{Appends, Keeps}
 use Rattle.hcc_rule.specs.declared.key.Key.{Key}
 use Rattle.hcc_cache.specs.declared.cache.Cache.{Cache}
 use Rattle.hcc_cache.specs.declared.client.Client.{Client}
+use Rattle.hcc_cache.specs.declared.closed.Closed.{Closed}
 use Rattle.hcc_cache.specs.declared.config.Config.{Config}
-use Rattle.hcc_cache.specs.Clients.{held_by}
 use Rattle.hcc_cache.specs.Configs.{shard_geometry}
-use Rattle.hcc_cache.specs.Known.{Knows}
 use Rattle.hcc_player.specs.declared.limits.TheConstants.{MOST_INPUT}
 use Rattle.hcc_player.specs.declared.fault.PlayError.{PlayError}
 use Rattle.hcc_player.specs.declared.fault.PlayError.TheVariants as plays
@@ -21,9 +20,11 @@ use Rattle.hcc_player.specs.Judged.{IsAtFault}
 use Rattle.hcc_player.specs.Options.{config_check}
 use Rattle.hcc_player.specs.Registers.{AreFilled}
 use Rattle.hcc_player.specs.Report.{sums_text}
+use Rattle.hcc_player.specs.Sums.{AreSumsOf}
 use Rattle.hcc_player.specs.RunAnswers.{answers_text, AreRight, Inserts, IsPlayed, IsRight}
 use Rattle.hcc_player.specs.RunStates.{State, States, new_states, with_state}
 use Rattle.hcc_player.specs.RunLine.{run_line}
+use Rattle.hcc_player.specs.Runs.{ClosesAfter, IsRunOf, MakesAll}
 use Rattle.hcc_player.specs.Script.{lines_of, AllSay}
 use Rattle.hcc_player.specs.TraceTag.{run_trace}
 
@@ -39,9 +40,12 @@ pub record IsOutput (config : Config) (text out : List ℕ) : Type 0 where
   pub trace : IsTrace config text lines
   pub played : IsPlayed config lines out
 
--- what was written for this text
+-- This was written for this text: its lines were played so on one cache, whose sums stand at the
+-- end.
 abbrev pub Writes : Config → (old new : Option (List ℕ)) → (text : List ℕ) → Type 0
-Writes config old new text = (out : List ℕ) × IsOutput config text out × Appends old new out
+Writes config old new text =
+    (out : List ℕ) × (is : IsOutput config text out)
+    × IsRunOf config is.lines is.played.told is.played.sums × Appends old new out
 
 -- Nothing was written, or a front of what may be written for this text.
 abbrev pub WritesFront : Config → (old new : Option (List ℕ)) → (text : List ℕ) → Type 0
@@ -66,6 +70,12 @@ EndsRun config plays.WriteFailed text = (config_check config ≡ Ok tt)
 
 -- What its parts promise.
 
+-- These lines were played on one cache, and all that they are answered was written with its sums.
+abbrev pub PlaysAll : Config → List RunLine → (old new : Option (List ℕ)) → Type 0
+PlaysAll config lines old new =
+    (out : List ℕ) × (is : IsPlayed config lines out) × IsRunOf config lines is.told is.sums
+    × Appends old new out
+
 -- Each client with its registers is there, and they are as it is told of them.
 pub record AreManned {T : Type 0} (fits : T → Key → List ℕ → Type 0) (cache : Cache T)
     (config : Config) (states : States) (clients : List (Client T)) (registers : List Registers)
@@ -74,10 +84,6 @@ pub record AreManned {T : Type 0} (fits : T → Key → List ℕ → Type 0) (ca
   pub each : (c : ℕ) (client : Client T) (held : Registers) → slice_get clients c ≡ Some client
       → slice_get registers c ≡ Some held
       → AreFilled fits cache config (states c) client held.handles.items
-
--- no register is kept yet
-abbrev pub AreEmpty : List Registers → Type 0
-AreEmpty all = (c : ℕ) (held : Registers) → slice_get all c ≡ Some held → held.handles.items ≡ []
 
 -- So much is told of the clients with their registers, under some options.
 abbrev pub CanAllPlay : {T : Type 0} → (T → Key → List ℕ → Type 0) → Cache T → List (Client T)
@@ -106,12 +112,15 @@ Steps fits cache line answer old new was now =
     × IsRight (fits cache.tag) config (states line.client) line.call answer next
     × AreManned fits cache config (with_state states line.client next) new now
 
--- Right answers to lines, one for each: their text left behind what was pending, but for what is
--- pending now.
-abbrev pub Answered : (Puts : Key → List ℕ → Type 0) → Config → List RunLine
+-- Right answers to lines, one for each, as their calls were made: their text left behind what was
+-- pending, but for what is pending now.
+abbrev pub Answered : {T : Type 0} → (Puts : Key → List ℕ → Type 0)
+    → (fits : T → Key → List ℕ → Type 0) → Cache T → Config → List RunLine
+    → (clients made : List (Client T)) → (was now : List Registers)
     → (old new : Option (List ℕ)) → (pending rest : List ℕ) → Type 0
-Answered Puts config lines old new pending rest =
+Answered Puts fits cache config lines clients made was now old new pending rest =
     (told : List Answer) × (last : States) × AreRight Puts config new_states lines told last
+    × MakesAll fits cache lines told clients made was now
     × Leaves old new (pending ++ answers_text told) rest
 
 -- Of some right answers to lines, a front left.
@@ -126,15 +135,20 @@ pub record Agree (sums : Sums) : Type 0 where
   pub charged : sums.charges ≡ sums.usage
   pub occupies : sums.slots ≡ sums.occupied
 
+-- The sums are those of the cache, closed after all was released.
+abbrev pub SumsAfter : {T : Type 0} → (fits : T → Key → List ℕ → Type 0) → Cache T
+    → List (Client T) → List Registers → Sums → Type 0
+SumsAfter fits cache clients registers sums =
+    (closed : Closed) × ClosesAfter fits cache clients registers closed × AreSumsOf closed sums
+
 -- what was pending is out with the sums behind it, or a front of that
-abbrev pub Ended : (old new : Option (List ℕ)) → (pending : List ℕ) → Type 0
-Ended old new pending = (sums : Sums) × Agree sums × Appends old new (pending ++ sums_text sums)
+abbrev pub Ended : {T : Type 0} → (fits : T → Key → List ℕ → Type 0) → Cache T
+    → List (Client T) → List Registers → (old new : Option (List ℕ)) → (pending : List ℕ)
+    → Type 0
+Ended fits cache clients registers old new pending =
+    (sums : Sums) × Agree sums × SumsAfter fits cache clients registers sums
+    × Appends old new (pending ++ sums_text sums)
 
 abbrev pub EndedPart : (old new : Option (List ℕ)) → (pending : List ℕ) → Type 0
 EndedPart old new pending =
     (sums : Sums) × Agree sums × AppendsPart old new (pending ++ sums_text sums)
-
--- each of these clients is known and holds nothing
-abbrev pub AllLetGo : {T : Type 0} → Cache T → ℕ → List (Client T) → Type 0
-AllLetGo cache count clients = (c : ℕ) (client : _) → c < count → slice_get clients c ≡ Some client
-    → Knows cache client × (held_by client ≡ 0)

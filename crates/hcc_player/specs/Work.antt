@@ -9,6 +9,7 @@ use Rattle.hcc_block.specs.Blocks.{FitsBlocks}
 use Rattle.hcc_player.specs.declared.blocks.line.BlockRead.{BlockRead}
 use Rattle.hcc_player.specs.declared.blocks.worker.Done.{Done}
 use Rattle.hcc_player.specs.declared.blocks.worker.Worker.{Worker}
+use Rattle.hcc_player.specs.Reading.{ReadsLines, counts_of, no_counts}
 use Rattle.hcc_player.specs.Tally.{found_by, IsTally}
 
 -- Lists by their places.
@@ -58,8 +59,11 @@ module _ {T S : Type 0} (fits : T → Key → List ℕ → Type 0) (content : S 
     pub room : w.reader.block ≤ length w.buffer.items
     pub counts : (w.reader.hits ≡ 0) × (w.reader.misses ≡ 0)
 
-  -- A worker has ended: its client is idle again, and its report is the tally of its lines.
+  -- A worker has ended: its client is idle again and read its lines on the cache, and its report is
+  -- the tally of them.
   pub record Ends (w : Worker T S) (d : Done T) : Type 0 where
     pub idle : IsIdle cache d.client
     pub tally : IsTally (reliable w.reader.source)
         (found_by (content w.reader.source) w.reader.block w.lines.items) d.report
+    pub reads : ReadsLines fits cache (content w.reader.source) w.reader.block w.lines.items
+        no_counts (counts_of d.report) w.client d.client

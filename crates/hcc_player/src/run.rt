@@ -47,7 +47,9 @@ pub fn play_run<R: Read, W: Write>(
     ensures refused { IfErr (config_check options.now.config) (λ error. (result ≡ Err error)
         × (reader.new ≡ reader.old) × (writer.new ≡ writer.old)) }
 
-    // What was read is a trace, and what may be answered to it is written, with the sums behind.
+    // What was read is a trace: its calls were made on one new cache, what they were answered is
+    // written, and behind it the sums of that cache, closed. What is left are entries that lines
+    // placed, no line twice; and with what was taken they are as many as lines placed.
     ensures written { OnOk result (IfSome (R.remaining reader.old) (Writes options.now.config
         (W.contents writer.old) (W.contents writer.new))) }
 

@@ -1,5 +1,6 @@
-//! Tests of `hcc_rule`: what no clause says. A shard is made where there is memory; the very words
-//! stand that each kind of step leaves; two clients on two threads end with the same words.
+//! Tests of `hcc_word`, `hcc_core` and `hcc_rule`: what no clause says. The numbers of words and of
+//! events are those meant. A shard is made where there is memory; the very words stand that each
+//! kind of step leaves; two clients on two threads end with the same words.
 #![tactic(auto)]
 
 #[cfg(test)]
@@ -21,8 +22,12 @@ mod inserts;
 #[cfg(test)]
 mod lookups;
 #[cfg(test)]
+mod protocol;
+#[cfg(test)]
 mod steps;
 #[cfg(test)]
 mod threads;
+#[cfg(test)]
+mod words;
 #[cfg(test)]
 mod worker;

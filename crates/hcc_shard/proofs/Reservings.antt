@@ -160,28 +160,29 @@ module _ {T A : Type 0} (shard : Shard T A) (draft : Draft) where
   module _ (fits : T → Key → List ℕ → Type 0) where
     -- A refusal by the reservation.
     pub refuses : (why : Refused) (old new : ShardSeat T)
-        → EvictsBy fits shard.table draft.charge (Err why) old.tally new.tally old.seat new.seat
+        → EvictsBy fits shard.table draft.charge (Err why) old.tally new.tally
+        old.effort new.effort old.seat new.seat
         → new.effort.probes ≡ old.effort.probes → new.boosts ≡ old.boosts
         → Refuses fits shard draft why old new
     refuses why old new evicts probes boosts = record {
       reserves = record {
         reserved = new.seat;
+        counted = new.effort;
         evicts = evicts;
         idle = record { turns = refl; takings = refl; opened = refl };
         rest = λ less. adds_none new.seat new.seat refl;
       };
+      counts = refl;
       probes = probes;
       boosts = boosts;
     }
 
     -- What was tried from where the reservation ended.
-    tries_from : (answer : Insertion) (old mid between new : ShardSeat T)
-        → Lost 0 (4 * most_turns (slots_of shard.table)) old.effort mid.effort
+    tries_from : (answer : Insertion) (mid between new : ShardSeat T)
         → TriesEach fits shard draft answer mid between → new.effort ≡ between.effort
-        → Adds between.seat new.seat → TriesFrom fits shard draft mid.seat answer old new
-    tries_from answer old mid between new lost tries same behind = record {
-      before = mid.effort;
-      lost = lost;
+        → Adds between.seat new.seat
+        → TriesFrom fits shard draft mid.seat mid.effort answer new
+    tries_from answer mid between new tries same behind = record {
       done = between.seat;
       inserts =
           subst (λ e. Inserts fits shard.table draft.key draft.serial draft.countdown answer
@@ -195,7 +196,8 @@ module _ {T A : Type 0} (shard : Shard T A) (draft : Draft) where
         → Reserves slots capacity strict charge place granted (view old.seat) (view mid.seat)
         → Lost 0 (4 * most_turns (slots_of shard.table)) old.effort mid.effort
         → new.tally ≡ mid.tally
-        → EvictsBy fits shard.table draft.charge (Ok Reserved) old.tally mid.tally old.seat mid.seat
+        → EvictsBy fits shard.table draft.charge (Ok Reserved) old.tally mid.tally
+        old.effort mid.effort old.seat mid.seat
         → IsPlaced (slots_of shard.table) slot i draft value (view mid.seat) (view new.seat)
         → Ends (atomic (address_of_meta shard.table slot) (first_word draft) 0 (first_word draft))
         mid.seat new.seat
@@ -204,9 +206,10 @@ module _ {T A : Type 0} (shard : Shard T A) (draft : Draft) where
     puts_in {i = i} slot value old mid new r lost counts evicts told last tries boosts = record {
       reserves = record {
         reserved = mid.seat;
+        counted = mid.effort;
         evicts =
             subst (λ t. EvictsBy fits shard.table draft.charge (Ok Reserved) old.tally t
-            old.seat mid.seat) (sym counts) evicts;
+            old.effort mid.effort old.seat mid.seat) (sym counts) evicts;
         idle = idle_placed slot draft value (view mid.seat) (view new.seat) told.tried;
         rest = λ less. ends_adds _ mid.seat new.seat last;
       };
@@ -218,7 +221,7 @@ module _ {T A : Type 0} (shard : Shard T A) (draft : Draft) where
           (ap (λ (z : View T). z.records) r.same) told.dead;
       last = last;
       tries =
-          tries_from (Placed slot) old mid new new lost tries refl
+          tries_from (Placed slot) mid new new tries refl
           (adds_none new.seat new.seat refl);
       probes =
           slots_from (Placed slot) old mid new new (ap (λ (z : View T). z.saw) r.same) lost.0
@@ -233,7 +236,7 @@ module _ {T A : Type 0} (shard : Shard T A) (draft : Draft) where
         → Lost 0 (4 * most_turns (slots_of shard.table)) old.effort mid.effort
         → new.tally ≡ mid.tally
         → EvictsBy fits shard.table draft.charge (Ok Reserved) old.tally mid.tally
-        old.seat mid.seat
+        old.effort mid.effort old.seat mid.seat
         → Tried (view mid.seat) (view between.seat)
         → ((view between.seat).saw < (view mid.seat).saw + slots_of shard.table
         → Adds mid.seat between.seat)
@@ -250,9 +253,10 @@ module _ {T A : Type 0} (shard : Shard T A) (draft : Draft) where
           matched = matched;
           reserves = record {
             reserved = mid.seat;
+            counted = mid.effort;
             evicts =
                 subst (λ t. EvictsBy fits shard.table draft.charge (Ok Reserved) old.tally t
-                old.seat mid.seat) (sym counts) evicts;
+                old.effort mid.effort old.seat mid.seat) (sym counts) evicts;
             idle =
                 keeps_then (view mid.seat) (view between.seat) (view new.seat)
                 (idle_tried (view mid.seat) (view between.seat) tried) idle;
@@ -263,7 +267,7 @@ module _ {T A : Type 0} (shard : Shard T A) (draft : Draft) where
           why =
               left_from matched old mid between new (ap (λ (z : View T). z.met) r.same) first met
               saw why;
-          tries = tries_from (left_out matched) old mid between new lost tries same behind;
+          tries = tries_from (left_out matched) mid between new tries same behind;
           probes =
               slots_from (left_out matched) old mid between new first lost.0 saw same
               tries.counts;
@@ -277,16 +281,23 @@ module _ {T A : Type 0} (shard : Shard T A) (draft : Draft) where
     pub leaves_unreserved : {slots capacity : ℕ} {strict : Bool} {charge granted : ℕ}
         {place : Place} (old new : ShardSeat T) (a : SeatOf T)
         → Reserves slots capacity strict charge place granted (view old.seat) (view a)
-        → EvictsBy fits shard.table draft.charge (Ok NoPlace) old.tally new.tally old.seat a
+        → EvictsBy fits shard.table draft.charge (Ok NoPlace) old.tally new.tally
+        old.effort new.effort old.seat a
         → EvictsNothing (view a) (view new.seat) → (view new.seat).saw ≡ (view a).saw
         → Adds a new.seat → new.effort.probes ≡ old.effort.probes → new.boosts ≡ old.boosts
         → LeavesOut fits shard draft old new
     leaves_unreserved old new a r evicts idle saw behind probes boosts = record {
       told = NoPlace;
       matched = false;
-      reserves = record { reserved = a; evicts = evicts; idle = idle; rest = λ less. behind };
+      reserves = record {
+        reserved = a;
+        counted = new.effort;
+        evicts = evicts;
+        idle = idle;
+        rest = λ less. behind;
+      };
       why = (refl, saw ∙ ap (λ (z : View T). z.saw) r.same, probes);
-      tries = tt;
+      tries = refl;
       probes = (
         0,
         (let before = ap (λ (z : View T). z.saw) r.same in omega arith),

@@ -8,11 +8,13 @@ use Rattle.hcc_rule.specs.declared.rule.Plan.{Plan}
 use Rattle.hcc_rule.specs.declared.view.View.{View}
 use Rattle.hcc_rule.specs.Addresses.{address_of_displacement, address_of_ledger, address_of_meta}
 use Rattle.hcc_rule.specs.Callers as table
+use Rattle.hcc_rule.specs.Events.{occupancy_done}
 use Rattle.hcc_rule.specs.Seats.{SeatOf, Makes, made, view}
 use Rattle.hcc_table.specs.declared.hiding.Erased.{Erased}
 use Rattle.hcc_table.specs.declared.pins.Pin.{Pin}
 use Rattle.hcc_table.specs.Hides.{HidesAll}
 use Rattle.hcc_table.specs.Probed.{Searches}
+use Rattle.hcc_table.specs.Seeking.{GoesOnBy, is_settling}
 use Rattle.hcc_table.specs.Steps.{Acquires, Adds, Corrects}
 use Rattle.hcc_shard.specs.declared.erasing.TheConstants.{IN_FLIGHT}
 use Rattle.hcc_shard.specs.declared.seat.ShardSeat.{ShardSeat}
@@ -88,6 +90,7 @@ module _ {T A : Type 0} (fits : T → Key → List ℕ → Type 0) where
     pub hides : HidesAll fits shard.table key IN_FLIGHT all old.effort new.effort old.seat mid
     pub taken : (view new.seat).takings ≡ (view old.seat).takings + all.slots
     pub rest : Adds mid new.seat
+    pub settles : GoesOnBy shard.table is_settling mid new.seat
 
 module _ {T A : Type 0} where
   -- one load found this meta word of a slot, this displacement word or this occupancy, and was the
@@ -103,3 +106,4 @@ module _ {T A : Type 0} where
   abbrev pub LoadsOccupancy : Shard T A → (count : ℕ) → (old new : ShardSeat T) → Type 0
   LoadsOccupancy shard count old new =
       Makes (address_of_ledger shard.table OCCUPANCY) 0 0 count old.seat new.seat
+      × table.IsEvent shard.table (occupancy_done count (view old.seat)) old.seat new.seat

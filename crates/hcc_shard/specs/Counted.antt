@@ -4,7 +4,8 @@ use Rattle.hcc_core.specs.Sums.{total}
 use Rattle.hcc_rule.specs.declared.key.Key.{Key}
 use Rattle.hcc_rule.specs.declared.layout.TheConstants.{STANDING, USAGE}
 use Rattle.hcc_rule.specs.declared.table.RuleTable.{RuleTable}
-use Rattle.hcc_rule.specs.Callers.{capacity_of, is_strict, slots_of}
+use Rattle.hcc_rule.specs.Callers.{capacity_of, is_strict, slots_of, IsEvent}
+use Rattle.hcc_rule.specs.Events.{usage_done}
 use Rattle.hcc_rule.specs.Addresses.{address_of_ledger}
 use Rattle.hcc_rule.specs.Seats.{SeatOf, Makes, view}
 use Rattle.hcc_rule.specs.ToldLedgers.{after_usage}
@@ -59,6 +60,7 @@ LoadsUsage shard result old new =
     (used : ℕ) × (view new.seat ≡ after_usage used (view old.seat))
     × Makes (address_of_ledger shard.table USAGE) 0 0 used old.seat new.seat
     × (result ≡ within (is_strict shard.table) (capacity_of shard.table) used)
+    × IsEvent shard.table (usage_done used (view old.seat)) old.seat new.seat
 
 module _ {T A : Type 0} (fits : T → Key → List ℕ → Type 0) (table : RuleTable T A) where
   -- From this slot on one slot after the other was looked at, and this charge was counted there.

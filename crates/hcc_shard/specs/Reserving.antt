@@ -11,7 +11,6 @@ use Rattle.hcc_rule.specs.ToldOwners.{first_word}
 use Rattle.hcc_table.specs.declared.efforts.Effort.{Effort}
 use Rattle.hcc_table.specs.declared.inserting.Insertion.{Insertion}
 use Rattle.hcc_table.specs.declared.inserting.Insertion.TheVariants.{Placed, Matched, NoSlot}
-use Rattle.hcc_table.specs.Efforts.{Lost}
 use Rattle.hcc_table.specs.Rises.{Rose}
 use Rattle.hcc_table.specs.Inserted.{Meets, visited_by}
 use Rattle.hcc_table.specs.Searched.{Buried, IsBefore}
@@ -21,7 +20,6 @@ use Rattle.hcc_charge.specs.declared.reserving.Reservation.{Reservation}
 use Rattle.hcc_charge.specs.declared.reserving.Reservation.TheVariants.{Reserved, NoPlace}
 use Rattle.hcc_charge.specs.declared.reserving.Refused.{Refused}
 use Rattle.hcc_charge.specs.Asked.{EvictsBy, EvictsNothing}
-use Rattle.hcc_charge.specs.Evicted.{most_turns}
 use Rattle.hcc_shard.specs.declared.inserting.Inserted.{Inserted}
 use Rattle.hcc_shard.specs.declared.inserting.Inserted.TheVariants as inserted
 use Rattle.hcc_shard.specs.declared.inserting.Pinned.{Pinned}
@@ -54,13 +52,14 @@ module _ {T A : Type 0} (shard : Shard T A) (draft : Draft) where
       × (new.effort.probes ≡ old.effort.probes)
 
 module _ {T A : Type 0} (fits : T → Key → List ℕ → Type 0) (shard : Shard T A) (draft : Draft) where
-  -- An insertion began with a reservation, which answered this, evicted just what it asked for, and
-  -- ended at this seat. What came behind it evicted nothing; and where it saw fewer slots taken
-  -- than there are, it only added steps.
+  -- An insertion began with a reservation, which answered this, evicted just what it asked for,
+  -- counted the exchanges that its eviction lost, and ended at this seat. What came behind it
+  -- evicted nothing; and where it saw fewer slots taken than there are, it only added steps.
   pub record ReservedAs (answer : Result Reservation Refused) (old new : ShardSeat T) : Type 0 where
     pub reserved : SeatOf T
+    pub counted : Effort
     pub evicts : EvictsBy fits shard.table draft.charge answer old.tally new.tally
-        old.seat reserved
+        old.effort counted old.seat reserved
     pub idle : EvictsNothing (view reserved) (view new.seat)
     pub rest : (view new.seat).saw < (view old.seat).saw + slots_of shard.table
         → Adds reserved new.seat
@@ -72,21 +71,19 @@ module _ {T A : Type 0} (fits : T → Key → List ℕ → Type 0) (shard : Shar
         new.effort old.seat new.seat
     pub counts : CountsSlots answer old new
 
-  -- They were tried from where the reservation ended, which counted nothing but exchanges that its
-  -- eviction lost. Only steps were added behind that.
-  pub record TriesFrom (reserved : SeatOf T) (answer : Insertion) (old new : ShardSeat T)
-      : Type 0 where
-    pub before : Effort
-    pub lost : Lost 0 (4 * most_turns (slots_of shard.table)) old.effort before
+  -- They were tried from where the reservation ended, and only steps were added behind that.
+  pub record TriesFrom (reserved : SeatOf T) (counted : Effort) (answer : Insertion)
+      (new : ShardSeat T) : Type 0 where
     pub done : SeatOf T
-    pub inserts : Inserts fits shard.table draft.key draft.serial draft.countdown answer before
+    pub inserts : Inserts fits shard.table draft.key draft.serial draft.countdown answer counted
         new.effort reserved done
     pub adds : Adds done new.seat
 
   -- What was tried where a place was reserved; else nothing was.
-  abbrev pub TriesWhere : Reservation → SeatOf T → Insertion → (old new : ShardSeat T) → Type 0
-  TriesWhere Reserved reserved answer old new = TriesFrom reserved answer old new
-  TriesWhere NoPlace reserved answer old new = Unit {0}
+  abbrev pub TriesWhere : Reservation → SeatOf T → Effort → Insertion → (new : ShardSeat T)
+      → Type 0
+  TriesWhere Reserved reserved counted answer new = TriesFrom reserved counted answer new
+  TriesWhere NoPlace reserved counted answer new = new.effort ≡ counted
 
   -- The entry was put in this slot, probe i of its key: the i probes before it were taken, and each
   -- entry of the key that the client holds there is dead to it. The last step showed the entry by
@@ -101,7 +98,7 @@ module _ {T A : Type 0} (fits : T → Key → List ℕ → Type 0) (shard : Shar
     pub last : Ends
         (atomic (address_of_meta shard.table slot) (first_word draft) 0 (first_word draft))
         reserves.reserved new.seat
-    pub tries : TriesFrom reserves.reserved (Placed slot) old new
+    pub tries : TriesFrom reserves.reserved reserves.counted (Placed slot) new
     pub probes : CountsSlots (Placed slot) old new
     pub boosts : new.boosts ≡ old.boosts
 
@@ -111,13 +108,14 @@ module _ {T A : Type 0} (fits : T → Key → List ℕ → Type 0) (shard : Shar
     pub matched : Bool
     pub reserves : ReservedAs (Ok told) old new
     pub why : IsLeftFor shard draft told matched old new
-    pub tries : TriesWhere told reserves.reserved (left_out matched) old new
+    pub tries : TriesWhere told reserves.reserved reserves.counted (left_out matched) new
     pub probes : CountsSlots (left_out matched) old new
     pub boosts : Rose (when matched 1) (when matched 1) old.boosts new.boosts
 
   -- Nothing was reserved, and no slot was tried.
   pub record Refuses (why : Refused) (old new : ShardSeat T) : Type 0 where
     pub reserves : ReservedAs (Err why) old new
+    pub counts : new.effort ≡ reserves.counted
     pub probes : new.effort.probes ≡ old.effort.probes
     pub boosts : new.boosts ≡ old.boosts
 

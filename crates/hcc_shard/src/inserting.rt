@@ -61,7 +61,8 @@ impl<T: Tag, A: Allocator> Shard<T, A> {
     /// eviction's last turn less than that was freed, and the last turn frees at most four entries
     /// more. CapacityFull says that less charge was freed than the reservation lacked; where an
     /// entry is refused or dropped for lack of a place, no slot was freed. Only an entry of the key
-    /// that was met is counted among the boosts.
+    /// that was met is counted among the boosts, and each exchange that its eviction lost is
+    /// counted once.
     ///
     /// The draft has no name, and its serial is above those before. It allocates nothing. It costs
     /// a reservation, and where that is granted each probe of the key as a search does, a store for
@@ -186,6 +187,7 @@ impl<T: Tag, A: Allocator> Shard<T, A> {
 
     /// Puts an entry into the table whose place and charge are granted. It returns its slot; where
     /// there is none, they are granted still.
+    #[inline(always)]
     fn put(&self, seat: &mut ShardSeat<T>, draft: Draft, value: &[u8]) -> Option<u32>
         requires seat { IsSeatAt self.now.table seat.old.seat }
         requires may { MayInsert T.fits (plan_of self.now.table) draft value.now seat.old.client

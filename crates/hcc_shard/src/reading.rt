@@ -1,5 +1,5 @@
 //! What a client reads of slots and of the entries that it holds.
-ghost use Rattle.std.specs.Prelude.{◌≡◌, ◌+◌, ◌-◌, ◌*◌, ◌≤◌, ◌++◌, IfSome, length, drop};
+ghost use Rattle.std.specs.Prelude.{◌≡◌, ◌+◌, ◌-◌, ◌*◌, ◌<◌, ◌≤◌, ◌++◌, IfErr, IfOk, IfSome, length, drop};
 ghost use Rattle.hcc_core.specs.World.{limit_of};
 ghost use Rattle.hcc_rule.specs.declared.layout.TheConstants.{KEY1};
 ghost use Rattle.hcc_rule.specs.Callers.{clients_of, plan_of, slots_of, IsSlotOf};
@@ -19,7 +19,7 @@ ghost use Rattle.hcc_shard.specs.Seated.{Rests};
 use crate::seat::ShardSeat;
 use crate::shard::Shard;
 use hcc_rule::{Key, Tag};
-use hcc_table::{Pin, displacement, read_bytes, read_key, read_len, word};
+use hcc_table::{Pin, copy_bytes, displacement, read_bytes, read_key, read_len, word};
 use std::alloc::Allocator;
 
 impl<T: Tag, A: Allocator> Shard<T, A> {
@@ -129,5 +129,41 @@ impl<T: Tag, A: Allocator> Shard<T, A> {
         ensures steps { MakesAtMost (words_for result + 1) seat.old.seat seat.new.seat }
     {
         read_bytes(&self.table, &mut seat.seat, pin, buffer)
+    }
+
+    /// The same, into any buffer. It returns how many bytes the value has, as an error where the
+    /// buffer has fewer; then nothing is copied.
+    ///
+    /// It allocates nothing. It costs a load for the length, and one for each eight bytes that are
+    /// copied, the last ones too.
+    pub fn try_read(
+        &self,
+        seat: &mut ShardSeat<T>,
+        pin: Pin,
+        buffer: &mut [u8],
+    ) -> Result<usize, usize>
+        requires seat { Rests self.now seat.old }
+        requires slot { IsSlotOf self.now.table pin.slot }
+        requires holds { IsPinned pin (view seat.old.seat) }
+        ensures seat { Rests self.now seat.new }
+        ensures view { view seat.new.seat ≡ view seat.old.seat }
+        ensures read { IfOk result (λ len. IfSome (record_in pin.name (view seat.old.seat).records)
+            (λ r. (len ≡ length r.entry.value)
+            × (buffer.new ≡ r.entry.value ++ drop len buffer.old))) }
+        ensures short { IfErr result (λ len.
+            IfSome (record_in pin.name (view seat.old.seat).records)
+            (λ r. len ≡ length r.entry.value)
+            × (length buffer.old < len) × (buffer.new ≡ buffer.old)) }
+        ensures counts { SameCounts seat.old seat.new }
+        ensures steps { IfOk result (λ len.
+            MakesAtMost (words_for len + 1) seat.old.seat seat.new.seat) }
+        ensures few { IfErr result (λ _. MakesAtMost 1 seat.old.seat seat.new.seat) }
+    {
+        let count = read_len(&self.table, &mut seat.seat, pin);
+        if buffer.len() < count {
+            return Err(count);
+        }
+        copy_bytes(&self.table, &mut seat.seat, pin, count, buffer);
+        Ok(count)
     }
 }

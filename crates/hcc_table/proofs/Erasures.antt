@@ -1,5 +1,5 @@
 -- What hiding and freeing leave of a view, put together.
-use Rattle.std.proofs.Common.{◌≡◌, ℕ, ◌+◌, ◌<◌, ◌^◌, ◌++◌, cond, Bool, true, false, List, [], Option, Some, None, IfSome, IsSomeAnd, option_map, replicate, sym, subst, refl, ap, ◌∙◌, arith, append_assoc, ◌≤◌}
+use Rattle.std.proofs.Common.{◌≡◌, ℕ, ◌+◌, ◌<◌, ◌^◌, ◌++◌, cond, Bool, true, false, List, [], Option, Some, None, IfSome, IsSomeAnd, option_map, replicate, sym, subst, refl, ap, ◌∙◌, arith, append_assoc, ◌≤◌, zero-add}
 use Rattle.std.specs.Int.{from_bool}
 use Rattle.hcc_word.specs.Word.{is_visible}
 use Rattle.hcc_core.specs.declared.client.Owned.TheVariants as owned
@@ -22,6 +22,7 @@ use Rattle.hcc_table.specs.Searched.{Searched, IsFound, Buried, Sought, is_key, 
 use Rattle.hcc_table.proofs.Searches.{grows_joined, no_more}
 use Rattle.hcc_table.proofs.Reaches.{joined_in}
 use Rattle.std.proofs.lemmas.Bool.{eq-eqb}
+use Rattle.std.proofs.lemmas.List.{append-nil}
 use Rattle.hcc_rule.proofs.Basics.Lists.{each_map}
 use Rattle.hcc_table.proofs.Probes.{found_held, dropped_last}
 use Rattle.hcc_core.proofs.SumLemmas.{total-append}
@@ -263,6 +264,37 @@ module _ {T : Type 0} where
                 (erases_last (replicate (when (is_visible word) 1) (key_of r.entry)) 0 0 v a w hid.0
                 then),
             then.dead r.entry.stamp hid.1,
+          )
+
+  -- The same, and it was freed.
+  pub hidden_freed : (slot name word n charge : ℕ) (v a w : View T) → IsAtRest v
+      → n ≡ from_bool (is_visible word)
+      → IsSomeAnd (record_in name v.records) (λ r. (r.slot ≡ slot) × (r.weight ≡ 1))
+      → a ≡ after_hide name word v → Erases [] 1 charge a w
+      → IsSomeAnd (record_in name v.records)
+      (λ r. Erases (replicate n (key_of r.entry)) 1 charge v w
+      × (is_in r.entry.stamp w.work.dead ≡ true))
+  hidden_freed slot name word n charge v a w rest count holds same freed =
+      by (record_in name v.records) refl holds
+    where
+      count_is : (b : Bool) → from_bool b ≡ when b 1
+      count_is true = refl
+      count_is false = refl
+
+      by : (o : Option Record) → record_in name v.records ≡ o
+          → IsSomeAnd o (λ r. (r.slot ≡ slot) × (r.weight ≡ 1))
+          → IsSomeAnd o (λ r. Erases (replicate n (key_of r.entry)) 1 charge v w
+          × (is_in r.entry.stamp w.work.dead ≡ true))
+      by None is none = absurd none
+      by (Some r) is some =
+          let hid = erases_hidden name word r v a rest is same in
+          let keys = replicate (when (is_visible word) 1) (key_of r.entry) in (
+            subst (λ m. Erases (replicate m (key_of r.entry)) 1 charge v w)
+                (sym (count ∙ count_is (is_visible word)))
+                (subst (λ c. Erases keys 1 c v w) (zero-add charge)
+                (subst (λ k. Erases k 1 (0 + charge) v w) (append-nil keys)
+                (erases_then keys [] 0 1 0 charge v a w hid.0 freed))),
+            freed.dead r.entry.stamp hid.1,
           )
 
   -- The entry that was found is erased.

@@ -4,8 +4,9 @@ use Rattle.hcc_core.specs.Sums.{total}
 use Rattle.hcc_core.proofs.SumLemmas.{total-append}
 use Rattle.hcc_rule.specs.declared.key.Key.{Key}
 use Rattle.hcc_rule.specs.declared.table.RuleTable.{RuleTable}
-use Rattle.hcc_rule.specs.Callers.{slots_of}
+use Rattle.hcc_rule.specs.Callers.{slots_of, IsEvent}
 use Rattle.hcc_rule.specs.Addresses.{address_of_displacement}
+use Rattle.hcc_rule.specs.Events.{count_done}
 use Rattle.hcc_rule.specs.Probes.{probe_slot}
 use Rattle.hcc_rule.specs.Seats.{SeatOf, Makes, view}
 use Rattle.hcc_table.specs.declared.efforts.Effort.{Effort}
@@ -51,6 +52,7 @@ module _ {T A : Type 0} (fits : T → Key → List ℕ → Type 0) (table : Rule
       (is_sum : (sum.hidden ≡ all.hidden + here.hidden) × (sum.slots ≡ all.slots + here.slots)
       × (sum.charge ≡ all.charge + here.charge))
       (counts : Makes (address_of_displacement table slot) 0 0 n mid new)
+      (event : IsEvent table (count_done slot n (view mid)) mid new)
       (kept : view new ≡ view mid) where
     abbrev probe : HideProbe
     probe = record { found = record { word = word; displacement = n }; done = here }
@@ -62,6 +64,7 @@ module _ {T A : Type 0} (fits : T → Key → List ℕ → Type 0) (table : Rule
       mid = mid;
       does = does;
       counts = counts;
+      event = event;
       kept = kept;
     }
 

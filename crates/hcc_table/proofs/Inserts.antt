@@ -1,6 +1,7 @@
 -- What the tries of slots leave of a view, put together.
-use Rattle.std.proofs.Common.{◌≡◌, ℕ, ◌+◌, ◌++◌, false, List, [], ◌∷◌, sym, refl, ap, ◌∙◌, append_assoc, arith}
+use Rattle.std.proofs.Common.{◌≡◌, ℕ, ◌+◌, ◌++◌, false, true, List, [], ◌∷◌, sym, refl, ap, ◌∙◌, append_assoc, arith}
 use Rattle.hcc_word.specs.Word.{is_empty, is_visible}
+use Rattle.hcc_core.specs.declared.client.Owned.TheVariants as owned
 use Rattle.hcc_rule.specs.declared.key.Key.{Key}
 use Rattle.hcc_rule.specs.declared.view.View.{View}
 use Rattle.hcc_rule.specs.Looked.{Backs, after_look, found_dead}
@@ -70,6 +71,14 @@ module _ {T : Type 0} where
 
       saw : w.saw ≡ v.saw + 1
       saw = ap (λ (z : View T). z.saw) same
+
+  -- it is the same client that takes an empty one
+  pub occupied_client : (slot word : ℕ) (v w : View T) → is_empty word ≡ true
+      → w ≡ after_occupy slot word v → w.client ≡ v.client
+  occupied_client slot word v w empty tells = ap (λ (z : View T). z.client) same
+    where
+      same : w ≡ record v { work = record v.work { owned = owned.ForBuilding slot }; written = [] }
+      same = tells ∙ rw empty refl
 
   -- it meets no key
   pub occupy_meets : (slot word : ℕ) (v w : View T) → is_empty word ≡ false

@@ -2,8 +2,9 @@
 use Rattle.std.proofs.Common.{◌≡◌, ℕ, ◌+◌, List, sym, subst, ap, ◌∙◌}
 use Rattle.hcc_rule.specs.declared.key.Key.{Key}
 use Rattle.hcc_rule.specs.declared.table.RuleTable.{RuleTable}
-use Rattle.hcc_rule.specs.Callers.{slots_of}
+use Rattle.hcc_rule.specs.Callers.{slots_of, IsEvent}
 use Rattle.hcc_rule.specs.Addresses.{address_of_displacement}
+use Rattle.hcc_rule.specs.Events.{pass_done}
 use Rattle.hcc_rule.specs.Probes.{probe_slot}
 use Rattle.hcc_rule.specs.Seats.{SeatOf, MakesSome, view}
 use Rattle.hcc_rule.specs.ToldTrails.{after_pass}
@@ -11,6 +12,7 @@ use Rattle.hcc_table.specs.declared.efforts.Effort.{Effort}
 use Rattle.hcc_table.specs.declared.inserting.Insertion.{Insertion}
 use Rattle.hcc_table.specs.declared.inserting.Insertion.TheVariants.{NoSlot}
 use Rattle.hcc_table.specs.Efforts.{VisitedSlots}
+use Rattle.hcc_table.specs.Seeking.{GoesOnBy, is_unpass}
 use Rattle.hcc_table.specs.Steps.{Adds}
 use Rattle.hcc_table.specs.Tries.{Inserts, PassesTaken, TriesAt}
 use Rattle.hcc_table.proofs.Probings.{HasSeen, seen_none, seen_then}
@@ -31,8 +33,9 @@ module _ {T A : Type 0} (fits : T → Key → List ℕ → Type 0) (table : Rule
       (tries : TriesAt fits table key name weight slot answer counted g now mid) where
     -- It ends here.
     pub inserts_here : (answer ≡ NoSlot → i + 1 ≡ slots_of table) → Adds mid new
+        → GoesOnBy table is_unpass mid new
         → Inserts fits table key name weight answer e g old new
-    inserts_here all adds = record {
+    inserts_here all adds rest = record {
       earlier = h.seen;
       between = f;
       mid = now;
@@ -44,6 +47,7 @@ module _ {T A : Type 0} (fits : T → Key → List ℕ → Type 0) (table : Rule
           (there ∙ ap (probe_slot (slots_of table) key) (sym h.long)) tries;
       all = λ none. ap (λ n. n + 1) h.long ∙ all none;
       adds = adds;
+      rest = rest;
     }
 
   -- It goes on.
@@ -52,8 +56,9 @@ module _ {T A : Type 0} (fits : T → Key → List ℕ → Type 0) (table : Rule
       → VisitedSlots 1 f counted
       → TriesAt fits table key name weight slot NoSlot counted g now mid
       → MakesSome (address_of_displacement table slot) 1 0 mid new
-      → view new ≡ after_pass slot (view mid) → HasTried (i + 1) e g old new
-  tried_then i slot e f counted g old now mid new h there visited passes step passed =
+      → view new ≡ after_pass slot (view mid) → IsEvent table (pass_done slot (view mid)) mid new
+      → HasTried (i + 1) e g old new
+  tried_then i slot e f counted g old now mid new h there visited passes step passed event =
       seen_then (slots_of table) key (PassesTaken fits table key name weight) (λ _. Unit {0}) i slot
       passes.0 e f g old now new h there one tt
     where
@@ -65,4 +70,5 @@ module _ {T A : Type 0} (fits : T → Key → List ℕ → Type 0) (table : Rule
         passes = passes.1;
         step = step;
         passed = passed;
+        event = event;
       }

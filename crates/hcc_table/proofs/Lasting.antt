@@ -40,12 +40,12 @@ use Rattle.hcc_table.proofs.Shown.{acquire_hides, acquire_shows, count_tells, lo
 
 -- What holds of a member holds of it where it is known.
 
-some_and : {A : Type 0} (o : Option A) (P : A → Type 0) → IsSomeAnd o P
+pub some_and : {A : Type 0} (o : Option A) (P : A → Type 0) → IsSomeAnd o P
     → (x : A) × (o ≡ Some x) × P x
 some_and None P h = absurd h
 some_and (Some x) P h = (x, refl, h)
 
-none_shown : (world : State) (key : Key) (slot : ℕ) → shown_at world slot ≡ None
+pub none_shown : (world : State) (key : Key) (slot : ℕ) → shown_at world slot ≡ None
     → ¬ ShowsKey world key slot
 none_shown world key slot none shows =
     absurd (subst (λ o. IsSomeAnd o (λ e. key_of e ≡ key)) none shows)
@@ -91,7 +91,7 @@ module _ {T A : Type 0} (table : RuleTable T A) where
             (run_is (past b) (begun_world (plan_of table)) event.1.world event.1.run) last.1,
       )
 
-  event_trails : (done : Done) (a b : SeatOf T) → IsEvent table done a b
+  pub event_trails : (done : Done) (a b : SeatOf T) → IsEvent table done a b
       → AreTrailed (slots_of table) (world_at table b).slots
   event_trails done a b event =
       subst (λ (x : Geometry). AreTrailed x.slots (world_at table b).slots) table.planned.0
@@ -120,7 +120,7 @@ module _ {T A : Type 0} (table : RuleTable T A) where
       ∙ append_assoc (past a) (d ∷ []) ds
 
   -- in a shard of one client each slot shows what it showed
-  alone_shows : clients_of table ≡ 1 → (a b : SeatOf T) → Seeks table a b → (s : ℕ)
+  pub alone_shows : clients_of table ≡ 1 → (a b : SeatOf T) → Seeks table a b → (s : ℕ)
       → shown_at (world_at table b) s ≡ shown_at (world_at table a) s
   alone_shows one a b h s =
       ap (λ ds. shown_at (world_of (plan_of table) ds) s) (does_alone one h.own a b h.does)
@@ -160,7 +160,7 @@ module _ {T A : Type 0} (table : RuleTable T A) where
       (seeks_one table m.done m.before moment m.step m.seeking)) s
 
   module _ (key : Key) (slot : ℕ) (old new : SeatOf T) where
-    lacks_alone : clients_of table ≡ 1 → LacksOnce table key slot old new
+    pub lacks_alone : clients_of table ≡ 1 → LacksOnce table key slot old new
         → ¬ ShowsKey (world_at table old) key slot
     lacks_alone one h shows =
         h.2 (subst (λ o. IsSomeAnd o (λ e. key_of e ≡ key))
@@ -173,7 +173,7 @@ module _ {T A : Type 0} (table : RuleTable T A) where
 
   -- Each part of a search only searches.
 
-  looks_seek : (slot seen : ℕ) (a b : SeatOf T) → Looks table slot seen a b → Seeks table a b
+  pub looks_seek : (slot seen : ℕ) (a b : SeatOf T) → Looks table slot seen a b → Seeks table a b
   looks_seek slot seen a b h = seeks_one table (look_done slot seen (view a)) a b h.2 refl
 
   tries_seek : (slot name word other : ℕ) (v : View T) (a b : SeatOf T)
@@ -188,7 +188,7 @@ module _ {T A : Type 0} (table : RuleTable T A) where
       by false = refl
 
   -- behind its acquire
-  reached_seeks : (slot weight name word : ℕ) (a b : SeatOf T)
+  pub reached_seeks : (slot weight name word : ℕ) (a b : SeatOf T)
       (h : ReachesBy table slot weight name word a b) → Seeks table h.mid b
   reached_seeks slot weight name word a b h = elim h.tries [
     | inl same ↦ subst (λ z. Seeks table h.mid z) (sym same) (seeks_none table h.mid)
@@ -196,13 +196,13 @@ module _ {T A : Type 0} (table : RuleTable T A) where
         tries_seek slot name (acquired weight word) tried.0 (view h.mid) h.mid b tried.1
   ]
 
-  reach_seeks : (slot weight name word : ℕ) (a b : SeatOf T)
+  pub reach_seeks : (slot weight name word : ℕ) (a b : SeatOf T)
       (h : ReachesBy table slot weight name word a b) → Seeks table a h.mid
   reach_seeks slot weight name word a b h =
       seeks_one table (acquire_done slot weight name word (view a)) a h.mid h.adds refl
 
   -- what a record of an acquire is on is what the world after it shows there
-  met_there : (slot weight name word : ℕ) (a b : SeatOf T)
+  pub met_there : (slot weight name word : ℕ) (a b : SeatOf T)
       (h : ReachesBy table slot weight name word a b) (P : Entry → Type 0)
       → IsSomeAnd (record_in name (view b).records) (λ r. (r.slot ≡ slot) × P r.entry)
       → (e : Entry) → shown_at (world_at table h.mid) slot ≡ Some e → P e
@@ -218,7 +218,7 @@ module _ {T A : Type 0} (table : RuleTable T A) where
 
 module _ {T A : Type 0} (fits : T → Key → List ℕ → Type 0) (table : RuleTable T A) (key : Key)
     (name : ℕ) where
-  entry_seeks : (slot weight word : ℕ) (e f : Effort) (a b : SeatOf T)
+  pub entry_seeks : (slot weight word : ℕ) (e f : Effort) (a b : SeatOf T)
       → PassesEntry fits table key name slot weight word e f a b → Seeks table a b
   entry_seeks slot weight word e f a b h =
       seeks_then table a h.mid b
@@ -226,7 +226,7 @@ module _ {T A : Type 0} (fits : T → Key → List ℕ → Type 0) (table : Rule
       (reach_seeks table slot weight name word a h.mid h.reaches.by)
       (reached_seeks table slot weight name word a h.mid h.reaches.by)) h.seeks
 
-  passes_seek : (slot word : ℕ) (e f : Effort) (a b : SeatOf T)
+  pub passes_seek : (slot word : ℕ) (e f : Effort) (a b : SeatOf T)
       → Passes fits table key name (Looks table slot) slot 1 word e f a b → Seeks table a b
   passes_seek slot word e f a b h = by (is_visible h.seen) refl
     where
@@ -256,7 +256,7 @@ module _ {T A : Type 0} (fits : T → Key → List ℕ → Type 0) (table : Rule
   -- What each part tells.
   module _ (old new : SeatOf T) where
     -- a slot that was passed lacked the key once
-    passes_lack : (slot word : ℕ) (e f : Effort) (a b : SeatOf T) → Seeks table old a
+    pub passes_lack : (slot word : ℕ) (e f : Effort) (a b : SeatOf T) → Seeks table old a
         → Seeks table b new → Passes fits table key name (Looks table slot) slot 1 word e f a b
         → LacksOnce table key slot old new
     passes_lack slot word e f a b before behind h = by (is_visible h.seen) refl

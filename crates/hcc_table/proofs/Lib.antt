@@ -8,6 +8,11 @@ pub mod Probings
 pub mod Quiet
 pub mod Shown
 pub mod Lasting
+pub mod Alone
+pub mod Unshown
+pub mod HidesAlone
+pub mod Occupied
+pub mod InsertsAlone
 pub mod Finds
 pub mod TakesBack
 pub mod Gives

@@ -261,6 +261,13 @@ module _ {T : Type 0} where
   found_holds fits room slot name key v w r fresh found =
       rw (found_held fits room slot name key v w r fresh found) (found.on, found.single)
 
+  pub found_asked : (fits : T → Key → List ℕ → Type 0) (room slot name : ℕ) (key : Key)
+      (v w : View T) (r : Record)
+      → record_in name v.records ≡ None → IsFound fits room slot name key v w r
+      → IsSomeAnd (record_in name w.records) (λ q. (q.slot ≡ slot) × (key_of q.entry ≡ key))
+  found_asked fits room slot name key v w r fresh found =
+      rw (found_held fits room slot name key v w r fresh found) (found.on, found.asked)
+
   pub found_stands : (fits : T → Key → List ℕ → Type 0) (room slot name : ℕ) (key : Key)
       (v w : View T) (r : Record)
       → record_in name v.records ≡ None → IsFound fits room slot name key v w r

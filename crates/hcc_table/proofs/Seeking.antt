@@ -1,7 +1,8 @@
 -- What a seat does while it searches: step by step, and with what other clients do meanwhile.
-use Rattle.std.proofs.Common.{◌≡◌, ℕ, true, List, [], ◌∷◌, ◌++◌, Option, Some, None, refl, sym, subst, ap, ◌∙◌}
+use Rattle.std.proofs.Common.{◌≡◌, ℕ, Bool, true, List, [], ◌∷◌, ◌++◌, Option, Some, None, refl, sym, subst, ap, ◌∙◌}
 use Rattle.std.specs.Prelude.{IfSome, IsSomeAnd}
 use Rattle.std.proofs.lemmas.List.{append_assoc, append-nil}
+use Rattle.hcc_core.specs.declared.event.Event.{Event}
 use Rattle.hcc_rule.specs.declared.table.RuleTable.{RuleTable}
 use Rattle.hcc_rule.specs.declared.view.Done.{Done}
 use Rattle.hcc_rule.specs.declared.view.Record.{Record}
@@ -10,24 +11,41 @@ use Rattle.hcc_rule.specs.Callers.{IsEvent}
 use Rattle.hcc_rule.specs.Events.{read_done}
 use Rattle.hcc_rule.specs.Records.{record_in}
 use Rattle.hcc_rule.specs.Seats.{SeatOf, view}
+use Rattle.hcc_rule.specs.Views.{Each}
 use Rattle.hcc_rule.proofs.Basics.Lists.{each_append}
-use Rattle.hcc_table.specs.Seeking.{Does, GoesOn, Seeks, is_seeking}
-
-module _ {T : Type 0} where
-  -- nothing more is known
-  pub goes_none : (a b : SeatOf T) → past b ≡ past a → GoesOn a b
-  goes_none a b same = ([], same ∙ sym (append-nil (past a)))
-
-  pub goes_then : (a b c : SeatOf T) → GoesOn a b → GoesOn b c → GoesOn a c
-  goes_then a b c h g = (
-    h.0 ++ g.0,
-    g.1 ∙ ap (λ xs. xs ++ g.0) h.1 ∙ append_assoc (past a) h.0 g.0,
-  )
+use Rattle.hcc_table.specs.Seeking.{Does, GoesOnBy, Seeks, is_seeking}
 
 module _ {T A : Type 0} (table : RuleTable T A) where
-  -- what a seat's own event adds
-  pub goes_event : (done : Done) (a b : SeatOf T) → IsEvent table done a b → GoesOn a b
-  goes_event done a b event = (event.0.others ++ done ∷ [], event.0.past)
+  module _ (kind : Event → Bool) where
+    abbrev IsSo : Done → Type 0
+    IsSo done = kind done.event ≡ true
+
+    -- nothing more is known
+    pub goes_none : (a b : SeatOf T) → past b ≡ past a → GoesOnBy table kind a b
+    goes_none a b same = record {
+      more = [];
+      goes_on = same ∙ sym (append-nil (past a));
+      alone = λ one. tt;
+    }
+
+    pub goes_then : (a b c : SeatOf T) → GoesOnBy table kind a b → GoesOnBy table kind b c
+        → GoesOnBy table kind a c
+    goes_then a b c h g = record {
+      more = h.more ++ g.more;
+      goes_on =
+          g.goes_on ∙ ap (λ xs. xs ++ g.more) h.goes_on ∙ append_assoc (past a) h.more g.more;
+      alone = λ one. each_append IsSo h.more g.more (h.alone one) (g.alone one);
+    }
+
+    -- what a seat's own event adds
+    pub goes_event : (done : Done) (a b : SeatOf T) → IsEvent table done a b
+        → kind done.event ≡ true → GoesOnBy table kind a b
+    goes_event done a b event so = record {
+      more = event.0.others ++ done ∷ [];
+      goes_on = event.0.past;
+      alone = λ one.
+          subst (λ os. Each IsSo (os ++ done ∷ [])) (sym (event.0.alone one)) (so, tt);
+    }
 
   -- nothing was done
   pub seeks_none : (a : SeatOf T) → Seeks table a a

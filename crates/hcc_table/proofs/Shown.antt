@@ -183,21 +183,21 @@ seeking_stays (d ∷ ds) only w s =
 -- What replies tell.
 
 -- a reading on the way to an outcome that isn't refused was made
-bound : {A B : Type 0} (r : Result A CoreError) (f : A → Result B CoreError) (z : B)
+pub bound : {A B : Type 0} (r : Result A CoreError) (f : A → Result B CoreError) (z : B)
     → (r >>= f) ≡ Ok z → (x : A) × (r ≡ Ok x) × (f x ≡ Ok z)
 bound (Ok x) f z h = (x, refl, h)
 bound (Err e) f z h = cc
 
-same_outcome : (x y : Reply × State) → ◌≡◌ {A = Outcome} (Ok x) (Ok y) → x ≡ y
+pub same_outcome : (x y : Reply × State) → ◌≡◌ {A = Outcome} (Ok x) (Ok y) → x ≡ y
 same_outcome x y h = cc
 
-same_phase : (p q : Phase) → replies.Saw p ≡ replies.Saw q → p ≡ q
+pub same_phase : (p q : Phase) → replies.Saw p ≡ replies.Saw q → p ≡ q
 same_phase p q h = cc
 
-same_count : (m n : ℕ) → replies.Count m ≡ replies.Count n → m ≡ n
+pub same_count : (m n : ℕ) → replies.Count m ≡ replies.Count n → m ≡ n
 same_count m n h = cc
 
-ruled : (w : State) (event : Event) (z : Reply × State) → outcome_of w event ≡ Ok z
+pub ruled : (w : State) (event : Event) (z : Reply × State) → outcome_of w event ≡ Ok z
     → rule_of w event ≡ Ok z
 unfolding outcome_of
 ruled w event z h = by (in_range event) h
@@ -215,7 +215,7 @@ leads_stays w w' event reply seeking is s =
 
 module _ (w w' : State) (client slot : ℕ) where
   -- a slot's phase is no visible one where the word is none
-  unshown_phase : (word : ℕ) (seen : Slot) → phase_in word ≡ phase_of seen
+  pub unshown_phase : (word : ℕ) (seen : Slot) → phase_in word ≡ phase_of seen
       → is_visible word ≡ false → entry_shown seen ≡ None
   unshown_phase word (slots.Empty strays) is off = refl
   unshown_phase word (slots.Building other strays) is off = refl

@@ -21,7 +21,7 @@ use Rattle.hcc_rule.specs.declared.layout.TheConstants.{CHARGE}
 use Rattle.hcc_rule.specs.Looked.{found_dead}
 use Rattle.hcc_rule.specs.ToldOwners.{Freed, after_free, records_left}
 use Rattle.hcc_table.specs.Freed.{IsFreed, TakenAt, TakesBy, emptied, free_event}
-use Rattle.hcc_table.specs.Seeking.{GoesOn}
+use Rattle.hcc_table.specs.Seeking.{Empties}
 use Rattle.hcc_table.proofs.Searches.{grows_joined}
 
 -- the probes from this one on, up to the slot
@@ -213,14 +213,21 @@ module _ {T A : Type 0} (table : RuleTable T A) (slot word : ℕ) (name : Option
       → charge ≡ slice_index (view b).written CHARGE
       → IsEvent table (free_done slot name word found
       ((view b).work.freed - (view a).work.freed) (view a)) a b
-      → GoesOn b c → TakesBy table slot word name (Some charge) a c
+      → Empties table (view b).client b c → TakesBy table slot word name (Some charge) a c
   taken_by fits slots room found charge c is told charged event more = record {
     lost = tt;
-    won = (b, subst (λ done. IsEvent table done a b) same event, more);
+    won = (
+      b,
+      subst (λ done. IsEvent table done a b) same event,
+      subst (λ n. Empties table n b c) mine more,
+    );
   }
     where
       won : (found == word) ≡ true
       won = eq-eqb found word is
+
+      mine : (view b).client ≡ (view a).client
+      mine = ap (λ (z : View T). z.client) (told.won won).3
 
       amount : (view b).work.freed - (view a).work.freed ≡ charge
       amount =

@@ -25,7 +25,7 @@ use Rattle.hcc_table.specs.declared.efforts.Effort.{Effort}
 use Rattle.hcc_table.specs.declared.pins.Pin.{Pin}
 use Rattle.hcc_table.specs.Efforts.{Lost}
 use Rattle.hcc_table.specs.Searched.{Grows}
-use Rattle.hcc_table.specs.Seeking.{GoesOn}
+use Rattle.hcc_table.specs.Seeking.{Empties}
 use Rattle.hcc_table.specs.Steps.{MakesNone, TriesToTake, amount_of}
 
 -- what a release of so many references, as uses or not, leaves of a word
@@ -141,7 +141,8 @@ module _ {T : Type 0} where
     pub lost : IfNone freed ((found : ℕ) × ¬ (found ≡ word)
         × IsEvent table (look_done slot found (view old)) old new)
     pub won : IfSome freed (λ charge. (mid : SeatOf T)
-        × IsEvent table (free_event slot name charge (view old)) old mid × GoesOn mid new)
+        × IsEvent table (free_event slot name charge (view old)) old mid
+        × Empties table (view old).client mid new)
 
   -- the same, where it was due
   abbrev pub TakesByWhereDue : {A : Type 0} → RuleTable T A → (slot word : ℕ) → Option ℕ

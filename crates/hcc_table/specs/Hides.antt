@@ -1,19 +1,23 @@
 -- What hiding the entries of a key does at each of its probes, step by step.
-use Rattle.std.specs.Prelude.{◌≡◌, ◌⊎◌, ℕ, ◌+◌, ◌==◌, ◌&&◌, not, Bool, List, [], ◌∷◌, ◌++◌, Option, IfSome, IfNone, length, bit_and}
+use Rattle.std.specs.Prelude.{◌≡◌, ◌⊎◌, ℕ, ◌+◌, ◌==◌, ◌&&◌, not, Bool, List, [], ◌∷◌, ◌++◌, Option, Some, IfSome, IfNone, IsSomeAnd, length, bit_and}
 use Rattle.std.specs.Int.{from_bool}
 use Rattle.hcc_word.specs.declared.layout.TheConstants.{HIDING_MASK}
 use Rattle.hcc_word.specs.Word.{is_shareable, is_visible, refs_of}
 use Rattle.hcc_core.specs.Sums.{total}
 use Rattle.hcc_rule.specs.declared.key.Key.{Key}
 use Rattle.hcc_rule.specs.declared.table.RuleTable.{RuleTable}
-use Rattle.hcc_rule.specs.Callers.{slots_of}
+use Rattle.hcc_rule.specs.Callers.{slots_of, IsEvent}
 use Rattle.hcc_rule.specs.Addresses.{address_of_displacement, address_of_meta}
+use Rattle.hcc_rule.specs.Events.{count_done, give_done, hide_done}
+use Rattle.hcc_rule.specs.Records.{record_in}
 use Rattle.hcc_rule.specs.Seats.{SeatOf, Makes, view}
+use Rattle.hcc_rule.specs.ToldReferences.{after_hide}
 use Rattle.hcc_rule.specs.Views.{Each}
+use Rattle.hcc_rule.specs.Words.{key_of}
 use Rattle.hcc_table.specs.declared.efforts.Effort.{Effort}
 use Rattle.hcc_table.specs.declared.hiding.Erased.{Erased}
 use Rattle.hcc_table.specs.Efforts.{VisitedSlots}
-use Rattle.hcc_table.specs.Freed.{TriedWhereDue}
+use Rattle.hcc_table.specs.Freed.{TakesByWhereDue, TriedWhereDue}
 use Rattle.hcc_table.specs.Probed.{AtProbes, Catches, Looks, Passes, Probe}
 
 -- whether this is the word of a hidden entry with one reference
@@ -32,24 +36,30 @@ pub record HideProbe : Type 0 where
 abbrev pub HidingGoesOn : List HideProbe → Type 0
 HidingGoesOn = Each (λ (p : HideProbe). ¬ (p.found.displacement ≡ 0))
 
-module _ {T : Type 0} where
-  -- The entry of a reference was hidden by one step, and counts as hidden where that found it
-  -- visible. To take the entry was tried where the reference was left alone there: it was freed, or
-  -- one exchange more lost. Where it wasn't freed the reference was given back.
-  pub record HidesHeld (address : ℕ) (done : Erased) (before after : Effort) (old new : SeatOf T)
-      : Type 0 where
+module _ {T A : Type 0} (table : RuleTable T A) where
+  -- The entry of the reference of a name was hidden by one step, and counts as hidden where that
+  -- found it visible. To take the entry was tried where the reference was left alone there: it was
+  -- freed, or one exchange more lost. Where it wasn't freed the reference was given back.
+  pub record HidesHeld (slot name : ℕ) (done : Erased) (before after : Effort)
+      (old new : SeatOf T) : Type 0 where
     pub found : ℕ
     pub hid : SeatOf T
-    pub hides : Makes address HIDING_MASK 0 found old hid
+    pub hides : Makes (address_of_meta table slot) HIDING_MASK 0 found old hid
+    pub event : IsEvent table (hide_done name found (view old)) old hid
+    pub told : view hid ≡ after_hide name found (view old)
     pub hidden : done.hidden ≡ from_bool (is_visible found)
     pub freed : Option ℕ
     pub tried : SeatOf T
-    pub tries : TriedWhereDue address (bit_and found HIDING_MASK)
+    pub tries : TriedWhereDue (address_of_meta table slot) (bit_and found HIDING_MASK)
         (is_alone (bit_and found HIDING_MASK)) freed before after hid tried
+    pub takes : TakesByWhereDue table slot (bit_and found HIDING_MASK) (Some name)
+        (is_alone (bit_and found HIDING_MASK)) freed hid tried
     pub won : IfSome freed (λ charge.
         (new ≡ tried) × (done.slots ≡ 1) × (done.charge ≡ charge))
-    pub given : IfNone freed ((left : ℕ) × Makes address 1 0 left tried new
-        × (done.slots ≡ 0) × (done.charge ≡ 0))
+    pub given : IfNone freed ((left : ℕ)
+        × Makes (address_of_meta table slot) 1 0 left tried new
+        × (done.slots ≡ 0) × (done.charge ≡ 0)
+        × IsEvent table (give_done 1 name left (view tried)) tried new)
 
 module _ {T A : Type 0} (fits : T → Key → List ℕ → Type 0) (table : RuleTable T A) (key : Key)
     (name : ℕ) where
@@ -59,7 +69,9 @@ module _ {T A : Type 0} (fits : T → Key → List ℕ → Type 0) (table : Rule
     pub between : Effort
     pub held : SeatOf T
     pub catches : Catches fits table key name (Looks table slot) slot 1 word before between old held
-    pub hides : HidesHeld (address_of_meta table slot) done between after held new
+    pub holds : IsSomeAnd (record_in name (view held).records)
+        (λ r. (r.slot ≡ slot) × (key_of r.entry ≡ key))
+    pub hides : HidesHeld table slot name done between after held new
 
   -- it was passed, and nothing was done, or its entry was hidden
   abbrev pub PassesOrHides : (slot word : ℕ) → (done : Erased) → (before after : Effort)
@@ -77,6 +89,7 @@ module _ {T A : Type 0} (fits : T → Key → List ℕ → Type 0) (table : Rule
     pub mid : SeatOf T
     pub does : PassesOrHides slot p.found.word p.done between after old mid
     pub counts : Makes (address_of_displacement table slot) 0 0 p.found.displacement mid new
+    pub event : IsEvent table (count_done slot p.found.displacement (view mid)) mid new
     pub kept : view new ≡ view mid
 
   -- Each slot that was visited and found visible with the key was hidden, and each other one was

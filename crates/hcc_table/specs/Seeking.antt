@@ -1,12 +1,14 @@
 -- What a seat does while it searches, as events of the protocol's machine.
-use Rattle.std.specs.Prelude.{◌≡◌, ◌⊎◌, ℕ, Bool, true, false, List, [], ◌∷◌, ◌++◌}
+use Rattle.std.specs.Prelude.{◌≡◌, ◌⊎◌, ℕ, Bool, true, false, List, [], ◌∷◌, ◌++◌, Option}
 use Rattle.hcc_core.specs.declared.event.Event.{Event}
 use Rattle.hcc_core.specs.declared.event.Event.TheVariants as events
+use Rattle.hcc_core.specs.declared.event.Reply.TheVariants as replies
 use Rattle.hcc_rule.specs.declared.table.RuleTable.{RuleTable}
 use Rattle.hcc_rule.specs.declared.view.Done.{Done}
-use Rattle.hcc_rule.specs.Acts.{past}
-use Rattle.hcc_rule.specs.Callers.{IsEvent}
-use Rattle.hcc_rule.specs.Events.{acquire_done, correct_done}
+use Rattle.hcc_rule.specs.declared.view.Made.{Made}
+use Rattle.hcc_rule.specs.Acts.{did, past}
+use Rattle.hcc_rule.specs.Callers.{IsEvent, clients_of}
+use Rattle.hcc_rule.specs.Events.{acquire_done, correct_done, show_done}
 use Rattle.hcc_rule.specs.Seats.{SeatOf, view}
 use Rattle.hcc_rule.specs.Views.{Each}
 use Rattle.hcc_table.specs.Steps.{acquired}
@@ -22,10 +24,21 @@ is_seeking (events.Mark client name) = true
 is_seeking (events.Correct client name) = true
 is_seeking other = false
 
-module _ {T : Type 0} where
-  -- what the seat knows goes on
-  abbrev pub GoesOn : (old new : SeatOf T) → Type 0
-  GoesOn old new = (more : List Done) × (past new ≡ past old ++ more)
+-- whether it is an event by which a slot leaves a trail
+abbrev pub is_unpass : Event → Bool
+is_unpass (events.Unpass client slot) = true
+is_unpass other = false
+
+-- whether it is an event by which a client writes a word of an entry
+abbrev pub is_write : Event → Bool
+is_write (events.Write client) = true
+is_write other = false
+
+-- whether it is an event by which a client gives back what it freed
+abbrev pub is_settling : Event → Bool
+is_settling (events.Slots client) = true
+is_settling (events.Settle client) = true
+is_settling other = false
 
 module _ {T A : Type 0} (table : RuleTable T A) where
   -- The seat did these, one after the other, and nothing else.
@@ -38,6 +51,25 @@ module _ {T A : Type 0} (table : RuleTable T A) where
     pub own : List Done
     pub does : Does own old new
     pub only : Each (λ (done : Done). is_seeking done.event ≡ true) own
+
+  -- What the seat knows goes on. In a shard of one client it does so by such events alone.
+  pub record GoesOnBy (kind : Event → Bool) (old new : SeatOf T) : Type 0 where
+    pub more : List Done
+    pub goes_on : past new ≡ past old ++ more
+    pub alone : clients_of table ≡ 1 → Each (λ (done : Done). kind done.event ≡ true) more
+
+  -- What frees a slot that the client took: the trail is taken back, and then the slot is emptied.
+  abbrev pub Empties : (client : ℕ) → (old new : SeatOf T) → Type 0
+  Empties client old new =
+      (mid : SeatOf T) × GoesOnBy is_unpass old mid
+      × IsEvent table (did (events.Empty client) replies.Ok) mid new
+
+  -- The words of an entry were written into the slot that the client builds, and then it was shown.
+  abbrev pub Builds : (countdown : ℕ) → Option ℕ → Made → (old new : SeatOf T) → Type 0
+  Builds countdown name made old new =
+      (wrote : SeatOf T) × GoesOnBy is_write old wrote
+      × ((view wrote).client ≡ (view old).client)
+      × IsEvent table (show_done countdown name made (view wrote)) wrote new
 
   -- References of this weight were acquired, which found this word. Behind it came the try to
   -- correct both counters, or nothing.

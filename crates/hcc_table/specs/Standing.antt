@@ -1,9 +1,10 @@
 -- What a shard shows at the moments of a call: in the worlds to which the histories lead that its
 -- seat knew then.
-use Rattle.std.specs.Prelude.{◌≡◌, ℕ, ◌<◌, true, List, ◌++◌, Option, Some, None, IsSomeAnd, slice_get, option_and_then, if◌then◌else◌}
+use Rattle.std.specs.Prelude.{◌≡◌, ℕ, zero, suc, ◌+◌, ◌<◌, true, List, ◌++◌, Option, Some, None, IsSomeAnd, slice_get, option_and_then, if◌then◌else◌}
 use Rattle.hcc_core.specs.declared.slot.Entry.{Entry}
 use Rattle.hcc_core.specs.declared.slot.Slot.{Slot}
 use Rattle.hcc_core.specs.declared.slot.Slot.TheVariants as slots
+use Rattle.hcc_core.specs.Sums.{when}
 use Rattle.hcc_core.specs.World.{State}
 use Rattle.hcc_rule.specs.declared.key.Key.{Key}
 use Rattle.hcc_rule.specs.declared.table.RuleTable.{RuleTable}
@@ -13,7 +14,10 @@ use Rattle.hcc_rule.specs.Callers.{plan_of, slots_of, IsEvent}
 use Rattle.hcc_rule.specs.Probes.{probe_slot}
 use Rattle.hcc_rule.specs.Seats.{SeatOf}
 use Rattle.hcc_rule.specs.Words.{key_of}
+use Rattle.hcc_table.specs.declared.inserting.Insertion.{Insertion}
+use Rattle.hcc_table.specs.declared.inserting.Insertion.TheVariants.{Placed, Matched, NoSlot}
 use Rattle.hcc_table.specs.declared.pins.Pin.{Pin}
+use Rattle.hcc_table.specs.Searched.{is_key}
 use Rattle.hcc_table.specs.Seeking.{Seeks, is_seeking}
 
 -- the entry that a slot shows, and that a slot of a world does
@@ -28,6 +32,52 @@ shown_at world slot = option_and_then entry_shown (slice_get world.slots slot)
 -- a world shows a key in a slot: a visible entry of the key is there
 abbrev pub ShowsKey : State → Key → (slot : ℕ) → Type 0
 ShowsKey world key slot = IsSomeAnd (shown_at world slot) (λ e. key_of e ≡ key)
+
+-- how many of the first so many slots of a world show a key
+abbrev pub counts_shown : Key → Option Entry → ℕ
+counts_shown key None = 0
+counts_shown key (Some e) = when (is_key key (key_of e)) 1
+
+abbrev pub shown_of : (slots : ℕ) → Key → State → ℕ
+shown_of zero key world = 0
+shown_of (suc n) key world = shown_of n key world + counts_shown key (shown_at world n)
+
+-- From one world to the next so many slots that showed the key stopped to: all that did. Each other
+-- slot shows what it showed.
+pub record HidesShown (slots : ℕ) (key : Key) (hidden : ℕ) (world next : State) : Type 0 where
+  pub all : hidden ≡ shown_of slots key world
+  pub none : (slot : ℕ) → slot < slots → ¬ ShowsKey next key slot
+  pub others : (slot : ℕ) → ¬ ShowsKey world key slot → shown_at next slot ≡ shown_at world slot
+
+-- each slot shows what it showed
+abbrev pub ShowsSame : State → State → Type 0
+ShowsSame world next = (slot : ℕ) → shown_at next slot ≡ shown_at world slot
+
+module _ (slots : ℕ) (key : Key) where
+  -- none of the first so many probes of the key shows it
+  abbrev pub NoneBefore : State → (i : ℕ) → Type 0
+  NoneBefore world i = (j : ℕ) → j < i → ¬ ShowsKey world key (probe_slot slots key j)
+
+  -- A probe of the key that showed nothing came to show it, and none before it does. Each other
+  -- slot shows what it showed.
+  pub record ShowsMore (slot : ℕ) (world next : State) : Type 0 where
+    pub i : ℕ
+    pub probe : slot ≡ probe_slot slots key i
+    pub before : NoneBefore world i
+    pub free : shown_at world slot ≡ None
+    pub shows : ShowsKey next key slot
+    pub others : (s : ℕ) → ¬ (s ≡ slot) → shown_at next s ≡ shown_at world s
+
+  -- An insertion of the key in a world that stood still otherwise, by its answer. Placed: the entry
+  -- is shown, at an earlier probe than each that showed the key. Matched: a probe shows the key,
+  -- and none before it does. No slot: none shows it.
+  abbrev pub InsertsShown : Insertion → (world next : State) → Type 0
+  InsertsShown (Placed slot) world next = ShowsMore slot world next
+  InsertsShown Matched world next =
+      (i : ℕ) × (i < slots) × ShowsKey world key (probe_slot slots key i) × NoneBefore world i
+      × ShowsSame world next
+  InsertsShown NoSlot world next =
+      ((slot : ℕ) → slot < slots → ¬ ShowsKey world key slot) × ShowsSame world next
 
 module _ {T A : Type 0} (table : RuleTable T A) where
   -- the world to which all leads that a seat knows

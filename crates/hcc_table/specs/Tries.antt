@@ -1,11 +1,13 @@
 -- What an insertion finds at each probe of its key, step by step.
-use Rattle.std.specs.Prelude.{◌≡◌, ℕ, ◌+◌, true, List, IsSomeAnd, length}
+use Rattle.std.specs.Prelude.{◌≡◌, ℕ, ◌+◌, true, List, Option, IsSomeAnd, length}
 use Rattle.hcc_word.specs.declared.layout.TheConstants.{OCCUPIED_BIT}
 use Rattle.hcc_word.specs.Word.{is_counting, is_empty, is_visible}
 use Rattle.hcc_rule.specs.declared.key.Key.{Key}
 use Rattle.hcc_rule.specs.declared.table.RuleTable.{RuleTable}
-use Rattle.hcc_rule.specs.Callers.{slots_of}
+use Rattle.hcc_rule.specs.Callers.{slots_of, IsEvent}
 use Rattle.hcc_rule.specs.Addresses.{address_of_displacement, address_of_meta}
+use Rattle.hcc_rule.specs.declared.view.Made.{Made}
+use Rattle.hcc_rule.specs.Events.{occupy_done, pass_done}
 use Rattle.hcc_rule.specs.Probes.{probe_slot}
 use Rattle.hcc_rule.specs.Seats.{SeatOf, Makes, MakesSome, atomic, view}
 use Rattle.hcc_rule.specs.ToldTrails.{after_pass}
@@ -15,7 +17,9 @@ use Rattle.hcc_table.specs.declared.efforts.Effort.{Effort}
 use Rattle.hcc_table.specs.declared.inserting.Insertion.{Insertion}
 use Rattle.hcc_table.specs.declared.inserting.Insertion.TheVariants.{Placed, Matched, NoSlot}
 use Rattle.hcc_table.specs.Efforts.{VisitedSlots}
+use Rattle.hcc_table.specs.Freed.{release_done}
 use Rattle.hcc_table.specs.Probed.{AtProbes, FindsTaken, LoadsKey, Passes, Reaches}
+use Rattle.hcc_table.specs.Seeking.{Builds, GoesOnBy, Seeks, is_unpass}
 use Rattle.hcc_table.specs.Steps.{Adds, Begins, amount_of}
 
 module _ {T A : Type 0} (table : RuleTable T A) where
@@ -42,6 +46,9 @@ module _ {T A : Type 0} (fits : T → Key → List ℕ → Type 0) (table : Rule
     pub left : ℕ
     pub gives : Makes (address_of_meta table slot) (amount_of (is_counting word) weight) 0 left
         held new
+    pub seeks : Seeks table mid held
+    pub by : (other : ℕ)
+        × IsEvent table (release_done (is_counting word) weight name other (view held)) held new
 
   -- The same of a slot that an insertion found taken and visible.
   pub record MatchesAt (slot : ℕ) (before after : Effort) (old new : SeatOf T) : Type 0 where
@@ -52,11 +59,24 @@ module _ {T A : Type 0} (fits : T → Key → List ℕ → Type 0) (table : Rule
     pub word : ℕ
     pub uses : UsesEntry slot word before after mid new
 
+  -- An entry of the key was shown in a slot that was found empty: the slot was taken, and the entry
+  -- built there.
+  pub record ShowsBy (slot : ℕ) (old new : SeatOf T) : Type 0 where
+    pub word : ℕ
+    pub empty : is_empty word ≡ true
+    pub took : SeatOf T
+    pub takes : IsEvent table (occupy_done slot word (view old)) old took
+    pub same : (view took).client ≡ (view old).client
+    pub made : Made
+    pub asked : made.key ≡ key
+    pub called : Option ℕ
+    pub builds : Builds table weight called made took new
+
   -- What the try of one slot found and did, by the answer. No slot: it was taken, and passed.
   abbrev pub TriesAt : (slot : ℕ) → Insertion → (before after : Effort) → (old new : SeatOf T)
       → Type 0
   TriesAt slot (Placed there) before after old new =
-      (there ≡ slot) × (after ≡ before) × FindsEmpty table slot old new
+      (there ≡ slot) × (after ≡ before) × FindsEmpty table slot old new × ShowsBy slot old new
   TriesAt slot Matched before after old new = MatchesAt slot before after old new
   TriesAt slot NoSlot before after old new =
       (word : ℕ) × Passes fits table key name (FindsTaken table slot) slot weight word before after
@@ -72,6 +92,7 @@ module _ {T A : Type 0} (fits : T → Key → List ℕ → Type 0) (table : Rule
         old mid
     pub step : MakesSome (address_of_displacement table slot) 1 0 mid new
     pub passed : view new ≡ after_pass slot (view mid)
+    pub event : IsEvent table (pass_done slot (view mid)) mid new
 
   -- An insertion passed some slots, or none, each of which was taken and not visible with the key.
   -- At the next probe it ended: there it placed its entry, or met a visible one of the key, or the
@@ -90,3 +111,4 @@ module _ {T A : Type 0} (fits : T → Key → List ℕ → Type 0) (table : Rule
         mid done
     pub all : answer ≡ NoSlot → length earlier + 1 ≡ slots_of table
     pub adds : Adds done new
+    pub rest : GoesOnBy table is_unpass done new

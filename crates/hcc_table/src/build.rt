@@ -11,6 +11,7 @@ ghost use Rattle.hcc_rule.specs.Seats.{IsSameSeat, view, atomic};
 ghost use Rattle.hcc_rule.specs.ToldOwners.{MayShow, after_show, made_of, first_word};
 ghost use Rattle.hcc_rule.specs.Words.{made_words, payload, stamp_word};
 ghost use Rattle.hcc_table.specs.Inserted.{with_words};
+ghost use Rattle.hcc_table.specs.Seeking.{is_write, Builds, GoesOnBy};
 ghost use Rattle.hcc_table.specs.Steps.{Adds, Ends, MakesAtMost};
 
 use hcc_core::limits::STAMPS_PER_CLIENT;
@@ -40,6 +41,8 @@ pub(crate) fn build<T: Tag, A: Allocator>(
         ≡ after_show slot draft.name (made_of draft value.now) (view seat.old) }
     ensures shown { Ends (atomic (address_of_meta table.now slot) (first_word draft) 0
         (first_word draft)) seat.old seat.new }
+    ensures builds { Builds table.now draft.countdown draft.name (made_of draft value.now)
+        seat.old seat.new }
     ensures steps { MakesAtMost (room_of table.now + 6) seat.old seat.new }
 {
     write_head(table, seat, slot, draft, value.len() as u64, client);
@@ -65,6 +68,7 @@ fn write_head<T: Tag, A: Allocator>(
     ensures seat { IsSameSeat seat.old seat.new }
     ensures view { view seat.new ≡ with_words (draft.key.w0 ∷ draft.key.w1 ∷ draft.charge
         ∷ stamp_word client draft.serial ∷ bytes ∷ []) (view seat.old) }
+    ensures by { GoesOnBy table.now is_write seat.old seat.new }
     ensures adds { Adds seat.old seat.new }
     ensures steps { MakesAtMost 5 seat.old seat.new }
 {
@@ -92,6 +96,7 @@ fn write_payload<T: Tag, A: Allocator>(
     ensures seat { IsSameSeat seat.old seat.new }
     ensures view { view seat.new
         ≡ with_words ((view seat.old).written ++ payload value.now) (view seat.old) }
+    ensures by { GoesOnBy table.now is_write seat.old seat.new }
     ensures adds { Adds seat.old seat.new }
     ensures steps { MakesAtMost (room_of table.now) seat.old seat.new }
 {

@@ -11,7 +11,7 @@ ghost use Rattle.hcc_rule.specs.ToldOwners.{IsLast, records_left};
 ghost use Rattle.hcc_table.specs.Efforts.{Lost};
 ghost use Rattle.hcc_table.specs.Freed.{HasTaken, IsFreed, TakenAt, TakesBy, emptied};
 ghost use Rattle.hcc_table.specs.Searched.{Sought};
-ghost use Rattle.hcc_table.specs.Seeking.{GoesOn};
+ghost use Rattle.hcc_table.specs.Seeking.{is_unpass, Empties, GoesOnBy};
 ghost use Rattle.hcc_table.specs.Steps.{Adds, MakesAtMost, TriesToTake, freeing};
 
 use crate::efforts::Effort;
@@ -37,7 +37,7 @@ pub fn free_taken<T: Tag, A: Allocator>(
     ensures seat { IsSameSeat seat.old seat.new }
     ensures charge { result ≡ slice_index (view seat.old).written CHARGE }
     ensures view { view seat.new ≡ emptied (view seat.old) }
-    ensures past { GoesOn seat.old seat.new }
+    ensures past { Empties table.now (view seat.old).client seat.old seat.new }
     ensures adds { Adds seat.old seat.new }
     ensures steps { MakesAtMost (slots_of table.now + 4) seat.old seat.new }
 {
@@ -63,7 +63,7 @@ pub(crate) fn take_back<T: Tag, A: Allocator>(
     ensures seat { IsSameSeat seat.old seat.new }
     ensures view { view seat.new
         ≡ record (view seat.old) { work = record (view seat.old).work { trail = [] } } }
-    ensures past { GoesOn seat.old seat.new }
+    ensures past { GoesOnBy table.now is_unpass seat.old seat.new }
     ensures adds { Adds seat.old seat.new }
     ensures steps { MakesAtMost (slots_of table.now) seat.old seat.new }
 {

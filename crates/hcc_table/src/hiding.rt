@@ -1,5 +1,5 @@
 //! Hiding the entries of a key.
-ghost use Rattle.std.specs.Prelude.{◌≡◌, ◌+◌, ◌-◌, ◌*◌, ◌^◌, ◌<◌, ◌≤◌, [], true, None, IfSome, IfNone, IsSomeAnd, replicate, ℕ};
+ghost use Rattle.std.specs.Prelude.{◌≡◌, ◌+◌, ◌-◌, ◌*◌, ◌^◌, ◌<◌, ◌≤◌, [], true, None, Some, IfSome, IfNone, IsSomeAnd, replicate, ℕ};
 ghost use Rattle.hcc_core.specs.declared.limits.TheConstants.{REFERENCES_PER_CLIENT};
 ghost use Rattle.hcc_core.specs.Lawful.{is_in};
 ghost use Rattle.hcc_core.specs.Outcomes.{dropped};
@@ -11,7 +11,7 @@ ghost use Rattle.hcc_rule.specs.Records.{record_in};
 ghost use Rattle.hcc_rule.specs.Words.{key_of};
 ghost use Rattle.hcc_table.specs.Efforts.{Lost, Took};
 ghost use Rattle.hcc_table.specs.Erased.{Erases, IsAtRest, IsErased};
-ghost use Rattle.hcc_table.specs.Freed.{TriedWhereDue};
+ghost use Rattle.hcc_table.specs.Freed.{TakesByWhereDue, TriedWhereDue};
 ghost use Rattle.hcc_table.specs.Hides.{HidesAll, HidesHeld, PassesOrHides, is_alone};
 ghost use Rattle.hcc_table.specs.Searched.{Sought, Buried, AllDead};
 ghost use Rattle.hcc_table.specs.Steps.{MakesFor, freeing, MakesAtMost};
@@ -177,7 +177,7 @@ fn hide_held<T: Tag, A: Allocator>(
     ensures records { (view seat.new).records ≡ dropped (is_called name) (view seat.old).records }
     ensures few { (result.hidden ≤ 1) × (result.slots ≤ 1)
         × (result.charge ≤ result.slots * (2 ^ 32 - 1)) }
-    ensures hides { HidesHeld (address_of_meta table.now slot) result effort.old effort.new
+    ensures hides { HidesHeld table.now slot name result effort.old effort.new
         seat.old seat.new }
     ensures steps { MakesAtMost ((slots_of table.now + 4) * result.slots + 3) seat.old seat.new }
 {
@@ -225,6 +225,8 @@ fn free_last<T: Tag, A: Allocator>(
         × ((view seat.new).records ≡ dropped (is_called name) (view seat.old).records)) }
     ensures tried { TriedWhereDue (address_of_meta table.now slot) word (is_alone word) result
         effort.old effort.new seat.old seat.new }
+    ensures by { TakesByWhereDue table.now slot word (Some name) (is_alone word) result
+        seat.old seat.new }
     ensures steps { MakesAtMost (freeing (slots_of table.now)) seat.old seat.new }
     ensures fewer { IfNone result (MakesAtMost 1 seat.old seat.new) }
 {

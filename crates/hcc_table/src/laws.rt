@@ -4,15 +4,22 @@
 ghost use Rattle.std.specs.Prelude.{◌≡◌, ℕ, ◌<◌, ◌↔◌, Bool, Option, IsNone};
 ghost use Rattle.hcc_rule.specs.declared.key.Key.{Key};
 ghost use Rattle.hcc_rule.specs.declared.table.RuleTable.{RuleTable};
-ghost use Rattle.hcc_rule.specs.Callers.{clients_of, plan_of, slots_of};
+ghost use Rattle.hcc_core.specs.World.{occupancy_of, usage_of};
+ghost use Rattle.hcc_rule.specs.Callers.{clients_of, plan_of, slots_of, IsEvent};
+ghost use Rattle.hcc_rule.specs.Events.{occupancy_done, usage_done};
 ghost use Rattle.hcc_rule.specs.Laws.{StateOf};
 ghost use Rattle.hcc_rule.specs.Rule.{Holds};
-ghost use Rattle.hcc_rule.specs.Seats.{SeatOf};
+ghost use Rattle.hcc_rule.specs.Seats.{SeatOf, view};
 ghost use Rattle.hcc_table.specs.declared.efforts.Effort.{Effort};
+ghost use Rattle.hcc_table.specs.declared.hiding.Erased.{Erased};
+ghost use Rattle.hcc_table.specs.declared.inserting.Insertion.{Insertion};
 ghost use Rattle.hcc_table.specs.declared.pins.Pin.{Pin};
+ghost use Rattle.hcc_table.specs.Hides.{HidesAll};
 ghost use Rattle.hcc_table.specs.Probed.{Misses, Searches};
 ghost use Rattle.hcc_table.specs.Quiet.{IsQuiet, ShowsKeyAt};
-ghost use Rattle.hcc_table.specs.Standing.{FindsFirst, FindsLasting, ShowsKey, world_at};
+ghost use Rattle.hcc_table.specs.Seeking.{is_settling, GoesOnBy};
+ghost use Rattle.hcc_table.specs.Tries.{Inserts};
+ghost use Rattle.hcc_table.specs.Standing.{FindsFirst, FindsLasting, HidesShown, InsertsShown, ShowsKey, shown_at, world_at};
 
 use hcc_rule::Tag;
 use hcc_rule::laws::law_trails;
@@ -44,6 +51,49 @@ pub fn law_found_alone<T: Tag, A: Allocator>()
         → Searches T.fits table key name marks answer before after old new
         → IsNone answer ↔ ((slot : ℕ) → slot < slots_of table
         → ¬ ShowsKey (world_at table old) key slot) }
+{}
+
+/// In a shard of one client hiding a key hides exactly what the shard shows of it.
+pub fn law_hidden_alone<T: Tag, A: Allocator>()
+    // As many slots are hidden as show the key in the world that the seat knows when the call
+    // begins; none does in the one that it knows at the end, and each other slot shows what it
+    // showed.
+    ensures hides { (table : RuleTable T A) (key : Key) (name : ℕ) (all : Erased)
+        (before after : Effort) (old new : SeatOf T) → clients_of table ≡ 1
+        → HidesAll T.fits table key name all before after old new
+        → HidesShown (slots_of table) key all.hidden (world_at table old) (world_at table new) }
+
+    // To settle what was freed changes nothing of what is shown.
+    ensures settles { (table : RuleTable T A) (old new : SeatOf T) → clients_of table ≡ 1
+        → GoesOnBy table is_settling old new → (slot : ℕ)
+        → shown_at (world_at table new) slot ≡ shown_at (world_at table old) slot }
+{}
+
+/// In a shard of one client an insertion meets the entry that look-ups find, or comes before it.
+pub fn law_inserted_alone<T: Tag, A: Allocator>()
+    // Placed: its slot is an earlier probe than each that shows the key in the world that the seat
+    // knows when the insertion begins; then it shows the key. Matched: some probe shows the key
+    // there, and the insertion ended at the first that does. No slot: none shows it. All other
+    // slots show what they showed.
+    ensures { (table : RuleTable T A) (key : Key) (name weight : ℕ) (answer : Insertion)
+        (before after : Effort) (old new : SeatOf T) → clients_of table ≡ 1
+        → Inserts T.fits table key name weight answer before after old new
+        → InsertsShown (slots_of table) key answer (world_at table old) (world_at table new) }
+{}
+
+/// In a shard of one client totals are those of what the shard has.
+pub fn law_told_alone<T: Tag, A: Allocator>()
+    // A load of the usage finds that of the world that the seat knows: the charges of all entries
+    // in slots, hidden ones too, and what stands for the client, as its standalone entries.
+    ensures usage { (table : RuleTable T A) (used : ℕ) (old new : SeatOf T)
+        → clients_of table ≡ 1 → IsEvent table (usage_done used (view old)) old new
+        → used ≡ usage_of (world_at table old) }
+
+    // One of the occupancy finds how many entries are in slots, hidden ones too, with the place and
+    // the freed slots that the client has in hand.
+    ensures occupancy { (table : RuleTable T A) (count : ℕ) (old new : SeatOf T)
+        → clients_of table ≡ 1 → IsEvent table (occupancy_done count (view old)) old new
+        → count ≡ occupancy_of (world_at table old) }
 {}
 
 /// A miss is a miss.

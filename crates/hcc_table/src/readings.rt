@@ -164,6 +164,7 @@ pub fn read_bytes<T: Tag, A: Allocator>(
 }
 
 /// The same, once `read_len` returned how many bytes it has.
+#[inline(always)]
 pub fn copy_bytes<T: Tag, A: Allocator>(
     table: &RuleTable<T, A>,
     seat: &mut RuleSeat<T>,

@@ -23,6 +23,3 @@ mod seeding;
 pub use changes::{acquired, clocked, corrected, given_back, released, started, unreferenced};
 pub use fields::{acquires, hit, refs, releases, state};
 pub use seeding::{seeded, unseeded};
-
-#[cfg(test)]
-mod tests;

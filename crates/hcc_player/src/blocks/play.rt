@@ -3,11 +3,13 @@ ghost use Rattle.std.specs.Prelude.{◌≡◌, ◌⊎◌, ◌+◌, ◌≤◌, Ok
 ghost use Rattle.std.specs.Prelude.{length, map, slice_index_or, string_bytes, []};
 ghost use Rattle.std.specs.Io.KnownBytes.{Keeps};
 ghost use Rattle.std.specs.List.{All};
+ghost use Rattle.hcc_cache.specs.Closings.{AreBack, IsClosed};
 ghost use Rattle.hcc_player.specs.BlocksLine.{block_line};
 ghost use Rattle.hcc_player.specs.Bytes.{TakesAtMost};
 ghost use Rattle.hcc_player.specs.Options.{options_check};
 ghost use Rattle.hcc_player.specs.PlayBlocks.{ArePlayed, EndsBlocks, FailsToReport, IsReport};
 ghost use Rattle.hcc_player.specs.PlayBlocks.{Writes, WritesAtEnd, WritesPart};
+ghost use Rattle.hcc_player.specs.Reading.{IsReadOf};
 ghost use Rattle.hcc_player.specs.Script.{lines_of, AllSay};
 ghost use Rattle.hcc_player.specs.Work.{EachAt, IsIdle, IsSteady};
 
@@ -71,7 +73,8 @@ pub fn play_blocks<
     ensures refused { IfErr (options_check options.now) (λ error.
         (result ≡ Err error) × (reader.new ≡ reader.old) × (writer.new ≡ writer.old)) }
 
-    // In every order of the threads' steps, what is written reports the reads of the text.
+    // In every order of the threads' steps, what is written reports the reads of the text, which
+    // were made on one new cache, and the sums of that cache, closed.
     ensures written { OnOk result (IfSome (R.remaining reader.old)
         (Writes (map (λ file. file.items) files.now) options.now (IsSteady S.reliable sources.items)
         (W.contents writer.old) (W.contents writer.new))) }
@@ -150,9 +153,13 @@ fn played<S: BlockSource + Send + Drop, G: Gate + Sync, X: Threads + Sync>(
     requires content { All (λ source. S.content source ≡ map (λ file. file.items) files.now)
         sources.items }
     requires reads { length reads.items ≡ options.now.config.clients }
-    ensures { IfOk result (λ played.
+    ensures report { IfOk result (λ played.
         ArePlayed (map (λ file. file.items) files.now) options.now.block
         options.now.config.clients (IsSteady S.reliable sources.items)
+        (λ client. slice_index_or (map (λ list. list.items) reads.items) client [])
+        played.0 played.1.items) }
+    ensures on_cache { IfOk result (λ played.
+        IsReadOf (map (λ file. file.items) files.now) options.now
         (λ client. slice_index_or (map (λ list. list.items) reads.items) client [])
         played.0 played.1.items) }
 {
@@ -174,6 +181,7 @@ fn played<S: BlockSource + Send + Drop, G: Gate + Sync, X: Threads + Sync>(
 fn closed<T: Tag + Copy + Drop>(cache: Cache<T>, clients: Vec<Client<T>>) -> Closed
     requires back { cache.geometry.clients ≤ length clients.items }
     requires idle { EachAt (λ number client. IsIdle cache client) clients.items }
+    ensures { AreBack cache clients.items × IsClosed T.fits cache clients.items result }
 {
     match cache.close(clients) {
         Ok(closed) => closed,

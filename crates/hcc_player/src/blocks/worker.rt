@@ -5,6 +5,7 @@ ghost use Rattle.hcc_cache.specs.Known.{Knows};
 ghost use Rattle.hcc_block.specs.Blocks.{block_of, FitsBlocks};
 ghost use Rattle.hcc_block.specs.Reads.{HoldsSame};
 ghost use Rattle.hcc_block.specs.Sources.{Fails};
+ghost use Rattle.hcc_player.specs.Reading.{ReadsLine, ReadsLines, counts_in, counts_of, no_counts};
 ghost use Rattle.hcc_player.specs.Tally.{found_by, lines_of_tally, Adds, IsTally};
 ghost use Rattle.hcc_player.specs.Work.{AllWith, Ends, IsIdle, IsReady};
 
@@ -99,6 +100,8 @@ fn play_lines<T: Tag + Copy + Drop, S: BlockSource, G: Gate>(
     ensures tally { IsTally (S.reliable reader.old.source)
         (found_by (S.content reader.old.source) reader.old.block lines.now) result }
     ensures told { (result.hits ≡ reader.new.hits) × (result.misses ≡ reader.new.misses) }
+    ensures reads { ReadsLines T.fits cache.now (S.content reader.old.source) reader.old.block
+        lines.now no_counts (counts_of result) client.old client.new }
 {
     let number = client.number();
     let mut tally = Tally::new();
@@ -137,6 +140,9 @@ fn play_line<T: Tag + Copy + Drop, S: BlockSource>(
     ensures adds { Adds (S.reliable reader.old.source)
         (block_of (S.content reader.old.source) reader.old.block line.file line.index)
         tally.old tally.new }
+    ensures reads { ReadsLine T.fits cache.now (S.content reader.old.source) reader.old.block
+        line (counts_in reader.old tally.old) (counts_in reader.new tally.new) client.old
+        client.new }
     ensures faults { (tally.new.faults ≡ tally.old.faults)
         ⊎ Fails (S.failed reader.old.source) (S.failed reader.new.source) }
     ensures counted { reader.new.hits + reader.new.misses

@@ -8,6 +8,7 @@ ghost use Rattle.hcc_player.specs.Registers.{CanPlay, Goes};
 ghost use Rattle.hcc_player.specs.RunCalls.{Does};
 ghost use Rattle.hcc_player.specs.RunAnswers.{placed_answer, refusal_of, PutsIn};
 ghost use Rattle.hcc_player.specs.RunLine.{IsSoundCall};
+ghost use Rattle.hcc_player.specs.Runs.{LetsAllGo};
 
 use crate::run::answer::Answer;
 use crate::run::bytes::Bytes;
@@ -305,6 +306,7 @@ pub(crate) fn let_go<T: Tag>(cache: &Cache<T>, client: &mut Client<T>, registers
     requires { CanPlay T.fits cache.now client.old registers.old.handles.items }
     ensures known { Knows cache.now client.new }
     ensures none { held_by client.new ≡ 0 }
+    ensures did { LetsAllGo T.fits cache.now client.old client.new registers.old.handles.items }
 {
     for register in 0..registers.kept() {
         release(cache, client, registers, register, false, false);

@@ -1,15 +1,15 @@
 //! Plays a judged trace: its lines in order, and then the end.
 ghost use Rattle.std.specs.Prelude.{◌≡◌, ◌++◌, ◌<◌, ◌≤◌, ℕ, List, Ok, IfOk, OnOk, OnErr, IfErr};
 ghost use Rattle.std.specs.Prelude.{IsOk, length, string_bytes};
-ghost use Rattle.std.specs.Io.KnownBytes.{Appends};
 ghost use Rattle.hcc_rule.specs.declared.key.Key.{Key};
 ghost use Rattle.hcc_cache.specs.Configs.{checked};
 ghost use Rattle.hcc_player.specs.Bytes.{Leaves, AppendsPart};
 ghost use Rattle.hcc_player.specs.Play.{FailsToPlay};
-ghost use Rattle.hcc_player.specs.PlayRun.{Answered, AnsweredPart, AreEmpty, AreManned};
+ghost use Rattle.hcc_player.specs.PlayRun.{Answered, AnsweredPart, AreManned, PlaysAll};
 ghost use Rattle.hcc_player.specs.PlayRun.{CanAllPlay, Ended, EndedPart, FitsIn, IsOfSize, Steps};
 ghost use Rattle.hcc_player.specs.RunAnswers.{answer_line, IsPlayed, PutsIn};
 ghost use Rattle.hcc_player.specs.RunLine.{run_line, IsSound, IsSoundCall};
+ghost use Rattle.hcc_player.specs.Runs.{AreEmpty, ClosesAfter, Makes};
 ghost use Rattle.hcc_player.specs.RunStates.{new_states};
 ghost use Rattle.hcc_player.specs.TraceTag.{run_trace, said};
 
@@ -37,9 +37,8 @@ pub(crate) fn play_text<W: Write>(
 ) -> Result<(), PlayError>
     requires allowed { checked config ≡ Ok tt }
     requires good { IsOk (run_trace config text.now) }
-    ensures ok { OnOk result ((out : List ℕ)
-        × IsPlayed config (said (run_trace config text.now)) out
-        × Appends (W.contents writer.old) (W.contents writer.new) out) }
+    ensures ok { OnOk result (PlaysAll config (said (run_trace config text.now))
+        (W.contents writer.old) (W.contents writer.new)) }
     ensures part { OnErr result ((out : List ℕ)
         × IsPlayed config (said (run_trace config text.now)) out
         × AppendsPart (W.contents writer.old) (W.contents writer.new) out) }
@@ -92,8 +91,9 @@ fn play_lines<T: Tag, W: Write>(
     requires fits { FitsIn T.fits cache.now (said (run_trace config text.now)) }
     requires manned { AreManned T.fits cache.now config new_states clients.old.items
         registers.old.items }
-    ensures ok { OnOk result (Answered (T.fits cache.now.tag) config
-        (said (run_trace config text.now)) (W.contents writer.old) (W.contents writer.new)
+    ensures ok { OnOk result (Answered (T.fits cache.now.tag) T.fits cache.now config
+        (said (run_trace config text.now)) clients.old.items clients.new.items
+        registers.old.items registers.new.items (W.contents writer.old) (W.contents writer.new)
         (string_bytes pending.old) (string_bytes pending.new)) }
     ensures manned { OnOk result
         (CanAllPlay T.fits cache.now clients.new.items registers.new.items) }
@@ -143,6 +143,8 @@ fn answer_to<T: Tag>(
         → T.fits cache.now.tag key value }
     ensures steps { IfOk result (λ answer. Steps T.fits cache.now line answer
         clients.old.items clients.new.items registers.old.items registers.new.items) }
+    ensures did { IfOk result (λ answer. Makes T.fits cache.now line answer
+        clients.old.items clients.new.items registers.old.items registers.new.items) }
     ensures count { length clients.new.items ≡ length clients.old.items }
 {
     let number = line.client as usize;
@@ -179,8 +181,8 @@ fn finish<T: Tag + Copy, W: Write>(
 ) -> Result<(), PlayError>
     requires enough { cache.geometry.clients ≤ length clients.items }
     requires manned { CanAllPlay T.fits cache clients.items registers.items }
-    ensures ok { OnOk result (Ended (W.contents writer.old) (W.contents writer.new)
-        (string_bytes pending.old)) }
+    ensures ok { OnOk result (Ended T.fits cache clients.items registers.items
+        (W.contents writer.old) (W.contents writer.new) (string_bytes pending.old)) }
     ensures part { OnErr result (EndedPart (W.contents writer.old) (W.contents writer.new)
         (string_bytes pending.old)) }
     ensures err { IfErr result FailsToPlay }
@@ -200,6 +202,7 @@ fn closed<T: Tag + Copy>(
 ) -> Closed
     requires enough { cache.geometry.clients ≤ length clients.items }
     requires manned { CanAllPlay T.fits cache clients.items registers.items }
+    ensures { ClosesAfter T.fits cache clients.items registers.items result }
 {
     for number in 0..clients.len() {
         let_go(&cache, &mut clients[number], &mut registers[number]);

@@ -12,6 +12,7 @@ loop-k-preserved g c =
     c.visit_slot-here.new.seat c.args.effort.now c.loop-k.effort c.visit_slot-here.new.effort
     c.loop-k.invariant
     (c.slot_of-slot.ensures
-    ∙ ap (λ z. (z + c.loop-k.k) % table.geometry.slots) c.slot_of-from.ensures)
+    ∙ ap (λ z. (z + c.loop-k.k) % c.geometry-slots.result.slots) c.slot_of-from.ensures
+    ∙ ap (λ z. (hand % z.slots + c.loop-k.k) % z.slots) c.geometry-slots.ensures)
     told.seat told.view told.visited told.turns told.modest told.effort c.with-all.ensures
     told.steps

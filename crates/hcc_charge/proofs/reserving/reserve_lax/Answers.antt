@@ -47,7 +47,7 @@ returns-clause-view g c =
 abbrev evicted : (g : given.Over) (c : After-evict_for-swept g) (d : SeatOf g.row.T.Denot)
     → EvictsNothing (view c.evict_for-swept.new.seat) (view d)
     → EvictsAsAsked g.T.Tag.fits c.args.table.now c.args.charge c.args.tally.now
-    c.evict_for-swept.new.tally c.args.seat.now d
+    c.evict_for-swept.new.tally c.args.effort.now c.evict_for-swept.new.effort c.args.seat.now d
 evicted g c =
     let told = c.evict_for-swept.ensures in
     let opens = c.enter-full.ensures in
@@ -56,7 +56,7 @@ evicted g c =
     c.ask.ensures.value c.at_least_one-least.ensures.value)
     opens.enters.2 opens.view c.usage-used.ensures.step
     (keeps_by _ _ (view c.enter-full.new.seat) c.usage-used.ensures.view refl refl refl)
-    told.evicts told.swept told.view told.tally
+    told.evicts told.swept told.view told.tally told.effort
 
 -- What settles takes nothing more.
 idle : (g : given.Over) (c : After-give_charge g)

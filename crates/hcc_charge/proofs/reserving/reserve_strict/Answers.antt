@@ -1,11 +1,11 @@
 use Rattle.std.proofs.Common.{◌≡◌, ◌<◌, ◌≤◌, true, sym, subst, refl, ◌∙◌, arith}
-use Rattle.hcc_rule.specs.Callers.{plan_of}
+use Rattle.hcc_rule.specs.Callers.{plan_of, slots_of}
 use Rattle.hcc_rule.specs.Rule.{setup_of}
 use Rattle.hcc_rule.specs.Seats.{SeatOf, view}
 use Rattle.hcc_charge.specs.Reserved.{still_needed}
 use Rattle.hcc_charge.specs.Asked.{lacked, EvictsAsAsked, EvictsNothing, Grants}
 use Rattle.hcc_charge.proofs.Answered.{strict_full, strict_reserved, strict_short}
-use Rattle.hcc_charge.proofs.Askings.{asked_strict, evicts_as_asked, keeps_by, lacked_strict}
+use Rattle.hcc_charge.proofs.Askings.{asked_strict, between_is, evicts_as_asked, keeps_by, lacked_strict}
 use Rattle.hcc_charge.proofs.reserving.reserve_strict.Given as given
 use Rattle.hcc_charge.proofs.reserving.reserve_strict.Goals as goal
 use Rattle.hcc_charge.proofs.reserving.reserve_strict.Goals.{After-evict_for-swept, After-settle, else-full-via-then-full+else-swept-eq0, else-full-via-else-full}
@@ -74,7 +74,7 @@ returns-clause-view g c =
 abbrev evicted : (g : given.Over) (c : After-evict_for-swept g) (d : SeatOf g.row.T.Denot)
     → EvictsNothing (view c.evict_for-swept.new.seat) (view d)
     → EvictsAsAsked g.T.Tag.fits c.args.table.now c.args.charge c.args.tally.now
-    c.evict_for-swept.new.tally c.args.seat.now d
+    c.evict_for-swept.new.tally c.args.effort.now c.evict_for-swept.new.effort c.args.seat.now d
 evicted g c =
     let told = c.evict_for-swept.ensures in
     let opens = c.enter-full.ensures in
@@ -83,7 +83,7 @@ evicted g c =
     c.needed-needed.ensures.value c.at_least_one.ensures.value)
     opens.enters.2 opens.view c.charge-used.ensures.step
     (keeps_by _ _ (view c.enter-full.new.seat) c.charge-used.ensures.view refl refl refl)
-    told.evicts told.swept told.view told.tally
+    told.evicts told.swept told.view told.tally told.effort
 
 pub returns-then-swept-needed-clause-evicts : goal.returns-then-swept-needed-clause-evicts
 returns-then-swept-needed-clause-evicts g c = (
@@ -127,3 +127,12 @@ returns-clause-evicts g c = (
       c.evict_for-swept.new.seat c.settle.new.seat) (sym c.requires.strict)
       c.settle.ensures.settles,
 )
+
+pub returns-clause-steps : goal.returns-clause-steps
+returns-clause-steps g c =
+    let e = evicted g (goal.at.returns-clause-steps g c).After-evict_for-swept c.settle.new.seat
+    (keeps_by _ _ (view c.evict_for-swept.new.seat) c.settle.ensures.view refl refl refl) in
+    rw (between_is (slots_of c.args.table.now) c.evict_for-swept.result.turns
+    c.evict_for-swept.result.slots (view c.args.seat.now) (view c.settle.new.seat)
+    e.turns e.takings)
+    (omega arith)

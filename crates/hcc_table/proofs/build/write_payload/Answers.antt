@@ -1,6 +1,8 @@
 use Rattle.std.proofs.Common.{◌≡◌, ◌+◌, ◌/◌, ◌∙◌, ap, arith, length, refl}
 use Rattle.hcc_rule.specs.Words.{payload_word}
 use Rattle.hcc_table.proofs.Logs.{adds_none, adds_one, adds_then}
+use Rattle.hcc_table.specs.Seeking.{is_write}
+use Rattle.hcc_table.proofs.Seeking.{goes_event, goes_none, goes_then}
 use Rattle.hcc_table.proofs.InsertsWords.{writes_none, still_seat, still_builds, next_word, writes_more, writes_all}
 use Rattle.hcc_table.proofs.build.write_payload.Goals as goal
 
@@ -9,6 +11,7 @@ loop-k-init g c = (
   writes_none c.args.value.now c.args.seat.now,
   omega arith,
   adds_none c.args.seat.now c.args.seat.now refl,
+  goes_none c.args.table.now is_write c.args.seat.now c.args.seat.now refl,
 )
 
 pub write_at-requires-clause-seat : goal.write_at-requires-clause-seat
@@ -38,6 +41,10 @@ loop-k-preserved g c =
       omega arith,
       adds_then c.args.seat.now c.loop-k.seat c.write_at.new.seat c.loop-k.invariant.2
           (adds_one _ c.loop-k.seat c.write_at.new.seat c.write_at.ensures.step.step),
+      goes_then c.args.table.now is_write c.args.seat.now c.loop-k.seat c.write_at.new.seat
+          c.loop-k.invariant.3
+          (goes_event c.args.table.now is_write _ c.loop-k.seat c.write_at.new.seat
+          c.write_at.ensures.event refl),
     )
 
 pub write_at-requires-then-value-gt0-clause-next : goal.write_at-requires-then-value-gt0-clause-next
@@ -62,3 +69,10 @@ returns-else-value-gt0-clause-view g c =
     let all = c.loop-k-test.false in
     writes_all c.args.value.now c.loop-k.k c.args.seat.now c.loop-k.seat c.loop-k.invariant.0
     (omega arith)
+
+pub returns-then-value-gt0-clause-by : goal.returns-then-value-gt0-clause-by
+returns-then-value-gt0-clause-by g c =
+    let last = c.write_at-then-value-gt0 in
+    goes_then c.args.table.now is_write c.args.seat.now c.loop-k.seat last.new.seat
+    c.loop-k.invariant.3
+    (goes_event c.args.table.now is_write _ c.loop-k.seat last.new.seat last.ensures.event refl)

@@ -1,5 +1,6 @@
 use Rattle.std.proofs.Common.{arith, refl}
 use Rattle.hcc_table.proofs.Logs.{adds_none, adds_one, adds_then}
+use Rattle.hcc_table.specs.Seeking.{is_unpass}
 use Rattle.hcc_table.proofs.Seeking.{goes_event, goes_none, goes_then}
 use Rattle.hcc_table.proofs.TakesBack.{takes_back, back, stands, goes_back}
 use Rattle.hcc_table.proofs.freeing.take_back.Goals as goal
@@ -13,7 +14,7 @@ loop-init g c =
           (rw (← c.geometry-slots.ensures) told.mask),
       omega arith,
       adds_none c.args.seat.now c.args.seat.now refl,
-      goes_none c.args.seat.now c.args.seat.now refl,
+      goes_none table is_unpass c.args.seat.now c.args.seat.now refl,
     )
 
 pub returns-then-passed-slot-clause-view : goal.returns-then-passed-slot-clause-view
@@ -42,6 +43,6 @@ loop-preserved g c =
       omega arith,
       adds_then c.args.seat.now c.loop.seat c.unpass.new.seat c.loop.invariant.2
           (adds_one _ c.loop.seat c.unpass.new.seat c.unpass.ensures.step.1.step),
-      goes_then c.args.seat.now c.loop.seat c.unpass.new.seat c.loop.invariant.3
-          (goes_event table _ c.loop.seat c.unpass.new.seat c.unpass.ensures.event),
+      goes_then table is_unpass c.args.seat.now c.loop.seat c.unpass.new.seat c.loop.invariant.3
+          (goes_event table is_unpass _ c.loop.seat c.unpass.new.seat c.unpass.ensures.event refl),
     )

@@ -70,7 +70,7 @@ loop-preserved g c =
           c.loop.seat c.hide_at-here.new.seat c.count.new.seat c.loop.invariant.3
           (c.slot-slot.ensures ∙ c.loop.invariant.0.walking.probe) c.hide_at-here.new.effort
           (c.probes.ensures.probes, c.probes.ensures.corrections, c.probes.ensures.lost)
-          here.does.1 (all.hidden, all.slots, all.charge) told.step told.view
+          here.does.1 (all.hidden, all.slots, all.charge) told.step told.event told.view
           c.if-count-eq0.false,
     )
   where
@@ -123,7 +123,8 @@ returns-then-count-eq0-clause-hides g c =
     c.loop.seat c.hide_at-here.new.seat c.count.new.seat c.loop.invariant.3
     (c.slot-slot.ensures ∙ c.loop.invariant.0.walking.probe) c.hide_at-here.new.effort
     (c.probes.ensures.probes, c.probes.ensures.corrections, c.probes.ensures.lost)
-    here.does.1 (all.hidden, all.slots, all.charge) told.step told.view c.if-count-eq0.true
+    here.does.1 (all.hidden, all.slots, all.charge) told.step told.event told.view
+    c.if-count-eq0.true
 
 pub returns-clause-hides : goal.returns-clause-hides
 returns-clause-hides g c =

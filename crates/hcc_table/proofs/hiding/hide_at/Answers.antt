@@ -1,7 +1,7 @@
 use Rattle.std.proofs.Common.{inl, inr, refl}
 use Rattle.hcc_table.proofs.Erasures.{erased_none, erased_there, buried_there}
 use Rattle.hcc_rule.specs.Seats.{view}
-use Rattle.hcc_table.proofs.Probes.{found_holds}
+use Rattle.hcc_table.proofs.Probes.{found_asked, found_holds}
 use Rattle.hcc_table.proofs.hiding.hide_at.Goals as goal
 
 pub hide_held-requires-clause-holds : goal.hide_held-requires-clause-holds
@@ -34,6 +34,10 @@ returns-in-Some-clause-does g c = (
     between = c.acquire_at.new.effort;
     held = c.acquire_at.new.seat;
     catches = c.in-Some.ensures.catches;
+    holds =
+        let found = c.in-Some.ensures.found in
+        found_asked g.T.Tag.fits c.args.table.now.geometry.room c.args.slot c.args.name c.args.key
+        (view c.args.seat.now) (view c.acquire_at.new.seat) found.0 c.requires.fresh found.1;
     hides = c.hide_held.ensures.hides;
   }),
 )

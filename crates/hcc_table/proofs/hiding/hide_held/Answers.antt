@@ -1,7 +1,7 @@
 use Rattle.std.proofs.Common.{Some, None, ap, refl, ◌∙◌}
 use Rattle.hcc_rule.specs.Seats.{view}
 use Rattle.std.specs.Int.{from_bool}
-use Rattle.hcc_table.proofs.Erasures.{hidden_then}
+use Rattle.hcc_table.proofs.Erasures.{hidden_freed, hidden_then}
 use Rattle.hcc_table.proofs.Probes.{given_at}
 use Rattle.hcc_table.proofs.Searches.{searched_then}
 use Rattle.hcc_table.proofs.hiding.hide_held.Goals as goal
@@ -11,10 +11,13 @@ returns-in-Some-clause-hides g c = record {
   found = c.hide-found.result;
   hid = c.hide-found.new.seat;
   hides = c.hide-found.ensures.step;
+  event = c.hide-found.ensures.event;
+  told = c.hide-found.ensures.view;
   hidden = c.from-hidden.ensures ∙ ap from_bool c.is_shown.ensures;
   freed = Some c.in-Some.charge;
   tried = c.free_last.new.seat;
   tries = c.in-Some.ensures.tried;
+  takes = c.in-Some.ensures.by;
   won = (refl, refl, refl);
   given = tt;
 }
@@ -24,12 +27,15 @@ returns-in-None-clause-hides g c = record {
   found = c.hide-found.result;
   hid = c.hide-found.new.seat;
   hides = c.hide-found.ensures.step;
+  event = c.hide-found.ensures.event;
+  told = c.hide-found.ensures.view;
   hidden = c.from-hidden.ensures ∙ ap from_bool c.is_shown.ensures;
   freed = None;
   tried = c.free_last.new.seat;
   tries = c.in-None.ensures.tried;
+  takes = c.in-None.ensures.by;
   won = tt;
-  given = (c.give.result, c.give.ensures.step, refl, refl);
+  given = (c.give.result, c.give.ensures.step, refl, refl, c.give.ensures.event);
 }
 
 pub returns-in-None-clause-view : goal.returns-in-None-clause-view
@@ -42,3 +48,11 @@ returns-in-None-clause-view g c =
     (searched_then (view c.hide-found.new.seat) u (view c.give.new.seat)
     c.in-None.ensures.lost.searched
     (given_at c.args.slot c.args.name c.give.result u (view c.give.new.seat) c.give.ensures.view))
+
+pub returns-in-Some-clause-view : goal.returns-in-Some-clause-view
+returns-in-Some-clause-view g c =
+    hidden_freed c.args.slot c.args.name c.hide-found.result c.from-hidden.result
+    c.in-Some.charge (view c.args.seat.now) (view c.hide-found.new.seat)
+    (view c.free_last.new.seat) c.requires.idle
+    (c.from-hidden.ensures ∙ ap from_bool c.is_shown.ensures) c.requires.holds
+    c.hide-found.ensures.view c.in-Some.ensures.freed.1

@@ -5,7 +5,9 @@ use Rattle.hcc_rule.specs.Addresses.{address_of_meta}
 use Rattle.hcc_rule.specs.Seats.{atomic}
 use Rattle.hcc_rule.specs.ToldOwners.{first_word}
 use Rattle.hcc_table.specs.Efforts.{Took}
+use Rattle.hcc_table.specs.Seeking.{is_unpass}
 use Rattle.hcc_table.specs.Steps.{Among, UsesUp, amount_of}
+use Rattle.hcc_table.proofs.Seeking.{goes_none}
 use Rattle.hcc_table.proofs.Logs.{adds_none, adds_one, adds_then, among_after, among_then, ends_later}
 use Rattle.hcc_table.proofs.Rises.{took_none, took_next, took_within}
 use Rattle.hcc_rule.specs.declared.view.View.{View}
@@ -94,7 +96,8 @@ loop-slot-preserved g c =
           c.insert_at.new.seat c.pass.new.seat c.loop-slot.invariant.4
           (c.slot-slot.ensures ∙ c.loop-slot.invariant.0.walking.probe)
           (c.probes.ensures.probes, c.probes.ensures.corrections, c.probes.ensures.lost)
-          c.in-NoSlot.ensures.tries c.pass.ensures.step c.pass.ensures.view,
+          c.in-NoSlot.ensures.tries c.pass.ensures.step c.pass.ensures.view
+          c.pass.ensures.event,
     )
   where
     visited : Took (c.loop-slot.passed + 1) (c.loop-slot.passed + 1) (c.loop-slot.passed + 1)
@@ -198,6 +201,7 @@ returns-in-Placed-clause-inserts g c =
     (c.probes.ensures.probes, c.probes.ensures.corrections, c.probes.ensures.lost)
     c.in-Placed.ensures.tries (λ none. cc)
     (adds_none c.insert_at.new.seat c.insert_at.new.seat refl)
+    (goes_none c.args.table.now is_unpass c.insert_at.new.seat c.insert_at.new.seat refl)
 
 pub returns-in-Matched-clause-inserts : goal.returns-in-Matched-clause-inserts
 returns-in-Matched-clause-inserts g c =
@@ -207,7 +211,7 @@ returns-in-Matched-clause-inserts g c =
     c.insert_at.new.seat c.take_back.new.seat c.loop-slot.invariant.4
     (c.slot-slot.ensures ∙ c.loop-slot.invariant.0.walking.probe)
     (c.probes.ensures.probes, c.probes.ensures.corrections, c.probes.ensures.lost)
-    c.in-Matched.ensures.tries (λ none. cc) c.take_back.ensures.adds
+    c.in-Matched.ensures.tries (λ none. cc) c.take_back.ensures.adds c.take_back.ensures.past
 
 pub returns-then-passed-slots-clause-inserts : goal.returns-then-passed-slots-clause-inserts
 returns-then-passed-slots-clause-inserts g c =
@@ -221,7 +225,7 @@ returns-then-passed-slots-clause-inserts g c =
     (c.slot-slot.ensures ∙ c.loop-slot.invariant.0.walking.probe)
     (c.probes.ensures.probes, c.probes.ensures.corrections, c.probes.ensures.lost)
     c.in-NoSlot.ensures.tries (λ none. sym least)
-    c.take_back-then-passed-slots.ensures.adds
+    c.take_back-then-passed-slots.ensures.adds c.take_back-then-passed-slots.ensures.past
 
 pub returns-in-Placed-clause-probes : goal.returns-in-Placed-clause-probes
 returns-in-Placed-clause-probes g c = (

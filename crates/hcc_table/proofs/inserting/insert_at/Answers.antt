@@ -1,13 +1,14 @@
-use Rattle.std.proofs.Common.{◌≡◌, ◌+◌, ◌++◌, [], ◌∷◌, refl, sym, ap, ◌∙◌}
-use Rattle.hcc_word.specs.Word.{is_visible}
+use Rattle.std.proofs.Common.{◌≡◌, ◌+◌, ◌++◌, [], ◌∷◌, true, refl, sym, ap, ◌∙◌}
+use Rattle.hcc_word.specs.Word.{is_empty, is_visible}
+use Rattle.hcc_rule.specs.ToldOwners.{made_of}
 use Rattle.hcc_table.specs.Steps.{Adds}
-use Rattle.hcc_table.proofs.Logs.{adds_one, adds_then, among_after}
+use Rattle.hcc_table.proofs.Logs.{adds_one, adds_then, among_after, begins_then, ends_adds}
 use Rattle.hcc_table.proofs.Probings.{neither}
 use Rattle.hcc_rule.specs.Seats.{view}
 use Rattle.hcc_table.specs.Inserted.{Meets, Tried}
 use Rattle.hcc_table.specs.Searched.{Buried, Sought}
 use Rattle.hcc_table.proofs.Searches.{searched_refl}
-use Rattle.hcc_table.proofs.Inserts.{occupy_meets, tried_there, unshown_there, shown_there}
+use Rattle.hcc_table.proofs.Inserts.{occupied_client, occupy_meets, tried_there, unshown_there, shown_there}
 use Rattle.hcc_table.proofs.inserting.insert_at.Goals as goal
 use Rattle.hcc_table.proofs.inserting.insert_at.Goals.{else-is_shown-via-then-is_shown+else-meet, else-is_shown-via-else-is_shown}
 
@@ -119,3 +120,52 @@ returns-then-meet-clause-matched g c _ =
       among_after _ c.args.seat.now c.occupy-found.new.seat c.meet.new.seat occupied uses.2,
       among_after _ c.args.seat.now c.occupy-found.new.seat c.meet.new.seat occupied uses.3,
     )
+
+pub returns-then-is_free-clause-tries : goal.returns-then-is_free-clause-tries
+returns-then-is_free-clause-tries g c = (
+  refl,
+  refl,
+  (
+    c.occupy-found.result,
+    empty,
+    begins_then _ c.args.seat.now c.occupy-found.new.seat c.build.new.seat
+        c.occupy-found.ensures.step.step
+        (ends_adds _ c.occupy-found.new.seat c.build.new.seat c.build.ensures.shown),
+  ),
+  record {
+    word = c.occupy-found.result;
+    empty = empty;
+    took = c.occupy-found.new.seat;
+    takes = c.occupy-found.ensures.event;
+    same = occupied_client c.args.slot c.occupy-found.result (view c.args.seat.now)
+        (view c.occupy-found.new.seat) empty c.occupy-found.ensures.view;
+    made = made_of c.args.draft c.args.value.now;
+    asked = refl;
+    called = c.args.draft.name;
+    builds = c.build.ensures.builds;
+  },
+)
+  where
+    empty : is_empty c.occupy-found.result ≡ true
+    empty = sym c.is_free.ensures ∙ c.if-is_free.true
+
+pub returns-then-meet-clause-tries : goal.returns-then-meet-clause-tries
+returns-then-meet-clause-tries g c = record {
+  seen = c.occupy-found.result;
+  mid = c.occupy-found.new.seat;
+  first = (
+    c.occupy-found.ensures.step,
+    c.occupy-found.ensures.view,
+    sym c.if-is_free.ensures,
+    c.occupy-found.ensures.event,
+  );
+  shown = sym c.if-is_shown.ensures;
+  word = (c.meet.ensures.uses c.if-meet.true).0;
+  uses = (c.meet.ensures.uses c.if-meet.true).1;
+}
+
+pub returns-then-meet-clause-adds : goal.returns-then-meet-clause-adds
+returns-then-meet-clause-adds g c =
+    adds_then c.args.seat.now c.occupy-found.new.seat c.meet.new.seat
+    (adds_one _ c.args.seat.now c.occupy-found.new.seat c.occupy-found.ensures.step.step)
+    c.meet.ensures.adds

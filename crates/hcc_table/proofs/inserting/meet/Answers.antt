@@ -151,6 +151,8 @@ returns-then-matches-clause-uses g c _ = (
     loads = c.matches.ensures.loads c.if-matches.true;
     left = c.let_go.ensures.left.found;
     gives = rw (← c.counts.ensures) c.let_go.ensures.left.step;
+    seeks = c.matches.ensures.seeks;
+    by = (c.let_go.ensures.by.0, rw (← c.counts.ensures) c.let_go.ensures.by.2);
   },
 )
 

@@ -9,8 +9,6 @@ returns-in-Ok-clause-closed c =
     let items = pool.back.ok.0 in
     let less = c.if-len-self.false in
     let enough : pool.config.clients ≤ length pool.back.items = omega arith in record {
-      closed = c.closed.result;
       back = are_back pool c.requires enough;
       closes = rw c.in-Ok.ensures.ok at c.closed.ensures;
-      told = c.totals.ensures;
     }

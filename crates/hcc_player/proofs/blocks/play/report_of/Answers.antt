@@ -1,7 +1,7 @@
 use Rattle.std.proofs.Common.{map}
 use Rattle.hcc_player.specs.BlocksLine.{reads_in}
 use Rattle.hcc_player.specs.Work.{IsSteady}
-use Rattle.hcc_player.proofs.Playing.{played_lines}
+use Rattle.hcc_player.proofs.Playing.{played_lines, read_lines}
 use Rattle.hcc_player.proofs.Splits.{said_of}
 use Rattle.hcc_player.proofs.blocks.play.report_of.Goals as goal
 
@@ -20,6 +20,10 @@ returns-clause-report g c =
       told = c.in_ok-sums.reports.items;
       played = played_lines files options.block clients steady reads.0
           (map (λ list. list.items) c.in_ok-reads.reads.items) c.in_ok-sums.sums
-          c.in_ok-sums.reports.items dealt c.in_ok-sums.ensures;
+          c.in_ok-sums.reports.items dealt c.in_ok-sums.ensures.report;
+      on_cache = read_lines files options clients reads.0
+          (map (λ list. list.items) c.in_ok-reads.reads.items) c.in_ok-sums.sums
+          c.in_ok-sums.reports.items c.in_ok-sums.ensures.report.count dealt
+          c.in_ok-sums.ensures.on_cache;
       bytes_are = rw c.deref.ensures.value at c.in_ok-report.ensures;
     }

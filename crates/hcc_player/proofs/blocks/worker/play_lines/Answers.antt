@@ -2,7 +2,9 @@ use Rattle.std.proofs.Common.{◌+◌, arith, ap, ◌∙◌, get_or, refl, sym, 
 use Rattle.hcc_block.specs.Blocks.{block_of}
 use Rattle.hcc_player.specs.declared.blocks.line.BlockRead.{BlockRead}
 use Rattle.hcc_player.specs.Tally.{found_by, AddsAll}
+use Rattle.hcc_player.specs.Reading.{ReadsLines, counts_in, counts_of, no_counts}
 use Rattle.hcc_player.proofs.Adding.{adds_for, is_tally, rest_is, rest_none}
+use Rattle.hcc_player.proofs.ReadLemmas.{reads_all, reads_on}
 use Rattle.hcc_player.proofs.blocks.worker.play_lines.Goals as goal
 
 pub loop-line-preserved : goal.loop-line-preserved
@@ -18,6 +20,7 @@ loop-line-preserved g c =
     let line = get_or lines k none in
     let next = rest_is files size lines k none c.loop-line-test.true in
     let adds = rw (so_far.same, so_far.block) at told.adds in
+    let reads = rw (so_far.same, so_far.block) at told.reads in
     let buffer = so_far.buffer in
     record {
       idle = record { known = told.known; none = told.same.count ∙ so_far.idle.none };
@@ -29,6 +32,9 @@ loop-line-preserved g c =
       counted = told.counted;
       failed = told.failed;
       steady = λ s. told.reliable (so_far.steady s);
+      reads = reads_on g.T.Tag.fits c.args.cache.now files size lines k none no_counts _ _
+          c.args.client.now c.loop-line.client c.play_line.new.client c.loop-line-test.true
+          so_far.reads reads;
       adds = λ new rest.
           so_far.adds new
           (subst (λ found. AddsAll steady found c.loop-line.tally new) (sym next) (
@@ -54,3 +60,16 @@ returns-clause-tally g c =
     (record { tally = tally; hits = c.hits.result; misses = c.misses.result })
     (so_far.adds tally (subst (λ found. AddsAll steady found tally tally) (sym none) refl)) counted
     failed
+
+pub returns-clause-reads : goal.returns-clause-reads
+returns-clause-reads g c =
+    let so_far = c.loop-line.invariant in
+    let fits = g.T.Tag.fits in
+    let cache = c.args.cache.now in
+    let files = g.S.BlockSource.content c.args.reader.now.source in
+    let size = c.args.reader.now.block in
+    let lines = c.args.lines.now in
+    let all = reads_all fits cache files size lines c.loop-line.line-index no_counts
+    (counts_in c.loop-line.reader c.loop-line.tally) c.args.client.now c.loop-line.client
+    c.loop-line-test.false so_far.reads in
+    rw (c.hits.ensures, c.misses.ensures) all

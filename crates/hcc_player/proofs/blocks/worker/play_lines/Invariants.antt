@@ -1,7 +1,9 @@
 use Rattle.std.proofs.Common.{◌≡◌, ◌+◌, ◌≤◌, drop, length}
 use Rattle.hcc_player.specs.declared.blocks.tally.Tally.{Tally}
 use Rattle.hcc_player.specs.Tally.{found_by, lines_of_tally, nothing, AddsAll}
+use Rattle.hcc_player.specs.Reading.{counts_in, no_counts}
 use Rattle.hcc_player.specs.Work.{IsIdle}
+use Rattle.hcc_player.proofs.ReadLemmas.{ReadsOn}
 use Rattle.hcc_player.proofs.blocks.worker.play_lines.Given as goal
 
 abbrev pub invariant-loop-line : goal.invariant-loop-line
@@ -20,6 +22,8 @@ invariant-loop-line g l =
       counted : l.reader.hits + l.reader.misses ≡ l.tally.blocks + l.tally.faults;
       failed : l.tally.faults ≤ l.reader.misses;
       steady : reliable l.initial.reader.source → reliable l.reader.source;
+      reads : ReadsOn g.T.Tag.fits l.fn.cache files size l.lines l.line-index no_counts
+          (counts_in l.reader l.tally) l.initial.client l.client;
       adds : (new : Tally)
           → AddsAll (reliable l.initial.reader.source)
           (found_by files size (drop l.line-index l.lines)) l.tally new

@@ -35,3 +35,24 @@ returns-clause-steps g c =
     c.index_mut.ensures.value)
     (slice_get_read registers (length registers) n c.index_mut-2.result.now refl
     (omega arith) c.index_mut-2.ensures.value) goes) c.answer.ensures.goes
+
+pub returns-clause-did : goal.returns-clause-did
+returns-clause-did g c =
+    let n = c.args.line.client in
+    let clients = c.args.clients.now.items in
+    let registers = c.args.registers.now.items in
+    let within = c.requires.client in
+    let count = c.requires.manned.2.count in
+    if_ok_so c.answer.result _ _ (λ answer did. record {
+      before = c.index_mut.result.now;
+      after = c.answer.new.client;
+      held = c.index_mut-2.result.now;
+      holds = c.answer.new.registers;
+      client_was = slice_get_read clients (length clients) n c.index_mut.result.now refl within
+          c.index_mut.ensures.value;
+      registers_were = slice_get_read registers (length registers) n c.index_mut-2.result.now
+          refl (omega arith) c.index_mut-2.ensures.value;
+      clients_are = refl;
+      registers_are = refl;
+      did = did;
+    }) c.answer.ensures.did

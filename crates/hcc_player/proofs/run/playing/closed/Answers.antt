@@ -1,4 +1,4 @@
-use Rattle.std.proofs.Common.{◌≡◌, ◌<◌, length, length-set, refl, arith}
+use Rattle.std.proofs.Common.{◌≡◌, ◌<◌, Some, length, length-set, slice_get, refl, arith}
 use Rattle.std.proofs.lemmas.Option.{slice_get_read, slice_get_within}
 use Rattle.hcc_player.proofs.EndLemmas.{lets_go, not_refused}
 use Rattle.hcc_player.proofs.run.playing.closed.Goals as goal
@@ -10,6 +10,9 @@ loop-number-init g c =
       count = refl;
       alike = m.2.count;
       before = λ c client within at. absurd (omega arith);
+      did = λ c client within at. absurd (omega arith);
+      same = λ c within. refl;
+      alone = λ c within. refl;
       behind = λ k client held within here there. (m.0, m.1 k, m.2.each k client held here there);
     }
 
@@ -36,10 +39,28 @@ loop-number-preserved g c =
     let clients = c.loop-number.clients.items in
     let registers = c.loop-number.registers.items in
     let n = c.loop-number.number in
-    lets_go g.T.Tag.fits c.args.cache n c.args.clients.items clients _ registers _
+    lets_go g.T.Tag.fits c.args.cache n c.args.clients.items clients _ c.args.registers.items
+    registers _
     c.let_go.new.client c.let_go.new.registers c.loop-number.invariant refl refl
     (length-set clients n c.let_go.new.client) (length-set registers n c.let_go.new.registers)
     c.let_go.ensures.known c.let_go.ensures.none
+    (λ client held here there.
+    let inv = c.loop-number.invariant in
+    let count = inv.count in
+    let alike = inv.alike in
+    let below = c.loop-number-test.true in
+    let all = c.len-number-end.ensures in
+    let mine : slice_get clients n ≡ Some c.index_mut.result.now =
+    slice_get_read clients (length clients) n c.index_mut.result.now refl (omega arith)
+    c.index_mut.ensures.value in
+    let its : slice_get registers n ≡ Some c.index_mut-in-loop-number.result.now =
+    slice_get_read registers (length registers) n c.index_mut-in-loop-number.result.now refl
+    (omega arith) c.index_mut-in-loop-number.ensures.value in
+    let same : client ≡ c.index_mut.result.now =
+    cc (here, mine, inv.same n (omega arith)) in
+    let alone : held ≡ c.index_mut-in-loop-number.result.now =
+    cc (there, its, inv.alone n (omega arith)) in
+    rw (same, alone) c.let_go.ensures.did)
 
 pub close-requires : goal.close-requires
 close-requires g c k client at =
@@ -62,3 +83,19 @@ unreachable-requires g c =
     (λ k client at.
     let within = slice_get_within c.loop-number.clients.items k client at in
     (inv.before k client (omega arith) at).1) c.in-Err.ensures.0
+
+pub returns : goal.returns
+returns g c =
+    let inv = c.loop-number.invariant in
+    let past = c.loop-number-test.false in
+    let all = c.len-number-end.ensures in
+    let count = inv.count in
+    record {
+      left = c.loop-number.clients.items;
+      count = inv.count;
+      each = λ k client last held here there at.
+          let within = slice_get_within c.loop-number.clients.items k last at in
+          inv.did k last (omega arith) at client held here there;
+      back = c.in-Ok.ensures.0;
+      closes = c.in-Ok.ensures.1;
+    }

@@ -1,5 +1,5 @@
 use Rattle.std.proofs.Common.{◌≤◌, ◌-◌, length}
-use Rattle.hcc_player.specs.PlayRun.{AreEmpty}
+use Rattle.hcc_player.specs.Runs.{AreEmpty}
 use Rattle.hcc_player.proofs.run.playing.empty.Given as goal
 
 abbrev pub invariant-loop-alloc : goal.invariant-loop-alloc

@@ -9,8 +9,8 @@ use Rattle.hcc_player.proofs.run.playing.play_lines.Goals as goal
 
 pub loop-bytes-init : goal.loop-bytes-init
 loop-bytes-init g c = record {
-  running = running_begins g.T.Tag.fits c.args.cache.now c.args.config _ _ _ c.args.text.now _
-      c.args.clients.now.items c.args.registers.now.items
+  running = running_begins g.T.Tag.fits c.args.cache.now c.args.config c.args.clients.now.items
+      c.args.registers.now.items _ _ _ c.args.text.now _
       (said_good c.args.config c.args.text.now c.requires.good) c.requires.manned
       (leaves_all _ _ _ (Keeps-refl _));
   count = refl;
@@ -26,7 +26,8 @@ judged_call-requires g c =
 pub returns-in_err-line-clause-part : goal.returns-in_err-line-clause-part
 returns-in_err-line-clause-part g c =
     on_error c.from_residual.result _
-    (running_stops g.T.Tag.fits c.args.cache.now c.args.config _ _ _ _ _ _ _ _
+    (running_stops g.T.Tag.fits c.args.cache.now c.args.config c.args.clients.now.items
+    c.args.registers.now.items _ _ _ _ _ _ _ _
     c.loop-bytes.invariant.running)
 
 pub answer_to-requires-clause-manned : goal.answer_to-requires-clause-manned
@@ -38,16 +39,20 @@ answer_to-requires-clause-fits g c =
     let fits = g.T.Tag.fits in
     let cache = c.args.cache.now in
     let config = c.args.config in
+    let first = c.args.clients.now.items in
+    let empty = c.args.registers.now.items in
     let run = c.loop-bytes.invariant.running in
     let line = c.in_ok-line.line in
-    let next = next_line fits cache config _ _ _ _ _ _ c.in-Some.after.now _ _ _ run line
-    c.in-Some.ensures.line c.in_ok-line.ensures.ok in
-    fits_here fits cache config _ _ _ _ _ c.in-Some.after.now _ _ _ run line next c.requires.fits
+    let next = next_line fits cache config first empty _ _ _ _ _ _ c.in-Some.after.now _ _ _ run
+    line c.in-Some.ensures.line c.in_ok-line.ensures.ok in
+    fits_here fits cache config first empty _ _ _ _ _ c.in-Some.after.now _ _ _ run line next
+    c.requires.fits
 
 pub returns-in_err-answer-clause-part : goal.returns-in_err-answer-clause-part
 returns-in_err-answer-clause-part g c =
     on_error c.from_residual-in_err-answer.result _
-    (running_stops g.T.Tag.fits c.args.cache.now c.args.config _ _ _ _ _ _ _ _
+    (running_stops g.T.Tag.fits c.args.cache.now c.args.config c.args.clients.now.items
+    c.args.registers.now.items _ _ _ _ _ _ _ _
     c.loop-bytes.invariant.running)
 
 pub returns-in_err-tell-clause-part : goal.returns-in_err-tell-clause-part
@@ -55,26 +60,33 @@ returns-in_err-tell-clause-part g c =
     let fits = g.T.Tag.fits in
     let cache = c.args.cache.now in
     let config = c.args.config in
+    let first = c.args.clients.now.items in
+    let empty = c.args.registers.now.items in
     let run = c.loop-bytes.invariant.running in
     let line = c.in_ok-line.line in
-    let next = next_line fits cache config _ _ _ _ _ _ c.in-Some.after.now _ _ _ run line
-    c.in-Some.ensures.line c.in_ok-line.ensures.ok in
+    let next = next_line fits cache config first empty _ _ _ _ _ _ c.in-Some.after.now _ _ _ run
+    line c.in-Some.ensures.line c.in_ok-line.ensures.ok in
     on_error c.from_residual-in_err-tell.result _
-    (running_fails fits cache config _ _ _ _ _ _ c.in-Some.after.now _ _ _ _ _ run line
-    c.in_ok-answer.answer next c.in_ok-answer.ensures.steps c.in_err-tell.ensures.part)
+    (running_fails fits cache config first empty _ _ _ _ _ _ c.in-Some.after.now _ _ _ _ _ run line
+    c.in_ok-answer.answer next c.in_ok-answer.ensures.steps c.in_ok-answer.ensures.did
+    c.in_err-tell.ensures.part)
 
 pub loop-bytes-preserved-in_ok-tell : goal.loop-bytes-preserved-in_ok-tell
 loop-bytes-preserved-in_ok-tell g c =
     let fits = g.T.Tag.fits in
     let cache = c.args.cache.now in
     let config = c.args.config in
+    let first = c.args.clients.now.items in
+    let empty = c.args.registers.now.items in
     let run = c.loop-bytes.invariant.running in
     let line = c.in_ok-line.line in
-    let next = next_line fits cache config _ _ _ _ _ _ c.in-Some.after.now _ _ _ run line
-    c.in-Some.ensures.line c.in_ok-line.ensures.ok in
+    let next = next_line fits cache config first empty _ _ _ _ _ _ c.in-Some.after.now _ _ _ run
+    line c.in-Some.ensures.line c.in_ok-line.ensures.ok in
     record {
-      running = running_goes fits cache config _ _ _ _ _ _ _ c.in-Some.after.now _ _ _ _ _ run line
-          c.in_ok-answer.answer next c.in_ok-answer.ensures.steps c.in_ok-tell.ensures.ok;
+      running = running_goes fits cache config first empty _ _ _ _ _ _ _ c.in-Some.after.now _ _ _
+          _ _ run line
+          c.in_ok-answer.answer next c.in_ok-answer.ensures.steps
+          c.in_ok-answer.ensures.did c.in_ok-tell.ensures.ok;
       count = c.in_ok-answer.ensures.count ∙ c.loop-bytes.invariant.count;
     }
 
@@ -83,12 +95,16 @@ loop-bytes-preserved g c =
     let fits = g.T.Tag.fits in
     let cache = c.args.cache.now in
     let config = c.args.config in
+    let first = c.args.clients.now.items in
+    let empty = c.args.registers.now.items in
     let run = c.loop-bytes.invariant.running in
     let line = c.in_ok-line.line in
-    let next = next_line fits cache config _ _ _ _ _ _ c.in-Some.after.now _ _ _ run line
-    c.in-Some.ensures.line c.in_ok-line.ensures.ok in
+    let next = next_line fits cache config first empty _ _ _ _ _ _ c.in-Some.after.now _ _ _ run
+    line c.in-Some.ensures.line c.in_ok-line.ensures.ok in
     record {
-      running = running_goes fits cache config _ _ _ _ _ _ _ c.in-Some.after.now _ _ _ _ _ run line
-          c.in_ok-answer.answer next c.in_ok-answer.ensures.steps c.in_ok-tell.ensures.ok;
+      running = running_goes fits cache config first empty _ _ _ _ _ _ _ c.in-Some.after.now _ _ _
+          _ _ run line
+          c.in_ok-answer.answer next c.in_ok-answer.ensures.steps
+          c.in_ok-answer.ensures.did c.in_ok-tell.ensures.ok;
       count = c.in_ok-answer.ensures.count ∙ c.loop-bytes.invariant.count;
     }

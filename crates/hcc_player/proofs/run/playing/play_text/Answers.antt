@@ -45,10 +45,17 @@ returns-clause-ok g c =
     let mid = g.W.Write.contents c.play_lines.new.writer in
     let new = g.W.Write.contents c.finish.new.writer in
     let rest = string_bytes c.play_lines.new.pending in
+    let first = c.in-Ok.clients.items in
+    let last = c.play_lines.new.clients.items in
+    let empty = c.in_ok-registers.registers.items in
+    let kept = c.play_lines.new.registers.items in
     on_ok_so c.finish.result _ _
-    (play_whole c.args.config lines old mid new rest
-    (answered_as tag cache c.in-Ok.ensures.made.tag_is c.args.config lines old mid
-    (string_bytes c.new-pending.result) [] rest c.new-pending.ensures.bytes
+    (play_whole tag cache c.args.config lines first last empty kept old mid new rest
+    c.in-Ok.ensures.made
+    (c.in_ok-registers.ensures.count ∙ c.len.ensures ∙ c.in-Ok.clients.ok.0)
+    c.in_ok-registers.ensures.empty
+    (answered_as tag cache c.in-Ok.ensures.made.tag_is c.args.config lines first last empty kept
+    old mid (string_bytes c.new-pending.result) [] rest c.new-pending.ensures.bytes
     c.in_ok-play_lines.ensures.ok)) c.finish.ensures.ok
 
 pub returns-clause-part : goal.returns-clause-part
@@ -60,8 +67,12 @@ returns-clause-part g c =
     let mid = g.W.Write.contents c.play_lines.new.writer in
     let new = g.W.Write.contents c.finish.new.writer in
     let rest = string_bytes c.play_lines.new.pending in
+    let first = c.in-Ok.clients.items in
+    let last = c.play_lines.new.clients.items in
+    let empty = c.in_ok-registers.registers.items in
+    let kept = c.play_lines.new.registers.items in
     on_error_so c.finish.result _ _
-    (play_cut c.args.config lines old mid new rest
-    (answered_as tag cache c.in-Ok.ensures.made.tag_is c.args.config lines old mid
-    (string_bytes c.new-pending.result) [] rest c.new-pending.ensures.bytes
+    (play_cut cache c.args.config lines first last empty kept old mid new rest
+    (answered_as tag cache c.in-Ok.ensures.made.tag_is c.args.config lines first last empty kept
+    old mid (string_bytes c.new-pending.result) [] rest c.new-pending.ensures.bytes
     c.in_ok-play_lines.ensures.ok)) c.finish.ensures.part

@@ -54,6 +54,7 @@ returns-clause-erases g c =
           (view c.args.seat.now.seat) (view c.hide-erased.new.seat) (view c.settle.new.seat)
           c.hide-erased.ensures.view c.settle.ensures.view;
       rest = c.settle.ensures.adds;
+      settles = c.settle.ensures.by;
     }
 
 pub returns-clause-frees : goal.returns-clause-frees

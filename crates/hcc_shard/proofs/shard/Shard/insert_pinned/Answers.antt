@@ -193,3 +193,7 @@ returns-in-NoPlace-clause-steps g c =
     few_by (slots_of t) (room_of t) c.args.seat.now.seat c.standalone_in.new.seat
     c.args.seat.now.effort c.reserve.new.effort (returns-in-NoPlace-clause-frees g c)
     (tries_within (returns-in-NoPlace-clause-view g c).tries)
+
+pub returns-in-Some-clause-large : goal.returns-in-Some-clause-large
+returns-in-Some-clause-large g c strict less =
+    let wrong = c.in_ok-reserved.ensures.large strict less in cc

@@ -1,0 +1,6 @@
+use Rattle.hcc_cache.proofs.Placing.{IsGathering}
+use Rattle.hcc_cache.proofs.drafting.Draft.entries.Given as goal
+
+abbrev pub invariant-loop-place : goal.invariant-loop-place
+invariant-loop-place l =
+    IsGathering l.fn.self.places.items l.entries.items l.place-iterator.rest.items

@@ -1,0 +1,41 @@
+use Rattle.std.proofs.Common.{◌≡◌, ℕ, ap, subst, ◌∙◌}
+use Rattle.std.specs.Prelude.{IsSomeAnd}
+use Rattle.hcc_core.specs.World.{State}
+use Rattle.hcc_rule.specs.declared.geometry.Geometry.{Geometry}
+use Rattle.hcc_rule.specs.declared.key.Key.{Key}
+use Rattle.hcc_rule.specs.Callers.{clients_of, slots_of}
+use Rattle.hcc_rule.specs.Words.{key_of}
+use Rattle.hcc_table.specs.Standing.{HidesShown, shown_at, world_at}
+use Rattle.hcc_shard.specs.declared.erasing.TheConstants.{IN_FLIGHT}
+use Rattle.hcc_cache.specs.Sharding.{key_to}
+use Rattle.hcc_cache.proofs.laws.law_erasures.Goals as goal
+
+-- What was hidden stays so where what is shown does.
+hidden_still : (size : ℕ) (key : Key) (n : ℕ) (world mid next : State)
+    → HidesShown size key n world mid → ((s : ℕ) → shown_at next s ≡ shown_at mid s)
+    → HidesShown size key n world next
+hidden_still size key n world mid next h same = record {
+  all = h.all;
+  none = λ slot low shows.
+      h.none slot low (subst (λ o. IsSomeAnd o (λ e. key_of e ≡ key)) (same slot) shows);
+  others = λ slot lacks. same slot ∙ h.others slot lacks;
+}
+
+pub returns : goal.returns
+returns g c config tag cache clients opened one key hidden old new h =
+    let made = opened.shards _ h.shard h.shard_is in
+    let alone : clients_of h.shard.table ≡ 1 =
+    ap (λ (x : Geometry). x.clients) made.geometry ∙ one in
+    let few : slots_of h.shard.table ≡ config.slots =
+    ap (λ (x : Geometry). x.slots) made.geometry in
+    let under = key_to cache.seed key in
+    let was = world_at h.shard.table h.was.seat in
+    let is = world_at h.shard.table h.is.seat in
+    let hides = c.law_hidden_alone.ensures.hides h.shard.table under IN_FLIGHT h.did.all
+    h.was.effort h.is.effort h.was.seat h.did.mid alone h.did.hides in
+    let stays = c.law_hidden_alone.ensures.settles h.shard.table h.did.mid h.is.seat alone
+    h.did.settles in
+    subst (λ n. HidesShown n under hidden was is) few
+    (subst (λ n. HidesShown (slots_of h.shard.table) under n was is) h.did.hidden_is
+    (hidden_still (slots_of h.shard.table) under h.did.all.hidden was
+    (world_at h.shard.table h.did.mid) is hides stays))

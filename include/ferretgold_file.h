@@ -1,0 +1,101 @@
+/*
+ * ferretgold_file.h - a cache that is closed goes to a file, and one that is opened begins with what
+ * a file has. It is no part of libferretgold, but of libferretgold_file.a, which is built where
+ * xxhash.h is found and stands on the calls of ferretgold_closed.h and ferretgold_image.h.
+ *
+ * What is said there of objects, threads, refusals and what isn't checked holds here too.
+ *
+ * KEYS THAT LAST
+ *   A warm start serves stale data unless keys name content that never changes. A key that names a
+ *   place whose content may change, as a file's number that is given again or a block that is
+ *   written anew, must not be in a cache that is saved. A number that no file gets twice may, or a file
+ *   by its name, inode, size and times, that of its last status change among them: any program can set
+ *   the others back.
+ *
+ * LARGE VALUES
+ *   The pieces of ferretgold_large.h are saved and loaded as entries are. Their keys are made with the
+ *   seed, and their lengths go by the room: under another seed no large value is found, and in slots of
+ *   another room only those of one piece. What is found is the bytes of one insertion. Nothing finds or
+ *   erases a value of another seed: once that one is back it is found again, unless the clock took it.
+ *
+ * THE FORMAT, version 1. All numbers have their lowest byte first.
+ *   The file begins with 32 bytes:
+ *        0  8  "FERRETG1"
+ *        8  4  the version
+ *       12  4  0
+ *       16  8  how many entries follow
+ *       24  8  XXH64 of the bytes before, by seed 0
+ *   and each entry with 40, behind which stand the bytes of its value:
+ *        0 16  its key: w0 and w1
+ *       16  4  its charge, above 0
+ *       20  4  its uses: its countdown
+ *       24  4  its length, at most 4,096
+ *       28  4  0
+ *       32  8  XXH64 of the bytes before and of the value, by the entry's number as a seed, from 1 on
+ *   Nothing stands behind the last one. Only entries that were visible are saved, shard by shard and
+ *   slot by slot. The seed of the keys and the cache's sizes aren't: another configuration may load.
+ */
+#ifndef FERRETGOLD_FILE_H
+#define FERRETGOLD_FILE_H
+
+#include "ferretgold_closed.h"
+
+#ifdef __cplusplus
+extern "C" {
+#endif
+
+/* What saving or loading returns. */
+typedef enum ferretgold_file_status {
+    FERRETGOLD_FILE_OK = 0,
+    FERRETGOLD_FILE_NULL = 1,    /* a pointer is null that may not be */
+    FERRETGOLD_FILE_WRITE = 2,   /* the caller's function couldn't write */
+    FERRETGOLD_FILE_READ = 3,    /* the caller's function couldn't read */
+    FERRETGOLD_FILE_KIND = 4,    /* it is no such file */
+    FERRETGOLD_FILE_VERSION = 5, /* it has a version that this library doesn't know */
+    FERRETGOLD_FILE_DAMAGED = 6, /* it is cut off, too long, or changed */
+    FERRETGOLD_FILE_REFUSED = 7, /* the configuration was refused, as by ferretgold_open, or memory */
+} ferretgold_file_status;
+
+/* Writes all these bytes, and returns whether it could. */
+typedef bool ferretgold_write(void *context, const void *bytes, size_t count);
+
+/* Reads so many bytes, and fewer only at the end; `*could` is true before the call, and false after it
+ * where reading failed. Returns how many it read. */
+typedef size_t ferretgold_read(void *context, void *bytes, size_t count, bool *could);
+
+/* What came of loading a file. */
+typedef struct ferretgold_loaded {
+    uint64_t entries; /* that the file has, up to its damage */
+    uint64_t left;    /* that are in the cache */
+    uint64_t lost;    /* the others: their shard had no room, or a slot has none for the value */
+} ferretgold_loaded;
+
+/*
+ * Writes what look-ups could find in a cache that was closed. Allocates nothing, and needs some 5 KiB
+ * of stack. Costs for each slot ten loads, and for each entry one for each eight bytes.
+ */
+ferretgold_file_status ferretgold_save(ferretgold_closed *closed, ferretgold_write *write,
+                                       void *context);
+
+/*
+ * Opens a cache that begins with what a file has, as ferretgold_reopen does: each entry once, with its
+ * key, its value, its charge and its uses. A cache of the same configuration has them all. Where they
+ * are too many the first come in, and none is evicted. `loaded` may be null.
+ *
+ * A file that is damaged is refused, and `cache` and `loaded` stay; with `keep_front` what stands
+ * before the damage is loaded, and DAMAGED is returned with the cache.
+ *
+ * Allocates an image of all entries, and what ferretgold_reopen does; costs and uses serials as that.
+ */
+ferretgold_file_status ferretgold_load(const ferretgold_config *config, ferretgold_read *read,
+                                       void *context, bool keep_front, ferretgold_cache **cache,
+                                       ferretgold_loaded *loaded);
+
+/* A status as a sentence; "unknown" if it is none. */
+const char *ferretgold_file_status_text(ferretgold_file_status status);
+
+#ifdef __cplusplus
+}
+#endif
+
+#endif

@@ -1,0 +1,164 @@
+// ferretgold_file.hpp - a wrapper of ferretgold_file.h for C++17: a closed cache goes to a stream or to a
+// function, and one that is opened begins with what comes from there. What includes it is linked with
+// libferretgold_file.a, which stands before libferretgold.
+//
+// ferretgold_file.h says what each call does, and for which keys. As in ferretgold.hpp a call has a last
+// argument `why`, which gets its status, and, where exceptions are on, a form without it, which throws a
+// refusal: ferretgold::file_refused. What the caller's own stream or function throws is thrown by both.
+#ifndef FERRETGOLD_FILE_HPP
+#define FERRETGOLD_FILE_HPP
+
+#include "ferretgold.hpp"
+#include "ferretgold_file.h"
+
+#include <cstddef>
+#include <exception>
+#include <istream>
+#include <ostream>
+#include <stdexcept>
+#include <type_traits>
+
+namespace ferretgold {
+
+#ifdef __cpp_exceptions
+// Why a cache wasn't saved or loaded.
+class file_refused : public std::runtime_error {
+  public:
+    explicit file_refused(ferretgold_file_status why)
+        : std::runtime_error(ferretgold_file_status_text(why)), status(why) {}
+    const ferretgold_file_status status;
+};
+#endif
+
+// A caller's function while C calls it. What it throws waits until C has returned: nothing unwinds
+// through C, and a cache that is half loaded is closed.
+template <typename Function> class called {
+  public:
+    explicit called(Function &function) noexcept : function_(function) {}
+
+    static bool write(void *context, const void *bytes, std::size_t count) noexcept {
+        bool could = false;
+        return static_cast<called *>(context)->run([&](auto &to) { could = to(bytes, count); })
+               && could;
+    }
+
+    static std::size_t read(void *context, void *bytes, std::size_t count, bool *could) noexcept {
+        std::size_t has = 0;
+        *could = static_cast<called *>(context)->run([&](auto &from) { has = from(bytes, count, *could); })
+                 && *could;
+        return has;
+    }
+
+    // Throws on what it threw.
+    void end() const {
+        if (thrown_) {
+            std::rethrow_exception(thrown_);
+        }
+    }
+
+  private:
+    // Whether it returned.
+    template <typename Call> bool run(Call call) noexcept {
+#ifdef __cpp_exceptions
+        try {
+#endif
+            call(function_);
+#ifdef __cpp_exceptions
+        } catch (...) {
+            thrown_ = std::current_exception();
+        }
+#endif
+        return thrown_ == nullptr;
+    }
+
+    Function &function_;
+    std::exception_ptr thrown_;
+};
+
+// ---- Saving ------------------------------------------------------------------------------------
+
+template <typename Write>
+using is_write = std::enable_if_t<std::is_invocable_r_v<bool, Write &, const void *, std::size_t>>;
+
+// Saves what is left of a cache by `write(bytes, count)`, which writes all these bytes and returns whether
+// it could.
+template <typename Write, typename = is_write<Write>>
+void save(const closed &from, Write &&write, ferretgold_file_status &why) {
+    called<std::remove_reference_t<Write>> to(write);
+    why = ferretgold_save(from.get(), to.write, &to);
+    to.end();
+}
+
+// The same to a stream, which is flushed.
+inline void save(const closed &from, std::ostream &to, ferretgold_file_status &why) {
+    const auto write = [&](const void *bytes, std::size_t count) {
+        return !to.write(static_cast<const char *>(bytes), static_cast<std::streamsize>(count)).fail();
+    };
+    save(from, write, why);
+    if (why == FERRETGOLD_FILE_OK && to.flush().fail()) {
+        why = FERRETGOLD_FILE_WRITE;
+    }
+}
+
+#ifdef __cpp_exceptions
+// The same to either.
+template <typename To> void save(const closed &from, To &&to) {
+    ferretgold_file_status why{};
+    save(from, to, why);
+    if (why != FERRETGOLD_FILE_OK) {
+        throw file_refused(why);
+    }
+}
+#endif
+
+// ---- Loading -----------------------------------------------------------------------------------
+
+template <typename Read>
+using is_read =
+    std::enable_if_t<std::is_invocable_r_v<std::size_t, Read &, void *, std::size_t, bool &>>;
+
+// Opens a cache with what `read(bytes, count, could)` reads: so many bytes, and fewer only at the end. It
+// returns how many; `could` is true, and false after it where reading failed. `loaded` may be null. With
+// `keep_front` a cache may come together with DAMAGED: it has what stood before the damage.
+template <typename Read, typename = is_read<Read>>
+cache load(const ferretgold_config &config, Read &&read, bool keep_front, ferretgold_loaded *loaded,
+           ferretgold_file_status &why) {
+    called<std::remove_reference_t<Read>> from(read);
+    why = FERRETGOLD_FILE_REFUSED;
+    cache it(shared_cache::by([&](ferretgold_cache *&opened) {
+        why = ferretgold_load(&config, from.read, &from, keep_front, &opened, loaded);
+    }));
+    from.end();
+    return it;
+}
+
+// The same from a stream, which is read to its end and hasn't failed then: a look ahead finds the end, as
+// it makes no stream fail.
+inline cache load(const ferretgold_config &config, std::istream &from, bool keep_front,
+                  ferretgold_loaded *loaded, ferretgold_file_status &why) {
+    const auto read = [&](void *bytes, std::size_t count, bool &could) {
+        if (from.peek() != std::istream::traits_type::eof()) {
+            from.read(static_cast<char *>(bytes), static_cast<std::streamsize>(count));
+        }
+        could = !from.bad() && (from.eof() || !from.fail());
+        return static_cast<std::size_t>(from.gcount());
+    };
+    return load(config, read, keep_front, loaded, why);
+}
+
+#ifdef __cpp_exceptions
+// The same from either, if it is whole: who wants what stood before damage takes a form with `why`.
+template <typename From>
+cache load(const ferretgold_config &config, From &&from, ferretgold_loaded *loaded = nullptr) {
+    ferretgold_file_status why{};
+    cache it = load(config, from, false, loaded, why);
+    if (why != FERRETGOLD_FILE_OK) {
+        throw file_refused(why);
+    }
+    return it;
+}
+#endif
+
+} // namespace ferretgold
+
+#endif

@@ -1,0 +1,111 @@
+// What is left of a cache that was closed, through ferretgold.hpp: its readings, with and without
+// exceptions; what is moved; one that is none. What was counted before.
+#include "ferretgold.hpp"
+
+#include <cstdio>
+#include <cstring>
+#include <utility>
+
+int closed_caches();
+
+namespace {
+
+using ferretgold::cache;
+using ferretgold::closed;
+
+constexpr ferretgold_key KEY = {1, 2};
+int faults = 0;
+
+void expect(int line, const char *what, bool is) {
+    if (!is) {
+        std::printf("closed, line %d: not so: %s\n", line, what);
+        faults++;
+    }
+}
+
+#define EXPECT(what) expect(__LINE__, #what, static_cast<bool>(what))
+
+// Whether what tells a status and what throws it say the same: nothing is thrown of one that is OK.
+template <typename Told, typename Thrown> bool both(Told told, Thrown thrown, int status) {
+    ferretgold_status why = FERRETGOLD_BAD_SIZE;
+    (void)told(why);
+    try {
+        (void)thrown();
+    } catch (const ferretgold::refused &refused) {
+        return status > FERRETGOLD_MISS && why == status && refused.status == status;
+    }
+    return status <= FERRETGOLD_MISS && why == status;
+}
+
+// Each call on a slot ends by this status.
+void refused(const closed &it, std::uint32_t shard, std::uint32_t slot, int status) {
+    EXPECT(both([&](auto &why) { return it.entry(shard, slot, why); },
+                [&] { return it.entry(shard, slot); }, status));
+    EXPECT(both([&](auto &why) { return it.word(shard, slot, why); },
+                [&] { return it.word(shard, slot); }, status));
+    EXPECT(both([&](auto &why) { return it.displacement(shard, slot, why); },
+                [&] { return it.displacement(shard, slot); }, status));
+    EXPECT(it.value(shard, slot, nullptr, 0, nullptr) == status);
+}
+
+// One entry of four bytes in a cache of eight slots, displaced by none: the entry's slot says it all.
+void reads(const closed &it, std::uint64_t seed) {
+    ferretgold_status why = FERRETGOLD_NULL;
+    int found = 0;
+    EXPECT(it && it.config().seed == seed && it.totals().usage == 5);
+    EXPECT(it.totals(why).slot_count == 1 && why == FERRETGOLD_OK);
+    EXPECT(it.hand(0, why) == 0 && why == FERRETGOLD_OK && it.hand(0) == 0);
+    for (std::uint32_t slot = 0; slot < 8; slot++) {
+        char bytes[5] = "xxxx";
+        std::size_t length = 7;
+        const auto entry = it.entry(0, slot, why);
+        EXPECT(entry.has_value() == (why == FERRETGOLD_OK) && entry.has_value() == it.entry(0, slot).has_value());
+        EXPECT(entry || (why == FERRETGOLD_MISS && it.value(0, slot, bytes, 4, nullptr) == why));
+        EXPECT((it.word(0, slot) != 0) == entry.has_value() && it.word(0, slot, why) == it.word(0, slot));
+        EXPECT(it.displacement(0, slot) == 0 && it.displacement(0, slot, why) == 0 && why == FERRETGOLD_OK);
+        if (entry) {
+            found++;
+            EXPECT(entry->key.w0 == KEY.w0 && entry->key.w1 == KEY.w1 && entry->charge == 5);
+            EXPECT(entry->length == 4 && entry->uses == 3 && entry->visible && !entry->hit);
+            EXPECT(it.value(0, slot, bytes, 3, &length) == FERRETGOLD_TOO_SHORT && length == 4);
+            EXPECT(std::strcmp(bytes, "xxxx") == 0);
+            EXPECT(it.value(0, slot, bytes, 4, &length) == FERRETGOLD_OK);
+            EXPECT(std::strcmp(bytes, "kept") == 0);
+        }
+    }
+    EXPECT(found == 1);
+    refused(it, 0, 8, FERRETGOLD_OUT_OF_RANGE);
+    refused(it, 1, 0, FERRETGOLD_OUT_OF_RANGE);
+    EXPECT(both([&](auto &by) { return it.hand(1, by); }, [&] { return it.hand(1); }, FERRETGOLD_OUT_OF_RANGE));
+}
+
+} // namespace
+
+int closed_caches() {
+    ferretgold_status why = FERRETGOLD_NULL;
+    ferretgold_config config = ferretgold::config_for(1000000, 4, 1);
+    config.slots = 8;
+    config.shards = 1;
+    cache it(config), none;
+    {
+        ferretgold::client client = it.open_client();
+        EXPECT(client.insert(KEY, "kept", 4, 5, FERRETGOLD_HIGH) == 0);
+        EXPECT(!it.close_keeping(why) && why == FERRETGOLD_MISSING && it.get() != nullptr);
+        EXPECT(it.counts().placed == 0 && none.counts().placed == 0);
+    }
+    EXPECT(it.counts().placed == 1 && it.counts().hits == 0);
+    closed left = it.close_keeping(), empty;
+    EXPECT(it.get() == nullptr && !it.close_keeping(why) && why == FERRETGOLD_NULL);
+    reads(left, config.seed);
+    closed moved = std::move(left);
+    EXPECT(moved && !left);
+    left = std::move(moved);
+    reads(left, config.seed);
+    refused(empty, 0, 0, FERRETGOLD_NULL);
+    EXPECT(both([&](auto &by) { return empty.totals(by); }, [&] { return empty.totals(); }, FERRETGOLD_NULL));
+    EXPECT(both([&](auto &by) { return empty.hand(0, by); }, [&] { return empty.hand(0); }, FERRETGOLD_NULL));
+    EXPECT(both([&](auto &by) { return none.close_keeping(by); }, [&] { return none.close_keeping(); },
+                FERRETGOLD_NULL));
+    EXPECT(empty.config().slots == 0);
+    return faults;
+}
