@@ -33,6 +33,7 @@ typedef struct worker {
 } worker;
 
 static atomic_bool stop;
+static atomic_ulong calls;  /* of the round that goes on */
 
 static uint64_t drawn(worker *it, uint64_t below) {
     it->state = it->state * UINT64_C(6364136223846793005) + 1442695040888963407;
@@ -99,6 +100,7 @@ static void *crowd(void *argument) {
     while (!atomic_load(&stop)) {
         size_t length = 0;
         it->did.gets += 1;
+        atomic_fetch_add(&calls, 1);
         if (ferretgold_get_large(it->client, &key, it->buffer, MOST, true, &length) == 0) {
             it->did.hits += 1;
             it->did.wrong += length != MOST || wrong_bytes(0, MOST, it->buffer) != 0;
@@ -117,6 +119,7 @@ static void *work(void *argument) {
         const bool own = drawn(it, 4) == 0;
         ferretgold_key key = key_of(it, own);
         const uint64_t what = drawn(it, 16);
+        atomic_fetch_add(&calls, 1);
         key.w0 += own ? 0 : drawn(it, SHARED);
         if (what < 5) {
             puts_value(it, &key, own);
@@ -144,15 +147,19 @@ static void add(counts *sum, const worker *it) {
     sum->evicted += stats.evicted;
 }
 
-/* All threads on one cache, for so many milliseconds. */
+/* All threads on one cache, for so many milliseconds, and at least a few thousand calls: on a busy
+ * machine threads come to few in their time. */
 static void round_of(void *(*of)(void *), bool strict, unsigned milliseconds, counts *sum) {
     ferretgold_config config = sizes_of(SLOTS / 2, 512, strict, SLOTS / 2 * 4096);
     const struct timespec time = {milliseconds / 1000, milliseconds % 1000 * 1000000};
+    const struct timespec moment = {0, 1000000};
+    const unsigned long least = milliseconds == 0 ? 0 : 4000;
     static worker workers[THREADS];
     pthread_t ids[THREADS];
     ferretgold_cache *cache = NULL;
     config.shards = 2;
     atomic_store(&stop, false);
+    atomic_store(&calls, 0);
     EXPECT(ferretgold_open(&config, &cache), 0);
     for (uint64_t k = 0; k < THREADS; k++) {
         workers[k].number = k;
@@ -163,6 +170,9 @@ static void round_of(void *(*of)(void *), bool strict, unsigned milliseconds, co
         EXPECT(pthread_create(&ids[k], NULL, of, &workers[k]), 0);
     }
     (void)nanosleep(&time, NULL);
+    while (atomic_load(&calls) < least) {
+        (void)nanosleep(&moment, NULL);
+    }
     atomic_store(&stop, true);
     for (uint64_t k = 0; k < THREADS; k++) {
         EXPECT(pthread_join(ids[k], NULL), 0);

@@ -11,6 +11,8 @@ from crates import FOLDERS, FUNCTION, owner_in, symbol_of
 
 BLOCK = re.compile(r"(unsafe )?impl\b|(pub )?trait ")
 IMPORT = re.compile(r"\s*(?:pub )?(?:ghost )?use ")
+ADDED = re.compile(r"(?:use [^;]*; )?fn \w+\(")
+GHOST = re.compile(r"\s+ghost \w+ = ")
 
 
 def pairs_of(file):
@@ -64,6 +66,14 @@ def body_at(text, at):
     return None
 
 
+def helpers_at(text, at):
+    """The functions of the file in whose bodies the type is named whose impl stands at this place."""
+    heads = [it for it in text[:at].split("\n") if BLOCK.match(it)]
+    named = re.search(r" for (\w+) \{$", heads[-1]) if heads else None
+    uses = re.finditer(rf"::<{named[1]}\b", text) if named else ()
+    return [found for it in uses if (found := body_at(text, it.start()))]
+
+
 class Edit:
     """An edit, the functions whose bodies alone it changes (none: it changes more than bodies), and
     what came of it."""
@@ -86,7 +96,8 @@ class Edit:
 
     def found_symbols(self):
         """The functions whose bodies the edit changes, as rattle names them; none where it changes
-        anything else. Imports beside a body, and the functions' own proof files, are nothing else."""
+        anything else. Imports beside a body, functions that it adds, and the functions' own proof files,
+        are nothing else. What a helper's impl says of its steps is in the functions that use it."""
         found, now = [], dict(self.texts)
         for path, old, new in self.pairs:
             begin = now[path].index(old)
@@ -94,13 +105,16 @@ class Edit:
             line = now[path][now[path].rfind("\n", 0, begin) + 1 :].split("\n")[0]
             now[path] = now[path].replace(old, new)
             is_proof = any(f"/{it.replace('::', '/')}/" in path for it in found)
-            if is_proof or IMPORT.match(line) and path.startswith("src/"):
+            is_added = new.endswith(old) and ADDED.match(new)
+            if is_proof or (IMPORT.match(line) or is_added) and path.startswith("src/"):
                 continue
-            if not path.startswith("src/") or not in_body[0] or in_body[0] != in_body[1]:
+            if not path.startswith("src/") or in_body[0] != in_body[1]:
                 return []
-            owner, name = in_body[0]
-            symbol = symbol_of(owner, path, name)
-            found += [symbol] if symbol not in found else []
+            of = in_body[:1] if in_body[0] else helpers_at(now[path], begin) if GHOST.match(line) else []
+            if not of:
+                return []
+            symbols = [symbol_of(owner, path, name) for owner, name in of]
+            found += [it for it in dict.fromkeys(symbols) if it not in found]
         return found
 
     def made(self):

@@ -4,7 +4,8 @@ A function's proof rests on the contracts of what it calls, and not on their bod
 bodies of different functions go into one check, a round, and each edited function has to have a goal
 of its own that isn't proved. What a round leaves in doubt, as a function that calls another one of
 the round, is tried again without that one, then alone, and then by a check of the whole crate. At
-the end the crate without an edit has to be proved over what the rounds kept, or nothing counts."""
+the end the crate without an edit has to be proved over what the rounds kept, or nothing counts. Where
+rt ci proves the crate in the same run, one of its functions is enough for that."""
 import os
 import shutil
 import tempfile
@@ -61,8 +62,9 @@ class Rounds:
 class Trying:
     """A crate's edits that are being tried, in a room of their own."""
 
-    def __init__(self, crate, edits, reach, folder, rlibs, say, log):
+    def __init__(self, crate, edits, reach, folder, rlibs, is_proved, say, log):
         self.crate, self.edits, self.say, self.log = crate, edits, say, log
+        self.is_proved = is_proved
         self.room = Room(crate, folder, rlibs)
         self.texts = {path: text for it in edits for path, text in it.texts.items()}
         self.rounds, self.wholes, self.tried = Rounds(reach), [], set()
@@ -123,10 +125,15 @@ class Trying:
             self.wholes.append(edit)
 
     def control(self, many):
-        """Sees that the crate itself is proved over the same work, without which no refusal counts."""
+        """Sees that the crate itself is proved over the same work, without which no refusal counts. What
+        rt ci proves anyhow is seen by one function."""
         if not self.room.checks:
             return
-        only = [] if self.wholes else sorted({symbol for it in many for symbol in it.symbols})
+        only = sorted({symbol for it in many for symbol in it.symbols})
+        if self.is_proved:
+            only = only[:1]
+        elif self.wholes:
+            only = []
         status, said, took = self.room.check({}, only, self.log)
         self.say(f"{self.crate.name}: without an edit, status {status}, {took:.0f} s")
         if status:
@@ -134,12 +141,12 @@ class Trying:
                 it.verdict, it.said = "UNSOUND", "the crate isn't proved without it"
 
 
-def try_edits(crate, edits, reach, rlibs, say, log):
+def try_edits(crate, edits, reach, rlibs, is_proved, say, log):
     """Tries a crate's edits, of whose functions it is known which reach which, and leaves each one's
-    verdict with it: 'refused' is well."""
+    verdict with it: 'refused' is well. The crate may be one that rt ci proves beside it."""
     temp = tempfile.mkdtemp(prefix=f"try-edits-{crate.name}-")
     try:
         os.mkdir(f"{temp}/crate")
-        Trying(crate, edits, reach, temp, rlibs, say, log).run()
+        Trying(crate, edits, reach, temp, rlibs, is_proved, say, log).run()
     finally:
         shutil.rmtree(temp, ignore_errors=True)
