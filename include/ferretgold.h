@@ -43,8 +43,8 @@
  *   A call that returns FERRETGOLD_OK did what it says. A call that refuses changed nothing: no
  *   object, and nothing that a pointer of the caller's points to, except where its comment says so.
  *   The first refusal that is due is returned, in the order in which each call lists them; before
- *   them all comes FERRETGOLD_NULL, if a pointer is null that may not be, and then NO_CLIENT, if
- *   the client is idle.
+ *   them all comes FERRETGOLD_NULL, if a pointer is null that may not be, and then, unless the call
+ *   lists it later, NO_CLIENT, if the client is idle.
  *
  * NOT CHECKED
  *   No call can tell that a pointer dangles (to a cache that was closed or its clients, or to
@@ -66,9 +66,10 @@
  *     for what was before.
  *   - A program that was linked with libferretgold.so goes on working with a later one: its soname
  *     has these numbers. Functions keep their parameters, structs their layout, enumerators their
- *     numbers, and the library takes each size that ferretgold_config had.
- *   A PATCH changes neither. libferretgold.so exports the functions of this header, and of
- *   ferretgold_raw.h those that this header names.
+ *     numbers, and the library takes each size that ferretgold_config had. Calls that fill one fill
+ *     the 48 bytes that it has now.
+ *   A PATCH changes neither. libferretgold.so exports the functions of this header, of _closed.h,
+ *   _image.h and _large.h, and of ferretgold_raw.h those that ferretgold_inline.h calls.
  */
 #ifndef FERRETGOLD_H
 #define FERRETGOLD_H
@@ -221,7 +222,8 @@ typedef struct ferretgold_stats {
     uint64_t lost;        /* compare-exchanges that lost to another thread's step */
 } ferretgold_stats;
 
-/* What look-ups and insertions came to. */
+/* What look-ups and insertions came to, those that calls of ferretgold_large.h make for each piece
+ * among them. */
 typedef struct ferretgold_counts {
     uint64_t hits;       /* ferretgold_lookup and ferretgold_get that returned OK */
     uint64_t misses;     /* and MISS */
@@ -257,8 +259,9 @@ uint64_t ferretgold_memory(const ferretgold_config *config);
 /*
  * Makes a configuration of at most so many bytes of memory, for values of at most `value` bytes and
  * as many threads at work: FERRETGOLD_CONFIG with as many slots as these bytes allow, a power of
- * two; a client for each thread; as many shards, rounded up to a power of two, but none of fewer
- * than 1,024 slots beside others; and as capacity 70 of a hundred slots' bytes.
+ * two; a client for each thread; as many shards, rounded up to a power of two, but at most 64, none
+ * of fewer than 1,024 slots beside others, and more where one would have above 65,536; and as
+ * capacity 70 of a hundred slots' bytes.
  *
  * Refuses NULL; BAD_ROOM: the value has more than 4,096 bytes; BAD_CLIENTS: threads are 0, or above
  * 1,024; BAD_SLOTS: 8 slots need more bytes.
@@ -485,7 +488,7 @@ FERRETGOLD_INLINE ferretgold_status ferretgold_read_value(ferretgold_client *cli
  * Bound: 7 * L + W + 2.
  *
  * MISS: nothing of the key was found. Refuses TOO_SHORT: there is an entry, `length` gets how many
- * bytes its value has, and the buffer stays.
+ * bytes its value has, and the buffer stays; with `useful` it was a use.
  */
 FERRETGOLD_INLINE ferretgold_status ferretgold_get(ferretgold_client *client,
                                                    const ferretgold_key *key, void *buffer,
@@ -555,6 +558,9 @@ const char *ferretgold_version(void);
 #endif
 FERRETGOLD_SIZE_IS(void *, 8);
 FERRETGOLD_SIZE_IS(bool, 1);
+FERRETGOLD_SIZE_IS(ferretgold_status, 4);
+FERRETGOLD_SIZE_IS(ferretgold_priority, 4);
+FERRETGOLD_SIZE_IS(ferretgold_inserted, 4);
 FERRETGOLD_SIZE_IS(ferretgold_config, 48);
 FERRETGOLD_SIZE_IS(ferretgold_key, 16);
 FERRETGOLD_SIZE_IS(ferretgold_handle, 24);

@@ -1,18 +1,20 @@
 // ferretgold.hpp - a wrapper of ferretgold.h for C++17: objects that give themselves back.
 //
-// ferretgold.h, ferretgold_closed.h and ferretgold_large.h say what each call does. Here a call that may
-// be refused has a last argument `why`, which gets its status, and throws nothing. Where exceptions are
-// on, each has a form without that argument, too, which throws a refusal as ferretgold::refused; a miss
-// is an empty handle or no entry, and is never thrown. client's insert and read and closed's value
-// return their status. ferretgold_file.hpp has the calls of ferretgold_file.h.
+// ferretgold.h, ferretgold_closed.h, ferretgold_image.h and ferretgold_large.h say what each call does.
+// Here a call that may be refused has a last argument `why`, which gets its status, and throws nothing.
+// Where exceptions are on, each has a form without that argument, too, which throws a refusal as
+// ferretgold::refused; a miss is an empty handle or no entry, and is never thrown. client's insert and
+// read, closed's value and image's add return their status. ferretgold_file.hpp has the calls of
+// ferretgold_file.h.
 //
 // Objects may go in any order: a client goes back once it and all its handles are gone, and a cache is
-// closed once it and all its clients are.
+// closed once it and all its clients are. A move assignment exchanges the two, unless they are handles.
 #ifndef FERRETGOLD_HPP
 #define FERRETGOLD_HPP
 
 #include "ferretgold.h"
 #include "ferretgold_closed.h"
+#include "ferretgold_image.h"
 #include "ferretgold_large.h"
 
 #include <atomic>
@@ -111,7 +113,7 @@ class shared_cache {
 };
 
 // What a client shares with its handles, all of which one thread uses at a time: the last of them that
-// goes gives it back.
+// goes gives it back, with what handles ferretgold.h gave.
 class shared_client {
   public:
     static shared_client *open(shared_cache *cache, ferretgold_status &why) noexcept {
@@ -133,7 +135,7 @@ class shared_client {
     void leave() noexcept {
         users_ -= 1;
         if (users_ == 0) {
-            (void)ferretgold_client_close(cache_->raw, raw);
+            (void)ferretgold_client_close_releasing(cache_->raw, raw);
             cache_->leave();
             delete this;
         }
@@ -216,6 +218,9 @@ class handle {
 
     // Gives it back, if it is on an entry. `freed` gets whether that was freed; it may be null.
     void release(bool useful = true, bool erase_if_last = false, bool *freed = nullptr) noexcept {
+        if (freed != nullptr) {
+            *freed = false;
+        }
         if (client_ != nullptr) {
             (void)ferretgold_release(raw(), held_, useful, erase_if_last, freed);
             std::exchange(client_, nullptr)->leave();
@@ -537,6 +542,55 @@ class cache {
 
   private:
     shared_cache *shared_ = nullptr;
+};
+
+// Entries for a cache to begin with, in the order in which they are added: none at first. It stays on the
+// thread that made it.
+class image {
+  public:
+    image() = default;
+    image(image &&other) noexcept : raw_(std::exchange(other.raw_, nullptr)) {}
+    image &operator=(image &&other) noexcept {
+        std::swap(raw_, other.raw_);
+        return *this;
+    }
+    ~image() { ferretgold_image_free(raw_); }
+
+    // Adds an entry, with a copy of its value: OK, NULL or OUT_OF_MEMORY, which leaves it as it was.
+    ferretgold_status add(const ferretgold_key &key, const void *value, std::size_t length,
+                          std::uint32_t charge, std::uint32_t uses) noexcept {
+        const ferretgold_status why = open();
+        return why != FERRETGOLD_OK ? why
+                                    : ferretgold_image_add(raw_, &key, value, length, charge, uses);
+    }
+
+    // Opens a cache that begins with these entries, of which none remains here, whatever `why` says;
+    // `left_out` gets how many the cache doesn't have, and may be null.
+    cache reopen(const ferretgold_config &config, std::size_t *left_out,
+                 ferretgold_status &why) noexcept {
+        image from(std::move(*this));
+        why = from.open();
+        if (why != FERRETGOLD_OK) {
+            return cache();
+        }
+        why = FERRETGOLD_OUT_OF_MEMORY;
+        return cache(shared_cache::by([&](ferretgold_cache *&opened) {
+            why = ferretgold_reopen(&config, std::exchange(from.raw_, nullptr), &opened, left_out);
+        }));
+    }
+
+#ifdef __cpp_exceptions
+    cache reopen(const ferretgold_config &config, std::size_t *left_out = nullptr) {
+        return must([&](auto &why) { return reopen(config, left_out, why); });
+    }
+#endif
+
+  private:
+    ferretgold_status open() noexcept {
+        return raw_ != nullptr ? FERRETGOLD_OK : ferretgold_image_open(&raw_);
+    }
+
+    ferretgold_image *raw_ = nullptr;
 };
 
 // A client for one operation, by the calls of ferretgold.h; null if no client is idle. It allocates

@@ -8,9 +8,9 @@
  * KEYS THAT LAST
  *   A warm start serves stale data unless keys name content that never changes. A key that names a
  *   place whose content may change, as a file's number that is given again or a block that is
- *   written anew, must not be in a cache that is saved. A number that no file gets twice may, or a file
- *   by its name, inode, size and times, that of its last status change among them: any program can set
- *   the others back.
+ *   written anew, must not be in a cache that is saved. A number that no other file ever gets may be,
+ *   or one made of a file's name, inode, size and times, that of its last status change among them: any
+ *   program can set the others back.
  *
  * LARGE VALUES
  *   The pieces of ferretgold_large.h are saved and loaded as entries are. Their keys are made with the
@@ -83,7 +83,7 @@ ferretgold_file_status ferretgold_save(ferretgold_closed *closed, ferretgold_wri
  * are too many the first come in, and none is evicted. `loaded` may be null.
  *
  * A file that is damaged is refused, and `cache` and `loaded` stay; with `keep_front` what stands
- * before the damage is loaded, and DAMAGED is returned with the cache.
+ * before the damage is loaded, nothing perhaps, and DAMAGED is returned with the cache.
  *
  * Allocates an image of all entries, and what ferretgold_reopen does; costs and uses serials as that.
  */

@@ -133,7 +133,8 @@ cache load(const ferretgold_config &config, Read &&read, bool keep_front, ferret
 }
 
 // The same from a stream, which is read to its end and hasn't failed then: a look ahead finds the end, as
-// it makes no stream fail.
+// it makes no stream fail. A file that is cut off within an entry does, and where the stream throws that,
+// it is thrown.
 inline cache load(const ferretgold_config &config, std::istream &from, bool keep_front,
                   ferretgold_loaded *loaded, ferretgold_file_status &why) {
     const auto read = [&](void *bytes, std::size_t count, bool &could) {

@@ -56,8 +56,9 @@ void ferretgold_image_free(ferretgold_image *image);
  * room for, doesn't. Each comes in once, as it was added, but with 553,651,204 uses at most; two of
  * one key both do. Nothing is evicted, and no count of a client begins above 0.
  *
- * The client of number 0 made them, and used as many serials as the shard with the most entries has:
- * with these it has no more than 2^54. All others have all of theirs left.
+ * The client of number 0 made them, and used as many serials as the shard with the most entries has.
+ * It may have fewer left than the configuration says: these and those are at most 2^54. All others
+ * have all of theirs left.
  *
  * Allocates what ferretgold_open does, and for a time a place for each slot of all shards, and one
  * shard's words once more. Costs what that does, for each entry a look at each probe up to its slot,

@@ -14,9 +14,10 @@
  * ONE INSERTION
  *   A reading gives the bytes of one insertion, or misses. Each piece says the value's whole key,
  *   its length, its own number, and which insertion it is of: that no other one equals, of any
- *   client, nor any of another opening. Pieces that don't agree are never put together, and none is
- *   ever changed. The first piece is inserted last and erased first. If a piece is lost, the next
- *   reading misses, and erases the others.
+ *   client, nor one of another opening, unless the system's clock gave both the same nanosecond.
+ *   Pieces that don't agree are never put together, and none is ever changed. The first piece is
+ *   inserted last and erased first. If a piece is lost, the next reading misses, and erases the
+ *   others; a value that is put at that very moment may go, too.
  *
  * KEYS
  *   The first piece's key is made of the value's key, those of the others of its number and the
@@ -53,15 +54,15 @@ extern "C" {
  * it refuses before the first step. Of two threads that put under one key at once the one's value
  * is there then, or the other's. Uses a serial for each try of a piece.
  *
- * Costs a look-up for the first piece, then an erasure that finds nothing, an insertion and a
- * look-up for each; if a value was there, a reading of it as far as it is the same, and an erasure
- * of each of its pieces.
+ * Costs for each piece an erasure that finds nothing, an insertion and a look-up, and for the first
+ * one four look-ups and an erasure more; if a value was there, a reading of it as far as it is the
+ * same, and an erasure of each of its pieces.
  *
  * Refuses BAD_PRIORITY; TOO_LONG: the value is above 16 MiB, or the room below 10 words; NO_CHARGE:
  * the charge is below the number of pieces; SPENT: the client has fewer serials left than twice
  * that; TOO_LARGE: the cache has fewer slots, or it is strict, and a piece's charge is above the
  * capacity of a shard or the whole above that of all. Nothing is changed until then. If strict also
- * CAPACITY_FULL, OCCUPANCY_FULL: a piece was refused so, twice; then all are erased.
+ * CAPACITY_FULL, OCCUPANCY_FULL: a piece was refused so at its second try; then all are erased.
  */
 ferretgold_status ferretgold_put_large(ferretgold_client *client, const ferretgold_key *key,
                                        const void *value, size_t length, uint32_t charge,

@@ -24,6 +24,11 @@ fn main() {
     println!("cargo:rerun-if-env-changed=FERRETGOLD_LIBRARIES");
     let folder = found().expect("no libferretgold.a: FERRETGOLD_LIBRARIES names its folder");
     println!("cargo:rustc-link-search=native={}", folder.display());
+    for library in ["libferretgold.a", "libferretgold_file.a"] {
+        if is_there(&folder, library) {
+            println!("cargo:rerun-if-changed={}", folder.join(library).display());
+        }
+    }
     if env::var_os("CARGO_FEATURE_FILE").is_some() {
         let is_built = is_there(&folder, "libferretgold_file.a");
         assert!(is_built, "no libferretgold_file.a: it needs xxhash.h");

@@ -96,9 +96,10 @@ static uint32_t rows_for(uint32_t clients) {
 }
 
 /* Takes a client that is idle: one with serials left if this call found one, beginning where this
- * thread found one last. Its number, or the count of all clients if each word was seen 0. */
+ * thread found one last. Its number, or the count of all clients if each word was seen 0. That a
+ * thread first comes here allocates nothing, in a library that is loaded late either. */
 static uint32_t take(ferretgold_cache *cache) {
-    static _Thread_local uint32_t last = 0;
+    static _Thread_local uint32_t last __attribute__((tls_model("initial-exec"))) = 0;
     const uint32_t rows = rows_for(cache->config.clients);
     for (uint32_t spent = 0; spent < 2; spent++) {
         for (uint32_t k = 0; k < rows; k++) {
@@ -201,11 +202,16 @@ static bool knows_size(const ferretgold_config *config) {
     return config->size == 0 || config->size == sizeof *config;
 }
 
-ferretgold_status cache_judge(const ferretgold_config *config, ferretgold_cache **cache) {
-    if (config == NULL || cache == NULL) {
+ferretgold_status ferretgold_config_check(const ferretgold_config *config) {
+    if (config == NULL) {
         return FERRETGOLD_NULL;
     }
-    return knows_size(config) ? FERRETGOLD_OK : FERRETGOLD_BAD_SIZE;
+    return knows_size(config) ? (ferretgold_status)ferretgold_raw_config_check(config)
+                              : FERRETGOLD_BAD_SIZE;
+}
+
+ferretgold_status cache_judge(const ferretgold_config *config, ferretgold_cache **cache) {
+    return cache == NULL ? FERRETGOLD_NULL : ferretgold_config_check(config);
 }
 
 uint32_t cache_number(void) {
@@ -237,14 +243,6 @@ ferretgold_status ferretgold_open(const ferretgold_config *config, ferretgold_ca
         status = (ferretgold_status)ferretgold_raw_open(config, cache_number(), &rack);
     }
     return status == FERRETGOLD_OK ? cache_begin(rack, config, cache) : status;
-}
-
-ferretgold_status ferretgold_config_check(const ferretgold_config *config) {
-    if (config == NULL) {
-        return FERRETGOLD_NULL;
-    }
-    return knows_size(config) ? (ferretgold_status)ferretgold_raw_config_check(config)
-                              : FERRETGOLD_BAD_SIZE;
 }
 
 ferretgold_status ferretgold_config_of(const ferretgold_cache *cache, ferretgold_config *config) {

@@ -197,6 +197,11 @@ static ferretgold_file_status read_entries(const file_source *from, uint64_t ent
     return read_end(from);
 }
 
+/* Whether a cache comes with this status. */
+static bool is_taken(ferretgold_file_status status, bool keep_front) {
+    return status == FERRETGOLD_FILE_OK || (keep_front && status == FERRETGOLD_FILE_DAMAGED);
+}
+
 ferretgold_file_status ferretgold_load(const ferretgold_config *config, ferretgold_read *read,
                                        void *context, bool keep_front, ferretgold_cache **cache,
                                        ferretgold_loaded *loaded) {
@@ -209,15 +214,17 @@ ferretgold_file_status ferretgold_load(const ferretgold_config *config, ferretgo
         return FERRETGOLD_FILE_NULL;
     }
     ferretgold_file_status status = read_begin(&from, &entries);
-    if (status != FERRETGOLD_FILE_OK) {
+    if (!is_taken(status, keep_front)) {
         return status;
     }
     if (ferretgold_config_check(config) != FERRETGOLD_OK
         || ferretgold_image_open(&image) != FERRETGOLD_OK) {
         return FERRETGOLD_FILE_REFUSED;
     }
-    status = read_entries(&from, entries, image, &it.entries);
-    if (status != FERRETGOLD_FILE_OK && !(keep_front && status == FERRETGOLD_FILE_DAMAGED)) {
+    if (status == FERRETGOLD_FILE_OK) {
+        status = read_entries(&from, entries, image, &it.entries);
+    }
+    if (!is_taken(status, keep_front)) {
         ferretgold_image_free(image);
         return status;
     }

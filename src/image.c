@@ -1,5 +1,5 @@
 /* The calls of ferretgold_image.h: entries are listed, and a cache begins with them. They look for null
- * pointers, and the proved library does the rest, whose pointer to a list an image's is. */
+ * pointers, and the proved library does the rest: an image's pointer is its pointer to a list. */
 #include "ferretgold_image.h"
 #include "opening.h"
 

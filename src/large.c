@@ -3,8 +3,8 @@
  * What a piece says of itself never changes, and no two insertions say the same: so whenever each
  * piece is read, pieces that agree are of one insertion, and its bytes are whole. The first piece
  * is inserted last and erased first: where it is, the others were, and one that is missing is lost.
- * All but the first have keys that no other insertion uses, so whoever erases them takes nothing of
- * a value that another thread is putting. */
+ * All but the first have keys that hardly another insertion uses, so whoever erases them takes nothing
+ * of a value that another thread is putting; and if one does, that value is missed. */
 #include "ferretgold_large.h"
 #include "large.h"
 
@@ -160,7 +160,8 @@ static uint32_t erase_all(large_value *it, uint8_t piece[MOST_PIECE]) {
     return hidden;
 }
 
-/* Erases what is left of a value that lost a piece, and nothing of one that took its place. */
+/* Erases what is left of a value that lost a piece. One that takes its place between the two calls on
+ * the first piece loses that, and is missed. */
 static void erase_rest(const large_value *it) {
     uint8_t piece[MOST_PIECE];
     large_value now = *it;

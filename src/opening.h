@@ -4,7 +4,7 @@
 
 #include "ferretgold_raw.h"
 
-/* What is refused before the proved library judges the configuration. */
+/* What is refused whatever memory there is: so no cache that is refused so takes a number. */
 ferretgold_status cache_judge(const ferretgold_config *config, ferretgold_cache **cache);
 
 /* A number that no cache had, of 2^32. */

@@ -69,6 +69,9 @@ class found_block : public rocksdb::SecondaryCacheResultHandle {
     // Makes the object from a packed block of so many bytes; tells whether it could.
     bool make(const packed_block &packed, std::size_t size,
               const rocksdb::Cache::CreateCallback &create) {
+        if (size < sizeof packed.length || packed.length > LONGEST_BLOCK) {
+            return false; // of a file that somebody else wrote
+        }
         const std::size_t stored = size - sizeof packed.length;
         if (stored == packed.length) {
             return create(packed.bytes, stored, &value_, &charge_).ok();

@@ -1,13 +1,13 @@
 //! A block cache of fixed slots for many threads, without locks: `libferretgold` for Rust. What each
-//! call does, costs and refuses, `ferretgold.h` says, and `ferretgold_closed.h` of a closed cache. The
-//! build links `libferretgold.a` of the folder that `FERRETGOLD_LIBRARIES` names, else of the place where
-//! the crate was installed or checked out; and with the feature `file`, which saves and loads caches, also
-//! `libferretgold_file.a`.
+//! call does, costs and refuses, `ferretgold.h` says, `ferretgold_closed.h` of a closed cache, and
+//! `ferretgold_image.h` of one that begins with entries. The build links `libferretgold.a` of the folder
+//! that `FERRETGOLD_LIBRARIES` names, else of the place where the crate was installed or checked out; and
+//! with the feature `file`, which saves and loads caches, also `libferretgold_file.a`.
 //!
 //! A [`Cache`] is shared by reference, and any thread may take a [`Client`] of it. A client is used by
 //! one thread at a time: it is `Send` and not `Sync`. A [`Handle`] borrows its client and gives itself
 //! back when it goes; a client, too, with the handles that were forgotten. So types rule out what
-//! the library can't check.
+//! the library can't check, except calls from a signal handler or a forked child.
 //!
 //! ```
 //! use ferretgold::{Cache, Config, Got, Inserted, Key, Priority};
@@ -67,6 +67,7 @@ mod config;
 #[cfg(feature = "file")]
 mod file;
 mod handle;
+mod image;
 #[allow(missing_docs)]
 mod raw;
 mod refused;
@@ -80,6 +81,7 @@ pub use config::{Config, MOST_SERIALS};
 #[cfg(feature = "file")]
 pub use file::{FileError, Loaded};
 pub use handle::Handle;
+pub use image::Image;
 use refused::judged;
 pub use refused::Refused;
 
@@ -143,9 +145,9 @@ pub struct Stats {
 #[repr(C)]
 #[derive(Clone, Copy, Debug, Default, PartialEq, Eq)]
 pub struct Counts {
-    /// Look-ups and readings by a key that found one.
+    /// Look-ups that gave a handle, and readings by a key that gave a value.
     pub hits: u64,
-    /// And that found none.
+    /// And those that found none.
     pub misses: u64,
     /// Insertions, by what came of them.
     pub placed: u64,

@@ -1,5 +1,5 @@
-//! The functions of ferretgold.h, ferretgold_closed.h, ferretgold_large.h and ferretgold_file.h, as C has
-//! them. tests/wrappers compares the two.
+//! The functions of ferretgold.h, _closed.h, _image.h, _large.h and _file.h, as C has them.
+//! tests/wrappers compares the two.
 
 use std::ffi::c_void;
 use std::os::raw::c_char;
@@ -34,13 +34,15 @@ pub struct Handle {
 pub use crate::Loaded;
 pub use crate::{Counts, Entry, Key, Stats, Totals};
 
-/// A cache, a client of one, and what is left of one that was closed.
+/// A cache, a client of one, what is left of one that was closed, and what one begins with.
 #[derive(Debug)]
 pub enum Cache {}
 #[derive(Debug)]
 pub enum Client {}
 #[derive(Debug)]
 pub enum Closed {}
+#[derive(Debug)]
+pub enum Image {}
 
 extern "C" {
     pub fn ferretgold_memory(config: *const Config) -> u64;
@@ -135,6 +137,22 @@ extern "C" {
         capacity: usize,
         useful: bool,
         length: *mut usize,
+    ) -> u32;
+    pub fn ferretgold_image_open(image: *mut *mut Image) -> u32;
+    pub fn ferretgold_image_add(
+        image: *mut Image,
+        key: *const Key,
+        value: *const c_void,
+        length: usize,
+        charge: u32,
+        uses: u32,
+    ) -> u32;
+    pub fn ferretgold_image_free(image: *mut Image);
+    pub fn ferretgold_reopen(
+        config: *const Config,
+        image: *mut Image,
+        cache: *mut *mut Cache,
+        left_out: *mut usize,
     ) -> u32;
     pub fn ferretgold_put_large(
         client: *mut Client,

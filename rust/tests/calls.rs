@@ -1,6 +1,8 @@
 //! Each call, and what types can't rule out.
 
-use ferretgold::{Cache, Client, Config, Counts, Got, Inserted, Key, Priority, Refused, Stats};
+use ferretgold::{
+    Cache, Client, Config, Counts, Got, Image, Inserted, Key, Priority, Refused, Stats,
+};
 use std::mem::forget;
 
 const KEY: Key = Key { w0: 1, w1: 2 };
@@ -244,4 +246,34 @@ fn what_is_left_is_read() {
         assert_eq!(left.displacement(shard, slot), Err(Refused::OUT_OF_RANGE));
     }
     assert_eq!(left.hand(2), Err(Refused::OUT_OF_RANGE));
+}
+
+#[test]
+fn a_cache_begins_with_entries() {
+    let image = || {
+        let mut image = Image::new().unwrap();
+        assert_eq!(image.add(KEY, b"first", 7, 2), Ok(()));
+        assert_eq!(image.add(OTHER, b"", 0, 1), Ok(())); // no cache has an entry of charge 0
+        assert_eq!(image.add(OTHER, &[], 3, 1), Ok(()));
+        image
+    };
+    let (warm, left_out) = Cache::reopen(&small(), image()).unwrap();
+    assert_eq!((left_out, warm.config()), (1, small()));
+    let (client, mut block) = (warm.client().unwrap(), [9; 6]);
+    assert_eq!(client.get(KEY, &mut block, true), Got::Value(5));
+    assert_eq!(&block, b"first\x09");
+    assert_eq!((client.usage(), client.occupancy()), (10, 2));
+    drop(client);
+    let left = warm.close_keeping().map_err(|(why, _)| why).unwrap();
+    let mut all: Vec<_> = left.entries().map(|(_, _, it)| it).collect();
+    all.sort_by_key(|it| it.charge);
+    assert_eq!((all[0].key, all[0].length, all[0].uses), (OTHER, 0, 1));
+    assert_eq!((all[1].key, all[1].charge, all[1].uses), (KEY, 7, 3));
+    let config = Config {
+        slots: 33,
+        ..small()
+    };
+    let refused = Cache::reopen(&config, image()).unwrap_err();
+    assert_eq!(refused, Cache::open(&config).unwrap_err());
+    drop(image());
 }

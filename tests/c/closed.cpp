@@ -1,6 +1,7 @@
 // What is left of a cache that was closed, through ferretgold.hpp: its readings, with and without
-// exceptions; what is moved; one that is none. What was counted before.
+// exceptions; what is moved; one that is none. What was counted before. A cache that begins with it.
 #include "ferretgold.hpp"
+#include "heap.h"
 
 #include <cstdio>
 #include <cstring>
@@ -12,6 +13,7 @@ namespace {
 
 using ferretgold::cache;
 using ferretgold::closed;
+using ferretgold::image;
 
 constexpr ferretgold_key KEY = {1, 2};
 int faults = 0;
@@ -79,6 +81,67 @@ void reads(const closed &it, std::uint64_t seed) {
     EXPECT(both([&](auto &by) { return it.hand(1, by); }, [&] { return it.hand(1); }, FERRETGOLD_OUT_OF_RANGE));
 }
 
+// ---- Images --------------------------------------------------------------------------------------
+
+// Adds the entry that `reads` wants, and one that no cache has.
+void fill(image &it) {
+    EXPECT(it.add(KEY, "kept", 4, 5, 3) == FERRETGOLD_OK);
+    EXPECT(it.add({3, 4}, nullptr, 0, 0, 1) == FERRETGOLD_OK);
+}
+
+// A cache opened with the two, as each form opens it, or the refusal; no entry remains in the image.
+void opens(const ferretgold_config &config, int status) {
+    image it;
+    EXPECT(both([&](auto &by) { fill(it); return it.reopen(config, nullptr, by); },
+                [&] { fill(it); return it.reopen(config); }, status));
+}
+
+// What a cache has that begins with an image, which is moved on its way.
+void begins(const ferretgold_config &config) {
+    ferretgold_status why = FERRETGOLD_NULL;
+    std::size_t left_out = 77;
+    image it, other;
+    EXPECT(it.add(KEY, nullptr, 1, 1, 1) == FERRETGOLD_NULL);
+    fill(it);
+    fill(other);
+    image moved(std::move(it));
+    it = std::move(moved);
+    reads(it.reopen(config, &left_out, why).close_keeping(), config.seed);
+    EXPECT(why == FERRETGOLD_OK && left_out == 1);
+    EXPECT(it.reopen(config, &left_out).close().slot_count == 0 && left_out == 0);
+    reads(other.reopen(config, &left_out).close_keeping(), config.seed);
+    EXPECT(left_out == 1);
+}
+
+// Memory that is refused: for the image, for a copy, for the cache.
+void refuses_memory(const ferretgold_config &config) {
+    const std::size_t blocks = heap_blocks;
+    ferretgold_status why = FERRETGOLD_OUT_OF_MEMORY;
+    std::size_t left_out = 77;
+    image it;
+    heap_left = 0;
+    EXPECT(it.reopen(config, &left_out, why).get() == nullptr && why == FERRETGOLD_OUT_OF_MEMORY);
+    for (std::size_t met = 0; why == FERRETGOLD_OUT_OF_MEMORY; met++) {
+        heap_left = met;
+        why = it.add(KEY, "kept", 4, 5, 3);
+    }
+    heap_left = 3;
+    EXPECT(it.reopen(config, &left_out, why).get() == nullptr && why == FERRETGOLD_OUT_OF_MEMORY);
+    heap_left = SIZE_MAX;
+    EXPECT(heap_blocks == blocks && left_out == 77);
+    EXPECT(it.reopen(config).close().slot_count == 0);
+}
+
+void images(ferretgold_config config) {
+    const std::size_t blocks = heap_blocks;
+    begins(config);
+    refuses_memory(config);
+    opens(config, FERRETGOLD_OK);
+    config.slots = 33;
+    opens(config, FERRETGOLD_BAD_SLOTS);
+    EXPECT(heap_blocks == blocks);
+}
+
 } // namespace
 
 int closed_caches() {
@@ -107,5 +170,6 @@ int closed_caches() {
     EXPECT(both([&](auto &by) { return none.close_keeping(by); }, [&] { return none.close_keeping(); },
                 FERRETGOLD_NULL));
     EXPECT(empty.config().slots == 0);
+    images(left.config());
     return faults;
 }

@@ -232,9 +232,10 @@ static void damaged(image *file) {
         const ferretgold_file_status status = load(file, &config, false, &cache, &loaded);
         EXPECT(status, at < 64 ? FERRETGOLD_FILE_KIND : FERRETGOLD_FILE_DAMAGED);
         EXPECT(cache == NULL, true);
-        if (at >= 256 && at % 8 == 0) {
+        if (at >= 64 && at % 8 == 0) {
             EXPECT(load(file, &config, true, &cache, &loaded), FERRETGOLD_FILE_DAMAGED);
             EXPECT(loaded.lost, 0);
+            EXPECT(at >= 256 || loaded.entries == 0, true);
             EXPECT(whole(cache), loaded.left);
             cache = NULL;
         }

@@ -524,6 +524,8 @@ void no_memory() {
     ferretgold_status why{};
     refuses_new = true;
     EXPECT(cache(small(), why).get() == nullptr && why == FERRETGOLD_OUT_OF_MEMORY);
+    EXPECT(ferretgold::image().reopen(small(), nullptr, why).get() == nullptr && why == FERRETGOLD_OUT_OF_MEMORY);
+    EXPECT(heap_blocks == 0);
     refuses_new = false;
     heap_left = 3;
     EXPECT(cache(small(), why).get() == nullptr && why == FERRETGOLD_OUT_OF_MEMORY);
