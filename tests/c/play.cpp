@@ -576,8 +576,21 @@ void outlived() {
     }
     EXPECT(last.size() == 2);
     EXPECT(heap_blocks != 0);
+    bool freed = true;
     last.release();
-    EXPECT(heap_blocks == 0);
+    last.release(true, true, &freed);
+    EXPECT(!freed && heap_blocks == 0);
+}
+
+// What ferretgold.h gave of handles goes with the client.
+void given() {
+    cache it(small());
+    ferretgold_handle held{};
+    {
+        client one = it.open_client();
+        EXPECT(ferretgold_insert_pinned(one.get(), &KEY, "", 0, 1, FERRETGOLD_LOW, nullptr, &held) == 0);
+    }
+    EXPECT(it.close().slot_count == 1);
 }
 
 // Clients for an operation: as many as there are, and each is back at its end, with its handles.
@@ -600,6 +613,7 @@ void edges() {
     defaults();
     moved_caches();
     outlived();
+    given();
     nobody();
     told();
     no_memory();
