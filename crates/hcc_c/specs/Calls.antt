@@ -1,13 +1,15 @@
 -- What each call of a client comes to: what it answers, and what it leaves of the session.
-use Rattle.std.specs.Prelude.{◌≡◌, ℕ, ◌+◌, ◌*◌, ◌<◌, ◌≤◌, ◌++◌, ◌↔◌, Bool, true, List, Option, Result, Err, IfOk, IfErr, IfSome, IfNone, OnOk, OnErr, IsOk, IsErrOf, IsOkUnless, MatchResult, drop, length}
+use Rattle.std.specs.Prelude.{◌≡◌, ℕ, ◌+◌, ◌-◌, ◌*◌, ◌/◌, ◌<◌, ◌≤◌, ◌++◌, ◌↔◌, Bool, true, List, Option, Result, Err, IfOk, IfErr, IfSome, IfNone, OnOk, OnErr, IsOk, IsErrOf, IsOkUnless, MatchResult, drop, length, option_map}
 use Rattle.std.specs.Arc.{arc_value}
+use Rattle.hcc_core.specs.declared.limits.TheConstants.{OCCUPANCY_PERCENT}
 use Rattle.hcc_rule.specs.declared.key.Key.{Key}
 use Rattle.hcc_rule.specs.Looked.{Backs, after_look}
 use Rattle.hcc_rule.specs.ToldTrails.{passed_held}
 use Rattle.hcc_rule.specs.Words.{words_for}
 use Rattle.hcc_table.specs.Steps.{freeing}
 use Rattle.hcc_shard.specs.declared.getting.Got.{Got}
-use Rattle.hcc_shard.specs.Inserted.{inserting}
+use Rattle.hcc_shard.specs.Callers.{LoadsDisplacement, LoadsWord}
+use Rattle.hcc_shard.specs.Inserted.{inserting, inserting_between}
 use Rattle.hcc_cache.specs.declared.errors.InsertError.{InsertError}
 use Rattle.hcc_cache.specs.declared.errors.InsertError.TheVariants as insert
 use Rattle.hcc_cache.specs.declared.errors.LookupError.{LookupError}
@@ -15,18 +17,18 @@ use Rattle.hcc_cache.specs.declared.errors.LookupError.TheVariants as look
 use Rattle.hcc_cache.specs.declared.handle.Handle.{Handle}
 use Rattle.hcc_cache.specs.declared.inserting.Inserted.{Inserted}
 use Rattle.hcc_cache.specs.declared.priority.Priority.{Priority}
-use Rattle.hcc_cache.specs.Calls.{Erases, Finds, GivesUp, KeepsAll, Misses, Reads, Releases, Rerefs, TakesAtMost, TakesFor, Works, shard_in}
+use Rattle.hcc_cache.specs.Calls.{AcquiresFor, AtShard, CountsAt, CountsBy, CountsNone, Erases, ErasesFor, Finds, GivesUp, KeepsAll, Misses, OnlyAt, Reads, Releases, Rerefs, SearchesFor, TakesAtMost, TakesFor, Works, shard_in}
 use Rattle.hcc_cache.specs.Clients.{Holds, held_by, held_of, view_at}
 use Rattle.hcc_cache.specs.Gets.{GetsAt, GetsFor, SeeksAt}
-use Rattle.hcc_cache.specs.Inserts.{Inserts, InsertsWith, RefusesWith}
-use Rattle.hcc_cache.specs.Totals.{LoadsEachOccupancy, LoadsEachUsage, LoadsUsages, SearchesAll, charge_by, entries_by, made_by, taken_by}
+use Rattle.hcc_cache.specs.Inserts.{Inserts, InsertsAt, InsertsPinnedAt, InsertsWith, RefusesPinnedAt, RefusesWith}
+use Rattle.hcc_cache.specs.Totals.{CountsEach, LoadsEachOccupancy, LoadsEachUsage, LoadsUsages, SearchesAll, charge_by, entries_by, made_by, taken_by}
 use Rattle.hcc_c.specs.declared.inserting.Unfit.{Unfit}
 use Rattle.hcc_c.specs.declared.inserting.Unfit.TheVariants as reason
 use Rattle.hcc_c.specs.declared.session.Session.{Session}
 use Rattle.hcc_c.specs.declared.shapes.Counts.{Counts}
 use Rattle.hcc_c.specs.declared.shapes.Number.{Number}
 use Rattle.hcc_c.specs.Counts.{counted_get, counted_insert, counted_look, counted_pinned}
-use Rattle.hcc_c.specs.Sessions.{IsHandle, IsNone, any, judged}
+use Rattle.hcc_c.specs.Sessions.{IsHandle, IsNone, any, handle_in, judged}
 use Rattle.hcc_c.specs.Shapes.{number_of}
 
 -- Nothing of the session changed but its client.
@@ -49,6 +51,12 @@ pub record LooksUp (key : Key) (answer : Result (Option Number) LookupError) (ol
       × (number ≡ number_of old.home handle)))
   pub missed : IfOk answer (λ o. IfNone o (Misses (arc_value old.cache) key old.client
       new.client))
+  pub searched : IfOk answer (λ o. SearchesFor (arc_value old.cache) any key
+      (option_map handle_in o) old.client new.client)
+  pub counts : IfOk answer (λ _. CountsAt (shard_in (arc_value old.cache) key)
+      old.client new.client)
+  pub visits : IfOk answer (λ _. TakesFor (arc_value old.cache) 7 (λ v w. 0)
+      (shard_in (arc_value old.cache) key) old.client new.client)
   pub rest : KeepsCounting (counted_look answer old.counts) old new
   pub steps : TakesAtMost (7 * (arc_value old.cache).geometry.slots) old.client new.client
 
@@ -66,6 +74,10 @@ pub record RefersAgain (number : Number) (answer : Option (Result Number LookupE
       × IsHandle old number was
       × Rerefs (arc_value old.cache) was handle old.client new.client
       × (more ≡ number_of old.home handle)))
+  pub acquires : IfSome answer (λ a. IfOk a (λ _.
+      AcquiresFor (arc_value old.cache) (handle_in number) old.client new.client))
+  pub counts : IfSome answer (λ a. IfOk a (λ _.
+      CountsBy (handle_in number) old.client new.client))
   pub rest : KeepsRest old new
   pub steps : TakesAtMost 2 old.client new.client
 
@@ -76,6 +88,7 @@ pub record GivesBack (number : Number) (useful erase : Bool) (answer : Option Bo
   pub released : IfSome answer (λ freed. (handle : Handle) × IsHandle old number handle
       × Releases (arc_value old.cache) handle erase freed old.client new.client
       × GivesUp (arc_value old.cache) handle useful erase freed old.client new.client)
+  pub counts : IfSome answer (λ _. CountsBy (handle_in number) old.client new.client)
   pub rest : KeepsRest old new
   pub steps : TakesAtMost (freeing (arc_value old.cache).geometry.slots + 3)
       old.client new.client
@@ -90,6 +103,11 @@ pub record TellsHandle (index : ℕ) (answer : Option Number) (session : Session
 -- Each visible entry of a key is hidden.
 pub record Hides (key : Key) (hidden : ℕ) (old new : Session) : Type 0 where
   pub erased : Erases (arc_value old.cache) key hidden old.client new.client
+  pub searched : ErasesFor (arc_value old.cache) any key hidden old.client new.client
+  pub counts : CountsAt (shard_in (arc_value old.cache) key) old.client new.client
+  pub frees : TakesFor (arc_value old.cache) 9
+      (λ v w. ((arc_value old.cache).geometry.slots + 4) * (w.takings - v.takings) + 2)
+      (shard_in (arc_value old.cache) key) old.client new.client
   pub rest : KeepsRest old new
   pub steps : TakesAtMost ((freeing (arc_value old.cache).geometry.slots + 9)
       * (arc_value old.cache).geometry.slots + 2) old.client new.client
@@ -105,6 +123,15 @@ module _ (key : Key) (charge : ℕ) (priority : Priority) (value : List ℕ) whe
   InsertsWithin old new = TakesAtMost (inserting (arc_value old.cache).geometry.slots
       (arc_value old.cache).geometry.room) old.client new.client
 
+  -- and how many for what it visits and frees, where it isn't refused at once
+  abbrev pub InsertsFor : (old new : Session) → Type 0
+  InsertsFor old new = 0 < old.client.left
+      → ((arc_value old.cache).strict ≡ true → charge ≤ (arc_value old.cache).capacity)
+      → TakesFor (arc_value old.cache) 7
+      (inserting_between (arc_value old.cache).geometry.slots
+      (arc_value old.cache).geometry.room)
+      (shard_in (arc_value old.cache) key) old.client new.client
+
   -- An insertion without a handle.
   pub record Puts (answer : Result (Result Inserted InsertError) Unfit) (old new : Session)
       : Type 0 where
@@ -116,6 +143,11 @@ module _ (key : Key) (charge : ℕ) (priority : Priority) (value : List ℕ) whe
         × ((arc_value old.cache).capacity < charge)))
     pub inserted : IfOk answer (λ a.
         Inserts (arc_value old.cache) key charge priority value a old.client new.client)
+    pub evicts : IfOk answer (λ a.
+        InsertsAt (arc_value old.cache) any key charge priority a old.client new.client)
+    pub others : IfOk answer (λ _. OnlyAt (shard_in (arc_value old.cache) key)
+        old.client new.client)
+    pub frees : IfOk answer (λ _. InsertsFor old new)
     pub rest : KeepsCounting (counted_insert answer old.counts) old new
     pub steps : InsertsWithin old new
 
@@ -140,6 +172,14 @@ module _ (key : Key) (charge : ℕ) (priority : Priority) (value : List ℕ) whe
         × (made.0 ≡ number_of old.home handle))
         (λ why. RefusesWith (arc_value old.cache) key charge priority value why
         old.client new.client))
+    pub evicts : IfOk answer (λ a. MatchResult a
+        (λ made. InsertsPinnedAt (arc_value old.cache) any key charge priority made.1
+        old.client new.client)
+        (λ why. RefusesPinnedAt (arc_value old.cache) any key charge priority why
+        old.client new.client))
+    pub others : IfOk answer (λ _. OnlyAt (shard_in (arc_value old.cache) key)
+        old.client new.client)
+    pub frees : IfOk answer (λ _. held_by old.client < old.client.most → InsertsFor old new)
     pub rest : KeepsCounting (counted_pinned answer old.counts) old new
     pub steps : InsertsWithin old new
 
@@ -177,7 +217,7 @@ pub record ReadsValue (number : Number) (answer : Option (Result ℕ ℕ)) (befo
   pub reads : IfSome answer (λ _. Reads (arc_value old.cache) old.client new.client)
   pub rest : KeepsRest old new
   pub steps : IfSome answer (λ a. IfOk a (λ len.
-      TakesAtMost (words_for len + 2) old.client new.client))
+      TakesAtMost (words_for len + 1) old.client new.client))
   pub few : IfSome answer (λ a. IfErr a (λ len. TakesAtMost 1 old.client new.client))
 
 -- The value of a key is copied to the front of a buffer, if it isn't longer, with no handle.
@@ -187,6 +227,7 @@ pub record GetsValue (key : Key) (useful : Bool) (answer : Got) (before after : 
   pub gets : GetsAt (arc_value old.cache) any key useful answer before after old.client new.client
   pub keeps : KeepsAll (arc_value old.cache) old.client new.client
   pub seeks : SeeksAt (shard_in (arc_value old.cache) key) old.client new.client
+  pub counts : CountsAt (shard_in (arc_value old.cache) key) old.client new.client
   pub rest : KeepsCounting (counted_get answer old.counts) old new
   pub steps : TakesFor (arc_value old.cache) 7 (λ v w. (arc_value old.cache).geometry.room + 2)
       (shard_in (arc_value old.cache) key) old.client new.client
@@ -199,6 +240,7 @@ pub record TellsUsage (usage : ℕ) (old new : Session) : Type 0 where
   pub entries : charge_by old.client ≤ usage
   pub strict : (arc_value old.cache).strict ≡ true
       → usage ≤ old.shards * (arc_value old.cache).capacity
+  pub counts : CountsNone old.client new.client
   pub rest : KeepsRest old new
   pub steps : TakesAtMost old.shards old.client new.client
 
@@ -208,6 +250,7 @@ pub record TellsPinned (usage : ℕ) (old new : Session) : Type 0 where
   pub views : SearchesAll old.client new.client
   pub entries : charge_by old.client ≤ usage
   pub alone : (arc_value old.cache).geometry.clients ≡ 1 → usage ≡ charge_by old.client
+  pub loads : CountsEach (arc_value old.cache) any usage old.client new.client
   pub rest : KeepsRest old new
   pub steps : TakesAtMost (old.shards * (5 * old.slots + 1)) old.client new.client
 
@@ -217,6 +260,8 @@ pub record TellsOccupancy (occupancy : ℕ) (old new : Session) : Type 0 where
   pub entries : entries_by old.client ≤ occupancy
   pub alone : (arc_value old.cache).geometry.clients ≡ 1
       → occupancy + taken_by old.client ≡ made_by old.client
+  pub high : occupancy ≤ old.shards * ((arc_value old.cache).geometry.slots
+      * OCCUPANCY_PERCENT / 100 + (arc_value old.cache).geometry.clients)
   pub loads : LoadsEachOccupancy (arc_value old.cache) occupancy old.client new.client
   pub rest : KeepsRest old new
   pub steps : TakesAtMost old.shards old.client new.client
@@ -234,6 +279,9 @@ module _ (shard slot : ℕ) where
     pub view : IfSome answer (λ word. Works shard old.client new.client
         (view_at shard old.client) (after_look slot word (view_at shard old.client)))
     pub backs : IfSome answer (λ word. Backs slot word (view_at shard old.client))
+    pub loads : IfSome answer (λ word. AtShard (arc_value old.cache)
+        (λ there was is. LoadsWord there slot word was is) shard old.client new.client)
+    pub counts : CountsNone old.client new.client
     pub rest : KeepsRest old new
     pub steps : TakesAtMost 1 old.client new.client
 
@@ -244,5 +292,8 @@ module _ (shard slot : ℕ) where
     pub reads : IfSome answer (λ _. Reads (arc_value old.cache) old.client new.client)
     pub entries : IfSome answer (λ count. passed_held (arc_value old.cache).geometry.slots slot
         (view_at shard old.client).records ≤ count)
+    pub loads : IfSome answer (λ count. AtShard (arc_value old.cache)
+        (λ there was is. LoadsDisplacement there slot count was is) shard
+        old.client new.client)
     pub rest : KeepsRest old new
     pub steps : TakesAtMost 1 old.client new.client

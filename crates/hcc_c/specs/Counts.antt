@@ -1,5 +1,5 @@
 -- What a client's look-ups and insertions came to, in counts that saturate.
-use Rattle.std.specs.Prelude.{ℕ, Option, Some, None, Result, Ok, Err}
+use Rattle.std.specs.Prelude.{Option, Some, None, Result, Ok, Err}
 use Rattle.hcc_shard.specs.declared.getting.Got.{Got}
 use Rattle.hcc_shard.specs.declared.getting.Got.TheVariants.{Hit, Miss, Short}
 use Rattle.hcc_cache.specs.declared.errors.InsertError.{InsertError}

@@ -24,10 +24,14 @@ pub record IsWhole (session : Session) : Type 0 where
 abbrev pub any : AnyBytes → Key → List ℕ → Type 0
 any tag key value = Unit {0}
 
+-- the handle of these numbers, which nobody may hold
+abbrev pub handle_in : Number → Handle
+handle_in number = handle_of (numbers_in number)
+
 -- The numbers are those of a handle that the client holds: its cache's, its own, and the serial.
 abbrev pub IsHandle : Session → Number → Handle → Type 0
 IsHandle session number handle = (number.cache ≡ session.home)
-    × (handle ≡ handle_of (numbers_in number)) × Holds session.client handle
+    × (handle ≡ handle_in number) × Holds session.client handle
 
 -- They are those of none.
 abbrev pub IsNone : Session → Number → Type 0

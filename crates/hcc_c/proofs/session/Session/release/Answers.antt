@@ -36,6 +36,7 @@ returns-clause-released c =
           c.args.number c.args.useful c.args.erase_if_last c.try_release.result numbers.1
           (rw numbers.0 at told.some) (rw (c.deref.ensures, numbers.0) at told.released)
           (rw (c.deref.ensures, numbers.0) at told.gives);
+      counts = rw numbers.0 at told.counts;
       rest = search rules;
       steps = search rules;
     }
