@@ -1,6 +1,8 @@
 -- What is known of a read.
-use Rattle.std.specs.Prelude.{◌≡◌, ◌≢◌, ◌⊎◌, ◌↔◌, ℕ, ◌+◌, ◌<◌, ◌≤◌, ◌++◌, min, Bool, true, false, List, Option, Some, None, Result, Ok, Err, IsErrOf, length, drop}
+use Rattle.std.specs.Prelude.{◌≡◌, ◌≢◌, ◌⊎◌, ◌↔◌, ℕ, ◌+◌, ◌*◌, ◌<◌, ◌≤◌, ◌++◌, min, Bool, true, false, List, Option, Some, None, Result, Ok, Err, IsErrOf, length, drop}
 use Rattle.hcc_rule.specs.declared.key.Key.{Key}
+use Rattle.hcc_rule.specs.Words.{words_for}
+use Rattle.hcc_shard.specs.Inserted.{inserting, inserting_between}
 use Rattle.hcc_cache.specs.declared.cache.Cache.{Cache}
 use Rattle.hcc_cache.specs.declared.client.Client.{Client}
 use Rattle.hcc_cache.specs.declared.errors.InsertError.{InsertError}
@@ -8,9 +10,10 @@ use Rattle.hcc_cache.specs.declared.errors.InsertError.TheVariants.{Spent, TooLa
 use Rattle.hcc_cache.specs.declared.handle.Handle.{Handle}
 use Rattle.hcc_cache.specs.declared.inserting.Inserted.{Inserted}
 use Rattle.hcc_cache.specs.declared.priority.Priority.TheVariants.{Low}
-use Rattle.hcc_cache.specs.Calls.{Finds, GivesUp, Misses, Reads, Releases, SearchesFor}
+use Rattle.hcc_cache.specs.Calls.{Finds, GivesUp, Misses, OnlyAt, Reads, Releases, SearchesFor}
+use Rattle.hcc_cache.specs.Calls.{TakesAtMost, TakesFor, shard_in}
 use Rattle.hcc_cache.specs.Clients.{held_by, held_of}
-use Rattle.hcc_cache.specs.Inserts.{Inserts}
+use Rattle.hcc_cache.specs.Inserts.{Inserts, InsertsAt}
 use Rattle.hcc_block.specs.declared.reader.BlockReader.{BlockReader}
 use Rattle.hcc_block.specs.declared.reader.ReadError.{ReadError}
 use Rattle.hcc_block.specs.declared.reader.ReadError.TheVariants.{NoSuchBlock, SourceFault}
@@ -55,7 +58,8 @@ module _ {T : Type 0} (cache : Cache T) where
     pub count : held_by new ≡ held_by old
 
   module _ (key : Key) where
-    -- A look-up found an entry of the key, whose value was read, and which was released as a use.
+    -- A look-up found an entry of the key, whose value was read once, and which was released as a
+    -- use.
     pub record Copies (fits : T → Key → List ℕ → Type 0) (old new : Client T) : Type 0 where
       pub handle : Handle
       pub found : Client T
@@ -64,6 +68,7 @@ module _ {T : Type 0} (cache : Cache T) where
       pub finds : Finds cache fits key handle old found
       pub searched : SearchesFor cache fits key (Some handle) old found
       pub reads : Reads cache found was
+      pub takes : TakesAtMost (words_for (length finds.found.entry.value) + 1) found was
       pub releases : Releases cache handle false freed was new
       pub gives : GivesUp cache handle true false freed was new
 
@@ -73,13 +78,21 @@ module _ {T : Type 0} (cache : Cache T) where
         (IsRefused old × (new ≡ old))
         ⊎ (Misses cache key old new × SearchesFor cache fits key None old new)
 
-    -- The value was handed to an insertion, with its length as the charge and priority Low.
-    pub record Hands (value : List ℕ) (old new : Client T) : Type 0 where
+    -- The value was handed to an insertion, with its length as the charge and priority Low: what
+    -- that left, what it did at the shard of the key, and that it did nothing else.
+    pub record Hands (fits : T → Key → List ℕ → Type 0) (value : List ℕ) (old new : Client T)
+        : Type 0 where
       pub answer : Result Inserted InsertError
       pub spent : IsErrOf answer Spent ↔ (old.left ≡ 0)
       pub large : IsErrOf answer TooLarge
           ↔ ((0 < old.left) × (cache.strict ≡ true) × (cache.capacity < length value))
       pub inserts : Inserts cache key (length value) Low value answer old new
+      pub evicts : InsertsAt cache fits key (length value) Low answer old new
+      pub others : OnlyAt (shard_in cache key) old new
+      pub frees : 0 < old.left → (cache.strict ≡ true → length value ≤ cache.capacity)
+          → TakesFor cache 7 (inserting_between cache.geometry.slots cache.geometry.room)
+          (shard_in cache key) old new
+      pub steps : TakesAtMost (inserting cache.geometry.slots cache.geometry.room) old new
 
     -- The cache lacked the block, which was then inserted.
     pub record Loads (fits : T → Key → List ℕ → Type 0) (block : Option (List ℕ))
@@ -88,7 +101,7 @@ module _ {T : Type 0} (cache : Cache T) where
       pub is : block ≡ Some value
       pub looked : Client T
       pub lacks : Lacks fits old looked
-      pub hands : Hands value looked new
+      pub hands : Hands fits value looked new
 
 -- Of the counts.
 
@@ -113,13 +126,18 @@ module _ {S : Type 0} where
 
 -- Of the cache.
 
--- A hit copied the entry of the block's key. A miss found none, and inserted the block; where the
--- source failed it found none.
+-- the most atomic steps of a hit of so many bytes: a look-up, the reading of the value, a release
+abbrev pub hitting : (slots count : ℕ) → ℕ
+hitting slots count = 8 * slots + words_for count + 9
+
+-- A hit copied the entry of the block's key, and made no more steps than that takes. A miss found
+-- none, and inserted the block; where the source failed it found none.
 unfoldable pub GoesThrough : {S T : Type 0} (fits : T → Key → List ℕ → Type 0) (cache : Cache T)
     (key : Key) (block : Option (List ℕ)) → Result ℕ ReadError → (old new : BlockReader S)
     → (was is : Client T) → Type 0
 GoesThrough fits cache key block (Ok count) old new was is =
-    (CountsHit old new × Copies cache key fits was is)
+    (CountsHit old new × Copies cache key fits was is
+    × TakesAtMost (hitting cache.geometry.slots count) was is)
     ⊎ (CountsMiss old new × Loads cache key fits block was is)
 GoesThrough fits cache key block (Err NoSuchBlock) old new was is = is ≡ was
 GoesThrough fits cache key block (Err SourceFault) old new was is = Lacks cache key fits was is

@@ -66,6 +66,11 @@ returns-in-Ok-clause-counts g c =
     inr (c.in-Ok.ensures.rest ∙ same_reader c.fill.new.self.source c.args.self.now.block
     _ _ _ _ _ _ refl c.saturating_add-self-2.ensures)
 
+pub returns-in-Ok-clause-refused : goal.returns-in-Ok-clause-refused
+returns-in-Ok-clause-refused g c refused there =
+    c.in-Ok.ensures.rest ∙ same_reader c.fill.new.self.source c.args.self.now.block
+    _ _ _ _ _ _ refl c.saturating_add-self-2.ensures
+
 pub returns-in-Some-copied-clause-through : goal.returns-in-Some-copied-clause-through
 unfolding GoesThrough
 returns-in-Some-copied-clause-through g c =
@@ -73,6 +78,7 @@ returns-in-Some-copied-clause-through g c =
       same_reader c.args.self.now.source c.args.self.now.block _ _ _ _ _ _
           c.saturating_add-self.ensures refl,
       rw c.key_of.ensures at c.in-Some-copied.ensures.copies,
+      c.in-Some-copied.ensures.steps,
     )
 
 pub returns-in-Ok-clause-through : goal.returns-in-Ok-clause-through
