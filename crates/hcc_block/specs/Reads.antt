@@ -1,5 +1,5 @@
 -- What is known of a read.
-use Rattle.std.specs.Prelude.{◌≡◌, ◌≢◌, ◌⊎◌, ◌↔◌, ℕ, ◌+◌, ◌*◌, ◌<◌, ◌≤◌, ◌++◌, min, Bool, true, false, List, Option, Some, None, Result, Ok, Err, IsErrOf, length, drop}
+use Rattle.std.specs.Prelude.{◌≡◌, ◌≢◌, ◌⊎◌, ◌↔◌, ℕ, ◌+◌, ◌*◌, ◌<◌, ◌≤◌, ◌++◌, min, Bool, true, false, List, Option, Some, None, Result, Ok, Err, IfSome, IsErrOf, length, drop}
 use Rattle.hcc_rule.specs.declared.key.Key.{Key}
 use Rattle.hcc_rule.specs.Words.{words_for}
 use Rattle.hcc_shard.specs.Inserted.{inserting, inserting_between}
@@ -17,6 +17,7 @@ use Rattle.hcc_cache.specs.Inserts.{Inserts, InsertsAt}
 use Rattle.hcc_block.specs.declared.reader.BlockReader.{BlockReader}
 use Rattle.hcc_block.specs.declared.reader.ReadError.{ReadError}
 use Rattle.hcc_block.specs.declared.reader.ReadError.TheVariants.{NoSuchBlock, SourceFault}
+use Rattle.hcc_block.specs.declared.source.SourceFailed.{SourceFailed}
 use Rattle.hcc_block.specs.Blocks.{block_of}
 use Rattle.hcc_block.specs.Sources.{bytes_at, Fails, HasBytes, top}
 
@@ -24,6 +25,7 @@ use Rattle.hcc_block.specs.Sources.{bytes_at, Fails, HasBytes, top}
 
 -- the block of the file lies here
 pub record IsAt (files : List (List ℕ)) (size file index from count : ℕ) : Type 0 where
+  pub starts : from ≡ index * size
   pub some : 0 < count
   pub few : count ≤ size
   pub within : HasBytes files file from count
@@ -123,6 +125,21 @@ module _ {S : Type 0} where
   CountsRead (Ok count) old new = CountsHit old new ⊎ CountsMiss old new
   CountsRead (Err NoSuchBlock) old new = new ≡ old
   CountsRead (Err SourceFault) old new = CountsMiss old new
+
+-- Of the source.
+
+module _ {S : Type 0}
+    (reads : S → (file from count : ℕ) → Result (Unit {0}) SourceFailed → S → Type 0)
+    (file index : ℕ) (block : Option (List ℕ)) where
+  -- A hit didn't ask the source. A miss read the block from it once: the source is what one read
+  -- makes of it.
+  abbrev pub AsksOnce : Result ℕ ReadError → (old new : BlockReader S) → Type 0
+  AsksOnce (Ok count) old new =
+      CountsHit old new ⊎ reads old.source file (index * old.block) count (Ok tt) new.source
+  AsksOnce (Err NoSuchBlock) old new = new ≡ old
+  AsksOnce (Err SourceFault) old new =
+      IfSome block (λ bytes. reads old.source file (index * old.block) (length bytes)
+      (Err (record {})) new.source)
 
 -- Of the cache.
 

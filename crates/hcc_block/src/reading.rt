@@ -5,7 +5,7 @@ ghost use Rattle.hcc_cache.specs.Calls.{KeepsAll, TakesAtMost};
 ghost use Rattle.hcc_cache.specs.Clients.{held_by};
 ghost use Rattle.hcc_cache.specs.Known.{Knows};
 ghost use Rattle.hcc_block.specs.Blocks.{block_of, key_of, FitsBlocks};
-ghost use Rattle.hcc_block.specs.Reads.{Answers, Copies, CountsMiss, CountsRead, GoesThrough, Hands, HoldsSame, IsAt, IsRefused, Lacks, hitting};
+ghost use Rattle.hcc_block.specs.Reads.{Answers, AsksOnce, Copies, CountsMiss, CountsRead, GoesThrough, Hands, HoldsSame, IsAt, IsRefused, Lacks, hitting};
 ghost use Rattle.hcc_block.specs.Sources.{Fails};
 
 use crate::reader::{BlockReader, ReadError};
@@ -63,6 +63,11 @@ impl<S: BlockSource> BlockReader<S> {
         ensures through { GoesThrough T.fits cache.now (key_of file index)
             (block_of (S.content self.old.source) self.old.block file index) result
             self.old self.new client.old client.new }
+
+        // A hit didn't ask the source; a miss read the block from it once.
+        ensures asks { AsksOnce S.reads file index
+            (block_of (S.content self.old.source) self.old.block file index) result
+            self.old self.new }
 
         // It reads the same blocks from then on, and the client holds what it held.
         ensures content { S.content self.new.source ≡ S.content self.old.source }
@@ -133,6 +138,8 @@ impl<S: BlockSource> BlockReader<S> {
         ensures failed { OnErr result
             (Fails (S.failed self.old.source) (S.failed self.new.source)) }
         ensures nothing { OnErr result (client.new ≡ client.old) }
+        ensures asks { S.reads self.old.source file place.from place.count result
+            self.new.source }
         ensures content { S.content self.new.source ≡ S.content self.old.source }
         ensures reliable { S.reliable self.old.source
             → IsOk result × S.reliable self.new.source }

@@ -1,4 +1,5 @@
-use Rattle.std.proofs.Common.{◌≡◌, length, arith, refl, subst}
+use Rattle.std.proofs.Common.{◌≡◌, Ok, Err, length, arith, refl, subst}
+use Rattle.std.proofs.lemmas.Result.{err_from_is_err_and}
 use Rattle.hcc_cache.specs.declared.priority.Priority.TheVariants.{Low}
 use Rattle.hcc_block.specs.Reads.{Hands}
 use Rattle.hcc_block.proofs.Counted.{same_reader}
@@ -17,6 +18,18 @@ returns-clause-hands g c =
     (handed cache c.key_of.result g.T.Tag.fits value c.args.place.count c.insert.result
     c.args.client.now c.insert.new.client count did.spent did.large did.inserted did.evicts
     did.others did.frees did.steps)
+
+pub returns-clause-asks : goal.returns-clause-asks
+returns-clause-asks g c =
+    subst (λ count. g.S.BlockSource.reads c.args.self.now.source c.args.file c.args.place.from
+    count (Ok tt) c.read.new.self) c.requires.len c.in_ok-read.ensures.once
+
+pub returns-in_err-read-clause-asks : goal.returns-in_err-read-clause-asks
+returns-in_err-read-clause-asks g c =
+    let failed = err_from_is_err_and c.from_residual.result c.from_residual.ensures.1 in
+    rw failed.1
+    (subst (λ count. g.S.BlockSource.reads c.args.self.now.source c.args.file c.args.place.from
+    count (Err (record {})) c.read.new.self) c.requires.len c.in_err-read.ensures.once)
 
 pub returns-clause-rest : goal.returns-clause-rest
 returns-clause-rest g c =
