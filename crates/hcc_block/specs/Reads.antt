@@ -10,8 +10,8 @@ use Rattle.hcc_cache.specs.declared.errors.InsertError.TheVariants.{Spent, TooLa
 use Rattle.hcc_cache.specs.declared.handle.Handle.{Handle}
 use Rattle.hcc_cache.specs.declared.inserting.Inserted.{Inserted}
 use Rattle.hcc_cache.specs.declared.priority.Priority.TheVariants.{Low}
-use Rattle.hcc_cache.specs.Calls.{Finds, GivesUp, Misses, OnlyAt, Reads, Releases, SearchesFor}
-use Rattle.hcc_cache.specs.Calls.{TakesAtMost, TakesFor, shard_in}
+use Rattle.hcc_cache.specs.Calls.{CountsAt, CountsBy, Finds, GivesUp, Misses, OnlyAt, Reads}
+use Rattle.hcc_cache.specs.Calls.{Releases, SearchesFor, TakesAtMost, TakesFor, shard_in}
 use Rattle.hcc_cache.specs.Clients.{held_by, held_of}
 use Rattle.hcc_cache.specs.Inserts.{Inserts, InsertsAt}
 use Rattle.hcc_block.specs.declared.reader.BlockReader.{BlockReader}
@@ -69,16 +69,21 @@ module _ {T : Type 0} (cache : Cache T) where
       pub freed : Bool
       pub finds : Finds cache fits key handle old found
       pub searched : SearchesFor cache fits key (Some handle) old found
+      pub counts : CountsAt (shard_in cache key) old found
+      pub visits : TakesFor cache 7 (λ v w. 0) (shard_in cache key) old found
       pub reads : Reads cache found was
       pub takes : TakesAtMost (words_for (length finds.found.entry.value) + 1) found was
       pub releases : Releases cache handle false freed was new
       pub gives : GivesUp cache handle true false freed was new
+      pub counts_last : CountsBy handle was new
 
     -- no look-up may be made, or one found no entry of the key
     abbrev pub Lacks : (fits : T → Key → List ℕ → Type 0) → (old new : Client T) → Type 0
     Lacks fits old new =
         (IsRefused old × (new ≡ old))
-        ⊎ (Misses cache key old new × SearchesFor cache fits key None old new)
+        ⊎ (Misses cache key old new × SearchesFor cache fits key None old new
+        × CountsAt (shard_in cache key) old new
+        × TakesFor cache 7 (λ v w. 0) (shard_in cache key) old new)
 
     -- The value was handed to an insertion, with its length as the charge and priority Low: what
     -- that left, what it did at the shard of the key, and that it did nothing else.

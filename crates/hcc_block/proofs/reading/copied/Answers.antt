@@ -19,6 +19,8 @@ returns-clause-copies g c =
       freed = c.release.result;
       finds = finds;
       searched = rw c.in-Ok-Some.field-0-is at c.in-Ok-Some.ensures.searched;
+      counts = c.in-Ok-Some.ensures.counts;
+      visits = c.in-Ok-Some.ensures.visits;
       reads = c.read_value-count.ensures.reads;
       takes = copy_within c.args.cache.now g.T.Tag.fits c.args.key c.in-Ok-Some.handle
           c.args.client.now c.lookup.new.client c.read_value-count.new.client
@@ -26,4 +28,5 @@ returns-clause-copies g c =
           c.read_value-count.ensures.steps;
       releases = c.release.ensures.released;
       gives = c.release.ensures.gives;
+      counts_last = c.release.ensures.counts;
     }
