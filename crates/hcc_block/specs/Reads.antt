@@ -1,6 +1,8 @@
 -- What is known of a read.
-use Rattle.std.specs.Prelude.{◌≡◌, ◌≢◌, ◌⊎◌, ◌↔◌, ℕ, ◌+◌, ◌<◌, ◌≤◌, ◌++◌, min, Bool, true, false, List, Option, Some, None, Result, Ok, Err, IsErrOf, length, drop}
+use Rattle.std.specs.Prelude.{◌≡◌, ◌≢◌, ◌⊎◌, ◌↔◌, ℕ, ◌+◌, ◌*◌, ◌<◌, ◌≤◌, ◌++◌, min, Bool, true, false, List, Option, Some, None, Result, Ok, Err, IfSome, IsErrOf, length, drop}
 use Rattle.hcc_rule.specs.declared.key.Key.{Key}
+use Rattle.hcc_rule.specs.Words.{words_for}
+use Rattle.hcc_shard.specs.Inserted.{inserting, inserting_between}
 use Rattle.hcc_cache.specs.declared.cache.Cache.{Cache}
 use Rattle.hcc_cache.specs.declared.client.Client.{Client}
 use Rattle.hcc_cache.specs.declared.errors.InsertError.{InsertError}
@@ -8,12 +10,14 @@ use Rattle.hcc_cache.specs.declared.errors.InsertError.TheVariants.{Spent, TooLa
 use Rattle.hcc_cache.specs.declared.handle.Handle.{Handle}
 use Rattle.hcc_cache.specs.declared.inserting.Inserted.{Inserted}
 use Rattle.hcc_cache.specs.declared.priority.Priority.TheVariants.{Low}
-use Rattle.hcc_cache.specs.Calls.{Finds, GivesUp, Misses, Reads, Releases, SearchesFor}
+use Rattle.hcc_cache.specs.Calls.{CountsAt, CountsBy, Finds, GivesUp, Misses, OnlyAt, Reads}
+use Rattle.hcc_cache.specs.Calls.{Releases, SearchesFor, TakesAtMost, TakesFor, shard_in}
 use Rattle.hcc_cache.specs.Clients.{held_by, held_of}
-use Rattle.hcc_cache.specs.Inserts.{Inserts}
+use Rattle.hcc_cache.specs.Inserts.{Inserts, InsertsAt}
 use Rattle.hcc_block.specs.declared.reader.BlockReader.{BlockReader}
 use Rattle.hcc_block.specs.declared.reader.ReadError.{ReadError}
 use Rattle.hcc_block.specs.declared.reader.ReadError.TheVariants.{NoSuchBlock, SourceFault}
+use Rattle.hcc_block.specs.declared.source.SourceFailed.{SourceFailed}
 use Rattle.hcc_block.specs.Blocks.{block_of}
 use Rattle.hcc_block.specs.Sources.{bytes_at, Fails, HasBytes, top}
 
@@ -21,6 +25,7 @@ use Rattle.hcc_block.specs.Sources.{bytes_at, Fails, HasBytes, top}
 
 -- the block of the file lies here
 pub record IsAt (files : List (List ℕ)) (size file index from count : ℕ) : Type 0 where
+  pub starts : from ≡ index * size
   pub some : 0 < count
   pub few : count ≤ size
   pub within : HasBytes files file from count
@@ -55,7 +60,8 @@ module _ {T : Type 0} (cache : Cache T) where
     pub count : held_by new ≡ held_by old
 
   module _ (key : Key) where
-    -- A look-up found an entry of the key, whose value was read, and which was released as a use.
+    -- A look-up found an entry of the key, whose value was read once, and which was released as a
+    -- use.
     pub record Copies (fits : T → Key → List ℕ → Type 0) (old new : Client T) : Type 0 where
       pub handle : Handle
       pub found : Client T
@@ -63,23 +69,37 @@ module _ {T : Type 0} (cache : Cache T) where
       pub freed : Bool
       pub finds : Finds cache fits key handle old found
       pub searched : SearchesFor cache fits key (Some handle) old found
+      pub counts : CountsAt (shard_in cache key) old found
+      pub visits : TakesFor cache 7 (λ v w. 0) (shard_in cache key) old found
       pub reads : Reads cache found was
+      pub takes : TakesAtMost (words_for (length finds.found.entry.value) + 1) found was
       pub releases : Releases cache handle false freed was new
       pub gives : GivesUp cache handle true false freed was new
+      pub counts_last : CountsBy handle was new
 
     -- no look-up may be made, or one found no entry of the key
     abbrev pub Lacks : (fits : T → Key → List ℕ → Type 0) → (old new : Client T) → Type 0
     Lacks fits old new =
         (IsRefused old × (new ≡ old))
-        ⊎ (Misses cache key old new × SearchesFor cache fits key None old new)
+        ⊎ (Misses cache key old new × SearchesFor cache fits key None old new
+        × CountsAt (shard_in cache key) old new
+        × TakesFor cache 7 (λ v w. 0) (shard_in cache key) old new)
 
-    -- The value was handed to an insertion, with its length as the charge and priority Low.
-    pub record Hands (value : List ℕ) (old new : Client T) : Type 0 where
+    -- The value was handed to an insertion, with its length as the charge and priority Low: what
+    -- that left, what it did at the shard of the key, and that it did nothing else.
+    pub record Hands (fits : T → Key → List ℕ → Type 0) (value : List ℕ) (old new : Client T)
+        : Type 0 where
       pub answer : Result Inserted InsertError
       pub spent : IsErrOf answer Spent ↔ (old.left ≡ 0)
       pub large : IsErrOf answer TooLarge
           ↔ ((0 < old.left) × (cache.strict ≡ true) × (cache.capacity < length value))
       pub inserts : Inserts cache key (length value) Low value answer old new
+      pub evicts : InsertsAt cache fits key (length value) Low answer old new
+      pub others : OnlyAt (shard_in cache key) old new
+      pub frees : 0 < old.left → (cache.strict ≡ true → length value ≤ cache.capacity)
+          → TakesFor cache 7 (inserting_between cache.geometry.slots cache.geometry.room)
+          (shard_in cache key) old new
+      pub steps : TakesAtMost (inserting cache.geometry.slots cache.geometry.room) old new
 
     -- The cache lacked the block, which was then inserted.
     pub record Loads (fits : T → Key → List ℕ → Type 0) (block : Option (List ℕ))
@@ -88,7 +108,7 @@ module _ {T : Type 0} (cache : Cache T) where
       pub is : block ≡ Some value
       pub looked : Client T
       pub lacks : Lacks fits old looked
-      pub hands : Hands value looked new
+      pub hands : Hands fits value looked new
 
 -- Of the counts.
 
@@ -111,15 +131,35 @@ module _ {S : Type 0} where
   CountsRead (Err NoSuchBlock) old new = new ≡ old
   CountsRead (Err SourceFault) old new = CountsMiss old new
 
+-- Of the source.
+
+module _ {S : Type 0}
+    (reads : S → (file from count : ℕ) → Result (Unit {0}) SourceFailed → S → Type 0)
+    (file index : ℕ) (block : Option (List ℕ)) where
+  -- A hit didn't ask the source. A miss read the block from it once: the source is what one read
+  -- makes of it.
+  abbrev pub AsksOnce : Result ℕ ReadError → (old new : BlockReader S) → Type 0
+  AsksOnce (Ok count) old new =
+      CountsHit old new ⊎ reads old.source file (index * old.block) count (Ok tt) new.source
+  AsksOnce (Err NoSuchBlock) old new = new ≡ old
+  AsksOnce (Err SourceFault) old new =
+      IfSome block (λ bytes. reads old.source file (index * old.block) (length bytes)
+      (Err (record {})) new.source)
+
 -- Of the cache.
 
--- A hit copied the entry of the block's key. A miss found none, and inserted the block; where the
--- source failed it found none.
+-- the most atomic steps of a hit of so many bytes: a look-up, the reading of the value, a release
+abbrev pub hitting : (slots count : ℕ) → ℕ
+hitting slots count = 8 * slots + words_for count + 9
+
+-- A hit copied the entry of the block's key, and made no more steps than that takes. A miss found
+-- none, and inserted the block; where the source failed it found none.
 unfoldable pub GoesThrough : {S T : Type 0} (fits : T → Key → List ℕ → Type 0) (cache : Cache T)
     (key : Key) (block : Option (List ℕ)) → Result ℕ ReadError → (old new : BlockReader S)
     → (was is : Client T) → Type 0
 GoesThrough fits cache key block (Ok count) old new was is =
-    (CountsHit old new × Copies cache key fits was is)
+    (CountsHit old new × Copies cache key fits was is
+    × TakesAtMost (hitting cache.geometry.slots count) was is)
     ⊎ (CountsMiss old new × Loads cache key fits block was is)
 GoesThrough fits cache key block (Err NoSuchBlock) old new was is = is ≡ was
 GoesThrough fits cache key block (Err SourceFault) old new was is = Lacks cache key fits was is

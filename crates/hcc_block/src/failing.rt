@@ -35,6 +35,13 @@ impl<S: BlockSource> BlockSource for FailingSource<S> {
 
     ghost reliable = { λ source. (source.before ≡ None) × S.reliable source.source };
 
+    // The read that is meant fails, and the other source isn't asked. Each other one is one read of
+    // that source.
+    ghost reads = { λ source file from count answer new. (new.before ≡ after_read source.before)
+        × (source.before ≡ Some 0 → IsErr answer × (new.source ≡ source.source))
+        × (source.before ≢ Some 0
+        → S.reads source.source file from count answer new.source) };
+
     fn files(&self) -> u32 {
         self.source.files()
     }
@@ -67,6 +74,8 @@ impl<S: BlockSource> BlockSource for FailingSource<S> {
         ensures sound { self.old.before ≢ Some 0 → S.reliable self.old.source
             → IsOk result × S.reliable self.new.source }
         ensures before { self.new.before ≡ after_read self.old.before }
+        ensures asks { self.old.before ≢ Some 0 → S.reads self.old.source file from
+            (length buffer.old) result self.new.source }
     {
         match self.before {
             Some(0) => {

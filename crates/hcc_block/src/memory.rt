@@ -1,5 +1,5 @@
 //! Files in memory.
-ghost use Rattle.std.specs.Prelude.{◌≡◌, ◌<◌, ◌^◌, length, map};
+ghost use Rattle.std.specs.Prelude.{◌≡◌, ◌<◌, ◌^◌, length, map, IsOk};
 
 use crate::source::{BlockSource, SourceFailed};
 
@@ -28,6 +28,8 @@ impl<'a> BlockSource for MemorySource<'a> {
     ghost failed = { λ source. 0 };
 
     ghost reliable = { λ source. Unit {0} };
+
+    ghost reads = { λ source file from count answer new. IsOk answer × (new ≡ source) };
 
     fn files(&self) -> u32 {
         self.files.len() as u32

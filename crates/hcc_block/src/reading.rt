@@ -1,12 +1,11 @@
 //! Reading blocks through the cache.
 ghost use Rattle.std.specs.Prelude.{◌≡◌, ◌≢◌, ◌+◌, ◌*◌, ◌<◌, ◌≤◌, ◌++◌, Err, Some, None, IfSome, IfNone, OnOk, OnErr, IsOk, ℕ, List, length, drop};
-ghost use Rattle.hcc_rule.specs.Words.{words_for};
 ghost use Rattle.hcc_shard.specs.Inserted.{inserting};
 ghost use Rattle.hcc_cache.specs.Calls.{KeepsAll, TakesAtMost};
 ghost use Rattle.hcc_cache.specs.Clients.{held_by};
 ghost use Rattle.hcc_cache.specs.Known.{Knows};
 ghost use Rattle.hcc_block.specs.Blocks.{block_of, key_of, FitsBlocks};
-ghost use Rattle.hcc_block.specs.Reads.{Answers, Copies, CountsMiss, CountsRead, GoesThrough, Hands, HoldsSame, IsAt, IsRefused, Lacks};
+ghost use Rattle.hcc_block.specs.Reads.{Answers, AsksOnce, Copies, CountsMiss, CountsRead, GoesThrough, Hands, HoldsSame, IsAt, IsRefused, Lacks, hitting};
 ghost use Rattle.hcc_block.specs.Sources.{Fails};
 
 use crate::reader::{BlockReader, ReadError};
@@ -59,10 +58,16 @@ impl<S: BlockSource> BlockReader<S> {
         ensures refused { IsRefused client.old → result ≢ Err ReadError.NoSuchBlock
             → CountsMiss self.old self.new }
 
-        // A hit copied the entry of the block's key; a miss found none, and inserted the block.
+        // A hit copied the entry of the block's key, and made the steps of a look-up, a copy and a
+        // release at most; a miss found none, and inserted the block.
         ensures through { GoesThrough T.fits cache.now (key_of file index)
             (block_of (S.content self.old.source) self.old.block file index) result
             self.old self.new client.old client.new }
+
+        // A hit didn't ask the source; a miss read the block from it once.
+        ensures asks { AsksOnce S.reads file index
+            (block_of (S.content self.old.source) self.old.block file index) result
+            self.old self.new }
 
         // It reads the same blocks from then on, and the client holds what it held.
         ensures content { S.content self.new.source ≡ S.content self.old.source }
@@ -127,12 +132,14 @@ impl<S: BlockSource> BlockReader<S> {
         requires len { length bytes.old ≡ place.count }
         requires room { place.count ≤ 8 * cache.now.geometry.room }
         ensures hands { OnOk result
-            (Hands cache.now (key_of file index) bytes.new client.old client.new) }
+            (Hands cache.now (key_of file index) T.fits bytes.new client.old client.new) }
         ensures ok { OnOk result
             (block_of (S.content self.old.source) self.old.block file index ≡ Some bytes.new) }
         ensures failed { OnErr result
             (Fails (S.failed self.old.source) (S.failed self.new.source)) }
         ensures nothing { OnErr result (client.new ≡ client.old) }
+        ensures asks { S.reads self.old.source file place.from place.count result
+            self.new.source }
         ensures content { S.content self.new.source ≡ S.content self.old.source }
         ensures reliable { S.reliable self.old.source
             → IsOk result × S.reliable self.new.source }
@@ -185,7 +192,7 @@ fn copied<T: Tag>(
     ensures known { Knows cache.now client.new }
     ensures same { HoldsSame cache.now client.old client.new }
     ensures steps { IfSome result (λ count. TakesAtMost
-        (8 * cache.now.geometry.slots + words_for count + 9) client.old client.new) }
+        (hitting cache.now.geometry.slots count) client.old client.new) }
     ensures few { IfNone result
         (TakesAtMost (7 * cache.now.geometry.slots) client.old client.new) }
 {

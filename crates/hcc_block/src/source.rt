@@ -13,7 +13,8 @@ pub struct SourceFailed;
 ///
 /// Files are numbered from 0. They are fewer than 2^32, since their number is a `u32`.
 pub trait BlockSource {
-    ghost use Rattle.std.specs.Prelude.{ℕ, List};
+    ghost use Rattle.std.specs.Prelude.{ℕ, List, Result};
+    ghost use Rattle.hcc_block.specs.declared.source.SourceFailed.{SourceFailed};
 
     // The bytes of each file.
     ghost content: { Self → List (List ℕ) };
@@ -23,6 +24,11 @@ pub trait BlockSource {
 
     // No read fails, now or later.
     ghost reliable: { Self → Type 0 };
+
+    // What one read makes of it: of so many bytes of a file, from this one on, with this answer.
+    // Where reading changes it this is exact, so that two reads aren't one.
+    ghost reads: { Self → (file from count : ℕ) → Result (Unit {0}) SourceFailed → Self
+        → Type 0 };
 
     /// How many files there are.
     fn files(&self) -> u32
@@ -44,7 +50,8 @@ pub trait BlockSource {
         ensures content { content self.new ≡ content self.old }
         ensures failed { OnErr result (Fails (failed self.old) (failed self.new)) }
         ensures grows { failed self.old ≤ failed self.new }
-        ensures reliable { reliable self.old → IsOk result × reliable self.new };
+        ensures reliable { reliable self.old → IsOk result × reliable self.new }
+        ensures once { reads self.old file from (length buffer.old) result self.new };
 
     /// How many reads failed, up to the greatest number of a `u64`.
     fn failures(&self) -> u64

@@ -86,7 +86,8 @@ module _ {T : Type 0} where
 
 module _ {T : Type 0} (fits : T → Key → List ℕ → Type 0) (cache : Cache T) (count : ℕ) where
   -- a block that was handed to an insertion
-  hands_made : (key : Key) (value : List ℕ) (old new : Client T) → Hands cache key value old new
+  hands_made : (key : Key) (value : List ℕ) (old new : Client T)
+      → Hands cache key fits value old new
       → made_by_one count new ≤ made_by_one count old + 1
   hands_made key value old new hands = by hands.answer hands.inserts
     where

@@ -28,6 +28,9 @@ impl<'a, S: BlockSource> BlockSource for ToldSource<'a, S> {
 
     ghost reliable = { λ source. S.reliable source.source };
 
+    ghost reads = { λ source file from count answer new.
+        S.reads source.source file from count answer new.source };
+
     fn files(&self) -> u32 {
         self.source.files()
     }

@@ -1,8 +1,8 @@
-use Rattle.std.proofs.Common.{arith, inl, inr, refl, ◌∙◌}
+use Rattle.std.proofs.Common.{◌*◌, ◌∙◌, ℕ, Ok, Err, arith, inl, inr, refl, subst}
 use Rattle.hcc_cache.specs.Calls.{steps_by}
 use Rattle.hcc_block.specs.Reads.{GoesThrough}
 use Rattle.hcc_block.proofs.Counted.{same_reader}
-use Rattle.hcc_block.proofs.Lying.{block_short, block_there}
+use Rattle.hcc_block.proofs.Lying.{block_long, block_short, block_there}
 use Rattle.hcc_block.proofs.Named.{fits_only}
 use Rattle.hcc_block.proofs.Steps.{hit_within}
 use Rattle.hcc_block.proofs.reader.BlockReader.read.Goals as goal
@@ -66,6 +66,33 @@ returns-in-Ok-clause-counts g c =
     inr (c.in-Ok.ensures.rest ∙ same_reader c.fill.new.self.source c.args.self.now.block
     _ _ _ _ _ _ refl c.saturating_add-self-2.ensures)
 
+pub returns-in-Some-copied-clause-asks : goal.returns-in-Some-copied-clause-asks
+returns-in-Some-copied-clause-asks g c =
+    inl (same_reader c.args.self.now.source c.args.self.now.block _ _ _ _ _ _
+    c.saturating_add-self.ensures refl)
+
+pub returns-in-Ok-clause-asks : goal.returns-in-Ok-clause-asks
+returns-in-Ok-clause-asks g c =
+    let place = c.in-Some.ensures.some in
+    inr (subst (λ from. g.S.BlockSource.reads c.args.self.now.source c.args.file from
+    c.in-Some.place.count (Ok tt) c.fill.new.self.source) place.1.starts c.in-Ok.ensures.asks)
+
+pub returns-in-Err-clause-asks : goal.returns-in-Err-clause-asks
+returns-in-Err-clause-asks g c =
+    let files = g.S.BlockSource.content c.args.self.now.source in
+    let place = c.in-Some.ensures.some in
+    let size = c.args.self.now.block in
+    let read = λ (from count : ℕ). g.S.BlockSource.reads c.args.self.now.source c.args.file from
+    count (Err (record {})) c.fill.new.self.source in
+    block_long files size c.args.file c.args.index c.in-Some.place.from c.in-Some.place.count
+    (read (c.args.index * size)) place.1
+    (subst (λ from. read from c.in-Some.place.count) place.1.starts c.in-Err.ensures.asks)
+
+pub returns-in-Ok-clause-refused : goal.returns-in-Ok-clause-refused
+returns-in-Ok-clause-refused g c refused there =
+    c.in-Ok.ensures.rest ∙ same_reader c.fill.new.self.source c.args.self.now.block
+    _ _ _ _ _ _ refl c.saturating_add-self-2.ensures
+
 pub returns-in-Some-copied-clause-through : goal.returns-in-Some-copied-clause-through
 unfolding GoesThrough
 returns-in-Some-copied-clause-through g c =
@@ -73,6 +100,7 @@ returns-in-Some-copied-clause-through g c =
       same_reader c.args.self.now.source c.args.self.now.block _ _ _ _ _ _
           c.saturating_add-self.ensures refl,
       rw c.key_of.ensures at c.in-Some-copied.ensures.copies,
+      c.in-Some-copied.ensures.steps,
     )
 
 pub returns-in-Ok-clause-through : goal.returns-in-Ok-clause-through
