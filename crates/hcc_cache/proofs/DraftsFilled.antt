@@ -1,5 +1,5 @@
 -- The drafts of all shards, entry by entry.
-use Rattle.std.proofs.Common.{◌≡◌, ◌≢◌, inl, inr, ℕ, ◌+◌, ◌*◌, ◌^◌, ◌<◌, ◌≤◌, ◌==◌, ◌&&◌, ◌||◌, not, nat_le, nat_lt, if◌then◌else◌, Bool, true, false, List, [], ◌∷◌, ◌++◌, Some, None, length, length-set, replicate, slice_get, slice_set, sym, refl, ap, ◌∙◌, arith}
+use Rattle.std.proofs.Common.{◌≡◌, ◌≢◌, inl, inr, ℕ, ◌+◌, ◌*◌, ◌^◌, ◌<◌, ◌≤◌, ◌==◌, ◌&&◌, ◌||◌, not, nat_le, nat_lt, if◌then◌else◌, Bool, true, false, List, [], ◌∷◌, ◌++◌, Option, Some, None, length, length-set, replicate, slice_get, slice_set, sym, refl, ap, ◌∙◌, arith}
 use Rattle.std.proofs.lemmas.Bool.{and_parts, cases_eq, eq-eqb, leb-true, ltb-true, ne_eqb}
 use Rattle.std.proofs.lemmas.List.{length-replicate}
 use Rattle.std.proofs.lemmas.Option.{same_Some}
@@ -13,11 +13,11 @@ use Rattle.hcc_cache.specs.declared.config.Config.{Config}
 use Rattle.hcc_cache.specs.declared.drafting.Draft.{Draft}
 use Rattle.hcc_cache.specs.declared.image.Saved.{Saved}
 use Rattle.hcc_cache.specs.Configs.{shard_capacity}
-use Rattle.hcc_cache.specs.Drafts.{AreDrafts, HasFree, IsBlank, IsDraft, Puts, Stands, given, takes}
+use Rattle.hcc_cache.specs.Drafts.{AreDrafts, HasFree, IsBlank, IsDraft, IsFilled, Puts, Stands, given, takes}
 use Rattle.hcc_cache.specs.Images.{Visible, visible_from, visible_of}
 use Rattle.hcc_cache.specs.Keys.{key_from}
 use Rattle.hcc_cache.specs.Taken.{Split, begun, home_of, is_taken, places_of, split_of, sum_in, with_all}
-use Rattle.hcc_cache.proofs.Placing.{free_there}
+use Rattle.hcc_cache.proofs.Placing.{free_there, reached_past, filled_still}
 
 module _ (c : Config) (shard : ℕ) (taken : List Visible) (x : Visible) where
   -- one entry more adds what it gives, where it belongs here,
@@ -41,10 +41,11 @@ module _ (c : Config) (shard : ℕ) (taken : List Visible) (x : Visible) where
       let none = ap (λ b. when b (f x)) (ne_eqb (home_of c x) shard other) in
       omega arith
 
-  -- What stands in a slot still does.
-  stands_still : (slot : ℕ) (e : ImageEntry) → Stands c taken slot e
-      → Stands c (taken ++ x ∷ []) slot e
-  stands_still slot e s = record {
+  -- What stands in a slot still does, where what was taken still is.
+  stands_still : (places now : List (Option ImageEntry))
+      → ((s : ℕ) → IsFilled places s → IsFilled now s) → (slot : ℕ) (e : ImageEntry)
+      → Stands c taken places slot e → Stands c (taken ++ x ∷ []) now slot e
+  stands_still places now still slot e s = record {
     here = s.here;
     short = s.short;
     paid = s.paid;
@@ -55,6 +56,7 @@ module _ (c : Config) (shard : ℕ) (taken : List Visible) (x : Visible) where
       there = get_front taken (x ∷ []) s.from.index s.from.one s.from.there;
       is = s.from.is;
     };
+    reached = reached_past c.slots e.key (IsFilled places) (IsFilled now) slot still s.reached;
   }
 
   -- The draft of another shard has what it had.
@@ -65,7 +67,8 @@ module _ (c : Config) (shard : ℕ) (taken : List Visible) (x : Visible) where
     count = is.count ∙ sym (sum_else other (λ (e : Visible). 1));
     charge = is.charge ∙ sym (sum_else other (λ (e : Visible). e.charge));
     holds = λ f. is.holds f ∙ sym (sum_else other (λ (e : Visible). f (begun e)));
-    each = λ slot e at. stands_still slot e (is.each slot e at);
+    each = λ slot e at.
+        stands_still d.places.items d.places.items (λ s taken. taken) slot e (is.each slot e at);
     few = is.few;
     small = is.small;
     within = is.within;
@@ -108,9 +111,15 @@ module _ (c : Config) (shard : ℕ) (taken : List Visible) (saved : Saved) (old 
   granted true h is = leb-true _ _ h
   granted false h is = cc
 
+  -- What was taken still is.
+  still : (slot : ℕ) → IsFilled old.places.items slot → IsFilled new.places.items slot
+  still slot at =
+      let is = filled_still old.places.items puts.slot puts.entry slot puts.free at in
+      (is.0, ap (λ xs. slice_get xs slot) puts.places ∙ is.1)
+
   -- What stands in the slots now.
   each_stands : (slot : ℕ) (e : ImageEntry) → slice_get new.places.items slot ≡ Some (Some e)
-      → Stands c (taken ++ visible_of saved ∷ []) slot e
+      → Stands c (taken ++ visible_of saved ∷ []) new.places.items slot e
   each_stands slot e at = elim (cases_eq slot puts.slot) [
     | inl here ↦
         let read : slice_get new.places.items slot ≡ Some (Some puts.entry) =
@@ -120,13 +129,13 @@ module _ (c : Config) (shard : ℕ) (taken : List Visible) (saved : Saved) (old 
         let entry : puts.entry ≡ e = same_Some _ _ (same_Some _ _ (sym read ∙ at)) in
         rw (← entry) (stands slot here)
     | inr other ↦
-        stands_still c shard taken (visible_of saved) slot e
+        stands_still c shard taken (visible_of saved) old.places.items new.places.items still slot e
         (is.each slot e (sym (ap (λ xs. slice_get xs slot) puts.places
         ∙ read_other old.places.items puts.slot slot (Some puts.entry) other) ∙ at))
   ]
     where
       stands : (slot : ℕ) → slot ≡ puts.slot
-          → Stands c (taken ++ visible_of saved ∷ []) slot puts.entry
+          → Stands c (taken ++ visible_of saved ∷ []) new.places.items slot puts.entry
       stands slot here =
           let sound = and_parts _ _ parts.0 in
           let paid = ltb-true 0 saved.charge sound.0 in
@@ -145,6 +154,9 @@ module _ (c : Config) (shard : ℕ) (taken : List Visible) (saved : Saved) (old 
               there = read_last taken (visible_of saved);
               is = same;
             };
+            reached = rw (here, puts.key_is, ← is.wide)
+                (reached_past (length old.places.items) key (IsFilled old.places.items)
+                (IsFilled new.places.items) puts.slot still puts.reached);
           }
 
   -- The draft of the entry's shard has one more.

@@ -1,10 +1,12 @@
 -- The slots of a draft: which are free, and what stands in them.
-use Rattle.std.proofs.Common.{◌≡◌, ◌≢◌, inl, inr, ℕ, zero, suc, ◌+◌, ◌-◌, ◌%◌, ◌^◌, ◌<◌, ◌≤◌, nat_le, nat_lt, Bool, true, false, List, [], ◌∷◌, ◌++◌, Option, Some, None, bit_and, bit_or, length, slice_get, sym, refl, ap, ◌∙◌, append_assoc, arith}
+use Rattle.std.proofs.Common.{◌≡◌, inl, inr, ℕ, zero, suc, ◌+◌, ◌-◌, ◌%◌, ◌^◌, ◌<◌, ◌≤◌, nat_le, nat_lt, Bool, true, false, List, [], ◌∷◌, ◌++◌, Option, Some, None, bit_and, bit_or, length, slice_get, slice_set, sym, refl, ap, ◌∙◌, append_assoc, arith}
 use Rattle.std.specs.List.{list_any}
 use Rattle.std.specs.Option.{is_some}
-use Rattle.std.proofs.lemmas.Bool.{cases_lt, le-leb, lt-ltb}
+use Rattle.std.proofs.lemmas.Bool.{cases_eq, cases_lt, le-leb, lt-ltb}
+use Rattle.std.proofs.lemmas.Option.{same_Some}
 use Rattle.hcc_core.specs.declared.limits.TheConstants.{MOST_SLOTS}
 use Rattle.hcc_core.specs.Sums.{total}
+use Rattle.hcc_core.proofs.ListLemmas.{read_other}
 use Rattle.hcc_rule.specs.declared.image.ImageEntry.{ImageEntry}
 use Rattle.hcc_rule.specs.declared.key.Key.{Key}
 use Rattle.hcc_rule.specs.Probes.{probe_slot}
@@ -12,7 +14,8 @@ use Rattle.hcc_rule.specs.Views.{Each}
 use Rattle.hcc_rule.proofs.Basics.Lists.{within}
 use Rattle.hcc_rule.proofs.Probes.ProbeLaws.{first_masked, next_masked, probe_of_slot}
 use Rattle.hcc_shard.specs.Reopened.{is_rising}
-use Rattle.hcc_cache.specs.Drafts.{HasFree, given, standing}
+use Rattle.hcc_cache.specs.Drafts.{HasFree, IsFilled, given, standing}
+use Rattle.hcc_cache.specs.Sharding.{IsReached}
 
 -- Of free slots.
 
@@ -25,20 +28,40 @@ free_there (Some e ∷ places) few =
     let rest = free_there places (omega arith) in
     (suc rest.0, rest.1)
 
--- a slot where nothing stands is free, and one where something does isn't
+-- a slot where nothing stands is free, and in one where something does that is an entry
 pub none_if : (o : Option ImageEntry) → is_some o ≡ false → o ≡ None
 none_if None h = refl
 none_if (Some e) h = cc
 
-pub full_if : (o : Option ImageEntry) → is_some o ≡ true → o ≢ None
-full_if None h e = cc
-full_if (Some x) h e = cc
+pub some_if : (o : Option ImageEntry) → is_some o ≡ true → (e : ImageEntry) × (o ≡ Some e)
+some_if None h = cc
+some_if (Some x) h = (x, refl)
+
+-- what is filled still is, once an entry stands in a slot that was free
+pub filled_still : (places : List (Option ImageEntry)) (at : ℕ) (e : ImageEntry) (slot : ℕ)
+    → slice_get places at ≡ Some None → IsFilled places slot
+    → IsFilled (slice_set places at (Some e)) slot
+filled_still places at e slot free filled = elim (cases_eq slot at) [
+  | inl same ↦
+      let both : Some (Some filled.0) ≡ Some None =
+      sym filled.1 ∙ (ap (slice_get places) same ∙ free) in
+      cc
+  | inr other ↦ (filled.0, read_other places at slot (Some e) other ∙ filled.1)
+]
+
+-- What is reached past slots of one kind is reached past those of another that has them all.
+pub reached_past : (slots : ℕ) (key : Key) (P Q : ℕ → Type 0) (slot : ℕ)
+    → ((s : ℕ) → P s → Q s) → IsReached slots key P slot → IsReached slots key Q slot
+reached_past slots key P Q slot among h = record {
+  probe = h.probe;
+  here = h.here;
+  passes = λ i low. among (probe_slot slots key i) (h.passes i low);
+}
 
 -- The first probes of a key are taken, and the word is at the next one.
 pub record IsSeeking (places : List (Option ImageEntry)) (key : Key) (i word : ℕ) : Type 0 where
   pub at : bit_and word (length places - 1) ≡ probe_slot (length places) key i
-  pub taken : (j : ℕ) → j < i
-      → slice_get places (probe_slot (length places) key j) ≢ Some None
+  pub taken : (j : ℕ) → j < i → IsFilled places (probe_slot (length places) key j)
 
 module _ (places : List (Option ImageEntry)) (key : Key)
     (power : MOST_SLOTS % length places ≡ 0) where
@@ -51,7 +74,7 @@ module _ (places : List (Option ImageEntry)) (key : Key)
 
   -- one more is taken
   pub seeking_more : (i word slot : ℕ) → IsSeeking places key i word
-      → slot ≡ bit_and word (length places - 1) → slice_get places slot ≢ Some None
+      → slot ≡ bit_and word (length places - 1) → IsFilled places slot
       → IsSeeking places key (i + 1) ((word + bit_or key.w0 1) % 2 ^ 64)
   seeking_more i word slot s is full = record {
     at = next_masked (length places) key power i word s.at;
@@ -61,7 +84,7 @@ module _ (places : List (Option ImageEntry)) (key : Key)
           let same : j ≡ i = omega arith in
           let here : slot ≡ probe_slot (length places) key j =
           is ∙ s.at ∙ ap (probe_slot (length places) key) (sym same) in
-          λ e. full (ap (slice_get places) here ∙ e)
+          (full.0, ap (slice_get places) (sym here) ∙ full.1)
     ];
   }
 
@@ -72,7 +95,10 @@ module _ (places : List (Option ImageEntry)) (key : Key)
       let inside = within places free.0 None free.1 in
       let found = probe_of_slot (length places) key power free.0 inside in
       let low = found.1 in
-      s.taken found.0 (omega arith) (ap (slice_get places) found.2 ∙ free.1)
+      let taken = s.taken found.0 (omega arith) in
+      let both : Some (Some taken.0) ≡ Some None =
+      sym taken.1 ∙ (ap (slice_get places) found.2 ∙ free.1) in
+      cc
 
 -- Of what stands.
 
@@ -123,6 +149,18 @@ standing_at (None ∷ places) k e h =
 standing_at (Some x ∷ places) zero e h = (0, ap Some h)
 standing_at (Some x ∷ places) (suc k) e h =
     let rest = standing_at places k e h in
+    (suc rest.0, rest.1)
+
+-- What stands in a slot is among what stands.
+pub standing_has : (places : List (Option ImageEntry)) (slot : ℕ) (e : ImageEntry)
+    → slice_get places slot ≡ Some (Some e)
+    → (k : ℕ) × (slice_get (standing places) k ≡ Some e)
+standing_has [] slot e h = cc
+standing_has (None ∷ places) zero e h = cc
+standing_has (None ∷ places) (suc slot) e h = standing_has places slot e h
+standing_has (Some x ∷ places) zero e h = (0, same_Some _ _ h)
+standing_has (Some x ∷ places) (suc slot) e h =
+    let rest = standing_has places slot e h in
     (suc rest.0, rest.1)
 
 -- What each has that stands, all have.

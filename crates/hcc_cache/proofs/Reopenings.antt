@@ -19,15 +19,16 @@ use Rattle.hcc_cache.specs.declared.config.Config.{Config}
 use Rattle.hcc_cache.specs.declared.drafting.Draft.{Draft}
 use Rattle.hcc_cache.specs.declared.seeded.Seeded.{Seeded}
 use Rattle.hcc_cache.specs.Configs.{IsAllowed, shard_capacity, shard_geometry}
-use Rattle.hcc_cache.specs.Drafts.{AreDrafts, IsDraft, standing}
+use Rattle.hcc_cache.specs.Drafts.{AreDrafts, IsDraft, IsFilled, standing}
 use Rattle.hcc_cache.specs.Images.{AreRight, Visible, visible_from}
 use Rattle.hcc_cache.specs.Keys.{fits_seeded, key_from}
 use Rattle.hcc_cache.specs.Opened.{AreGiven, IsConfigured}
-use Rattle.hcc_cache.specs.Reopened.{BeginsAs, IsReopened, IsStarted, image_of, most_in}
+use Rattle.hcc_cache.specs.Reopened.{BeginsAs, HasAt, IsReopened, IsStarted, image_of, most_in}
+use Rattle.hcc_cache.specs.Sharding.{IsReached}
 use Rattle.hcc_cache.specs.Taken.{IsOneOf, Split, begun, is_taken, places_of, split_of, sum_in, with_all, with_one}
 use Rattle.hcc_cache.proofs.Beginning.{AreSharing, begun_known, most_more, sharing_more}
 use Rattle.hcc_cache.proofs.Dealing.{IsMade, get_push, made_alike}
-use Rattle.hcc_cache.proofs.Placing.{standing_any, standing_at, standing_each, standing_length, standing_rising, standing_total}
+use Rattle.hcc_cache.proofs.Placing.{reached_past, standing_any, standing_at, standing_each, standing_has, standing_length, standing_rising, standing_total}
 
 -- Of what was taken.
 
@@ -94,6 +95,20 @@ module _ (c : Config) (taken : List Visible) (shard : ℕ) (d : Draft)
   draft_members k e at =
       let place = standing_at d.places.items k e at in
       (is.each place.0 e place.1).from
+
+  -- Each is in the slot of a probe of its key, and each earlier probe has another.
+  pub draft_placed : (k : ℕ) (e : ImageEntry) → slice_get (standing d.places.items) k ≡ Some e
+      → IsReached c.slots e.key (HasAt (standing d.places.items)) e.slot
+  draft_placed k e at =
+      let place = standing_at d.places.items k e at in
+      let stands = is.each place.0 e place.1 in
+      rw stands.here (reached_past c.slots e.key (IsFilled d.places.items)
+      (HasAt (standing d.places.items)) place.0 has stands.reached)
+    where
+      has : (slot : ℕ) → IsFilled d.places.items slot → HasAt (standing d.places.items) slot
+      has slot taken =
+          let found = standing_has d.places.items slot taken.0 taken.1 in
+          (found.0, taken.0, found.1, (is.each slot taken.0 taken.1).here)
 
   -- The shard takes them.
   pub draft_accepted : refusal_of (shard_geometry c) (shard_capacity c) c.strict
@@ -226,6 +241,8 @@ module _ {T A : Type 0} (fits : T → Key → List ℕ → Type 0) (c : Config) 
                   ∙ draft_counts c taken (length shards) d next_draft f;
               members = λ k e at. draft_members c taken (length shards) d next_draft k e
                   (ap (λ xs. slice_get xs k) (sym same) ∙ at);
+              placed = λ k e at. rw same (draft_placed c taken (length shards) d next_draft k e
+                  (ap (λ xs. slice_get xs k) (sym same) ∙ at));
               words = rw image words;
             })
           ];

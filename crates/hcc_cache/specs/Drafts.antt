@@ -9,6 +9,7 @@ use Rattle.hcc_cache.specs.declared.drafting.Draft.{Draft}
 use Rattle.hcc_cache.specs.declared.image.Saved.{Saved}
 use Rattle.hcc_cache.specs.Configs.{shard_capacity}
 use Rattle.hcc_cache.specs.Images.{Visible, visible_from}
+use Rattle.hcc_cache.specs.Sharding.{IsReached}
 use Rattle.hcc_cache.specs.Taken.{IsOneOf, begun, places_of, sum_in}
 
 -- Of the slots of one shard.
@@ -28,6 +29,10 @@ given f (Some e) = f e
 abbrev pub HasFree : List (Option ImageEntry) → Type 0
 HasFree places = (slot : ℕ) × (slice_get places slot ≡ Some None)
 
+-- an entry stands in this slot
+abbrev pub IsFilled : List (Option ImageEntry) → (slot : ℕ) → Type 0
+IsFilled places slot = (e : ImageEntry) × (slice_get places slot ≡ Some (Some e))
+
 -- so many slots, all of them free
 pub record IsBlank (slots : ℕ) (d : Draft) : Type 0 where
   pub places : d.places.items ≡ replicate slots None
@@ -41,11 +46,12 @@ takes c d charge len =
     && (nat_lt d.count (places_of c)
     && (not c.strict || nat_le (d.charge + charge) (shard_capacity c)))
 
--- What is saved of an entry was put into a slot that was free, under this seeded key.
+-- What is saved of an entry was put into the first slot of this seeded key's probes that was free.
 pub record Puts (key : Key) (saved : Saved) (old new : Draft) : Type 0 where
   pub slot : ℕ
   pub entry : ImageEntry
   pub free : slice_get old.places.items slot ≡ Some None
+  pub reached : IsReached (length old.places.items) key (IsFilled old.places.items) slot
   pub here : entry.slot ≡ slot
   pub key_is : entry.key ≡ key
   pub value : entry.value.items ≡ saved.value.items
@@ -57,13 +63,15 @@ pub record Puts (key : Key) (saved : Saved) (old new : Draft) : Type 0 where
 
 -- Of all shards.
 
--- An entry that stands in this slot of a draft.
-pub record Stands (c : Config) (taken : List Visible) (slot : ℕ) (e : ImageEntry) : Type 0 where
+-- An entry that stands in this slot of a draft. A search for its key comes there, past others.
+pub record Stands (c : Config) (taken : List Visible) (places : List (Option ImageEntry))
+    (slot : ℕ) (e : ImageEntry) : Type 0 where
   pub here : e.slot ≡ slot
   pub short : length e.value.items ≤ 8 * c.room
   pub paid : 0 < e.charge
   pub few : e.uses ≤ MOST_USES
   pub from : IsOneOf c taken e
+  pub reached : IsReached c.slots e.key (IsFilled places) slot
 
 -- The draft of a shard has those that were taken and belong there.
 pub record IsDraft (c : Config) (taken : List Visible) (shard : ℕ) (d : Draft) : Type 0 where
@@ -74,7 +82,7 @@ pub record IsDraft (c : Config) (taken : List Visible) (shard : ℕ) (d : Draft)
       → total (given (λ (e : ImageEntry). f (visible_from c.seed e))) d.places.items
       ≡ sum_in c shard (λ (e : Visible). f (begun e)) taken
   pub each : (slot : ℕ) (e : ImageEntry) → slice_get d.places.items slot ≡ Some (Some e)
-      → Stands c taken slot e
+      → Stands c taken d.places.items slot e
   pub few : d.count ≤ places_of c
   pub small : d.charge ≤ d.count * 2 ^ 32
   pub within : c.strict ≡ true → d.charge ≤ shard_capacity c

@@ -21,6 +21,7 @@ use Rattle.hcc_cache.specs.Images.{Visible, visible_from}
 use Rattle.hcc_cache.specs.Keys.{fits_seeded}
 use Rattle.hcc_cache.specs.Known.{Knows}
 use Rattle.hcc_cache.specs.Opened.{IsConfigured}
+use Rattle.hcc_cache.specs.Sharding.{IsReached}
 use Rattle.hcc_cache.specs.Taken.{IsOneOf, begun, split_of, sum_in}
 
 module _ {T A : Type 0} where
@@ -33,14 +34,19 @@ module _ {T A : Type 0} where
   most_in [] = 0
   most_in (shard ∷ shards) = max (length (image_of shard)) (most_in shards)
 
+-- one of these entries is in this slot
+abbrev pub HasAt : List ImageEntry → (slot : ℕ) → Type 0
+HasAt es slot = (k : ℕ) × (e : ImageEntry) × (slice_get es k ≡ Some e) × (e.slot ≡ slot)
+
 -- what a client made of them: client 0 all, and the others nothing
 abbrev pub share_of : (number : ℕ) → List ImageEntry → Other
 share_of zero es = maker_of es
 share_of (suc number) es = unstarted (suc number)
 
 -- The shard of this number has those entries that were taken and belong there. Whatever is counted
--- of them is the same in sum: so each stands there once, and no other does. Until a client makes a
--- step its words are theirs.
+-- of them is the same in sum: so each stands there once, and no other does. Each is in the slot of
+-- a probe of its key, and each earlier probe of that key has another. Until a client makes a step
+-- the shard's words are theirs.
 pub record BeginsAs {T A : Type 0} (fits : T → Key → List ℕ → Type 0) (config : Config)
     (taken : List Visible) (s : ℕ) (shard : Shard (Seeded T) A) : Type 0 where
   pub counts : (f : Visible → ℕ)
@@ -48,6 +54,8 @@ pub record BeginsAs {T A : Type 0} (fits : T → Key → List ℕ → Type 0) (c
       ≡ sum_in config s (λ (e : Visible). f (begun e)) taken
   pub members : (k : ℕ) (e : ImageEntry) → slice_get (image_of shard) k ≡ Some e
       → IsOneOf config taken e
+  pub placed : (k : ℕ) (e : ImageEntry) → slice_get (image_of shard) k ≡ Some e
+      → IsReached config.slots e.key (HasAt (image_of shard)) e.slot
   pub words : OpensWith (fits_seeded fits) shard.table (image_of shard)
 
 module _ {T A : Type 0} where

@@ -2,8 +2,9 @@
 ghost use Rattle.std.specs.Prelude.{◌≡◌, ◌%◌, ◌^◌, ◌<◌, IfOk, None, Some, length, map, slice_get};
 ghost use Rattle.hcc_core.specs.declared.limits.TheConstants.{MOST_SLOTS};
 ghost use Rattle.hcc_cache.specs.Configs.{IsAllowed};
-ghost use Rattle.hcc_cache.specs.Drafts.{AreDrafts, HasFree, IsBlank, Puts, standing, takes};
+ghost use Rattle.hcc_cache.specs.Drafts.{AreDrafts, HasFree, IsBlank, IsFilled, Puts, standing, takes};
 ghost use Rattle.hcc_cache.specs.Images.{visible_of};
+ghost use Rattle.hcc_cache.specs.Sharding.{IsReached};
 ghost use Rattle.hcc_cache.specs.Taken.{split_of};
 
 use crate::config::Config;
@@ -131,7 +132,8 @@ impl Draft {
 fn free_slot(places: &[Option<ImageEntry>], key: Key) -> u32
     requires power { MOST_SLOTS % length places.now ≡ 0 }
     requires free { HasFree places.now }
-    ensures { slice_get places.now result ≡ Some None }
+    ensures free { slice_get places.now result ≡ Some None }
+    ensures reached { IsReached (length places.now) key (IsFilled places.now) result }
 {
     let mask = places.len() as u64 - 1;
     let mut probe = key.w1;

@@ -31,10 +31,11 @@ impl<T: Tag + Copy> Cache<T> {
     /// never changes: a file's number in one process doesn't.
     ///
     /// The image may be of a cache of other sizes or another seed: each entry goes where its key
-    /// belongs. In their order those come in for which their shard has a place, of 84 for each
-    /// hundred slots, and under strict capacity room for their charge; an entry whose value is too
-    /// long for a slot, or whose charge is 0, doesn't. Each comes in once, as it was saved, but
-    /// with 553,651,204 uses at most.
+    /// belongs, that is into its shard, and there into the first slot of its probes that is free.
+    /// In their order those come in for which their shard has a place, of 84 for each hundred
+    /// slots, and under strict capacity room for their charge; an entry whose value is too long for
+    /// a slot, or whose charge is 0, doesn't. Each comes in once, as it was saved, but with
+    /// 553,651,204 uses at most.
     ///
     /// Client 0 made the entries, and used as many serials as the shard with the most entries has;
     /// it may have fewer left than the others, where these and its own pass 2^54. Beyond that each

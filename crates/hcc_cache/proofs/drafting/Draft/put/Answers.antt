@@ -11,7 +11,8 @@ returns c = record {
     charge = c.args.saved.charge;
     uses = c.min.result;
   };
-  free = rw (← c.as_slice.ensures.value) c.free_slot-slot.ensures;
+  free = rw (← c.as_slice.ensures.value) c.free_slot-slot.ensures.free;
+  reached = rw (← c.as_slice.ensures.value) c.free_slot-slot.ensures.reached;
   here = refl;
   key_is = refl;
   value = refl;
