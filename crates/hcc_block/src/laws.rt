@@ -7,7 +7,7 @@ ghost use Rattle.hcc_cache.specs.declared.cache.Cache.{Cache};
 ghost use Rattle.hcc_cache.specs.declared.client.Client.{Client};
 ghost use Rattle.hcc_cache.specs.declared.config.Config.{Config};
 ghost use Rattle.hcc_cache.specs.Moments.{KnowsShown};
-ghost use Rattle.hcc_cache.specs.Opened.{IsOpened};
+ghost use Rattle.hcc_cache.specs.Opened.{IsCacheOf};
 ghost use Rattle.hcc_block.specs.declared.reader.BlockReader.{BlockReader};
 ghost use Rattle.hcc_block.specs.Reads.{CountsHit, GoesThrough, IsRefused};
 
@@ -19,8 +19,8 @@ use hcc_rule::Tag;
 pub fn law_reads<S: BlockSource, T: Tag>()
     // In a cache of one client, where the client knows the block's key to be shown when the call
     // begins, a read whose look-up isn't refused is a hit.
-    ensures { (config : Config) (tag : T) (cache : Cache T) (clients : List (Client T))
-        → IsOpened config tag cache clients → config.clients ≡ 1
+    ensures { (config : Config) (tag : T) (cache : Cache T)
+        → IsCacheOf config tag cache → config.clients ≡ 1
         → (key : Key) (block : Option (List ℕ)) (count : ℕ) (before after : BlockReader S)
         (old new : Client T)
         → GoesThrough T.fits cache key block (Ok count) before after old new

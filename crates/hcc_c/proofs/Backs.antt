@@ -37,7 +37,9 @@ module _ (config : Config) (tag : AnyBytes) (cache : Cache AnyBytes)
   })
 
   pub is_sized : IsSized cache config
-  is_sized = record { geometry = opened.geometry; shards = opened.count }
+  is_sized =
+      let is = opened.cache_is in
+      record { geometry = is.geometry; shards = is.count }
 
 -- every value fits every key
 pub all_right : (tag : AnyBytes) (es : List Visible) → AreRight any tag es
@@ -55,7 +57,9 @@ module _ (config : Config) (tag : AnyBytes) (es : List Visible) (cache : Cache A
   })
 
   pub is_sized_again : IsSized cache config
-  is_sized_again = record { geometry = reopened.geometry; shards = reopened.count }
+  is_sized_again =
+      let is = reopened.cache_is in
+      record { geometry = is.geometry; shards = is.count }
 
 -- A cache whose clients are all back may be closed.
 pub are_back : (pool : Pool) → IsWholePool pool

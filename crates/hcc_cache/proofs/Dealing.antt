@@ -14,9 +14,9 @@ use Rattle.hcc_cache.specs.declared.cache.Cache.{Cache}
 use Rattle.hcc_cache.specs.declared.client.Client.{Client}
 use Rattle.hcc_cache.specs.declared.config.Config.{Config}
 use Rattle.hcc_cache.specs.declared.seeded.Seeded.{Seeded}
-use Rattle.hcc_cache.specs.Configs.{IsAllowed, shard_capacity, shard_geometry}
+use Rattle.hcc_cache.specs.Configs.{IsAllowed}
 use Rattle.hcc_cache.specs.Known.{AreAlike, AreHeld, IsSeated, Knows, records_at, standalones_at}
-use Rattle.hcc_cache.specs.Opened.{AreDealt, AreGiven, AreUnseated, Gains, IsConfigured, IsDealt, IsOpened, IsUnused}
+use Rattle.hcc_cache.specs.Opened.{AreDealt, AreGiven, AreUnseated, Gains, IsCacheOf, IsDealt, IsOpened, IsUnused}
 
 -- a list with one more member has that one, or what was there
 pub get_push : {X : Type 0} (xs : List X) (x y : X) (k : ℕ) → slice_get (xs ++ x ∷ []) k ≡ Some y
@@ -271,20 +271,9 @@ module _ {T : Type 0} where
         serials = omega arith;
       }
 
-  -- a cache of shards as they are configured
-  pub record IsMade (config : Config) (tag : T) (cache : Cache T) : Type 0 where
-    pub tag_is : cache.tag ≡ tag
-    pub seed : cache.seed ≡ config.seed
-    pub geometry : cache.geometry ≡ shard_geometry config
-    pub capacity : cache.capacity ≡ shard_capacity config
-    pub strict : cache.strict ≡ config.strict
-    pub count : length cache.shards.items ≡ config.shards
-    pub shards : (s : ℕ) (shard : Shard (Seeded T) _)
-        → slice_get cache.shards.items s ≡ Some shard → IsConfigured config tag shard
-
-  -- its shards are alike
+  -- the shards of a cache are alike
   pub made_alike : (config : Config) (tag : T) (cache : Cache T) → IsAllowed config
-      → IsMade config tag cache → AreAlike cache
+      → IsCacheOf config tag cache → AreAlike cache
   made_alike config tag cache allowed made = record {
     some = rw made.count allowed.some_shard;
     few = rw made.count allowed.shards;
@@ -300,18 +289,12 @@ module _ {T : Type 0} where
 
   -- With clients that were dealt their seats it is a new cache.
   pub opened : (config : Config) (tag : T) (cache : Cache T) (clients : List (Client T))
-      → IsAllowed config → IsMade config tag cache → AreDealt config cache.shards.items clients
+      → IsAllowed config → IsCacheOf config tag cache → AreDealt config cache.shards.items clients
       → IsOpened config tag cache clients
   opened config tag cache clients allowed made dealt =
       let alike = made_alike config tag cache allowed made in
       record {
-        tag_is = made.tag_is;
-        seed = made.seed;
-        geometry = made.geometry;
-        capacity = made.capacity;
-        strict = made.strict;
-        count = made.count;
-        shards = made.shards;
+        cache_is = made;
         dealt = dealt;
         known = λ k client h.
             dealt_known config cache k client allowed alike (dealt.each k client h);

@@ -22,12 +22,12 @@ use Rattle.hcc_cache.specs.Configs.{IsAllowed, shard_capacity, shard_geometry}
 use Rattle.hcc_cache.specs.Drafts.{AreDrafts, IsDraft, IsFilled, standing}
 use Rattle.hcc_cache.specs.Images.{AreRight, Visible, visible_from}
 use Rattle.hcc_cache.specs.Keys.{fits_seeded, key_from}
-use Rattle.hcc_cache.specs.Opened.{AreGiven, IsConfigured}
+use Rattle.hcc_cache.specs.Opened.{AreGiven, IsCacheOf, IsConfigured}
 use Rattle.hcc_cache.specs.Reopened.{BeginsAs, HasAt, IsReopened, IsStarted, image_of, most_in}
 use Rattle.hcc_cache.specs.Sharding.{IsReached}
 use Rattle.hcc_cache.specs.Taken.{IsOneOf, Split, begun, is_taken, places_of, split_of, sum_in, with_all, with_one}
 use Rattle.hcc_cache.proofs.Beginning.{AreSharing, begun_known, most_more, sharing_more}
-use Rattle.hcc_cache.proofs.Dealing.{IsMade, get_push, made_alike}
+use Rattle.hcc_cache.proofs.Dealing.{get_push, made_alike}
 use Rattle.hcc_cache.proofs.Placing.{reached_past, standing_any, standing_at, standing_each, standing_has, standing_length, standing_rising, standing_total}
 
 -- Of what was taken.
@@ -259,7 +259,7 @@ module _ {T A : Type 0} (fits : T → Key → List ℕ → Type 0) (c : Config) 
 module _ {T : Type 0} (fits : T → Key → List ℕ → Type 0) (config : Config) (tag : T)
     (image : List Visible) (cache : Cache T) (clients : List (Client T)) where
   -- Once all shards are opened, and each client is started, it is a cache with what was taken.
-  pub reopened_all : IsAllowed config → IsMade config tag cache
+  pub reopened_all : IsAllowed config → IsCacheOf config tag cache
       → ((s : ℕ) (shard : Shard (Seeded T) _) → slice_get cache.shards.items s ≡ Some shard
       → BeginsAs fits config (split_of config image).taken s shard)
       → length clients ≡ config.clients
@@ -271,13 +271,7 @@ module _ {T : Type 0} (fits : T → Key → List ℕ → Type 0) (config : Confi
       let slots = allowed.slots in
       let few : most_in cache.shards.items ≤ MOST_SLOTS = omega arith in
       record {
-        tag_is = made.tag_is;
-        seed = made.seed;
-        geometry = made.geometry;
-        capacity = made.capacity;
-        strict = made.strict;
-        count = made.count;
-        shards = made.shards;
+        cache_is = made;
         begins = begins;
         clients_are = count;
         started = started;

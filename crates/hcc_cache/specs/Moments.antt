@@ -17,7 +17,7 @@ use Rattle.hcc_cache.specs.declared.config.Config.{Config}
 use Rattle.hcc_cache.specs.declared.seeded.Seeded.{Seeded}
 use Rattle.hcc_cache.specs.Calls.{SearchesFor, shard_in}
 use Rattle.hcc_cache.specs.Keys.{fits_seeded}
-use Rattle.hcc_cache.specs.Opened.{IsOpened}
+use Rattle.hcc_cache.specs.Opened.{IsCacheOf}
 use Rattle.hcc_cache.specs.Sharding.{key_to}
 
 -- The words of a shard of a cache that was made so, and what all clients know of it, as they may
@@ -25,8 +25,7 @@ use Rattle.hcc_cache.specs.Sharding.{key_to}
 pub record IsMoment {T : Type 0} (fits : T → Key → List ℕ → Type 0) (config : Config) (tag : T)
     (s : StateOf (Seeded T)) : Type 0 where
   pub cache : Cache T
-  pub clients : List (Client T)
-  pub opened : IsOpened config tag cache clients
+  pub cache_is : IsCacheOf config tag cache
   pub number : ℕ
   pub shard : Shard (Seeded T) Global
   pub there : slice_get cache.shards.items number ≡ Some shard

@@ -70,10 +70,9 @@ module _ {T A : Type 0} where
     pub marks : is_marking shard ≡ config.marks
     pub tag_is : (plan_of shard).tag ≡ record { tag = tag; seed = config.seed }
 
--- A new cache with its clients: as many shards and clients as configured, and each client known to
--- the cache, with nothing done at any shard.
-pub record IsOpened {T : Type 0} (config : Config) (tag : T) (cache : Cache T)
-    (clients : List (Client T)) : Type 0 where
+-- A cache as it is configured, with as many shards: whether it was new or began with an image, and
+-- whatever its clients did since.
+pub record IsCacheOf {T : Type 0} (config : Config) (tag : T) (cache : Cache T) : Type 0 where
   pub tag_is : cache.tag ≡ tag
   pub seed : cache.seed ≡ config.seed
   pub geometry : cache.geometry ≡ shard_geometry config
@@ -82,6 +81,12 @@ pub record IsOpened {T : Type 0} (config : Config) (tag : T) (cache : Cache T)
   pub count : length cache.shards.items ≡ config.shards
   pub shards : (s : ℕ) (shard : Shard (Seeded T) _) → slice_get cache.shards.items s ≡ Some shard
       → IsConfigured config tag shard
+
+-- A new cache with its clients: as many as configured, and each known to the cache, with nothing
+-- done at any shard.
+pub record IsOpened {T : Type 0} (config : Config) (tag : T) (cache : Cache T)
+    (clients : List (Client T)) : Type 0 where
+  pub cache_is : IsCacheOf config tag cache
   pub dealt : AreDealt config cache.shards.items clients
   pub known : (k : ℕ) (client : Client T) → slice_get clients k ≡ Some client
       → Knows cache client

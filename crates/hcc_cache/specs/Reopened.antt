@@ -16,11 +16,10 @@ use Rattle.hcc_cache.specs.declared.cache.Cache.{Cache}
 use Rattle.hcc_cache.specs.declared.client.Client.{Client}
 use Rattle.hcc_cache.specs.declared.config.Config.{Config}
 use Rattle.hcc_cache.specs.declared.seeded.Seeded.{Seeded}
-use Rattle.hcc_cache.specs.Configs.{shard_capacity, shard_geometry}
 use Rattle.hcc_cache.specs.Images.{Visible, visible_from}
 use Rattle.hcc_cache.specs.Keys.{fits_seeded}
 use Rattle.hcc_cache.specs.Known.{Knows}
-use Rattle.hcc_cache.specs.Opened.{IsConfigured}
+use Rattle.hcc_cache.specs.Opened.{IsCacheOf}
 use Rattle.hcc_cache.specs.Sharding.{IsReached}
 use Rattle.hcc_cache.specs.Taken.{IsOneOf, begun, split_of, sum_in}
 
@@ -88,18 +87,11 @@ module _ {T : Type 0} where
     pub left : client.left ≡ min config.serials (STAMPS_PER_CLIENT - used)
     pub same : client ≡ record was { used = client.used; left = client.left }
 
-  -- A cache with the entries of an image that were taken, and its clients: as many shards and
-  -- clients as configured, and each client known to the cache.
+  -- A cache with the entries of an image that were taken, and its clients: as many as configured,
+  -- and each known to the cache.
   pub record IsReopened (fits : T → Key → List ℕ → Type 0) (config : Config) (tag : T)
       (image : List Visible) (cache : Cache T) (clients : List (Client T)) : Type 0 where
-    pub tag_is : cache.tag ≡ tag
-    pub seed : cache.seed ≡ config.seed
-    pub geometry : cache.geometry ≡ shard_geometry config
-    pub capacity : cache.capacity ≡ shard_capacity config
-    pub strict : cache.strict ≡ config.strict
-    pub count : length cache.shards.items ≡ config.shards
-    pub shards : (s : ℕ) (shard : Shard (Seeded T) _)
-        → slice_get cache.shards.items s ≡ Some shard → IsConfigured config tag shard
+    pub cache_is : IsCacheOf config tag cache
     pub begins : (s : ℕ) (shard : Shard (Seeded T) _)
         → slice_get cache.shards.items s ≡ Some shard
         → BeginsAs fits config (split_of config image).taken s shard

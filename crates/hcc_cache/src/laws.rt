@@ -30,7 +30,7 @@ ghost use Rattle.hcc_cache.specs.Inserts.{draft_of, PinsAt, ShowsAs, ShowsPinned
 ghost use Rattle.hcc_cache.specs.Keys.{fits_seeded};
 ghost use Rattle.hcc_cache.specs.Known.{Knows};
 ghost use Rattle.hcc_cache.specs.Moments.{IsMoment, IsQuietMiss, KnowsShown, ShowsKeyIn, plan_in};
-ghost use Rattle.hcc_cache.specs.Opened.{IsOpened};
+ghost use Rattle.hcc_cache.specs.Opened.{IsCacheOf};
 ghost use Rattle.hcc_cache.specs.Sharding.{key_to};
 ghost use Rattle.hcc_cache.specs.Totals.{occupancy_in, usage_in, KnowsEach, LoadsEachOccupancy, LoadsEachUsage};
 
@@ -113,32 +113,32 @@ pub fn law_lookups<T: Tag>()
     // In a cache of one client a look-up misses where the world that the client knows of the shard
     // when the call begins shows the key in no slot, else it finds the slot of the earliest probe
     // that shows it.
-    ensures first { (config : Config) (tag : T) (cache : Cache T) (clients : List (Client T))
-        → IsOpened config tag cache clients → config.clients ≡ 1
+    ensures first { (config : Config) (tag : T) (cache : Cache T)
+        → IsCacheOf config tag cache → config.clients ≡ 1
         → (key : Key) (found : Option Handle) (old new : Client T)
         (h : SearchesFor cache T.fits key found old new)
         → FindsFirst h.shard.table (key_to cache.seed key) (world_at h.shard.table h.was.seat)
         h.did.0 }
 
     // So it misses exactly where no slot of that world shows the key.
-    ensures misses { (config : Config) (tag : T) (cache : Cache T) (clients : List (Client T))
-        → IsOpened config tag cache clients → config.clients ≡ 1
+    ensures misses { (config : Config) (tag : T) (cache : Cache T)
+        → IsCacheOf config tag cache → config.clients ≡ 1
         → (key : Key) (found : Option Handle) (old new : Client T)
         (h : SearchesFor cache T.fits key found old new)
         → IsNone found ↔ ((slot : ℕ) → slot < config.slots
         → ¬ ShowsKey (world_at h.shard.table h.was.seat) (key_to cache.seed key) slot) }
 
     // A read by a key misses exactly there, too.
-    ensures unread { (config : Config) (tag : T) (cache : Cache T) (clients : List (Client T))
-        → IsOpened config tag cache clients → config.clients ≡ 1
+    ensures unread { (config : Config) (tag : T) (cache : Cache T)
+        → IsCacheOf config tag cache → config.clients ≡ 1
         → (key : Key) (useful : Bool) (got : Got) (before after : List ℕ) (old new : Client T)
         (h : GetsAt cache T.fits key useful got before after old new)
         → (got ≡ Miss) ↔ ((slot : ℕ) → slot < config.slots
         → ¬ ShowsKey (world_at h.shard.table h.was.seat) (key_to cache.seed key) slot) }
 
     // What the client knows to be there is found.
-    ensures there { (config : Config) (tag : T) (cache : Cache T) (clients : List (Client T))
-        → IsOpened config tag cache clients → config.clients ≡ 1
+    ensures there { (config : Config) (tag : T) (cache : Cache T)
+        → IsCacheOf config tag cache → config.clients ≡ 1
         → (key : Key) (found : Option Handle) (old new : Client T)
         → SearchesFor cache T.fits key found old new → KnowsShown cache key old → IsSome found }
 {
@@ -151,8 +151,8 @@ pub fn law_erasures<T: Tag>()
     // It answers how many slots show the key in the world that the client knows of the key's shard
     // when the call begins. In the one that it knows at the end none does, and each other slot
     // shows what it showed.
-    ensures { (config : Config) (tag : T) (cache : Cache T) (clients : List (Client T))
-        → IsOpened config tag cache clients → config.clients ≡ 1
+    ensures { (config : Config) (tag : T) (cache : Cache T)
+        → IsCacheOf config tag cache → config.clients ≡ 1
         → (key : Key) (hidden : ℕ) (old new : Client T)
         (h : ErasesFor cache T.fits key hidden old new)
         → HidesShown config.slots (key_to cache.seed key) hidden
@@ -167,16 +167,16 @@ pub fn law_matches<T: Tag>()
     // ended. Placed: its slot showed nothing, and is an earlier probe of the key than each that
     // shows the key; then it shows it. Dropped, though a place was reserved: it met the first probe
     // that shows the key, or none does. All other slots show what they showed.
-    ensures stores { (config : Config) (tag : T) (cache : Cache T) (clients : List (Client T))
-        → IsOpened config tag cache clients → config.clients ≡ 1
+    ensures stores { (config : Config) (tag : T) (cache : Cache T)
+        → IsCacheOf config tag cache → config.clients ≡ 1
         → (key : Key) (charge : ℕ) (priority : Priority) (answer : Result Inserted Refused)
         (old new : Client T) (h : StoresAt cache T.fits key charge priority answer old new)
         → ShowsAs T.fits h.shard (draft_of cache key charge priority (λ c. None) old) answer h.was
         h.is h.did }
 
     // The same of one that gives a handle, on a standalone entry where that is dropped.
-    ensures pins { (config : Config) (tag : T) (cache : Cache T) (clients : List (Client T))
-        → IsOpened config tag cache clients → config.clients ≡ 1
+    ensures pins { (config : Config) (tag : T) (cache : Cache T)
+        → IsCacheOf config tag cache → config.clients ≡ 1
         → (key : Key) (charge : ℕ) (priority : Priority) (answer : Result Pinned Refused)
         (old new : Client T) (h : PinsAt cache T.fits key charge priority answer old new)
         → ShowsPinnedAs T.fits h.shard (draft_of cache key charge priority (λ c. Some c.used) old)
@@ -191,16 +191,16 @@ pub fn law_totals<T: Tag>()
     // with what stands for the client, as its standalone entries: in the worlds that it knows of
     // the shards when the call begins. Where the capacity is strict each shard counts as at most
     // its part.
-    ensures usage { (config : Config) (tag : T) (cache : Cache T) (clients : List (Client T))
-        → IsOpened config tag cache clients → config.clients ≡ 1 → (result : ℕ)
+    ensures usage { (config : Config) (tag : T) (cache : Cache T)
+        → IsCacheOf config tag cache → config.clients ≡ 1 → (result : ℕ)
         (old new : Client T) → LoadsEachUsage cache result old new → (counts : List ℕ)
         × KnowsEach cache usage_in counts old
         × (result ≡ min (total (λ n. n) counts) (2 ^ 64 - 1)) }
 
     // The occupancy is the number of all entries there, hidden ones too, with what the client has
     // in hand, which between calls is nothing.
-    ensures occupancy { (config : Config) (tag : T) (cache : Cache T) (clients : List (Client T))
-        → IsOpened config tag cache clients → config.clients ≡ 1 → (result : ℕ)
+    ensures occupancy { (config : Config) (tag : T) (cache : Cache T)
+        → IsCacheOf config tag cache → config.clients ≡ 1 → (result : ℕ)
         (old new : Client T) → LoadsEachOccupancy cache result old new → (counts : List ℕ)
         × KnowsEach cache occupancy_in counts old × (result ≡ total (λ n. n) counts) }
 {

@@ -63,8 +63,8 @@ manned_new fits config tag cache clients registers opened empty count = record {
           full = unused.held;
           most = unused.most;
           serials = zero-add client.left ∙ unused.left;
-          strict = opened.strict;
-          capacity = opened.capacity;
+          strict = opened.cache_is.strict;
+          capacity = opened.cache_is.capacity;
         };
         each = λ r.
             subst (λ x. IsFilled fits cache client None x) (sym (none_at r)) refl;

@@ -67,14 +67,14 @@ module _ {S : Type 0} (content : S → List (List ℕ)) (reliable : S → Type 0
       → IsSetUp clients sources lists tag.block k w
       → IsReady fits_files content reliable cache w
   one_ready begins k w set =
-      let same = begins.opened.tag_is in
+      let same = begins.opened.cache_is.tag_is in
       let files : content w.reader.source ≡ files_of tag =
       all_at (λ source. content source ≡ files_of tag) sources k w.reader.source
       begins.sources_are set.source_is in
       let size = set.block_is in
       let buffer = set.buffer in
       let fits = begins.size.fits in
-      let room = ap (λ (g : _). g.room) begins.opened.geometry in
+      let room = ap (λ (g : _). g.room) begins.opened.cache_is.geometry in
       record {
         idle = idle_at begins k w.client set.client_is;
         tag = rw (same, files, size) (fits_itself (files_of tag) tag.block);

@@ -1,9 +1,31 @@
 //! Caches that begin with what was visible in one that was closed.
+ghost use Rattle.std.specs.Prelude.{◌≡◌, ℕ, ◌<◌, ◌≤◌, ◌↔◌, true, IsNone, List, Option, Some, slice_get};
+ghost use Rattle.std.specs.declared.alloc.Global.{Global};
+ghost use Rattle.hcc_core.specs.Lawful.{real_in};
+ghost use Rattle.hcc_rule.specs.declared.key.Key.{Key};
+ghost use Rattle.hcc_rule.specs.Laws.{StateOf};
+ghost use Rattle.hcc_rule.specs.Rule.{Holds};
+ghost use Rattle.hcc_shard.specs.declared.shard.Shard.{Shard};
+ghost use Rattle.hcc_shard.specs.Callers.{plan_of};
+ghost use Rattle.hcc_table.specs.Standing.{ShowsKey, world_at};
+ghost use Rattle.hcc_cache.specs.declared.cache.Cache.{Cache};
+ghost use Rattle.hcc_cache.specs.declared.client.Client.{Client};
+ghost use Rattle.hcc_cache.specs.declared.config.Config.{Config};
+ghost use Rattle.hcc_cache.specs.declared.handle.Handle.{Handle};
+ghost use Rattle.hcc_cache.specs.declared.seeded.Seeded.{Seeded};
+ghost use Rattle.hcc_cache.specs.Calls.{SearchesFor};
+ghost use Rattle.hcc_cache.specs.Configs.{shard_capacity};
+ghost use Rattle.hcc_cache.specs.Images.{Visible};
+ghost use Rattle.hcc_cache.specs.Keys.{fits_seeded};
 ghost use Rattle.hcc_cache.specs.Known.{Knows};
+ghost use Rattle.hcc_cache.specs.Reopened.{IsReopened};
+ghost use Rattle.hcc_cache.specs.Sharding.{key_to};
 ghost use Rattle.hcc_cache_tests.specs.Staged.{AllKnown};
 
 use super::stage::{SMALL, Store};
+use hcc_cache::laws::{law_limits, law_lookups};
 use hcc_cache::{AnyBytes, Cache, Client, Closed, Config, Got, Inserted, Key, Priority, Saved};
+use hcc_rule::Tag;
 use std::process::Abort;
 use std::test::Fail;
 
@@ -108,6 +130,28 @@ fn are_all(rt: &impl Abort, image: &[Saved]) {
     }
 }
 
+/// The laws of caches hold of one that began with an image. It does nothing.
+fn laws_hold<T: Tag>()
+    // With one client a look-up misses exactly where the client knows the key to be shown nowhere.
+    ensures misses { (config : Config) (tag : T) (image : List Visible) (cache : Cache T)
+        (clients : List (Client T)) → IsReopened T.fits config tag image cache clients
+        → config.clients ≡ 1 → (key : Key) (found : Option Handle) (old new : Client T)
+        (h : SearchesFor cache T.fits key found old new)
+        → IsNone found ↔ ((slot : ℕ) → slot < config.slots
+        → ¬ ShowsKey (world_at h.shard.table h.was.seat) (key_to cache.seed key) slot) }
+
+    // Under strict capacity each shard is within its part at every moment.
+    ensures capacity { (config : Config) (tag : T) (image : List Visible) (cache : Cache T)
+        (clients : List (Client T)) → IsReopened T.fits config tag image cache clients
+        → config.strict ≡ true → (number : ℕ) (shard : Shard (Seeded T) Global)
+        → slice_get cache.shards.items number ≡ Some shard → (s : StateOf (Seeded T))
+        (holds : Holds (fits_seeded T.fits) (plan_of shard) s)
+        → real_in holds.world.slots holds.world.clients ≤ shard_capacity config }
+{
+    law_lookups::<T>();
+    law_limits::<T>();
+}
+
 #[test]
 fn a_closed_cache_is_opened_again(rt: HostRuntime) -> Result<(), Fail> {
     for config in [SMALL, OTHER] {
@@ -119,6 +163,7 @@ fn a_closed_cache_is_opened_again(rt: HostRuntime) -> Result<(), Fail> {
         let image = closes(&rt, cache, clients, false).image(rt.alloc())?;
         are_all(&rt, image.as_slice());
     }
+    laws_hold::<AnyBytes>();
     Ok(())
 }
 

@@ -25,11 +25,11 @@ returns c =
       left = unused.left;
     } in
     record {
-      tag_is = ap (λ t. t.size) made.tag_is;
-      room = ap (λ g. g.room) made.geometry;
-      seats = ap (λ g. g.clients) made.geometry;
+      tag_is = ap (λ t. t.size) made.cache_is.tag_is;
+      room = ap (λ g. g.room) made.cache_is.geometry;
+      seats = ap (λ g. g.clients) made.cache_is.geometry;
       count = omega arith;
-      strict = made.strict;
+      strict = made.cache_is.strict;
       clients = λ k client here. fresh k client (in_push left keeper client k here);
       keeper = (fresh (length left) keeper (last_push left keeper)).idle;
     }

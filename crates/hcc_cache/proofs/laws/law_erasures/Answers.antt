@@ -22,8 +22,8 @@ hidden_still size key n world mid next h same = record {
 }
 
 pub returns : goal.returns
-returns g c config tag cache clients opened one key hidden old new h =
-    let made = opened.shards _ h.shard h.shard_is in
+returns g c config tag cache is_of one key hidden old new h =
+    let made = is_of.shards _ h.shard h.shard_is in
     let alone : clients_of h.shard.table ≡ 1 =
     ap (λ (x : Geometry). x.clients) made.geometry ∙ one in
     let few : slots_of h.shard.table ≡ config.slots =

@@ -20,7 +20,6 @@ use Rattle.hcc_cache.specs.declared.handle.Handle.{Handle}
 use Rattle.hcc_cache.specs.Calls.{SearchesFor}
 use Rattle.hcc_cache.specs.Gets.{GetsAt}
 use Rattle.hcc_cache.specs.Moments.{KnowsShown}
-use Rattle.hcc_cache.specs.Opened.{IsOpened}
 use Rattle.hcc_cache.specs.Sharding.{key_to}
 use Rattle.hcc_cache.proofs.laws.law_lookups.Goals as goal
 
@@ -56,16 +55,16 @@ returns-clause-gets g c = λ cache key useful before after old new h.
     h.was.effort h.is.effort h.was.seat h.is.seat h.did.2
 
 pub returns-clause-first : goal.returns-clause-first
-returns-clause-first g c = λ config tag cache clients opened one key found old new h.
-    let made = opened.shards _ h.shard h.shard_is in
+returns-clause-first g c = λ config tag cache is_of one key found old new h.
+    let made = is_of.shards _ h.shard h.shard_is in
     let alone : clients_of h.shard.table ≡ 1 =
     ap (λ (x : Geometry). x.clients) made.geometry ∙ one in
     c.law_found_alone.ensures.first h.shard.table (key_to cache.seed key) old.used h.shard.marks
     h.did.0 h.was.effort h.is.effort h.was.seat h.is.seat alone h.did.2
 
 pub returns-clause-misses : goal.returns-clause-misses
-returns-clause-misses g c = λ config tag cache clients opened one key found old new h.
-    let made = opened.shards _ h.shard h.shard_is in
+returns-clause-misses g c = λ config tag cache is_of one key found old new h.
+    let made = is_of.shards _ h.shard h.shard_is in
     let alone : clients_of h.shard.table ≡ 1 =
     ap (λ (x : Geometry). x.clients) made.geometry ∙ one in
     let few : slots_of h.shard.table ≡ config.slots =
@@ -77,9 +76,9 @@ returns-clause-misses g c = λ config tag cache clients opened one key found old
     )
 
 pub returns-clause-unread : goal.returns-clause-unread
-returns-clause-unread g c = λ config tag cache clients opened one key useful got before after old
+returns-clause-unread g c = λ config tag cache is_of one key useful got before after old
     new h.
-    let made = opened.shards _ h.shard h.shard_is in
+    let made = is_of.shards _ h.shard h.shard_is in
     let alone : clients_of h.shard.table ≡ 1 =
     ap (λ (x : Geometry). x.clients) made.geometry ∙ one in
     let few : slots_of h.shard.table ≡ config.slots =
@@ -95,13 +94,13 @@ returns-clause-unread g c = λ config tag cache clients opened one key useful go
     )) got h.did
 
 pub returns-clause-there : goal.returns-clause-there
-returns-clause-there g c = λ config tag cache clients opened one key found old new h k.
-    let exactly = returns-clause-misses g c config tag cache clients opened one key found old new h
+returns-clause-there g c = λ config tag cache is_of one key found old new h k.
+    let exactly = returns-clause-misses g c config tag cache is_of one key found old new h
     in
     let shard : k.shard ≡ h.shard = same_Some _ _ (sym k.shard_is ∙ h.shard_is) in
     let was : k.seat ≡ h.was = same_Some _ _ (sym k.seat_is ∙ h.seat_was) in
     let slots : cache.geometry.slots ≡ config.slots =
-    ap (λ (x : Geometry). x.slots) opened.geometry in
+    ap (λ (x : Geometry). x.slots) is_of.geometry in
     found_some found (λ none.
     exactly.0 none k.slot (subst (λ n. k.slot < n) slots k.within)
     (subst (λ s. ShowsKey (world_at s.table h.was.seat) (key_to cache.seed key) k.slot) shard

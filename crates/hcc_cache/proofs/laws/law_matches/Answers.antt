@@ -65,9 +65,9 @@ module _ {T : Type 0} (fits : T → Key → List ℕ → Type 0) (shard : Shard 
   shows_pinned (Err why) old new did = tt
 
 pub returns-clause-stores : goal.returns-clause-stores
-returns-clause-stores g c = λ config tag cache clients opened one key charge priority answer old
+returns-clause-stores g c = λ config tag cache is_of one key charge priority answer old
     new h.
-    let made = opened.shards _ h.shard h.shard_is in
+    let made = is_of.shards _ h.shard h.shard_is in
     let alone : clients_of h.shard.table ≡ 1 =
     ap (λ (x : Geometry). x.clients) made.geometry ∙ one in
     let draft = draft_of cache key charge priority (λ c. None) old in
@@ -77,9 +77,9 @@ returns-clause-stores g c = λ config tag cache clients opened one key charge pr
     answer h.was h.is h.did
 
 pub returns-clause-pins : goal.returns-clause-pins
-returns-clause-pins g c = λ config tag cache clients opened one key charge priority answer old new
+returns-clause-pins g c = λ config tag cache is_of one key charge priority answer old new
     h.
-    let made = opened.shards _ h.shard h.shard_is in
+    let made = is_of.shards _ h.shard h.shard_is in
     let alone : clients_of h.shard.table ≡ 1 =
     ap (λ (x : Geometry). x.clients) made.geometry ∙ one in
     let draft = draft_of cache key charge priority (λ c. Some c.used) old in

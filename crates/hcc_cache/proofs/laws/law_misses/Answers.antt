@@ -33,7 +33,7 @@ returns g c config tag s m key old new missed q slot low shows =
 
     few : slot < slots_of missed.shard.table
     few =
-        let made = m.opened.shards m.number m.shard m.there in
+        let made = m.cache_is.shards m.number m.shard m.there in
         let slots = ap (λ (x : Geometry). x.slots) made.geometry in
         subst (λ x. slot < slots_of x.table) same (omega (arith, low, slots))
 

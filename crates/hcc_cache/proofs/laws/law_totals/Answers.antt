@@ -12,17 +12,17 @@ use Rattle.hcc_cache.specs.declared.cache.Cache.{Cache}
 use Rattle.hcc_cache.specs.declared.client.Client.{Client}
 use Rattle.hcc_cache.specs.declared.config.Config.{Config}
 use Rattle.hcc_cache.specs.declared.seeded.Seeded.{Seeded}
-use Rattle.hcc_cache.specs.Opened.{IsOpened}
+use Rattle.hcc_cache.specs.Opened.{IsCacheOf}
 use Rattle.hcc_cache.specs.Totals.{AtEach, KnowsEach, occupancy_in, usage_in}
 use Rattle.hcc_cache.proofs.laws.law_totals.Goals as goal
 
-module _ {T : Type 0} (config : Config) (tag : T) (cache : Cache T) (clients : List (Client T))
-    (opened : IsOpened config tag cache clients) (one : config.clients ≡ 1) where
+module _ {T : Type 0} (config : Config) (tag : T) (cache : Cache T)
+    (is_of : IsCacheOf config tag cache) (one : config.clients ≡ 1) where
   -- each shard has one client
   alone_at : (s : ℕ) (shard : Shard (Seeded T) Global)
       → slice_get cache.shards.items s ≡ Some shard → clients_of shard.table ≡ 1
   alone_at s shard there =
-      ap (λ (x : Geometry). x.clients) (opened.shards s shard there).geometry ∙ one
+      ap (λ (x : Geometry). x.clients) (is_of.shards s shard there).geometry ∙ one
 
   -- What loads find at each shard is what the worlds have that the client knows.
   knows_each : (Did : Shard (Seeded T) Global → (found : ℕ) → (old new : ShardSeat (Seeded T))
@@ -45,9 +45,9 @@ module _ {T : Type 0} (config : Config) (tag : T) (cache : Cache T) (clients : L
   }
 
 pub returns-clause-usage : goal.returns-clause-usage
-returns-clause-usage g c = λ config tag cache clients opened one result old new h. (
+returns-clause-usage g c = λ config tag cache is_of one result old new h. (
   h.counts,
-  knows_each config tag cache clients opened one LoadsUsage usage_in h.counts old new
+  knows_each config tag cache is_of one LoadsUsage usage_in h.counts old new
       (λ shard found was is alone did.
       did.3
       ∙ ap (within (is_strict shard) (capacity_of shard))
@@ -57,9 +57,9 @@ returns-clause-usage g c = λ config tag cache clients opened one result old new
 )
 
 pub returns-clause-occupancy : goal.returns-clause-occupancy
-returns-clause-occupancy g c = λ config tag cache clients opened one result old new h. (
+returns-clause-occupancy g c = λ config tag cache is_of one result old new h. (
   h.counts,
-  knows_each config tag cache clients opened one LoadsOccupancy occupancy_in h.counts old new
+  knows_each config tag cache is_of one LoadsOccupancy occupancy_in h.counts old new
       (λ shard found was is alone did.
       c.law_told_alone.ensures.occupancy shard.table found was.seat is.seat alone did.1)
       h.loads,

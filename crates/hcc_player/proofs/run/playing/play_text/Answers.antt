@@ -32,7 +32,7 @@ returns-in_err-play_lines-clause-part g c =
     let mid = g.W.Write.contents c.play_lines.new.writer in
     on_error c.from_residual-in_err-play_lines.result _
     (play_stopped c.args.config lines old mid
-    (part_as tag cache c.in-Ok.ensures.made.tag_is c.args.config lines old mid
+    (part_as tag cache c.in-Ok.ensures.made.cache_is.tag_is c.args.config lines old mid
     (string_bytes c.new-pending.result) [] c.new-pending.ensures.bytes
     c.in_err-play_lines.ensures.part))
 
@@ -54,8 +54,8 @@ returns-clause-ok g c =
     c.in-Ok.ensures.made
     (c.in_ok-registers.ensures.count ∙ c.len.ensures ∙ c.in-Ok.clients.ok.0)
     c.in_ok-registers.ensures.empty
-    (answered_as tag cache c.in-Ok.ensures.made.tag_is c.args.config lines first last empty kept
-    old mid (string_bytes c.new-pending.result) [] rest c.new-pending.ensures.bytes
+    (answered_as tag cache c.in-Ok.ensures.made.cache_is.tag_is c.args.config lines first last
+    empty kept old mid (string_bytes c.new-pending.result) [] rest c.new-pending.ensures.bytes
     c.in_ok-play_lines.ensures.ok)) c.finish.ensures.ok
 
 pub returns-clause-part : goal.returns-clause-part
@@ -73,6 +73,6 @@ returns-clause-part g c =
     let kept = c.play_lines.new.registers.items in
     on_error_so c.finish.result _ _
     (play_cut cache c.args.config lines first last empty kept old mid new rest
-    (answered_as tag cache c.in-Ok.ensures.made.tag_is c.args.config lines first last empty kept
-    old mid (string_bytes c.new-pending.result) [] rest c.new-pending.ensures.bytes
+    (answered_as tag cache c.in-Ok.ensures.made.cache_is.tag_is c.args.config lines first last
+    empty kept old mid (string_bytes c.new-pending.result) [] rest c.new-pending.ensures.bytes
     c.in_ok-play_lines.ensures.ok)) c.finish.ensures.part
