@@ -1,5 +1,5 @@
 -- Spans that are joined one after another, up to the whole one of all workers.
-use Rattle.std.proofs.Common.{◌≡◌, ◌⊎◌, ℕ, ◌+◌, ◌<◌, ◌≤◌, min, max, List, Option, Some, None, length, slice_get, slice_index_or, inl, inr, refl, sym, subst, arith}
+use Rattle.std.proofs.Common.{◌≡◌, ◌⊎◌, ℕ, ◌+◌, ◌<◌, min, max, List, Option, Some, None, length, slice_get, slice_index_or, inl, inr, refl, sym, subst, arith}
 use Rattle.std.specs.List.{AllWithin, Any}
 use Rattle.std.specs.Prelude.{IsSomeAnd}
 use Rattle.std.specs.Time.{instant_nanos}

@@ -4,4 +4,5 @@ pub mod Keeping
 pub mod Lists
 pub mod Measuring
 pub mod Texts
+pub mod Warming
 pub mod Weights

@@ -11,7 +11,7 @@ use Rattle.hcc_cache.specs.declared.cache.Cache.{Cache}
 use Rattle.hcc_cache.specs.declared.client.Client.{Client}
 use Rattle.hcc_cache.specs.Configs.{is_within}
 use Rattle.hcc_bench.specs.declared.case.Case.{Case}
-use Rattle.hcc_bench.specs.declared.case.Case.TheVariants.{HitsZipf, HitsUniform, Mix, Evict, Pinned, Misses, Hot, BlocksSeeded, BlocksUnseeded}
+use Rattle.hcc_bench.specs.declared.case.Case.TheVariants.{HitsZipf, HitsUniform, Mix, Evict, Pinned, Misses, Hot, BlocksSeeded, BlocksUnseeded, Save, Load}
 use Rattle.hcc_bench.specs.declared.crew.TheConstants.{FILLING}
 use Rattle.hcc_bench.specs.declared.limits.TheConstants.{MOST_NANOSECONDS, MOST_THREADS}
 use Rattle.hcc_bench.specs.declared.measure.Row.{Row}
@@ -148,6 +148,8 @@ same_lookups Misses slots operations threads = mul_comm threads operations
 same_lookups Hot slots operations threads = mul_comm threads operations
 same_lookups BlocksSeeded slots operations threads = mul_comm threads operations
 same_lookups BlocksUnseeded slots operations threads = mul_comm threads operations
+same_lookups Save slots operations threads = mul-zero threads
+same_lookups Load slots operations threads = mul-zero threads
 
 -- as many threads or fewer
 pub within_less : (threads most : ℕ) → 1 ≤ threads → threads ≤ most
@@ -168,6 +170,8 @@ in_few Misses operations = omega arith
 in_few Hot operations = omega arith
 in_few BlocksSeeded operations = omega arith
 in_few BlocksUnseeded operations = omega arith
+in_few Save operations = omega arith
+in_few Load operations = omega arith
 
 -- what is written of a row stays within a word
 pub row_small : (o : Options) (s : Setting) (row : Row) → IsAllowed o → IsSetting s
@@ -176,7 +180,6 @@ row_small o s row allowed set is =
     let operations = between 1 (2 ^ 26) o.operations allowed.operations in
     let threads = between 1 256 s.threads set.threads in
     let all = is.operations in
-    let some = mul-le 1 1 o.operations s.threads operations.low threads.low in
     let most = mul-le o.operations s.threads (2 ^ 26) 256 operations.high threads.high in
     let few = in_few s.case row.operations in
     let counted = is.counted in
@@ -184,7 +187,6 @@ row_small o s row allowed set is =
     let longest =
     mul-le s.threads MOST_NANOSECONDS 256 MOST_NANOSECONDS threads.high (le_refl _) in
     record {
-      some = omega arith;
       operations = omega arith;
       lookups = omega arith;
       busy = omega arith;

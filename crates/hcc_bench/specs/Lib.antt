@@ -14,4 +14,6 @@ pub mod Sizes
 pub mod Stages
 pub mod Status
 pub mod Times
+pub mod Told
+pub mod Warms
 pub mod Workers

@@ -16,9 +16,9 @@ padded digits n = padded_integral (format_spec 32 0 4 digits (2 ^ 64 - 1)) false
 abbrev pub rate_of : (operations nanoseconds : ℕ) → ℕ
 rate_of operations nanoseconds = operations * BILLION / max nanoseconds 1
 
--- how many thousandths of a nanosecond each takes
+-- how many thousandths of a nanosecond each takes, or all of them where there is none
 abbrev pub each_of : (operations nanoseconds : ℕ) → ℕ
-each_of operations nanoseconds = nanoseconds * 1000 / operations
+each_of operations nanoseconds = nanoseconds * 1000 / max operations 1
 
 -- the name of a case, in quotes
 abbrev pub case_text : Case → List ℕ
@@ -85,7 +85,6 @@ check_text row =
 
 -- What is written of a row stays within a word.
 pub record IsSmall (row : Row) : Type 0 where
-  pub some : 1 ≤ row.operations
   pub operations : row.operations ≤ MOST_THREADS * MOST_OPERATIONS
   pub lookups : row.counts.hits + row.counts.misses ≤ row.operations
   pub busy : row.counts.busy ≤ MOST_THREADS * MOST_NANOSECONDS

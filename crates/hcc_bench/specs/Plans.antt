@@ -1,7 +1,7 @@
 -- What each case makes of a cache of so many slots in all.
 use Rattle.std.specs.Prelude.{ℕ, ◌+◌, ◌*◌, ◌/◌, ◌≤◌, true, false}
 use Rattle.hcc_bench.specs.declared.case.Case.{Case}
-use Rattle.hcc_bench.specs.declared.case.Case.TheVariants.{HitsZipf, HitsUniform, Mix, Evict, Pinned, Misses, Hot, BlocksSeeded, BlocksUnseeded}
+use Rattle.hcc_bench.specs.declared.case.Case.TheVariants.{HitsZipf, HitsUniform, Mix, Evict, Pinned, Misses, Hot, BlocksSeeded, BlocksUnseeded, Save, Load}
 use Rattle.hcc_bench.specs.declared.limits.TheConstants.{MOST_KEYS}
 use Rattle.hcc_bench.specs.declared.plan.Plan.{Plan}
 use Rattle.hcc_bench.specs.declared.plan.Shape.TheVariants.{Zipf, Uniform}
@@ -49,6 +49,8 @@ plan_of Misses slots = record (half_of slots) { first = slots / 2 }
 plan_of Hot slots = record (half_of slots) { keys = 1 }
 plan_of BlocksSeeded slots = record (half_of slots) { work = Read }
 plan_of BlocksUnseeded slots = record (half_of slots) { work = Read; seeded = false }
+plan_of Save slots = full_of slots
+plan_of Load slots = full_of slots
 
 -- There is a key to be drawn, and there are no more keys than may be drawn from.
 pub record IsWithin (plan : Plan) : Type 0 where

@@ -3,7 +3,7 @@ use Rattle.std.specs.Prelude.{◌≡◌, ℕ, ◌*◌, ◌+◌, ◌≤◌, true,
 use Rattle.hcc_cache.specs.declared.cache.Cache.{Cache}
 use Rattle.hcc_cache.specs.Configs.{is_within}
 use Rattle.hcc_bench.specs.declared.case.Case.{Case}
-use Rattle.hcc_bench.specs.declared.case.Case.TheVariants.{HitsZipf, HitsUniform, Mix, Evict, Pinned, Misses, Hot, BlocksSeeded, BlocksUnseeded}
+use Rattle.hcc_bench.specs.declared.case.Case.TheVariants.{HitsZipf, HitsUniform, Mix, Evict, Pinned, Misses, Hot, BlocksSeeded, BlocksUnseeded, Save, Load}
 use Rattle.hcc_bench.specs.declared.limits.TheConstants.{MOST_SIZE, MOST_THREADS, MOST_NANOSECONDS}
 use Rattle.hcc_bench.specs.declared.measure.Row.{Row}
 use Rattle.hcc_bench.specs.declared.measure.Setting.{Setting}
@@ -36,6 +36,8 @@ lookups_in Misses operations = operations
 lookups_in Hot operations = operations
 lookups_in BlocksSeeded operations = operations
 lookups_in BlocksUnseeded operations = operations
+lookups_in Save operations = 0
+lookups_in Load operations = 0
 
 -- On one cache each thread made the operations of a case, and a row tells what they came to: their
 -- counts in sum, and the nanoseconds of the whole span of all.

@@ -5,3 +5,7 @@ use Rattle.hcc_bench.specs.declared.tag.OfSize.{OfSize}
 
 abbrev pub fits_size : OfSize → Key → List ℕ → Type 0
 fits_size tag key value = length value ≡ tag.size
+
+-- the tag that values of this size fit
+abbrev pub of_size : (size : ℕ) → OfSize
+of_size size = record { size = size }

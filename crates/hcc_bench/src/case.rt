@@ -1,7 +1,7 @@
 //! The cases that are measured, and their names.
 ghost use Rattle.std.specs.Prelude.{◌≡◌, IfSome, IfNone};
 ghost use Rattle.hcc_bench.specs.declared.case.Case.{Case};
-ghost use Rattle.hcc_bench.specs.Cases.{name_of};
+ghost use Rattle.hcc_bench.specs.Cases.{is_warm, name_of};
 
 /// What is measured.
 #[derive(Clone, Copy, Debug, PartialEq, Eq)]
@@ -25,10 +25,14 @@ pub enum Case {
     BlocksSeeded,
     /// The same, where their keys aren't seeded.
     BlocksUnseeded,
+    /// How a closed cache is saved.
+    Save,
+    /// How a cache begins with what was saved.
+    Load,
 }
 
 /// All cases, in the order in which they are measured.
-pub const CASES: [Case; 9] = [
+pub const CASES: [Case; 11] = [
     Case::HitsZipf,
     Case::HitsUniform,
     Case::Mix,
@@ -38,10 +42,12 @@ pub const CASES: [Case; 9] = [
     Case::Hot,
     Case::BlocksSeeded,
     Case::BlocksUnseeded,
+    Case::Save,
+    Case::Load,
 ];
 
 /// Their names, and the one that stands for all.
-pub const NAMES: [&str; 10] = [
+pub const NAMES: [&str; 12] = [
     "all",
     "hits-zipf",
     "hits-uniform",
@@ -52,6 +58,8 @@ pub const NAMES: [&str; 10] = [
     "hot",
     "blocks-seeded",
     "blocks-unseeded",
+    "save",
+    "load",
 ];
 
 impl Case {
@@ -69,6 +77,8 @@ impl Case {
             Case::Hot => "hot",
             Case::BlocksSeeded => "blocks-seeded",
             Case::BlocksUnseeded => "blocks-unseeded",
+            Case::Save => "save",
+            Case::Load => "load",
         }
     }
 
@@ -87,7 +97,19 @@ impl Case {
             "hot" => Some(Case::Hot),
             "blocks-seeded" => Some(Case::BlocksSeeded),
             "blocks-unseeded" => Some(Case::BlocksUnseeded),
+            "save" => Some(Case::Save),
+            "load" => Some(Case::Load),
             _ => None,
+        }
+    }
+
+    /// Whether it measures a warm start: once, on one thread.
+    pub fn is_warm(self) -> bool
+        ensures { result ≡ is_warm self }
+    {
+        match self {
+            Case::Save | Case::Load => true,
+            _ => false,
         }
     }
 }

@@ -26,11 +26,14 @@ by 1, 2 and 4 threads.
   blocks-seeded    block keys that fit in the cache, inserted where they aren't
                    there, under a seed
   blocks-unseeded  the same, with no seed
+  save             the image of a full cache that is closed, on one thread
+  load             a cache that begins with that image, likewise
 
 Each line has the case, the size, the threads, the operations of all threads, the
 seconds from the first one's begin to the last one's end, operations in a second,
 nanoseconds of an operation as its thread sees it, hits, misses and evictions,
-and the books of the closed cache: what its usage words say, the charges of its
+or the entries saved, loaded and left out, which are the operations of save and
+load, and the books of the cache that was closed last: what its usage words say, the charges of its
 entries, what its occupancy words say, and how many slots have an entry.
 
 Exit status: 0 done; 2 the arguments were refused; 3 a write or the clock failed;

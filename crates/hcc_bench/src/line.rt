@@ -38,7 +38,7 @@ pub fn check_text(alloc: Global, row: Row) -> Result<String, AllocError>
 
 /// The case, the size of the values, and how many threads and operations there were.
 #[tactic(auto, unfolding(crate::specs::Lines::setting_text))]
-fn push_setting(text: &mut String, row: Row) -> Result<(), AllocError>
+pub(crate) fn push_setting(text: &mut String, row: Row) -> Result<(), AllocError>
     ensures { OnOk result
         (string_bytes text.new ≡ string_bytes text.old ++ setting_text row) }
 {
@@ -73,7 +73,7 @@ fn push_figures(text: &mut String, row: Row) -> Result<(), AllocError>
 
 /// The seconds by the clock, operations in a second, and nanoseconds of an operation.
 #[tactic(auto, unfolding(crate::specs::Lines::times_text))]
-fn push_times(text: &mut String, row: Row) -> Result<(), AllocError>
+pub(crate) fn push_times(text: &mut String, row: Row) -> Result<(), AllocError>
     requires { IsSmall row }
     ensures { OnOk result
         (string_bytes text.new ≡ string_bytes text.old ++ times_text row) }
@@ -147,7 +147,7 @@ fn push_counts(text: &mut String, row: Row) -> Result<(), AllocError>
 
 /// The books, and the end of the line.
 #[tactic(auto, unfolding(crate::specs::Lines::books_text))]
-fn push_books(text: &mut String, books: Books) -> Result<(), AllocError>
+pub(crate) fn push_books(text: &mut String, books: Books) -> Result<(), AllocError>
     ensures { OnOk result
         (string_bytes text.new ≡ string_bytes text.old ++ books_text books) }
 {
@@ -172,11 +172,11 @@ fn per_second(operations: u64, nanoseconds: u64) -> u64
     operations * BILLION / nanoseconds.max(1)
 }
 
-/// How many thousandths of a nanosecond each of so many operations takes, rounded down.
+/// How many thousandths of a nanosecond each of so many operations takes, rounded down; all of them
+/// where there is no operation.
 fn thousandths_of_each(operations: u64, nanoseconds: u64) -> u64
-    requires some { 1 ≤ operations }
-    requires few { nanoseconds ≤ MOST_THREADS * MOST_NANOSECONDS }
+    requires { nanoseconds ≤ MOST_THREADS * MOST_NANOSECONDS }
     ensures { result ≡ each_of operations nanoseconds }
 {
-    nanoseconds * 1000 / operations
+    nanoseconds * 1000 / operations.max(1)
 }

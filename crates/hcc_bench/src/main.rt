@@ -19,6 +19,8 @@ mod run;
 mod status;
 mod tag;
 mod times;
+mod warm;
+mod warm_line;
 mod worker;
 mod zipf;
 

@@ -1,11 +1,14 @@
 //! Measures one case, with values of one size, by so many threads.
 ghost use Rattle.std.specs.Prelude.{◌≡◌, ◌≤◌, IfOk, Ok, true, length};
+ghost use Rattle.hcc_cache.specs.Closings.{IsClosed};
 ghost use Rattle.hcc_cache.specs.Configs.{checked, is_power_within};
+ghost use Rattle.hcc_cache.specs.Opened.{IsCacheOf};
 ghost use Rattle.hcc_core.specs.declared.limits.TheConstants.{MOST_SLOTS};
 ghost use Rattle.hcc_rule.specs.declared.layout.TheConstants.{FEWEST_SLOTS};
 ghost use Rattle.hcc_bench.specs.Lists.{EachAt};
 ghost use Rattle.hcc_bench.specs.Options.{IsAllowed};
 ghost use Rattle.hcc_bench.specs.Rows.{IsRow, IsSetting};
+ghost use Rattle.hcc_bench.specs.Sizes.{fits_size, of_size};
 ghost use Rattle.hcc_bench.specs.Stages.{config_of, slots_of, IsStaged};
 ghost use Rattle.hcc_bench.specs.Workers.{IsIdle};
 
@@ -122,7 +125,7 @@ pub fn measured<R: Threads + Clock + Sync>(
 }
 
 /// How many slots each shard has.
-fn slots_of(options: &Options, case: Case) -> u32
+pub(crate) fn slots_of(options: &Options, case: Case) -> u32
     requires { IsAllowed options.now }
     ensures exact { result ≡ slots_of case options.now.slots }
     ensures power { is_power_within FEWEST_SLOTS MOST_SLOTS result ≡ true }
@@ -136,7 +139,7 @@ fn slots_of(options: &Options, case: Case) -> u32
 
 /// The sizes of the cache: with a client for each thread, and one that fills it. Charges never
 /// limit it.
-fn config_of(options: &Options, setting: Setting, slots: u32, plan: Plan) -> Config
+pub(crate) fn config_of(options: &Options, setting: Setting, slots: u32, plan: Plan) -> Config
     requires options { IsAllowed options.now }
     requires setting { IsSetting setting }
     requires slots { is_power_within FEWEST_SLOTS MOST_SLOTS slots ≡ true }
@@ -159,16 +162,17 @@ fn config_of(options: &Options, setting: Setting, slots: u32, plan: Plan) -> Con
 
 /// A new cache, a client for each thread, and the one that fills it.
 #[derive(Drop)]
-struct Stage {
-    cache: Cache<OfSize>,
-    clients: Vec<Client<OfSize>>,
-    keeper: Client<OfSize>,
+pub(crate) struct Stage {
+    pub cache: Cache<OfSize>,
+    pub clients: Vec<Client<OfSize>>,
+    pub keeper: Client<OfSize>,
 }
 
 /// A new cache of these sizes, whose values have so many bytes. It is refused only where memory is.
-fn opened(alloc: Global, config: Config, size: u32) -> Result<Stage, AllocError>
+pub(crate) fn opened(alloc: Global, config: Config, size: u32) -> Result<Stage, AllocError>
     requires { checked config ≡ Ok tt }
-    ensures { IfOk result (IsStaged config size) }
+    ensures staged { IfOk result (IsStaged config size) }
+    ensures cache { IfOk result (λ stage. IsCacheOf config (of_size size) stage.cache) }
 {
     let Ok((cache, mut clients)) = Cache::new(alloc, config, OfSize { size }) else {
         return Err(AllocError);
@@ -182,9 +186,10 @@ fn opened(alloc: Global, config: Config, size: u32) -> Result<Stage, AllocError>
 }
 
 /// Closes a cache whose clients are all back, and hold nothing.
-fn closed(cache: Cache<OfSize>, clients: Vec<Client<OfSize>>) -> Closed
+pub(crate) fn closed(cache: Cache<OfSize>, clients: Vec<Client<OfSize>>) -> Closed
     requires back { cache.geometry.clients ≤ length clients.items }
     requires idle { EachAt (λ k client. IsIdle cache client) clients.items }
+    ensures { IsClosed fits_size cache clients.items result }
 {
     match cache.close(clients) {
         Ok(closed) => closed,

@@ -106,5 +106,6 @@ pub fn plan_of(case: Case, slots: u32) -> Plan
             seeded: false,
             ..half
         },
+        Case::Save | Case::Load => full,
     }
 }

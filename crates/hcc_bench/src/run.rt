@@ -1,9 +1,10 @@
 //! Does what the words ask for, over any runtime.
-ghost use Rattle.std.specs.Prelude.{◌≡◌, IfOk, true};
+ghost use Rattle.std.specs.Prelude.{◌≡◌, IfOk, string_bytes, true};
 ghost use Rattle.hcc_cache.specs.Configs.{is_within};
 ghost use Rattle.hcc_bench.specs.declared.limits.TheConstants.{MOST_SIZE};
 ghost use Rattle.hcc_bench.specs.Options.{IsAllowed};
 ghost use Rattle.hcc_bench.specs.Rows.{IsSetting};
+ghost use Rattle.hcc_bench.specs.Told.{IsLine, IsWarmLine};
 
 use crate::case::Case;
 use crate::cli::{command, options_of};
@@ -11,6 +12,8 @@ use crate::line::{check_text, row_text};
 use crate::measure::{BenchError, Setting, measured};
 use crate::options::Options;
 use crate::status::{Status, status_of};
+use crate::warm::warmed;
+use crate::warm_line::{warm_check_text, warm_text};
 use clap::Error;
 use clap::error::ErrorKind;
 use std::io;
@@ -73,7 +76,7 @@ fn bench<R: AllocGlobal + Print + Eprint + Threads + Clock + Sync>(
     Status::Done
 }
 
-/// The same, of one case and one size.
+/// The same, of one case and one size. A warm start is measured once.
 #[tactic(auto, using(crate::proofs::Measuring::within_less))]
 fn by_threads<R: AllocGlobal + Print + Eprint + Threads + Clock + Sync>(
     rt: &R,
@@ -95,7 +98,7 @@ fn by_threads<R: AllocGlobal + Print + Eprint + Threads + Clock + Sync>(
                 threads,
             },
         );
-        if status != Status::Done || threads >= options.threads {
+        if status != Status::Done || case.is_warm() || threads >= options.threads {
             return status;
         }
         threads = (2 * threads).min(options.threads);
@@ -103,7 +106,6 @@ fn by_threads<R: AllocGlobal + Print + Eprint + Threads + Clock + Sync>(
 }
 
 /// Measures one setting, and writes its line.
-#[tactic(auto, using(crate::proofs::Measuring::row_small))]
 fn one<R: AllocGlobal + Print + Eprint + Threads + Clock + Sync>(
     rt: &R,
     options: &Options,
@@ -112,19 +114,55 @@ fn one<R: AllocGlobal + Print + Eprint + Threads + Clock + Sync>(
     requires options { IsAllowed options.now }
     requires setting { IsSetting setting }
 {
-    let row = match measured(rt, rt.alloc(), options, setting) {
-        Ok(row) => row,
-        Err(error) => return told(rt, error),
-    };
-    let text = if options.check {
-        check_text(rt.alloc(), row)
+    let text = if setting.case.is_warm() {
+        warm_line(rt, options, setting)
     } else {
-        row_text(rt.alloc(), row)
+        line(rt, options, setting)
     };
-    let Ok(text) = text else {
-        return told(rt, BenchError::OutOfMemory);
+    match text {
+        Ok(text) => written(rt, rt.write_all(text.as_bytes())),
+        Err(error) => told(rt, error),
+    }
+}
+
+/// Measures the operations of a setting: their line.
+#[tactic(auto, using(crate::proofs::Measuring::row_small))]
+fn line<R: AllocGlobal + Threads + Clock + Sync>(
+    rt: &R,
+    options: &Options,
+    setting: Setting,
+) -> Result<String, BenchError>
+    requires options { IsAllowed options.now }
+    requires setting { IsSetting setting }
+    ensures { IfOk result (λ text. IsLine options.now setting (string_bytes text)) }
+{
+    let row = measured(rt, rt.alloc(), options, setting)?;
+    let text = if options.check {
+        check_text(rt.alloc(), row)?
+    } else {
+        row_text(rt.alloc(), row)?
     };
-    written(rt, rt.write_all(text.as_bytes()))
+    Ok(text)
+}
+
+/// Measures a warm start: its line.
+#[tactic(auto, using(crate::proofs::Warming::warm_small))]
+fn warm_line<R: AllocGlobal + Clock>(
+    rt: &R,
+    options: &Options,
+    setting: Setting,
+) -> Result<String, BenchError>
+    requires options { IsAllowed options.now }
+    requires setting { IsSetting setting }
+    ensures { IfOk result (λ text. IsWarmLine options.now setting (string_bytes text)) }
+{
+    let warm = warmed(rt, rt.alloc(), options, setting)?;
+    let text = if options.check {
+        warm_check_text(rt.alloc(), warm)?
+    } else {
+        warm_text(rt.alloc(), warm)?
+    };
+    Ok(text)
 }
 
 /// Reports why nothing was measured.

@@ -9,11 +9,14 @@ use Rattle.hcc_cache.specs.declared.errors.InsertError.{InsertError}
 use Rattle.hcc_cache.specs.declared.errors.InsertError.TheVariants.{Spent, TooLarge}
 use Rattle.hcc_cache.specs.declared.handle.Handle.{Handle}
 use Rattle.hcc_cache.specs.declared.inserting.Inserted.{Inserted}
+use Rattle.hcc_cache.specs.declared.inserting.Inserted.TheVariants.{Placed}
 use Rattle.hcc_cache.specs.declared.priority.Priority.TheVariants.{Low}
 use Rattle.hcc_cache.specs.Calls.{CountsAt, CountsBy, Finds, GivesUp, Misses, OnlyAt, Reads}
 use Rattle.hcc_cache.specs.Calls.{Releases, SearchesFor, TakesAtMost, TakesFor, shard_in}
 use Rattle.hcc_cache.specs.Clients.{held_by, held_of}
 use Rattle.hcc_cache.specs.Inserts.{Inserts, InsertsAt}
+use Rattle.hcc_cache.specs.Moments.{KnowsShown}
+use Rattle.hcc_cache.specs.Stays.{Stays}
 use Rattle.hcc_block.specs.declared.reader.BlockReader.{BlockReader}
 use Rattle.hcc_block.specs.declared.reader.ReadError.{ReadError}
 use Rattle.hcc_block.specs.declared.reader.ReadError.TheVariants.{NoSuchBlock, SourceFault}
@@ -71,11 +74,14 @@ module _ {T : Type 0} (cache : Cache T) where
       pub searched : SearchesFor cache fits key (Some handle) old found
       pub counts : CountsAt (shard_in cache key) old found
       pub visits : TakesFor cache 7 (λ v w. 0) (shard_in cache key) old found
+      pub looks : Stays cache old found
       pub reads : Reads cache found was
+      pub copies : Stays cache found was
       pub takes : TakesAtMost (words_for (length finds.found.entry.value) + 1) found was
       pub releases : Releases cache handle false freed was new
       pub gives : GivesUp cache handle true false freed was new
       pub counts_last : CountsBy handle was new
+      pub lets_go : freed ≡ false → Stays cache was new
 
     -- no look-up may be made, or one found no entry of the key
     abbrev pub Lacks : (fits : T → Key → List ℕ → Type 0) → (old new : Client T) → Type 0
@@ -83,7 +89,7 @@ module _ {T : Type 0} (cache : Cache T) where
         (IsRefused old × (new ≡ old))
         ⊎ (Misses cache key old new × SearchesFor cache fits key None old new
         × CountsAt (shard_in cache key) old new
-        × TakesFor cache 7 (λ v w. 0) (shard_in cache key) old new)
+        × TakesFor cache 7 (λ v w. 0) (shard_in cache key) old new × Stays cache old new)
 
     -- The value was handed to an insertion, with its length as the charge and priority Low: what
     -- that left, what it did at the shard of the key, and that it did nothing else.
@@ -95,6 +101,7 @@ module _ {T : Type 0} (cache : Cache T) where
           ↔ ((0 < old.left) × (cache.strict ≡ true) × (cache.capacity < length value))
       pub inserts : Inserts cache key (length value) Low value answer old new
       pub evicts : InsertsAt cache fits key (length value) Low answer old new
+      pub shown : cache.geometry.clients ≡ 1 → answer ≡ Ok Placed → KnowsShown cache key new
       pub others : OnlyAt (shard_in cache key) old new
       pub frees : 0 < old.left → (cache.strict ≡ true → length value ≤ cache.capacity)
           → TakesFor cache 7 (inserting_between cache.geometry.slots cache.geometry.room)

@@ -50,7 +50,6 @@ impl Session {
         ensures gets { GetsValue key useful result buffer.old buffer.new self.old self.new }
     {
         let got = self.cache.get(&mut self.client, key, buffer, useful);
-        self.counts.get(got);
-        got
+        self.counts.get(got)
     }
 }

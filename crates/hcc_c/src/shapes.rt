@@ -1,5 +1,6 @@
 //! What crosses to C by value or by reference, in C's layout.
 ghost use Rattle.std.specs.Prelude.{◌≡◌, ◌^◌, ◌<◌, Ok};
+ghost use Rattle.hcc_cache.specs.Totals.{with_count};
 ghost use Rattle.hcc_c.specs.Counts.{counted_get, counted_insert, counted_pinned, no_counts, one_hit, one_miss};
 ghost use Rattle.hcc_c.specs.Shapes.{config_of, entry_of, key_of, number_of, numbers_in, stats_of, words_of};
 
@@ -194,23 +195,31 @@ impl Counts {
     pub(crate) fn hit(&mut self)
         ensures { self.new ≡ one_hit self.old }
     {
-        self.hits = self.hits.saturating_add(1);
+        one_more(&mut self.hits);
     }
 
     pub(crate) fn miss(&mut self)
         ensures { self.new ≡ one_miss self.old }
     {
-        self.misses = self.misses.saturating_add(1);
+        one_more(&mut self.misses);
     }
 
-    /// Counts a reading by a key.
-    pub(crate) fn get(&mut self, got: Got)
-        ensures { self.new ≡ counted_get got self.old }
+    /// Counts a reading by a key, and returns what came of it.
+    pub(crate) fn get(&mut self, got: Got) -> Got
+        ensures counted { self.new ≡ counted_get got self.old }
+        ensures same { result ≡ got }
     {
+        // Built anew in each arm, so that the caller's match on it costs no test of its own.
         match got {
-            Got::Hit(_) => self.hit(),
-            Got::Miss => self.miss(),
-            Got::Short(_) => (),
+            Got::Hit(count) => {
+                self.hit();
+                Got::Hit(count)
+            }
+            Got::Short(count) => Got::Short(count),
+            Got::Miss => {
+                self.miss();
+                Got::Miss
+            }
         }
     }
 
@@ -219,10 +228,10 @@ impl Counts {
         ensures { self.new ≡ counted_insert (Ok answer) self.old }
     {
         match answer {
-            Ok(Inserted::Placed) => self.placed = self.placed.saturating_add(1),
-            Ok(Inserted::Dropped) => self.dropped = self.dropped.saturating_add(1),
-            Ok(Inserted::Standalone) => self.standalone = self.standalone.saturating_add(1),
-            Err(_) => self.refused = self.refused.saturating_add(1),
+            Ok(Inserted::Placed) => one_more(&mut self.placed),
+            Ok(Inserted::Dropped) => one_more(&mut self.dropped),
+            Ok(Inserted::Standalone) => one_more(&mut self.standalone),
+            Err(_) => one_more(&mut self.refused),
         }
     }
 
@@ -233,6 +242,16 @@ impl Counts {
             Ok((_, inserted)) => self.insert(Ok(inserted)),
             Err(why) => self.insert(Err(why)),
         }
+    }
+}
+
+/// Counts one more, up to the greatest number.
+#[inline(always)]
+fn one_more(count: &mut u64)
+    ensures { count.new ≡ with_count count.old 1 }
+{
+    if let Some(more) = count.checked_add(1) {
+        *count = more;
     }
 }
 

@@ -7,6 +7,7 @@ use Rattle.hcc_core.specs.declared.limits.TheConstants.{MOST_HANDLES, STAMPS_PER
 use Rattle.hcc_core.proofs.ListLemmas.{read_here, read_other, read_same}
 use Rattle.hcc_core.proofs.SumLemmas.{total-member}
 use Rattle.hcc_rule.specs.declared.view.View.{View}
+use Rattle.hcc_rule.specs.Views.{Each}
 use Rattle.hcc_table.specs.Rises.{Rose}
 use Rattle.hcc_table.specs.Steps.{MakesFor}
 use Rattle.hcc_shard.specs.declared.seat.ShardSeat.{ShardSeat}
@@ -19,8 +20,8 @@ use Rattle.hcc_cache.specs.declared.client.Client.{Client}
 use Rattle.hcc_cache.specs.declared.seeded.Seeded.{Seeded}
 use Rattle.hcc_cache.specs.Calls.{AtShard, CountsNone, DoesAt, OnlyAt, TakesAtMost, TakesFor, Works, counts_by}
 use Rattle.hcc_cache.specs.Clients.{view_by}
-use Rattle.hcc_cache.specs.Known.{AreHeld, IsSeated, Knows, records_at}
-use Rattle.hcc_cache.proofs.Seats.{seated_set, steps_set, view_else, view_here}
+use Rattle.hcc_cache.specs.Known.{AreHeld, IsHome, IsSeated, Knows, records_at}
+use Rattle.hcc_cache.proofs.Seats.{home_set, seated_set, steps_set, view_else, view_here}
 
 module _ {T : Type 0} where
   -- what a client works with: at this shard, where it has this seat
@@ -60,6 +61,11 @@ module _ {T : Type 0} where
     -- the seat there is one of the client
     pub seated_at : IsSeated shard old.number old.used was
     seated_at = at.knows.seated.each i shard was at.shard_is at.seat_is
+
+    -- what it made there is of this shard, where it made nothing since
+    pub home_kept : (view_of is).made ≡ (view_of was).made
+        → Each (IsHome cache.seed (length old.seats.items) i) (view_of is).made
+    home_kept same = rw same (at.knows.homes i was at.seat_is)
 
     -- the next serial may be handed there
     pub next_at : 0 < old.left → IsNext old.used (view_of was)
@@ -149,15 +155,17 @@ module _ {T : Type 0} where
 
       -- The cache knows the client still, where the seat is one of it, and it keeps what it holds.
       pub knows_at : old.used ≤ new.used → IsSeated shard old.number new.used is
+          → Each (IsHome cache.seed (length old.seats.items) i) (view_of is).made
           → AreHeld cache.seed new.used new.seats.items new.handles new.alone
           → new.held ≡ slab_len new.handles → new.held ≤ old.most
           → new.used + new.left ≤ STAMPS_PER_CLIENT → Knows cache new
-      knows_at later seated holds count few serials = record {
+      knows_at later seated homes holds count few serials = record {
         alike = at.knows.alike;
         seated =
             rw (change.seats, change.number)
             (seated_set cache.shards.items old.number old.used new.used old.seats.items i shard is
             later at.knows.seated at.shard_is seated);
+        homes = rw (change.seats) (home_set cache.seed old.seats.items i is at.knows.homes homes);
         holds = holds;
         count = count;
         few = rw (change.most) few;

@@ -9,6 +9,8 @@ use Rattle.hcc_core.proofs.ListLemmas.{read_here, read_other}
 use Rattle.hcc_rule.specs.declared.image.ImageEntry.{ImageEntry}
 use Rattle.hcc_rule.specs.declared.view.Other.{Other}
 use Rattle.hcc_rule.specs.declared.view.View.{View}
+use Rattle.hcc_rule.specs.Images.{made_from}
+use Rattle.hcc_rule.specs.Views.{Each}
 use Rattle.hcc_rule.proofs.Basics.Lists.{there, within}
 use Rattle.hcc_rule.proofs.Images.Fillings.{made_length}
 use Rattle.hcc_shard.specs.declared.seat.ShardSeat.{ShardSeat}
@@ -20,15 +22,30 @@ use Rattle.hcc_cache.specs.declared.client.Client.{Client}
 use Rattle.hcc_cache.specs.declared.config.Config.{Config}
 use Rattle.hcc_cache.specs.declared.seeded.Seeded.{Seeded}
 use Rattle.hcc_cache.specs.Configs.{IsAllowed}
-use Rattle.hcc_cache.specs.Known.{AreAlike, AreHeld, IsSeated, Knows, records_at, standalones_at}
+use Rattle.hcc_cache.specs.Known.{AreAlike, AreHeld, IsHome, IsSeated, Knows, records_at, standalones_at}
 use Rattle.hcc_cache.specs.Opened.{AreGiven, AreUnseated, Gains, IsUnused}
-use Rattle.hcc_cache.specs.Reopened.{IsStarted, Starts, image_of, most_in, serials_of, share_of}
+use Rattle.hcc_cache.specs.Reopened.{IsHomeEntry, IsStarted, Starts, image_of, most_in, serials_of, share_of}
 use Rattle.hcc_cache.proofs.Dealing.{get_push, new_at, nothing_kept, total_of_zeros, unused_still}
 
 -- a client's share is its own
 share_own : (k : ℕ) (es : List ImageEntry) → (share_of k es).client ≡ k
 share_own zero es = refl
 share_own (suc k) es = refl
+
+-- Where each entry with which a shard begins has a key of it, so has what client 0 made,
+from_home : (seed shards number serial : ℕ) (es : List ImageEntry)
+    → Each (IsHomeEntry seed shards number) es
+    → Each (IsHome seed shards number) (made_from serial es)
+from_home seed shards number serial [] all = tt
+from_home seed shards number serial (e ∷ es) all =
+    (all.0, from_home seed shards number (serial + 1) es all.1)
+
+-- and each client's share.
+share_home : (seed shards number k : ℕ) (es : List ImageEntry)
+    → Each (IsHomeEntry seed shards number) es
+    → Each (IsHome seed shards number) (share_of k es).made
+share_home seed shards number zero es all = from_home seed shards number 0 es all
+share_home seed shards number (suc k) es all = tt
 
 module _ {T A : Type 0} where
   -- Each of the seats of a shard that begins with entries is that of its client.
@@ -184,12 +201,13 @@ module _ {T : Type 0} (config : Config) (cache : Cache T) (k : ℕ) (client : Cl
     (is : IsStarted config cache.shards.items k client) where
   -- Each seat of such a client is one of some shard.
   seat_of : (s : ℕ) (seat : ShardSeat (Seeded T)) → slice_get client.seats.items s ≡ Some seat
-      → (shard : Shard (Seeded T) Global) × IsBegun shard (share_of k (image_of shard)) seat
+      → (shard : Shard (Seeded T) Global) × (slice_get cache.shards.items s ≡ Some shard)
+      × IsBegun shard (share_of k (image_of shard)) seat
   seat_of s seat at =
       let inside = within client.seats.items s seat at in
       let count = is.count in
       let found = there cache.shards.items s (omega arith) in
-      (found.0, is.seats s found.0 seat found.1 at)
+      (found.0, found.1, is.seats s found.0 seat found.1 at)
 
   -- It holds nothing.
   begun_holds : AreHeld cache.seed client.used client.seats.items client.handles client.alone
@@ -199,11 +217,11 @@ module _ {T : Type 0} (config : Config) (cache : Cache T) (k : ℕ) (client : Cl
       let no_records : total records_at client.seats.items ≡ 0 =
       total_of_zeros records_at client.seats.items (λ s seat at.
       let one = seat_of s seat at in
-      ap length (begun_records one.0 (share_of k (image_of one.0)) seat one.1)) in
+      ap length (begun_records one.0 (share_of k (image_of one.0)) seat one.2)) in
       let no_standalones : total standalones_at client.seats.items ≡ 0 =
       total_of_zeros standalones_at client.seats.items (λ s seat at.
       let one = seat_of s seat at in
-      ap length (begun_standalones one.0 (share_of k (image_of one.0)) seat one.1)) in
+      ap length (begun_standalones one.0 (share_of k (image_of one.0)) seat one.2)) in
       record {
         each = λ index hold h. absurd (nothing_kept client.handles index hold handles h);
         apart = λ p q h j hp hq e. absurd (nothing_kept client.handles p h handles hp);
@@ -214,10 +232,12 @@ module _ {T : Type 0} (config : Config) (cache : Cache T) (k : ℕ) (client : Cl
         references = rw (handles, alone) refl;
       }
 
-  -- It is known to the cache.
+  -- It is known to the cache, where each shard began with entries of its own.
   pub begun_known : IsAllowed config → AreAlike cache → most_in cache.shards.items ≤ MOST_SLOTS
+      → ((s : ℕ) (shard : Shard (Seeded T) Global) → slice_get cache.shards.items s ≡ Some shard
+      → Each (IsHomeEntry cache.seed (length cache.shards.items) s) (image_of shard))
       → Knows cache client
-  begun_known allowed alike low =
+  begun_known allowed alike low home =
       let held = is.held in
       let most = is.most in
       let used = is.used in
@@ -234,6 +254,13 @@ module _ {T : Type 0} (config : Config) (cache : Cache T) (k : ℕ) (client : Cl
               (begun_seated shard k client.used (share_of k (image_of shard)) seat
               (is.seats s shard seat hd hs) (share_own k (image_of shard)) (omega arith));
         };
+        homes = λ s seat at.
+            let one = seat_of s seat at in
+            let made : (view_of seat).made ≡ (share_of k (image_of one.0)).made =
+            ap (λ (v : View (Seeded T)). v.made) one.2.fresh in
+            rw (made, is.count)
+            (share_home cache.seed (length cache.shards.items) s k (image_of one.0)
+            (home s one.0 one.1));
         holds = begun_holds;
         count = held ∙ rw is.handles refl;
         few = omega arith;

@@ -263,6 +263,11 @@ module _ {T : Type 0} where
               rw unused.number_is
               (new_seated shard k client.used seat (dealt.seats s shard seat hd hs));
         };
+        homes = λ s seat at.
+            let new = new_of config cache.shards.items k client s seat dealt at in
+            let none : (view_of seat).made ≡ [] =
+            ap (λ (v : View (Seeded T)). v.made) new.1.fresh in
+            rw none tt;
         holds = dealt_holds config cache.shards.items cache.seed k client dealt;
         count = held ∙ rw unused.handles refl;
         few = omega arith;

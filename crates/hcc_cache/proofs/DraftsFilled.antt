@@ -15,8 +15,10 @@ use Rattle.hcc_cache.specs.declared.image.Saved.{Saved}
 use Rattle.hcc_cache.specs.Configs.{shard_capacity}
 use Rattle.hcc_cache.specs.Drafts.{AreDrafts, HasFree, IsBlank, IsDraft, IsFilled, Puts, Stands, given, takes}
 use Rattle.hcc_cache.specs.Images.{Visible, visible_from, visible_of}
-use Rattle.hcc_cache.specs.Keys.{key_from}
+use Rattle.hcc_cache.specs.Keys.{IsKeyOf, key_from}
+use Rattle.hcc_cache.specs.Sharding.{key_to, shard_of}
 use Rattle.hcc_cache.specs.Taken.{Split, begun, home_of, is_taken, places_of, split_of, sum_in, with_all}
+use Rattle.hcc_cache.proofs.Dead.{seeded_back}
 use Rattle.hcc_cache.proofs.Placing.{free_there, reached_past, filled_still}
 
 module _ (c : Config) (shard : ℕ) (taken : List Visible) (x : Visible) where
@@ -69,6 +71,7 @@ module _ (c : Config) (shard : ℕ) (taken : List Visible) (x : Visible) where
     holds = λ f. is.holds f ∙ sym (sum_else other (λ (e : Visible). f (begun e)));
     each = λ slot e at.
         stands_still d.places.items d.places.items (λ s taken. taken) slot e (is.each slot e at);
+    belongs = is.belongs;
     few = is.few;
     small = is.small;
     within = is.within;
@@ -76,7 +79,8 @@ module _ (c : Config) (shard : ℕ) (taken : List Visible) (x : Visible) where
 
 module _ (c : Config) (shard : ℕ) (taken : List Visible) (saved : Saved) (old new : Draft)
     (key : Key) (is : IsDraft c taken shard old) (puts : Puts key saved old new)
-    (back : key_from c.seed key ≡ saved.key) (home : home_of c (visible_of saved) ≡ shard)
+    (words : key ≡ key_to c.seed saved.key) (back : key_from c.seed key ≡ saved.key)
+    (home : home_of c (visible_of saved) ≡ shard)
     (small : saved.charge < 2 ^ 32)
     (fits : takes c old saved.charge (length saved.value.items) ≡ true) where
   -- What was put is what was saved.
@@ -159,6 +163,27 @@ module _ (c : Config) (shard : ℕ) (taken : List Visible) (saved : Saved) (old 
                 (IsFilled new.places.items) puts.slot still puts.reached);
           }
 
+  -- Each has a key of the shard.
+  each_belongs : (slot : ℕ) (e : ImageEntry) → slice_get new.places.items slot ≡ Some (Some e)
+      → IsKeyOf c.seed c.shards shard e.key
+  each_belongs slot e at = elim (cases_eq slot puts.slot) [
+    | inl here ↦
+        let read : slice_get new.places.items slot ≡ Some (Some puts.entry) =
+        ap (λ xs. slice_get xs slot) puts.places
+        ∙ ap (slice_get (slice_set old.places.items puts.slot (Some puts.entry))) here
+        ∙ read_here old.places.items puts.slot None (Some puts.entry) puts.free in
+        let entry : puts.entry ≡ e = same_Some _ _ (same_Some _ _ (sym read ∙ at)) in
+        let key = puts.key_is ∙ words in
+        rw (← entry) (
+          ap (λ k. key_to c.seed (key_from c.seed k)) key
+              ∙ (seeded_back c.seed saved.key ∙ sym key),
+          ap (λ k. shard_of k c.shards) key ∙ home,
+        )
+    | inr other ↦
+        is.belongs slot e (sym (ap (λ xs. slice_get xs slot) puts.places
+        ∙ read_other old.places.items puts.slot slot (Some puts.entry) other) ∙ at)
+  ]
+
   -- The draft of the entry's shard has one more.
   pub draft_here : IsDraft c (taken ++ visible_of saved ∷ []) shard new
   draft_here =
@@ -177,6 +202,7 @@ module _ (c : Config) (shard : ℕ) (taken : List Visible) (saved : Saved) (old 
             ∙ (ap (λ n. n + saved.charge) is.charge ∙ sym (more (λ (e : Visible). e.charge)));
         holds = λ f. gives f ∙ sym (more (λ (e : Visible). f (begun e)));
         each = each_stands;
+        belongs = each_belongs;
         few = omega arith;
         small = omega arith;
         within = λ strict. let most = granted c.strict room.1 strict in omega arith;
@@ -212,6 +238,8 @@ drafting_none c all drafts count blank = record {
               refl;
           each = λ slot e there. absurd (nothing c.slots slot e
               (sym (ap (λ xs. slice_get xs slot) is.places) ∙ there));
+          belongs = λ slot e there. absurd (nothing c.slots slot e
+              (sym (ap (λ xs. slice_get xs slot) is.places) ∙ there));
           few = omega arith;
           small = omega arith;
           within = λ strict. omega arith;
@@ -239,13 +267,13 @@ module _ (c : Config) (all : List Visible) (drafts : List Draft) (left rest : Li
 
   -- An entry more is drafted,
   pub drafting_more : (new : Draft) (key : Key) → Puts key saved d new
-      → key_from c.seed key ≡ saved.key → saved.charge < 2 ^ 32
+      → key ≡ key_to c.seed saved.key → key_from c.seed key ≡ saved.key → saved.charge < 2 ^ 32
       → takes c d saved.charge (length saved.value.items) ≡ true
       → IsDrafting c all (slice_set drafts shard new) left rest
-  drafting_more new key puts back small fits =
+  drafting_more new key puts words back small fits =
       let taken = drafting.so_far.taken in
       let is = drafting.drafts_are in
-      let here = draft_here c shard taken saved d new key (is.each shard d at) puts back home
+      let here = draft_here c shard taken saved d new key (is.each shard d at) puts words back home
       small fits in
       let goes = takes_is true fits in
       record {

@@ -1,12 +1,16 @@
 -- The shards of a cache, as they are closed from the last on.
 use Rattle.std.proofs.Common.{◌≡◌, inl, inr, ℕ, ◌+◌, ◌-◌, ◌<◌, ◌≤◌, List, [], ◌∷◌, ◌++◌, Option, Some, None, is_some, length, reverse, take, slice_get, sym, refl, ap, ◌∙◌, length-append, arith}
+use Rattle.std.proofs.lemmas.Option.{same_Some}
 use Rattle.std.proofs.lemmas.List.{length-take-le, take_all, take-take, length-reverse}
 use Rattle.std.specs.declared.alloc.Global.{Global}
 use Rattle.hcc_core.proofs.ListLemmas.{read_last}
 use Rattle.hcc_rule.specs.declared.geometry.Geometry.{Geometry}
 use Rattle.hcc_rule.specs.declared.key.Key.{Key}
 use Rattle.hcc_rule.specs.declared.view.View.{View}
+use Rattle.hcc_core.specs.World.{State}
+use Rattle.hcc_rule.specs.Acts.{IsAllowed, world_of}
 use Rattle.hcc_rule.specs.Closing.{Closes, IsWithin, words_of}
+use Rattle.hcc_rule.specs.Ending.{ShowsWorld}
 use Rattle.hcc_rule.specs.Views.{named_by}
 use Rattle.hcc_rule.specs.Records.{weight_on}
 use Rattle.hcc_rule.proofs.Basics.Lists.{there, within}
@@ -15,6 +19,7 @@ use Rattle.hcc_shard.specs.declared.entries.ClosedShard.{ClosedShard}
 use Rattle.hcc_shard.specs.declared.seat.ShardSeat.{ShardSeat}
 use Rattle.hcc_shard.specs.declared.shard.Shard.{Shard}
 use Rattle.hcc_shard.specs.Callers.{capacity_of, geometry_of, is_strict, plan_of, view_of}
+use Rattle.hcc_shard.specs.Ended.{past_of}
 use Rattle.hcc_shard.proofs.Values.{value_kept}
 use Rattle.hcc_cache.specs.declared.cache.Cache.{Cache}
 use Rattle.hcc_cache.specs.declared.client.Client.{Client}
@@ -22,12 +27,14 @@ use Rattle.hcc_cache.specs.declared.closed.Closed.{Closed}
 use Rattle.hcc_cache.specs.declared.seeded.Seeded.{Seeded}
 use Rattle.hcc_cache.specs.Clients.{view_at, view_by}
 use Rattle.hcc_cache.specs.Closings.{all_joined, views_at, AreBack, HasLast, IsClosed, KeepsFront}
+use Rattle.hcc_cache.specs.Ended.{IsMostKnown, LeavesWorld}
 use Rattle.hcc_cache.specs.Keys.{fits_seeded}
 use Rattle.hcc_cache.specs.Known.{IsSeated}
 use Rattle.hcc_cache.specs.Left.{AreWhole}
 use Rattle.hcc_cache.proofs.Emptied.{holds_nothing}
 use Rattle.hcc_cache.proofs.Joining.{all_named, from_view, views_count, views_same}
 use Rattle.hcc_cache.proofs.Lists.{get_in_take, get_push, get_reverse, get_take}
+use Rattle.hcc_cache.proofs.MostKnown.{known_back}
 use Rattle.hcc_cache.proofs.MadeLists.{made_count, made_joined, records_joined, takings_joined}
 
 -- the number of the shard that was closed as number j
@@ -43,6 +50,15 @@ closes_same : {T : Type 0} (fits : T → Key → List ℕ → Type 0) (tag same_
 closes_same fits tag same_tag geometry same_geometry words v w tags geometries views closes =
     rw (tags, geometries, views) at closes
 
+-- and so it is of the world that words show
+shows_same : {T : Type 0} (fits : T → Key → List ℕ → Type 0) (tag same_tag : Seeded T)
+    (geometry same_geometry : Geometry) (words : List ℕ) (v w : View (Seeded T)) (world : State)
+    → tag ≡ same_tag → geometry ≡ same_geometry → v ≡ w
+    → ShowsWorld (fits_seeded fits) tag geometry words v world
+    → ShowsWorld (fits_seeded fits) same_tag same_geometry words w world
+shows_same fits tag same_tag geometry same_geometry words v w world tags geometries views shows =
+    rw (tags, geometries, views) at shows
+
 module _ {T : Type 0} (fits : T → Key → List ℕ → Type 0) (cache : Cache T)
     (old : List (Client T)) where
   -- what is left of the shard of this number, closed by what the clients know of it
@@ -51,6 +67,8 @@ module _ {T : Type 0} (fits : T → Key → List ℕ → Type 0) (cache : Cache 
     pub closes : Closes (fits_seeded fits) (record { tag = cache.tag; seed = cache.seed })
         cache.geometry (words_of left.table) (all_joined (views_at s old))
     pub within : IsWithin cache.geometry cache.capacity cache.strict (words_of left.table)
+    pub world : (shard : Shard (Seeded T) Global) → slice_get cache.shards.items s ≡ Some shard
+        → LeavesWorld fits cache old s shard left
 
   -- The first shards stand, the others are closed, the last one first, and the clients have the
   -- seats of the first alone.
@@ -180,10 +198,12 @@ module _ {T : Type 0} (fits : T → Key → List ℕ → Type 0) (cache : Cache 
               record { rests = rests; records = nothing.0; standalones = nothing.1 };
         }
 
-    -- They know of it what they knew.
-    last_views : views_at (length shards) now ≡ views_at (length shards) old
-    last_views =
-        views_same (length shards) old now closing.clients (λ k client h.
+    -- They have there the seats that they had,
+    last_seats : (k : ℕ) (client : Client T) → slice_get now k ≡ Some client
+        → (was : Client T) × (slice_get old k ≡ Some was)
+        × (slice_get client.seats.items (length shards)
+        ≡ slice_get was.seats.items (length shards))
+    last_seats k client h =
         let left = closing.left k client h in
         let more = longer in
         let seat = seat_there (length shards) shard stands k left.0 left.1 in
@@ -191,7 +211,14 @@ module _ {T : Type 0} (fits : T → Key → List ℕ → Type 0) (cache : Cache 
         ap (λ xs. slice_get xs (length shards)) left.2
         ∙ get_in_take left.0.seats.items (length (shards ++ shard ∷ [])) (length shards) seat.0
         (omega arith) seat.1 in
-        (left.0, left.1, ap view_by (here ∙ sym seat.1)))
+        (left.0, left.1, here ∙ sym seat.1)
+
+    -- and know of it what they knew.
+    last_views : views_at (length shards) now ≡ views_at (length shards) old
+    last_views =
+        views_same (length shards) old now closing.clients (λ k client h.
+        let left = last_seats k client h in
+        (left.0, left.1, ap view_by left.2))
 
     -- The seat that was joined of theirs has what they knew in common, and names enough clients.
     module _ (seat : ShardSeat (Seeded T)) (some : 1 ≤ length old)
@@ -213,15 +240,31 @@ module _ {T : Type 0} (fits : T → Key → List ℕ → Type 0) (cache : Cache 
           let enough = back.enough in
           omega arith
 
+      -- What the closing of the shard says of the world that its last seat knows.
+      pub record KnowsLast (left : ClosedShard Global) : Type 0 where
+        pub known : IsMostKnown (length shards) now (length now) (past_of seat)
+        pub allowed : IsAllowed (plan_of shard) (past_of seat)
+        pub shows : ShowsWorld (fits_seeded fits) (plan_of shard).tag (geometry_of shard)
+            (words_of left.table) (view_of seat) (world_of (plan_of shard) (past_of seat))
+
       left_is : (left : ClosedShard Global) → left.table.geometry ≡ geometry_of shard
           → Closes (fits_seeded fits) (plan_of shard).tag (geometry_of shard) (words_of left.table)
           (view_of seat)
           → IsWithin (geometry_of shard) (capacity_of shard) (is_strict shard) (words_of left.table)
-          → IsLeft fits cache old (length shards) left
-      left_is left size closes within = record {
+          → KnowsLast left → IsLeft fits cache old (length shards) left
+      left_is left size closes within last = record {
         size = size ∙ alike.0;
         closes = closes_same fits _ _ _ _ _ _ _ alike.3 alike.0 view_is closes;
         within = rw (← alike.0, ← alike.1, ← alike.2) within;
+        world = λ d at.
+            let same : shard ≡ d = same_Some _ _ (sym stands ∙ at) in
+            rw (← same) (record {
+              history = past_of seat;
+              known = known_back (length shards) old now (past_of seat) closing.clients last_seats
+                  last.known;
+              allowed = last.allowed;
+              shows = shows_same fits _ _ _ _ _ _ _ _ alike.3 alike.0 view_is last.shows;
+            });
       }
 
       -- One more shard is closed.
@@ -234,8 +277,8 @@ module _ {T : Type 0} (fits : T → Key → List ℕ → Type 0) (cache : Cache 
           → Closes (fits_seeded fits) (plan_of shard).tag (geometry_of shard) (words_of left.table)
           (view_of seat)
           → IsWithin (geometry_of shard) (capacity_of shard) (is_strict shard) (words_of left.table)
-          → IsClosing fits cache old shards (closed ++ Some left ∷ []) more
-      closing_more more left count fronts size closes within =
+          → KnowsLast left → IsClosing fits cache old shards (closed ++ Some left ∷ []) more
+      closing_more more left count fronts size closes within last_known =
           let one_more = longer in
           let closed_more = length-append closed (Some left ∷ []) in
           let counted = closing.count in
@@ -258,7 +301,7 @@ module _ {T : Type 0} (fits : T → Key → List ℕ → Type 0) (cache : Cache 
               | inr last ↦
                   let index : length shards ≡ index_of cache j =
                   let e = last.0 in omega arith in
-                  (left, sym last.1, rw index at (left_is left size closes within))
+                  (left, sym last.1, rw index at (left_is left size closes within last_known))
             ];
           }
 
@@ -352,3 +395,8 @@ module _ {T : Type 0} (fits : T → Key → List ℕ → Type 0) (cache : Cache 
           let left_is = (left_of s left (rw same at h)).closes.left in
           omega arith;
     }
+
+    pub worlds_all : (s : ℕ) (shard : Shard (Seeded T) Global) (left : ClosedShard Global)
+        → slice_get cache.shards.items s ≡ Some shard → slice_get items s ≡ Some (Some left)
+        → LeavesWorld fits cache old s shard left
+    worlds_all s shard left at h = (left_of s left h).world shard at

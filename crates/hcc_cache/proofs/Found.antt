@@ -27,7 +27,7 @@ use Rattle.hcc_cache.specs.Clients.{held_entry, pin_of}
 use Rattle.hcc_cache.specs.Keys.{fits_seeded, key_from}
 use Rattle.hcc_cache.specs.Sharding.{key_to, shard_of}
 use Rattle.hcc_cache.specs.Known.{IsSeated, Knows}
-use Rattle.hcc_cache.proofs.At.{ChangesAt, IsAt, did_at, knows_at, seated_at, takes_at, takes_for, works_at}
+use Rattle.hcc_cache.proofs.At.{ChangesAt, IsAt, did_at, home_kept, knows_at, seated_at, takes_at, takes_for, works_at}
 use Rattle.hcc_cache.proofs.Framing.{keeps_all}
 use Rattle.hcc_cache.proofs.Gained.{gains, IsGiven}
 use Rattle.hcc_cache.proofs.Held.{held_rest, stands_rest}
@@ -97,11 +97,13 @@ module _ {T : Type 0} where
         (records : (view_of is).records ≡ (view_of was).records)
         (standalones : (view_of is).work.standalones ≡ (view_of was).work.standalones) where
       -- it is known still, where its seat is one of it
-      pub knows_left : IsSeated shard old.number old.used is → Knows cache new
-      knows_left seated =
+      pub knows_left : IsSeated shard old.number old.used is
+          → (view_of is).made ≡ (view_of was).made → Knows cache new
+      knows_left seated made =
           let count = at.knows.count in
           knows_at cache old new i shard was is at change (rw (left.uses.0) (omega arith))
           (rw (left.uses.0) seated)
+          (home_kept cache old new i shard was is at made)
           (rw (change.seats, left.handles, left.alone, left.uses.0)
           (held_rest cache.seed old.used old.seats.items old.handles old.alone at.knows.holds i
           was is at.seat_is records standalones old.used (omega arith)))
@@ -129,6 +131,7 @@ module _ {T : Type 0} where
         (ap (λ (v : View (Seeded T)). v.work.standalones) sought.searched.same)
         (seated_sought shard old.number old.used was is
         (seated_at cache old new i shard was is at) rests sought.searched sought.records)
+        (ap (λ (v : View (Seeded T)). v.made) sought.searched.same)
 
     -- A look-up makes seven steps at most for each slot that it visits.
     pub looks_at : (before after : Effort)
@@ -206,6 +209,8 @@ module _ {T : Type 0} where
           knows_at cache old new i shard was is at change (omega arith)
           (rw used (seated_more shard old.number old.used was is seated rests searched r joins
           called small))
+          (home_kept cache old new i shard was is at
+          (ap (λ (v : View (Seeded T)). v.made) searched.same))
           (rw (change.seats, alone, used)
           (held_pinned cache.seed old.used old.seats.items old.handles old.alone at.knows.holds i
           was is r at.seat_is joins standalones_same hold slot counting handle.index new.handles

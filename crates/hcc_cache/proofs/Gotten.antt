@@ -1,5 +1,5 @@
 -- A client that read the value of a key.
-use Rattle.std.proofs.Common.{◌≡◌, ℕ, ◌+◌, ◌≤◌, Bool, List, Some, refl, ap, ◌∙◌}
+use Rattle.std.proofs.Common.{◌≡◌, ℕ, Bool, List, Some, refl, ap, ◌∙◌}
 use Rattle.hcc_rule.specs.declared.key.Key.{Key}
 use Rattle.hcc_table.specs.Searched.{Sought}
 use Rattle.hcc_shard.specs.declared.getting.Got.{Got}
@@ -12,7 +12,6 @@ use Rattle.hcc_cache.specs.declared.cache.Cache.{Cache}
 use Rattle.hcc_cache.specs.declared.client.Client.{Client}
 use Rattle.hcc_cache.specs.declared.seeded.Seeded.{Seeded}
 use Rattle.hcc_cache.specs.Calls.{Works, shard_in}
-use Rattle.hcc_cache.specs.Clients.{view_at}
 use Rattle.hcc_cache.specs.Gets.{GetsFor, ReadsOne, SeeksAt}
 use Rattle.hcc_cache.specs.Keys.{fits_seeded, key_from}
 use Rattle.hcc_cache.specs.Sharding.{key_to}

@@ -37,7 +37,7 @@ use Rattle.hcc_cache.specs.Known.{AreCharged, AreHeld, Knows, references_of, sta
 use Rattle.hcc_cache.proofs.Alone.{IsJoined, held_joined, known_of, stands_joined}
 use Rattle.hcc_cache.proofs.At.{ChangesAt, IsAt, knows_at, seated_at, works_at}
 use Rattle.hcc_cache.proofs.Gained.{IsGiven, gains}
-use Rattle.hcc_cache.proofs.Insertions.{IsTried, Leaves, first_record, leaves_pinned, seated_tried, told_as}
+use Rattle.hcc_cache.proofs.Insertions.{IsTried, Leaves, first_record, leaves_pinned, made_home, seated_tried, told_as}
 use Rattle.hcc_cache.proofs.More.{held_pinned, stands_pinned, there_pinned}
 use Rattle.hcc_cache.proofs.Names.{names_later, standings_later}
 use Rattle.hcc_cache.proofs.Slots.{len_within}
@@ -102,13 +102,14 @@ module _ {T : Type 0} (cache : Cache T) (old new : Client T) (i : ℕ) (shard : 
       (kept : Kept) (given : IsGiven old new handle (hold_with old.used key i kept))
       (few : old.held < old.most) where
     -- The client is known still, where its seat is one of it, and it keeps what it holds.
-    knows_given : IsTried (view_of was) (view_of is)
+    knows_given : i ≡ shard_in cache key
+        → IsTried (key_to cache.seed key) (view_of was) (view_of is)
         → Each (λ (r : Record). r.name < old.used + 1) (view_of is).records
         → Each (λ (s : Standalone). s.name < old.used + 1) (view_of is).work.standalones
         → AreCharged (view_of is)
         → AreHeld cache.seed (old.used + 1) new.seats.items new.handles new.alone
         → Knows cache new
-    knows_given tried records standalones charged holds =
+    knows_given here tried records standalones charged holds =
         let seated = seated_at cache old new i shard was is at in
         let used = given.uses.0 in
         let left = given.uses.1 in
@@ -118,22 +119,25 @@ module _ {T : Type 0} (cache : Cache T) (old new : Client T) (i : ℕ) (shard : 
         let serials = at.knows.serials in
         knows_at cache old new i shard was is at change (omega arith)
         (rw used
-        (seated_tried shard old.number old.used was is seated rests tried records standalones
-        charged))
+        (seated_tried shard old.number old.used was is seated rests (key_to cache.seed key) tried
+        records standalones charged))
+        (made_home cache.seed (length old.seats.items) i key (view_of was).made
+        (view_of is).made (at.knows.homes i was at.seat_is) (rw (at.knows.seated.count) (sym here))
+        tried.made)
         (rw used holds) (omega arith) (omega arith) (omega arith)
 
     -- Of an entry of the table.
     module _ (slot : ℕ) (counting : Bool) (r : Record) (alone : new.alone ≡ old.alone)
         (kept_is : kept ≡ Pinned slot counting)
-        (left : Leaves ((view_of was).records ++ r ∷ []) (view_of was).work.standalones
-        (view_of was) (view_of is))
+        (left : Leaves (key_to cache.seed key) ((view_of was).records ++ r ∷ [])
+        (view_of was).work.standalones (view_of was) (view_of is))
         (called : r.name ≡ old.used)
         (of : (r.slot ≡ slot) × (r.weight ≡ 1) × (r.counting ≡ counting))
         (key_is : key_of r.entry ≡ key_to cache.seed key) where
       knows_placed : i ≡ shard_in cache key → r.entry.charge < 2 ^ 32 → Knows cache new
       knows_placed here small =
           let seated = seated_at cache old new i shard was is at in
-          knows_given left.tried
+          knows_given here left.tried
           (rw (left.records_are)
           (each_more (λ (q : Record). q.name < old.used + 1) (view_of was).records r
           (names_later old.used (old.used + 1) (view_of was).records (omega arith) seated.records)
@@ -173,13 +177,13 @@ module _ {T : Type 0} (cache : Cache T) (old new : Client T) (i : ℕ) (shard : 
 
     -- Of a standalone entry.
     module _ (index : ℕ) (a : Alone) (kept_is : kept ≡ Standing index)
-        (tried : IsTried (view_of was) (view_of is))
+        (tried : IsTried (key_to cache.seed key) (view_of was) (view_of is))
         (joined : IsJoined old.used was is old.alone new.alone index a) where
       pub knows_alone : i ≡ shard_in cache key → a.charge < 2 ^ 32 → Knows cache new
       knows_alone here small =
           let seated = seated_at cache old new i shard was is at in
           let called = joined.called in
-          knows_given tried
+          knows_given here tried
           (rw (joined.records)
           (names_later old.used (old.used + 1) (view_of was).records (omega arith)
           seated.records))
@@ -226,7 +230,7 @@ module _ {T : Type 0} (cache : Cache T) (old new : Client T) (i : ℕ) (shard : 
               (shown_entry (view_of was)
               (made_of (pinned_draft cache key charge priority value old) value))
 
-          left_placed : Leaves ((view_of was).records ++ handled ∷ [])
+          left_placed : Leaves (key_to cache.seed key) ((view_of was).records ++ handled ∷ [])
               (view_of was).work.standalones (view_of was) (view_of is)
           left_placed =
               leaves_pinned cache.geometry.slots cache.capacity cache.strict
@@ -260,7 +264,7 @@ module _ {T : Type 0} (cache : Cache T) (old new : Client T) (i : ℕ) (shard : 
 
         -- or it stands alone.
         pub stands_at : (index : ℕ) (a : Alone) → kept ≡ Standing index → a.charge ≡ charge
-            → a.value.items ≡ value → IsTried (view_of was) (view_of is)
+            → a.value.items ≡ value → IsTried (key_to cache.seed key) (view_of was) (view_of is)
             → IsJoined old.used was is old.alone new.alone index a
             → PinnedBy cache.geometry.slots cache.capacity cache.strict
             (pinned_draft cache key charge priority value old) value (Ok pinned.Standalone)

@@ -80,14 +80,14 @@ visible_more seed shards k left here =
     ∙ flat_map_append (visible_in seed) (take k shards) (Some left)
 
 -- What each of a chain of lists has, the chain has.
-each_flat : {X A : Type 0} (P : A → Type 0) (f : X → List A) (xs : List X)
+pub each_flat : {X A : Type 0} (P : A → Type 0) (f : X → List A) (xs : List X)
     → ((k : ℕ) (x : X) → slice_get xs k ≡ Some x → Each P (f x)) → Each P (flat_map f xs)
 each_flat P f [] h = tt
 each_flat P f (x ∷ xs) h =
     each_append P (f x) (flat_map f xs) (h 0 x refl) (each_flat P f xs (λ k y e. h (suc k) y e))
 
 -- What each number of a range has that passes a test, those that pass it have.
-each_passing : {A : Type 0} (P : A → Type 0) (f : ℕ → A) (p : ℕ → Bool) (from n : ℕ)
+pub each_passing : {A : Type 0} (P : A → Type 0) (f : ℕ → A) (p : ℕ → Bool) (from n : ℕ)
     → ((s : ℕ) → s < from + n → p s ≡ true → P (f s))
     → Each P (map f (filter p (range_with_len from n)))
 each_passing P f p from zero h = tt

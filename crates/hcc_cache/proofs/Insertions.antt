@@ -1,11 +1,12 @@
 -- A client that asked one shard for an entry: what it needs, and what it knows afterwards.
-use Rattle.std.proofs.Common.{◌≡◌, ℕ, suc, ◌+◌, ◌*◌, ◌^◌, ◌<◌, ◌≤◌, Bool, true, false, List, [], ◌∷◌, ◌++◌, Some, None, Result, Ok, Err, length, get_or, subst, refl, ap, ◌∙◌, append-nil, arith}
+use Rattle.std.proofs.Common.{◌≡◌, ◌⊎◌, inl, inr, ℕ, suc, ◌+◌, ◌*◌, ◌^◌, ◌<◌, ◌≤◌, Bool, true, false, List, [], ◌∷◌, ◌++◌, Some, None, Result, Ok, Err, length, get_or, subst, sym, refl, ap, ◌∙◌, append-nil, arith}
 use Rattle.hcc_core.specs.declared.client.Standalone.{Standalone}
 use Rattle.hcc_core.specs.declared.limits.TheConstants.{MOST_COUNTDOWN}
 use Rattle.hcc_core.specs.declared.slot.Entry.{Entry}
 use Rattle.hcc_rule.specs.declared.geometry.Geometry.{Geometry}
 use Rattle.hcc_rule.specs.declared.key.Key.{Key}
 use Rattle.hcc_rule.specs.declared.steps.shows.Draft.{Draft}
+use Rattle.hcc_rule.specs.declared.view.Made.{Made}
 use Rattle.hcc_rule.specs.declared.view.Record.{Record}
 use Rattle.hcc_rule.specs.declared.view.View.{View}
 use Rattle.hcc_rule.specs.ToldOwners.{first_records, made_of, shown_entry}
@@ -22,7 +23,7 @@ use Rattle.hcc_shard.specs.Callers.{capacity_of, geometry_of, is_strict, plan_of
 use Rattle.hcc_shard.specs.Inserted.{InsertedBy, IsInsertable, IsUnshown, MakesNoEntry, RefusedBy, Shows, inserting, inserting_between}
 use Rattle.hcc_shard.specs.Reserving.{InsertedAs, PinnedAs}
 use Rattle.hcc_shard.specs.Seated.{Rests}
-use Rattle.hcc_shard.proofs.Names.{length_more}
+use Rattle.hcc_shard.proofs.Names.{each_more, length_more}
 use Rattle.hcc_cache.specs.declared.cache.Cache.{Cache}
 use Rattle.hcc_cache.specs.declared.client.Client.{Client}
 use Rattle.hcc_cache.specs.declared.priority.Priority.{Priority}
@@ -30,12 +31,39 @@ use Rattle.hcc_cache.specs.declared.seeded.Seeded.{Seeded}
 use Rattle.hcc_cache.specs.Calls.{TakesAtMost, TakesFor, UsesOne, shard_in}
 use Rattle.hcc_cache.specs.Inserts.{Fails, KeepsHandles, PinsAt, Stores, StoresAt, draft_of, pinned_draft}
 use Rattle.hcc_cache.specs.Keys.{fits_seeded, key_from}
-use Rattle.hcc_cache.specs.Known.{AreCharged, IsSeated, Knows}
+use Rattle.hcc_cache.specs.Sharding.{key_to, shard_of}
+use Rattle.hcc_cache.specs.Known.{AreCharged, IsHome, IsSeated, Knows}
 use Rattle.hcc_cache.proofs.At.{ChangesAt, IsAt, did_at, knows_at, next_at, seated_at, takes_at, takes_for, works_at}
+use Rattle.hcc_cache.proofs.Dead.{seeded_back}
 use Rattle.hcc_cache.proofs.Framing.{keeps_all}
 use Rattle.hcc_cache.proofs.Held.{held_rest, stands_rest}
 use Rattle.hcc_cache.proofs.Names.{names_later, standings_later}
 use Rattle.hcc_cache.proofs.Seats.{seated_by}
+
+-- Of what was made.
+
+-- one entry of this key more, or none
+abbrev pub MadeBy : Key → (old new : List Made) → Type 0
+MadeBy key old new =
+    (new ≡ old) ⊎ ((made : Made) × (made.key ≡ key) × (new ≡ old ++ made ∷ []))
+
+-- They are one more at most,
+made_few : (key : Key) (old new : List Made) → MadeBy key old new → length new ≤ length old + 1
+made_few key old new (inl same) = let long = ap length same in omega arith
+made_few key old new (inr more) =
+    let long = ap length more.2 in
+    let one = length_more old more.0 in
+    omega arith
+
+-- and all of this shard still, where the key is.
+pub made_home : (seed shards number : ℕ) (key : Key) (old new : List Made)
+    → Each (IsHome seed shards number) old → shard_of (key_to seed key) shards ≡ number
+    → MadeBy (key_to seed key) old new → Each (IsHome seed shards number) new
+made_home seed shards number key old new home here (inl same) = rw same home
+made_home seed shards number key old new home here (inr more) =
+    let back = ap (λ k. key_to seed (key_from seed k)) more.1 ∙ seeded_back seed key in
+    rw (more.2) (each_more (IsHome seed shards number) old more.0 home
+    (back ∙ sym more.1, ap (λ k. shard_of k shards) more.1 ∙ here))
 
 -- Of a view.
 
@@ -51,29 +79,29 @@ first_record slot name entry = record {
 }
 
 module _ {T : Type 0} where
-  -- An insertion was tried: whom the view stands for stays, and one entry was made at most.
-  pub record IsTried (v w : View T) : Type 0 where
+  -- An insertion was tried: whom the view stands for stays, and one entry of this key was made at
+  -- most.
+  pub record IsTried (key : Key) (v w : View T) : Type 0 where
     pub client : w.client ≡ v.client
     pub others : w.others ≡ v.others
-    pub made : length w.made ≤ length v.made + 1
+    pub made : MadeBy key v.made w.made
 
   -- An insertion was tried, and these are the references and the standalone entries after it.
-  pub record Leaves (records : List Record) (standalones : List Standalone) (v w : View T)
-      : Type 0 where
-    pub tried : IsTried v w
+  pub record Leaves (key : Key) (records : List Record) (standalones : List Standalone)
+      (v w : View T) : Type 0 where
+    pub tried : IsTried key v w
     pub records_are : w.records ≡ records
     pub standalones_are : w.work.standalones ≡ standalones
 
   -- as this view has them
   leaves_by : (v w x : View T) → w ≡ x → x.client ≡ v.client → x.others ≡ v.others
-      → length x.made ≤ length v.made + 1 → Leaves x.records x.work.standalones v w
-  leaves_by v w x same client others few =
-      let is : length w.made ≡ length x.made = ap (λ (z : View T). length z.made) same in
+      → (key : Key) → MadeBy key v.made x.made → Leaves key x.records x.work.standalones v w
+  leaves_by v w x same client others key made =
       record {
         tried = record {
           client = ap (λ (z : View T). z.client) same ∙ client;
           others = ap (λ (z : View T). z.others) same ∙ others;
-          made = omega arith;
+          made = rw (ap (λ (z : View T). z.made) same) made;
         };
         records_are = ap (λ (z : View T). z.records) same;
         standalones_are = ap (λ (z : View T). z.work.standalones) same;
@@ -84,35 +112,36 @@ module _ {T : Type 0} where
       -- no entry was made
       leaves_none : (standalones : List Standalone)
           → MakesNoEntry slots capacity strict draft standalones v w
-          → Leaves v.records standalones v w
-      leaves_none standalones tries = leaves_by v w _ (tries.same) refl refl (omega arith)
+          → Leaves draft.key v.records standalones v w
+      leaves_none standalones tries =
+          leaves_by v w _ (tries.same) refl refl draft.key (inl refl)
 
       -- an entry was shown
       leaves_shown : (slot : ℕ) → Shows slots capacity strict draft value slot v w
-          → Leaves
+          → Leaves draft.key
           (v.records ++ first_records slot draft.name (shown_entry v (made_of draft value)))
           v.work.standalones v w
       leaves_shown slot shows =
-          let more = length_more v.made (made_of draft value) in
-          leaves_by v w _ (shows.tries.same) refl refl (omega arith)
+          leaves_by v w _ (shows.tries.same) refl refl draft.key
+          (inr (made_of draft value, refl, refl))
 
       -- one was kept out of the table
       pub leaves_unshown : (standalones : List Standalone)
           → IsUnshown slots capacity strict draft standalones v w
-          → Leaves v.records standalones v w
+          → Leaves draft.key v.records standalones v w
       leaves_unshown standalones unshown = leaves_none standalones (unshown.tries)
 
       -- the shard refused it
       pub leaves_refused : (why : Refused) → RefusedBy slots capacity strict draft why v w
-          → Leaves v.records v.work.standalones v w
-      leaves_refused TooLarge told = leaves_by v w v (told.2) refl refl (omega arith)
+          → Leaves draft.key v.records v.work.standalones v w
+      leaves_refused TooLarge told = leaves_by v w v (told.2) refl refl draft.key (inl refl)
       leaves_refused CapacityFull told = leaves_none v.work.standalones (told.0)
       leaves_refused OccupancyFull told = leaves_none v.work.standalones (told.0)
 
       -- An insertion that keeps no reference leaves those that there were.
       pub leaves_stored : (answer : Result Inserted Refused) → draft.name ≡ None
           → InsertedBy slots capacity strict draft value answer v w
-          → Leaves v.records v.work.standalones v w
+          → Leaves draft.key v.records v.work.standalones v w
       leaves_stored (Ok Placed) unnamed told =
           let shown = leaves_shown (told.0) (told.1) in
           record {
@@ -130,7 +159,7 @@ module _ {T : Type 0} where
       -- One that keeps a reference joins it.
       pub leaves_pinned : (slot name : ℕ) → draft.name ≡ Some name
           → Shows slots capacity strict draft value slot v w
-          → Leaves
+          → Leaves draft.key
           (v.records ++ first_record slot name (shown_entry v (made_of draft value)) ∷ [])
           v.work.standalones v w
       leaves_pinned slot name named shows =
@@ -148,13 +177,14 @@ module _ {T : Type 0} where
 
 -- The seat is one of its client still, once a serial was used.
 pub seated_tried : {T A : Type 0} (shard : Shard T A) (number used : ℕ) (was is : ShardSeat T)
-    → IsSeated shard number used was → Rests shard is → IsTried (view_of was) (view_of is)
+    → IsSeated shard number used was → Rests shard is → (key : Key)
+    → IsTried key (view_of was) (view_of is)
     → Each (λ (r : Record). r.name < used + 1) (view_of is).records
     → Each (λ (s : Standalone). s.name < used + 1) (view_of is).work.standalones
     → AreCharged (view_of is) → IsSeated shard number (used + 1) is
-seated_tried shard number used was is seated rests tried records standalones charged =
+seated_tried shard number used was is seated rests key tried records standalones charged =
     let before = seated.made in
-    let more = tried.made in
+    let more = made_few key (view_of was).made (view_of is).made tried.made in
     seated_by shard number used (used + 1) was is seated rests tried.client tried.others records
     standalones (omega arith) charged
 
@@ -272,17 +302,18 @@ module _ {T : Type 0} where
           (rw (← alike.0) makes) (omega arith)
 
       -- Where the client gained nothing, it is known still,
-      module _ (rests : Rests shard is)
-          (left : Leaves (view_of was).records (view_of was).work.standalones (view_of was)
+      module _ (rests : Rests shard is) {sought : Key}
+          (left : Leaves sought (view_of was).records (view_of was).work.standalones (view_of was)
           (view_of is)) (asked : IsAsked old new) where
-        pub knows_asked : Knows cache new
-        knows_asked =
+        pub knows_asked : (key : Key) → sought ≡ key_to cache.seed key → i ≡ shard_in cache key
+            → Knows cache new
+        knows_asked key for here =
             let seated = seated_at cache old new i shard was is at in
             let used = asked.uses.0 in
             let rest = asked.uses.1 in
             let serials = at.knows.serials in
             knows_at cache old new i shard was is at change (omega arith)
-            (rw used (seated_tried shard old.number old.used was is seated rests left.tried
+            (rw used (seated_tried shard old.number old.used was is seated rests sought left.tried
             (rw (left.records_are)
             (names_later old.used (old.used + 1) (view_of was).records (omega arith)
             seated.records))
@@ -293,6 +324,10 @@ module _ {T : Type 0} where
               records = rw (left.records_are) seated.charged.records;
               standalones = rw (left.standalones_are) seated.charged.standalones;
             })))
+            (made_home cache.seed (length old.seats.items) i key (view_of was).made
+            (view_of is).made (at.knows.homes i was at.seat_is)
+            (rw (at.knows.seated.count) (sym here))
+            (subst (λ k. MadeBy k (view_of was).made (view_of is).made) for left.tried.made))
             (rw (change.seats, asked.handles, asked.alone, used)
             (held_rest cache.seed old.used old.seats.items old.handles old.alone at.knows.holds i
             was is at.seat_is left.records_are left.standalones_are (old.used + 1) (omega arith)))

@@ -5,6 +5,7 @@ use Rattle.std.proofs.lemmas.List.{length-take-le, take_all}
 use Rattle.std.proofs.lemmas.Option.{slice_get-map}
 use Rattle.hcc_core.proofs.ListLemmas.{read_here, read_other}
 use Rattle.hcc_rule.specs.declared.view.View.{View}
+use Rattle.hcc_rule.specs.Acts.{longer}
 use Rattle.hcc_rule.specs.Passing.{as_other, joined_view}
 use Rattle.hcc_rule.specs.Views.{is_seated, named_by}
 use Rattle.hcc_rule.proofs.Basics.Lists.{within}
@@ -12,11 +13,14 @@ use Rattle.hcc_shard.specs.declared.seat.ShardSeat.{ShardSeat}
 use Rattle.hcc_shard.specs.declared.shard.Shard.{Shard}
 use Rattle.hcc_shard.specs.Callers.{view_of}
 use Rattle.hcc_shard.specs.Closed.{HoldsNothing}
+use Rattle.hcc_shard.specs.Ended.{past_of}
 use Rattle.hcc_cache.specs.declared.client.Client.{Client}
 use Rattle.hcc_cache.specs.declared.seeded.Seeded.{Seeded}
 use Rattle.hcc_cache.specs.Clients.{view_at, view_by}
 use Rattle.hcc_cache.specs.Closings.{all_joined, joined_views, views_at, HasLast, KeepsFront}
+use Rattle.hcc_cache.specs.Ended.{IsMostKnown}
 use Rattle.hcc_cache.proofs.Lists.{take_snoc}
+use Rattle.hcc_cache.proofs.MostKnown.{known_first, known_more}
 
 -- Of views.
 
@@ -108,6 +112,7 @@ module _ {T A : Type 0} where
     pub count : length now ≡ length old
     pub empty : HoldsNothing shard seat
     pub view : view_of seat ≡ all_joined (take k (views_at at old))
+    pub known : IsMostKnown at old k (past_of seat)
     pub left : (j : ℕ) (client : Client T) → j < k → slice_get now j ≡ Some client
         → (was : Client T) × (slice_get old j ≡ Some was) × KeepsFront at was client
     pub same : (j : ℕ) (client : Client T) → k ≤ j → slice_get now j ≡ Some client
@@ -127,6 +132,7 @@ module _ {T A : Type 0} where
         let viewed : view_at at was ≡ view_of seat = ap view_by loses.last in
         sym viewed ∙ sym (ap all_joined (take_snoc (views_at at old) 0 (view_at at was)
         (view_there at old 0 was first)));
+    known = known_first at old was seat first loses.last;
     left = λ j client below h.
         let zero_is : j ≡ 0 = omega arith in
         let here : slice_get (slice_set old 0 is) j ≡ Some is =
@@ -143,8 +149,9 @@ module _ {T A : Type 0} where
       → Joins shard at old k now seat → slice_get now k ≡ Some was
       → LosesLast at was is other → HoldsNothing shard more
       → view_of more ≡ joined_view (view_of seat) (view_of other)
+      → past_of more ≡ longer (past_of seat) (past_of other)
       → Joins shard at old (k + 1) (slice_set now k is) more
-  joins_more shard at old now k was is seat more other joins here loses empty both = record {
+  joins_more shard at old now k was is seat more other joins here loses empty both passed = record {
     some = omega arith;
     short = let low = inside in omega arith;
     count = length-set now k is ∙ joins.count;
@@ -154,6 +161,8 @@ module _ {T A : Type 0} where
         ∙ ap (joined_view (all_joined (take k (views_at at old)))) (sym viewed)
         ∙ sym (all_joined_snoc (take k (views_at at old)) (view_at at was) some_taken)
         ∙ sym (ap all_joined step);
+    known =
+        rw passed (known_more at old k (past_of seat) was other first loses.last joins.known);
     left = λ j client below h. elim (cases_eq j k) [
       | inl e ↦
           let there_is : slice_get (slice_set now k is) j ≡ Some is =

@@ -29,6 +29,8 @@ pub mod Charged
 pub mod Lists
 pub mod Holders
 pub mod Joining
+pub mod MostKnown
+pub mod Unknowing
 pub mod MadeLists
 pub mod Emptied
 pub mod Ended
@@ -36,8 +38,12 @@ pub mod Lefts
 pub mod Each
 pub mod Gotten
 pub mod Imaging
+pub mod Whole
+pub mod ClosedAlone
+pub mod Returning
 pub mod Placing
 pub mod DraftsFilled
 pub mod Beginning
 pub mod Reopenings
 pub mod Roomy
+pub mod Staying

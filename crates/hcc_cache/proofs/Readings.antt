@@ -56,6 +56,7 @@ module _ {T : Type 0} (cache : Cache T) (old new : Client T) (i : ℕ) (shard : 
         knows_left cache old new i shard was is at change left records standalones
         (seated_read shard old.number old.used was is
         (seated_at cache old new i shard was is at) rests same)
+        (ap (λ (v : View (Seeded T)). v.made) same)
 
     -- and knows and holds what it did
     pub reads_at : SameCounts was is → Reads cache old new

@@ -27,7 +27,7 @@ use Rattle.hcc_cache.specs.Calls.{Loses, Releases, UsesNone}
 use Rattle.hcc_cache.specs.Clients.{held_alone, held_entry, held_of, hold_of, view_at, view_in}
 use Rattle.hcc_cache.specs.Known.{IsSeated, Knows}
 use Rattle.hcc_cache.proofs.Again.{IsPinAt, held_at, pin_at}
-use Rattle.hcc_cache.proofs.At.{ChangesAt, IsAt, knows_at, seated_at, works_at}
+use Rattle.hcc_cache.proofs.At.{ChangesAt, IsAt, home_kept, knows_at, seated_at, works_at}
 use Rattle.hcc_cache.proofs.Framing.{IsSameAlone, StandBut, keeps_less, own_parts}
 use Rattle.hcc_cache.proofs.Less.{IsLess, IsWithout, held_unpinned, stand_unpinned}
 use Rattle.hcc_cache.proofs.Seats.{seated_by}
@@ -161,6 +161,8 @@ module _ {T : Type 0} (cache : Cache T) (old new : Client T) (handle : Handle) (
           (seated_released shard old.number old.used was is
           (seated_at cache old new hold.shard shard was is at) rests hold.serial erase freed
           released))
+          (home_kept cache old new hold.shard shard was is at
+          (ap (λ (v : View (Seeded T)). v.made) released.same))
           (rw (change.seats, alone, lets.uses.0)
           (held_unpinned cache.seed old.used old.seats.items old.handles new.handles old.alone
           handle.index slot counting hold was is lets.gone kept at.seat_is without at.knows.holds
@@ -213,6 +215,7 @@ module _ {T : Type 0} (cache : Cache T) (old new : Client T) (handle : Handle) (
             record {
               alike = knows.alike;
               seated = rw (seats, lets.number, lets.uses.0) knows.seated;
+              homes = rw seats knows.homes;
               holds =
                   rw (seats, lets.uses.0)
                   (held_fewer cache.seed old.used old.seats.items old.handles new.handles old.alone
@@ -277,6 +280,8 @@ module _ {T : Type 0} (cache : Cache T) (old new : Client T) (handle : Handle) (
             (rw (lets.uses.0)
             (seated_fallen shard old.number old.used was is
             (seated_at cache old new hold.shard shard was is at) rests a.name fell))
+            (home_kept cache old new hold.shard shard was is at
+            (ap (λ (v : View (Seeded T)). v.made) fell))
             (rw (change.seats, lets.uses.0)
             (held_fallen cache.seed old.used old.seats.items old.handles new.handles old.alone
             handle.index index hold a lets.gone kept there at.knows.holds new.alone was is

@@ -8,11 +8,13 @@ use Rattle.hcc_rule.specs.declared.image.ImageEntry.{ImageEntry}
 use Rattle.hcc_rule.specs.declared.key.Key.{Key}
 use Rattle.hcc_rule.specs.Beginnings.{OpensWith}
 use Rattle.hcc_rule.specs.ImageLimits.{charges_of}
+use Rattle.hcc_rule.specs.Views.{Each}
 use Rattle.hcc_rule.proofs.Seats.Splits.{each_snoc}
 use Rattle.hcc_shard.specs.declared.seat.ShardSeat.{ShardSeat}
 use Rattle.hcc_shard.specs.declared.shard.Shard.{Shard}
 use Rattle.hcc_shard.specs.Reopened.{AreFitting, is_free, is_long, is_rising, is_worn, refusal_of}
 use Rattle.hcc_shard.specs.Seated.{AreBegun}
+use Rattle.hcc_shard.specs.Stays.{BeganWithinLimits, KnowNoEvent}
 use Rattle.hcc_cache.specs.declared.cache.Cache.{Cache}
 use Rattle.hcc_cache.specs.declared.client.Client.{Client}
 use Rattle.hcc_cache.specs.declared.config.Config.{Config}
@@ -20,15 +22,17 @@ use Rattle.hcc_cache.specs.declared.drafting.Draft.{Draft}
 use Rattle.hcc_cache.specs.declared.seeded.Seeded.{Seeded}
 use Rattle.hcc_cache.specs.Configs.{IsAllowed, shard_capacity, shard_geometry}
 use Rattle.hcc_cache.specs.Drafts.{AreDrafts, IsDraft, IsFilled, standing}
+use Rattle.hcc_cache.specs.Ended.{KnowNothing}
 use Rattle.hcc_cache.specs.Images.{AreRight, Visible, visible_from}
 use Rattle.hcc_cache.specs.Keys.{fits_seeded, key_from}
 use Rattle.hcc_cache.specs.Opened.{AreGiven, IsCacheOf, IsConfigured}
-use Rattle.hcc_cache.specs.Reopened.{BeginsAs, HasAt, IsReopened, IsStarted, image_of, most_in}
+use Rattle.hcc_cache.specs.Reopened.{BeginsAs, HasAt, IsHomeEntry, IsReopened, IsStarted, image_of, most_in}
 use Rattle.hcc_cache.specs.Sharding.{IsReached}
 use Rattle.hcc_cache.specs.Taken.{IsOneOf, Split, begun, is_taken, places_of, split_of, sum_in, with_all, with_one}
 use Rattle.hcc_cache.proofs.Beginning.{AreSharing, begun_known, most_more, sharing_more}
 use Rattle.hcc_cache.proofs.Dealing.{get_push, made_alike}
 use Rattle.hcc_cache.proofs.Placing.{reached_past, standing_any, standing_at, standing_each, standing_has, standing_length, standing_rising, standing_total}
+use Rattle.hcc_cache.proofs.Unknowing.{nothing_more}
 
 -- Of what was taken.
 
@@ -95,6 +99,10 @@ module _ (c : Config) (taken : List Visible) (shard : ℕ) (d : Draft)
   draft_members k e at =
       let place = standing_at d.places.items k e at in
       (is.each place.0 e place.1).from
+
+  -- Each has a key of the shard.
+  pub draft_home : Each (IsHomeEntry c.seed c.shards shard) (standing d.places.items)
+  draft_home = standing_each (IsHomeEntry c.seed c.shards shard) d.places.items is.belongs
 
   -- Each is in the slot of a probe of its key, and each earlier probe has another.
   pub draft_placed : (k : ℕ) (e : ImageEntry) → slice_get (standing d.places.items) k ≡ Some e
@@ -177,7 +185,10 @@ pub record IsReopening {T A : Type 0} (fits : T → Key → List ℕ → Type 0)
       → IsConfigured c tag shard
   pub begins : (s : ℕ) (shard : Shard (Seeded T) A) → slice_get shards s ≡ Some shard
       → BeginsAs fits c taken s shard
+  pub began : (s : ℕ) (shard : Shard (Seeded T) A) → slice_get shards s ≡ Some shard
+      → BeganWithinLimits shard (fits_seeded fits)
   pub sharing : AreSharing c shards clients
+  pub past : KnowNothing clients
   pub most_is : most ≡ most_in shards
   pub low : most ≤ places_of c
 
@@ -185,16 +196,18 @@ module _ {T A : Type 0} (fits : T → Key → List ℕ → Type 0) (c : Config) 
     (taken : List Visible) (all : List Draft) where
   -- At first none was opened.
   pub reopening_none : (clients : List (Client T)) → AreDrafts c taken all
-      → AreRight fits tag taken → AreSharing {A = A} c [] clients
+      → AreRight fits tag taken → AreSharing {A = A} c [] clients → KnowNothing clients
       → IsReopening {A = A} fits c tag taken all [] clients 0 all
-  reopening_none clients are right sharing = record {
+  reopening_none clients are right sharing nothing = record {
     are = are;
     right = right;
     front = λ k d h. (let same : 0 + k ≡ k = omega arith in rw same h);
     count = omega arith;
     configured = λ s shard h. cc;
     begins = λ s shard h. cc;
+    began = λ s shard h. cc;
     sharing = sharing;
+    past = nothing;
     most_is = refl;
     low = omega arith;
   }
@@ -214,9 +227,10 @@ module _ {T A : Type 0} (fits : T → Key → List ℕ → Type 0) (c : Config) 
         (seats : List (ShardSeat (Seeded T))) (es : List ImageEntry)
         → es ≡ standing d.places.items → IsConfigured c tag shard → image_of shard ≡ es
         → OpensWith (fits_seeded fits) shard.table es → AreBegun shard es seats
+        → BeganWithinLimits shard (fits_seeded fits) → KnowNoEvent seats
         → AreGiven 0 clients seats now
         → IsReopening fits c tag taken all (shards ++ shard ∷ []) now (max most (length es)) rest
-    reopening_more shard now seats es stand configured image words begun given =
+    reopening_more shard now seats es stand configured image words begun within none given =
         let longer = length-append shards (shard ∷ []) in
         let count = is.count in
         let same : image_of shard ≡ standing d.places.items = image ∙ stand in
@@ -241,13 +255,17 @@ module _ {T A : Type 0} (fits : T → Key → List ℕ → Type 0) (c : Config) 
                   ∙ draft_counts c taken (length shards) d next_draft f;
               members = λ k e at. draft_members c taken (length shards) d next_draft k e
                   (ap (λ xs. slice_get xs k) (sym same) ∙ at);
+              home = rw same (draft_home c taken (length shards) d next_draft);
               placed = λ k e at. rw same (draft_placed c taken (length shards) d next_draft k e
                   (ap (λ xs. slice_get xs k) (sym same) ∙ at));
               words = rw image words;
             })
           ];
+          began = each_snoc (λ s. BeganWithinLimits s (fits_seeded fits)) shards shard within
+              is.began;
           sharing = sharing_more c shards clients now shard seats is.sharing given
               (rw image begun);
+          past = nothing_more clients now seats is.past none given;
           most_is =
               let before = is.most_is in
               let length_is = ap length image in
@@ -266,8 +284,10 @@ module _ {T : Type 0} (fits : T → Key → List ℕ → Type 0) (config : Confi
       → ((k : ℕ) (client : Client T) → slice_get clients k ≡ Some client
       → IsStarted config cache.shards.items k client)
       → most_in cache.shards.items ≤ places_of config
+      → ((s : ℕ) (shard : Shard (Seeded T) _) → slice_get cache.shards.items s ≡ Some shard
+      → BeganWithinLimits shard (fits_seeded fits)) → KnowNothing clients
       → IsReopened fits config tag image cache clients
-  reopened_all allowed made begins count started low =
+  reopened_all allowed made begins count started low began nothing =
       let slots = allowed.slots in
       let few : most_in cache.shards.items ≤ MOST_SLOTS = omega arith in
       record {
@@ -276,5 +296,8 @@ module _ {T : Type 0} (fits : T → Key → List ℕ → Type 0) (config : Confi
         clients_are = count;
         started = started;
         known = λ k client h. begun_known config cache k client (started k client h) allowed
-            (made_alike config tag cache allowed made) few;
+            (made_alike config tag cache allowed made) few
+            (λ s shard at. rw (made.seed, made.count) (begins s shard at).home);
+        began = began;
+        past = nothing;
       }

@@ -15,7 +15,7 @@ use Rattle.hcc_cache.specs.declared.client.Client.{Client}
 use Rattle.hcc_cache.specs.declared.seeded.Seeded.{Seeded}
 use Rattle.hcc_cache.specs.Calls.{KeepsAll}
 use Rattle.hcc_cache.specs.Known.{IsSeated, Knows}
-use Rattle.hcc_cache.proofs.At.{IsAt, ChangesAt, knows_at, seated_at}
+use Rattle.hcc_cache.proofs.At.{IsAt, ChangesAt, home_kept, knows_at, seated_at}
 use Rattle.hcc_cache.proofs.Framing.{keeps_all}
 use Rattle.hcc_cache.proofs.Held.{held_rest, stands_rest}
 use Rattle.hcc_cache.proofs.Seats.{seated_by}
@@ -71,6 +71,7 @@ module _ {T : Type 0} (cache : Cache T) (old new : Client T) (i : ℕ) (shard : 
           let left : new.left ≡ old.left = ap (λ (c : Client T). c.left) only.rest in
           knows_at cache old new i shard was is at changes_same (rw used (omega arith))
           (rw used seated_same)
+          (home_kept cache old new i shard was is at same.made)
           (rw (seats, handles, alone, used)
           (held_rest cache.seed old.used old.seats.items old.handles old.alone at.knows.holds i
           was is

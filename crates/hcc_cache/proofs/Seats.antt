@@ -13,7 +13,7 @@ use Rattle.hcc_shard.specs.declared.shard.Shard.{Shard}
 use Rattle.hcc_shard.specs.Callers.{steps_of, view_of}
 use Rattle.hcc_shard.specs.Seated.{Rests}
 use Rattle.hcc_cache.specs.Clients.{view_by, view_in}
-use Rattle.hcc_cache.specs.Known.{AreCharged, AreSeated, IsSeated}
+use Rattle.hcc_cache.specs.Known.{AreCharged, AreHome, AreSeated, IsHome, IsSeated}
 use Rattle.hcc_cache.proofs.Names.{names_later, standings_later}
 
 -- Of views.
@@ -96,3 +96,13 @@ module _ {T A : Type 0} where
         (λ j x ne h d hd. seated_later d number used more x le (all.each j d x hd h))
         s seat hs d hd;
   }
+
+module _ {T : Type 0} where
+  -- each entry that was made is of its shard, where those are that were made there
+  pub home_set : (seed : ℕ) (seats : List (ShardSeat T)) (i : ℕ) (new : ShardSeat T)
+      → AreHome seed seats → Each (IsHome seed (length seats) i) (view_of new).made
+      → AreHome seed (slice_set seats i new)
+  home_set seed seats i new all mine =
+      rw (length-set seats i new)
+      (each_set (λ j x. Each (IsHome seed (length seats) j) (view_of x).made) seats i new mine
+      (λ j x ne h. all j x h))

@@ -20,7 +20,7 @@ use Rattle.hcc_cache.specs.Calls.{Rerefs, TakesAtMost}
 use Rattle.hcc_cache.specs.Clients.{held_alone, hold_of}
 use Rattle.hcc_cache.specs.Known.{Knows, is_standing_at}
 use Rattle.hcc_cache.proofs.Again.{hold_within}
-use Rattle.hcc_cache.proofs.At.{ChangesAt, IsAt, knows_at, seated_at, takes_at, works_at}
+use Rattle.hcc_cache.proofs.At.{ChangesAt, IsAt, home_kept, knows_at, seated_at, takes_at, works_at}
 use Rattle.hcc_cache.proofs.Framing.{held_same, IsSameAlone}
 use Rattle.hcc_cache.proofs.Gained.{gains, IsGiven}
 use Rattle.hcc_cache.proofs.Seats.{seated_later}
@@ -90,6 +90,7 @@ module _ {T : Type 0} (cache : Cache T) (old : Client T) (first : Hold) (from : 
         (rw used
         (seated_later somewhere.shard old.number old.used (old.used + 1) seat (omega arith)
         (seated_at cache old new first.shard somewhere.shard seat seat at)))
+        (home_kept cache old new first.shard somewhere.shard seat seat at refl)
         (rw (seats, used)
         (held_again cache.seed old.used old.seats.items old.handles old.alone new.alone knows.holds
         index a b stands same updates first hold from more.index new.handles held first_kept kept

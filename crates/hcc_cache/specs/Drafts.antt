@@ -9,6 +9,7 @@ use Rattle.hcc_cache.specs.declared.drafting.Draft.{Draft}
 use Rattle.hcc_cache.specs.declared.image.Saved.{Saved}
 use Rattle.hcc_cache.specs.Configs.{shard_capacity}
 use Rattle.hcc_cache.specs.Images.{Visible, visible_from}
+use Rattle.hcc_cache.specs.Keys.{IsKeyOf}
 use Rattle.hcc_cache.specs.Sharding.{IsReached}
 use Rattle.hcc_cache.specs.Taken.{IsOneOf, begun, places_of, sum_in}
 
@@ -83,6 +84,8 @@ pub record IsDraft (c : Config) (taken : List Visible) (shard : ℕ) (d : Draft)
       ≡ sum_in c shard (λ (e : Visible). f (begun e)) taken
   pub each : (slot : ℕ) (e : ImageEntry) → slice_get d.places.items slot ≡ Some (Some e)
       → Stands c taken d.places.items slot e
+  pub belongs : (slot : ℕ) (e : ImageEntry) → slice_get d.places.items slot ≡ Some (Some e)
+      → IsKeyOf c.seed c.shards shard e.key
   pub few : d.count ≤ places_of c
   pub small : d.charge ≤ d.count * 2 ^ 32
   pub within : c.strict ≡ true → d.charge ≤ shard_capacity c

@@ -1,5 +1,4 @@
 -- Handles and their numbers.
-use Rattle.std.specs.Prelude.{◌≡◌, Option, Some, None, IfSome, IfNone}
 use Rattle.hcc_cache.specs.declared.client.Client.{Client}
 use Rattle.hcc_cache.specs.declared.handle.Handle.{Handle}
 use Rattle.hcc_cache.specs.declared.handle.Numbers.{Numbers}

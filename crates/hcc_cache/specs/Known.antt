@@ -5,6 +5,7 @@ use Rattle.hcc_core.specs.declared.client.Standalone.{Standalone}
 use Rattle.hcc_core.specs.declared.limits.TheConstants.{MOST_HANDLES, STAMPS_PER_CLIENT}
 use Rattle.hcc_core.specs.Ledgers.{is_standing}
 use Rattle.hcc_core.specs.Sums.{total, when}
+use Rattle.hcc_rule.specs.declared.view.Made.{Made}
 use Rattle.hcc_rule.specs.declared.view.Record.{Record}
 use Rattle.hcc_rule.specs.declared.view.View.{View}
 use Rattle.hcc_rule.specs.Views.{Each}
@@ -24,6 +25,7 @@ use Rattle.hcc_cache.specs.declared.holding.Kept.TheVariants.{Pinned, Standing}
 use Rattle.hcc_cache.specs.declared.limits.TheConstants.{MOST_SHARDS}
 use Rattle.hcc_cache.specs.declared.seeded.Seeded.{Seeded}
 use Rattle.hcc_cache.specs.Clients.{pin_of, records_in, standalones_in}
+use Rattle.hcc_cache.specs.Keys.{IsKeyOf}
 use Rattle.hcc_cache.specs.Sharding.{key_to, shard_of}
 
 -- Of a client's seats.
@@ -53,6 +55,16 @@ module _ {T A : Type 0} where
     pub each : (s : ℕ) (shard : Shard T A) (seat : ShardSeat T)
         → slice_get shards s ≡ Some shard → slice_get seats s ≡ Some seat
         → IsSeated shard number used seat
+
+-- What a client made at the shard of this number, of so many, has a key of that shard.
+abbrev pub IsHome : (seed shards number : ℕ) → Made → Type 0
+IsHome seed shards number made = IsKeyOf seed shards number made.key
+
+-- So it is at each of them.
+abbrev pub AreHome : {T : Type 0} → (seed : ℕ) → List (ShardSeat T) → Type 0
+AreHome seed seats =
+    (s : ℕ) (seat : ShardSeat _) → slice_get seats s ≡ Some seat
+    → Each (IsHome seed (length seats) s) (view_of seat).made
 
 -- Of its handles.
 
@@ -150,6 +162,7 @@ pub record AreAlike {T : Type 0} (cache : Cache T) : Type 0 where
 pub record Knows {T : Type 0} (cache : Cache T) (client : Client T) : Type 0 where
   pub alike : AreAlike cache
   pub seated : AreSeated cache.shards.items client.number client.used client.seats.items
+  pub homes : AreHome cache.seed client.seats.items
   pub holds : AreHeld cache.seed client.used client.seats.items client.handles client.alone
   pub count : client.held ≡ slab_len client.handles
   pub few : client.held ≤ client.most

@@ -10,6 +10,7 @@ pub mod Moments
 pub mod Calls
 pub mod Left
 pub mod Closings
+pub mod Ended
 pub mod Inserts
 pub mod Totals
 pub mod Texts
@@ -18,3 +19,4 @@ pub mod Images
 pub mod Taken
 pub mod Drafts
 pub mod Reopened
+pub mod Stays

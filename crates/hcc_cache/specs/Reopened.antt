@@ -8,16 +8,19 @@ use Rattle.hcc_rule.specs.declared.view.Other.{Other}
 use Rattle.hcc_rule.specs.Beginnings.{OpensWith}
 use Rattle.hcc_rule.specs.Images.{entries_in, maker_of}
 use Rattle.hcc_rule.specs.Opening.{unstarted}
+use Rattle.hcc_rule.specs.Views.{Each}
 use Rattle.hcc_shard.specs.declared.seat.ShardSeat.{ShardSeat}
 use Rattle.hcc_shard.specs.declared.shard.Shard.{Shard}
 use Rattle.hcc_shard.specs.Callers.{plan_of}
 use Rattle.hcc_shard.specs.Seated.{IsBegun}
+use Rattle.hcc_shard.specs.Stays.{BeganWithinLimits}
 use Rattle.hcc_cache.specs.declared.cache.Cache.{Cache}
 use Rattle.hcc_cache.specs.declared.client.Client.{Client}
 use Rattle.hcc_cache.specs.declared.config.Config.{Config}
 use Rattle.hcc_cache.specs.declared.seeded.Seeded.{Seeded}
+use Rattle.hcc_cache.specs.Ended.{KnowNothing}
 use Rattle.hcc_cache.specs.Images.{Visible, visible_from}
-use Rattle.hcc_cache.specs.Keys.{fits_seeded}
+use Rattle.hcc_cache.specs.Keys.{IsKeyOf, fits_seeded}
 use Rattle.hcc_cache.specs.Known.{Knows}
 use Rattle.hcc_cache.specs.Opened.{IsCacheOf}
 use Rattle.hcc_cache.specs.Sharding.{IsReached}
@@ -37,6 +40,10 @@ module _ {T A : Type 0} where
 abbrev pub HasAt : List ImageEntry → (slot : ℕ) → Type 0
 HasAt es slot = (k : ℕ) × (e : ImageEntry) × (slice_get es k ≡ Some e) × (e.slot ≡ slot)
 
+-- its key is one of the shard of this number, of so many
+abbrev pub IsHomeEntry : (seed shards number : ℕ) → ImageEntry → Type 0
+IsHomeEntry seed shards number e = IsKeyOf seed shards number e.key
+
 -- what a client made of them: client 0 all, and the others nothing
 abbrev pub share_of : (number : ℕ) → List ImageEntry → Other
 share_of zero es = maker_of es
@@ -53,6 +60,7 @@ pub record BeginsAs {T A : Type 0} (fits : T → Key → List ℕ → Type 0) (c
       ≡ sum_in config s (λ (e : Visible). f (begun e)) taken
   pub members : (k : ℕ) (e : ImageEntry) → slice_get (image_of shard) k ≡ Some e
       → IsOneOf config taken e
+  pub home : Each (IsHomeEntry config.seed config.shards s) (image_of shard)
   pub placed : (k : ℕ) (e : ImageEntry) → slice_get (image_of shard) k ≡ Some e
       → IsReached config.slots e.key (HasAt (image_of shard)) e.slot
   pub words : OpensWith (fits_seeded fits) shard.table (image_of shard)
@@ -88,7 +96,8 @@ module _ {T : Type 0} where
     pub same : client ≡ record was { used = client.used; left = client.left }
 
   -- A cache with the entries of an image that were taken, and its clients: as many as configured,
-  -- and each known to the cache.
+  -- and each known to the cache. The entries keep each shard's limits, and no client knows of
+  -- anything that was done since.
   pub record IsReopened (fits : T → Key → List ℕ → Type 0) (config : Config) (tag : T)
       (image : List Visible) (cache : Cache T) (clients : List (Client T)) : Type 0 where
     pub cache_is : IsCacheOf config tag cache
@@ -100,3 +109,7 @@ module _ {T : Type 0} where
         → IsStarted config cache.shards.items k client
     pub known : (k : ℕ) (client : Client T) → slice_get clients k ≡ Some client
         → Knows cache client
+    pub began : (s : ℕ) (shard : Shard (Seeded T) _)
+        → slice_get cache.shards.items s ≡ Some shard
+        → BeganWithinLimits shard (fits_seeded fits)
+    pub past : KnowNothing clients

@@ -1,9 +1,24 @@
 //! A cache is closed, by all its clients.
-ghost use Rattle.std.specs.Prelude.{◌≡◌, ◌+◌, ◌-◌, ◌<◌, ◌≤◌, ℕ, Some, take, MatchResult, IfSome, IfNone, length, slice_get};
+ghost use Rattle.std.specs.Prelude.{◌≡◌, ◌+◌, ◌-◌, ◌<◌, ◌≤◌, ◌∷◌, ℕ, [], Some, is_some, take, MatchResult, IfOk, IfSome, IfNone, length, slice_get};
+ghost use Rattle.std.specs.declared.alloc.Global.{Global};
+ghost use Rattle.hcc_word.specs.Word.{is_visible};
+ghost use Rattle.hcc_rule.specs.Closing.{meta_at, words_of};
+ghost use Rattle.hcc_rule.specs.Ending.{ShowsWorld};
+ghost use Rattle.hcc_table.specs.Standing.{shown_at, world_at};
+ghost use Rattle.hcc_shard.specs.declared.entries.ClosedShard.{ClosedShard};
+ghost use Rattle.hcc_shard.specs.declared.seat.ShardSeat.{ShardSeat};
+ghost use Rattle.hcc_shard.specs.declared.shard.Shard.{Shard};
 ghost use Rattle.hcc_shard.specs.Callers.{view_of};
 ghost use Rattle.hcc_shard.specs.Closed.{HoldsNothing};
+ghost use Rattle.hcc_shard.specs.Ended.{past_of};
+ghost use Rattle.hcc_cache.specs.declared.cache.Cache.{Cache};
+ghost use Rattle.hcc_cache.specs.declared.client.Client.{Client};
+ghost use Rattle.hcc_cache.specs.declared.closed.Closed.{Closed};
+ghost use Rattle.hcc_cache.specs.declared.seeded.Seeded.{Seeded};
 ghost use Rattle.hcc_cache.specs.Clients.{held_by};
 ghost use Rattle.hcc_cache.specs.Closings.{all_joined, views_at, with_holder, AreBack, HasLast, IsClosed, IsLeastHolder, KeepsFront, Refuses};
+ghost use Rattle.hcc_cache.specs.Ended.{IsMostKnown, LeavesWorlds};
+ghost use Rattle.hcc_cache.specs.Keys.{fits_seeded};
 ghost use Rattle.hcc_cache.specs.Known.{Knows};
 
 use crate::cache::Cache;
@@ -18,7 +33,8 @@ use std::alloc::Global;
 
 impl<T: Tag + Copy> Cache<T> {
     /// Ends the cache, once all its clients are back and none holds a handle: the entries that are
-    /// left are read from what it gives.
+    /// left are read from what it gives. They are those of the worlds to which all led that clients
+    /// did: closing hides nothing, ages nothing and frees nothing.
     ///
     /// It is refused where fewer clients come than the cache has, then where one of them holds a
     /// handle, of which the least number is returned. Nothing is changed then, and all is handed
@@ -30,10 +46,11 @@ impl<T: Tag + Copy> Cache<T> {
     ) -> Result<Closed, (CloseError, Cache<T>, Vec<Client<T>>)>
         requires { (k : ℕ) (client : _) → slice_get clients.items k ≡ Some client
             → Knows self client }
-        ensures { MatchResult result
+        ensures closes { MatchResult result
             (λ closed. AreBack self clients.items × IsClosed T.fits self clients.items closed)
             (λ refused. Refuses refused.0 self clients.items
             × (refused.1 ≡ self) × (refused.2 ≡ clients)) }
+        ensures left { IfOk result (LeavesWorlds T.fits self clients.items) }
     {
         let have = clients.len();
         let want = self.geometry.clients;
@@ -50,7 +67,8 @@ impl<T: Tag + Copy> Cache<T> {
     /// The same, where all came back with no handle.
     fn closed(self, mut clients: Vec<Client<T>>) -> Closed
         requires { AreBack self clients.items }
-        ensures { IsClosed T.fits self clients.items result }
+        ensures closes { IsClosed T.fits self clients.items result }
+        ensures left { LeavesWorlds T.fits self clients.items result }
     {
         let Cache {
             tag: _,
@@ -110,6 +128,7 @@ fn joined<T: Tag>(
         → HasLast shard.now at client }
     ensures seat { HoldsNothing shard.now result }
     ensures view { view_of result ≡ all_joined (views_at at clients.old.items) }
+    ensures known { IsMostKnown at clients.old.items (length clients.old.items) (past_of result) }
     ensures count { length clients.new.items ≡ length clients.old.items }
     ensures left { (k : ℕ) (client : _) → slice_get clients.new.items k ≡ Some client
         → (was : _) × (slice_get clients.old.items k ≡ Some was) × KeepsFront at was client }
@@ -133,3 +152,28 @@ fn taken<T>(client: &mut Client<T>) -> ShardSeat<Seeded<T>>
 {
     client.seats.pop().unwrap()
 }
+
+/// What is left of a cache of one client.
+pub fn law_closed<T: Tag>()
+    // The words of each shard are those of the world that the client knew of it: its slots, their
+    // entries, hidden ones too, with uses and marks, the sums over them, and the hand.
+    ensures worlds { (cache : Cache T) (client : Client T) (closed : Closed)
+        → LeavesWorlds T.fits cache (client ∷ []) closed
+        → (s : ℕ) (shard : Shard (Seeded T) Global) (seat : ShardSeat (Seeded T))
+        (left : ClosedShard Global) → slice_get cache.shards.items s ≡ Some shard
+        → slice_get client.seats.items s ≡ Some seat
+        → slice_get closed.shards.items s ≡ Some (Some left)
+        → ShowsWorld (fits_seeded T.fits) (record { tag = cache.tag; seed = cache.seed })
+        cache.geometry (words_of left.table) (view_of seat) (world_at shard.table seat.seat) }
+
+    // So a slot is visible exactly where that world shows an entry in it.
+    ensures shown { (cache : Cache T) (client : Client T) (closed : Closed)
+        → LeavesWorlds T.fits cache (client ∷ []) closed
+        → (s : ℕ) (shard : Shard (Seeded T) Global) (seat : ShardSeat (Seeded T))
+        (left : ClosedShard Global) → slice_get cache.shards.items s ≡ Some shard
+        → slice_get client.seats.items s ≡ Some seat
+        → slice_get closed.shards.items s ≡ Some (Some left)
+        → (slot : ℕ) → slot < cache.geometry.slots
+        → is_visible (meta_at cache.geometry.room (words_of left.table) slot)
+        ≡ is_some (shown_at (world_at shard.table seat.seat) slot) }
+{}

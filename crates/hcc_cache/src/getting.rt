@@ -3,6 +3,7 @@ ghost use Rattle.std.specs.Prelude.{◌≡◌, ◌+◌};
 ghost use Rattle.hcc_cache.specs.Calls.{CountsAt, KeepsAll, TakesFor, shard_in};
 ghost use Rattle.hcc_cache.specs.Gets.{GetsAt, GetsFor, SeeksAt};
 ghost use Rattle.hcc_cache.specs.Known.{Knows};
+ghost use Rattle.hcc_cache.specs.Stays.{Stays};
 
 use crate::cache::Cache;
 use crate::client::Client;
@@ -35,6 +36,7 @@ impl<T: Tag> Cache<T> {
             client.old client.new }
         ensures gets { GetsAt self.now T.fits key useful result buffer.old buffer.new
             client.old client.new }
+        ensures stays { Stays self.now client.old client.new }
         ensures counts { CountsAt (shard_in self.now key) client.old client.new }
         ensures steps { TakesFor self.now 7 (λ v w. self.now.geometry.room + 2)
             (shard_in self.now key) client.old client.new }

@@ -1,9 +1,15 @@
 //! The image of a closed cache.
-ghost use Rattle.std.specs.Prelude.{◌≡◌, ◌<◌, ◌++◌, IfOk, List, OnOk, Some, length, map, slice_get};
+ghost use Rattle.std.specs.Prelude.{◌≡◌, ℕ, ◌<◌, ◌++◌, IfOk, List, [], OnOk, Some, length, map, slice_get};
+ghost use Rattle.hcc_core.specs.Sums.{total};
 ghost use Rattle.hcc_cache.specs.declared.cache.Cache.{Cache};
 ghost use Rattle.hcc_cache.specs.declared.client.Client.{Client};
-ghost use Rattle.hcc_cache.specs.Closings.{IsClosed};
-ghost use Rattle.hcc_cache.specs.Images.{AreRight, visible_of, visible_from, visible_entries};
+ghost use Rattle.hcc_cache.specs.declared.config.Config.{Config};
+ghost use Rattle.hcc_cache.specs.Closings.{AreBack, IsClosed};
+ghost use Rattle.hcc_cache.specs.Ended.{LeavesWorlds};
+ghost use Rattle.hcc_cache.specs.Images.{AreRight, Visible, visible_of, visible_from, visible_entries};
+ghost use Rattle.hcc_cache.specs.Opened.{IsCacheOf};
+ghost use Rattle.hcc_cache.specs.Reopened.{IsReopened};
+ghost use Rattle.hcc_cache.specs.Taken.{split_of};
 
 use crate::closed::Closed;
 use crate::seeded::key_from;
@@ -61,4 +67,30 @@ pub fn law_images<T: Tag>()
     ensures { (cache : Cache T) (clients : List (Client T)) (closed : Closed)
         → IsClosed T.fits cache clients closed
         → AreRight T.fits cache.tag (visible_entries closed.seed closed.shards.items) }
+{}
+
+/// A cache of the same sizes, capacity, strictness and seed as a closed one takes all that is
+/// visible in that: `reopen` leaves out none of its image.
+pub fn law_whole<T: Tag>()
+    ensures { (config : Config) (tag : T) (cache : Cache T) (clients : List (Client T))
+        (closed : Closed) → IsCacheOf config tag cache → AreBack cache clients
+        → IsClosed T.fits cache clients closed
+        → split_of config (visible_entries closed.seed closed.shards.items)
+        ≡ record { taken = visible_entries closed.seed closed.shards.items; left = [] } }
+{}
+
+/// A warm start keeps what was visible.
+pub fn law_again<T: Tag>()
+    // A cache is closed; another one of the same sizes, capacity, strictness and seed begins with
+    // its image, and is closed before any call. What is visible in it then is what was visible in
+    // the first one: whatever is counted of the entries, with their keys, values, charges and uses,
+    // is the same in sum. So each is there as often as it was.
+    ensures { (config : Config) (tag : T) (cache next : Cache T) (clients started : List (Client T))
+        (closed last : Closed) → IsCacheOf config tag cache → AreBack cache clients
+        → IsClosed T.fits cache clients closed
+        → IsReopened T.fits config tag (visible_entries closed.seed closed.shards.items) next
+        started
+        → IsClosed T.fits next started last → LeavesWorlds T.fits next started last
+        → (f : Visible → ℕ) → total f (visible_entries last.seed last.shards.items)
+        ≡ total f (visible_entries closed.seed closed.shards.items) }
 {}

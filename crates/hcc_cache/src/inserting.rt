@@ -7,6 +7,7 @@ ghost use Rattle.hcc_cache.specs.Calls.{OnlyAt, TakesAtMost, TakesFor, shard_in}
 ghost use Rattle.hcc_cache.specs.Clients.{held_by};
 ghost use Rattle.hcc_cache.specs.Inserts.{Inserts, InsertsAt, InsertsPinnedAt, InsertsWith, RefusesPinnedAt, RefusesWith, answer_of};
 ghost use Rattle.hcc_cache.specs.Known.{Knows};
+ghost use Rattle.hcc_cache.specs.Moments.{KnowsShown};
 
 use crate::cache::Cache;
 use crate::client::Client;
@@ -55,7 +56,8 @@ impl<T: Tag> Cache<T> {
     /// where all serials of the client are used, then where a strict shard's capacity is below the
     /// charge: nothing is changed then. It is refused under strict capacity where evictions freed
     /// too little, or no place: they stay made, and a serial is used. In a cache of one client it
-    /// meets the entry that look-ups find, or is put before it (`laws::law_matches`).
+    /// meets the entry that look-ups find, or is put before it (`laws::law_matches`), and what was
+    /// placed is shown until it is evicted, erased or freed (`laws::law_kept_shown`).
     ///
     /// The value fits the key by the tag and has at most [`Cache::room`] bytes, and the charge
     /// isn't 0. It allocates nothing. It costs a reservation, and each probe of the key as a
@@ -81,6 +83,8 @@ impl<T: Tag> Cache<T> {
             client.old client.new }
         ensures evicts { InsertsAt self.now T.fits key charge priority result
             client.old client.new }
+        ensures shown { self.now.geometry.clients ≡ 1 → result ≡ Ok Inserted.Placed
+            → KnowsShown self.now key client.new }
         ensures others { OnlyAt (shard_in self.now key) client.old client.new }
         ensures frees { 0 < client.old.left
             → (self.now.strict ≡ true → charge ≤ self.now.capacity)
@@ -120,6 +124,8 @@ impl<T: Tag> Cache<T> {
             client.old client.new }
         ensures evicts { InsertsAt self.now T.fits key charge priority result
             client.old client.new }
+        ensures shown { self.now.geometry.clients ≡ 1 → result ≡ Ok Inserted.Placed
+            → KnowsShown self.now key client.new }
         ensures no_spent { ¬ IsErrOf result InsertError.Spent }
         ensures no_large { ¬ IsErrOf result InsertError.TooLarge }
         ensures others { OnlyAt (shard_in self.now key) client.old client.new }
@@ -225,6 +231,9 @@ impl<T: Tag> Cache<T> {
             client.old client.new)
             (λ e. RefusesPinnedAt self.now T.fits key charge priority e.0
             client.old client.new) }
+        ensures shown { self.now.geometry.clients ≡ 1
+            → IfOk result (λ made. made.1 ≡ Inserted.Placed
+            → KnowsShown self.now key client.new) }
         ensures others { OnlyAt (shard_in self.now key) client.old client.new }
         ensures frees { held_by client.old < client.old.most → 0 < client.old.left
             → (self.now.strict ≡ true → charge ≤ self.now.capacity)
@@ -275,6 +284,9 @@ impl<T: Tag> Cache<T> {
             client.old client.new)
             (λ e. RefusesPinnedAt self.now T.fits key charge priority e.0
             client.old client.new) }
+        ensures shown { self.now.geometry.clients ≡ 1
+            → IfOk result (λ made. made.1 ≡ Inserted.Placed
+            → KnowsShown self.now key client.new) }
         ensures others { OnlyAt (shard_in self.now key) client.old client.new }
         ensures frees { TakesFor self.now 7
             (inserting_between self.now.geometry.slots self.now.geometry.room)

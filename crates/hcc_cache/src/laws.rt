@@ -2,7 +2,7 @@
 //!
 //! No function here does anything when it runs: its contract is the law. `m.holds.world` is the
 //! lawful world that the shard's words and what its clients know show.
-ghost use Rattle.std.specs.Prelude.{◌≡◌, ℕ, ◌+◌, ◌-◌, ◌*◌, ◌/◌, ◌^◌, ◌<◌, ◌≤◌, ◌↔◌, min, Bool, true, List, Option, None, Some, Result, IsNone, IsSome, slice_get};
+ghost use Rattle.std.specs.Prelude.{◌≡◌, ℕ, ◌+◌, ◌-◌, ◌*◌, ◌/◌, ◌^◌, ◌<◌, ◌≤◌, ◌↔◌, min, Bool, true, false, List, Option, None, Some, Ok, Result, IsNone, IsSome, slice_get};
 ghost use Rattle.hcc_core.specs.declared.limits.TheConstants.{OCCUPANCY_PERCENT};
 ghost use Rattle.hcc_core.specs.Lawful.{real_in, taken_in};
 ghost use Rattle.hcc_core.specs.Sums.{total};
@@ -11,10 +11,13 @@ ghost use Rattle.hcc_rule.specs.declared.key.Key.{Key};
 ghost use Rattle.hcc_rule.specs.declared.view.View.{View};
 ghost use Rattle.hcc_rule.specs.Laws.{StateOf, ledger_word, AreMade, AreOfMade};
 ghost use Rattle.hcc_charge.specs.declared.reserving.Refused.{Refused};
+ghost use Rattle.hcc_charge.specs.declared.reserving.Reservation.TheVariants.{Reserved};
 ghost use Rattle.hcc_shard.specs.declared.getting.Got.{Got};
 ghost use Rattle.hcc_shard.specs.declared.getting.Got.TheVariants.{Miss};
 ghost use Rattle.hcc_shard.specs.declared.inserting.Inserted.{Inserted};
+ghost use Rattle.hcc_shard.specs.declared.inserting.Inserted.TheVariants as stored;
 ghost use Rattle.hcc_shard.specs.declared.inserting.Pinned.{Pinned};
+ghost use Rattle.hcc_shard.specs.declared.inserting.Pinned.TheVariants as pinned;
 ghost use Rattle.hcc_table.specs.Standing.{FindsFirst, FindsLasting, HidesShown, ShowsKey, world_at};
 ghost use Rattle.hcc_cache.specs.declared.cache.Cache.{Cache};
 ghost use Rattle.hcc_cache.specs.declared.client.Client.{Client};
@@ -22,7 +25,8 @@ ghost use Rattle.hcc_cache.specs.declared.config.Config.{Config};
 ghost use Rattle.hcc_cache.specs.declared.handle.Handle.{Handle};
 ghost use Rattle.hcc_cache.specs.declared.priority.Priority.{Priority};
 ghost use Rattle.hcc_cache.specs.declared.seeded.Seeded.{Seeded};
-ghost use Rattle.hcc_cache.specs.Calls.{ErasesFor, Gains, SearchesFor};
+ghost use Rattle.hcc_cache.specs.declared.holding.Hold.{Hold};
+ghost use Rattle.hcc_cache.specs.Calls.{shard_in, ErasesFor, Gains, SearchesFor};
 ghost use Rattle.hcc_cache.specs.Clients.{Held, Holds};
 ghost use Rattle.hcc_cache.specs.Configs.{shard_capacity};
 ghost use Rattle.hcc_cache.specs.Gets.{GetsAt};
@@ -32,13 +36,15 @@ ghost use Rattle.hcc_cache.specs.Known.{Knows};
 ghost use Rattle.hcc_cache.specs.Moments.{IsMoment, IsQuietMiss, KnowsShown, ShowsKeyIn, plan_in};
 ghost use Rattle.hcc_cache.specs.Opened.{IsCacheOf};
 ghost use Rattle.hcc_cache.specs.Sharding.{key_to};
+ghost use Rattle.hcc_cache.specs.Stays.{BeganEachWithin, ReleasesPin, Stays};
 ghost use Rattle.hcc_cache.specs.Totals.{occupancy_in, usage_in, KnowsEach, LoadsEachOccupancy, LoadsEachUsage};
 
 use crate::seeded::Seeded;
 use hcc_rule::Tag;
 use hcc_rule::laws::{law_ledgers, law_made};
 use hcc_table::laws::{
-    law_found_alone, law_hidden_alone, law_inserted_alone, law_lasting, law_miss, law_told_alone,
+    law_found_alone, law_hidden_alone, law_inserted_alone, law_lasting, law_miss, law_room_alone,
+    law_told_alone,
 };
 use std::alloc::Global;
 
@@ -181,9 +187,51 @@ pub fn law_matches<T: Tag>()
         (old new : Client T) (h : PinsAt cache T.fits key charge priority answer old new)
         → ShowsPinnedAs T.fits h.shard (draft_of cache key charge priority (λ c. Some c.used) old)
         answer h.was h.is h.did }
+
+    // Where the shards began with no entries, or with entries that keep their limits, a shard is
+    // never out of slots: so an entry for which a place was reserved is dropped only where the key
+    // was met,
+    ensures met { (config : Config) (tag : T) (cache : Cache T)
+        → IsCacheOf config tag cache → config.clients ≡ 1 → BeganEachWithin cache T.fits
+        → (key : Key) (charge : ℕ) (priority : Priority) (old new : Client T)
+        (h : StoresAt cache T.fits key charge priority (Ok stored.Dropped) old new)
+        → h.did.told ≡ Reserved → h.did.matched ≡ true }
+
+    // and stands alone only there, too.
+    ensures met_pinned { (config : Config) (tag : T) (cache : Cache T)
+        → IsCacheOf config tag cache → config.clients ≡ 1 → BeganEachWithin cache T.fits
+        → (key : Key) (charge : ℕ) (priority : Priority) (old new : Client T)
+        (h : PinsAt cache T.fits key charge priority (Ok pinned.Standalone) old new)
+        → h.did.told ≡ Reserved → h.did.matched ≡ true }
 {
     law_inserted_alone::<Seeded<T>, Global>();
+    law_room_alone::<Seeded<T>, Global>();
 }
+
+/// In a cache of one client what is shown stays so, until it is evicted, erased or freed.
+pub fn law_kept_shown<T: Tag>()
+    // A key that the client knows to be shown it knows so after each call that makes and takes no
+    // entry, and shows and hides none: a look-up, a reading, one handle more, a count of what is
+    // held, a load of a slot's words, and a release that freed nothing.
+    ensures stays { (config : Config) (tag : T) (cache : Cache T)
+        → IsCacheOf config tag cache → config.clients ≡ 1 → (key : Key) (old new : Client T)
+        → Stays cache old new → KnowsShown cache key old → KnowsShown cache key new }
+
+    // Loads of the usage and of the occupancy are such calls.
+    ensures usage { (cache : Cache T) (result : ℕ) (old new : Client T)
+        → LoadsEachUsage cache result old new → Stays cache old new }
+    ensures occupancy { (cache : Cache T) (result : ℕ) (old new : Client T)
+        → LoadsEachOccupancy cache result old new → Stays cache old new }
+
+    // A release that freed an entry takes away what was shown in the slot of its reference, and
+    // nothing else.
+    ensures releases { (config : Config) (tag : T) (cache : Cache T)
+        → IsCacheOf config tag cache → config.clients ≡ 1 → (hold : Hold) (slot : ℕ)
+        (used erase freed : Bool) (key : Key) (old new : Client T)
+        → ReleasesPin cache hold slot used erase freed old new → (k : KnowsShown cache key old)
+        → (shard_in cache key ≡ hold.shard → k.slot ≡ slot → freed ≡ false)
+        → KnowsShown cache key new }
+{}
 
 /// In a cache of one client totals are exact.
 pub fn law_totals<T: Tag>()

@@ -6,6 +6,7 @@ ghost use Rattle.hcc_cache.specs.Calls.{AcquiresFor, AtShard, CountsAt, CountsBy
 ghost use Rattle.hcc_cache.specs.Clients.{held_by, hold_of, Holds};
 ghost use Rattle.hcc_cache.specs.Sharding.{shard_of};
 ghost use Rattle.hcc_cache.specs.Known.{AreAlike, Knows};
+ghost use Rattle.hcc_cache.specs.Stays.{Stays};
 
 use crate::cache::Cache;
 use crate::client::Client;
@@ -42,6 +43,7 @@ impl<T: Tag> Cache<T> {
             (Misses self.now key client.old client.new)) }
         ensures searched { IfOk result (λ found.
             SearchesFor self.now T.fits key found client.old client.new) }
+        ensures stays { Stays self.now client.old client.new }
         ensures counts { IfOk result (λ _. CountsAt (shard_in self.now key)
             client.old client.new) }
         ensures visits { IfOk result (λ _. TakesFor self.now 7 (λ v w. 0)
@@ -61,6 +63,7 @@ impl<T: Tag> Cache<T> {
             Finds self.now T.fits key handle client.old client.new) }
         ensures missed { IfNone result (Misses self.now key client.old client.new) }
         ensures searched { SearchesFor self.now T.fits key result client.old client.new }
+        ensures stays { Stays self.now client.old client.new }
         ensures counts { CountsAt (shard_in self.now key) client.old client.new }
         ensures visits { TakesFor self.now 7 (λ v w. 0) (shard_in self.now key)
             client.old client.new }
@@ -99,6 +102,7 @@ impl<T: Tag> Cache<T> {
         ensures refused { OnErr result (client.new ≡ client.old) }
         ensures again { IfOk result (λ more. Rerefs self.now handle more client.old client.new) }
         ensures acquires { IfOk result (λ _. AcquiresFor self.now handle client.old client.new) }
+        ensures stays { Stays self.now client.old client.new }
         ensures counts { IfOk result (λ _. CountsBy handle client.old client.new) }
         ensures steps { TakesAtMost 2 client.old client.new }
     {
@@ -129,6 +133,7 @@ impl<T: Tag> Cache<T> {
         ensures again { Rerefs self.now handle result client.old client.new }
         ensures acquires { AtShard self.now (λ shard was is. (counts : _)
             × AcquiresAt shard slot counts was is) hold.shard client.old client.new }
+        ensures stays { Stays self.now client.old client.new }
         ensures counts { CountsAt hold.shard client.old client.new }
         ensures steps { TakesAtMost 2 client.old client.new }
     {
@@ -157,6 +162,7 @@ impl<T: Tag> Cache<T> {
         requires free { (held_by client.old < client.old.most) × (0 < client.old.left) }
         ensures known { Knows self.now client.new }
         ensures again { Rerefs self.now handle result client.old client.new }
+        ensures stays { Stays self.now client.old client.new }
         ensures counts { CountsNone client.old client.new }
         ensures steps { TakesAtMost 0 client.old client.new }
     {

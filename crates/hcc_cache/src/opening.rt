@@ -1,8 +1,12 @@
 //! A new cache, whose clients are dealt a seat at each shard.
 ghost use Rattle.std.specs.Prelude.{◌≡◌, Err, IfOk, IfErr, IsOkUnless, OnOk, length};
 ghost use Rattle.hcc_shard.specs.Seated.{AreNew};
+ghost use Rattle.hcc_shard.specs.Stays.{BeganWithinLimits, KnowNoEvent};
 ghost use Rattle.hcc_cache.specs.Configs.{checked, IsAllowed};
+ghost use Rattle.hcc_cache.specs.Ended.{KnowNothing};
+ghost use Rattle.hcc_cache.specs.Keys.{fits_seeded};
 ghost use Rattle.hcc_cache.specs.Opened.{AreGiven, AreUnseated, IsConfigured, IsOpened};
+ghost use Rattle.hcc_cache.specs.Stays.{BeganEachWithin};
 
 use crate::cache::Cache;
 use crate::client::Client;
@@ -16,7 +20,7 @@ use std::alloc::{AllocError, Global};
 
 impl<T: Tag + Copy> Cache<T> {
     /// A cache with no entries, and its clients, in order of their numbers. Each client holds
-    /// nothing, has made nothing, and has all its serials left.
+    /// nothing, has made nothing, knows of nothing that was done, and has all its serials left.
     ///
     /// It refuses what [`Config::check`] refuses, and else only where memory is refused; nothing
     /// remains then. Of a cache's calls it and `reopen` alone allocate memory: for the words of all
@@ -28,6 +32,8 @@ impl<T: Tag + Copy> Cache<T> {
         tag: T,
     ) -> Result<(Cache<T>, Vec<Client<T>>), NewError>
         ensures made { IfOk result (λ made. IsOpened config tag made.0 made.1.items) }
+        ensures began { IfOk result (λ made. BeganEachWithin made.0 T.fits) }
+        ensures past { IfOk result (λ made. KnowNothing made.1.items) }
         ensures refused { IfErr (checked config) (λ e. result ≡ Err e) }
         ensures memory { OnOk (checked config) (IsOkUnless result NewError.OutOfMemory) }
     {
@@ -45,7 +51,9 @@ impl<T: Tag + Copy> Cache<T> {
         tag: T,
     ) -> Result<(Cache<T>, Vec<Client<T>>), AllocError>
         requires { IsAllowed config }
-        ensures { IfOk result (λ made. IsOpened config tag made.0 made.1.items) }
+        ensures made { IfOk result (λ made. IsOpened config tag made.0 made.1.items) }
+        ensures began { IfOk result (λ made. BeganEachWithin made.0 T.fits) }
+        ensures past { IfOk result (λ made. KnowNothing made.1.items) }
     {
         let mut clients = unseated(alloc, config)?;
         let mut shards = Vec::with_capacity(alloc, config.shards as usize)?;
@@ -76,6 +84,8 @@ fn configured<T: Tag + Copy>(
     ensures shard { IfOk result (λ made. IsConfigured config tag made.0) }
     ensures count { IfOk result (λ made. length made.1.items ≡ config.clients) }
     ensures seats { IfOk result (λ made. AreNew made.0 0 made.1.items) }
+    ensures began { IfOk result (λ made. BeganWithinLimits made.0 (fits_seeded T.fits)) }
+    ensures past { IfOk result (λ made. KnowNoEvent made.1.items) }
 {
     let tag = Seeded {
         tag,

@@ -6,6 +6,7 @@ ghost use Rattle.hcc_cache.specs.Calls.{Reads, TakesAtMost};
 ghost use Rattle.hcc_cache.specs.Clients.{held_of, hold_of, Holds};
 ghost use Rattle.hcc_cache.specs.Handles.{handle_of, HoldsNone};
 ghost use Rattle.hcc_cache.specs.Known.{Knows};
+ghost use Rattle.hcc_cache.specs.Stays.{Stays};
 
 use crate::cache::Cache;
 use crate::client::Client;
@@ -37,6 +38,7 @@ impl<T: Tag> Cache<T> {
         requires holds { Holds client.old handle }
         ensures known { Knows self.now client.new }
         ensures reads { Reads self.now client.old client.new }
+        ensures stays { Stays self.now client.old client.new }
         ensures exact { IfSome (held_of self.now client.old handle) (λ held.
             result ≡ length held.insertion.value) }
         ensures steps { TakesAtMost 1 client.old client.new }
@@ -57,6 +59,7 @@ impl<T: Tag> Cache<T> {
             length held.insertion.value ≤ length buffer.old) }
         ensures known { Knows self.now client.new }
         ensures reads { Reads self.now client.old client.new }
+        ensures stays { Stays self.now client.old client.new }
         ensures length { IfSome (held_of self.now client.old handle) (λ held.
             result ≡ length held.insertion.value) }
         ensures bytes { IfSome (held_of self.now client.old handle) (λ held.
@@ -86,6 +89,7 @@ impl<T: Tag> Cache<T> {
             × (buffer.new ≡ buffer.old)) }
         ensures some { IfSome result (λ _. Holds client.old (handle_of numbers)) }
         ensures reads { Reads self.now client.old client.new }
+        ensures stays { Stays self.now client.old client.new }
         ensures read { IfSome result (λ a. IfOk a (λ len.
             IfSome (held_of self.now client.old (handle_of numbers)) (λ held.
             (len ≡ length held.insertion.value)
@@ -110,6 +114,7 @@ impl<T: Tag> Cache<T> {
         requires held { hold_of client.old handle ≡ Some hold }
         ensures known { Knows self.now client.new }
         ensures reads { Reads self.now client.old client.new }
+        ensures stays { Stays self.now client.old client.new }
         ensures exact { IfSome (held_of self.now client.old handle) (λ held.
             result ≡ length held.insertion.value) }
         ensures rest { client.new ≡ record client.old { seats = client.new.seats } }
@@ -143,6 +148,7 @@ impl<T: Tag> Cache<T> {
             length held.insertion.value ≤ length buffer.old) }
         ensures known { Knows self.now client.new }
         ensures reads { Reads self.now client.old client.new }
+        ensures stays { Stays self.now client.old client.new }
         ensures length { IfSome (held_of self.now client.old handle) (λ held.
             result ≡ length held.insertion.value) }
         ensures bytes { IfSome (held_of self.now client.old handle) (λ held.
@@ -181,6 +187,7 @@ impl<T: Tag> Cache<T> {
         requires held { hold_of client.old handle ≡ Some hold }
         ensures known { Knows self.now client.new }
         ensures reads { Reads self.now client.old client.new }
+        ensures stays { Stays self.now client.old client.new }
         ensures read { IfOk result (λ len. IfSome (held_of self.now client.old handle) (λ held.
             (len ≡ length held.insertion.value)
             × (buffer.new ≡ held.insertion.value ++ drop len buffer.old))) }

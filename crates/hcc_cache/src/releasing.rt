@@ -1,10 +1,11 @@
 //! Handles that are given back.
-ghost use Rattle.std.specs.Prelude.{◌≡◌, ◌+◌, ◌*◌, ◌&&◌, IfNone, IfSome, Some};
+ghost use Rattle.std.specs.Prelude.{◌≡◌, ◌+◌, ◌*◌, ◌&&◌, true, false, IfNone, IfSome, Some};
 ghost use Rattle.hcc_cache.specs.declared.holding.Kept.TheVariants.{Pinned, Standing};
 ghost use Rattle.hcc_cache.specs.Calls.{CountsAt, CountsBy, CountsNone, GivesBackIn, GivesUp, Releases, TakesAtMost};
 ghost use Rattle.hcc_cache.specs.Clients.{hold_of, Holds};
 ghost use Rattle.hcc_cache.specs.Handles.{handle_of, HoldsNone};
 ghost use Rattle.hcc_cache.specs.Known.{Knows};
+ghost use Rattle.hcc_cache.specs.Stays.{ReleasesIn, ReleasesPin, Stays};
 ghost use Rattle.hcc_table.specs.Steps.{freeing};
 
 use crate::cache::Cache;
@@ -37,6 +38,9 @@ impl<T: Tag> Cache<T> {
         ensures released { Releases self.now handle erase_if_last result client.old client.new }
         ensures gives { GivesUp self.now handle useful erase_if_last result
             client.old client.new }
+        ensures by { ReleasesIn self.now handle useful erase_if_last result
+            client.old client.new }
+        ensures stays { result ≡ false → Stays self.now client.old client.new }
         ensures counts { CountsBy handle client.old client.new }
         ensures steps { TakesAtMost (freeing self.now.geometry.slots + 3) client.old client.new }
     {
@@ -64,6 +68,9 @@ impl<T: Tag> Cache<T> {
             erase_if_last freed client.old client.new) }
         ensures gives { IfSome result (λ freed. GivesUp self.now (handle_of numbers) useful
             erase_if_last freed client.old client.new) }
+        ensures by { IfSome result (λ freed. ReleasesIn self.now (handle_of numbers) useful
+            erase_if_last freed client.old client.new) }
+        ensures stays { ¬ (result ≡ Some true) → Stays self.now client.old client.new }
         ensures counts { IfSome result (λ _. CountsBy (handle_of numbers)
             client.old client.new) }
         ensures steps { TakesAtMost (freeing self.now.geometry.slots + 3) client.old client.new }
@@ -88,6 +95,9 @@ impl<T: Tag> Cache<T> {
         ensures released { Releases self.now handle erase_if_last result client.old client.new }
         ensures gives { GivesUp self.now handle useful erase_if_last result
             client.old client.new }
+        ensures by { ReleasesIn self.now handle useful erase_if_last result
+            client.old client.new }
+        ensures stays { result ≡ false → Stays self.now client.old client.new }
         ensures counts { CountsBy handle client.old client.new }
         ensures steps { TakesAtMost (freeing self.now.geometry.slots + 3) client.old client.new }
     {
@@ -122,6 +132,9 @@ impl<T: Tag> Cache<T> {
         ensures released { Releases self.now handle erase_if_last result client.old client.new }
         ensures gives { GivesBackIn self.now hold.shard pin.slot (useful && pin.counting)
             erase_if_last result client.old client.new }
+        ensures by { ReleasesPin self.now hold pin.slot (useful && pin.counting)
+            erase_if_last result client.old client.new }
+        ensures stays { result ≡ false → Stays self.now client.old client.new }
         ensures counts { CountsAt hold.shard client.old client.new }
         ensures steps { TakesAtMost (freeing self.now.geometry.slots + 3) client.old client.new }
     {
@@ -150,6 +163,7 @@ impl<T: Tag> Cache<T> {
         ensures known { Knows self.now client.new }
         ensures released { (erase : _) → Releases self.now handle erase result
             client.old client.new }
+        ensures stays { result ≡ false → Stays self.now client.old client.new }
         ensures counts { CountsNone client.old client.new }
         ensures steps { TakesAtMost 2 client.old client.new }
     {

@@ -4,6 +4,7 @@ ghost use Rattle.hcc_core.specs.declared.limits.TheConstants.{MOST_SLOTS};
 ghost use Rattle.hcc_rule.specs.Beginnings.{OpensWith};
 ghost use Rattle.hcc_shard.specs.Reopened.{AreFitting, refusal_of};
 ghost use Rattle.hcc_shard.specs.Seated.{AreBegun};
+ghost use Rattle.hcc_shard.specs.Stays.{BeganWithinLimits, KnowNoEvent};
 ghost use Rattle.hcc_cache.specs.Configs.{IsAllowed, checked, shard_capacity, shard_geometry};
 ghost use Rattle.hcc_cache.specs.Images.{AreRight, Visible, visible_of};
 ghost use Rattle.hcc_cache.specs.Keys.{fits_seeded};
@@ -130,6 +131,8 @@ fn reopened<T: Tag + Copy>(
         OpensWith (fits_seeded T.fits) made.0.table entries.now.items) }
     ensures count { IfOk result (λ made. length made.1.items ≡ config.clients) }
     ensures seats { IfOk result (λ made. AreBegun made.0 entries.now.items made.1.items) }
+    ensures began { IfOk result (λ made. BeganWithinLimits made.0 (fits_seeded T.fits)) }
+    ensures past { IfOk result (λ made. KnowNoEvent made.1.items) }
 {
     let seed = config.seed;
     let tag = Seeded { tag, seed };

@@ -8,6 +8,7 @@ ghost use Rattle.hcc_shard.specs.Counted.{LoadsUsage};
 ghost use Rattle.hcc_cache.specs.Calls.{AtShard, CountsNone, KeepsAll, OnlyAt, Reads, TakesAtMost, Works};
 ghost use Rattle.hcc_cache.specs.Clients.{view_at};
 ghost use Rattle.hcc_cache.specs.Known.{Knows};
+ghost use Rattle.hcc_cache.specs.Stays.{Stays};
 ghost use Rattle.hcc_cache.specs.Totals.{charge_by, charge_in, entries_by, made_by, no_stats, stats_over, stats_with, taken_by, CountsEach, CountsHeldAt, LoadsEachOccupancy, LoadsEachUsage, LoadsUsages, SearchesAll};
 ghost use Rattle.hcc_rule.specs.ToldLedgers.{after_usage};
 ghost use Rattle.hcc_rule.specs.Records.{different};
@@ -79,6 +80,7 @@ impl<T: Tag> Cache<T> {
         ensures alone { self.now.geometry.clients ≡ 1
             → result ≡ charge_by client.old }
         ensures loads { CountsEach self.now T.fits result client.old client.new }
+        ensures stays { Stays self.now client.old client.new }
         ensures steps { TakesAtMost
             (length self.now.shards.items * (5 * self.now.geometry.slots + 1))
             client.old client.new }
@@ -104,6 +106,7 @@ impl<T: Tag> Cache<T> {
             → result ≡ charge_in (view_at shard client.old) }
         ensures loads { AtShard self.now (λ at was is. CountsHeldAt T.fits at result was is)
             shard client.old client.new }
+        ensures stays { Stays self.now client.old client.new }
         ensures others { OnlyAt shard client.old client.new }
         ensures steps { TakesAtMost (5 * self.now.geometry.slots + 1) client.old client.new }
     {
@@ -175,6 +178,7 @@ impl<T: Tag> Cache<T> {
         ensures backs { Backs slot result (view_at shard client.old) }
         ensures loads { AtShard self.now (λ at was is. LoadsWord at slot result was is) shard
             client.old client.new }
+        ensures stays { Stays self.now client.old client.new }
         ensures counts { CountsNone client.old client.new }
         ensures steps { TakesAtMost 1 client.old client.new }
     {
@@ -199,6 +203,7 @@ impl<T: Tag> Cache<T> {
         ensures loads { AtShard self.now (λ at was is. LoadsDisplacement at slot result was is)
             shard
             client.old client.new }
+        ensures stays { Stays self.now client.old client.new }
         ensures steps { TakesAtMost 1 client.old client.new }
     {
         let shard = shard as usize;

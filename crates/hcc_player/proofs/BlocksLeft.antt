@@ -1,14 +1,12 @@
 -- A whole play of block reads: what is left was inserted for misses that weren't faults.
-use Rattle.std.proofs.Common.{◌≡◌, ◌≢◌, ℕ, zero, suc, ◌+◌, ◌<◌, ◌≤◌, inl, inr, false, true, Bool}
+use Rattle.std.proofs.Common.{◌≡◌, ◌≢◌, ℕ, zero, suc, ◌+◌, ◌≤◌, inl, inr, false}
 use Rattle.std.proofs.Common.{List}
-use Rattle.std.proofs.Common.{[], ◌∷◌, ◌++◌, Option, Some, None, Result, Ok, Err, length, refl, sym}
+use Rattle.std.proofs.Common.{[], ◌∷◌, ◌++◌, Some, Ok, Err, length, refl, sym}
 use Rattle.std.proofs.Common.{ap, ◌∙◌, arith}
 use Rattle.std.specs.Prelude.{slice_get}
 use Rattle.std.specs.List.{range_with_len}
 use Rattle.std.proofs.lemmas.Bool.{cases_eq}
-use Rattle.std.proofs.lemmas.Option.{slice_get_within}
 use Rattle.hcc_core.specs.Sums.{total}
-use Rattle.hcc_rule.proofs.Basics.Lists.{there}
 use Rattle.hcc_rule.proofs.LastSeat.ClosingSums.{total_both}
 use Rattle.hcc_rule.specs.declared.key.Key.{Key}
 use Rattle.hcc_rule.specs.declared.view.Made.{Made}
@@ -25,12 +23,11 @@ use Rattle.hcc_cache.specs.Inserts.{Inserts}
 use Rattle.hcc_cache.specs.Left.{over_shards}
 use Rattle.hcc_cache.specs.Opened.{IsOpened}
 use Rattle.hcc_cache.specs.Totals.{taken_by}
-use Rattle.hcc_block.specs.Blocks.{block_of, key_of}
-use Rattle.hcc_block.specs.Reads.{Copies, Hands, Lacks, Loads}
+use Rattle.hcc_block.specs.Reads.{Copies, Hands, Lacks}
 use Rattle.hcc_player.specs.declared.blocks.line.BlockRead.{BlockRead}
 use Rattle.hcc_player.specs.declared.blocks.tally.ClientReport.{ClientReport}
 use Rattle.hcc_player.specs.Reading.{Counts, ReadsLine, ReadsLines, counts_of, no_counts}
-use Rattle.hcc_player.proofs.CountLemmas.{made_at, made_over, range_same}
+use Rattle.hcc_player.proofs.CountLemmas.{range_same}
 use Rattle.hcc_player.proofs.LeftLemmas.{closed_left, opened_none}
 use Rattle.hcc_player.proofs.MadeLemmas.{MadeNone, listed, made_in, none_same, none_then}
 use Rattle.hcc_player.proofs.MadeLemmas.{none_works}
@@ -110,7 +107,8 @@ module _ {T : Type 0} (fits : T → Key → List ℕ → Type 0) (cache : Cache 
           (refused_none cache key (length value) Low value error old new s) in
           omega arith
 
-  lacks_none : (key : Key) (old new : Client T) → Lacks cache key fits old new → MadeNone old new
+  pub lacks_none : (key : Key) (old new : Client T) → Lacks cache key fits old new
+      → MadeNone old new
   lacks_none key old new lacks = elim lacks [
     | inl refused ↦ none_same old new refused.1
     | inr missed ↦
@@ -118,7 +116,7 @@ module _ {T : Type 0} (fits : T → Key → List ℕ → Type 0) (cache : Cache 
         (ap listed missed.0.misses.sought.searched.same)
   ]
 
-  copies_none : (key : Key) (old new : Client T) → Copies cache key fits old new
+  pub copies_none : (key : Key) (old new : Client T) → Copies cache key fits old new
       → MadeNone old new
   copies_none key old new c =
       none_then old c.found new

@@ -1,5 +1,5 @@
 -- What the calls of a trace leave of a client and its registers.
-use Rattle.std.proofs.Common.{◌≡◌, ℕ, zero, suc, ◌+◌, ◌<◌, ◌≤◌, true, false, List, Option, Some}
+use Rattle.std.proofs.Common.{◌≡◌, ℕ, zero, suc, ◌<◌, ◌≤◌, true, false, List, Option, Some}
 use Rattle.std.proofs.Common.{None, Result, Ok, Err, IsSome, length, inl, inr, refl, sym, ap, ◌∙◌}
 use Rattle.std.proofs.Common.{subst, arith}
 use Rattle.std.specs.Prelude.{◌↔◌, is_some, slice_set}
@@ -18,21 +18,18 @@ use Rattle.hcc_cache.specs.declared.holding.Hold.{Hold}
 use Rattle.hcc_cache.specs.declared.inserting.Inserted.{Inserted}
 use Rattle.hcc_cache.specs.declared.inserting.Inserted.TheVariants as inserted
 use Rattle.hcc_cache.specs.declared.priority.Priority.{Priority}
-use Rattle.hcc_cache.specs.Calls.{Finds, Misses, Releases, Rerefs}
+use Rattle.hcc_cache.specs.Calls.{Finds, Releases, Rerefs}
 use Rattle.hcc_cache.specs.Clients.{Held, Insertion, held_by, held_entry, held_of, hold_of, Holds}
-use Rattle.hcc_cache.specs.Configs.{shard_capacity}
 use Rattle.hcc_cache.specs.Inserts.{Inserts, InsertsWith, RefusesWith}
 use Rattle.hcc_cache.specs.Known.{Knows}
-use Rattle.hcc_player.specs.declared.run.answer.Answer.{Answer}
 use Rattle.hcc_player.specs.declared.run.answer.Answer.TheVariants as answers
-use Rattle.hcc_player.specs.declared.run.call.Call.{Call}
 use Rattle.hcc_player.specs.declared.run.call.Call.TheVariants as calls
 use Rattle.hcc_player.specs.Registers.{at, AreFilled, IsFilled, IsLimited, IsOn}
 use Rattle.hcc_player.specs.RunAnswers.{insert_answer, placed_answer, refusal_of, IsRight}
 use Rattle.hcc_player.specs.RunStates.{IsRefused, MayHold, MayInsert, RefusesPin, State}
 use Rattle.hcc_player.specs.RunStates.{with_emptied, with_filled, with_serial}
 use Rattle.hcc_player.proofs.RegisterLemmas.{less_filled, more_filled, on_register}
-use Rattle.hcc_player.proofs.RegisterLemmas.{same_filled, serial_filled}
+use Rattle.hcc_player.proofs.RegisterLemmas.{serial_filled}
 
 -- no handle is in a register that a look finds empty
 pub no_handle : (handles : List (Option Handle)) (r : ℕ) → is_some (at handles r) ≡ false

@@ -1,20 +1,16 @@
 -- How many entries clients made, at all shards, as the lines of a trace are played.
 use Rattle.std.proofs.Common.{◌≡◌, ◌≢◌, inl, inr, ℕ, zero, suc, ◌+◌, ◌<◌, ◌≤◌, List, [], ◌∷◌, ◌++◌}
-use Rattle.std.proofs.Common.{Option, Some, None, is_some, length, map, refl, sym, ap, ◌∙◌, arith}
+use Rattle.std.proofs.Common.{Option, Some, None, is_some, length, refl, ap, ◌∙◌, arith}
 use Rattle.std.specs.Prelude.{slice_get, slice_set}
 use Rattle.std.specs.List.{range_with_len}
 use Rattle.std.proofs.lemmas.Bool.{cases_eq}
-use Rattle.std.proofs.lemmas.List.FromFn.{length-range_with_len}
 use Rattle.hcc_core.specs.Sums.{total, when}
 use Rattle.hcc_core.proofs.SumLemmas.{total-set}
-use Rattle.hcc_rule.proofs.Basics.Findings.{total-same}
-use Rattle.hcc_rule.proofs.LastSeat.ClosingSums.{total_both, total_range}
 use Rattle.hcc_rule.specs.declared.view.Made.{Made}
-use Rattle.hcc_rule.specs.declared.view.View.{View}
 use Rattle.hcc_cache.specs.declared.cache.Cache.{Cache}
 use Rattle.hcc_cache.specs.declared.client.Client.{Client}
 use Rattle.hcc_cache.specs.Clients.{Insertion}
-use Rattle.hcc_player.proofs.MadeLemmas.{Adds, MadeNone, MadeOne, made_in}
+use Rattle.hcc_player.proofs.MadeLemmas.{Adds, made_in}
 
 -- Sums over shards.
 

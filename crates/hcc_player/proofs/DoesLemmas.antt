@@ -1,5 +1,5 @@
 -- What calls that fill a register did.
-use Rattle.std.proofs.Common.{◌≡◌, ℕ, true, false, Bool, List, Option, Some, None, refl}
+use Rattle.std.proofs.Common.{◌≡◌, ℕ, List, Option, Some}
 use Rattle.std.proofs.Common.{ap, ◌∙◌, ◌<◌, length}
 use Rattle.std.specs.Prelude.{slice_set}
 use Rattle.hcc_rule.specs.declared.key.Key.{Key}

@@ -1,12 +1,12 @@
 -- A whole play: the entries that are left, and those that were taken, are as many as were placed.
-use Rattle.std.proofs.Common.{◌≡◌, ℕ, zero, suc, ◌+◌, ◌<◌, ◌≤◌, false, List, [], ◌∷◌, Option, Some}
-use Rattle.std.proofs.Common.{None, is_some, length, length-set, map, refl, sym, ap, ◌∙◌, subst}
+use Rattle.std.proofs.Common.{◌≡◌, ℕ, zero, suc, ◌+◌, ◌<◌, false, List, [], ◌∷◌, Option, Some}
+use Rattle.std.proofs.Common.{None, length, length-set, map, refl, sym, ap, ◌∙◌}
 use Rattle.std.proofs.Common.{arith}
-use Rattle.std.specs.Prelude.{slice_get, slice_set}
+use Rattle.std.specs.Prelude.{slice_get}
 use Rattle.std.specs.List.{range_with_len}
 use Rattle.std.specs.declared.alloc.Global.{Global}
 use Rattle.std.proofs.lemmas.Option.{slice_get_within}
-use Rattle.hcc_core.specs.Sums.{total, when}
+use Rattle.hcc_core.specs.Sums.{total}
 use Rattle.hcc_rule.proofs.Basics.Lists.{there}
 use Rattle.hcc_rule.proofs.LastSeat.ClosingSums.{total_both, total_range}
 use Rattle.hcc_rule.specs.declared.key.Key.{Key}
@@ -22,7 +22,7 @@ use Rattle.hcc_cache.specs.declared.config.Config.{Config}
 use Rattle.hcc_cache.specs.declared.handle.Handle.{Handle}
 use Rattle.hcc_cache.specs.declared.seeded.Seeded.{Seeded}
 use Rattle.hcc_cache.specs.Clients.{view_at, view_by, view_in}
-use Rattle.hcc_cache.specs.Closings.{AreBack, IsClosed, views_at}
+use Rattle.hcc_cache.specs.Closings.{AreBack, IsClosed}
 use Rattle.hcc_cache.specs.Left.{given, over_shards}
 use Rattle.hcc_cache.specs.Opened.{IsOpened}
 use Rattle.hcc_cache.specs.Totals.{taken_at, taken_by}
@@ -30,7 +30,7 @@ use Rattle.hcc_player.specs.declared.run.answer.Answer.{Answer}
 use Rattle.hcc_player.specs.declared.run.call.Call.TheVariants as calls
 use Rattle.hcc_player.specs.declared.run.call.RunLine.{RunLine}
 use Rattle.hcc_player.specs.declared.run.registers.Registers.{Registers}
-use Rattle.hcc_player.specs.Runs.{ClosesAfter, LetsGo, Makes, MakesAll, placed_by, placed_in}
+use Rattle.hcc_player.specs.Runs.{ClosesAfter, LetsGo, MakesAll, placed_by, placed_in}
 use Rattle.hcc_player.proofs.CountLemmas.{made_at, made_over, over_adds, range_same}
 use Rattle.hcc_player.proofs.MadeLemmas.{MadeNone, adds, made_in, none_same, none_then}
 

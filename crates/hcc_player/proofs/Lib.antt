@@ -13,6 +13,7 @@ pub mod Adding
 pub mod ReadBounds
 pub mod ReadLemmas
 pub mod BlocksLeft
+pub mod ReadsPlaced
 pub mod Dealing
 pub mod Crewing
 pub mod JsonLemmas
@@ -25,11 +26,13 @@ pub mod CountLemmas
 pub mod LeftLemmas
 pub mod PlacedLemmas
 pub mod Gathering
+pub mod PlacedLeft
 pub mod LeavesLemmas
 pub mod RunningLemmas
 pub mod CallLemmas
 pub mod DoesLemmas
 pub mod EndLemmas
+pub mod AloneLemmas
 pub mod PlayRunLemmas
 pub mod Fine
 pub mod Playing

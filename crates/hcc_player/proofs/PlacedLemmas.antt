@@ -1,6 +1,6 @@
 -- Which lines of a trace placed the entries that clients made.
-use Rattle.std.proofs.Common.{◌≡◌, ◌≢◌, ℕ, zero, suc, ◌+◌, ◌==◌, ◌&&◌, inl, inr, true, false, Bool}
-use Rattle.std.proofs.Common.{List, [], ◌∷◌, ◌++◌, Option, Some, None, length, refl, sym, ap, ◌∙◌}
+use Rattle.std.proofs.Common.{◌≡◌, ◌≢◌, ℕ, zero, suc, ◌+◌, ◌==◌, inl, inr, true, false, Bool}
+use Rattle.std.proofs.Common.{List, [], ◌∷◌, ◌++◌, Option, Some, None, refl, sym, ap, ◌∙◌}
 use Rattle.std.proofs.Common.{append_assoc, append-nil, arith, rules, tests}
 use Rattle.std.specs.Prelude.{slice_get, slice_set}
 use Rattle.std.proofs.lemmas.Bool.{cases_eq}
@@ -15,7 +15,7 @@ use Rattle.hcc_player.specs.declared.run.call.RunLine.{RunLine}
 use Rattle.hcc_player.specs.declared.run.registers.Registers.{Registers}
 use Rattle.hcc_player.specs.Runs.{Makes, MakesAll, placed_by}
 use Rattle.hcc_player.specs.Work.{AllWith}
-use Rattle.hcc_player.proofs.EndLemmas.{at_member, off_member}
+use Rattle.hcc_player.proofs.EndLemmas.{off_member}
 use Rattle.hcc_player.proofs.MadeLemmas.{Adds, adds, made_in}
 
 -- an insertion that the line at a place placed
@@ -23,7 +23,7 @@ pub record Placed : Type 0 where
   pub place : ℕ
   pub insertion : Insertion
 
-abbrev with_placed : Option Insertion → ℕ → List Placed → List Placed
+abbrev pub with_placed : Option Insertion → ℕ → List Placed → List Placed
 with_placed None place rest = rest
 with_placed (Some insertion) place rest =
     record { place = place; insertion = insertion } ∷ rest
@@ -34,7 +34,7 @@ IsChargedAs made placed = made.charge ≡ placed.insertion.charge
 
 module _ {T : Type 0} (cache : Cache T) (c s : ℕ) where
   -- the insertion if it is of this client, at this shard
-  abbrev only_here : (client : ℕ) → Option Insertion → Option Insertion
+  abbrev pub only_here : (client : ℕ) → Option Insertion → Option Insertion
   only_here client None = None
   only_here client (Some i) = at (client == c) (shard_in cache i.key == s)
     where
@@ -169,12 +169,12 @@ module _ {T : Type 0} (cache : Cache T) (c s : ℕ) where
       by rest (Some x) (suc i) (suc j) at on = ap suc (rest i j at on)
 
   -- One line: what it adds to what the client made at this shard.
-  abbrev AddsHere : Option Insertion → (old new : Client T) → Type 0
+  abbrev pub AddsHere : Option Insertion → (old new : Client T) → Type 0
   AddsHere None old new = made_in s new ≡ made_in s old
   AddsHere (Some i) old new =
       (m : Made) × (m.charge ≡ i.charge) × (made_in s new ≡ made_in s old ++ m ∷ [])
 
-  adds_here : (placed : Option Insertion) (old new : Client T) → Adds cache placed old new
+  pub adds_here : (placed : Option Insertion) (old new : Client T) → Adds cache placed old new
       → AddsHere (only_here c placed) old new
   adds_here None old new none = none.same s
   adds_here (Some i) old new one =
@@ -188,12 +188,12 @@ module _ {T : Type 0} (cache : Cache T) (c s : ℕ) where
             rw (on, at) (one.others s (λ e. other (sym e)))
       ]
 
-  numbers : (placed : Option Insertion) (old new : Client T) → Adds cache placed old new
+  pub numbers : (placed : Option Insertion) (old new : Client T) → Adds cache placed old new
       → new.number ≡ old.number
   numbers None old new none = none.number
   numbers (Some i) old new one = one.number
 
-  others_none : (client : ℕ) (placed : Option Insertion) → client ≢ c
+  pub others_none : (client : ℕ) (placed : Option Insertion) → client ≢ c
       → only_here client placed ≡ None
   others_none client None other = refl
   others_none client (Some i) other =
@@ -206,7 +206,7 @@ module _ {T : Type 0} (cache : Cache T) (c s : ℕ) where
     pub charges : AllWith IsChargedAs more placed
     pub number : new.number ≡ old.number
 
-  made_first : (o : Option Insertion) (from : ℕ) (placed : List Placed)
+  pub made_first : (o : Option Insertion) (from : ℕ) (placed : List Placed)
       (old mid new : Client T) → AddsHere o old mid → mid.number ≡ old.number
       → MadeBy placed mid new → MadeBy (with_placed o from placed) old new
   made_first None from placed old mid new same number rest = record {

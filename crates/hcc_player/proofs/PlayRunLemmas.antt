@@ -1,10 +1,10 @@
 -- A whole play of a trace: what is written for its text.
-use Rattle.std.proofs.Common.{◌≡◌, ◌⊎◌, inl, inr, ℕ, zero, suc, ◌≤◌, List, [], ◌∷◌, ◌++◌, Option}
+use Rattle.std.proofs.Common.{◌≡◌, inl, inr, ℕ, zero, suc, ◌≤◌, List, [], ◌++◌, Option}
 use Rattle.std.proofs.Common.{Some}
 use Rattle.std.proofs.Common.{None, Result, Ok, Err, IsOk, IfSome, ◌+◌, length, refl, sym, ap, ◌∙◌}
 use Rattle.std.proofs.Common.{subst}
 use Rattle.std.proofs.Common.{zero-add}
-use Rattle.std.specs.Io.KnownBytes.{Appends, Keeps}
+use Rattle.std.specs.Io.KnownBytes.{Keeps}
 use Rattle.hcc_core.specs.Sums.{total}
 use Rattle.hcc_rule.specs.declared.key.Key.{Key}
 use Rattle.hcc_cache.specs.declared.cache.Cache.{Cache}
@@ -26,7 +26,8 @@ use Rattle.hcc_player.specs.Judged.{FailsToJudge, IsAtFault}
 use Rattle.hcc_player.specs.Options.{config_check}
 use Rattle.hcc_player.specs.RunLine.{run_line}
 use Rattle.hcc_player.specs.Script.{script_of}
-use Rattle.hcc_player.specs.Runs.{AreEmpty, IsRunOf}
+use Rattle.hcc_player.specs.RunAlone.{AreAllExact}
+use Rattle.hcc_player.specs.Runs.{AreEmpty, MakesAll}
 use Rattle.hcc_player.specs.PlayRun.{Agree, Answered, AnsweredPart, AreManned, Ended, EndedPart}
 use Rattle.hcc_player.specs.PlayRun.{EndsRun, FitsIn, IsOutput, PlaysAll, Writes, WritesFront}
 use Rattle.hcc_player.specs.Registers.{at, AreFilled, IsFilled}
@@ -122,9 +123,11 @@ pub play_whole : (tag : TraceTag) (cache : Cache TraceTag) (config : Config)
     → IsOpened config tag cache first → length empty ≡ length first → AreEmpty empty
     → Answered (Inserts lines) fits_trace cache config lines first last empty kept old mid []
     pending
+    → ((told : List Answer) (makes : MakesAll fits_trace cache lines told first last empty kept)
+    → config.clients ≡ 1 → AreAllExact cache fits_trace lines told first last empty kept makes)
     → Ended fits_trace cache last kept mid new pending → PlaysAll config lines old new
 play_whole tag cache config lines first last empty kept old mid new pending opened alike nothing
-    answered ended =
+    answered exact ended =
     let text = answers_text answered.0 in
     let more = sums_text ended.0 in (
       text ++ more,
@@ -149,6 +152,7 @@ play_whole tag cache config lines first last empty kept old mid new pending open
         leaves = leaves_placed fits_trace config tag cache lines answered.0 first last empty kept
             ended.2.0 opened alike answered.3 ended.2.1 ended.0 ended.2.2.slots
             ended.2.2.charges;
+        alone = exact answered.0 answered.3;
       },
       all_out old new (text ++ more) (leaves_less old mid new (text ++ more) (pending ++ more) []
           (leaves_more old mid text pending more answered.4)

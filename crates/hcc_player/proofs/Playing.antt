@@ -1,5 +1,6 @@
 -- Workers that begin with a new cache, and end.
-use Rattle.std.proofs.Common.{◌≡◌, ℕ, ◌<◌, ◌≤◌, List, [], Some, length, map, get_or, slice_get, ap, subst, sym, ◌∙◌, arith}
+use Rattle.std.proofs.Common.{◌≡◌, ℕ, zero, suc, ◌<◌, ◌≤◌, List, [], ◌++◌, Some, length, map, get_or}
+use Rattle.std.proofs.Common.{slice_get, refl, ap, subst, sym, ◌∙◌, arith}
 use Rattle.std.specs.List.{All}
 use Rattle.std.proofs.lemmas.Option.{get_or_from_slice_get, slice_get_within}
 use Rattle.hcc_cache.specs.declared.cache.Cache.{Cache}
@@ -18,6 +19,7 @@ use Rattle.hcc_player.specs.declared.blocks.worker.Done.{Done}
 use Rattle.hcc_player.specs.declared.blocks.worker.Worker.{Worker}
 use Rattle.hcc_player.specs.declared.options.Options.{Options}
 use Rattle.hcc_player.specs.declared.sums.Sums.{Sums}
+use Rattle.hcc_player.specs.BlocksLeft.{reads_by}
 use Rattle.hcc_player.specs.Deal.{AreDealt}
 use Rattle.hcc_player.specs.PlayBlocks.{ArePlayed}
 use Rattle.hcc_player.specs.Reading.{IsReadOf, ReadsLines, counts_of, no_counts}
@@ -175,13 +177,21 @@ module _ {S : Type 0} (content : S → List (List ℕ)) (reliable : S → Type 0
       (subst (λ x. Read k r x d.0.client) before
       (subst (λ x. Read k x has.client d.0.client) report has.reads))
 
+-- the same reads of each client are the same reads of all
+reads_same : (f g : ℕ → List BlockRead) (n : ℕ) → ((k : ℕ) → k < n → f k ≡ g k)
+    → reads_by f n ≡ reads_by g n
+reads_same f g zero same = refl
+reads_same f g (suc n) same =
+    ap (λ l. l ++ f n) (reads_same f g n (λ k low. same k (omega arith)))
+    ∙ ap (λ l. reads_by g n ++ l) (same n (omega arith))
+
 -- what clients did for the reads that were dealt to them is what they did for their lines
-pub read_lines : (files : List (List ℕ)) (o : Options) (clients : ℕ) (reads : List BlockRead)
+pub read_lines : (files : List (List ℕ)) (o : Options) (reads : List BlockRead)
     (lists : List (List BlockRead)) (sums : Sums) (told : List ClientReport)
-    → length told ≡ clients → AreDealt clients reads lists
+    → length told ≡ o.config.clients → AreDealt o.config.clients reads lists
     → IsReadOf files o (λ client. get_or lists client []) sums told
     → IsReadOf files o (λ client. lines_for client reads) sums told
-read_lines files o clients reads lists sums told count dealt played = record {
+read_lines files o reads lists sums told count dealt played = record {
   tag = played.tag;
   named = played.named;
   cache = played.cache;
@@ -190,13 +200,16 @@ read_lines files o clients reads lists sums told count dealt played = record {
   opened = played.opened;
   count = played.count;
   each = λ k was is r first last here.
-      let within : k < clients = subst (λ n. k < n) count (slice_get_within told k r here) in
+      let within : k < o.config.clients =
+      subst (λ n. k < n) count (slice_get_within told k r here) in
       rw (← dealt.each k within) (played.each k was is r first last here);
   closed = played.closed;
   back = played.back;
   closes = played.closes;
   sums_are = played.sums_are;
   few = played.few;
+  leaves = rw (← reads_same (λ client. get_or lists client []) (λ client. lines_for client reads)
+      o.config.clients dealt.each) played.leaves;
 }
 
 -- what clients report of the reads that were dealt to them is what they report of their lines

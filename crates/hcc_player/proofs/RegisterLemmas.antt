@@ -9,7 +9,7 @@ use Rattle.hcc_cache.specs.declared.cache.Cache.{Cache}
 use Rattle.hcc_cache.specs.declared.client.Client.{Client}
 use Rattle.hcc_cache.specs.declared.handle.Handle.{Handle}
 use Rattle.hcc_cache.specs.declared.config.Config.{Config}
-use Rattle.hcc_cache.specs.Calls.{Gains, IsSelf, KeepsAll, Loses, UsesNone, UsesOne}
+use Rattle.hcc_cache.specs.Calls.{Gains, IsSelf, KeepsAll, Loses, UsesNone}
 use Rattle.hcc_cache.specs.Clients.{Held, Insertion, held_by, held_of, hold_of}
 use Rattle.hcc_cache.specs.Inserts.{KeepsHandles}
 use Rattle.hcc_cache.specs.Known.{Knows}

@@ -18,10 +18,13 @@ pub mod Registers
 pub mod RunCalls
 pub mod TraceTag
 pub mod Runs
+pub mod RunAlone
+pub mod RunOf
 pub mod PlayRun
 pub mod BlocksLine
 pub mod Tally
 pub mod Deal
+pub mod BlocksLeft
 pub mod Reading
 pub mod Work
 pub mod BlocksReport

@@ -1,5 +1,5 @@
 -- What a play of a script reads, and what it writes.
-use Rattle.std.specs.Prelude.{◌≡◌, ℕ, ◌<◌, ◌≤◌, List, [], Option, Result, Ok, Err, length}
+use Rattle.std.specs.Prelude.{ℕ, ◌<◌, ◌≤◌, List, [], Option, Result, Ok, Err, length}
 use Rattle.std.specs.Prelude.{IsOk}
 use Rattle.std.specs.Io.KnownBytes.{Keeps}
 use Rattle.hcc_core.specs.declared.setup.Setup.{Setup}

@@ -1,5 +1,5 @@
 -- What a play of a trace of calls reads, and what it writes.
-use Rattle.std.specs.Prelude.{◌≡◌, ◌⊎◌, ℕ, ◌<◌, ◌≤◌, List, [], ◌++◌, Option, Some, Ok, Err}
+use Rattle.std.specs.Prelude.{◌≡◌, ◌⊎◌, ℕ, ◌<◌, ◌≤◌, List, ◌++◌, Option, Some, Ok, Err}
 use Rattle.std.specs.Prelude.{IsOk, length, slice_get}
 use Rattle.std.specs.Io.KnownBytes.{Appends, Keeps}
 use Rattle.hcc_rule.specs.declared.key.Key.{Key}
@@ -24,7 +24,8 @@ use Rattle.hcc_player.specs.Sums.{AreSumsOf}
 use Rattle.hcc_player.specs.RunAnswers.{answers_text, AreRight, Inserts, IsPlayed, IsRight}
 use Rattle.hcc_player.specs.RunStates.{State, States, new_states, with_state}
 use Rattle.hcc_player.specs.RunLine.{run_line}
-use Rattle.hcc_player.specs.Runs.{ClosesAfter, IsRunOf, MakesAll}
+use Rattle.hcc_player.specs.RunOf.{IsRunOf}
+use Rattle.hcc_player.specs.Runs.{ClosesAfter, MakesAll}
 use Rattle.hcc_player.specs.Script.{lines_of, AllSay}
 use Rattle.hcc_player.specs.TraceTag.{run_trace}
 

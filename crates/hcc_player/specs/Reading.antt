@@ -1,5 +1,5 @@
 -- What a client does on the cache for its lines of a trace of block reads.
-use Rattle.std.specs.Prelude.{◌≡◌, ◌⊎◌, ◌≤◌, ℕ, ◌+◌, List, [], ◌∷◌, Option, Some, None, length}
+use Rattle.std.specs.Prelude.{◌≡◌, ◌⊎◌, ◌≤◌, ℕ, ◌+◌, List, [], ◌∷◌, Some, None, length}
 use Rattle.std.specs.Prelude.{slice_get}
 use Rattle.hcc_core.specs.Sums.{total}
 use Rattle.hcc_rule.specs.declared.key.Key.{Key}
@@ -19,7 +19,9 @@ use Rattle.hcc_player.specs.declared.blocks.tally.ClientReport.{ClientReport}
 use Rattle.hcc_player.specs.declared.blocks.tally.Tally.{Tally}
 use Rattle.hcc_player.specs.declared.options.Options.{Options}
 use Rattle.hcc_player.specs.declared.sums.Sums.{Sums}
+use Rattle.hcc_player.specs.BlocksLeft.{LeavesBlocks, reads_by}
 use Rattle.hcc_player.specs.Sums.{AreSumsOf}
+use Rattle.hcc_player.specs.Tally.{found_by}
 
 -- how often a client's reads were hits, misses and faults
 pub record Counts : Type 0 where
@@ -62,7 +64,7 @@ module _ {T : Type 0} (fits : T → Key → List ℕ → Type 0) (cache : Cache 
 
 -- Clients played their reads on one new cache of these options, over these files, and report how
 -- they went. Then it was closed, and these are its sums: what is left, and what they took, was
--- inserted for misses that weren't faults.
+-- inserted for misses that weren't faults; and what is left are blocks that their lines name.
 pub record IsReadOf (files : List (List ℕ)) (o : Options)
     (reads_of : (client : ℕ) → List BlockRead) (sums : Sums) (told : List ClientReport)
     : Type 0 where
@@ -82,3 +84,4 @@ pub record IsReadOf (files : List (List ℕ)) (o : Options)
   pub sums_are : AreSumsOf closed sums
   pub few : sums.slots + total taken_by last + total (λ (r : ClientReport). r.tally.faults) told
       ≤ total (λ (r : ClientReport). r.misses) told
+  pub leaves : LeavesBlocks (found_by files o.block (reads_by reads_of o.config.clients)) sums

@@ -6,23 +6,17 @@ use Rattle.hcc_rule.specs.declared.key.Key.{Key}
 use Rattle.hcc_cache.specs.declared.cache.Cache.{Cache}
 use Rattle.hcc_cache.specs.declared.client.Client.{Client}
 use Rattle.hcc_cache.specs.declared.closed.Closed.{Closed}
-use Rattle.hcc_cache.specs.declared.config.Config.{Config}
 use Rattle.hcc_cache.specs.declared.handle.Handle.{Handle}
 use Rattle.hcc_cache.specs.Clients.{Insertion}
 use Rattle.hcc_cache.specs.Closings.{AreBack, IsClosed}
-use Rattle.hcc_cache.specs.Opened.{IsOpened}
-use Rattle.hcc_cache.specs.Totals.{taken_by}
 use Rattle.hcc_player.specs.declared.run.answer.Answer.{Answer}
 use Rattle.hcc_player.specs.declared.run.answer.Answer.TheVariants as answers
 use Rattle.hcc_player.specs.declared.run.call.Call.{Call}
 use Rattle.hcc_player.specs.declared.run.call.Call.TheVariants as calls
 use Rattle.hcc_player.specs.declared.run.call.RunLine.{RunLine}
 use Rattle.hcc_player.specs.declared.run.registers.Registers.{Registers}
-use Rattle.hcc_player.specs.declared.run.tag.TraceTag.{TraceTag}
 use Rattle.hcc_player.specs.declared.sums.Sums.{Sums}
 use Rattle.hcc_player.specs.RunCalls.{Does}
-use Rattle.hcc_player.specs.Sums.{AreSumsOf}
-use Rattle.hcc_player.specs.TraceTag.{fits_trace}
 
 -- the insertion of a call that was answered that its entry was placed
 abbrev pub placed_by : Call → Answer → Option Insertion
@@ -121,24 +115,3 @@ module _ {T : Type 0} (fits : T → Key → List ℕ → Type 0) (cache : Cache 
         → slice_get left c ≡ Some last → LetsAllGo client last held.handles.items
     pub back : AreBack cache left
     pub closes : IsClosed fits cache left closed
-
--- The lines of a trace were played on one new cache of these options, and were answered so. Then it
--- was closed, and these are its sums: what is left are entries that its lines placed, which are as
--- many as are left and as its clients took.
-pub record IsRunOf (config : Config) (lines : List RunLine) (told : List Answer) (sums : Sums)
-    : Type 0 where
-  pub tag : TraceTag
-  pub cache : Cache TraceTag
-  pub first : List (Client TraceTag)
-  pub last : List (Client TraceTag)
-  pub empty : List Registers
-  pub kept : List Registers
-  pub opened : IsOpened config tag cache first
-  pub alike : length empty ≡ length first
-  pub nothing : AreEmpty empty
-  pub plays : MakesAll fits_trace cache lines told first last empty kept
-  pub closed : Closed
-  pub ends : ClosesAfter fits_trace cache last kept closed
-  pub sums_are : AreSumsOf closed sums
-  pub counted : sums.slots + total taken_by ends.left ≡ placed_in lines told
-  pub leaves : LeavesPlaced lines told sums

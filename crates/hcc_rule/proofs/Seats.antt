@@ -8,3 +8,5 @@ pub mod Dealing
 pub mod Joins
 pub mod Newest
 pub mod Runs
+pub mod Allowed
+pub mod Behind

@@ -21,6 +21,7 @@ pub mod ToldLedgers
 pub mod ToldTrails
 pub mod ToldOwners
 pub mod Closing
+pub mod Ending
 pub mod Laws
 pub mod Runs
 pub mod Said

@@ -1,8 +1,10 @@
 //! Closing a shard, and loads of the words that are left.
 ghost use Rattle.std.specs.Prelude.{◌≡◌, ◌+◌, ◌<◌, ◌≤◌, slice_index};
 ghost use Rattle.hcc_rule.specs.declared.layout.TheConstants.{SLOT_HEAD, LEDGER_WORDS, DISPLACEMENT, PAYLOAD, USAGE, OCCUPANCY, STANDING, HAND};
+ghost use Rattle.hcc_rule.specs.Acts.{IsAllowed, past, world_of};
 ghost use Rattle.hcc_rule.specs.Closing.{words_of, meta_at, data_at, Shown, IsBack, IsWithin, Closes};
 ghost use Rattle.hcc_rule.specs.Callers.{plan_of, IsSeatAt};
+ghost use Rattle.hcc_rule.specs.Ending.{ShowsWorld};
 ghost use Rattle.hcc_rule.specs.Images.{BeginsWith, entries_in};
 ghost use Rattle.hcc_rule.specs.Seats.{moves, view};
 ghost use Rattle.hcc_rule.specs.Views.{named_by};
@@ -22,8 +24,14 @@ impl<T: Tag, A: Allocator> RuleTable<T, A> {
     /// the made lists and no two are the same, a slot without an entry has at most strays, the
     /// entries are as many as were made less those that were taken, and the hand is where all turns
     /// left it. Uses and places are within the limits of an image, and under strict capacity so are
-    /// the charges. Where neither the seat nor any that it took in made a step, the words are those
-    /// with which the shard began.
+    /// the charges.
+    ///
+    /// They are then the words of one world: the one to which the events lead that the seat knows,
+    /// from the world that the shard began with. The machine allows these events. Each meta word,
+    /// entry, displacement and ledger word is that world's, and so is the hand: closing hides
+    /// nothing, ages nothing and frees nothing. Where the seat knows no event, that is the world
+    /// that the shard began with. Where neither the seat nor any that it took in made a step, the
+    /// words are those with which it began.
     ///
     /// It refuses nothing and allocates nothing. It costs no pass over the words.
     pub fn close(self, seat: RuleSeat<T>) -> ClosedTable<A>
@@ -38,6 +46,10 @@ impl<T: Tag, A: Allocator> RuleTable<T, A> {
         ensures begins { IsBack self.geometry.clients (view seat) → moves seat ≡ 0
             → BeginsWith self.geometry.slots self.geometry.room
             (entries_in (plan_of self).image) (words_of result) }
+        ensures left { IsBack self.geometry.clients (view seat)
+            → ShowsWorld T.fits (plan_of self).tag self.geometry (words_of result) (view seat)
+            (world_of (plan_of self) (past seat)) }
+        ensures allowed { IsAllowed (plan_of self) (past seat) }
     {
         let RuleTable {
             table,

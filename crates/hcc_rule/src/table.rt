@@ -64,14 +64,26 @@ impl<T: Tag, A: Allocator> RuleTable<T, A> {
         slot as usize * self.stride + field
     }
 
-    /// The address of a slot's first data word, which `read_at` and `write_at` take. It costs a
-    /// multiplication.
+    /// The address of a slot's first data word, which each function whose name ends with `_at`
+    /// takes: a caller of several of them reckons it once. It costs a multiplication.
     #[inline(always)]
     pub fn data_of(&self, slot: u32) -> usize
         requires { slot < self.now.geometry.slots }
         ensures { result ≡ field_at self.now.geometry.room slot DATA }
     {
         self.address(slot, DATA)
+    }
+
+    /// The address of a slot's meta word or displacement word, by that of its first data word.
+    #[inline(always)]
+    pub(crate) fn head_address(&self, slot: u32, first: usize, field: usize) -> usize
+        requires slot { slot < self.now.geometry.slots }
+        requires first { first ≡ field_at self.now.geometry.room slot DATA }
+        requires head { field < DATA }
+        ensures value { result ≡ field_at self.now.geometry.room slot field }
+        ensures inside { result < self.now.table.shared.table_id.words }
+    {
+        first - (DATA - field)
     }
 
     /// The address of a data word, by that of the slot's first one.

@@ -4,6 +4,7 @@ use Rattle.hcc_core.specs.declared.client.Client.{Client}
 use Rattle.hcc_core.specs.Opening.{new_client}
 use Rattle.hcc_core.specs.Sums.{when, total}
 use Rattle.hcc_rule.specs.declared.view.View.{View}
+use Rattle.hcc_rule.specs.Acts.{longer, past}
 use Rattle.hcc_rule.specs.Callers.{IsSeatAt, clients_of}
 use Rattle.hcc_rule.specs.Between.{IsBetweenCalls}
 use Rattle.hcc_rule.specs.Closing.{IsBack}
@@ -13,6 +14,7 @@ use Rattle.hcc_rule.specs.Views.{Each, named_by}
 use Rattle.hcc_shard.specs.declared.seat.ShardSeat.{ShardSeat}
 use Rattle.hcc_shard.specs.declared.shard.Shard.{Shard}
 use Rattle.hcc_shard.specs.Closed.{AreBack, HoldsNothing, joined_with, together}
+use Rattle.hcc_shard.specs.Ended.{past_of, past_together, past_with}
 
 length_both : {A : Type 0} (xs ys : List A) → length (xs ++ ys) ≡ length xs + length ys
 length_both [] ys = omega arith
@@ -53,6 +55,7 @@ module _ {T A : Type 0} where
     pub at : IsSeatAt shard.table last
     pub idle : IsIdle (view last).work
     pub view_is : joined_with (view last) left ≡ together all
+    pub past_is : past_with (past last) left ≡ past_together all
     pub named : named_by (view last) + named_in left ≡ clients_of shard.table
     pub later : Each (HoldsNothing shard) left
 
@@ -62,14 +65,16 @@ module _ {T A : Type 0} where
     at = back.each.0.rests.at;
     idle = (idle_held shard first back.each.0).0;
     view_is = refl;
+    past_is = refl;
     named = back.all;
     later = back.each.1;
   }
 
   pub joins_on : (shard : Shard T A) (last new : SeatOf T) (all left : List (ShardSeat T))
       (seat : ShardSeat T) → IsJoining shard last all (seat ∷ left) → IsSameSeat last new
-      → view new ≡ joined_view (view last) (view seat.seat) → IsJoining shard new all left
-  joins_on shard last new all left seat s same joined = record {
+      → view new ≡ joined_view (view last) (view seat.seat)
+      → past new ≡ longer (past last) (past_of seat) → IsJoining shard new all left
+  joins_on shard last new all left seat s same joined passed = record {
     at = record {
       table = same.table ∙ s.at.table;
       slots = same.slots ∙ s.at.slots;
@@ -77,6 +82,7 @@ module _ {T A : Type 0} where
     };
     idle = rw joined s.idle;
     view_is = ap (λ v. joined_with v left) joined ∙ s.view_is;
+    past_is = ap (λ h. past_with h left) passed ∙ s.past_is;
     named =
         let more =
         named_more (view last) (view seat.seat) _ s.later.0.rests.at.tagged in

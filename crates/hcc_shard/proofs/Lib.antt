@@ -13,3 +13,4 @@ pub mod Imagings
 pub mod Releases
 pub mod Reservings
 pub mod Gettings
+pub mod Stayings

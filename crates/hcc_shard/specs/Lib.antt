@@ -4,9 +4,11 @@ pub mod Referred
 pub mod Inserted
 pub mod Left
 pub mod Closed
+pub mod Ended
 pub mod Reopened
 pub mod Imaged
 pub mod Callers
 pub mod Texts
 pub mod Reserving
 pub mod Gets
+pub mod Stays

@@ -1,11 +1,14 @@
 //! Closing a shard.
 ghost use Rattle.std.specs.Prelude.{◌≡◌, ◌≤◌};
+ghost use Rattle.hcc_rule.specs.Acts.{IsAllowed, longer, world_of};
 ghost use Rattle.hcc_rule.specs.Callers.{capacity_of, clients_of, geometry_of, is_strict, plan_of};
 ghost use Rattle.hcc_rule.specs.Closing.{Closes, IsWithin, words_of};
+ghost use Rattle.hcc_rule.specs.Ending.{ShowsWorld};
 ghost use Rattle.hcc_rule.specs.Passing.{joined_view};
 ghost use Rattle.hcc_rule.specs.Seats.{view};
 ghost use Rattle.hcc_rule.specs.Views.{named_by};
 ghost use Rattle.hcc_shard.specs.Closed.{AreBack, HoldsNothing, together};
+ghost use Rattle.hcc_shard.specs.Ended.{past_of, past_together};
 ghost use Rattle.hcc_shard.specs.Imaged.{GivesFitting};
 ghost use Rattle.hcc_shard.specs.Left.{GivesValues};
 
@@ -24,12 +27,19 @@ impl<T: Tag, A: Allocator> Shard<T, A> {
     /// charges are within it in sum; so `reopen` accepts the image that the closed shard gives, for
     /// a shard of the same sizes and capacity and the same tag, and refuses it only for memory.
     ///
+    /// The words are those of the world to which all leads that the clients know, that is the one
+    /// that knows most: closing hides nothing, ages nothing and frees nothing.
+    ///
     /// It refuses nothing and allocates nothing. It costs a load for each seat.
     pub fn close<B: Allocator>(self, seats: Vec<ShardSeat<T>, B>) -> ClosedShard<A>
         requires back { AreBack self seats.items }
         ensures size { result.table.geometry ≡ geometry_of self.table }
         ensures closes { Closes T.fits (plan_of self.table).tag (geometry_of self.table)
             (words_of result.table) (together seats.items) }
+        ensures left { ShowsWorld T.fits (plan_of self.table).tag (geometry_of self.table)
+            (words_of result.table) (together seats.items)
+            (world_of (plan_of self.table) (past_together seats.items)) }
+        ensures allowed { IsAllowed (plan_of self.table) (past_together seats.items) }
         ensures values { GivesValues T.fits (plan_of self.table).tag (geometry_of self.table).room
             (words_of result.table) (together seats.items) }
         ensures within { IsWithin (geometry_of self.table) (capacity_of self.table)
@@ -46,8 +56,9 @@ impl<T: Tag, A: Allocator> Shard<T, A> {
         }
     }
 
-    /// Joins another seat to a seat: the first names the clients of both from now on. Both are at
-    /// rest, and their clients hold nothing. The counts of the other's calls go.
+    /// Joins another seat to a seat: the first names the clients of both from now on, and knows of
+    /// the shard what the one or the other did, whichever is more. Both are at rest, and their
+    /// clients hold nothing. The counts of the other's calls go.
     ///
     /// It refuses nothing and allocates nothing. It costs a load.
     pub fn join(&self, seat: &mut ShardSeat<T>, other: ShardSeat<T>)
@@ -55,6 +66,7 @@ impl<T: Tag, A: Allocator> Shard<T, A> {
         requires other { HoldsNothing self.now other }
         ensures seat { HoldsNothing self.now seat.new }
         ensures view { view seat.new.seat ≡ joined_view (view seat.old.seat) (view other.seat) }
+        ensures past { past_of seat.new ≡ longer (past_of seat.old) (past_of other) }
     {
         self.table.join(&mut seat.seat, other.seat);
     }
@@ -69,6 +81,10 @@ impl<T: Tag, A: Allocator> Shard<T, A> {
         ensures size { result.table.geometry ≡ geometry_of self.table }
         ensures closes { Closes T.fits (plan_of self.table).tag (geometry_of self.table)
             (words_of result.table) (view last.seat) }
+        ensures left { ShowsWorld T.fits (plan_of self.table).tag (geometry_of self.table)
+            (words_of result.table) (view last.seat)
+            (world_of (plan_of self.table) (past_of last)) }
+        ensures allowed { IsAllowed (plan_of self.table) (past_of last) }
         ensures values { GivesValues T.fits (plan_of self.table).tag (geometry_of self.table).room
             (words_of result.table) (view last.seat) }
         ensures within { IsWithin (geometry_of self.table) (capacity_of self.table)

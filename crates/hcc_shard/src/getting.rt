@@ -7,10 +7,12 @@ ghost use Rattle.hcc_table.specs.Efforts.{Took};
 ghost use Rattle.hcc_table.specs.Pins.{IsPinned, is_useful};
 ghost use Rattle.hcc_table.specs.Readings.{IsReadable};
 ghost use Rattle.hcc_table.specs.Searched.{Sought};
+ghost use Rattle.hcc_table.specs.Seeking.{Seeks};
 ghost use Rattle.hcc_table.specs.Steps.{MakesAtMost, MakesFor};
 ghost use Rattle.hcc_shard.specs.Counted.{SameEvictions};
 ghost use Rattle.hcc_shard.specs.Gets.{CopiesOut, Gets};
 ghost use Rattle.hcc_shard.specs.Seated.{Rests};
+ghost use Rattle.hcc_shard.specs.Stays.{StaysAt};
 
 use crate::erasing::IN_FLIGHT;
 use crate::seat::ShardSeat;
@@ -48,6 +50,7 @@ impl<T: Tag, A: Allocator> Shard<T, A> {
         ensures view { Sought (view seat.old.seat) (view seat.new.seat) }
         ensures gets { Gets T.fits self.now key (is_useful usage) result buffer.old buffer.new
             seat.old seat.new }
+        ensures stays { StaysAt self.now seat.old seat.new }
         ensures effort { Took 1 (slots_of self.now.table) (slots_of self.now.table)
             seat.old.effort seat.new.effort }
         ensures counts { SameEvictions seat.old seat.new }
@@ -89,6 +92,7 @@ fn copy_out<T: Tag, A: Allocator>(
     ensures view { view seat.new ≡ view seat.old }
     ensures copies { IsSomeAnd (record_in pin.name (view seat.old).records)
         (λ r. CopiesOut result r.entry.value buffer.old buffer.new) }
+    ensures seeks { Seeks table.now seat.old seat.new }
     ensures steps { MakesAtMost (room_of table.now + 1) seat.old seat.new }
 {
     let count = read_len(table, seat, pin);

@@ -1,11 +1,11 @@
 //! Insertions.
-ghost use Rattle.std.specs.Prelude.{◌≡◌, ◌+◌, ◌*◌, ◌<◌, Bool, false, true, None, Some, Err, IfSome, IfNone, [], length};
+ghost use Rattle.std.specs.Prelude.{◌≡◌, ◌+◌, ◌*◌, ◌<◌, Bool, false, true, ℕ, None, Some, Ok, Err, IfSome, IfNone, [], length};
 ghost use Rattle.std.specs.List.{list_any};
 ghost use Rattle.hcc_core.specs.declared.client.Place.TheVariants.{Granted};
 ghost use Rattle.hcc_core.specs.declared.limits.TheConstants.{MOST_HANDLES};
 ghost use Rattle.hcc_core.specs.Ledgers.{is_standing};
 ghost use Rattle.hcc_core.specs.Sums.{when};
-ghost use Rattle.hcc_rule.specs.Callers.{capacity_of, is_strict, plan_of, room_of, slots_of, IsSeatAt};
+ghost use Rattle.hcc_rule.specs.Callers.{capacity_of, clients_of, is_strict, plan_of, room_of, slots_of, IsSeatAt};
 ghost use Rattle.hcc_rule.specs.Addresses.{address_of_meta};
 ghost use Rattle.hcc_rule.specs.Seats.{atomic, IsSameSeat, view};
 ghost use Rattle.hcc_rule.specs.ToldOwners.{first_word};
@@ -21,6 +21,9 @@ ghost use Rattle.hcc_charge.specs.Settled.{HasFreedNothing, stood, without_place
 ghost use Rattle.hcc_shard.specs.Inserted.{InsertedBy, IsInsertable, PinnedBy, PutBy, inserting, inserting_between};
 ghost use Rattle.hcc_shard.specs.Reserving.{InsertedAs, IsLeftFor, PinnedAs, TriesEach, left_out};
 ghost use Rattle.hcc_shard.specs.Seated.{Rests};
+ghost use Rattle.hcc_shard.specs.Stays.{ShowsIn};
+ghost use Rattle.hcc_shard.specs.declared.inserting.Inserted.TheVariants as inserted;
+ghost use Rattle.hcc_shard.specs.declared.inserting.Pinned.TheVariants as pinned;
 
 use crate::seat::ShardSeat;
 use crate::shard::Shard;
@@ -89,6 +92,8 @@ impl<T: Tag, A: Allocator> Shard<T, A> {
             (4 * most_turns (slots_of self.now.table) + slots_of self.now.table)
             seat.old.effort seat.new.effort }
         ensures evicts { InsertedAs T.fits self.now draft result seat.old seat.new }
+        ensures shown { clients_of self.now.table ≡ 1 → result ≡ Ok inserted.Placed
+            → (slot : ℕ) × ShowsIn self.now draft.key slot seat.new }
         ensures frees { MakesFor 7 (inserting_between (slots_of self.now.table)
             (room_of self.now.table) (view seat.old.seat) (view seat.new.seat))
             (slots_of self.now.table) seat.old.effort seat.new.effort
@@ -144,6 +149,8 @@ impl<T: Tag, A: Allocator> Shard<T, A> {
             (4 * most_turns (slots_of self.now.table) + slots_of self.now.table)
             seat.old.effort seat.new.effort }
         ensures evicts { PinnedAs T.fits self.now draft result seat.old seat.new }
+        ensures shown { clients_of self.now.table ≡ 1 → (pin : Pin)
+            → result ≡ Ok (pinned.Placed pin) → ShowsIn self.now draft.key pin.slot seat.new }
         ensures frees { MakesFor 7 (inserting_between (slots_of self.now.table)
             (room_of self.now.table) (view seat.old.seat) (view seat.new.seat))
             (slots_of self.now.table) seat.old.effort seat.new.effort

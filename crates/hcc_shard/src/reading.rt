@@ -15,6 +15,7 @@ ghost use Rattle.hcc_table.specs.Steps.{MakesAtMost};
 ghost use Rattle.hcc_shard.specs.Callers.{LoadsDisplacement, LoadsWord};
 ghost use Rattle.hcc_shard.specs.Counted.{SameCounts};
 ghost use Rattle.hcc_shard.specs.Seated.{Rests};
+ghost use Rattle.hcc_shard.specs.Stays.{CountsBy, LooksBy, SeeksAt};
 
 use crate::seat::ShardSeat;
 use crate::shard::Shard;
@@ -37,6 +38,7 @@ impl<T: Tag, A: Allocator> Shard<T, A> {
         ensures backs { Backs slot result (view seat.old.seat) }
         ensures alone { HoldsAll (setup_of (plan_of self.now.table)) slot result
             (view seat.old.seat) }
+        ensures by { LooksBy self.now slot result seat.old seat.new }
         ensures counts { SameCounts seat.old seat.new }
         ensures steps { MakesAtMost 1 seat.old.seat seat.new.seat }
     {
@@ -68,6 +70,7 @@ impl<T: Tag, A: Allocator> Shard<T, A> {
             + length (different (view seat.old.seat).records)
             ≤ passed_held (slots_of self.now.table) slot (view seat.old.seat).records
             + length (view seat.old.seat).made }
+        ensures by { CountsBy self.now slot result seat.old seat.new }
         ensures counts { SameCounts seat.old seat.new }
         ensures steps { MakesAtMost 1 seat.old.seat seat.new.seat }
     {
@@ -85,6 +88,7 @@ impl<T: Tag, A: Allocator> Shard<T, A> {
         ensures view { view seat.new.seat ≡ after_read pin.name KEY1 (view seat.old.seat) }
         ensures exact { IfSome (record_in pin.name (view seat.old.seat).records)
             (λ r. result ≡ key_of r.entry) }
+        ensures seeks { SeeksAt self.now seat.old seat.new }
         ensures counts { SameCounts seat.old seat.new }
         ensures steps { MakesAtMost 2 seat.old.seat seat.new.seat }
     {
@@ -102,6 +106,7 @@ impl<T: Tag, A: Allocator> Shard<T, A> {
         ensures view { view seat.new.seat ≡ view seat.old.seat }
         ensures exact { IfSome (record_in pin.name (view seat.old.seat).records)
             (λ r. result ≡ length r.entry.value) }
+        ensures seeks { SeeksAt self.now seat.old seat.new }
         ensures counts { SameCounts seat.old seat.new }
         ensures steps { MakesAtMost 1 seat.old.seat seat.new.seat }
     {
@@ -125,6 +130,7 @@ impl<T: Tag, A: Allocator> Shard<T, A> {
             (λ r. result ≡ length r.entry.value) }
         ensures bytes { IfSome (record_in pin.name (view seat.old.seat).records)
             (λ r. buffer.new ≡ r.entry.value ++ drop (length r.entry.value) buffer.old) }
+        ensures seeks { SeeksAt self.now seat.old seat.new }
         ensures counts { SameCounts seat.old seat.new }
         ensures steps { MakesAtMost (words_for result + 1) seat.old.seat seat.new.seat }
     {
@@ -154,6 +160,7 @@ impl<T: Tag, A: Allocator> Shard<T, A> {
             IfSome (record_in pin.name (view seat.old.seat).records)
             (λ r. len ≡ length r.entry.value)
             × (length buffer.old < len) × (buffer.new ≡ buffer.old)) }
+        ensures seeks { SeeksAt self.now seat.old seat.new }
         ensures counts { SameCounts seat.old seat.new }
         ensures steps { IfOk result (λ len.
             MakesAtMost (words_for len + 1) seat.old.seat seat.new.seat) }

@@ -17,6 +17,7 @@ ghost use Rattle.hcc_shard.specs.Callers.{AcquiresAt, GivesBackAt, SearchesAt};
 ghost use Rattle.hcc_shard.specs.Counted.{SameCounts, SameEvictions};
 ghost use Rattle.hcc_shard.specs.Referred.{IsReleased};
 ghost use Rattle.hcc_shard.specs.Seated.{IsNext, Rests};
+ghost use Rattle.hcc_shard.specs.Stays.{AcquiresBy, ReleasesAt};
 
 use crate::seat::ShardSeat;
 use crate::shard::Shard;
@@ -93,6 +94,7 @@ impl<T: Tag, A: Allocator> Shard<T, A> {
             × IsOf result r × (r.name ≡ serial)
             × IfSome (record_in pin.name (view seat.old.seat).records) (λ q. r.entry ≡ q.entry) }
         ensures acquires { AcquiresAt self.now pin.slot result.counting seat.old seat.new }
+        ensures by { AcquiresBy self.now pin.slot serial result.counting seat.old seat.new }
         ensures effort { Took 0 0 1 seat.old.effort seat.new.effort }
         ensures counts { SameEvictions seat.old seat.new }
         ensures steps { MakesAtMost 2 seat.old.seat seat.new.seat }
@@ -117,6 +119,8 @@ impl<T: Tag, A: Allocator> Shard<T, A> {
         ensures view { IsReleased pin.name (erases last) result
             (view seat.old.seat) (view seat.new.seat) }
         ensures gives { GivesBackAt self.now pin.slot (is_useful usage && pin.counting)
+            (erases last) result seat.old seat.new }
+        ensures by { ReleasesAt self.now pin.slot pin.name (is_useful usage && pin.counting)
             (erases last) result seat.old seat.new }
         ensures effort { Lost 0 1 seat.old.effort seat.new.effort }
         ensures counts { SameEvictions seat.old seat.new }

@@ -12,6 +12,7 @@ ghost use Rattle.hcc_rule.specs.Views.{Each};
 ghost use Rattle.hcc_shard.specs.declared.reopening.ReopenError.TheVariants.{OutOfMemory};
 ghost use Rattle.hcc_shard.specs.Reopened.{AreFitting, HasBytes, HasTypes, IsSmall, is_free, is_long, is_rising, is_worn, refusal_of};
 ghost use Rattle.hcc_shard.specs.Seated.{AreBegun};
+ghost use Rattle.hcc_shard.specs.Stays.{BeganWithinLimits, KnowNoEvent};
 ghost use Rattle.hcc_shard.specs.Texts.{text_of};
 
 use crate::seat::ShardSeat;
@@ -103,6 +104,8 @@ impl<T: Tag, A: Allocator> Shard<T, A> {
         ensures words { IfOk result (λ made. OpensWith T.fits made.0.table image.now.items) }
         ensures count { IfOk result (λ made. length made.1.items ≡ geometry.clients) }
         ensures seats { IfOk result (λ made. AreBegun made.0 image.now.items made.1.items) }
+        ensures began { IfOk result (λ made. BeganWithinLimits made.0 T.fits) }
+        ensures past { IfOk result (λ made. KnowNoEvent made.1.items) }
         ensures exact { (error : ReopenError)
             → refusal_of geometry capacity strict image.now.items ≡ Some error
             → result ≡ Err error }

@@ -5,6 +5,7 @@ ghost use Rattle.hcc_rule.specs.Callers.{capacity_of, geometry_of, is_strict, pl
 ghost use Rattle.hcc_rule.specs.Beginnings.{OpensWith};
 ghost use Rattle.hcc_rule.specs.Seats.{IsPlanned};
 ghost use Rattle.hcc_shard.specs.Seated.{AreNew, AreNumbered};
+ghost use Rattle.hcc_shard.specs.Stays.{BeganWithinLimits, KnowNoEvent};
 
 use crate::seat::ShardSeat;
 use hcc_rule::{Geometry, RuleSeat, RuleTable, Tag};
@@ -45,6 +46,8 @@ impl<T: Tag, A: Allocator> Shard<T, A> {
         ensures words { IfOk result (λ made. OpensWith T.fits made.0.table []) }
         ensures count { IfOk result (λ made. length made.1.items ≡ geometry.clients) }
         ensures seats { IfOk result (λ made. AreNew made.0 0 made.1.items) }
+        ensures began { IfOk result (λ made. BeganWithinLimits made.0 T.fits) }
+        ensures past { IfOk result (λ made. KnowNoEvent made.1.items) }
     {
         let (table, seats) = RuleTable::new(alloc.clone()?, geometry, capacity, strict, tag)?;
         let shard = Shard { table, marks };

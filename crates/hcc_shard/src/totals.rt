@@ -11,6 +11,7 @@ ghost use Rattle.hcc_table.specs.Steps.{MakesAtMost};
 ghost use Rattle.hcc_shard.specs.Callers.{LoadsOccupancy};
 ghost use Rattle.hcc_shard.specs.Counted.{CountsPinned, LoadsUsage, SameCounts, SameEvictions};
 ghost use Rattle.hcc_shard.specs.Seated.{Rests};
+ghost use Rattle.hcc_shard.specs.Stays.{StaysAt};
 
 use crate::erasing::IN_FLIGHT;
 use crate::seat::ShardSeat;
@@ -84,6 +85,7 @@ impl<T: Tag, A: Allocator> Shard<T, A> {
             → result ≡ standing_of (view seat.old.seat).work
             + charge_held (view seat.old.seat).records }
         ensures loads { CountsPinned T.fits self.now result seat.old seat.new }
+        ensures stays { StaysAt self.now seat.old seat.new }
         ensures effort { Took 0 0 (slots_of self.now.table) seat.old.effort seat.new.effort }
         ensures counts { SameEvictions seat.old seat.new }
         ensures steps { MakesAtMost (5 * slots_of self.now.table + 1) seat.old.seat seat.new.seat }

@@ -23,9 +23,10 @@ use Rattle.hcc_table.specs.declared.efforts.Effort.{Effort}
 use Rattle.hcc_table.specs.Efforts.{Lost}
 use Rattle.hcc_table.specs.Freed.{IsFreed, TriedWhereDue, is_due}
 use Rattle.hcc_table.specs.Pins.{IsOf, IsPinned}
-use Rattle.hcc_table.specs.Searched.{Reached, Searched}
+use Rattle.hcc_table.specs.Searched.{Reached, Searched, Sought}
 use Rattle.hcc_table.specs.Steps.{Adds, Among, TriesToTake}
 use Rattle.hcc_table.proofs.Logs.{among_after, among_first}
+use Rattle.hcc_table.proofs.Searches.{searched_then}
 
 -- one of a list that passes is found by a search for any
 any_found : {A : Type 0} (p q : A → Bool) (xs : List A) (x : A) → find q xs ≡ Some x → p x ≡ true
@@ -188,3 +189,13 @@ module _ {T : Type 0} (fits : T → Key → List ℕ → Type 0) (room : ℕ) (v
         unseen_due (is_shareable word) (refs_of word == 0) erase (is_visible word) due,
         freed.2 ∙ sym looked,
       )
+
+-- Where freeing lost, what was known after a reference was given back is known still.
+pub kept_where_lost : {T : Type 0} (u v w : View T) (C : Type 0) (o : Option ℕ) → Searched u v
+    → v.met ≡ u.met → IfNone o (Sought v w × (w.met ≡ v.met) × C)
+    → IfNone o (Searched u w × (w.met ≡ u.met))
+kept_where_lost u v w C None given same lost = (
+  searched_then u v w given lost.0.searched,
+  lost.1 ∙ same,
+)
+kept_where_lost u v w C (Some charge) given same lost = tt

@@ -1,8 +1,8 @@
 -- An insertion in a shard of one client: it meets the entry that look-ups find, or comes before it.
-use Rattle.std.proofs.Common.{◌≡◌, ◌≢◌, inl, inr, ℕ, suc, ◌+◌, ◌<◌, ◌≤◌, Bool, true, false, List, [], ◌∷◌, ◌++◌, Option, Some, None, Ok, length, slice_get, sym, refl, ap, ◌∙◌, subst, arith}
-use Rattle.std.specs.Prelude.{IsSomeAnd, option_and_then, if◌then◌else◌}
+use Rattle.std.proofs.Common.{◌≡◌, ◌≢◌, inl, inr, ℕ, ◌+◌, ◌<◌, ◌≤◌, Bool, true, false, List, [], ◌∷◌, Some, None, length, slice_get, sym, refl, ap, ◌∙◌, subst, arith}
+use Rattle.std.specs.Prelude.{IsSomeAnd, option_and_then}
 use Rattle.std.proofs.lemmas.Bool.{cases_lt}
-use Rattle.hcc_word.specs.Word.{is_counting, is_empty, is_visible}
+use Rattle.hcc_word.specs.Word.{is_counting, is_visible}
 use Rattle.hcc_core.specs.declared.client.Owned.TheVariants as owned
 use Rattle.hcc_core.specs.declared.slot.Entry.{Entry}
 use Rattle.hcc_core.specs.declared.slot.Slot.{Slot}
@@ -25,8 +25,8 @@ use Rattle.hcc_table.specs.declared.inserting.Insertion.TheVariants.{Placed, Mat
 use Rattle.hcc_table.specs.Freed.{release_done}
 use Rattle.hcc_table.specs.Probed.{AtProbes, FindsTaken, Passes, PassesEntry}
 use Rattle.hcc_table.specs.Seeking.{GoesOnBy, Seeks, is_unpass}
-use Rattle.hcc_table.specs.Standing.{InsertsShown, NoneBefore, ShowsKey, ShowsMore, ShowsSame, entry_shown, shown_at, world_at}
-use Rattle.hcc_table.specs.Tries.{Inserts, MatchesAt, PassesTaken, ShowsBy, TriesAt, UsesEntry}
+use Rattle.hcc_table.specs.Standing.{InsertsShown, ShowsKey, ShowsMore, ShowsSame, entry_shown, shown_at, world_at}
+use Rattle.hcc_table.specs.Tries.{Inserts, MatchesAt, PassesTaken, ShowsBy, UsesEntry}
 use Rattle.hcc_table.proofs.Alone.{event_alone}
 use Rattle.hcc_table.proofs.Lasting.{alone_shows, entry_seeks, met_there, none_shown, reach_seeks, reached_seeks, some_and}
 use Rattle.hcc_table.proofs.Occupied.{occupy_tells, passed_keeps, show_tells, taken_tells, use_tells, writes_keep}

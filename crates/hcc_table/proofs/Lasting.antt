@@ -462,6 +462,19 @@ module _ {T A : Type 0} (fits : T → Key → List ℕ → Type 0) (table : Rule
         (seeks_then table f.mid f.held new caught_seeks marked_seeks) f.probes j (omega arith)
         (omega arith)
 
+  -- A search only seeks.
+  pub searches_seek : (marks : Bool) (answer : Option Pin) (before after : Effort)
+      (old new : SeatOf T) → Searches fits table key name marks answer before after old new
+      → Seeks table old new
+  searches_seek marks None before last old new m =
+      probes_seek 0 (m.earlier ++ m.last ∷ []) before m.between old new m.probes
+  searches_seek marks (Some pin) before last old new h =
+      seeks_then table old h.1.mid new
+      (passed_seeks marks pin.slot h.0 before last old new h.1)
+      (seeks_then table h.1.mid h.1.held new
+      (caught_seeks marks pin.slot h.0 before last old new h.1)
+      (marked_seeks marks pin.slot h.0 before last old new h.1))
+
   -- Any number of clients.
   pub finds_lasting : (marks : Bool) (answer : Option Pin) (before after : Effort)
       (old new : SeatOf T) → Searches fits table key name marks answer before after old new

@@ -13,6 +13,10 @@ pub mod Unshown
 pub mod HidesAlone
 pub mod Occupied
 pub mod InsertsAlone
+pub mod Setups
+pub mod Still
+pub mod Full
+pub mod Releases
 pub mod Finds
 pub mod TakesBack
 pub mod Gives

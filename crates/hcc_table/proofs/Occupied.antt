@@ -1,12 +1,10 @@
 -- What taking a slot, building an entry there and showing it leave of what a world shows.
-use Rattle.std.proofs.Common.{◌≡◌, ◌≢◌, ◌++◌, ℕ, Bool, true, false, List, [], ◌∷◌, Option, Some, None, Result, Ok, Err, length, nat_lt, option_map, slice_get, slice_set, sym, refl, ap, ◌∙◌, subst}
+use Rattle.std.proofs.Common.{◌≡◌, ◌≢◌, ◌++◌, ℕ, true, false, List, [], ◌∷◌, Option, Some, None, Ok, length, nat_lt, option_map, slice_get, slice_set, sym, refl, ap, ◌∙◌, subst}
 use Rattle.std.specs.Option.{ok_or}
 use Rattle.std.specs.Prelude.{option_and_then, if◌then◌else◌}
 use Rattle.hcc_word.specs.Word.{is_empty, is_visible}
 use Rattle.hcc_core.specs.declared.client.Client.{Client}
-use Rattle.hcc_core.specs.declared.client.Owned.{Owned}
 use Rattle.hcc_core.specs.declared.client.Owned.TheVariants as owned
-use Rattle.hcc_core.specs.declared.event.CoreError.{CoreError}
 use Rattle.hcc_core.specs.declared.event.CoreError.TheVariants.{NotAllowed}
 use Rattle.hcc_core.specs.declared.event.Event.{Event}
 use Rattle.hcc_core.specs.declared.event.Event.TheVariants as events
@@ -17,11 +15,11 @@ use Rattle.hcc_core.specs.declared.slot.Entry.{Entry}
 use Rattle.hcc_core.specs.declared.slot.Reference.{Reference}
 use Rattle.hcc_core.specs.declared.slot.Slot.{Slot}
 use Rattle.hcc_core.specs.declared.slot.Slot.TheVariants as slots
-use Rattle.hcc_core.specs.Entries.{built_by, client_shown, is_building, may_show, occupied, occupy_of, resident_new, show_of, write_of}
-use Rattle.hcc_core.specs.Outcomes.{◌>>=◌, Outcome, allow, holding, live_at, slot_at, with_both, with_client}
+use Rattle.hcc_core.specs.Entries.{built_by, client_shown, is_building, may_show, occupied, resident_new, show_of, write_of}
+use Rattle.hcc_core.specs.Outcomes.{allow, holding, live_at, slot_at, with_both, with_client}
 use Rattle.hcc_core.specs.References.{counting_in, look_of, slot_used, use_of}
 use Rattle.hcc_core.specs.Runs.{after, after_all, world_after}
-use Rattle.hcc_core.specs.Steps.{outcome_of, rule_of}
+use Rattle.hcc_core.specs.Steps.{outcome_of}
 use Rattle.hcc_core.specs.Trails.{pass_of}
 use Rattle.hcc_core.specs.World.{State, owns_nothing, phase_of, references_of}
 use Rattle.hcc_core.proofs.Keeps.{found_ok, live_ok}

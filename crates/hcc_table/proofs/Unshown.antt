@@ -1,8 +1,7 @@
 -- What hiding an entry, and freeing a hidden one, leave of what a world shows.
-use Rattle.std.proofs.Common.{◌≡◌, ◌≢◌, ◌⊎◌, inl, inr, ℕ, zero, suc, ◌+◌, ◌==◌, ◌<◌, Bool, true, false, List, [], ◌∷◌, Option, Some, None, Result, Ok, Err, nat_lt, option_map, slice_get, slice_set, sym, refl, ap, ◌∙◌, subst, arith}
+use Rattle.std.proofs.Common.{◌≡◌, ◌≢◌, ℕ, ◌+◌, Bool, true, false, List, [], ◌∷◌, Option, Some, None, Result, Ok, Err, nat_lt, option_map, slice_get, slice_set, sym, refl, ap, ◌∙◌, subst}
 use Rattle.std.specs.List.{list_any}
-use Rattle.std.specs.Prelude.{IsSomeAnd, option_and_then, if◌then◌else◌}
-use Rattle.std.proofs.lemmas.Bool.{cases_eq}
+use Rattle.std.specs.Prelude.{option_and_then, if◌then◌else◌}
 use Rattle.hcc_core.specs.declared.client.Client.{Client}
 use Rattle.hcc_core.specs.declared.client.Owned.{Owned}
 use Rattle.hcc_core.specs.declared.client.Owned.TheVariants as owned
@@ -10,16 +9,15 @@ use Rattle.hcc_core.specs.declared.event.CoreError.{CoreError}
 use Rattle.hcc_core.specs.declared.event.CoreError.TheVariants.{NotAllowed}
 use Rattle.hcc_core.specs.declared.event.Event.{Event}
 use Rattle.hcc_core.specs.declared.event.Event.TheVariants as events
-use Rattle.hcc_core.specs.declared.event.Reply.{Reply}
 use Rattle.hcc_core.specs.declared.event.Reply.TheVariants as replies
 use Rattle.hcc_core.specs.declared.slot.Entry.{Entry}
 use Rattle.hcc_core.specs.declared.slot.Slot.{Slot}
 use Rattle.hcc_core.specs.declared.slot.Slot.TheVariants as slots
-use Rattle.hcc_core.specs.Entries.{client_freeing, empty_of, free_of, freed_by, hidden, hide_of, is_shown, may_free, slot_hidden}
+use Rattle.hcc_core.specs.Entries.{client_freeing, empty_of, free_of, freed_by, hidden, hide_of, may_free, slot_hidden}
 use Rattle.hcc_core.specs.Ledgers.{may_settle, place_granted, settle_of, slots_of}
-use Rattle.hcc_core.specs.Outcomes.{◌>>=◌, Outcome, allow, client_at, dropped, has_no_member, holding, live_at, slot_at, with_both, with_client}
+use Rattle.hcc_core.specs.Outcomes.{◌>>=◌, Outcome, allow, dropped, has_no_member, holding, live_at, slot_at, with_both, with_client}
 use Rattle.hcc_core.specs.References.{client_noticed}
-use Rattle.hcc_core.specs.Runs.{FindsOne, after, after_all, entry_held, entry_of, held_at, world_after}
+use Rattle.hcc_core.specs.Runs.{FindsOne, after, after_all, entry_held, held_at, world_after}
 use Rattle.hcc_core.specs.Steps.{in_range, outcome_of, rule_of}
 use Rattle.hcc_core.specs.Trails.{is_slot, unpass_of}
 use Rattle.hcc_core.specs.World.{State, has_reference, slot_holding}

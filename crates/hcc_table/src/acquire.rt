@@ -3,6 +3,7 @@ ghost use Rattle.std.specs.Prelude.{◌≡◌, ◌⊎◌, ◌+◌, ◌++◌, ◌
 ghost use Rattle.hcc_word.specs.Changes.{IsCorrectable, corrected_word};
 ghost use Rattle.hcc_word.specs.Word.{is_counting};
 ghost use Rattle.hcc_core.specs.declared.limits.TheConstants.{MOST_WEIGHT, REFERENCES_PER_CLIENT};
+ghost use Rattle.hcc_rule.specs.declared.layout.TheConstants.{DATA};
 ghost use Rattle.hcc_rule.specs.declared.view.Record.{Record};
 ghost use Rattle.hcc_rule.specs.Callers.{room_of, IsEvent, IsSeatAt, IsSlotOf};
 ghost use Rattle.hcc_rule.specs.Addresses.{address_of_meta};
@@ -11,6 +12,7 @@ ghost use Rattle.hcc_rule.specs.Seats.{IsSameSeat, view, Makes};
 ghost use Rattle.hcc_rule.specs.ToldReferences.{may_reach};
 ghost use Rattle.hcc_rule.specs.Views.{load_of};
 ghost use Rattle.hcc_rule.specs.Records.{record_in};
+ghost use Rattle.hcc_rule.specs.Words.{field_at};
 ghost use Rattle.hcc_table.specs.Efforts.{Corrected, Lost, Took};
 ghost use Rattle.hcc_table.specs.Pins.{IsOf, IsPinned};
 ghost use Rattle.hcc_table.specs.Searched.{Searched, Sought, Reached};
@@ -52,9 +54,12 @@ pub fn again<T: Tag, A: Allocator>(
         × Acquires (address_of_meta table.now pin.slot) 1 found seat.old seat.new
         × Corrects (address_of_meta table.now pin.slot) 1 found effort.old effort.new
         seat.old seat.new }
+    ensures by { (found : ℕ) × (result.counting ≡ is_counting found)
+        × ReachesBy table.now pin.slot 1 name found seat.old seat.new }
     ensures steps { MakesAtMost 2 seat.old seat.new }
 {
-    let found = reach(table, seat, pin.slot, 1, name, effort);
+    let first = table.data_of(pin.slot);
+    let found = reach(table, seat, pin.slot, first, 1, name, effort);
     Pin {
         slot: pin.slot,
         name,
@@ -69,12 +74,14 @@ pub(crate) fn reach<T: Tag, A: Allocator>(
     table: &RuleTable<T, A>,
     seat: &mut RuleSeat<T>,
     slot: u32,
+    first: usize,
     weight: u32,
     name: u64,
     effort: &mut Effort,
 ) -> u64
     requires seat { IsSeatAt table.now seat.old }
     requires slot { IsSlotOf table.now slot }
+    requires first { first ≡ field_at (room_of table.now) slot DATA }
     requires weight { (0 < weight) × (weight ≤ MOST_WEIGHT) }
     requires fresh { record_in name (view seat.old).records ≡ None }
     requires reach { may_reach slot (view seat.old) ≡ true }
@@ -90,7 +97,7 @@ pub(crate) fn reach<T: Tag, A: Allocator>(
     ensures adds { AddsUnmarked seat.old seat.new }
     ensures steps { MakesAtMost 2 seat.old seat.new }
 {
-    let found = table.acquire(seat, slot, weight, name);
+    let found = table.acquire_at(seat, slot, first, weight, name);
     if has_entry(found) && !counts(found) {
         relieve(
             table,

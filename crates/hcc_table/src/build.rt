@@ -4,12 +4,12 @@ ghost use Rattle.std.specs.Int.{from_le_bytes};
 ghost use mir.Syntax.{w64};
 ghost use Rattle.hcc_core.specs.declared.limits.TheConstants.{MOST_CLIENTS, STAMPS_PER_CLIENT};
 ghost use Rattle.hcc_core.specs.declared.client.Owned.TheVariants.{ForBuilding};
-ghost use Rattle.hcc_rule.specs.declared.layout.TheConstants.{PAYLOAD};
+ghost use Rattle.hcc_rule.specs.declared.layout.TheConstants.{DATA, PAYLOAD};
 ghost use Rattle.hcc_rule.specs.Callers.{plan_of, room_of, IsSeatAt, IsSlotOf};
 ghost use Rattle.hcc_rule.specs.Addresses.{address_of_meta};
 ghost use Rattle.hcc_rule.specs.Seats.{IsSameSeat, view, atomic};
 ghost use Rattle.hcc_rule.specs.ToldOwners.{MayShow, after_show, made_of, first_word};
-ghost use Rattle.hcc_rule.specs.Words.{made_words, payload, stamp_word};
+ghost use Rattle.hcc_rule.specs.Words.{field_at, made_words, payload, stamp_word};
 ghost use Rattle.hcc_table.specs.Inserted.{with_words};
 ghost use Rattle.hcc_table.specs.Seeking.{is_write, Builds, GoesOnBy};
 ghost use Rattle.hcc_table.specs.Steps.{Adds, Ends, MakesAtMost};
@@ -25,12 +25,14 @@ pub(crate) fn build<T: Tag, A: Allocator>(
     table: &RuleTable<T, A>,
     seat: &mut RuleSeat<T>,
     slot: u32,
+    first: usize,
     draft: Draft,
     value: &[u8],
     client: u32,
 )
     requires seat { IsSeatAt table.now seat.old }
     requires slot { IsSlotOf table.now slot }
+    requires first { first ≡ field_at (room_of table.now) slot DATA }
     requires none { (view seat.old).written ≡ [] }
     requires client { client < MOST_CLIENTS }
     requires may { MayShow T.fits (plan_of table.now) slot draft.countdown draft.name
@@ -45,9 +47,9 @@ pub(crate) fn build<T: Tag, A: Allocator>(
         seat.old seat.new }
     ensures steps { MakesAtMost (room_of table.now + 6) seat.old seat.new }
 {
-    write_head(table, seat, slot, draft, value.len() as u64, client);
-    write_payload(table, seat, slot, value);
-    table.show(seat, slot, draft, value);
+    write_head(table, seat, slot, first, draft, value.len() as u64, client);
+    write_payload(table, seat, slot, first, value);
+    table.show_at(seat, slot, first, draft, value);
 }
 
 /// Writes the five words before the payload.
@@ -55,12 +57,14 @@ fn write_head<T: Tag, A: Allocator>(
     table: &RuleTable<T, A>,
     seat: &mut RuleSeat<T>,
     slot: u32,
+    first: usize,
     draft: Draft,
     bytes: u64,
     client: u32,
 )
     requires seat { IsSeatAt table.now seat.old }
     requires slot { IsSlotOf table.now slot }
+    requires first { first ≡ field_at (room_of table.now) slot DATA }
     requires owned { (view seat.old).work.owned ≡ ForBuilding slot }
     requires none { (view seat.old).written ≡ [] }
     requires client { client < MOST_CLIENTS }
@@ -72,7 +76,6 @@ fn write_head<T: Tag, A: Allocator>(
     ensures adds { Adds seat.old seat.new }
     ensures steps { MakesAtMost 5 seat.old seat.new }
 {
-    let first = table.data_of(slot);
     table.write_at(seat, slot, first, KEY0, draft.key.w0);
     table.write_at(seat, slot, first, KEY1, draft.key.w1);
     table.write_at(seat, slot, first, CHARGE, draft.charge as u64);
@@ -86,10 +89,12 @@ fn write_payload<T: Tag, A: Allocator>(
     table: &RuleTable<T, A>,
     seat: &mut RuleSeat<T>,
     slot: u32,
+    first: usize,
     value: &[u8],
 )
     requires seat { IsSeatAt table.now seat.old }
     requires slot { IsSlotOf table.now slot }
+    requires first { first ≡ field_at (room_of table.now) slot DATA }
     requires owned { (view seat.old).work.owned ≡ ForBuilding slot }
     requires head { length (view seat.old).written ≡ PAYLOAD }
     requires short { length value.now ≤ 8 * (room_of table.now) }
@@ -100,7 +105,6 @@ fn write_payload<T: Tag, A: Allocator>(
     ensures adds { Adds seat.old seat.new }
     ensures steps { MakesAtMost (room_of table.now) seat.old seat.new }
 {
-    let first = table.data_of(slot);
     let whole = value.len() / 8;
     for k in 0..whole {
         table.write_at(seat, slot, first, PAYLOAD + k, whole_word(value, 8 * k));

@@ -1,13 +1,14 @@
 //! Taking an entry to free it.
 ghost use Rattle.std.specs.Prelude.{◌≡◌, ◌+◌, ◌^◌, ◌<◌, ◌≤◌, [], true, IfSome, IfNone, slice_index};
 ghost use Rattle.hcc_word.specs.Word.{is_shareable};
-ghost use Rattle.hcc_rule.specs.declared.layout.TheConstants.{CHARGE};
+ghost use Rattle.hcc_rule.specs.declared.layout.TheConstants.{DATA, CHARGE};
 ghost use Rattle.hcc_rule.specs.Callers.{slots_of, room_of, IsSeatAt, IsSlotOf};
 ghost use Rattle.hcc_rule.specs.Addresses.{address_of_meta};
 ghost use Rattle.hcc_rule.specs.Between.{MayFree};
 ghost use Rattle.hcc_rule.specs.Probes.{trail_to};
 ghost use Rattle.hcc_rule.specs.Seats.{IsSameSeat, view};
 ghost use Rattle.hcc_rule.specs.ToldOwners.{IsLast, records_left};
+ghost use Rattle.hcc_rule.specs.Words.{field_at};
 ghost use Rattle.hcc_table.specs.Efforts.{Lost};
 ghost use Rattle.hcc_table.specs.Freed.{HasTaken, IsFreed, TakenAt, TakesBy, emptied};
 ghost use Rattle.hcc_table.specs.Searched.{Sought};
@@ -41,13 +42,34 @@ pub fn free_taken<T: Tag, A: Allocator>(
     ensures adds { Adds seat.old seat.new }
     ensures steps { MakesAtMost (slots_of table.now + 4) seat.old seat.new }
 {
+    free_taken_at(table, seat, slot, table.data_of(slot))
+}
+
+/// The same as `free_taken`, for a caller that has the address of the slot's first data word.
+fn free_taken_at<T: Tag, A: Allocator>(
+    table: &RuleTable<T, A>,
+    seat: &mut RuleSeat<T>,
+    slot: u32,
+    first: usize,
+) -> u64
+    requires seat { IsSeatAt table.now seat.old }
+    requires slot { IsSlotOf table.now slot }
+    requires first { first ≡ field_at (room_of table.now) slot DATA }
+    requires taken { HasTaken (slots_of table.now) slot (view seat.old) }
+    ensures seat { IsSameSeat seat.old seat.new }
+    ensures charge { result ≡ slice_index (view seat.old).written CHARGE }
+    ensures view { view seat.new ≡ emptied (view seat.old) }
+    ensures past { Empties table.now (view seat.old).client seat.old seat.new }
+    ensures adds { Adds seat.old seat.new }
+    ensures steps { MakesAtMost (slots_of table.now + 4) seat.old seat.new }
+{
     let key = Key {
-        w0: table.read_own(seat, slot, KEY0),
-        w1: table.read_own(seat, slot, KEY1),
+        w0: table.read_own_at(seat, slot, first, KEY0),
+        w1: table.read_own_at(seat, slot, first, KEY1),
     };
-    let charge = table.read_own(seat, slot, CHARGE);
+    let charge = table.read_own_at(seat, slot, first, CHARGE);
     take_back(table, seat, slot, key);
-    table.empty(seat, slot);
+    table.empty_at(seat, slot, first);
     charge
 }
 
@@ -85,12 +107,14 @@ pub(crate) fn try_free<T: Tag, A: Allocator>(
     table: &RuleTable<T, A>,
     seat: &mut RuleSeat<T>,
     slot: u32,
+    first: usize,
     word: u64,
     name: Option<u64>,
     effort: &mut Effort,
 ) -> Option<u64>
     requires seat { IsSeatAt table.now seat.old }
     requires slot { IsSlotOf table.now slot }
+    requires first { first ≡ field_at (room_of table.now) slot DATA }
     requires entry { is_shareable word ≡ true }
     requires last { IsLast slot word name (view seat.old) }
     requires may { MayFree (view seat.old) }
@@ -108,9 +132,9 @@ pub(crate) fn try_free<T: Tag, A: Allocator>(
     ensures by { TakesBy table.now slot word name result seat.old seat.new }
     ensures steps { MakesAtMost (freeing (slots_of table.now)) seat.old seat.new }
 {
-    if table.free(seat, slot, word, name) != word {
+    if table.free_at(seat, slot, first, word, name) != word {
         effort.lose();
         return None;
     }
-    Some(free_taken(table, seat, slot))
+    Some(free_taken_at(table, seat, slot, first))
 }

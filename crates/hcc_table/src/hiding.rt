@@ -147,7 +147,7 @@ fn hide_at<T: Tag, A: Allocator>(
         effort.old effort.new seat.old seat.new }
     ensures steps { MakesAtMost ((slots_of table.now + 4) * result.slots + 8) seat.old seat.new }
 {
-    match acquire_at(table, seat, slot, key, name, effort) {
+    match acquire_at(table, seat, slot, table.data_of(slot), key, name, effort) {
         Some(_) => hide_held(table, seat, slot, name, effort),
         None => Erased::NOTHING,
     }
@@ -231,7 +231,8 @@ fn free_last<T: Tag, A: Allocator>(
     ensures fewer { IfNone result (MakesAtMost 1 seat.old seat.new) }
 {
     if has_entry(word) && !is_shown(word) && refs(word) == 1 {
-        try_free(table, seat, slot, word, Some(name), effort)
+        let first = table.data_of(slot);
+        try_free(table, seat, slot, first, word, Some(name), effort)
     } else {
         None
     }

@@ -2,6 +2,7 @@
 //! empty, or one that shows an entry of the key.
 ghost use Rattle.std.specs.Prelude.{◌≡◌, ◌+◌, ◌<◌, ◌≤◌, true, false, None, [], ℕ};
 ghost use Rattle.hcc_table.specs.declared.inserting.Insertion.TheVariants.{Placed, Matched};
+ghost use Rattle.hcc_rule.specs.declared.layout.TheConstants.{DATA};
 ghost use Rattle.hcc_rule.specs.ToldOwners.{first_word};
 ghost use Rattle.hcc_word.specs.Word.{is_empty};
 ghost use Rattle.hcc_core.specs.declared.limits.TheConstants.{MOST_WEIGHT, REFERENCES_PER_CLIENT};
@@ -12,6 +13,7 @@ ghost use Rattle.hcc_rule.specs.Seats.{IsSameSeat, view, atomic};
 ghost use Rattle.hcc_rule.specs.ToldReferences.{may_reach};
 ghost use Rattle.hcc_rule.specs.Views.{load_of};
 ghost use Rattle.hcc_rule.specs.Records.{record_in};
+ghost use Rattle.hcc_rule.specs.Words.{field_at};
 ghost use Rattle.hcc_table.specs.Efforts.{Took};
 ghost use Rattle.hcc_table.specs.Inserted.{CountsTaken, InsertedBy, MayInsert, Meets, TriedAt};
 ghost use Rattle.hcc_table.specs.Probed.{PassesEntry};
@@ -101,8 +103,9 @@ pub fn insert<T: Tag, A: Allocator>(
     let mut passed = 0;
     loop {
         let slot = walk.slot();
+        let first = table.data_of(slot);
         effort.probes(1);
-        match insert_at(table, seat, slot, draft, value, client, name, effort) {
+        match insert_at(table, seat, slot, first, draft, value, client, name, effort) {
             Insertion::Placed { slot } => return Insertion::Placed { slot },
             Insertion::Matched => {
                 take_back(table, seat, slot, draft.key);
@@ -114,7 +117,7 @@ pub fn insert<T: Tag, A: Allocator>(
             take_back(table, seat, slot, draft.key);
             return Insertion::NoSlot;
         }
-        table.pass(seat, slot);
+        table.pass_at(seat, slot, first);
         walk = walk.next();
         passed += 1;
     }
@@ -126,6 +129,7 @@ fn insert_at<T: Tag, A: Allocator>(
     table: &RuleTable<T, A>,
     seat: &mut RuleSeat<T>,
     slot: u32,
+    first: usize,
     draft: Draft,
     value: &[u8],
     client: u32,
@@ -134,6 +138,7 @@ fn insert_at<T: Tag, A: Allocator>(
 ) -> Insertion
     requires seat { IsSeatAt table.now seat.old }
     requires slot { IsSlotOf table.now slot }
+    requires first { first ≡ field_at (room_of table.now) slot DATA }
     requires may { MayInsert T.fits (plan_of table.now) draft value.now client name
         (view seat.old) }
     requires trail { (view seat.old).work.trail ≡ trail_to (slots_of table.now) draft.key slot }
@@ -150,12 +155,13 @@ fn insert_at<T: Tag, A: Allocator>(
     ensures adds { Adds seat.old seat.new }
     ensures steps { MakesAtMost (trying (room_of table.now) result) seat.old seat.new }
 {
-    let found = table.occupy(seat, slot);
+    let found = table.occupy_at(seat, slot, first);
     if is_free(found) {
-        build(table, seat, slot, draft, value, client);
+        build(table, seat, slot, first, draft, value, client);
         return Insertion::Placed { slot };
     }
-    if is_shown(found) && meet(table, seat, slot, draft.key, draft.countdown, name, effort) {
+    let (key, weight) = (draft.key, draft.countdown);
+    if is_shown(found) && meet(table, seat, slot, first, key, weight, name, effort) {
         return Insertion::Matched;
     }
     Insertion::NoSlot
@@ -174,6 +180,7 @@ fn meet<T: Tag, A: Allocator>(
     table: &RuleTable<T, A>,
     seat: &mut RuleSeat<T>,
     slot: u32,
+    first: usize,
     key: Key,
     weight: u32,
     name: u64,
@@ -181,6 +188,7 @@ fn meet<T: Tag, A: Allocator>(
 ) -> bool
     requires seat { IsSeatAt table.now seat.old }
     requires slot { IsSlotOf table.now slot }
+    requires first { first ≡ field_at (room_of table.now) slot DATA }
     requires weight { (0 < weight) × (weight ≤ MOST_WEIGHT) }
     requires fresh { record_in name (view seat.old).records ≡ None }
     requires reach { may_reach slot (view seat.old) ≡ true }
@@ -199,14 +207,14 @@ fn meet<T: Tag, A: Allocator>(
     ensures adds { Adds seat.old seat.new }
     ensures steps { MakesAtMost 5 seat.old seat.new }
 {
-    let found = reach(table, seat, slot, weight, name, effort);
+    let found = reach(table, seat, slot, first, weight, name, effort);
     if !has_entry(found) {
         return false;
     }
-    if matches(table, seat, slot, key, name, found) {
-        let_go(table, seat, slot, weight, name, counts(found));
+    if matches(table, seat, slot, first, key, name, found) {
+        let_go(table, seat, slot, first, weight, name, counts(found));
         return true;
     }
-    table.give(seat, slot, weight, name);
+    table.give_at(seat, slot, first, weight, name);
     false
 }

@@ -13,13 +13,15 @@ ghost use Rattle.hcc_rule.specs.Seats.{SeatOf, view};
 ghost use Rattle.hcc_table.specs.declared.efforts.Effort.{Effort};
 ghost use Rattle.hcc_table.specs.declared.hiding.Erased.{Erased};
 ghost use Rattle.hcc_table.specs.declared.inserting.Insertion.{Insertion};
+ghost use Rattle.hcc_table.specs.declared.inserting.Insertion.TheVariants.{NoSlot};
 ghost use Rattle.hcc_table.specs.declared.pins.Pin.{Pin};
 ghost use Rattle.hcc_table.specs.Hides.{HidesAll};
 ghost use Rattle.hcc_table.specs.Probed.{Misses, Searches};
 ghost use Rattle.hcc_table.specs.Quiet.{IsQuiet, ShowsKeyAt};
-ghost use Rattle.hcc_table.specs.Seeking.{is_settling, GoesOnBy};
+ghost use Rattle.hcc_table.specs.Seeking.{is_settling, GoesOnBy, Seeks};
+ghost use Rattle.hcc_table.specs.Still.{BeganWithin, GoesOnStill, ReleasesBy, ShowsBut};
 ghost use Rattle.hcc_table.specs.Tries.{Inserts};
-ghost use Rattle.hcc_table.specs.Standing.{FindsFirst, FindsLasting, HidesShown, InsertsShown, ShowsKey, shown_at, world_at};
+ghost use Rattle.hcc_table.specs.Standing.{FindsFirst, FindsLasting, HidesShown, InsertsShown, ShowsKey, ShowsSame, shown_at, world_at};
 
 use hcc_rule::Tag;
 use hcc_rule::laws::law_trails;
@@ -79,6 +81,40 @@ pub fn law_inserted_alone<T: Tag, A: Allocator>()
         (before after : Effort) (old new : SeatOf T) → clients_of table ≡ 1
         → Inserts T.fits table key name weight answer before after old new
         → InsertsShown (slots_of table) key answer (world_at table old) (world_at table new) }
+{}
+
+/// A shard of one client is never out of slots.
+pub fn law_room_alone<T: Tag, A: Allocator>()
+    // An insertion finds an empty slot, or meets an entry of its key: not all slots have entries at
+    // once. The shard began with no entry, or with entries that keep their limits.
+    ensures { (table : RuleTable T A) (key : Key) (name weight : ℕ) (before after : Effort)
+        (old new : SeatOf T) → clients_of table ≡ 1 → BeganWithin table T.fits
+        → ¬ Inserts T.fits table key name weight NoSlot before after old new }
+{}
+
+/// In a shard of one client only what is placed, hidden or taken changes what the shard shows.
+pub fn law_still_alone<T: Tag, A: Allocator>()
+    // A call by whose events no entry is made, taken, shown or hidden: each slot shows what it
+    // showed.
+    ensures still { (table : RuleTable T A) (old new : SeatOf T) → clients_of table ≡ 1
+        → GoesOnStill table old new → ShowsSame (world_at table old) (world_at table new) }
+
+    // So it is of each call that only seeks: one more reference, what is read by one, and loads;
+    ensures seeks { (table : RuleTable T A) (old new : SeatOf T) → clients_of table ≡ 1
+        → Seeks table old new → ShowsSame (world_at table old) (world_at table new) }
+
+    // and of a search, whatever it finds.
+    ensures searches { (table : RuleTable T A) (key : Key) (name : ℕ) (marks : Bool)
+        (answer : Option Pin) (before after : Effort) (old new : SeatOf T) → clients_of table ≡ 1
+        → Searches T.fits table key name marks answer before after old new
+        → ShowsSame (world_at table old) (world_at table new) }
+
+    // A release: each slot but that of its reference shows what it showed. That one does so too
+    // where nothing was freed, else it shows nothing.
+    ensures releases { (table : RuleTable T A) (slot name : ℕ) (used erase : Bool)
+        (freed : Option ℕ) (old new : SeatOf T) → clients_of table ≡ 1
+        → ReleasesBy table slot name used erase freed old new
+        → ShowsBut slot freed (world_at table old) (world_at table new) }
 {}
 
 /// In a shard of one client totals are those of what the shard has.

@@ -9,6 +9,7 @@ ghost use Rattle.hcc_rule.specs.Records.{record_in, weight_on};
 ghost use Rattle.hcc_table.specs.Efforts.{Took};
 ghost use Rattle.hcc_table.specs.Pinned.{CountsHeld};
 ghost use Rattle.hcc_table.specs.Searched.{Sought};
+ghost use Rattle.hcc_table.specs.Seeking.{Seeks};
 ghost use Rattle.hcc_table.specs.Steps.{MakesAtMost};
 
 use crate::acquire::reach;
@@ -48,13 +49,14 @@ pub fn pinned_charge<T: Tag, A: Allocator>(
     ensures counts { CountsHeld T.fits table.now name slot result effort.old effort.new
         seat.old seat.new }
     ensures small { result < 2 ^ 32 }
+    ensures seeks { Seeks table.now seat.old seat.new }
     ensures steps { MakesAtMost 5 seat.old seat.new }
 {
     let word = table.look(seat, slot);
     if !has_entry(word) || refs(word) == 0 {
         return 0;
     }
-    let found = reach(table, seat, slot, 1, name, effort);
+    let found = reach(table, seat, slot, table.data_of(slot), 1, name, effort);
     if !has_entry(found) {
         return 0;
     }

@@ -5,7 +5,8 @@ ghost use mir.Syntax.{w64};
 ghost use Rattle.hcc_core.specs.World.{limit_of, times};
 ghost use Rattle.hcc_rule.specs.declared.layout.TheConstants.{DATA, KEY1};
 ghost use Rattle.hcc_rule.specs.declared.view.Record.{Record};
-ghost use Rattle.hcc_rule.specs.Callers.{clients_of, plan_of, slots_of, room_of, IsSeatAt, IsSlotOf, HasOn};
+ghost use Rattle.hcc_rule.specs.Callers.{clients_of, plan_of, slots_of, room_of, IsEvent, IsSeatAt, IsSlotOf, HasOn};
+ghost use Rattle.hcc_rule.specs.Events.{count_done, look_done};
 ghost use Rattle.hcc_rule.specs.Addresses.{address_of_displacement, address_of_meta};
 ghost use Rattle.hcc_rule.specs.Probes.{trail_to};
 ghost use Rattle.hcc_rule.specs.Rule.{setup_of};
@@ -18,6 +19,7 @@ ghost use Rattle.hcc_rule.specs.Records.{different, record_in};
 ghost use Rattle.hcc_rule.specs.Words.{field_at, key_of, payload_word, words_for};
 ghost use Rattle.hcc_table.specs.Pins.{IsPinned};
 ghost use Rattle.hcc_table.specs.Readings.{IsReadable};
+ghost use Rattle.hcc_table.specs.Seeking.{Seeks};
 ghost use Rattle.hcc_table.specs.Steps.{MakesAtMost};
 
 use crate::pins::Pin;
@@ -40,6 +42,7 @@ pub fn word<T: Tag, A: Allocator>(table: &RuleTable<T, A>, seat: &mut RuleSeat<T
     ensures loads { Makes (address_of_meta table.now slot) 0 0 result seat.old seat.new }
     ensures backs { Backs slot result (view seat.old) }
     ensures alone { HoldsAll (setup_of (plan_of table.now)) slot result (view seat.old) }
+    ensures event { IsEvent table.now (look_done slot result (view seat.old)) seat.old seat.new }
     ensures steps { MakesAtMost 1 seat.old seat.new }
 {
     table.look(seat, slot)
@@ -80,6 +83,7 @@ pub fn displacement<T: Tag, A: Allocator>(
         ≤ times slot (view seat.old).work.trail
         + passed_held (slots_of table.now) slot (view seat.old).records
         + length (view seat.old).made }
+    ensures event { IsEvent table.now (count_done slot result (view seat.old)) seat.old seat.new }
     ensures steps { MakesAtMost 1 seat.old seat.new }
 {
     table.count(seat, slot)
@@ -101,6 +105,7 @@ pub fn read_len<T: Tag, A: Allocator>(
     ensures view { view seat.new ≡ view seat.old }
     ensures exact { IfSome (record_in pin.name (view seat.old).records)
         (λ r. result ≡ length r.entry.value) }
+    ensures seeks { Seeks table.now seat.old seat.new }
     ensures steps { MakesAtMost 1 seat.old seat.new }
 {
     table.read(seat, pin.slot, LENGTH, pin.name) as usize
@@ -123,6 +128,7 @@ pub fn read_key<T: Tag, A: Allocator>(
     ensures view { view seat.new ≡ after_read pin.name KEY1 (view seat.old) }
     ensures exact { IfSome (record_in pin.name (view seat.old).records)
         (λ r. result ≡ key_of r.entry) }
+    ensures seeks { Seeks table.now seat.old seat.new }
     ensures steps { MakesAtMost 2 seat.old seat.new }
 {
     Key {
@@ -156,6 +162,7 @@ pub fn read_bytes<T: Tag, A: Allocator>(
         (λ r. result ≡ length r.entry.value) }
     ensures bytes { IfSome (record_in pin.name (view seat.old).records)
         (λ r. buffer.new ≡ r.entry.value ++ drop (length r.entry.value) buffer.old) }
+    ensures seeks { Seeks table.now seat.old seat.new }
     ensures steps { MakesAtMost (words_for result + 1) seat.old seat.new }
 {
     let length = read_len(table, seat, pin);
@@ -184,6 +191,7 @@ pub fn copy_bytes<T: Tag, A: Allocator>(
     ensures view { view seat.new ≡ view seat.old }
     ensures bytes { IfSome (record_in pin.name (view seat.old).records)
         (λ r. buffer.new ≡ r.entry.value ++ drop (length r.entry.value) buffer.old) }
+    ensures seeks { Seeks table.now seat.old seat.new }
     ensures steps { MakesAtMost (words_for count) seat.old seat.new }
 {
     let first = table.data_of(pin.slot);
@@ -229,6 +237,7 @@ fn copy_word<T: Tag, A: Allocator>(
     ensures bytes { IfSome (record_in pin.name (view seat.old).records)
         (λ r. buffer.new ≡ take (8 * index) buffer.old
         ++ (take count (drop (8 * index) r.entry.value) ++ drop (8 * index + count) buffer.old)) }
+    ensures seeks { Seeks table.now seat.old seat.new }
     ensures steps { MakesAtMost 1 seat.old seat.new }
 {
     let word = read_word(table, seat, pin, first, index);
@@ -252,6 +261,7 @@ fn read_word<T: Tag, A: Allocator>(
     ensures view { view seat.new ≡ view seat.old }
     ensures word { IfSome (record_in pin.name (view seat.old).records)
         (λ r. 8 * index < length r.entry.value → result ≡ payload_word r.entry.value index) }
+    ensures seeks { Seeks table.now seat.old seat.new }
     ensures steps { MakesAtMost 1 seat.old seat.new }
 {
     table.read_at(seat, pin.slot, first, PAYLOAD + index, pin.name)

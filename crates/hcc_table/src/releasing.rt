@@ -3,12 +3,14 @@ ghost use Rattle.std.specs.Prelude.{◌≡◌, ◌+◌, ◌^◌, ◌<◌, ◌≤
 ghost use Rattle.hcc_word.specs.declared.layout.TheConstants.{CONSTRUCTION_WORD};
 ghost use Rattle.hcc_word.specs.Word.{is_visible};
 ghost use Rattle.hcc_core.specs.Outcomes.{dropped};
+ghost use Rattle.hcc_rule.specs.declared.layout.TheConstants.{DATA};
 ghost use Rattle.hcc_rule.specs.Callers.{room_of, IsSeatAt, IsSlotOf, slots_of};
 ghost use Rattle.hcc_rule.specs.Addresses.{address_of_meta};
 ghost use Rattle.hcc_rule.specs.Between.{MayFree};
 ghost use Rattle.hcc_rule.specs.Seats.{IsSameSeat, view, SeatOf, atomic};
 ghost use Rattle.hcc_rule.specs.Views.{is_called};
 ghost use Rattle.hcc_rule.specs.Records.{record_in};
+ghost use Rattle.hcc_rule.specs.Words.{field_at};
 ghost use Rattle.hcc_table.specs.Efforts.{Lost};
 ghost use Rattle.hcc_table.specs.Freed.{GivesOnce, IsFreed, IsLeft, IsLeftBy, TakesByWhereDue, TriedWhereDue, is_due};
 ghost use Rattle.hcc_table.specs.Pins.{IsPinned, erases, is_useful};
@@ -69,9 +71,10 @@ pub fn release<T: Tag, A: Allocator>(
     ensures steps { MakesAtMost (freeing (slots_of table.now) + 1) seat.old seat.new }
 {
     let used = usage.is_use(pin.counting);
-    let left = let_go(table, seat, pin.slot, 1, pin.name, used);
+    let first = table.data_of(pin.slot);
+    let left = let_go(table, seat, pin.slot, first, 1, pin.name, used);
     if is_free_to_go(left, last.erases()) {
-        try_free(table, seat, pin.slot, left, None, effort)
+        try_free(table, seat, pin.slot, first, left, None, effort)
     } else {
         None
     }
@@ -97,7 +100,8 @@ pub fn give_back<T: Tag, A: Allocator>(
     ensures steps { MakesAtMost 1 seat.old seat.new }
 {
     let used = usage.is_use(pin.counting);
-    let_go(table, seat, pin.slot, 1, pin.name, used);
+    let first = table.data_of(pin.slot);
+    let_go(table, seat, pin.slot, first, 1, pin.name, used);
 }
 
 /// Gives the references of this name back, as uses or not, and returns the word that is left.
@@ -106,12 +110,14 @@ pub(crate) fn let_go<T: Tag, A: Allocator>(
     table: &RuleTable<T, A>,
     seat: &mut RuleSeat<T>,
     slot: u32,
+    first: usize,
     weight: u32,
     name: u64,
     used: bool,
 ) -> u64
     requires seat { IsSeatAt table.now seat.old }
     requires slot { IsSlotOf table.now slot }
+    requires first { first ≡ field_at (room_of table.now) slot DATA }
     requires holds { IsSomeAnd (record_in name (view seat.old).records)
         (λ r. (r.slot ≡ slot) × (r.weight ≡ weight) × (used ≡ true → r.counting ≡ true)) }
     ensures seat { IsSameSeat seat.old seat.new }
@@ -121,9 +127,9 @@ pub(crate) fn let_go<T: Tag, A: Allocator>(
     ensures steps { MakesAtMost 1 seat.old seat.new }
 {
     if used {
-        released(table.spend(seat, slot, weight, name), weight)
+        released(table.spend_at(seat, slot, first, weight, name), weight)
     } else {
-        given_back(table.give(seat, slot, weight, name), weight)
+        given_back(table.give_at(seat, slot, first, weight, name), weight)
     }
 }
 

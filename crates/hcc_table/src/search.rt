@@ -3,6 +3,7 @@ ghost use Rattle.std.specs.Prelude.{◌≡◌, ◌⊎◌, ◌+◌, ◌<◌, ◌�
 ghost use Rattle.hcc_word.specs.declared.layout.TheConstants.{HIT_BIT};
 ghost use Rattle.hcc_word.specs.Word.{is_counting, is_visible, hit_of};
 ghost use Rattle.hcc_core.specs.declared.limits.TheConstants.{REFERENCES_PER_CLIENT};
+ghost use Rattle.hcc_rule.specs.declared.layout.TheConstants.{DATA};
 ghost use Rattle.hcc_rule.specs.declared.view.Record.{Record};
 ghost use Rattle.hcc_rule.specs.Callers.{slots_of, room_of, IsEvent, IsSeatAt, IsSlotOf, HasOn};
 ghost use Rattle.hcc_rule.specs.Addresses.{address_of_meta};
@@ -11,7 +12,7 @@ ghost use Rattle.hcc_rule.specs.Seats.{IsSameSeat, view, Makes, atomic};
 ghost use Rattle.hcc_rule.specs.ToldOwners.{with_met};
 ghost use Rattle.hcc_rule.specs.Views.{load_of};
 ghost use Rattle.hcc_rule.specs.Records.{record_in};
-ghost use Rattle.hcc_rule.specs.Words.{key_of};
+ghost use Rattle.hcc_rule.specs.Words.{field_at, key_of};
 ghost use Rattle.hcc_table.specs.Efforts.{Took};
 ghost use Rattle.hcc_table.specs.Probed.{Catches, LoadsKey, LoadsOther, Looks, Passes, Searches};
 ghost use Rattle.hcc_table.specs.Searched.{Sought, IsFound, IsMissed, Buried};
@@ -79,9 +80,27 @@ pub fn find<T: Tag, A: Allocator>(
 {
     let slots = table.geometry().slots;
     let mut walk = Walk::begin(key, slots);
-    for probe in 0..slots {
+    // Most searches end at the first probe: before the loop it costs nothing of what others need.
+    let home = walk.slot();
+    let first = table.data_of(home);
+    if let Some(found) = acquire_at(table, seat, home, first, key, name, effort) {
+        mark_if(table, seat, home, name, marks, found);
+        effort.probes(1);
+        return Some(Pin {
+            slot: home,
+            name,
+            counting: counts(found),
+        });
+    }
+    if table.count_at(seat, home, first) == 0 {
+        effort.probes(1);
+        return None;
+    }
+    walk = walk.next();
+    for probe in 1..slots {
         let slot = walk.slot();
-        if let Some(found) = acquire_at(table, seat, slot, key, name, effort) {
+        let first = table.data_of(slot);
+        if let Some(found) = acquire_at(table, seat, slot, first, key, name, effort) {
             mark_if(table, seat, slot, name, marks, found);
             effort.probes(probe as u64 + 1);
             return Some(Pin {
@@ -90,7 +109,7 @@ pub fn find<T: Tag, A: Allocator>(
                 counting: counts(found),
             });
         }
-        if table.count(seat, slot) == 0 {
+        if table.count_at(seat, slot, first) == 0 {
             effort.probes(probe as u64 + 1);
             return None;
         }
@@ -106,12 +125,14 @@ pub(crate) fn acquire_at<T: Tag, A: Allocator>(
     table: &RuleTable<T, A>,
     seat: &mut RuleSeat<T>,
     slot: u32,
+    first: usize,
     key: Key,
     name: u64,
     effort: &mut Effort,
 ) -> Option<u64>
     requires seat { IsSeatAt table.now seat.old }
     requires slot { IsSlotOf table.now slot }
+    requires first { first ≡ field_at (room_of table.now) slot DATA }
     requires fresh { record_in name (view seat.old).records ≡ None }
     requires load { load_of (view seat.old).records + 1 ≤ REFERENCES_PER_CLIENT }
     ensures seat { IsSameSeat seat.old seat.new }
@@ -131,18 +152,18 @@ pub(crate) fn acquire_at<T: Tag, A: Allocator>(
     ensures steps { MakesAtMost 6 seat.old seat.new }
     ensures fewer { IfSome result (λ _. MakesAtMost 5 seat.old seat.new) }
 {
-    let seen = table.look(seat, slot);
+    let seen = table.look_at(seat, slot, first);
     if !is_shown(seen) {
         return None;
     }
-    let found = reach(table, seat, slot, 1, name, effort);
+    let found = reach(table, seat, slot, first, 1, name, effort);
     if !has_entry(found) {
         return None;
     }
-    if matches(table, seat, slot, key, name, found) {
+    if matches(table, seat, slot, first, key, name, found) {
         return Some(found);
     }
-    table.give(seat, slot, 1, name);
+    table.give_at(seat, slot, first, 1, name);
     None
 }
 
@@ -152,12 +173,14 @@ pub(crate) fn matches<T: Tag, A: Allocator>(
     table: &RuleTable<T, A>,
     seat: &mut RuleSeat<T>,
     slot: u32,
+    first: usize,
     key: Key,
     name: u64,
     found: u64,
 ) -> bool
     requires seat { IsSeatAt table.now seat.old }
     requires slot { IsSlotOf table.now slot }
+    requires first { first ≡ field_at (room_of table.now) slot DATA }
     requires holds { HasOn slot name (view seat.old) }
     ensures seat { IsSameSeat seat.old seat.new }
     ensures view { Sought (view seat.old) (view seat.new) }
@@ -175,7 +198,7 @@ pub(crate) fn matches<T: Tag, A: Allocator>(
     ensures adds { AddsUnmarked seat.old seat.new }
     ensures steps { MakesAtMost 2 seat.old seat.new }
 {
-    is_shown(found) && has_key(table, seat, slot, key, name)
+    is_shown(found) && has_key(table, seat, slot, first, key, name)
 }
 
 /// Whether the entry that the record of this name is on has this key. Where the first halves differ
@@ -185,11 +208,13 @@ fn has_key<T: Tag, A: Allocator>(
     table: &RuleTable<T, A>,
     seat: &mut RuleSeat<T>,
     slot: u32,
+    first: usize,
     key: Key,
     name: u64,
 ) -> bool
     requires seat { IsSeatAt table.now seat.old }
     requires slot { IsSlotOf table.now slot }
+    requires first { first ≡ field_at (room_of table.now) slot DATA }
     requires holds { HasOn slot name (view seat.old) }
     ensures seat { IsSameSeat seat.old seat.new }
     ensures view { Sought (view seat.old) (view seat.new) }
@@ -205,7 +230,6 @@ fn has_key<T: Tag, A: Allocator>(
     ensures adds { AddsUnmarked seat.old seat.new }
     ensures steps { MakesAtMost 2 seat.old seat.new }
 {
-    let first = table.data_of(slot);
     table.read_at(seat, slot, first, KEY0, name) == key.w0
         && table.read_at(seat, slot, first, KEY1, name) == key.w1
 }

@@ -2,10 +2,12 @@
 ghost use Rattle.std.specs.Prelude.{◌≡◌, ◌+◌, ◌^◌, ◌<◌, ◌≤◌, [], true};
 ghost use Rattle.hcc_word.specs.Changes.{IsClockable, clocked_word};
 ghost use Rattle.hcc_word.specs.Word.{is_shareable, refs_of};
+ghost use Rattle.hcc_rule.specs.declared.layout.TheConstants.{DATA};
 ghost use Rattle.hcc_rule.specs.Callers.{slots_of, room_of, IsSeatAt, IsSlotOf};
 ghost use Rattle.hcc_rule.specs.Addresses.{address_of_meta};
 ghost use Rattle.hcc_rule.specs.Between.{MayFree};
 ghost use Rattle.hcc_rule.specs.Seats.{IsSameSeat, view};
+ghost use Rattle.hcc_rule.specs.Words.{field_at};
 ghost use Rattle.hcc_table.specs.Visited.{LostBy, Visited, CountedDown, Swept};
 ghost use Rattle.hcc_table.specs.Steps.{MakesAtMost, freeing};
 
@@ -53,7 +55,8 @@ pub fn visit<T: Tag, A: Allocator>(
         (address_of_meta table.now slot) slot result seat.old seat.new }
     ensures steps { MakesAtMost (freeing (slots_of table.now) + 1) seat.old seat.new }
 {
-    let word = table.look(seat, slot);
+    let first = table.data_of(slot);
+    let word = table.look_at(seat, slot, first);
     if !has_entry(word) {
         return ClockVisit::Passed;
     }
@@ -61,8 +64,8 @@ pub fn visit<T: Tag, A: Allocator>(
         return ClockVisit::Pinned;
     }
     match clocked(word) {
-        Some(next) => count_down(table, seat, slot, word, next, effort),
-        None => sweep(table, seat, slot, word, effort),
+        Some(next) => count_down(table, seat, slot, first, word, next, effort),
+        None => sweep(table, seat, slot, first, word, effort),
     }
 }
 
@@ -71,12 +74,14 @@ fn count_down<T: Tag, A: Allocator>(
     table: &RuleTable<T, A>,
     seat: &mut RuleSeat<T>,
     slot: u32,
+    first: usize,
     word: u64,
     next: u64,
     effort: &mut Effort,
 ) -> ClockVisit
     requires seat { IsSeatAt table.now seat.old }
     requires slot { IsSlotOf table.now slot }
+    requires first { first ≡ field_at (room_of table.now) slot DATA }
     requires clockable { IsClockable word }
     requires clocked { next ≡ clocked_word word }
     ensures seat { IsSameSeat seat.old seat.new }
@@ -84,7 +89,7 @@ fn count_down<T: Tag, A: Allocator>(
     ensures visit { CountedDown (address_of_meta table.now slot) word result seat.old seat.new }
     ensures steps { MakesAtMost 1 seat.old seat.new }
 {
-    if table.clock(seat, slot, word, next) == word {
+    if table.clock_at(seat, slot, first, word, next) == word {
         return ClockVisit::Counted;
     }
     effort.lose();
@@ -96,11 +101,13 @@ fn sweep<T: Tag, A: Allocator>(
     table: &RuleTable<T, A>,
     seat: &mut RuleSeat<T>,
     slot: u32,
+    first: usize,
     word: u64,
     effort: &mut Effort,
 ) -> ClockVisit
     requires seat { IsSeatAt table.now seat.old }
     requires slot { IsSlotOf table.now slot }
+    requires first { first ≡ field_at (room_of table.now) slot DATA }
     requires entry { is_shareable word ≡ true }
     requires unheld { refs_of word ≡ 0 }
     requires may { MayFree (view seat.old) }
@@ -110,7 +117,7 @@ fn sweep<T: Tag, A: Allocator>(
         (address_of_meta table.now slot) slot word result seat.old seat.new }
     ensures steps { MakesAtMost (freeing (slots_of table.now)) seat.old seat.new }
 {
-    match try_free(table, seat, slot, word, None, effort) {
+    match try_free(table, seat, slot, first, word, None, effort) {
         Some(charge) => ClockVisit::Freed {
             charge,
             hit: hit(word),

@@ -74,7 +74,8 @@ pub fn play_blocks<
         (result ≡ Err error) × (reader.new ≡ reader.old) × (writer.new ≡ writer.old)) }
 
     // In every order of the threads' steps, what is written reports the reads of the text, which
-    // were made on one new cache, and the sums of that cache, closed.
+    // were made on one new cache, and the sums of that cache, closed. What is left are blocks that
+    // lines name, no line twice, and no more than misses that weren't faults.
     ensures written { OnOk result (IfSome (R.remaining reader.old)
         (Writes (map (λ file. file.items) files.now) options.now (IsSteady S.reliable sources.items)
         (W.contents writer.old) (W.contents writer.new))) }

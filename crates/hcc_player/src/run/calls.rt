@@ -17,8 +17,8 @@ use crate::run::registers::Registers;
 use hcc_cache::{Cache, Client, InsertError, Inserted, Key, LookupError, Priority, Tag};
 use std::alloc::{AllocError, Global};
 
-/// Makes a call, whose values fit their keys, and answers it. It allocates memory for registers
-/// that were not needed yet, and for a value that is read.
+/// Makes a call, whose values fit their keys, and answers it. It allocates memory for a register
+/// that is filled, once the call gave its handle, and for a value that is read.
 pub(crate) fn answer<T: Tag>(
     alloc: Global,
     cache: &Cache<T>,
@@ -140,9 +140,9 @@ fn pin<T: Tag>(
     if registers.get(register).is_some() {
         return Ok(Answer::Busy);
     }
-    registers.reserve(register)?;
     match cache.insert_pinned(client, key, value.into_vec(), charge, priority) {
         Ok((handle, inserted)) => {
+            registers.reserve(register)?;
             registers.set(register, Some(handle));
             Ok(placed(inserted))
         }
@@ -167,9 +167,9 @@ fn get<T: Tag>(
     if registers.get(register).is_some() {
         return Ok(Answer::Busy);
     }
-    registers.reserve(register)?;
     match cache.lookup(client, key) {
         Ok(Some(handle)) => {
+            registers.reserve(register)?;
             registers.set(register, Some(handle));
             Ok(Answer::Hit)
         }
@@ -198,9 +198,9 @@ fn fork<T: Tag>(
     let Some(held) = registers.get(from) else {
         return Ok(Answer::Nothing);
     };
-    registers.reserve(register)?;
     match cache.reref(client, held) {
         Ok(handle) => {
+            registers.reserve(register)?;
             registers.set(register, Some(handle));
             Ok(Answer::Held)
         }

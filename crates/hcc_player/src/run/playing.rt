@@ -24,6 +24,7 @@ use crate::run::registers::Registers;
 use crate::run::tag::TraceTag;
 use crate::script::next_line;
 use crate::sums::sums_of;
+use hcc_cache::laws::{law_erasures, law_lookups, law_totals};
 use hcc_cache::{Cache, Client, Closed, Config, Tag};
 use std::alloc::{AllocError, Global};
 use std::io::Write;
@@ -44,6 +45,9 @@ pub(crate) fn play_text<W: Write>(
         × AppendsPart (W.contents writer.old) (W.contents writer.new) out) }
     ensures err { IfErr result FailsToPlay }
 {
+    law_lookups::<TraceTag<'_>>();
+    law_erasures::<TraceTag<'_>>();
+    law_totals::<TraceTag<'_>>();
     let Ok((cache, clients)) = Cache::new(alloc, config, TraceTag { config, text }) else {
         return Err(PlayError::OutOfMemory);
     };

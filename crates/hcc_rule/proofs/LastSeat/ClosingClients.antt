@@ -70,7 +70,7 @@ module _ {T : Type 0} (fits : T → Key → List ℕ → Type 0) (p : Plan T) (s
   spent j u other there = (r.seats.each j u there).spent (unseated j u other there)
 
   -- so this view names each client once
-  named_once : (c : ℕ) → c < length r.world.clients → names c v ≡ 1
+  pub named_once : (c : ℕ) → c < length r.world.clients → names c v ≡ 1
   named_once c near =
       let sum = total-only (names c) s.views id v at
       (λ j u other there. rw (unseated j u other there, (spent j u other there).1) refl) in

@@ -40,7 +40,7 @@ use Rattle.hcc_rule.proofs.Limits.MadeEntries.{charge_is, key_is, resident_at, s
 use Rattle.hcc_rule.proofs.Parts.SlotSteps.{Shard}
 
 -- an empty slot's word is its strays
-strays_are : (strays : ℕ) → code_of_empty strays ≡ strays
+pub strays_are : (strays : ℕ) → code_of_empty strays ≡ strays
 unfolding code_of_empty
 strays_are strays = refl
 
@@ -62,26 +62,26 @@ module _ {T : Type 0} (fits : T → Key → List ℕ → Type 0) (p : Plan T) (s
   quiet c client is = (known fits p s r id v at seated back c client is).quiet
 
   -- so no sum over the clients gives anything
-  no_clients : (f : Client → ℕ) → ((client : Client) → IsQuiet client → f client ≡ 0)
+  pub no_clients : (f : Client → ℕ) → ((client : Client) → IsQuiet client → f client ≡ 0)
       → total f r.world.clients ≡ 0
   no_clients f none = total-nothing f r.world.clients
       (λ c client is. none client (quiet c client is))
 
   -- and no slot is owned
-  unowned : (c k : ℕ) → owned_by (slice_get r.world.clients c) ≡ Some k → ⊥
+  pub unowned : (c k : ℕ) → owned_by (slice_get r.world.clients c) ≡ Some k → ⊥
   unowned c k owns = by (slice_get r.world.clients c) refl owns
     where
       by : (o : Option Client) → slice_get r.world.clients c ≡ o → owned_by o ≡ Some k → ⊥
       by None is h = cc
       by (Some client) is h = let bad : None ≡ Some k = sym (quiet c client is).owned ∙ h in cc
 
-  world : Lawful r.world
+  pub world : Lawful r.world
   world = lawful fits p s r id v at seated back
 
   clients_are : length r.world.clients ≡ p.geometry.clients
   clients_are = client_count fits p s r id v at seated back
 
-  slots_are : length r.world.slots ≡ size
+  pub slots_are : length r.world.slots ≡ size
   slots_are = slot_count fits p s r id v at seated back
 
   -- The other views give nothing.
@@ -101,7 +101,7 @@ module _ {T : Type 0} (fits : T → Key → List ℕ → Type 0) (p : Plan T) (s
   slot_at k near = there r.world.slots k (let all = slots_are in omega arith)
 
   -- the word tells it
-  entry_told : (k : ℕ) (slot : Slot) → slice_get r.world.slots k ≡ Some slot
+  pub entry_told : (k : ℕ) (slot : Slot) → slice_get r.world.slots k ≡ Some slot
       → has_entry room s.words k ≡ slot_has_entry slot
   entry_told k slot is =
       ap is_shareable (r.coded.meta k slot is)
@@ -121,11 +121,11 @@ module _ {T : Type 0} (fits : T → Key → List ℕ → Type 0) (p : Plan T) (s
 
   module _ (k : ℕ) (e : Resident) (is : slice_get r.world.slots k ≡ Some (slots.Shareable e)) where
     -- it stands there as its maker showed it
-    stored : IsStored room s.words r.books k e.entry
+    pub stored : IsStored room s.words r.books k e.entry
     stored = r.stored k e.entry (ap entry_in is)
 
     -- its client's list has it
-    listed : slice_get (list_by v e.entry.stamp.client) e.entry.stamp.number ≡ Some stored.made
+    pub listed : slice_get (list_by v e.entry.stamp.client) e.entry.stamp.number ≡ Some stored.made
     listed = by (slice_get r.books e.entry.stamp.client) refl
       where
         by : (o : Option (List Made)) → slice_get r.books e.entry.stamp.client ≡ o

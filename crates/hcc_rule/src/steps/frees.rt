@@ -3,11 +3,13 @@ ghost use Rattle.std.specs.Prelude.{◌≡◌, ◌+◌, ◌-◌, ◌^◌, ◌<�
 ghost use Rattle.hcc_word.specs.declared.layout.TheConstants.{CONSTRUCTION_WORD};
 ghost use Rattle.hcc_word.specs.Word.{is_shareable};
 ghost use Rattle.hcc_core.specs.World.{owns_nothing};
+ghost use Rattle.hcc_rule.specs.declared.layout.TheConstants.{DATA};
 ghost use Rattle.hcc_rule.specs.Callers.{IsEvent, IsSeatAt};
 ghost use Rattle.hcc_rule.specs.Addresses.{address_of_meta};
 ghost use Rattle.hcc_rule.specs.Events.{free_done};
 ghost use Rattle.hcc_rule.specs.Seats.{IsSameSeat, Makes, view};
 ghost use Rattle.hcc_rule.specs.ToldOwners.{IsLast, Freed};
+ghost use Rattle.hcc_rule.specs.Words.{field_at};
 
 use crate::key::Tag;
 use crate::layout::META;
@@ -42,7 +44,36 @@ impl<T: Tag, A: Allocator> RuleTable<T, A> {
             ((view seat.new).work.freed - (view seat.old).work.freed) (view seat.old))
             seat.old seat.new }
     {
-        let address = self.address(slot, META);
+        self.free_at(seat, slot, self.data_of(slot), old, name)
+    }
+
+    /// The same as `free`, for a caller that has the address of the slot's first data word.
+    pub fn free_at(
+        &self,
+        seat: &mut RuleSeat<T>,
+        slot: u32,
+        first: usize,
+        old: u64,
+        name: Option<u64>,
+    ) -> u64
+        requires seat { IsSeatAt self.now seat.old }
+        requires slot { slot < self.now.geometry.slots }
+        requires first { first ≡ field_at self.now.geometry.room slot DATA }
+        requires entry { is_shareable old ≡ true }
+        requires last { IsLast slot old name (view seat.old) }
+        requires idle { (owns_nothing (view seat.old).work.owned ≡ true)
+            × ((view seat.old).work.trail ≡ []) }
+        requires space { (view seat.old).work.freed + 2 ^ 32 ≤ 2 ^ 49 }
+        ensures seat { IsSameSeat seat.old seat.new }
+        ensures view { Freed T.fits self.now.geometry.slots self.now.geometry.room slot old result
+            name (view seat.old) (view seat.new) }
+        ensures step { Makes (address_of_meta self.now slot) old CONSTRUCTION_WORD result
+            seat.old seat.new }
+        ensures event { IsEvent self.now (free_done slot name old result
+            ((view seat.new).work.freed - (view seat.old).work.freed) (view seat.old))
+            seat.old seat.new }
+    {
+        let address = self.head_address(slot, first, META);
         self.compare_exchange::<Brand, _>(seat, address, old, CONSTRUCTION_WORD, (slot, name))
     }
 }

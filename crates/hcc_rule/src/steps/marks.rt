@@ -3,6 +3,7 @@ ghost use Rattle.std.specs.Prelude.{◌≡◌, ◌<◌, true, false, IsSomeAnd};
 ghost use Rattle.hcc_word.specs.declared.layout.TheConstants.{HIDING_MASK, HIT_BIT};
 ghost use Rattle.hcc_word.specs.Word.{is_shareable};
 ghost use Rattle.hcc_word.specs.Changes.{IsClockable, clocked_word, IsCorrectable, corrected_word};
+ghost use Rattle.hcc_rule.specs.declared.layout.TheConstants.{DATA};
 ghost use Rattle.hcc_rule.specs.Callers.{IsEvent, IsSeatAt};
 ghost use Rattle.hcc_rule.specs.Addresses.{address_of_meta};
 ghost use Rattle.hcc_rule.specs.Events.{clock_done, correct_done, hide_done, mark_done};
@@ -10,6 +11,7 @@ ghost use Rattle.hcc_rule.specs.Seats.{IsSameSeat, Makes, view};
 ghost use Rattle.hcc_rule.specs.Looked.{noticing};
 ghost use Rattle.hcc_rule.specs.Records.{record_in};
 ghost use Rattle.hcc_rule.specs.ToldReferences.{after_hide, after_clock, after_correct};
+ghost use Rattle.hcc_rule.specs.Words.{field_at};
 
 use crate::key::Tag;
 use crate::layout::META;
@@ -76,7 +78,31 @@ impl<T: Tag, A: Allocator> RuleTable<T, A> {
         ensures event { IsEvent self.now (clock_done slot old new result (view seat.old))
             seat.old seat.new }
     {
-        self.compare_exchange::<Brand, _>(seat, self.address(slot, META), old, new, slot)
+        self.clock_at(seat, slot, self.data_of(slot), old, new)
+    }
+
+    /// The same as `clock`, for a caller that has the address of the slot's first data word.
+    pub fn clock_at(
+        &self,
+        seat: &mut RuleSeat<T>,
+        slot: u32,
+        first: usize,
+        old: u64,
+        new: u64,
+    ) -> u64
+        requires seat { IsSeatAt self.now seat.old }
+        requires slot { slot < self.now.geometry.slots }
+        requires first { first ≡ field_at self.now.geometry.room slot DATA }
+        requires clockable { IsClockable old }
+        requires clocked { new ≡ clocked_word old }
+        ensures seat { IsSameSeat seat.old seat.new }
+        ensures view { view seat.new ≡ after_clock slot old result (view seat.old) }
+        ensures step { Makes (address_of_meta self.now slot) old new result seat.old seat.new }
+        ensures event { IsEvent self.now (clock_done slot old new result (view seat.old))
+            seat.old seat.new }
+    {
+        let address = self.head_address(slot, first, META);
+        self.compare_exchange::<Brand, _>(seat, address, old, new, slot)
     }
 
     /// Tries to subtract 2^29 from both counters of a slot near its end, on which the client has a

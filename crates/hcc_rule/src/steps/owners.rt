@@ -57,7 +57,25 @@ impl<T: Tag, A: Allocator> RuleTable<T, A> {
         ensures event { IsEvent self.now (occupy_done slot result (view seat.old))
             seat.old seat.new }
     {
-        self.fetch_or::<Brand, _>(seat, self.address(slot, META), OCCUPIED_BIT, slot)
+        self.occupy_at(seat, slot, self.data_of(slot))
+    }
+
+    /// The same as `occupy`, for a caller that has the address of the slot's first data word.
+    pub fn occupy_at(&self, seat: &mut RuleSeat<T>, slot: u32, first: usize) -> u64
+        requires seat { IsSeatAt self.now seat.old }
+        requires slot { slot < self.now.geometry.slots }
+        requires first { first ≡ field_at self.now.geometry.room slot DATA }
+        requires idle { owns_nothing (view seat.old).work.owned ≡ true }
+        ensures seat { IsSameSeat seat.old seat.new }
+        ensures view { view seat.new ≡ after_occupy slot result (view seat.old) }
+        ensures backs { Backs slot result (view seat.old) }
+        ensures step { Makes (address_of_meta self.now slot) OCCUPIED_BIT 0 result
+            seat.old seat.new }
+        ensures event { IsEvent self.now (occupy_done slot result (view seat.old))
+            seat.old seat.new }
+    {
+        let address = self.head_address(slot, first, META);
+        self.fetch_or::<Brand, _>(seat, address, OCCUPIED_BIT, slot)
     }
 
     /// Stores the next data word of the slot that the client builds: the one behind those that it
@@ -112,6 +130,23 @@ impl<T: Tag, A: Allocator> RuleTable<T, A> {
         ensures event { IsEvent self.now (empty_done (view seat.old))
             seat.old seat.new }
     {
-        self.store::<Empty, _>(seat, self.address(slot, META), EMPTY_WORD, ());
+        self.empty_at(seat, slot, self.data_of(slot));
+    }
+
+    /// The same as `empty`, for a caller that has the address of the slot's first data word.
+    pub fn empty_at(&self, seat: &mut RuleSeat<T>, slot: u32, first: usize)
+        requires seat { IsSeatAt self.now seat.old }
+        requires slot { slot < self.now.geometry.slots }
+        requires first { first ≡ field_at self.now.geometry.room slot DATA }
+        requires owned { (view seat.old).work.owned ≡ ForFreeing slot }
+        requires back { (view seat.old).work.trail ≡ [] }
+        ensures seat { IsSameSeat seat.old seat.new }
+        ensures view { view seat.new ≡ after_empty (view seat.old) }
+        ensures step { Makes (address_of_meta self.now slot) EMPTY_WORD 0 EMPTY_WORD
+            seat.old seat.new }
+        ensures event { IsEvent self.now (empty_done (view seat.old))
+            seat.old seat.new }
+    {
+        self.store::<Empty, _>(seat, self.head_address(slot, first, META), EMPTY_WORD, ());
     }
 }

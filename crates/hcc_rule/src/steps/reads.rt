@@ -79,6 +79,23 @@ impl<T: Tag, A: Allocator> RuleTable<T, A> {
         ensures step { Makes (address_of_data self.now slot index) 0 0 result seat.old seat.new }
         ensures event { IsNoEvent seat.old seat.new }
     {
-        self.load::<Brand, _>(seat, self.address(slot, DATA + index), index)
+        self.read_own_at(seat, slot, self.data_of(slot), index)
+    }
+
+    /// The same as `read_own`, for a caller that has the address of the slot's first data word.
+    pub fn read_own_at(&self, seat: &mut RuleSeat<T>, slot: u32, first: usize, index: usize) -> u64
+        requires seat { IsSeatAt self.now seat.old }
+        requires slot { slot < self.now.geometry.slots }
+        requires first { first ≡ field_at self.now.geometry.room slot DATA }
+        requires within { index < PAYLOAD + self.now.geometry.room }
+        requires owned { owned_slot (view seat.old).work.owned ≡ Some slot }
+        ensures seat { IsSameSeat seat.old seat.new }
+        ensures view { view seat.new ≡ view seat.old }
+        ensures word { index < length (view seat.old).written
+            → result ≡ slice_index (view seat.old).written index }
+        ensures step { Makes (address_of_data self.now slot index) 0 0 result seat.old seat.new }
+        ensures event { IsNoEvent seat.old seat.new }
+    {
+        self.load::<Brand, _>(seat, self.data_address(slot, first, index), index)
     }
 }

@@ -1,10 +1,12 @@
 //! The store that shows an entry.
 ghost use Rattle.std.specs.Prelude.{◌≡◌, ◌<◌};
+ghost use Rattle.hcc_rule.specs.declared.layout.TheConstants.{DATA};
 ghost use Rattle.hcc_rule.specs.Callers.{plan_of, IsEvent, IsSeatAt};
 ghost use Rattle.hcc_rule.specs.Addresses.{address_of_meta};
 ghost use Rattle.hcc_rule.specs.Events.{show_done};
 ghost use Rattle.hcc_rule.specs.Seats.{IsSameSeat, Makes, view};
 ghost use Rattle.hcc_rule.specs.ToldOwners.{MayShow, after_show, first_word, made_of};
+ghost use Rattle.hcc_rule.specs.Words.{field_at};
 
 use crate::key::{Key, Tag};
 use crate::layout::META;
@@ -48,7 +50,34 @@ impl<T: Tag, A: Allocator> RuleTable<T, A> {
             (made_of draft value.now) (view seat.old))
             seat.old seat.new }
     {
+        self.show_at(seat, slot, self.data_of(slot), draft, value);
+    }
+
+    /// The same as `show`, for a caller that has the address of the slot's first data word.
+    pub fn show_at(
+        &self,
+        seat: &mut RuleSeat<T>,
+        slot: u32,
+        first: usize,
+        draft: Draft,
+        value: &[u8],
+    )
+        requires seat { IsSeatAt self.now seat.old }
+        requires slot { slot < self.now.geometry.slots }
+        requires first { first ≡ field_at self.now.geometry.room slot DATA }
+        requires may { MayShow T.fits (plan_of self.now) slot draft.countdown draft.name
+            (made_of draft value.now) (view seat.old) }
+        ensures seat { IsSameSeat seat.old seat.new }
+        ensures view { view seat.new ≡ after_show slot draft.name (made_of draft value.now)
+            (view seat.old) }
+        ensures step { Makes (address_of_meta self.now slot) (first_word draft) 0 (first_word draft)
+            seat.old seat.new }
+        ensures event { IsEvent self.now (show_done draft.countdown draft.name
+            (made_of draft value.now) (view seat.old))
+            seat.old seat.new }
+    {
         let word = started(draft.countdown, draft.name.is_some());
-        self.store::<Brand, _>(seat, self.address(slot, META), word, (slot, draft, value));
+        let address = self.head_address(slot, first, META);
+        self.store::<Brand, _>(seat, address, word, (slot, draft, value));
     }
 }

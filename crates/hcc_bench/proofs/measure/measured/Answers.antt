@@ -17,7 +17,7 @@ use Rattle.hcc_bench.proofs.measure.measured.Goals as goal
 
 pub work_all-requires-after_bounds : goal.work_all-requires-after_bounds
 work_all-requires-after_bounds g c κs within =
-    let staged = c.in_ok-cache.ensures in
+    let staged = c.in_ok-cache.ensures.staged in
     let plan = c.plan_of-plan.result in
     let size = between 1 4096 c.args.setting.size c.requires.setting.size in
     let operations = between 1 (2 ^ 26) c.args.options.now.operations
@@ -50,7 +50,7 @@ threads_are clients threads workers done count made worked = omega arith
 
 pub of-counts-requires : goal.of-counts-requires
 of-counts-requires g c =
-    let staged = c.in_ok-cache.ensures in
+    let staged = c.in_ok-cache.ensures.staged in
     let threads = c.args.setting.threads in
     let crew = between 1 256 threads c.requires.setting.threads in
     let operations = between 1 (2 ^ 26) c.args.options.now.operations
@@ -89,7 +89,7 @@ closed-closed-requires-clause-idle g c =
 
 pub returns : goal.returns
 returns g c =
-    let staged = c.in_ok-cache.ensures in
+    let staged = c.in_ok-cache.ensures.staged in
     let threads = c.args.setting.threads in
     let work = c.plan_of-plan.result.work in
     let job : Job = record {

@@ -4,8 +4,8 @@ use Rattle.hcc_bench.specs.Workers.{IsFresh}
 use Rattle.hcc_bench.proofs.Lists.{in_push, last_push}
 use Rattle.hcc_bench.proofs.measure.opened.Goals as goal
 
-pub returns : goal.returns
-returns c =
+pub returns-clause-staged : goal.returns-clause-staged
+returns-clause-staged c =
     let made = c.in-Ok.ensures.made in
     let left = c.pop.new.self.items in
     let keeper = c.unwrap-keeper.result in

@@ -1,13 +1,14 @@
-use Rattle.std.proofs.Common.{◌⊎◌, inl, inr}
+use Rattle.std.proofs.Common.{◌⊎◌, ◌∙◌, inl, inr, ap}
 use Rattle.std.specs.Prelude.{None}
+use Rattle.hcc_rule.specs.declared.geometry.Geometry.{Geometry}
 use Rattle.hcc_cache.specs.declared.cache.Cache.{Cache}
 use Rattle.hcc_cache.specs.declared.client.Client.{Client}
 use Rattle.hcc_block.specs.Reads.{GoesThrough}
 use Rattle.hcc_block.proofs.laws.law_reads.Goals as goal
 
-pub returns : goal.returns
+pub returns-clause-hits : goal.returns-clause-hits
 unfolding GoesThrough
-returns g c = λ config tag cache is_of one key block count before after old new through
+returns-clause-hits g c = λ config tag cache is_of one key block count before after old new through
     allowed shown. elim through [
       | inl hit ↦ hit.0
       | inr miss ↦ elim miss.1.lacks [
@@ -16,4 +17,22 @@ returns g c = λ config tag cache is_of one key block count before after old new
             let found = c.law_lookups.ensures.there config tag cache is_of one key None
             old miss.1.looked lacks.1 shown in cc
       ]
+    ]
+
+pub returns-clause-placed : goal.returns-clause-placed
+returns-clause-placed g c = λ config tag cache is_of one key block old new h placed.
+    h.hands.shown (ap (λ (x : Geometry). x.clients) is_of.geometry ∙ one) placed
+
+pub returns-clause-kept : goal.returns-clause-kept
+returns-clause-kept g c = λ config tag cache is_of one key other old new h freed shown.
+    let stays = c.law_kept_shown.ensures.stays config tag cache is_of one other in
+    stays h.was new (h.lets_go freed)
+    (stays h.found h.was h.copies (stays old h.found h.looks shown))
+
+pub returns-clause-missed : goal.returns-clause-missed
+returns-clause-missed g c = λ config tag cache is_of one key other old new lacks shown.
+    elim lacks [
+      | inl refused ↦ rw (refused.1) shown
+      | inr looked ↦
+          c.law_kept_shown.ensures.stays config tag cache is_of one other old new looked.4 shown
     ]

@@ -21,7 +21,9 @@ returns-clause-copies g c =
       searched = rw c.in-Ok-Some.field-0-is at c.in-Ok-Some.ensures.searched;
       counts = c.in-Ok-Some.ensures.counts;
       visits = c.in-Ok-Some.ensures.visits;
+      looks = c.lookup.ensures.stays;
       reads = c.read_value-count.ensures.reads;
+      copies = c.read_value-count.ensures.stays;
       takes = copy_within c.args.cache.now g.T.Tag.fits c.args.key c.in-Ok-Some.handle
           c.args.client.now c.lookup.new.client c.read_value-count.new.client
           c.read_value-count.result finds c.read_value-count.ensures.length
@@ -29,4 +31,5 @@ returns-clause-copies g c =
       releases = c.release.ensures.released;
       gives = c.release.ensures.gives;
       counts_last = c.release.ensures.counts;
+      lets_go = c.release.ensures.stays;
     }

@@ -1,6 +1,8 @@
-use Rattle.std.proofs.Common.{◌≡◌, ◌-◌, Some, refl, length, slice_get, arith}
+use Rattle.std.proofs.Common.{◌≡◌, ◌-◌, Some, refl, subst, length, slice_get, arith}
 use Rattle.std.proofs.lemmas.Option.{slice_get_read}
 use Rattle.hcc_rule.proofs.Basics.Lists.{within}
+use Rattle.hcc_shard.specs.Ended.{past_of}
+use Rattle.hcc_cache.specs.Ended.{IsMostKnown}
 use Rattle.hcc_cache.proofs.Joining.{joins_first, joins_more, joins_all}
 use Rattle.hcc_cache.proofs.closing.joined.Goals as goal
 
@@ -72,7 +74,7 @@ loop-k-preserved g c =
       last = rw index at c.taken-other.ensures.last;
       left = rw index at c.taken-other.ensures.left;
     })
-    c.join.ensures.seat c.join.ensures.view
+    c.join.ensures.seat c.join.ensures.view c.join.ensures.past
 
 pub returns-clause-seat : goal.returns-clause-seat
 returns-clause-seat g c = c.loop-k.invariant.empty
@@ -96,3 +98,13 @@ returns-clause-view g c =
     let length_is = c.args.clients.now.ok.0 in
     joins_all c.args.shard.now c.args.at c.args.clients.now.items c.loop-k.clients.items c.loop-k.k
     c.loop-k.seat joins (omega arith)
+
+pub returns-clause-known : goal.returns-clause-known
+returns-clause-known g c =
+    let joins = c.loop-k.invariant in
+    let done = c.loop-k-test.false in
+    let length_is = c.args.clients.now.ok.0 in
+    let short = joins.short in
+    let all : c.loop-k.k ≡ length c.args.clients.now.items = omega arith in
+    subst (λ n. IsMostKnown c.args.at c.args.clients.now.items n (past_of c.loop-k.seat)) all
+    joins.known

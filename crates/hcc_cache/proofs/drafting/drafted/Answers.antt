@@ -96,7 +96,8 @@ loop-saved-preserved-then-takes c =
     let room = ap (takes config d saved.charge) (sym (c.len.ensures ∙ saved.value.ok.0)) in
     let before = rw c.in-Some.ensures.steps.0 at c.loop-saved.invariant in
     drafting_more config _ drafts _ (map visible_of c.next.new.self.rest.items) saved shard d
-    before at home c.put.new.self c.key_to-key.result c.put.ensures c.key_to-key.ensures.undone
+    before at home c.put.new.self c.key_to-key.result c.put.ensures c.key_to-key.ensures.words
+    c.key_to-key.ensures.undone
     c.takes.ensures.small (room ∙ (sym c.takes.ensures.exact ∙ c.if-takes.true))
 
 pub loop-saved-preserved : goal.loop-saved-preserved

@@ -1,4 +1,4 @@
-use Rattle.std.proofs.Common.{◌≡◌, ◌<◌, Option, None, Some, IsSome, refl, ap, subst, ◌∙◌, sym, arith}
+use Rattle.std.proofs.Common.{◌≡◌, ◌<◌, Option, None, Some, IsSome, refl, ap, subst, sym, arith}
 use Rattle.slab.specs.Slab.{get}
 use Rattle.hcc_cache.specs.declared.handle.Handle.{Handle}
 use Rattle.hcc_cache.specs.declared.holding.Hold.{Hold}

@@ -1,4 +1,4 @@
-use Rattle.std.proofs.Common.{◌≡◌, ℕ, List, None, Some, Result, Ok, Err, ap, ◌∙◌}
+use Rattle.std.proofs.Common.{◌≡◌, ℕ, Bool, true, false, List, refl, None, Some, Result, Ok, Err, ap, ◌∙◌}
 use Rattle.std.specs.declared.alloc.Global.{Global}
 use Rattle.hcc_rule.specs.declared.geometry.Geometry.{Geometry}
 use Rattle.hcc_rule.specs.declared.key.Key.{Key}
@@ -7,6 +7,7 @@ use Rattle.hcc_rule.specs.Callers.{clients_of, slots_of}
 use Rattle.hcc_rule.specs.Seats.{SeatOf}
 use Rattle.hcc_table.specs.declared.efforts.Effort.{Effort}
 use Rattle.hcc_table.specs.declared.inserting.Insertion.{Insertion}
+use Rattle.hcc_table.specs.declared.inserting.Insertion.TheVariants.{NoSlot}
 use Rattle.hcc_table.specs.Standing.{InsertsShown, world_at}
 use Rattle.hcc_table.specs.Tries.{Inserts}
 use Rattle.hcc_charge.specs.declared.reserving.Refused.{Refused}
@@ -18,7 +19,7 @@ use Rattle.hcc_shard.specs.declared.inserting.Pinned.{Pinned}
 use Rattle.hcc_shard.specs.declared.inserting.Pinned.TheVariants as pinned
 use Rattle.hcc_shard.specs.declared.seat.ShardSeat.{ShardSeat}
 use Rattle.hcc_shard.specs.declared.shard.Shard.{Shard}
-use Rattle.hcc_shard.specs.Reserving.{InsertedAs, PinnedAs, TriesFrom, TriesWhere}
+use Rattle.hcc_shard.specs.Reserving.{InsertedAs, PinnedAs, TriesFrom, TriesWhere, left_out}
 use Rattle.hcc_cache.specs.declared.seeded.Seeded.{Seeded}
 use Rattle.hcc_cache.specs.Inserts.{ShowsAs, ShowsFrom, ShowsPinnedAs, ShowsWhere, draft_of}
 use Rattle.hcc_cache.specs.Keys.{fits_seeded}
@@ -87,3 +88,40 @@ returns-clause-pins g c = λ config tag cache is_of one key charge priority answ
     (λ told before after was is did. c.law_inserted_alone.ensures h.shard.table draft.key
     draft.serial draft.countdown told before after was is alone did)
     answer h.was h.is h.did
+
+-- Where a place was reserved and not all slots were found taken, the key was met.
+met_where : {T : Type 0} (fits : T → Key → List ℕ → Type 0) (shard : Shard (Seeded T) Global)
+    (draft : Draft)
+    → ((before after : Effort) (old new : SeatOf (Seeded T))
+    → Inserts (fits_seeded fits) shard.table draft.key draft.serial draft.countdown NoSlot before
+    after old new → ⊥)
+    → (told : Reservation) (matched : Bool) (reserved : SeatOf (Seeded T)) (counted : Effort)
+    (new : ShardSeat (Seeded T))
+    → TriesWhere (fits_seeded fits) shard draft told reserved counted (left_out matched) new
+    → told ≡ Reserved → matched ≡ true
+met_where fits shard draft never told true reserved counted new tries is = refl
+met_where fits shard draft never Reserved false reserved counted new tries is =
+    absurd (never counted new.effort reserved tries.done tries.inserts)
+met_where fits shard draft never NoPlace false reserved counted new tries is = cc
+
+pub returns-clause-met : goal.returns-clause-met
+returns-clause-met g c = λ config tag cache is_of one began key charge priority old new h.
+    let made = is_of.shards _ h.shard h.shard_is in
+    let alone : clients_of h.shard.table ≡ 1 =
+    ap (λ (x : Geometry). x.clients) made.geometry ∙ one in
+    let draft = draft_of cache key charge priority (λ c. None) old in
+    met_where g.T.Tag.fits h.shard draft
+    (λ before after was is did. c.law_room_alone.ensures h.shard.table draft.key draft.serial
+    draft.countdown before after was is alone (began _ h.shard h.shard_is) did)
+    h.did.told h.did.matched h.did.reserves.reserved h.did.reserves.counted h.is h.did.tries
+
+pub returns-clause-met_pinned : goal.returns-clause-met_pinned
+returns-clause-met_pinned g c = λ config tag cache is_of one began key charge priority old new h.
+    let made = is_of.shards _ h.shard h.shard_is in
+    let alone : clients_of h.shard.table ≡ 1 =
+    ap (λ (x : Geometry). x.clients) made.geometry ∙ one in
+    let draft = draft_of cache key charge priority (λ c. Some c.used) old in
+    met_where g.T.Tag.fits h.shard draft
+    (λ before after was is did. c.law_room_alone.ensures h.shard.table draft.key draft.serial
+    draft.countdown before after was is alone (began _ h.shard h.shard_is) did)
+    h.did.told h.did.matched h.did.reserves.reserved h.did.reserves.counted h.is h.did.tries

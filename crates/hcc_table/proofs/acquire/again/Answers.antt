@@ -15,3 +15,6 @@ returns-clause-record g c =
     c.reach-found.result (view c.args.seat.now) (view c.reach-found.new.seat)
     (pinned_on c.args.pin (view c.args.seat.now) c.requires.holds) c.reach-found.ensures.view in
     (more.0, more.1, (more.2, more.4, more.5 ∙ sym c.counts.ensures), more.3, more.6)
+
+pub returns-clause-by : goal.returns-clause-by
+returns-clause-by g c = (c.reach-found.result, c.counts.ensures, c.reach-found.ensures.by)

@@ -8,19 +8,21 @@ use Rattle.hcc_table.proofs.acquire.reach.Goals as goal
 
 pub relieve-requires-clause-holds : goal.relieve-requires-clause-holds
 relieve-requires-clause-holds g c =
-    relieves g.T.Tag.fits _ c.args.slot c.args.weight c.args.name _ _ _ c.acquire-found.ensures.view
+    relieves g.T.Tag.fits _ c.args.slot c.args.weight c.args.name _ _ _
+    c.acquire_at-found.ensures.view
     (sym c.if-has_entry.ensures) c.requires.fresh (sym c.if-not-counts.ensures)
 
 pub returns-then-not-counts-clause-view : goal.returns-then-not-counts-clause-view
 returns-then-not-counts-clause-view g c =
     reached_of g.T.Tag.fits c.args.table.now.geometry.room c.args.slot c.args.weight c.args.name
-    c.acquire-found.result (view c.args.seat.now) (view c.acquire-found.new.seat)
-    c.acquire-found.ensures.view (view c.relieve.new.seat) c.relieve.ensures.view
+    c.acquire_at-found.result (view c.args.seat.now) (view c.acquire_at-found.new.seat)
+    c.acquire_at-found.ensures.view (view c.relieve.new.seat) c.relieve.ensures.view
 
 pub returns-then-not-counts-clause-acquires : goal.returns-then-not-counts-clause-acquires
 returns-then-not-counts-clause-acquires g c = record {
-  first = begins_then got c.args.seat.now c.acquire-found.new.seat c.relieve.new.seat
-      added.step (unmarked_adds c.acquire-found.new.seat c.relieve.new.seat c.relieve.ensures.adds);
+  first = begins_then got c.args.seat.now c.acquire_at-found.new.seat c.relieve.new.seat
+      added.step (unmarked_adds c.acquire_at-found.new.seat c.relieve.new.seat
+      c.relieve.ensures.adds);
   once = λ fresh.
       let none = c.relieve.ensures.passes (λ worn. fresh (
         sym c.if-has_entry.ensures,
@@ -31,7 +33,7 @@ returns-then-not-counts-clause-acquires g c = record {
   worn = λ worn.
       let corrected = c.relieve.ensures.corrects worn.2 in (
         corrected.0,
-        makes_two got _ c.args.seat.now c.acquire-found.new.seat c.relieve.new.seat added.step
+        makes_two got _ c.args.seat.now c.acquire_at-found.new.seat c.relieve.new.seat added.step
             corrected.1.step,
       );
 }
@@ -39,11 +41,11 @@ returns-then-not-counts-clause-acquires g c = record {
     got : Atomic
     got =
         atomic (address_of_meta c.args.table.now c.args.slot) c.args.weight 0
-        c.acquire-found.result
+        c.acquire_at-found.result
 
     added : Makes (address_of_meta c.args.table.now c.args.slot) c.args.weight 0
-        c.acquire-found.result c.args.seat.now c.acquire-found.new.seat
-    added = c.acquire-found.ensures.step
+        c.acquire_at-found.result c.args.seat.now c.acquire_at-found.new.seat
+    added = c.acquire_at-found.ensures.step
 
 pub returns-then-not-counts-clause-corrects : goal.returns-then-not-counts-clause-corrects
 returns-then-not-counts-clause-corrects g c = record {
@@ -55,8 +57,8 @@ returns-then-not-counts-clause-corrects g c = record {
   tried = λ worn.
       let corrected = c.relieve.ensures.corrects worn.2 in (
         corrected.0,
-        makes_two _ _ c.args.seat.now c.acquire-found.new.seat c.relieve.new.seat
-            c.acquire-found.ensures.step.step corrected.1.step,
+        makes_two _ _ c.args.seat.now c.acquire_at-found.new.seat c.relieve.new.seat
+            c.acquire_at-found.ensures.step.step corrected.1.step,
         corrected.2,
         corrected.3,
       );
@@ -64,6 +66,6 @@ returns-then-not-counts-clause-corrects g c = record {
 
 pub returns-then-not-counts-clause-adds : goal.returns-then-not-counts-clause-adds
 returns-then-not-counts-clause-adds g c =
-    unmarked_then c.args.seat.now c.acquire-found.new.seat c.relieve.new.seat
-    (unmarked_one _ c.args.seat.now c.acquire-found.new.seat c.acquire-found.ensures.step.step
+    unmarked_then c.args.seat.now c.acquire_at-found.new.seat c.relieve.new.seat
+    (unmarked_one _ c.args.seat.now c.acquire_at-found.new.seat c.acquire_at-found.ensures.step.step
     (light c.args.weight c.requires.weight.1)) c.relieve.ensures.adds

@@ -60,8 +60,8 @@ returns-then-passed-slots-clause-view g c =
     told.0 told.2 c.take_back-then-passed-slots.new.seat told.1 (sym least) c.requires.trail
     c.take_back-then-passed-slots.ensures.view
 
-pub pass-requires-clause-room : goal.pass-requires-clause-room
-pass-requires-clause-room g c =
+pub pass_at-requires-clause-room : goal.pass_at-requires-clause-room
+pass_at-requires-clause-room g c =
     let table = c.args.table.now in
     probed_room table.geometry.slots c.args.draft c.args.value.now table.limits.power
     c.loop-slot.passed c.slot-slot.result c.loop-slot.walk c.args.seat.now c.loop-slot.seat
@@ -81,23 +81,24 @@ loop-slot-preserved g c =
           c.loop-slot.passed
           c.slot-slot.result c.loop-slot.walk c.args.seat.now c.loop-slot.seat
           c.loop-slot.invariant.0 c.slot-slot.ensures c.insert_at.new.seat c.insert_at.ensures.seat
-          told.0 told.2 c.pass.new.seat c.next-walk.result (omega arith) told.1 c.pass.ensures.seat
-          c.pass.ensures.view next.probe next.stride next.mask,
+          told.0 told.2 c.pass_at.new.seat c.next-walk.result (omega arith) told.1
+          c.pass_at.ensures.seat
+          c.pass_at.ensures.view next.probe next.stride next.mask,
       visited,
       (let so_far = c.loop-slot.invariant.2 in let tried = c.in-NoSlot.ensures.steps in
-          let one = c.pass.ensures.step.1.one in omega arith),
-      adds_then c.args.seat.now c.insert_at.new.seat c.pass.new.seat
+          let one = c.pass_at.ensures.step.1.one in omega arith),
+      adds_then c.args.seat.now c.insert_at.new.seat c.pass_at.new.seat
           (adds_then c.args.seat.now c.loop-slot.seat c.insert_at.new.seat c.loop-slot.invariant.3
           c.insert_at.ensures.adds)
-          (adds_one _ c.insert_at.new.seat c.pass.new.seat c.pass.ensures.step.1.step),
+          (adds_one _ c.insert_at.new.seat c.pass_at.new.seat c.pass_at.ensures.step.1.step),
       tried_then g.T.Tag.fits table c.args.draft.key c.args.name c.args.draft.countdown
           c.loop-slot.passed c.slot-slot.result c.args.effort.now c.loop-slot.effort
           c.probes.new.self c.insert_at.new.effort c.args.seat.now c.loop-slot.seat
-          c.insert_at.new.seat c.pass.new.seat c.loop-slot.invariant.4
+          c.insert_at.new.seat c.pass_at.new.seat c.loop-slot.invariant.4
           (c.slot-slot.ensures ∙ c.loop-slot.invariant.0.walking.probe)
           (c.probes.ensures.probes, c.probes.ensures.corrections, c.probes.ensures.lost)
-          c.in-NoSlot.ensures.tries c.pass.ensures.step c.pass.ensures.view
-          c.pass.ensures.event,
+          c.in-NoSlot.ensures.tries c.pass_at.ensures.step c.pass_at.ensures.view
+          c.pass_at.ensures.event,
     )
   where
     visited : Took (c.loop-slot.passed + 1) (c.loop-slot.passed + 1) (c.loop-slot.passed + 1)

@@ -72,8 +72,8 @@ returns-then-matches-clause-met g c = λ _.
     (c.matches.ensures.equal c.if-matches.true)) (c.matches.ensures.met c.if-matches.true)
     c.let_go.ensures.left.view
 
-pub give-requires-clause-holds : goal.give-requires-clause-holds
-give-requires-clause-holds g c =
+pub give_at-requires-clause-holds : goal.give_at-requires-clause-holds
+give_at-requires-clause-holds g c =
     holds
     g.T.Tag.fits c.args.table.now.geometry.room c.args.slot c.args.weight c.args.name
     c.reach-found.result c.args.key (view c.args.seat.now) (view c.args.seat.now)
@@ -87,8 +87,8 @@ returns-clause-view g c =
     g.T.Tag.fits c.args.table.now.geometry.room c.args.slot c.args.weight c.args.name
     c.reach-found.result c.args.key (view c.args.seat.now) (view c.args.seat.now)
     (view c.reach-found.new.seat) (searched_refl (view c.args.seat.now)) c.reach-found.ensures.view
-    (sym c.if-not-has_entry.ensures) c.requires.fresh c.give.result (view c.matches.new.seat)
-    (view c.give.new.seat) c.matches.ensures.view c.give.ensures.view
+    (sym c.if-not-has_entry.ensures) c.requires.fresh c.give_at.result (view c.matches.new.seat)
+    (view c.give_at.new.seat) c.matches.ensures.view c.give_at.ensures.view
 
 pub returns-clause-dead : goal.returns-clause-dead
 returns-clause-dead g c = λ _.
@@ -96,8 +96,8 @@ returns-clause-dead g c = λ _.
     g.T.Tag.fits c.args.table.now.geometry.room c.args.slot c.args.weight c.args.name
     c.reach-found.result c.args.key (view c.args.seat.now) (view c.args.seat.now)
     (view c.reach-found.new.seat) (searched_refl (view c.args.seat.now)) c.reach-found.ensures.view
-    (sym c.if-not-has_entry.ensures) c.requires.fresh c.give.result (view c.matches.new.seat)
-    (view c.give.new.seat) c.matches.ensures.view c.give.ensures.view
+    (sym c.if-not-has_entry.ensures) c.requires.fresh c.give_at.result (view c.matches.new.seat)
+    (view c.give_at.new.seat) c.matches.ensures.view c.give_at.ensures.view
     (λ shown. told_key
     g.T.Tag.fits c.args.table.now.geometry.room c.args.slot c.args.weight c.args.name
     c.reach-found.result c.args.key (view c.args.seat.now) (view c.args.seat.now)
@@ -187,24 +187,24 @@ returns-clause-passes g c _ = (
       corrects = c.reach-found.ensures.corrects;
       by = c.reach-found.ensures.by;
     };
-    adds = adds_then c.reach-found.new.seat c.matches.new.seat c.give.new.seat
+    adds = adds_then c.reach-found.new.seat c.matches.new.seat c.give_at.new.seat
         (unmarked_adds c.reach-found.new.seat c.matches.new.seat c.matches.ensures.adds) given;
-    seeks = seeks_then c.args.table.now c.reach-found.new.seat c.matches.new.seat c.give.new.seat
-        c.matches.ensures.seeks (seeks_one c.args.table.now _ c.matches.new.seat c.give.new.seat
-        c.give.ensures.event refl);
+    seeks = seeks_then c.args.table.now c.reach-found.new.seat c.matches.new.seat c.give_at.new.seat
+        c.matches.ensures.seeks (seeks_one c.args.table.now _ c.matches.new.seat c.give_at.new.seat
+        c.give_at.ensures.event refl);
     other = λ shown. on_told g.T.Tag.fits c.args.table.now.geometry.room c.args.slot c.args.weight
         c.args.name c.reach-found.result c.args.key (view c.args.seat.now) (view c.args.seat.now)
         (view c.reach-found.new.seat) (searched_refl (view c.args.seat.now))
         c.reach-found.ensures.view (sym c.if-not-has_entry.ensures) c.requires.fresh
         (λ e. ¬ (key_of e ≡ c.args.key)) (c.matches.ensures.other c.if-matches.false shown);
     loads = λ shown. other_then c.args.table.now c.args.key c.args.slot c.reach-found.new.seat
-        c.matches.new.seat c.give.new.seat (c.matches.ensures.differs c.if-matches.false shown)
+        c.matches.new.seat c.give_at.new.seat (c.matches.ensures.differs c.if-matches.false shown)
         given;
   },
 )
   where
-    given : Adds c.matches.new.seat c.give.new.seat
-    given = adds_one _ c.matches.new.seat c.give.new.seat c.give.ensures.step.step
+    given : Adds c.matches.new.seat c.give_at.new.seat
+    given = adds_one _ c.matches.new.seat c.give_at.new.seat c.give_at.ensures.step.step
 
 pub returns-then-matches-clause-adds : goal.returns-then-matches-clause-adds
 returns-then-matches-clause-adds g c =
@@ -220,8 +220,8 @@ returns-then-not-has_entry-clause-adds g c =
 
 pub returns-clause-adds : goal.returns-clause-adds
 returns-clause-adds g c =
-    adds_then c.args.seat.now c.reach-found.new.seat c.give.new.seat
+    adds_then c.args.seat.now c.reach-found.new.seat c.give_at.new.seat
     (begins_adds _ c.args.seat.now c.reach-found.new.seat c.reach-found.ensures.acquires.first)
-    (adds_then c.reach-found.new.seat c.matches.new.seat c.give.new.seat
+    (adds_then c.reach-found.new.seat c.matches.new.seat c.give_at.new.seat
     (unmarked_adds c.reach-found.new.seat c.matches.new.seat c.matches.ensures.adds)
-    (adds_one _ c.matches.new.seat c.give.new.seat c.give.ensures.step.step))
+    (adds_one _ c.matches.new.seat c.give_at.new.seat c.give_at.ensures.step.step))

@@ -1,4 +1,5 @@
 use Rattle.std.proofs.Common.{◌≡◌, true, refl, sym, ◌∙◌}
+use Rattle.hcc_rule.specs.Events.{look_done}
 use Rattle.hcc_rule.specs.Seats.{view}
 use Rattle.hcc_rule.specs.declared.layout.TheConstants.{CHARGE}
 use Rattle.hcc_rule.specs.ToldOwners.{IsDataWord}
@@ -8,6 +9,8 @@ use Rattle.hcc_table.proofs.Pinnings.{no_entry, no_key, no_references, charge_is
 use Rattle.hcc_table.proofs.Probes.{looked_at, holds, holds_slot, given_back, on_entry, one_entry, told_key}
 use Rattle.hcc_table.proofs.Probings.{neither}
 use Rattle.hcc_table.proofs.Searches.{read_there, searched_refl}
+use Rattle.hcc_table.proofs.Seeking.{seeks_one, seeks_then}
+use Rattle.hcc_table.proofs.Still.{looks_reach, reads_give}
 use Rattle.hcc_table.proofs.pinning.pinned_charge.Goals as goal
 
 pub read-charge-requires-clause-holds : goal.read-charge-requires-clause-holds
@@ -171,3 +174,46 @@ returns-clause-counts g c = record {
     held : is_held c.look-word.result ≡ true
     held = held_word c.look-word.result (sym c.if-not-has_entry.ensures)
         (λ none. c.if-refs-eq0.false (c.refs.ensures.field ∙ none))
+
+pub returns-then-not-has_entry-2-clause-seeks : goal.returns-then-not-has_entry-2-clause-seeks
+returns-then-not-has_entry-2-clause-seeks g c =
+    looks_reach c.args.table.now c.args.slot 1 c.args.name c.look-word.result
+    c.reach-found.result c.args.seat.now c.look-word.new.seat c.reach-found.new.seat
+    c.look-word.ensures.event c.reach-found.ensures.by
+
+pub returns-then-refs-eq0-2-clause-seeks : goal.returns-then-refs-eq0-2-clause-seeks
+returns-then-refs-eq0-2-clause-seeks g c =
+    seeks_then c.args.table.now c.args.seat.now c.reach-found.new.seat c.give.new.seat
+    (looks_reach c.args.table.now c.args.slot 1 c.args.name c.look-word.result
+    c.reach-found.result c.args.seat.now c.look-word.new.seat c.reach-found.new.seat
+    c.look-word.ensures.event c.reach-found.ensures.by)
+    (reads_give c.args.table.now c.args.slot 1 c.args.name c.give.result c.reach-found.new.seat
+    c.read-charge.new.seat c.give.new.seat
+    (holds_slot g.T.Tag.fits c.args.table.now.geometry.room c.args.slot 1 c.args.name
+    c.reach-found.result no_key (view c.args.seat.now) (view c.look-word.new.seat)
+    (view c.reach-found.new.seat)
+    (looked_at c.args.slot c.look-word.result _ _ c.look-word.ensures.view)
+    c.reach-found.ensures.view (sym c.if-not-has_entry-2.ensures) c.requires.fresh
+    (view c.reach-found.new.seat) (searched_refl (view c.reach-found.new.seat)))
+    c.read-charge.ensures.event c.give.ensures.event)
+
+pub returns-clause-seeks : goal.returns-clause-seeks
+returns-clause-seeks g c =
+    seeks_then c.args.table.now c.args.seat.now c.reach-found.new.seat c.give.new.seat
+    (looks_reach c.args.table.now c.args.slot 1 c.args.name c.look-word.result
+    c.reach-found.result c.args.seat.now c.look-word.new.seat c.reach-found.new.seat
+    c.look-word.ensures.event c.reach-found.ensures.by)
+    (reads_give c.args.table.now c.args.slot 1 c.args.name c.give.result c.reach-found.new.seat
+    c.read-charge.new.seat c.give.new.seat
+    (holds_slot g.T.Tag.fits c.args.table.now.geometry.room c.args.slot 1 c.args.name
+    c.reach-found.result no_key (view c.args.seat.now) (view c.look-word.new.seat)
+    (view c.reach-found.new.seat)
+    (looked_at c.args.slot c.look-word.result _ _ c.look-word.ensures.view)
+    c.reach-found.ensures.view (sym c.if-not-has_entry-2.ensures) c.requires.fresh
+    (view c.reach-found.new.seat) (searched_refl (view c.reach-found.new.seat)))
+    c.read-charge.ensures.event c.give.ensures.event)
+
+pub returns-then-not-has_entry-clause-seeks : goal.returns-then-not-has_entry-clause-seeks
+returns-then-not-has_entry-clause-seeks g c =
+    seeks_one c.args.table.now (look_done c.args.slot c.look-word.result (view c.args.seat.now))
+    c.args.seat.now c.look-word.new.seat c.look-word.ensures.event refl

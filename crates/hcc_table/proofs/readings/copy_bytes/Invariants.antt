@@ -1,14 +1,15 @@
 use Rattle.std.proofs.Common.{◌+◌, ◌*◌, ◌≤◌}
 use Rattle.hcc_rule.specs.Seats.{made}
+use Rattle.hcc_table.specs.Seeking.{Seeks}
 use Rattle.hcc_table.proofs.Values.{IsReading}
 use Rattle.hcc_table.proofs.readings.copy_bytes.Given as goal
 
 abbrev pub invariant-loop-four : goal.invariant-loop-four
 invariant-loop-four g l =
     IsReading l.pin.name (4 * l.four) l.fn.seat l.seat l.fn.buffer l.buffer
-    × (made l.seat ≤ made l.fn.seat + 4 * l.four)
+    × (made l.seat ≤ made l.fn.seat + 4 * l.four) × Seeks l.table l.fn.seat l.seat
 
 abbrev pub invariant-loop-index : goal.invariant-loop-index
 invariant-loop-index g l =
     IsReading l.pin.name l.index l.fn.seat l.seat l.fn.buffer l.buffer
-    × (made l.seat ≤ made l.fn.seat + l.index)
+    × (made l.seat ≤ made l.fn.seat + l.index) × Seeks l.table l.fn.seat l.seat

@@ -2,9 +2,10 @@ use Rattle.std.proofs.Common.{◌≡◌, true, false, refl}
 use Rattle.hcc_rule.specs.Callers.{room_of}
 use Rattle.hcc_rule.specs.Addresses.{address_of_meta}
 use Rattle.hcc_rule.specs.Seats.{view}
+use Rattle.hcc_table.specs.Efforts.{Lost}
 use Rattle.hcc_table.specs.Freed.{is_due}
 use Rattle.hcc_table.specs.Pins.{erases}
-use Rattle.hcc_table.proofs.Gives.{tried_due, not_due, freed_where_due}
+use Rattle.hcc_table.proofs.Gives.{tried_due, not_due, freed_where_due, kept_where_lost}
 use Rattle.hcc_table.proofs.Logs.{adds_one}
 use Rattle.hcc_table.proofs.Probes.{given_at}
 use Rattle.hcc_table.proofs.Probings.{neither}
@@ -57,3 +58,11 @@ returns-then-is_free_to_go-clause-freed g c =
     (rw left.view refl)
     (adds_one _ c.args.seat.now c.let_go-left.new.seat left.step.step) c.try_free.ensures.tried
     c.try_free.ensures.freed
+
+pub returns-then-is_free_to_go-clause-kept : goal.returns-then-is_free_to_go-clause-kept
+returns-then-is_free_to_go-clause-kept g c =
+    let left = c.let_go-left.ensures.left in
+    kept_where_lost (view c.args.seat.now) (view c.let_go-left.new.seat) (view c.try_free.new.seat)
+    (Lost 1 1 c.args.effort.now c.try_free.new.effort) c.try_free.result
+    (given_at c.args.pin.slot c.args.pin.name left.found (view c.args.seat.now)
+    (view c.let_go-left.new.seat) left.view) (rw left.view refl) c.try_free.ensures.lost

@@ -13,27 +13,28 @@ use Rattle.hcc_table.proofs.search.acquire_at.Goals as goal
 
 pub returns-then-not-is_shown-clause-missed : goal.returns-then-not-is_shown-clause-missed
 returns-then-not-is_shown-clause-missed g c =
-    let told = c.look-seen.ensures in (
-      looked_at c.args.slot c.look-seen.result _ _ told.view,
-      buried_by_look c.args.key c.args.slot c.look-seen.result _ _ (sym c.if-not-is_shown.ensures)
+    let told = c.look_at-seen.ensures in (
+      looked_at c.args.slot c.look_at-seen.result _ _ told.view,
+      buried_by_look c.args.key c.args.slot c.look_at-seen.result _ _ (sym
+          c.if-not-is_shown.ensures)
           told.backs told.view,
     )
 
 pub returns-then-not-has_entry-clause-missed : goal.returns-then-not-has_entry-clause-missed
 returns-then-not-has_entry-clause-missed g c =
     strayed g.T.Tag.fits c.args.table.now.geometry.room c.args.slot 1 c.args.name
-    c.reach-found.result c.args.key (view c.args.seat.now) (view c.look-seen.new.seat)
+    c.reach-found.result c.args.key (view c.args.seat.now) (view c.look_at-seen.new.seat)
     (view c.reach-found.new.seat)
-    (looked_at c.args.slot c.look-seen.result _ _ c.look-seen.ensures.view)
+    (looked_at c.args.slot c.look_at-seen.result _ _ c.look_at-seen.ensures.view)
     c.reach-found.ensures.view
     (sym c.if-not-has_entry.ensures)
 
 pub matches-requires-clause-holds : goal.matches-requires-clause-holds
 matches-requires-clause-holds g c =
     holds_slot g.T.Tag.fits c.args.table.now.geometry.room c.args.slot 1 c.args.name
-    c.reach-found.result c.args.key (view c.args.seat.now) (view c.look-seen.new.seat)
+    c.reach-found.result c.args.key (view c.args.seat.now) (view c.look_at-seen.new.seat)
     (view c.reach-found.new.seat)
-    (looked_at c.args.slot c.look-seen.result _ _ c.look-seen.ensures.view)
+    (looked_at c.args.slot c.look_at-seen.result _ _ c.look_at-seen.ensures.view)
     c.reach-found.ensures.view (sym c.if-not-has_entry.ensures) c.requires.fresh
     (view c.reach-found.new.seat) (searched_refl (view c.reach-found.new.seat))
 
@@ -41,94 +42,102 @@ pub returns-then-matches-clause-found : goal.returns-then-matches-clause-found
 returns-then-matches-clause-found g c = (
   got_record g.T.Tag.fits c.args.table.now.geometry.room c.args.slot 1 c.args.name
       c.reach-found.result c.args.key
-      (view c.args.seat.now) (view c.look-seen.new.seat) (view c.reach-found.new.seat)
-      (looked_at c.args.slot c.look-seen.result _ _ c.look-seen.ensures.view)
+      (view c.args.seat.now) (view c.look_at-seen.new.seat) (view c.reach-found.new.seat)
+      (looked_at c.args.slot c.look_at-seen.result _ _ c.look_at-seen.ensures.view)
       c.reach-found.ensures.view (sym c.if-not-has_entry.ensures) c.requires.fresh,
   found_there g.T.Tag.fits c.args.table.now.geometry.room c.args.slot 1 c.args.name
       c.reach-found.result c.args.key
-      (view c.args.seat.now) (view c.look-seen.new.seat) (view c.reach-found.new.seat)
-      (looked_at c.args.slot c.look-seen.result _ _ c.look-seen.ensures.view)
+      (view c.args.seat.now) (view c.look_at-seen.new.seat) (view c.reach-found.new.seat)
+      (looked_at c.args.slot c.look_at-seen.result _ _ c.look_at-seen.ensures.view)
       c.reach-found.ensures.view (sym c.if-not-has_entry.ensures) c.requires.fresh
       (view c.matches.new.seat) refl (c.matches.ensures.shown c.if-matches.true)
       (told_key g.T.Tag.fits c.args.table.now.geometry.room c.args.slot 1 c.args.name
-      c.reach-found.result c.args.key (view c.args.seat.now) (view c.look-seen.new.seat)
+      c.reach-found.result c.args.key (view c.args.seat.now) (view c.look_at-seen.new.seat)
       (view c.reach-found.new.seat)
-      (looked_at c.args.slot c.look-seen.result _ _ c.look-seen.ensures.view)
+      (looked_at c.args.slot c.look_at-seen.result _ _ c.look_at-seen.ensures.view)
       c.reach-found.ensures.view (sym c.if-not-has_entry.ensures) c.requires.fresh
       (λ e. key_of e ≡ c.args.key) (c.matches.ensures.equal c.if-matches.true))
       c.matches.ensures.view (c.matches.ensures.met c.if-matches.true),
   refl,
 )
 
-pub give-requires-clause-holds : goal.give-requires-clause-holds
-give-requires-clause-holds g c =
+pub give_at-requires-clause-holds : goal.give_at-requires-clause-holds
+give_at-requires-clause-holds g c =
     holds g.T.Tag.fits c.args.table.now.geometry.room c.args.slot 1 c.args.name c.reach-found.result
-    c.args.key (view c.args.seat.now) (view c.look-seen.new.seat) (view c.reach-found.new.seat)
-    (looked_at c.args.slot c.look-seen.result _ _ c.look-seen.ensures.view)
+    c.args.key (view c.args.seat.now) (view c.look_at-seen.new.seat) (view c.reach-found.new.seat)
+    (looked_at c.args.slot c.look_at-seen.result _ _ c.look_at-seen.ensures.view)
     c.reach-found.ensures.view (sym c.if-not-has_entry.ensures) c.requires.fresh
     (view c.matches.new.seat) c.matches.ensures.view
 
 pub returns-clause-missed : goal.returns-clause-missed
 returns-clause-missed g c =
     missed_there g.T.Tag.fits c.args.table.now.geometry.room c.args.slot 1 c.args.name
-    c.reach-found.result c.args.key (view c.args.seat.now) (view c.look-seen.new.seat)
+    c.reach-found.result c.args.key (view c.args.seat.now) (view c.look_at-seen.new.seat)
     (view c.reach-found.new.seat)
-    (looked_at c.args.slot c.look-seen.result _ _ c.look-seen.ensures.view)
+    (looked_at c.args.slot c.look_at-seen.result _ _ c.look_at-seen.ensures.view)
     c.reach-found.ensures.view (sym c.if-not-has_entry.ensures) c.requires.fresh
-    c.give.result (view c.matches.new.seat) (view c.give.new.seat) c.matches.ensures.view
-    c.give.ensures.view (λ shown. told_key g.T.Tag.fits c.args.table.now.geometry.room c.args.slot 1
-    c.args.name c.reach-found.result c.args.key (view c.args.seat.now) (view c.look-seen.new.seat)
+    c.give_at.result (view c.matches.new.seat) (view c.give_at.new.seat) c.matches.ensures.view
+    c.give_at.ensures.view (λ shown. told_key g.T.Tag.fits c.args.table.now.geometry.room
+    c.args.slot 1
+    c.args.name c.reach-found.result c.args.key (view c.args.seat.now) (view
+    c.look_at-seen.new.seat)
     (view c.reach-found.new.seat)
-    (looked_at c.args.slot c.look-seen.result _ _ c.look-seen.ensures.view)
+    (looked_at c.args.slot c.look_at-seen.result _ _ c.look_at-seen.ensures.view)
     c.reach-found.ensures.view (sym c.if-not-has_entry.ensures) c.requires.fresh
     (λ e. ¬ (key_of e ≡ c.args.key)) (c.matches.ensures.other c.if-matches.false shown))
 
 pub returns-then-matches-clause-acquired : goal.returns-then-matches-clause-acquired
 returns-then-matches-clause-acquired g c =
     let one = atomic (address_of_meta c.args.table.now c.args.slot) 1 0 c.reach-found.result in
-    among_after one c.args.seat.now c.look-seen.new.seat c.matches.new.seat
-    (adds_one _ c.args.seat.now c.look-seen.new.seat c.look-seen.ensures.step.step)
-    (among_then one c.look-seen.new.seat c.reach-found.new.seat c.matches.new.seat
-    (among_first one c.look-seen.new.seat c.reach-found.new.seat
+    among_after one c.args.seat.now c.look_at-seen.new.seat c.matches.new.seat
+    (adds_one _ c.args.seat.now c.look_at-seen.new.seat c.look_at-seen.ensures.step.step)
+    (among_then one c.look_at-seen.new.seat c.reach-found.new.seat c.matches.new.seat
+    (among_first one c.look_at-seen.new.seat c.reach-found.new.seat
     c.reach-found.ensures.acquires.first)
     (unmarked_adds c.reach-found.new.seat c.matches.new.seat c.matches.ensures.adds))
 
 pub returns-then-not-is_shown-clause-adds : goal.returns-then-not-is_shown-clause-adds
 returns-then-not-is_shown-clause-adds g c =
-    unmarked_zero _ _ c.args.seat.now c.look-seen.new.seat c.look-seen.ensures.step
+    unmarked_zero _ _ c.args.seat.now c.look_at-seen.new.seat c.look_at-seen.ensures.step
 
 pub returns-then-not-has_entry-clause-adds : goal.returns-then-not-has_entry-clause-adds
 returns-then-not-has_entry-clause-adds g c =
-    unmarked_then c.args.seat.now c.look-seen.new.seat c.reach-found.new.seat
-    (unmarked_zero _ _ c.args.seat.now c.look-seen.new.seat c.look-seen.ensures.step)
+    unmarked_then c.args.seat.now c.look_at-seen.new.seat c.reach-found.new.seat
+    (unmarked_zero _ _ c.args.seat.now c.look_at-seen.new.seat c.look_at-seen.ensures.step)
     c.reach-found.ensures.adds
 
 pub returns-then-matches-clause-adds : goal.returns-then-matches-clause-adds
 returns-then-matches-clause-adds g c =
-    unmarked_then c.args.seat.now c.look-seen.new.seat c.matches.new.seat
-    (unmarked_zero _ _ c.args.seat.now c.look-seen.new.seat c.look-seen.ensures.step)
-    (unmarked_then c.look-seen.new.seat c.reach-found.new.seat c.matches.new.seat
+    unmarked_then c.args.seat.now c.look_at-seen.new.seat c.matches.new.seat
+    (unmarked_zero _ _ c.args.seat.now c.look_at-seen.new.seat c.look_at-seen.ensures.step)
+    (unmarked_then c.look_at-seen.new.seat c.reach-found.new.seat c.matches.new.seat
     c.reach-found.ensures.adds c.matches.ensures.adds)
 
 pub returns-clause-adds : goal.returns-clause-adds
 returns-clause-adds g c =
-    unmarked_then c.args.seat.now c.look-seen.new.seat c.give.new.seat
-    (unmarked_zero _ _ c.args.seat.now c.look-seen.new.seat c.look-seen.ensures.step)
-    (unmarked_then c.look-seen.new.seat c.reach-found.new.seat c.give.new.seat
+    unmarked_then c.args.seat.now c.look_at-seen.new.seat c.give_at.new.seat
+    (unmarked_zero _ _ c.args.seat.now c.look_at-seen.new.seat c.look_at-seen.ensures.step)
+    (unmarked_then c.look_at-seen.new.seat c.reach-found.new.seat c.give_at.new.seat
     c.reach-found.ensures.adds
-    (unmarked_then c.reach-found.new.seat c.matches.new.seat c.give.new.seat c.matches.ensures.adds
-    (unmarked_one _ c.matches.new.seat c.give.new.seat c.give.ensures.step.step
+    (unmarked_then c.reach-found.new.seat c.matches.new.seat c.give_at.new.seat
+    c.matches.ensures.adds
+    (unmarked_one _ c.matches.new.seat c.give_at.new.seat c.give_at.ensures.step.step
     (light 1 (omega arith)))))
 
 pub returns-then-not-is_shown-clause-passes : goal.returns-then-not-is_shown-clause-passes
 returns-then-not-is_shown-clause-passes g c = (
-  c.look-seen.result,
+  c.look_at-seen.result,
   record {
-    seen = c.look-seen.result;
-    mid = c.look-seen.new.seat;
-    first = (c.look-seen.ensures.step, c.look-seen.ensures.view, c.look-seen.ensures.event);
+    seen = c.look_at-seen.result;
+    mid = c.look_at-seen.new.seat;
+    first = (
+      c.look_at-seen.ensures.step,
+      c.look_at-seen.ensures.view,
+      c.look_at-seen.ensures.event,
+    );
     unshown = λ _. (refl, refl, refl);
-    shown = λ shown. neither (is_visible c.look-seen.result) shown (sym c.if-not-is_shown.ensures);
+    shown = λ shown. neither (is_visible c.look_at-seen.result) shown (sym
+        c.if-not-is_shown.ensures);
   },
 )
 
@@ -136,10 +145,14 @@ pub returns-then-not-has_entry-clause-passes : goal.returns-then-not-has_entry-c
 returns-then-not-has_entry-clause-passes g c = (
   c.reach-found.result,
   record {
-    seen = c.look-seen.result;
-    mid = c.look-seen.new.seat;
-    first = (c.look-seen.ensures.step, c.look-seen.ensures.view, c.look-seen.ensures.event);
-    unshown = λ unseen. neither (is_visible c.look-seen.result) (sym c.if-not-is_shown.ensures)
+    seen = c.look_at-seen.result;
+    mid = c.look_at-seen.new.seat;
+    first = (
+      c.look_at-seen.ensures.step,
+      c.look_at-seen.ensures.view,
+      c.look_at-seen.ensures.event,
+    );
+    unshown = λ unseen. neither (is_visible c.look_at-seen.result) (sym c.if-not-is_shown.ensures)
         unseen;
     shown = λ _. record {
       mid = c.reach-found.new.seat;
@@ -163,10 +176,14 @@ pub returns-clause-passes : goal.returns-clause-passes
 returns-clause-passes g c = (
   c.reach-found.result,
   record {
-    seen = c.look-seen.result;
-    mid = c.look-seen.new.seat;
-    first = (c.look-seen.ensures.step, c.look-seen.ensures.view, c.look-seen.ensures.event);
-    unshown = λ unseen. neither (is_visible c.look-seen.result) (sym c.if-not-is_shown.ensures)
+    seen = c.look_at-seen.result;
+    mid = c.look_at-seen.new.seat;
+    first = (
+      c.look_at-seen.ensures.step,
+      c.look_at-seen.ensures.view,
+      c.look_at-seen.ensures.event,
+    );
+    unshown = λ unseen. neither (is_visible c.look_at-seen.result) (sym c.if-not-is_shown.ensures)
         unseen;
     shown = λ _. record {
       mid = c.reach-found.new.seat;
@@ -176,33 +193,35 @@ returns-clause-passes g c = (
         corrects = c.reach-found.ensures.corrects;
         by = c.reach-found.ensures.by;
       };
-      adds = adds_then c.reach-found.new.seat c.matches.new.seat c.give.new.seat
+      adds = adds_then c.reach-found.new.seat c.matches.new.seat c.give_at.new.seat
           (unmarked_adds c.reach-found.new.seat c.matches.new.seat c.matches.ensures.adds) given;
-      seeks = seeks_then c.args.table.now c.reach-found.new.seat c.matches.new.seat c.give.new.seat
-          c.matches.ensures.seeks (seeks_one c.args.table.now _ c.matches.new.seat c.give.new.seat
-          c.give.ensures.event refl);
+      seeks = seeks_then c.args.table.now c.reach-found.new.seat c.matches.new.seat
+          c.give_at.new.seat
+          c.matches.ensures.seeks (seeks_one c.args.table.now _ c.matches.new.seat
+          c.give_at.new.seat
+          c.give_at.ensures.event refl);
       other = λ shown. on_told g.T.Tag.fits c.args.table.now.geometry.room c.args.slot 1
           c.args.name c.reach-found.result c.args.key (view c.args.seat.now)
-          (view c.look-seen.new.seat) (view c.reach-found.new.seat)
-          (looked_at c.args.slot c.look-seen.result _ _ c.look-seen.ensures.view)
+          (view c.look_at-seen.new.seat) (view c.reach-found.new.seat)
+          (looked_at c.args.slot c.look_at-seen.result _ _ c.look_at-seen.ensures.view)
           c.reach-found.ensures.view (sym c.if-not-has_entry.ensures) c.requires.fresh
           (λ e. ¬ (key_of e ≡ c.args.key))
           (c.matches.ensures.other c.if-matches.false shown);
       loads = λ shown. other_then c.args.table.now c.args.key c.args.slot c.reach-found.new.seat
-          c.matches.new.seat c.give.new.seat
+          c.matches.new.seat c.give_at.new.seat
           (c.matches.ensures.differs c.if-matches.false shown) given;
     };
   },
 )
   where
-    given : Adds c.matches.new.seat c.give.new.seat
-    given = adds_one _ c.matches.new.seat c.give.new.seat c.give.ensures.step.step
+    given : Adds c.matches.new.seat c.give_at.new.seat
+    given = adds_one _ c.matches.new.seat c.give_at.new.seat c.give_at.ensures.step.step
 
 pub returns-then-matches-clause-catches : goal.returns-then-matches-clause-catches
 returns-then-matches-clause-catches g c = record {
-  seen = c.look-seen.result;
-  looked = c.look-seen.new.seat;
-  first = (c.look-seen.ensures.step, c.look-seen.ensures.view, c.look-seen.ensures.event);
+  seen = c.look_at-seen.result;
+  looked = c.look_at-seen.new.seat;
+  first = (c.look_at-seen.ensures.step, c.look_at-seen.ensures.view, c.look_at-seen.ensures.event);
   shown = sym c.if-not-is_shown.ensures;
   mid = c.reach-found.new.seat;
   reaches = record {
@@ -213,9 +232,9 @@ returns-then-matches-clause-catches g c = record {
   };
   visible = c.matches.ensures.shown c.if-matches.true;
   same = on_told g.T.Tag.fits c.args.table.now.geometry.room c.args.slot 1 c.args.name
-      c.reach-found.result c.args.key (view c.args.seat.now) (view c.look-seen.new.seat)
+      c.reach-found.result c.args.key (view c.args.seat.now) (view c.look_at-seen.new.seat)
       (view c.reach-found.new.seat)
-      (looked_at c.args.slot c.look-seen.result _ _ c.look-seen.ensures.view)
+      (looked_at c.args.slot c.look_at-seen.result _ _ c.look_at-seen.ensures.view)
       c.reach-found.ensures.view (sym c.if-not-has_entry.ensures) c.requires.fresh
       (λ e. key_of e ≡ c.args.key) (c.matches.ensures.equal c.if-matches.true);
   loads = c.matches.ensures.loads c.if-matches.true;

@@ -1,4 +1,4 @@
-use Rattle.std.proofs.Common.{◌≡◌, ◌+◌, ◌<◌, ◌≤◌, ap, refl, subst, sym, ◌∙◌, arith}
+use Rattle.std.proofs.Common.{◌≡◌, ◌+◌, ◌<◌, ◌≤◌, ap, subst, sym, ◌∙◌, arith}
 use Rattle.hcc_word.specs.Word.{hit_of}
 use Rattle.hcc_table.specs.Efforts.{Took, VisitedSlots}
 use Rattle.hcc_rule.specs.declared.view.Atomic.{Atomic}
@@ -6,7 +6,8 @@ use Rattle.hcc_rule.specs.Addresses.{address_of_meta}
 use Rattle.hcc_rule.specs.Seats.{atomic, view}
 use Rattle.hcc_table.specs.Steps.{Adds}
 use Rattle.hcc_table.proofs.Logs.{adds_none, among_after, among_then, ends_after, unmarked_adds, unmarked_none, unmarked_then, unmarked_zero}
-use Rattle.hcc_table.proofs.Rises.{counted_probes, took_none, took_then, took_probes}
+use Rattle.hcc_table.proofs.Rises.{counted_probes, took_then, took_probes}
+use Rattle.hcc_table.proofs.Searches.{searched_refl}
 use Rattle.hcc_rule.specs.Records.{record_in}
 use Rattle.hcc_rule.proofs.Probes.ProbeLaws.{some_slots}
 use Rattle.hcc_table.proofs.Finds.{begins, goes_on, ends, ends_all}
@@ -14,62 +15,203 @@ use Rattle.hcc_table.proofs.Probes.{found_stands, found_then}
 use Rattle.hcc_table.proofs.Probings.{finds_here, marks_add, misses_all, misses_here, passed_none, passed_then}
 use Rattle.hcc_table.proofs.search.find.Goals as goal
 
-pub loop-probe-init : goal.loop-probe-init
-loop-probe-init g c =
-    let size = c.geometry-slots.ensures in
-    let told = c.begin-walk.ensures in (
-      begins c.args.table.now.geometry.slots c.args.key c.args.table.now.limits.power
-          c.begin-walk.result
-          c.args.seat.now told.probe told.stride (rw (← size) told.mask),
-      took_none c.args.effort.now,
-      omega arith,
-      unmarked_none c.args.seat.now c.args.seat.now refl,
-      passed_none g.T.Tag.fits c.args.table.now c.args.key c.args.name c.args.effort.now
-          c.args.seat.now,
+pub mark_if-requires-clause-holds : goal.mark_if-requires-clause-holds
+mark_if-requires-clause-holds g c =
+    let found = c.in-Some.ensures.found in
+    found_stands g.T.Tag.fits c.args.table.now.geometry.room c.slot-home.result c.args.name
+    c.args.key (view c.args.seat.now) (view c.acquire_at.new.seat) found.0 c.requires.fresh found.1
+
+pub returns-in-Some-clause-found : goal.returns-in-Some-clause-found
+returns-in-Some-clause-found g c =
+    let found = c.in-Some.ensures.found in (
+      found.0,
+      found_then g.T.Tag.fits c.args.table.now.geometry.room c.slot-home.result c.args.name
+          c.args.key (view c.args.seat.now) (view c.args.seat.now) (view c.acquire_at.new.seat)
+          (view c.mark_if.new.seat) found.0 (searched_refl (view c.args.seat.now)) found.1
+          c.mark_if.ensures.view,
+      found.2 ∙ sym c.counts.ensures,
     )
 
-pub returns-then-count-eq0-clause-missed : goal.returns-then-count-eq0-clause-missed
-returns-then-count-eq0-clause-missed g c =
+pub returns-in-Some-clause-searches : goal.returns-in-Some-clause-searches
+returns-in-Some-clause-searches g c =
+    let counted = c.probes.ensures in (
+      c.in-Some.found,
+      finds_here g.T.Tag.fits c.args.table.now c.args.key c.args.name c.args.marks 0
+          c.slot-home.result c.in-Some.found c.args.effort.now c.args.effort.now
+          c.acquire_at.new.effort c.probes.new.self c.args.seat.now c.args.seat.now
+          c.acquire_at.new.seat c.mark_if.new.seat
+          (passed_none g.T.Tag.fits c.args.table.now c.args.key c.args.name c.args.effort.now
+          c.args.seat.now)
+          (c.slot-home.ensures ∙ (begins c.args.table.now.geometry.slots c.args.key
+          c.args.table.now.limits.power c.begin-walk.result c.args.seat.now
+          c.begin-walk.ensures.probe
+          c.begin-walk.ensures.stride (rw (← c.geometry-slots.ensures)
+          c.begin-walk.ensures.mask)).walking.probe)
+          c.in-Some.ensures.catches
+          (counted.probes, counted.corrections, counted.lost) c.mark_if.ensures.marked
+          c.mark_if.ensures.unmarked c.mark_if.ensures.unasked c.mark_if.ensures.by,
+      c.counts.ensures,
+    )
+
+pub returns-in-Some-clause-acquired : goal.returns-in-Some-clause-acquired
+returns-in-Some-clause-acquired g c = (
+  c.in-Some.found,
+  c.in-Some.ensures.catches.visible,
+  c.counts.ensures,
+  among_then (atomic (address_of_meta c.args.table.now c.slot-home.result) 1 0 c.in-Some.found)
+      c.args.seat.now c.acquire_at.new.seat c.mark_if.new.seat c.in-Some.ensures.acquired
+      (marks_add (address_of_meta c.args.table.now c.slot-home.result) c.acquire_at.new.seat
+      c.mark_if.new.seat c.args.marks (hit_of c.in-Some.found) c.mark_if.ensures.marked
+      c.mark_if.ensures.unmarked c.mark_if.ensures.unasked),
+)
+
+pub returns-in-Some-clause-steps : goal.returns-in-Some-clause-steps
+returns-in-Some-clause-steps g c =
+    let slots = c.args.table.now.geometry.slots in
+    let some : 0 < slots = some_slots slots c.args.table.now.limits.power in
+    let held = c.acquire_at.ensures.steps in
+    let last = c.mark_if.ensures.steps in
+    record {
+      visited = 1;
+      within = omega arith;
+      counted = counted_probes 1 1 c.args.effort.now c.acquire_at.new.effort c.probes.new.self
+          c.acquire_at.ensures.effort c.probes.ensures.probes;
+      steps = omega arith;
+    }
+
+pub returns-then-count_at-eq0-clause-missed : goal.returns-then-count_at-eq0-clause-missed
+returns-then-count_at-eq0-clause-missed g c =
     let table = c.args.table.now in
-    let told = c.count.ensures in
-    ends table.geometry.slots c.args.key table.limits.power c.loop-probe.probe c.count.result
+    let told = c.count_at.ensures in
+    ends table.geometry.slots c.args.key table.limits.power 0 c.count_at.result c.slot-home.result
+    c.begin-walk.result c.args.seat.now c.args.seat.now
+    (begins c.args.table.now.geometry.slots c.args.key
+    c.args.table.now.limits.power c.begin-walk.result c.args.seat.now c.begin-walk.ensures.probe
+    c.begin-walk.ensures.stride (rw (← c.geometry-slots.ensures) c.begin-walk.ensures.mask))
+    c.slot-home.ensures c.acquire_at.new.seat c.count_at.new.seat c.acquire_at.ensures.seat
+    told.seat c.in_default.ensures.missed told.view told.held told.within c.if-count_at-eq0.true
+
+pub returns-then-count_at-eq0-clause-searches : goal.returns-then-count_at-eq0-clause-searches
+returns-then-count_at-eq0-clause-searches g c =
+    let counted = c.probes-then-count_at-eq0.ensures in
+    let told = c.count_at.ensures in
+    misses_here g.T.Tag.fits c.args.table.now c.args.key c.args.name 0 c.slot-home.result
+    c.in_default.ensures.passes.0 c.count_at.result c.args.effort.now c.args.effort.now
+    c.acquire_at.new.effort c.args.seat.now c.args.seat.now c.acquire_at.new.seat
+    c.count_at.new.seat
+    (passed_none g.T.Tag.fits c.args.table.now c.args.key c.args.name c.args.effort.now
+    c.args.seat.now)
+    (c.slot-home.ensures ∙ (begins c.args.table.now.geometry.slots c.args.key
+    c.args.table.now.limits.power c.begin-walk.result c.args.seat.now c.begin-walk.ensures.probe
+    c.begin-walk.ensures.stride (rw (← c.geometry-slots.ensures)
+    c.begin-walk.ensures.mask)).walking.probe)
+    c.in_default.ensures.passes.1 told.step told.event told.view
+    c.probes-then-count_at-eq0.new.self c.if-count_at-eq0.true
+    (counted.probes, counted.corrections, counted.lost)
+
+pub returns-then-count_at-eq0-clause-unmarked : goal.returns-then-count_at-eq0-clause-unmarked
+returns-then-count_at-eq0-clause-unmarked g c _ =
+    unmarked_then c.args.seat.now c.acquire_at.new.seat c.count_at.new.seat
+    c.acquire_at.ensures.adds
+    (unmarked_zero _ _ c.acquire_at.new.seat c.count_at.new.seat c.count_at.ensures.step)
+
+pub returns-then-count_at-eq0-clause-steps : goal.returns-then-count_at-eq0-clause-steps
+returns-then-count_at-eq0-clause-steps g c =
+    let slots = c.args.table.now.geometry.slots in
+    let some : 0 < slots = some_slots slots c.args.table.now.limits.power in
+    let held = c.acquire_at.ensures.steps in
+    let last = c.count_at.ensures.step.one in
+    record {
+      visited = 1;
+      within = omega arith;
+      counted = counted_probes 1 1 c.args.effort.now c.acquire_at.new.effort
+          c.probes-then-count_at-eq0.new.self c.acquire_at.ensures.effort
+          c.probes-then-count_at-eq0.ensures.probes;
+      steps = omega arith;
+    }
+
+pub loop-probe-init : goal.loop-probe-init
+loop-probe-init g c =
+    let table = c.args.table.now in
+    let told = c.count_at.ensures in
+    let next = c.next-walk.ensures in
+    let start = (begins c.args.table.now.geometry.slots c.args.key
+    c.args.table.now.limits.power c.begin-walk.result c.args.seat.now c.begin-walk.ensures.probe
+    c.begin-walk.ensures.stride (rw (← c.geometry-slots.ensures) c.begin-walk.ensures.mask)) in (
+      goes_on table.geometry.slots c.args.key table.limits.power 0 c.count_at.result
+          c.slot-home.result c.begin-walk.result c.args.seat.now c.args.seat.now start
+          c.slot-home.ensures c.acquire_at.new.seat c.count_at.new.seat c.acquire_at.ensures.seat
+          told.seat c.in_default.ensures.missed told.view told.held told.within
+          c.next-walk.result next.probe next.stride next.mask,
+      c.acquire_at.ensures.effort,
+      (let held = c.acquire_at.ensures.steps in let one = told.step.one in omega arith),
+      unmarked_then c.args.seat.now c.acquire_at.new.seat c.count_at.new.seat
+          c.acquire_at.ensures.adds
+          (unmarked_zero _ _ c.acquire_at.new.seat c.count_at.new.seat told.step),
+      passed_then g.T.Tag.fits table c.args.key c.args.name 0 c.slot-home.result
+          c.in_default.ensures.passes.0 c.count_at.result c.args.effort.now c.args.effort.now
+          c.acquire_at.new.effort c.args.seat.now c.args.seat.now c.acquire_at.new.seat
+          c.count_at.new.seat
+          (passed_none g.T.Tag.fits table c.args.key c.args.name c.args.effort.now
+          c.args.seat.now)
+          (c.slot-home.ensures ∙ start.walking.probe)
+          c.in_default.ensures.passes.1 told.step told.event told.view c.if-count_at-eq0.false,
+    )
+
+pub returns-then-count_at-eq0-2-clause-missed : goal.returns-then-count_at-eq0-2-clause-missed
+returns-then-count_at-eq0-2-clause-missed g c =
+    let table = c.args.table.now in
+    let told = c.count_at-in-loop-probe.ensures in
+    ends table.geometry.slots c.args.key table.limits.power c.loop-probe.probe
+    c.count_at-in-loop-probe.result
     c.slot-slot.result c.loop-probe.walk c.args.seat.now c.loop-probe.seat c.loop-probe.invariant.0
-    c.slot-slot.ensures c.acquire_at.new.seat c.count.new.seat c.acquire_at.ensures.seat told.seat
-    (c.in_default.ensures.missed) told.view told.held told.within
-    c.if-count-eq0.true
+    c.slot-slot.ensures c.acquire_at-in-loop-probe.new.seat c.count_at-in-loop-probe.new.seat
+    c.acquire_at-in-loop-probe.ensures.seat told.seat
+    (c.in_default-acquire_at.ensures.missed) told.view told.held told.within
+    c.if-count_at-eq0-2.true
 
 pub loop-probe-preserved : goal.loop-probe-preserved
 loop-probe-preserved g c =
     let table = c.args.table.now in
-    let told = c.count.ensures in
-    let next = c.next-walk.ensures in (
-      goes_on table.geometry.slots c.args.key table.limits.power c.loop-probe.probe c.count.result
+    let told = c.count_at-in-loop-probe.ensures in
+    let next = c.next-walk-in-loop-probe.ensures in (
+      goes_on table.geometry.slots c.args.key table.limits.power c.loop-probe.probe
+          c.count_at-in-loop-probe.result
           c.slot-slot.result c.loop-probe.walk c.args.seat.now c.loop-probe.seat
-          c.loop-probe.invariant.0 c.slot-slot.ensures c.acquire_at.new.seat c.count.new.seat
-          c.acquire_at.ensures.seat told.seat c.in_default.ensures.missed told.view told.held
+          c.loop-probe.invariant.0 c.slot-slot.ensures c.acquire_at-in-loop-probe.new.seat
+          c.count_at-in-loop-probe.new.seat
+          c.acquire_at-in-loop-probe.ensures.seat told.seat c.in_default-acquire_at.ensures.missed
+          told.view told.held
           told.within
-          c.next-walk.result next.probe next.stride next.mask,
+          c.next-walk-in-loop-probe.result next.probe next.stride next.mask,
       visited,
-      (let so_far = c.loop-probe.invariant.2 in let held = c.acquire_at.ensures.steps in
+      (let so_far = c.loop-probe.invariant.2 in let held = c.acquire_at-in-loop-probe.ensures.steps
+          in
           let one = told.step.one in omega arith),
-      unmarked_then c.args.seat.now c.acquire_at.new.seat c.count.new.seat
-          (unmarked_then c.args.seat.now c.loop-probe.seat c.acquire_at.new.seat
+      unmarked_then c.args.seat.now c.acquire_at-in-loop-probe.new.seat
+          c.count_at-in-loop-probe.new.seat
+          (unmarked_then c.args.seat.now c.loop-probe.seat c.acquire_at-in-loop-probe.new.seat
           c.loop-probe.invariant.3
-          c.acquire_at.ensures.adds)
-          (unmarked_zero _ _ c.acquire_at.new.seat c.count.new.seat told.step),
+          c.acquire_at-in-loop-probe.ensures.adds)
+          (unmarked_zero _ _ c.acquire_at-in-loop-probe.new.seat c.count_at-in-loop-probe.new.seat
+          told.step),
       passed_then g.T.Tag.fits table c.args.key c.args.name c.loop-probe.probe c.slot-slot.result
-          c.in_default.ensures.passes.0 c.count.result c.args.effort.now c.loop-probe.effort
-          c.acquire_at.new.effort c.args.seat.now c.loop-probe.seat c.acquire_at.new.seat
-          c.count.new.seat
+          c.in_default-acquire_at.ensures.passes.0 c.count_at-in-loop-probe.result c.args.effort.now
+          c.loop-probe.effort
+          c.acquire_at-in-loop-probe.new.effort c.args.seat.now c.loop-probe.seat
+          c.acquire_at-in-loop-probe.new.seat
+          c.count_at-in-loop-probe.new.seat
           c.loop-probe.invariant.4 (c.slot-slot.ensures ∙ c.loop-probe.invariant.0.walking.probe)
-          c.in_default.ensures.passes.1 told.step told.event told.view c.if-count-eq0.false,
+          c.in_default-acquire_at.ensures.passes.1 told.step told.event told.view
+          c.if-count_at-eq0-2.false,
     )
   where
-    visited : Took 0 0 (c.loop-probe.probe + 1) c.args.effort.now c.acquire_at.new.effort
+    visited : Took 0 0 (c.loop-probe.probe + 1) c.args.effort.now
+        c.acquire_at-in-loop-probe.new.effort
     visited =
         took_then c.loop-probe.probe 1 (c.loop-probe.probe + 1) c.args.effort.now
-        c.loop-probe.effort c.acquire_at.new.effort c.loop-probe.invariant.1
-        c.acquire_at.ensures.effort
+        c.loop-probe.effort c.acquire_at-in-loop-probe.new.effort c.loop-probe.invariant.1
+        c.acquire_at-in-loop-probe.ensures.effort
         (omega arith)
 
 pub returns-clause-missed : goal.returns-clause-missed
@@ -78,51 +220,56 @@ returns-clause-missed g c =
     let size = c.geometry-slots.ensures in
     ends_all table.geometry.slots c.args.key table.limits.power c.loop-probe.probe c.loop-probe.walk
     c.args.seat.now c.loop-probe.seat (some_slots table.geometry.slots table.limits.power)
-    (rw (← size) c.loop-probe-test.false) (rw (← size) c.loop-probe.auto.probe-end)
+    (rw (← size) c.loop-probe-test.false) (rw (← size) (c.loop-probe.auto.probe-end
+    (rw size (some_slots c.args.table.now.geometry.slots c.args.table.now.limits.power))))
     c.loop-probe.invariant.0
 
-pub mark_if-requires-clause-holds : goal.mark_if-requires-clause-holds
-mark_if-requires-clause-holds g c =
-    let found = c.in-Some.ensures.found in
+pub mark_if-requires-in-Some-acquire_at-clause-holds :
+    goal.mark_if-requires-in-Some-acquire_at-clause-holds
+mark_if-requires-in-Some-acquire_at-clause-holds g c =
+    let found = c.in-Some-acquire_at.ensures.found in
     found_stands g.T.Tag.fits c.args.table.now.geometry.room c.slot-slot.result c.args.name
-    c.args.key (view c.loop-probe.seat) (view c.acquire_at.new.seat) found.0
+    c.args.key (view c.loop-probe.seat) (view c.acquire_at-in-loop-probe.new.seat) found.0
     (ap (record_in c.args.name) c.loop-probe.invariant.0.sought.records ∙ c.requires.fresh) found.1
 
-pub returns-in-Some-clause-found : goal.returns-in-Some-clause-found
-returns-in-Some-clause-found g c =
-    let found = c.in-Some.ensures.found in (
+pub returns-in-Some-acquire_at-clause-found : goal.returns-in-Some-acquire_at-clause-found
+returns-in-Some-acquire_at-clause-found g c =
+    let found = c.in-Some-acquire_at.ensures.found in (
       found.0,
       found_then g.T.Tag.fits c.args.table.now.geometry.room c.slot-slot.result c.args.name
           c.args.key
-          (view c.args.seat.now) (view c.loop-probe.seat) (view c.acquire_at.new.seat)
-          (view c.mark_if.new.seat)
-          found.0 c.loop-probe.invariant.0.sought found.1 c.mark_if.ensures.view,
-      found.2 ∙ sym c.counts.ensures,
+          (view c.args.seat.now) (view c.loop-probe.seat) (view c.acquire_at-in-loop-probe.new.seat)
+          (view c.mark_if-in-Some-acquire_at.new.seat)
+          found.0 c.loop-probe.invariant.0.sought found.1 c.mark_if-in-Some-acquire_at.ensures.view,
+      found.2 ∙ sym c.counts-in-Some-acquire_at.ensures,
     )
 
-pub returns-in-Some-clause-effort : goal.returns-in-Some-clause-effort
-returns-in-Some-clause-effort g c =
-    let counted = c.probes.ensures in
+pub returns-in-Some-acquire_at-clause-effort : goal.returns-in-Some-acquire_at-clause-effort
+returns-in-Some-acquire_at-clause-effort g c =
+    let counted = c.probes-in-Some-acquire_at.ensures in
     let size = c.geometry-slots.ensures in
     let i = c.loop-probe.probe in
     let slots = c.args.table.now.geometry.slots in
     let low : i < slots = rw (← size) c.loop-probe-test.true in
-    took_probes (i + 1) (i + 1) slots c.args.effort.now c.acquire_at.new.effort c.probes.new.self
-    (took_then i 1 (i + 1) c.args.effort.now c.loop-probe.effort c.acquire_at.new.effort
-    c.loop-probe.invariant.1 c.acquire_at.ensures.effort (omega arith))
+    took_probes (i + 1) (i + 1) slots c.args.effort.now c.acquire_at-in-loop-probe.new.effort
+    c.probes-in-Some-acquire_at.new.self
+    (took_then i 1 (i + 1) c.args.effort.now c.loop-probe.effort
+    c.acquire_at-in-loop-probe.new.effort
+    c.loop-probe.invariant.1 c.acquire_at-in-loop-probe.ensures.effort (omega arith))
     counted.probes counted.corrections counted.lost (omega arith) (omega arith) (omega arith)
 
-pub returns-then-count-eq0-clause-effort : goal.returns-then-count-eq0-clause-effort
-returns-then-count-eq0-clause-effort g c =
-    let counted = c.probes-then-count-eq0.ensures in
+pub returns-then-count_at-eq0-2-clause-effort : goal.returns-then-count_at-eq0-2-clause-effort
+returns-then-count_at-eq0-2-clause-effort g c =
+    let counted = c.probes-then-count_at-eq0-2.ensures in
     let size = c.geometry-slots.ensures in
     let i = c.loop-probe.probe in
     let slots = c.args.table.now.geometry.slots in
     let low : i < slots = rw (← size) c.loop-probe-test.true in
-    took_probes (i + 1) (i + 1) slots c.args.effort.now c.acquire_at.new.effort
-    c.probes-then-count-eq0.new.self
-    (took_then i 1 (i + 1) c.args.effort.now c.loop-probe.effort c.acquire_at.new.effort
-    c.loop-probe.invariant.1 c.acquire_at.ensures.effort (omega arith))
+    took_probes (i + 1) (i + 1) slots c.args.effort.now c.acquire_at-in-loop-probe.new.effort
+    c.probes-then-count_at-eq0-2.new.self
+    (took_then i 1 (i + 1) c.args.effort.now c.loop-probe.effort
+    c.acquire_at-in-loop-probe.new.effort
+    c.loop-probe.invariant.1 c.acquire_at-in-loop-probe.ensures.effort (omega arith))
     counted.probes counted.corrections counted.lost (omega arith) (omega arith) (omega arith)
 
 pub returns-clause-effort : goal.returns-clause-effort
@@ -132,47 +279,52 @@ returns-clause-effort g c =
     let i = c.loop-probe.probe in
     let slots = c.args.table.now.geometry.slots in
     let past : slots ≤ i = rw (← size) c.loop-probe-test.false in
-    let most : i ≤ slots = rw (← size) c.loop-probe.auto.probe-end in
+    let most : i ≤ slots = rw (← size) (c.loop-probe.auto.probe-end
+    (rw size (some_slots c.args.table.now.geometry.slots c.args.table.now.limits.power))) in
     let some : 0 < slots = some_slots slots c.args.table.now.limits.power in
     took_probes slots i slots c.args.effort.now c.loop-probe.effort c.probes-2.new.self
     c.loop-probe.invariant.1 (rw (← size) counted.probes) counted.corrections counted.lost
     (omega arith) (omega arith) (omega arith)
 
-pub returns-in-Some-clause-steps : goal.returns-in-Some-clause-steps
-returns-in-Some-clause-steps g c =
+pub returns-in-Some-acquire_at-clause-steps : goal.returns-in-Some-acquire_at-clause-steps
+returns-in-Some-acquire_at-clause-steps g c =
     let i = c.loop-probe.probe in
     let size = c.geometry-slots.ensures in
     let low : i < c.args.table.now.geometry.slots = rw (← size) c.loop-probe-test.true in
     let so_far = c.loop-probe.invariant.2 in
-    let held = c.acquire_at.ensures.steps in
-    let last = c.mark_if.ensures.steps in
+    let held = c.acquire_at-in-loop-probe.ensures.steps in
+    let last = c.mark_if-in-Some-acquire_at.ensures.steps in
     record {
       visited = i + 1;
       within = omega arith;
-      counted = counted_probes (i + 1) (i + 1) c.args.effort.now c.acquire_at.new.effort
-          c.probes.new.self
-          (took_then i 1 (i + 1) c.args.effort.now c.loop-probe.effort c.acquire_at.new.effort
-          c.loop-probe.invariant.1 c.acquire_at.ensures.effort (omega arith))
-          c.probes.ensures.probes;
+      counted = counted_probes (i + 1) (i + 1) c.args.effort.now
+          c.acquire_at-in-loop-probe.new.effort
+          c.probes-in-Some-acquire_at.new.self
+          (took_then i 1 (i + 1) c.args.effort.now c.loop-probe.effort
+          c.acquire_at-in-loop-probe.new.effort
+          c.loop-probe.invariant.1 c.acquire_at-in-loop-probe.ensures.effort (omega arith))
+          c.probes-in-Some-acquire_at.ensures.probes;
       steps = omega arith;
     }
 
-pub returns-then-count-eq0-clause-steps : goal.returns-then-count-eq0-clause-steps
-returns-then-count-eq0-clause-steps g c =
+pub returns-then-count_at-eq0-2-clause-steps : goal.returns-then-count_at-eq0-2-clause-steps
+returns-then-count_at-eq0-2-clause-steps g c =
     let i = c.loop-probe.probe in
     let size = c.geometry-slots.ensures in
     let low : i < c.args.table.now.geometry.slots = rw (← size) c.loop-probe-test.true in
     let so_far = c.loop-probe.invariant.2 in
-    let held = c.acquire_at.ensures.steps in
-    let last = c.count.ensures.step.one in
+    let held = c.acquire_at-in-loop-probe.ensures.steps in
+    let last = c.count_at-in-loop-probe.ensures.step.one in
     record {
       visited = i + 1;
       within = omega arith;
-      counted = counted_probes (i + 1) (i + 1) c.args.effort.now c.acquire_at.new.effort
-          c.probes-then-count-eq0.new.self
-          (took_then i 1 (i + 1) c.args.effort.now c.loop-probe.effort c.acquire_at.new.effort
-          c.loop-probe.invariant.1 c.acquire_at.ensures.effort (omega arith))
-          c.probes-then-count-eq0.ensures.probes;
+      counted = counted_probes (i + 1) (i + 1) c.args.effort.now
+          c.acquire_at-in-loop-probe.new.effort
+          c.probes-then-count_at-eq0-2.new.self
+          (took_then i 1 (i + 1) c.args.effort.now c.loop-probe.effort
+          c.acquire_at-in-loop-probe.new.effort
+          c.loop-probe.invariant.1 c.acquire_at-in-loop-probe.ensures.effort (omega arith))
+          c.probes-then-count_at-eq0-2.ensures.probes;
       steps = omega arith;
     }
 
@@ -181,7 +333,8 @@ returns-clause-steps g c =
     let i = c.loop-probe.probe in
     let size = c.geometry-slots.ensures in
     let slots = c.args.table.now.geometry.slots in
-    let most : i ≤ slots = rw (← size) c.loop-probe.auto.probe-end in
+    let most : i ≤ slots = rw (← size) (c.loop-probe.auto.probe-end
+    (rw size (some_slots c.args.table.now.geometry.slots c.args.table.now.limits.power))) in
     let so_far = c.loop-probe.invariant.2 in
     record {
       visited = slots;
@@ -191,89 +344,112 @@ returns-clause-steps g c =
       steps = omega arith;
     }
 
-pub returns-in-Some-clause-marked : goal.returns-in-Some-clause-marked
-returns-in-Some-clause-marked g c asked = (
-  c.in-Some.found,
-  λ unhit. let set = c.mark_if.ensures.marked asked unhit in (
+pub returns-in-Some-acquire_at-clause-marked : goal.returns-in-Some-acquire_at-clause-marked
+returns-in-Some-acquire_at-clause-marked g c asked = (
+  c.in-Some-acquire_at.found,
+  λ unhit. let set = c.mark_if-in-Some-acquire_at.ensures.marked asked unhit in (
     set.0,
-    ends_after _ c.args.seat.now c.acquire_at.new.seat c.mark_if.new.seat before set.1.step,
+    ends_after _ c.args.seat.now c.acquire_at-in-loop-probe.new.seat
+        c.mark_if-in-Some-acquire_at.new.seat before set.1.step,
   ),
-  λ hit. among_then got c.args.seat.now c.acquire_at.new.seat c.mark_if.new.seat
-      (among_after got c.args.seat.now c.loop-probe.seat c.acquire_at.new.seat
+  λ hit. among_then got c.args.seat.now c.acquire_at-in-loop-probe.new.seat
+      c.mark_if-in-Some-acquire_at.new.seat
+      (among_after got c.args.seat.now c.loop-probe.seat c.acquire_at-in-loop-probe.new.seat
       (unmarked_adds c.args.seat.now c.loop-probe.seat c.loop-probe.invariant.3)
-      c.in-Some.ensures.acquired)
-      (adds_none c.acquire_at.new.seat c.mark_if.new.seat (c.mark_if.ensures.unmarked hit)),
+      c.in-Some-acquire_at.ensures.acquired)
+      (adds_none c.acquire_at-in-loop-probe.new.seat c.mark_if-in-Some-acquire_at.new.seat
+      (c.mark_if-in-Some-acquire_at.ensures.unmarked hit)),
 )
   where
     got : Atomic
-    got = atomic (address_of_meta c.args.table.now c.slot-slot.result) 1 0 c.in-Some.found
+    got =
+        atomic (address_of_meta c.args.table.now c.slot-slot.result) 1 0
+        c.in-Some-acquire_at.found
 
-    before : Adds c.args.seat.now c.acquire_at.new.seat
+    before : Adds c.args.seat.now c.acquire_at-in-loop-probe.new.seat
     before =
-        unmarked_adds c.args.seat.now c.acquire_at.new.seat
-        (unmarked_then c.args.seat.now c.loop-probe.seat c.acquire_at.new.seat
+        unmarked_adds c.args.seat.now c.acquire_at-in-loop-probe.new.seat
+        (unmarked_then c.args.seat.now c.loop-probe.seat c.acquire_at-in-loop-probe.new.seat
         c.loop-probe.invariant.3
-        c.acquire_at.ensures.adds)
+        c.acquire_at-in-loop-probe.ensures.adds)
 
-pub returns-in-Some-clause-acquired : goal.returns-in-Some-clause-acquired
-returns-in-Some-clause-acquired g c = (
-  c.in-Some.found,
-  c.in-Some.ensures.catches.visible,
-  c.counts.ensures,
-  among_then got c.args.seat.now c.acquire_at.new.seat c.mark_if.new.seat
-      (among_after got c.args.seat.now c.loop-probe.seat c.acquire_at.new.seat
+pub returns-in-Some-acquire_at-clause-acquired : goal.returns-in-Some-acquire_at-clause-acquired
+returns-in-Some-acquire_at-clause-acquired g c = (
+  c.in-Some-acquire_at.found,
+  c.in-Some-acquire_at.ensures.catches.visible,
+  c.counts-in-Some-acquire_at.ensures,
+  among_then got c.args.seat.now c.acquire_at-in-loop-probe.new.seat
+      c.mark_if-in-Some-acquire_at.new.seat
+      (among_after got c.args.seat.now c.loop-probe.seat c.acquire_at-in-loop-probe.new.seat
       (unmarked_adds c.args.seat.now c.loop-probe.seat c.loop-probe.invariant.3)
-      c.in-Some.ensures.acquired)
-      (marks_add (address_of_meta c.args.table.now c.slot-slot.result) c.acquire_at.new.seat
-      c.mark_if.new.seat c.args.marks (hit_of c.in-Some.found) c.mark_if.ensures.marked
-      c.mark_if.ensures.unmarked c.mark_if.ensures.unasked),
+      c.in-Some-acquire_at.ensures.acquired)
+      (marks_add (address_of_meta c.args.table.now c.slot-slot.result)
+      c.acquire_at-in-loop-probe.new.seat
+      c.mark_if-in-Some-acquire_at.new.seat c.args.marks (hit_of c.in-Some-acquire_at.found)
+      c.mark_if-in-Some-acquire_at.ensures.marked
+      c.mark_if-in-Some-acquire_at.ensures.unmarked c.mark_if-in-Some-acquire_at.ensures.unasked),
 )
   where
     got : Atomic
-    got = atomic (address_of_meta c.args.table.now c.slot-slot.result) 1 0 c.in-Some.found
+    got =
+        atomic (address_of_meta c.args.table.now c.slot-slot.result) 1 0
+        c.in-Some-acquire_at.found
 
-pub returns-in-Some-clause-unmarked : goal.returns-in-Some-clause-unmarked
-returns-in-Some-clause-unmarked g c unasked =
-    unmarked_then c.args.seat.now c.acquire_at.new.seat c.mark_if.new.seat
-    (unmarked_then c.args.seat.now c.loop-probe.seat c.acquire_at.new.seat c.loop-probe.invariant.3
-    c.acquire_at.ensures.adds)
-    (unmarked_none c.acquire_at.new.seat c.mark_if.new.seat (c.mark_if.ensures.unasked unasked))
+pub returns-in-Some-acquire_at-clause-unmarked : goal.returns-in-Some-acquire_at-clause-unmarked
+returns-in-Some-acquire_at-clause-unmarked g c unasked =
+    unmarked_then c.args.seat.now c.acquire_at-in-loop-probe.new.seat
+    c.mark_if-in-Some-acquire_at.new.seat
+    (unmarked_then c.args.seat.now c.loop-probe.seat c.acquire_at-in-loop-probe.new.seat
+    c.loop-probe.invariant.3
+    c.acquire_at-in-loop-probe.ensures.adds)
+    (unmarked_none c.acquire_at-in-loop-probe.new.seat c.mark_if-in-Some-acquire_at.new.seat
+    (c.mark_if-in-Some-acquire_at.ensures.unasked unasked))
 
-pub returns-then-count-eq0-clause-unmarked : goal.returns-then-count-eq0-clause-unmarked
-returns-then-count-eq0-clause-unmarked g c _ =
-    unmarked_then c.args.seat.now c.acquire_at.new.seat c.count.new.seat
-    (unmarked_then c.args.seat.now c.loop-probe.seat c.acquire_at.new.seat c.loop-probe.invariant.3
-    c.acquire_at.ensures.adds)
-    (unmarked_zero _ _ c.acquire_at.new.seat c.count.new.seat c.count.ensures.step)
+pub returns-then-count_at-eq0-2-clause-unmarked : goal.returns-then-count_at-eq0-2-clause-unmarked
+returns-then-count_at-eq0-2-clause-unmarked g c _ =
+    unmarked_then c.args.seat.now c.acquire_at-in-loop-probe.new.seat
+    c.count_at-in-loop-probe.new.seat
+    (unmarked_then c.args.seat.now c.loop-probe.seat c.acquire_at-in-loop-probe.new.seat
+    c.loop-probe.invariant.3
+    c.acquire_at-in-loop-probe.ensures.adds)
+    (unmarked_zero _ _ c.acquire_at-in-loop-probe.new.seat c.count_at-in-loop-probe.new.seat
+    c.count_at-in-loop-probe.ensures.step)
 
 pub returns-clause-unmarked : goal.returns-clause-unmarked
 returns-clause-unmarked g c _ = c.loop-probe.invariant.3
 
-pub returns-in-Some-clause-searches : goal.returns-in-Some-clause-searches
-returns-in-Some-clause-searches g c =
-    let counted = c.probes.ensures in (
-      c.in-Some.found,
+pub returns-in-Some-acquire_at-clause-searches : goal.returns-in-Some-acquire_at-clause-searches
+returns-in-Some-acquire_at-clause-searches g c =
+    let counted = c.probes-in-Some-acquire_at.ensures in (
+      c.in-Some-acquire_at.found,
       finds_here g.T.Tag.fits c.args.table.now c.args.key c.args.name c.args.marks
-          c.loop-probe.probe c.slot-slot.result c.in-Some.found c.args.effort.now
-          c.loop-probe.effort c.acquire_at.new.effort c.probes.new.self c.args.seat.now
-          c.loop-probe.seat c.acquire_at.new.seat c.mark_if.new.seat c.loop-probe.invariant.4
-          (c.slot-slot.ensures ∙ c.loop-probe.invariant.0.walking.probe) c.in-Some.ensures.catches
-          (counted.probes, counted.corrections, counted.lost) c.mark_if.ensures.marked
-          c.mark_if.ensures.unmarked c.mark_if.ensures.unasked c.mark_if.ensures.by,
-      c.counts.ensures,
+          c.loop-probe.probe c.slot-slot.result c.in-Some-acquire_at.found c.args.effort.now
+          c.loop-probe.effort c.acquire_at-in-loop-probe.new.effort
+          c.probes-in-Some-acquire_at.new.self c.args.seat.now
+          c.loop-probe.seat c.acquire_at-in-loop-probe.new.seat
+          c.mark_if-in-Some-acquire_at.new.seat c.loop-probe.invariant.4
+          (c.slot-slot.ensures ∙ c.loop-probe.invariant.0.walking.probe)
+          c.in-Some-acquire_at.ensures.catches
+          (counted.probes, counted.corrections, counted.lost)
+          c.mark_if-in-Some-acquire_at.ensures.marked
+          c.mark_if-in-Some-acquire_at.ensures.unmarked c.mark_if-in-Some-acquire_at.ensures.unasked
+          c.mark_if-in-Some-acquire_at.ensures.by,
+      c.counts-in-Some-acquire_at.ensures,
     )
 
-pub returns-then-count-eq0-clause-searches : goal.returns-then-count-eq0-clause-searches
-returns-then-count-eq0-clause-searches g c =
-    let counted = c.probes-then-count-eq0.ensures in
-    let told = c.count.ensures in
+pub returns-then-count_at-eq0-2-clause-searches : goal.returns-then-count_at-eq0-2-clause-searches
+returns-then-count_at-eq0-2-clause-searches g c =
+    let counted = c.probes-then-count_at-eq0-2.ensures in
+    let told = c.count_at-in-loop-probe.ensures in
     misses_here g.T.Tag.fits c.args.table.now c.args.key c.args.name c.loop-probe.probe
-    c.slot-slot.result c.in_default.ensures.passes.0 c.count.result c.args.effort.now
-    c.loop-probe.effort c.acquire_at.new.effort c.args.seat.now c.loop-probe.seat
-    c.acquire_at.new.seat
-    c.count.new.seat c.loop-probe.invariant.4
-    (c.slot-slot.ensures ∙ c.loop-probe.invariant.0.walking.probe) c.in_default.ensures.passes.1
-    told.step told.event told.view c.probes-then-count-eq0.new.self c.if-count-eq0.true
+    c.slot-slot.result c.in_default-acquire_at.ensures.passes.0 c.count_at-in-loop-probe.result
+    c.args.effort.now
+    c.loop-probe.effort c.acquire_at-in-loop-probe.new.effort c.args.seat.now c.loop-probe.seat
+    c.acquire_at-in-loop-probe.new.seat
+    c.count_at-in-loop-probe.new.seat c.loop-probe.invariant.4
+    (c.slot-slot.ensures ∙ c.loop-probe.invariant.0.walking.probe)
+    c.in_default-acquire_at.ensures.passes.1
+    told.step told.event told.view c.probes-then-count_at-eq0-2.new.self c.if-count_at-eq0-2.true
     (counted.probes, counted.corrections, counted.lost)
 
 pub returns-clause-searches : goal.returns-clause-searches
@@ -282,7 +458,8 @@ returns-clause-searches g c =
     let size = c.geometry-slots.ensures in
     let slots = c.args.table.now.geometry.slots in
     let past : slots ≤ c.loop-probe.probe = rw (← size) c.loop-probe-test.false in
-    let most : c.loop-probe.probe ≤ slots = rw (← size) c.loop-probe.auto.probe-end in
+    let most : c.loop-probe.probe ≤ slots = rw (← size) (c.loop-probe.auto.probe-end
+    (rw size (some_slots c.args.table.now.geometry.slots c.args.table.now.limits.power))) in
     let some : 0 < slots = some_slots slots c.args.table.now.limits.power in
     let all : c.loop-probe.probe ≡ slots = omega arith in
     let visited : VisitedSlots slots c.loop-probe.effort c.probes-2.new.self =

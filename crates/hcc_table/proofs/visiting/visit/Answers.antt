@@ -26,15 +26,15 @@ returns-in-None-clause-visit g c = by c.sweep.result c.sweep.ensures.visit
     address = address_of_meta c.args.table.now c.args.slot
 
     word : ℕ
-    word = c.look-word.result
+    word = c.look_at-word.result
 
-    looked : Sought (view c.args.seat.now) (view c.look-word.new.seat)
+    looked : Sought (view c.args.seat.now) (view c.look_at-word.new.seat)
     looked =
-        looked_at c.args.slot word (view c.args.seat.now) (view c.look-word.new.seat)
-        c.look-word.ensures.view
+        looked_at c.args.slot word (view c.args.seat.now) (view c.look_at-word.new.seat)
+        c.look_at-word.ensures.view
 
     by : (visit : ClockVisit)
-        → Swept g.T.Tag.fits slots room address c.args.slot word visit c.look-word.new.seat
+        → Swept g.T.Tag.fits slots room address c.args.slot word visit c.look_at-word.new.seat
         c.sweep.new.seat
         → Visited g.T.Tag.fits slots room address c.args.slot visit c.args.seat.now c.sweep.new.seat
     by visits.Passed swept = absurd swept
@@ -47,19 +47,20 @@ returns-in-None-clause-visit g c = by c.sweep.result c.sweep.ensures.visit
           lost.0,
           lost.1,
           makes_two (atomic address 0 0 word) (atomic address word CONSTRUCTION_WORD lost.0)
-              c.args.seat.now c.look-word.new.seat c.sweep.new.seat c.look-word.ensures.step.step
+              c.args.seat.now c.look_at-word.new.seat c.sweep.new.seat
+              c.look_at-word.ensures.step.step
               lost.2.step,
-          sought_then (view c.args.seat.now) (view c.look-word.new.seat) (view c.sweep.new.seat)
+          sought_then (view c.args.seat.now) (view c.look_at-word.new.seat) (view c.sweep.new.seat)
               looked swept.1,
           search rules,
         )
     by (visits.Freed charge hit) swept = (
       word,
       begins_with_two (atomic address 0 0 word) (atomic address word CONSTRUCTION_WORD word)
-          c.args.seat.now c.look-word.new.seat c.sweep.new.seat c.look-word.ensures.step.step
+          c.args.seat.now c.look_at-word.new.seat c.sweep.new.seat c.look_at-word.ensures.step.step
           swept.0,
       swept.1,
-      freed_after g.T.Tag.fits room (view c.args.seat.now) (view c.look-word.new.seat)
+      freed_after g.T.Tag.fits room (view c.args.seat.now) (view c.look_at-word.new.seat)
           (view c.sweep.new.seat) looked.searched (cc) word charge swept.2,
       search rules,
       search rules,

@@ -17,7 +17,7 @@ returns-clause-hands g c =
     c.key_of.ensures
     (handed cache c.key_of.result g.T.Tag.fits value c.args.place.count c.insert.result
     c.args.client.now c.insert.new.client count did.spent did.large did.inserted did.evicts
-    did.others did.frees did.steps)
+    did.shown did.others did.frees did.steps)
 
 pub returns-clause-asks : goal.returns-clause-asks
 returns-clause-asks g c =

@@ -4,6 +4,8 @@ use Rattle.hcc_cache.specs.Images.{visible_of}
 use Rattle.hcc_cache.specs.Taken.{split_of}
 use Rattle.hcc_cache.proofs.Beginning.{all_started, sharing_none}
 use Rattle.hcc_cache.proofs.Reopenings.{draft_accepted, draft_fitting, next_draft, reopened_all, reopening_more, reopening_none, right_taken}
+use Rattle.hcc_cache.specs.Reopened.{most_in}
+use Rattle.hcc_cache.proofs.Unknowing.{nothing_first, nothing_started}
 use Rattle.hcc_cache.proofs.cache.Cache.begun.Goals as goal
 
 pub loop-draft-init : goal.loop-draft-init
@@ -16,7 +18,8 @@ loop-draft-init g c =
     rw (c.in_ok-shards.ensures.items, from) (reopening_none fits config c.args.tag
     (split_of config image).taken c.in_ok-drafts.drafts.items c.in_ok-clients.clients.items
     c.in_ok-drafts.ensures.drafts (right_taken fits c.args.tag config image c.requires.right)
-    (sharing_none config c.in_ok-clients.clients.items c.in_ok-clients.ensures))
+    (sharing_none config c.in_ok-clients.clients.items c.in_ok-clients.ensures)
+    (nothing_first config c.in_ok-clients.clients.items c.in_ok-clients.ensures))
 
 pub reopened-requires-clause-fitting : goal.reopened-requires-clause-fitting
 reopened-requires-clause-fitting g c =
@@ -52,7 +55,7 @@ loop-draft-preserved g c =
     c.loop-draft.shards.items c.loop-draft.clients.items c.loop-draft.most draft
     c.next.new.self.rest.items before c.in_ok-shard.shard c.deal.new.clients.items
     c.in_ok-shard.seats.items es c.in_ok-entries.ensures made.shard made.image made.words
-    made.seats c.in_ok-deal.ensures)
+    made.seats made.began made.past c.in_ok-deal.ensures)
 
 pub returns-clause-made : goal.returns-clause-made
 returns-clause-made g c =
@@ -86,4 +89,5 @@ returns-clause-made g c =
       strict = refl;
       count = count;
       shards = now.configured;
-    }) now.begins (length-set old 0 first ∙ clients) started (omega arith)
+    }) now.begins (length-set old 0 first ∙ clients) started (omega arith) now.began
+    (nothing_started config (most_in shards) old was first now.past at starts)

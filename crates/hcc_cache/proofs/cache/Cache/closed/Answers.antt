@@ -1,6 +1,6 @@
 use Rattle.std.proofs.Common.{◌≡◌, [], ◌∷◌, ◌++◌, option_to_list, refl, ap, ◌∙◌, length, reverse, arith}
 use Rattle.std.proofs.lemmas.List.{take_at}
-use Rattle.hcc_cache.proofs.Ended.{IsClosing, closed_all, closing_more, closing_none, has_last, names_enough, room_left, whole_all}
+use Rattle.hcc_cache.proofs.Ended.{IsClosing, closed_all, closing_more, closing_none, has_last, names_enough, room_left, whole_all, worlds_all}
 use Rattle.hcc_cache.proofs.cache.Cache.closed.Goals as goal
 
 pub loop-shard-init : goal.loop-shard-init
@@ -79,7 +79,12 @@ loop-shard-preserved g c =
           c.loop-shard.closed.items c.loop-shard.clients.items from c.joined-seat.result
           (omega arith) (rw n_is at c.joined-seat.ensures.view) c.joined-seat.new.clients.items
           c.close_joined.result c.joined-seat.ensures.count (rw n_is at c.joined-seat.ensures.left)
-          c.close_joined.ensures.size c.close_joined.ensures.closes c.close_joined.ensures.within);
+          c.close_joined.ensures.size c.close_joined.ensures.closes c.close_joined.ensures.within
+          (record {
+            known = rw n_is at c.joined-seat.ensures.known;
+            allowed = c.close_joined.ensures.allowed;
+            shows = c.close_joined.ensures.left;
+          }));
     }
 
 -- the items that are left stand turned round
@@ -99,8 +104,8 @@ invariant_of-result g c =
           ∙ (c.reverse.ensures.after ∙ ap reverse c.deref_mut.ensures.value)) (omega arith);
     }
 
-pub returns : goal.returns
-returns g c =
+pub returns-clause-closes : goal.returns-clause-closes
+returns-clause-closes g c =
     let none = c.in_default.ensures.cases in
     let enough = c.requires.enough in
     let one = c.args.self.limits.some_client in
@@ -112,3 +117,16 @@ returns g c =
     (c.reverse.ensures.len ∙ ap length c.deref_mut.ensures.value)
     ∙ (c.reverse.ensures.after ∙ ap reverse c.deref_mut.ensures.value))
     _ (omega arith) refl refl
+
+pub returns-clause-left : goal.returns-clause-left
+returns-clause-left g c s shard left at h =
+    let none = c.in_default.ensures.cases in
+    let enough = c.requires.enough in
+    let one = c.args.self.limits.some_client in
+    let length_is = c.loop-shard.shards.ok.0 in
+    worlds_all g.T.Tag.fits c.args.self c.args.clients.items c.requires c.loop-shard.clients.items
+    c.loop-shard.shards.items c.loop-shard.closed.items _ c.loop-shard.invariant.closes
+    (omega arith)
+    (take_at c.reverse.new.self _ (length c.loop-shard.closed.items)
+    (c.reverse.ensures.len ∙ ap length c.deref_mut.ensures.value)
+    ∙ (c.reverse.ensures.after ∙ ap reverse c.deref_mut.ensures.value)) s shard left at h

@@ -6,6 +6,10 @@ use Rattle.hcc_cache.specs.Clients.{view_by}
 use Rattle.hcc_cache.proofs.At.{counts_none, did_at, is_at, seated_at}
 use Rattle.hcc_cache.proofs.Resting.{keeps_same, knows_same, same_all}
 use Rattle.hcc_cache.proofs.Seats.{part_same, steps_set}
+use Rattle.hcc_rule.specs.Events.{count_done}
+use Rattle.hcc_table.specs.Still.{is_still}
+use Rattle.hcc_table.proofs.Seeking.{goes_event}
+use Rattle.hcc_cache.proofs.Staying.{stays_at}
 use Rattle.hcc_cache.proofs.cache.Cache.displacement.Goals as goal
 
 pub displacement-requires-clause-seat : goal.displacement-requires-clause-seat
@@ -81,3 +85,17 @@ returns-clause-steps g c =
     c.requires.known c.requires.shard c.index.ensures c.index_mut-seat.ensures.value in
     steps_set c.args.client.now.seats.items c.args.shard 1 was c.displacement.new.seat at.seat_is
     c.displacement.ensures.steps
+
+pub returns-clause-stays : goal.returns-clause-stays
+returns-clause-stays g c =
+    let was = c.index_mut-seat.result.now in
+    let at = is_at c.args.self.now c.args.client.now c.args.shard c.index.result.now was
+    c.requires.known c.requires.shard c.index.ensures c.index_mut-seat.ensures.value in
+    stays_at c.args.self.now c.args.client.now
+    (record c.args.client.now {
+      seats = with_item c.args.client.now.seats c.args.shard c.displacement.new.seat;
+    }) c.args.shard c.index.result.now was c.displacement.new.seat at
+    (record { seats = refl; number = refl; most = refl; capacity = (refl, refl) })
+    (goes_event c.index.result.now.table is_still
+    (count_done c.args.slot c.displacement.result (view_of was)) was.seat
+    c.displacement.new.seat.seat c.displacement.ensures.by refl)

@@ -1,6 +1,5 @@
-use Rattle.std.proofs.Common.{◌≡◌, ◌+◌, ◌∙◌, refl, ap, length, arith}
+use Rattle.std.proofs.Common.{◌+◌, ◌∙◌, refl, ap, length, arith}
 use Rattle.std.specs.Vec.{with_item}
-use Rattle.hcc_shard.specs.Callers.{view_of}
 use Rattle.hcc_shard.specs.Counted.{SameEvictions}
 use Rattle.hcc_shard.specs.Gets.{Gets}
 use Rattle.hcc_cache.specs.Calls.{shard_in}
@@ -9,6 +8,7 @@ use Rattle.hcc_cache.specs.Sharding.{key_to, shard_of}
 use Rattle.hcc_cache.proofs.At.{did_at, does_at, is_at, seated_at, takes_for}
 use Rattle.hcc_cache.proofs.Found.{keeps_left, knows_sought}
 use Rattle.hcc_cache.proofs.Gotten.{gets_for, seeks_at}
+use Rattle.hcc_cache.proofs.Staying.{stays_at}
 use Rattle.hcc_cache.proofs.cache.Cache.get.Goals as goal
 
 pub get-requires : goal.get-requires
@@ -66,6 +66,10 @@ returns g c =
           (λ s a b. Gets (fits_seeded g.T.Tag.fits) s (key_to cache.seed c.args.key)
           c.args.useful c.get.result c.args.buffer.now c.get.new.buffer a b) got
           (shard_in cache c.args.key) there;
+      stays =
+          stays_at cache old (record old { seats = with_item old.seats i is }) i shard was is at
+          (record { seats = refl; number = refl; most = refl; capacity = (refl, refl) })
+          c.get.ensures.stays;
       counts =
           does_at cache old _ i shard was is at
           (record { seats = refl; number = refl; most = refl; capacity = (refl, refl) })

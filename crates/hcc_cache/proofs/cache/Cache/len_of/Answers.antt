@@ -7,6 +7,8 @@ use Rattle.hcc_cache.proofs.At.{ChangesAt, is_at, seated_at, takes_at}
 use Rattle.hcc_cache.proofs.Found.{IsLeft}
 use Rattle.hcc_cache.proofs.Framing.{hold_there}
 use Rattle.hcc_cache.proofs.Readings.{knows_read, reads_at, told_of}
+use Rattle.hcc_table.proofs.Still.{seeks_still}
+use Rattle.hcc_cache.proofs.Staying.{stays_at, stays_same}
 use Rattle.hcc_cache.proofs.cache.Cache.len_of.Goals as goal
 
 pub index_mut-seat-requires : goal.index_mut-seat-requires
@@ -86,6 +88,9 @@ returns-in-Pinned g c =
       reads =
           reads_at cache old new hold.shard shard was is at change left c.value_len.ensures.view
           c.value_len.ensures.counts;
+      stays =
+          stays_at cache old new hold.shard shard was is at change
+          (seeks_still shard.table was.seat is.seat c.value_len.ensures.seeks);
       exact =
           told_of cache old c.args.handle hold slot counting shard was at c.requires.held
           there c.in-Pinned.is
@@ -95,3 +100,7 @@ returns-in-Pinned g c =
           takes_at cache old new hold.shard shard was is at change 1
           c.value_len.ensures.steps;
     }
+
+pub returns-in-Standing-clause-stays : goal.returns-in-Standing-clause-stays
+returns-in-Standing-clause-stays g c =
+    stays_same c.args.self.now c.args.client.now c.args.client.now refl

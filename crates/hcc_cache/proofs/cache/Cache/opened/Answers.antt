@@ -1,8 +1,11 @@
 use Rattle.std.proofs.Common.{◌≡◌, ◌+◌, [], ◌∷◌, ◌++◌, refl, ap, ◌∙◌, length, slice_get, arith}
 use Rattle.std.proofs.lemmas.List.{length_push}
 use Rattle.hcc_rule.proofs.Seats.Splits.{each_snoc}
+use Rattle.hcc_shard.specs.Stays.{BeganWithinLimits}
+use Rattle.hcc_cache.specs.Keys.{fits_seeded}
 use Rattle.hcc_cache.specs.Opened.{IsConfigured}
 use Rattle.hcc_cache.proofs.Dealing.{dealt_more, dealt_none, opened}
+use Rattle.hcc_cache.proofs.Unknowing.{nothing_first, nothing_more}
 use Rattle.hcc_cache.proofs.cache.Cache.opened.Goals as goal
 
 pub loop-init : goal.loop-init
@@ -13,6 +16,8 @@ loop-init g c =
       dealt = rw items
           (dealt_none c.args.config c.in_ok-clients.clients.items c.in_ok-clients.ensures);
       configured = λ s shard h. absurd (let none = ap (λ xs. slice_get xs s) items in cc);
+      began = λ s shard h. absurd (let none = ap (λ xs. slice_get xs s) items in cc);
+      past = nothing_first c.args.config c.in_ok-clients.clients.items c.in_ok-clients.ensures;
     }
 
 pub loop-preserved : goal.loop-preserved
@@ -30,6 +35,11 @@ loop-preserved g c =
           c.in_ok-shard.seats.items kept.dealt c.in_ok-deal.ensures made.seats);
       configured = rw items
           (each_snoc (IsConfigured c.args.config c.args.tag) old shard made.shard kept.configured);
+      began = rw items
+          (each_snoc (λ z. BeganWithinLimits z (fits_seeded g.T.Tag.fits)) old shard made.began
+          kept.began);
+      past = nothing_more c.loop.clients.items c.deal.new.clients.items
+          c.in_ok-shard.seats.items kept.past made.past c.in_ok-deal.ensures;
     }
 
 pub returns : goal.returns
@@ -37,12 +47,17 @@ returns g c =
     let kept = c.loop.invariant in
     let counted = kept.count in
     let done = c.loop-test.false in
-    opened c.args.config c.args.tag _ c.loop.clients.items c.requires (record {
-      tag_is = refl;
-      seed = refl;
-      geometry = c.shard_geometry.ensures;
-      capacity = c.shard_capacity.ensures.exact;
-      strict = refl;
-      count = omega arith;
-      shards = kept.configured;
-    }) kept.dealt
+    record {
+      made =
+          opened c.args.config c.args.tag _ c.loop.clients.items c.requires (record {
+            tag_is = refl;
+            seed = refl;
+            geometry = c.shard_geometry.ensures;
+            capacity = c.shard_capacity.ensures.exact;
+            strict = refl;
+            count = omega arith;
+            shards = kept.configured;
+          }) kept.dealt;
+      began = kept.began;
+      past = kept.past;
+    }

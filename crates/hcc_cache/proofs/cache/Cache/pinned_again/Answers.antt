@@ -10,6 +10,8 @@ use Rattle.hcc_cache.proofs.At.{ChangesAt, did_at, does_at, few_at, is_at, next_
 use Rattle.hcc_cache.proofs.Framing.{hold_there}
 use Rattle.hcc_cache.proofs.Found.{gains_pinned, knows_more}
 use Rattle.hcc_cache.proofs.Gained.{IsGiven}
+use Rattle.hcc_table.proofs.Still.{reaches_seek, seeks_still}
+use Rattle.hcc_cache.proofs.Staying.{stays_at}
 use Rattle.hcc_cache.proofs.cache.Cache.pinned_again.Goals as goal
 
 pub index_mut-seat-requires : goal.index_mut-seat-requires
@@ -177,6 +179,11 @@ returns g c =
           did_at cache old new first.shard shard was is at change
           (λ s a b. (counts : Bool) × AcquiresAt s c.args.slot counts a b)
           (counting, c.reref-pin.ensures.acquires) first.shard refl;
+      stays =
+          stays_at cache old new first.shard shard was is at change
+          (seeks_still shard.table was.seat is.seat
+          (reaches_seek shard.table c.args.slot 1 old.used c.reref-pin.ensures.by.0 was.seat is.seat
+          c.reref-pin.ensures.by.2));
       counts =
           does_at cache old new first.shard shard was is at change SameEvictions
           c.reref-pin.ensures.counts first.shard refl;

@@ -7,6 +7,8 @@ use Rattle.hcc_cache.specs.Totals.{CountsHeldAt}
 use Rattle.hcc_cache.proofs.At.{did_at, is_at, seated_at, works_at}
 use Rattle.hcc_cache.proofs.Resting.{keeps_same, knows_same, same_sought}
 use Rattle.hcc_cache.proofs.Seats.{steps_set, view_here}
+use Rattle.std.specs.Vec.{with_item}
+use Rattle.hcc_cache.proofs.Staying.{stays_at}
 use Rattle.hcc_cache.proofs.cache.Cache.pinned_at.Goals as goal
 
 pub pinned_usage-requires : goal.pinned_usage-requires
@@ -109,3 +111,15 @@ returns-clause-steps g c =
     steps_set c.args.client.now.seats.items c.args.shard (5 * c.args.self.now.geometry.slots + 1)
     was c.pinned_usage.new.seat at.seat_is
     (rw (← slots) c.pinned_usage.ensures.steps)
+
+pub returns-clause-stays : goal.returns-clause-stays
+returns-clause-stays g c =
+    let was = c.index_mut-seat.result.now in
+    let at = is_at c.args.self.now c.args.client.now c.args.shard c.index.result.now was
+    c.requires.known c.requires.within c.index.ensures c.index_mut-seat.ensures.value in
+    stays_at c.args.self.now c.args.client.now
+    (record c.args.client.now {
+      seats = with_item c.args.client.now.seats c.args.shard c.pinned_usage.new.seat;
+    }) c.args.shard c.index.result.now was c.pinned_usage.new.seat at
+    (record { seats = refl; number = refl; most = refl; capacity = (refl, refl) })
+    c.pinned_usage.ensures.stays

@@ -1,4 +1,4 @@
-use Rattle.std.proofs.Common.{◌≡◌, ◌+◌, ◌-◌, ◌*◌, ◌^◌, ◌≤◌, [], ◌∷◌, ◌++◌, min, ap, length, ◌∙◌, arith}
+use Rattle.std.proofs.Common.{◌≡◌, ◌+◌, ◌-◌, ◌*◌, ◌^◌, ◌≤◌, [], ◌∷◌, ◌++◌, min, ap, length, ◌∙◌, arith, refl}
 use Rattle.hcc_core.proofs.SumLemmas.{total-append}
 use Rattle.hcc_table.specs.Searched.{Sought}
 use Rattle.hcc_cache.specs.Clients.{view_at}
@@ -6,6 +6,7 @@ use Rattle.hcc_cache.specs.Totals.{CountsHeldAt, charge_by, charge_in}
 use Rattle.hcc_cache.proofs.Charged.{charge_counts}
 use Rattle.hcc_cache.proofs.Each.{each_first, each_next}
 use Rattle.hcc_cache.proofs.Through.{goes_first, goes_on, most_counted, same_counted, sought_all, sum_all, sum_next, sum_to}
+use Rattle.hcc_cache.proofs.Staying.{stays_same, stays_then}
 use Rattle.hcc_cache.proofs.cache.Cache.pinned_usage.Goals as goal
 
 pub loop-shard-init : goal.loop-shard-init
@@ -17,6 +18,7 @@ loop-shard-init g c = (
   [],
   each_first c.args.self.now (CountsHeldAt g.T.Tag.fits) c.args.client.now,
   omega arith,
+  stays_same c.args.self.now c.args.client.now c.args.client.now refl,
 )
 
 pub loop-shard-preserved : goal.loop-shard-preserved
@@ -46,6 +48,7 @@ loop-shard-preserved g c =
           c.loop-shard.invariant.4 told.loads told.others,
       (let before = c.loop-shard.invariant.5 in let sum = c.saturating_add-sum.ensures in
           let found = total-append (λ n. n) counts (c.pinned_at.result ∷ []) in omega arith),
+      stays_then cache old now next c.loop-shard.invariant.6 told.stays,
     )
 
 pub returns-clause-entries : goal.returns-clause-entries
@@ -94,3 +97,6 @@ returns-clause-loads g c =
       loads = record { count = omega arith; each = finds.each };
       sum = c.loop-shard.invariant.5;
     }
+
+pub returns-clause-stays : goal.returns-clause-stays
+returns-clause-stays g c = c.loop-shard.invariant.6

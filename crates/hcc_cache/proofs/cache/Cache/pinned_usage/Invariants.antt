@@ -2,6 +2,7 @@ use Rattle.std.proofs.Common.{◌≡◌, ℕ, ◌+◌, ◌*◌, ◌-◌, ◌^◌
 use Rattle.hcc_core.specs.Sums.{total}
 use Rattle.hcc_table.specs.Searched.{Sought}
 use Rattle.hcc_cache.specs.Clients.{view_at}
+use Rattle.hcc_cache.specs.Stays.{Stays}
 use Rattle.hcc_cache.specs.Totals.{CountsHeldAt, charge_in}
 use Rattle.hcc_cache.proofs.Each.{FindsEach}
 use Rattle.hcc_cache.proofs.Through.{GoesThrough, sum_to}
@@ -16,3 +17,4 @@ invariant-loop-shard g l =
     × (counts : List ℕ)
     × FindsEach l.self (CountsHeldAt g.T.Tag.fits) counts l.fn.client l.client l.shard
     × (l.sum ≡ min (total (λ n. n) counts) (2 ^ 64 - 1))
+    × Stays l.self l.fn.client l.client

@@ -1,4 +1,4 @@
-use Rattle.std.proofs.Common.{◌≡◌, ◌∙◌, ◌+◌, get_or, slice_set, ap, refl, sym, arith}
+use Rattle.std.proofs.Common.{◌≡◌, ◌∙◌, ◌+◌, ◌&&◌, get_or, slice_set, ap, refl, sym, arith}
 use Rattle.std.specs.Vec.{with_item}
 use Rattle.slab.specs.Slab.{get}
 use Rattle.hcc_rule.specs.declared.geometry.Geometry.{Geometry}
@@ -7,11 +7,14 @@ use Rattle.hcc_table.specs.Steps.{freeing}
 use Rattle.hcc_shard.specs.Counted.{SameEvictions}
 use Rattle.hcc_cache.specs.declared.client.Client.{Client}
 use Rattle.hcc_cache.proofs.Again.{hold_within, pin_at, pinned_at}
-use Rattle.hcc_cache.proofs.At.{ChangesAt, does_at, is_at, seated_at, takes_at}
+use Rattle.hcc_cache.proofs.At.{ChangesAt, did_at, does_at, is_at, only_at, seated_at, takes_at}
 use Rattle.hcc_cache.proofs.Framing.{hold_there}
 use Rattle.hcc_cache.proofs.Less.{IsLess}
 use Rattle.hcc_core.proofs.ListLemmas.{read_here}
 use Rattle.hcc_cache.proofs.Released.{knows_unpinned, lets_go, releases_unpinned}
+use Rattle.hcc_shard.specs.Stays.{ReleasesAt}
+use Rattle.hcc_shard.proofs.Stayings.{release_stays}
+use Rattle.hcc_cache.proofs.Staying.{stays_at}
 use Rattle.hcc_cache.proofs.cache.Cache.release_pin.Goals.{then-erase_if_last, else-erase_if_last, then-useful, else-useful}
 use Rattle.hcc_cache.proofs.cache.Cache.release_pin.Goals as goal
 
@@ -109,6 +112,9 @@ returns g c =
       | then-useful w ↦ ap is_useful w.usage-is ∙ sym w.if-useful.true
       | else-useful w ↦ ap is_useful w.usage-is ∙ sym w.if-useful.false
     ] in
+    let released : ReleasesAt shard c.args.pin.slot hold.serial
+    (c.args.useful && c.args.pin.counting) c.args.erase_if_last c.release.result was is =
+    rw (← c.requires.name, ← useful, ← asked) c.release.ensures.by in
     record {
       known =
           knows_unpinned cache old new c.args.handle hold lets c.args.pin.slot
@@ -127,6 +133,18 @@ returns g c =
         later = rw (change.seats) (read_here old.seats.items hold.shard was is at.seat_is);
         gives = rw (← useful, ← asked) c.release.ensures.gives;
       };
+      by = (
+        did_at cache old new hold.shard shard was is at change
+            (λ z a b. ReleasesAt z c.args.pin.slot hold.serial
+            (c.args.useful && c.args.pin.counting) c.args.erase_if_last c.release.result a b)
+            released hold.shard refl,
+        only_at cache old new hold.shard shard was is at change hold.shard refl,
+      );
+      stays = λ none.
+          stays_at cache old new hold.shard shard was is at change
+          (release_stays shard c.args.pin.slot hold.serial
+          (c.args.useful && c.args.pin.counting) c.args.erase_if_last c.release.result was is
+          released none);
       counts =
           does_at cache old new hold.shard shard was is at change SameEvictions
           c.release.ensures.counts hold.shard refl;

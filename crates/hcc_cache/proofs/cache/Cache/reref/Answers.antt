@@ -1,9 +1,9 @@
-use Rattle.std.proofs.Common.{◌≡◌, ℕ, Bool, sym, subst, ◌∙◌}
+use Rattle.std.proofs.Common.{◌≡◌, Bool, refl, sym, subst, ◌∙◌}
 use Rattle.std.proofs.lemmas.Option.{same_Some}
 use Rattle.hcc_shard.specs.Callers.{AcquiresAt}
 use Rattle.hcc_cache.specs.declared.holding.Hold.{Hold}
-use Rattle.hcc_cache.specs.declared.holding.Kept.TheVariants.{Pinned}
 use Rattle.hcc_cache.specs.Calls.{AtShard, CountsOf}
+use Rattle.hcc_cache.proofs.Staying.{stays_same}
 use Rattle.hcc_cache.proofs.cache.Cache.reref.Goals as goal
 
 pub returns-in-Pinned-clause-acquires : goal.returns-in-Pinned-clause-acquires
@@ -24,3 +24,7 @@ returns-in-Pinned-clause-counts g c = λ hold at.
     (sym same)
     (subst (λ k. CountsOf c.hold-hold.result.shard k c.args.client.now
     c.pinned_again.new.client) (sym c.in-Pinned.is) c.pinned_again.ensures.counts)
+
+pub returns-in_err-may_hold-clause-stays : goal.returns-in_err-may_hold-clause-stays
+returns-in_err-may_hold-clause-stays g c =
+    stays_same c.args.self.now c.args.client.now c.args.client.now refl

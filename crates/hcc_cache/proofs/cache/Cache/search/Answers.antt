@@ -8,6 +8,10 @@ use Rattle.hcc_cache.specs.Sharding.{shard_of}
 use Rattle.hcc_cache.proofs.At.{ChangesAt, does_at, few_at, is_at, next_at, seated_at}
 use Rattle.hcc_cache.proofs.Found.{finds, knows_more, knows_sought, looks_at, misses, searched_at, visits_at}
 use Rattle.hcc_cache.proofs.Gained.{IsGiven}
+use Rattle.hcc_table.proofs.Lasting.{searches_seek}
+use Rattle.hcc_table.proofs.Still.{seeks_still}
+use Rattle.hcc_cache.specs.Keys.{fits_seeded}
+use Rattle.hcc_cache.proofs.Staying.{stays_at}
 use Rattle.hcc_cache.proofs.cache.Cache.search.Goals as goal
 
 pub lookup-requires-clause-seat : goal.lookup-requires-clause-seat
@@ -206,6 +210,12 @@ returns g c =
           (Some c.keep.result)
           (c.shard_number-shard.ensures.value ∙ ap (λ k. shard_of k shards) words) c.lookup.result
           (ap is_some c.in_ok-pin.was) (rw words at c.lookup.ensures.searches);
+      stays =
+          stays_at cache old new i shard was is at change
+          (seeks_still shard.table was.seat is.seat
+          (searches_seek (fits_seeded g.T.Tag.fits) shard.table c.key_to-under.result old.used
+          shard.marks c.lookup.result was.effort is.effort was.seat is.seat
+          c.lookup.ensures.searches));
       counts =
           does_at cache old new i shard was is at change SameEvictions c.lookup.ensures.counts
           (shard_in cache c.args.key)
@@ -218,3 +228,19 @@ returns g c =
           looks_at cache old new i shard was is at change was.effort is.effort
           c.lookup.ensures.steps;
     }
+
+pub returns-in_err-pin-clause-stays : goal.returns-in_err-pin-clause-stays
+returns-in_err-pin-clause-stays g c =
+    let cache = c.args.self.now in
+    let old = c.args.client.now in
+    let i = c.shard_number-shard.result in
+    let shard = c.index.result.now in
+    let was = c.index_mut-seat.result.now in
+    let is = c.lookup.new.seat in
+    let at = is_at cache old i shard was c.requires.known c.shard_number-shard.ensures.inside
+    c.index.ensures c.index_mut-seat.ensures.value in
+    stays_at cache old (record old { seats = with_item old.seats i is }) i shard was is at
+    (record { seats = refl; number = refl; most = refl; capacity = (refl, refl) })
+    (seeks_still shard.table was.seat is.seat
+    (searches_seek (fits_seeded g.T.Tag.fits) shard.table c.key_to-under.result old.used shard.marks
+    c.lookup.result was.effort is.effort was.seat is.seat c.lookup.ensures.searches))

@@ -9,6 +9,7 @@ use Rattle.hcc_cache.proofs.Framing.{hold_there, IsSameAlone}
 use Rattle.hcc_cache.proofs.Gained.{IsGiven}
 use Rattle.hcc_cache.proofs.Slots.{updates_set}
 use Rattle.hcc_cache.proofs.StandingAgain.{few_references, knows_standing, rerefs_standing, takes_standing}
+use Rattle.hcc_cache.proofs.Staying.{stays_same}
 use Rattle.hcc_cache.proofs.cache.Cache.standing_again.Goals as goal
 
 pub index_mut-requires : goal.index_mut-requires
@@ -82,6 +83,7 @@ returns g c =
           index a b c.requires.held c.requires.kept c.requires.kept refl refl
           c.index_mut.ensures.value same refl updates given seats most
           (c.keep.ensures.capacity, alone_capacity);
+      stays = stays_same cache old new seats;
       counts = λ s. ap (λ l. counts_by (slice_get l s)) seats;
       steps =
           takes_standing cache old first from knows there new c.args.handle c.keep.result hold

@@ -1,4 +1,4 @@
-use Rattle.std.proofs.Common.{◌≡◌, ◌∙◌, ◌-◌, None, length, get_or, slice_set, ap, refl, arith}
+use Rattle.std.proofs.Common.{◌≡◌, ◌∙◌, ◌-◌, None, length, get_or, slice_set, ap, refl, sym, arith}
 use Rattle.hcc_rule.specs.declared.steps.shows.Draft.{Draft}
 use Rattle.hcc_shard.specs.Callers.{view_of}
 use Rattle.hcc_shard.specs.Inserted.{InsertedBy}
@@ -9,6 +9,7 @@ use Rattle.hcc_cache.specs.Sharding.{shard_of}
 use Rattle.hcc_cache.proofs.At.{ChangesAt, is_at, only_at, seated_at}
 use Rattle.hcc_cache.proofs.Insertions.{IsAsked, frees_at, insertable_at, inserts_at, knows_asked, leaves_stored, stores_at, stores_did, told_as}
 use Rattle.hcc_cache.proofs.Refusals.{answers_small, answers_unspent, inserts_did, inserts_told}
+use Rattle.hcc_cache.proofs.Staying.{alone_at, knows_shown, was_placed}
 use Rattle.hcc_cache.proofs.cache.Cache.stored.Goals as goal
 
 pub insert-requires-clause-seat : goal.insert-requires-clause-seat
@@ -101,7 +102,8 @@ returns g c =
     c.args.value.now (view_of was) (view_of is) answer told c.requires.small in
     record {
       known =
-          knows_asked cache old _ i shard was is at change c.insert.ensures.seat left changed;
+          knows_asked cache old _ i shard was is at change c.insert.ensures.seat left changed
+          c.args.key refl here;
       inserted =
           rw c.answered.ensures
           (inserts_told cache c.args.key c.args.charge c.args.priority c.args.value.now old _
@@ -114,6 +116,12 @@ returns g c =
           g.T.Tag.fits answer small
           (stores_did cache old _ i shard was is at change g.T.Tag.fits c.args.key c.args.charge
           c.args.priority here draft same answer c.insert.ensures.evicts));
+      shown = λ one placed.
+          let shown = c.insert.ensures.shown
+          (alone_at cache old _ i shard was is at change one)
+          (was_placed answer (sym c.answered.ensures ∙ placed)) in
+          knows_shown cache old _ i shard was is at change c.args.key c.key_to-under.result
+          shown.0 here words shown.1;
       no_spent = rw c.answered.ensures (answers_unspent answer);
       no_large = rw c.answered.ensures small;
       others = only_at cache old _ i shard was is at change (shard_in cache c.args.key) here;

@@ -15,6 +15,7 @@ use Rattle.hcc_cache.proofs.Gained.{IsGiven}
 use Rattle.hcc_cache.proofs.Handing.{few_alone, has_room, hold_with, knows_alone, knows_pins, pinned_told, pins_at, stands_at}
 use Rattle.hcc_cache.proofs.Insertions.{IsAsked, fails_at, frees_at, insertable_at, inserts_at, knows_asked, leaves_refused, leaves_unshown, pins_did, told_as}
 use Rattle.hcc_cache.proofs.Refusals.{not_full, not_large, not_spent, refuses_did, refuses_told}
+use Rattle.hcc_cache.proofs.Staying.{alone_at, knows_shown}
 use Rattle.hcc_cache.proofs.cache.Cache.stored_pinned.Goals as goal
 
 pub insert_pinned-requires-clause-seat : goal.insert_pinned-requires-clause-seat
@@ -145,6 +146,11 @@ returns-in-Ok-Placed g c =
             c.args.priority here draft same (Ok c.in-Ok-Placed.field-0) (Ok (Placed pin))
             (ap Ok c.in-Ok-Placed.field-0-is) c.in-Ok-Placed.ensures.evicts,
       );
+      shown = λ one placed.
+          knows_shown cache old new i shard was is at change c.args.key c.key_to-under.result
+          pin.slot here words
+          (c.in-Ok-Placed.ensures.shown (alone_at cache old new i shard was is at change one) pin
+          (ap Ok c.in-Ok-Placed.field-0-is));
       others = only_at cache old new i shard was is at change (shard_in cache c.args.key) here;
       frees =
           frees_at cache old new i shard was is at change (shard_in cache c.args.key) here
@@ -240,6 +246,7 @@ returns-in-Ok-Standalone g c =
           pins_did cache old new i shard was is at change g.T.Tag.fits c.args.key c.args.charge
           c.args.priority here draft same (Ok c.in-Ok-Standalone.field-0) (Ok Standalone)
           (ap Ok c.in-Ok-Standalone.field-0-is) c.in-Ok-Standalone.ensures.evicts;
+      shown = λ one placed. cc;
       others = only_at cache old new i shard was is at change (shard_in cache c.args.key) here;
       frees =
           frees_at cache old new i shard was is at change (shard_in cache c.args.key) here
@@ -306,7 +313,7 @@ returns-in-Err g c =
     record {
       known =
           knows_asked cache old new i shard was is at change c.insert_pinned.ensures.seat left
-          changed;
+          changed c.args.key refl here;
       back = refl;
       late = rw c.from.ensures (not_full why, not_spent why, small);
       inserted =
@@ -320,6 +327,7 @@ returns-in-Err g c =
           small
           (pins_did cache old new i shard was is at change g.T.Tag.fits c.args.key c.args.charge
           c.args.priority here draft same (Err why) (Err why) refl c.in-Err.ensures.evicts));
+      shown = λ one. tt;
       others = only_at cache old new i shard was is at change (shard_in cache c.args.key) here;
       frees =
           frees_at cache old new i shard was is at change (shard_in cache c.args.key) here

@@ -9,6 +9,8 @@ use Rattle.hcc_cache.proofs.At.{ChangesAt, is_at, seated_at, takes_at}
 use Rattle.hcc_cache.proofs.Found.{IsLeft}
 use Rattle.hcc_cache.proofs.Framing.{hold_there}
 use Rattle.hcc_cache.proofs.Readings.{knows_read, reads_at, told_of}
+use Rattle.hcc_table.proofs.Still.{seeks_still}
+use Rattle.hcc_cache.proofs.Staying.{stays_at, stays_same}
 use Rattle.hcc_cache.proofs.cache.Cache.try_copy.Goals as goal
 
 pub index_mut-seat-requires : goal.index_mut-seat-requires
@@ -91,6 +93,9 @@ returns-in-Pinned g c =
       reads =
           reads_at cache old new hold.shard shard was is at change left c.try_read.ensures.view
           c.try_read.ensures.counts;
+      stays =
+          stays_at cache old new hold.shard shard was is at change
+          (seeks_still shard.table was.seat is.seat c.try_read.ensures.seeks);
       read =
           IfOk-weaker c.try_read.result _ _ (λ len read. told (λ (bytes : List ℕ).
           (len ≡ length bytes) × (c.try_read.new.buffer ≡ bytes ++ drop len c.args.buffer.now))
@@ -108,3 +113,11 @@ returns-in-Pinned g c =
       few =
           IfErr-weaker c.try_read.result _ _ (λ len few. takes 1 few) c.try_read.ensures.few;
     }
+
+pub returns-then-buffer-len-clause-stays : goal.returns-then-buffer-len-clause-stays
+returns-then-buffer-len-clause-stays g c =
+    stays_same c.args.self.now c.args.client.now c.args.client.now refl
+
+pub returns-else-buffer-len-clause-stays : goal.returns-else-buffer-len-clause-stays
+returns-else-buffer-len-clause-stays g c =
+    stays_same c.args.self.now c.args.client.now c.args.client.now refl

@@ -1,3 +1,5 @@
+use Rattle.std.proofs.Common.{refl}
+use Rattle.hcc_cache.proofs.Staying.{stays_same}
 use Rattle.hcc_cache.proofs.cache.Cache.try_release.Goals as goal
 
 pub returns-clause-gives : goal.returns-clause-gives
@@ -5,3 +7,10 @@ returns-clause-gives g c = rw c.handle-handle.ensures at c.release_hold.ensures.
 
 pub returns-clause-counts : goal.returns-clause-counts
 returns-clause-counts g c = rw c.handle-handle.ensures at c.release_hold.ensures.counts
+
+pub returns-clause-by : goal.returns-clause-by
+returns-clause-by g c = rw c.handle-handle.ensures at c.release_hold.ensures.by
+
+pub returns-in_err-hold-clause-stays : goal.returns-in_err-hold-clause-stays
+returns-in_err-hold-clause-stays g c kept =
+    stays_same c.args.self.now c.args.client.now c.args.client.now refl

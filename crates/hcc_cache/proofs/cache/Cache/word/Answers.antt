@@ -5,6 +5,10 @@ use Rattle.hcc_cache.specs.Clients.{view_by}
 use Rattle.hcc_cache.proofs.At.{counts_none, did_at, is_at, seated_at, works_at}
 use Rattle.hcc_cache.proofs.Resting.{keeps_same, knows_same, same_look}
 use Rattle.hcc_cache.proofs.Seats.{steps_set}
+use Rattle.hcc_rule.specs.Events.{look_done}
+use Rattle.hcc_table.specs.Still.{is_still}
+use Rattle.hcc_table.proofs.Seeking.{goes_event}
+use Rattle.hcc_cache.proofs.Staying.{stays_at}
 use Rattle.hcc_cache.proofs.cache.Cache.word.Goals as goal
 
 pub word-requires-clause-seat : goal.word-requires-clause-seat
@@ -84,3 +88,17 @@ returns-clause-steps g c =
     c.requires.known c.requires.shard c.index.ensures c.index_mut-seat.ensures.value in
     steps_set c.args.client.now.seats.items c.args.shard 1 was c.word.new.seat at.seat_is
     c.word.ensures.steps
+
+pub returns-clause-stays : goal.returns-clause-stays
+returns-clause-stays g c =
+    let was = c.index_mut-seat.result.now in
+    let at = is_at c.args.self.now c.args.client.now c.args.shard c.index.result.now was
+    c.requires.known c.requires.shard c.index.ensures c.index_mut-seat.ensures.value in
+    stays_at c.args.self.now c.args.client.now
+    (record c.args.client.now {
+      seats = with_item c.args.client.now.seats c.args.shard c.word.new.seat;
+    }) c.args.shard c.index.result.now was c.word.new.seat at
+    (record { seats = refl; number = refl; most = refl; capacity = (refl, refl) })
+    (goes_event c.index.result.now.table is_still
+    (look_done c.args.slot c.word.result (view_of was)) was.seat c.word.new.seat.seat
+    c.word.ensures.by refl)

@@ -8,6 +8,7 @@ use Rattle.hcc_player.specs.Work.{IsSteady}
 use Rattle.hcc_player.proofs.BlocksLeft.{few_left}
 use Rattle.hcc_player.proofs.Fine.{block_size}
 use Rattle.hcc_player.proofs.Places.{count_map}
+use Rattle.hcc_player.proofs.ReadsPlaced.{leaves_blocks}
 use Rattle.hcc_player.proofs.Playing.{all_ended, all_idle, all_read, all_ready, all_told, Begins}
 use Rattle.hcc_player.proofs.blocks.play.played.Goals as goal
 
@@ -122,4 +123,9 @@ returns-clause-on_cache g c =
           (few_left fits_files options.config tag c.in-Ok.cache (files_of tag) tag.block
           (λ k. get_or lists k []) first last told c.closed-closed.result c.in-Ok.ensures.made
           count alike read c.closed-closed.ensures.0 c.closed-closed.ensures.1);
+      leaves = rw (← c.in-Ok.ensures.made.dealt.count)
+          (leaves_blocks fits_files options.config tag c.in-Ok.cache (files_of tag) tag.block
+          (λ k. get_or lists k []) first last told c.closed-closed.result c.in-Ok.ensures.made
+          count alike read c.closed-closed.ensures.1 c.sums_of.result
+          c.sums_of.ensures.read.slots c.sums_of.ensures.read.charges);
     }

@@ -21,7 +21,7 @@ returns-clause-report g c =
       played = played_lines files options.block clients steady reads.0
           (map (λ list. list.items) c.in_ok-reads.reads.items) c.in_ok-sums.sums
           c.in_ok-sums.reports.items dealt c.in_ok-sums.ensures.report;
-      on_cache = read_lines files options clients reads.0
+      on_cache = read_lines files options reads.0
           (map (λ list. list.items) c.in_ok-reads.reads.items) c.in_ok-sums.sums
           c.in_ok-sums.reports.items c.in_ok-sums.ensures.report.count dealt
           c.in_ok-sums.ensures.on_cache;

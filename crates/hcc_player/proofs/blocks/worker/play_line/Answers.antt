@@ -1,6 +1,4 @@
-use Rattle.std.proofs.Common.{◌≡◌, ◌+◌, ◌<◌, ◌^◌, Ok, Err, refl, arith}
-use Rattle.hcc_block.specs.declared.reader.ReadError.TheVariants.{SourceFault}
-use Rattle.hcc_player.specs.Tally.{lines_of_tally}
+use Rattle.std.proofs.Common.{◌+◌, Ok, Err, refl, arith}
 use Rattle.hcc_player.proofs.ReadLemmas.{reads_line}
 use Rattle.hcc_player.proofs.blocks.worker.play_line.Goals as goal
 

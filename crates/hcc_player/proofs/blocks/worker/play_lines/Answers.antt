@@ -2,7 +2,7 @@ use Rattle.std.proofs.Common.{◌+◌, arith, ap, ◌∙◌, get_or, refl, sym, 
 use Rattle.hcc_block.specs.Blocks.{block_of}
 use Rattle.hcc_player.specs.declared.blocks.line.BlockRead.{BlockRead}
 use Rattle.hcc_player.specs.Tally.{found_by, AddsAll}
-use Rattle.hcc_player.specs.Reading.{ReadsLines, counts_in, counts_of, no_counts}
+use Rattle.hcc_player.specs.Reading.{counts_in, no_counts}
 use Rattle.hcc_player.proofs.Adding.{adds_for, is_tally, rest_is, rest_none}
 use Rattle.hcc_player.proofs.ReadLemmas.{reads_all, reads_on}
 use Rattle.hcc_player.proofs.blocks.worker.play_lines.Goals as goal

@@ -49,15 +49,15 @@ pub returns-in_default-clause-did : goal.returns-in_default-clause-did
 unfolding Does
 returns-in_default-clause-did g c = record { client = refl; registers = λ r. refl }
 
-pub returns-in-Ok-clause-goes : goal.returns-in-Ok-clause-goes
-returns-in-Ok-clause-goes g c config s filled =
+pub returns-in_ok-reserve-in-Ok-clause-goes : goal.returns-in_ok-reserve-in-Ok-clause-goes
+returns-in_ok-reserve-in-Ok-clause-goes g c config s filled =
     let fits = g.T.Tag.fits in
     let cache = c.args.cache.now in
     let client = c.args.client.now in
     let handles = c.args.registers.now.handles.items in
     let r = c.args.register in
     let kept = c.reserve.new.self.handles.items in
-    let reserved = c.in_ok-reserve.ensures in
+    let reserved = c.in_ok-reserve-in-Ok.ensures in
     let told = c.in-Ok.ensures in
     let empty : at handles r ≡ None = no_handle handles r
     (rw c.get.ensures at (sym c.is_some.ensures ∙ c.if-is_some.false)) in
@@ -73,14 +73,14 @@ returns-in-Ok-clause-goes g c config s filled =
     (fork_goes fits cache config s client c.reref.new.client kept r from c.in-Some.held
     c.in-Ok.handle told.known may told.again full free reserved.there moved)
 
-pub returns-in-Ok-clause-did : goal.returns-in-Ok-clause-did
+pub returns-in_ok-reserve-in-Ok-clause-did : goal.returns-in_ok-reserve-in-Ok-clause-did
 unfolding Does
-returns-in-Ok-clause-did g c = record {
+returns-in_ok-reserve-in-Ok-clause-did g c = record {
   handle = c.in-Some.held;
   more = c.in-Ok.handle;
   held = sym c.get-2.ensures ∙ c.in-Some.is;
   filled = set_at c.reserve.new.self.handles.items c.set.new.self.handles.items
-      c.args.register (Some c.in-Ok.handle) c.set.ensures c.in_ok-reserve.ensures.there;
+      c.args.register (Some c.in-Ok.handle) c.set.ensures c.in_ok-reserve-in-Ok.ensures.there;
   again = c.in-Ok.ensures.again;
 }
 
@@ -92,13 +92,9 @@ returns-in-Err-clause-goes g c config s filled =
     let client = c.args.client.now in
     let handles = c.args.registers.now.handles.items in
     let r = c.args.register in
-    let kept = c.reserve.new.self.handles.items in
-    let reserved = c.in_ok-reserve.ensures in
     let told = c.in-Err.ensures in
     let empty : at handles r ≡ None = no_handle handles r
     (rw c.get.ensures at (sym c.is_some.ensures ∙ c.if-is_some.false)) in
-    let moved = moved_filled fits cache config s client handles kept reserved.same
-    reserved.count filled in
     let from = c.args.from in
     let full : at handles from ≡ Some c.in-Some.held = sym c.get-2.ensures ∙ c.in-Some.is in
     let refused = look_refused fits cache config s client (Err c.in-Err.error) c.in-Err.error
@@ -110,12 +106,12 @@ returns-in-Err-clause-goes g c config s filled =
         rw c.refusal.ensures refused,
         refl,
       ),
-      stays fits cache config s client c.reref.new.client kept told.refused moved,
+      stays fits cache config s client c.reref.new.client handles told.refused filled,
     )
 
 pub returns-in-Err-clause-did : goal.returns-in-Err-clause-did
 unfolding Does
 returns-in-Err-clause-did g c = record {
   client = c.in-Err.ensures.refused;
-  registers = c.in_ok-reserve.ensures.same;
+  registers = λ r. refl;
 }

@@ -25,15 +25,15 @@ pub returns-then-is_some-clause-did : goal.returns-then-is_some-clause-did
 unfolding Does
 returns-then-is_some-clause-did g c = record { client = refl; registers = λ r. refl }
 
-pub returns-in-Ok-Some-clause-goes : goal.returns-in-Ok-Some-clause-goes
-returns-in-Ok-Some-clause-goes g c config s filled =
+pub returns-in_ok-reserve-in-Ok-Some-clause-goes : goal.returns-in_ok-reserve-in-Ok-Some-clause-goes
+returns-in_ok-reserve-in-Ok-Some-clause-goes g c config s filled =
     let fits = g.T.Tag.fits in
     let cache = c.args.cache.now in
     let client = c.args.client.now in
     let handles = c.args.registers.now.handles.items in
     let r = c.args.register in
     let kept = c.reserve.new.self.handles.items in
-    let reserved = c.in_ok-reserve.ensures in
+    let reserved = c.in_ok-reserve-in-Ok-Some.ensures in
     let told = c.in-Ok-Some.ensures in
     let empty : at handles r ≡ None = no_handle handles r
     (rw c.get.ensures at (sym c.is_some.ensures ∙ c.if-is_some.false)) in
@@ -47,15 +47,15 @@ returns-in-Ok-Some-clause-goes g c config s filled =
     (get_goes fits cache config s client c.lookup.new.client kept r c.args.key
     c.in-Ok-Some.handle told.known may found free reserved.there moved)
 
-pub returns-in-Ok-Some-clause-did : goal.returns-in-Ok-Some-clause-did
+pub returns-in_ok-reserve-in-Ok-Some-clause-did : goal.returns-in_ok-reserve-in-Ok-Some-clause-did
 unfolding Does
-returns-in-Ok-Some-clause-did g c =
+returns-in_ok-reserve-in-Ok-Some-clause-did g c =
     let told = c.in-Ok-Some.ensures in
     record {
       handle = c.in-Ok-Some.handle;
       filled = set_at c.reserve.new.self.handles.items c.set.new.self.handles.items
           c.args.register (Some c.in-Ok-Some.handle) c.set.ensures
-          c.in_ok-reserve.ensures.there;
+          c.in_ok-reserve-in-Ok-Some.ensures.there;
       finds = rw c.in-Ok-Some.field-0-is at told.found;
       searched = rw c.in-Ok-Some.field-0-is at told.searched;
     }
@@ -68,20 +68,16 @@ returns-in-Ok-None-clause-goes g c config s filled =
     let client = c.args.client.now in
     let handles = c.args.registers.now.handles.items in
     let r = c.args.register in
-    let kept = c.reserve.new.self.handles.items in
-    let reserved = c.in_ok-reserve.ensures in
     let told = c.in-Ok-None.ensures in
     let empty : at handles r ≡ None = no_handle handles r
     (rw c.get.ensures at (sym c.is_some.ensures ∙ c.if-is_some.false)) in
-    let moved = moved_filled fits cache config s client handles kept reserved.same
-    reserved.count filled in
     let may = may_look fits cache config s client (Ok c.in-Ok-None.field-0) c.in-Ok-None.field-0
     refl filled.known filled.limited told.full told.spent in
     let missed = rw c.in-Ok-None.field-0-is at told.missed in (
       s,
       (empty_told fits cache config s client handles r empty filled, may, refl),
-      same_filled fits cache config s client c.lookup.new.client kept told.known
-          missed.works.self missed.keeps moved,
+      same_filled fits cache config s client c.lookup.new.client handles told.known
+          missed.works.self missed.keeps filled,
     )
 
 pub returns-in-Ok-None-clause-did : goal.returns-in-Ok-None-clause-did
@@ -99,13 +95,9 @@ returns-in-Err-clause-goes g c config s filled =
     let client = c.args.client.now in
     let handles = c.args.registers.now.handles.items in
     let r = c.args.register in
-    let kept = c.reserve.new.self.handles.items in
-    let reserved = c.in_ok-reserve.ensures in
     let told = c.in-Err.ensures in
     let empty : at handles r ≡ None = no_handle handles r
     (rw c.get.ensures at (sym c.is_some.ensures ∙ c.if-is_some.false)) in
-    let moved = moved_filled fits cache config s client handles kept reserved.same
-    reserved.count filled in
     let refused = look_refused fits cache config s client (Err c.in-Err.error) c.in-Err.error
     refl filled.limited told.full told.spent in (
       s,
@@ -114,12 +106,12 @@ returns-in-Err-clause-goes g c config s filled =
         rw c.refusal.ensures refused,
         refl,
       ),
-      stays fits cache config s client c.lookup.new.client kept told.refused moved,
+      stays fits cache config s client c.lookup.new.client handles told.refused filled,
     )
 
 pub returns-in-Err-clause-did : goal.returns-in-Err-clause-did
 unfolding Does
 returns-in-Err-clause-did g c = record {
   client = c.in-Err.ensures.refused;
-  registers = c.in_ok-reserve.ensures.same;
+  registers = λ r. refl;
 }

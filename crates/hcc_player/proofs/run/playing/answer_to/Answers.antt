@@ -1,4 +1,4 @@
-use Rattle.std.proofs.Common.{◌≡◌, length, refl, arith}
+use Rattle.std.proofs.Common.{length, refl, arith}
 use Rattle.std.proofs.lemmas.Option.{slice_get_read}
 use Rattle.hcc_player.proofs.ByteLemmas.{if_ok_so}
 use Rattle.hcc_player.proofs.RunningLemmas.{steps_by}

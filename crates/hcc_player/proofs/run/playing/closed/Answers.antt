@@ -1,4 +1,4 @@
-use Rattle.std.proofs.Common.{◌≡◌, ◌<◌, Some, length, length-set, slice_get, refl, arith}
+use Rattle.std.proofs.Common.{◌≡◌, Some, length, length-set, slice_get, refl, arith}
 use Rattle.std.proofs.lemmas.Option.{slice_get_read, slice_get_within}
 use Rattle.hcc_player.proofs.EndLemmas.{lets_go, not_refused}
 use Rattle.hcc_player.proofs.run.playing.closed.Goals as goal
@@ -82,7 +82,7 @@ unreachable-requires g c =
     (omega arith)
     (λ k client at.
     let within = slice_get_within c.loop-number.clients.items k client at in
-    (inv.before k client (omega arith) at).1) c.in-Err.ensures.0
+    (inv.before k client (omega arith) at).1) c.in-Err.ensures.closes.0
 
 pub returns : goal.returns
 returns g c =
@@ -96,6 +96,6 @@ returns g c =
       each = λ k client last held here there at.
           let within = slice_get_within c.loop-number.clients.items k last at in
           inv.did k last (omega arith) at client held here there;
-      back = c.in-Ok.ensures.0;
-      closes = c.in-Ok.ensures.1;
+      back = c.in-Ok.ensures.closes.0;
+      closes = c.in-Ok.ensures.closes.1;
     }

@@ -1,6 +1,8 @@
-use Rattle.std.proofs.Common.{◌≡◌, [], ◌∙◌, string_bytes}
+use Rattle.std.proofs.Common.{[], ap, ◌∙◌, string_bytes}
+use Rattle.hcc_rule.specs.declared.geometry.Geometry.{Geometry}
 use Rattle.hcc_player.specs.declared.run.tag.TraceTag.{TraceTag}
 use Rattle.hcc_player.specs.TraceTag.{fits_trace, run_trace, said}
+use Rattle.hcc_player.proofs.AloneLemmas.{exact_all}
 use Rattle.hcc_player.proofs.ByteLemmas.{on_error, on_error_so, on_ok_so}
 use Rattle.hcc_player.proofs.PlayRunLemmas.{answered_as, manned_new, part_as, play_cut}
 use Rattle.hcc_player.proofs.PlayRunLemmas.{play_stopped, play_unbegun, play_whole}
@@ -56,7 +58,16 @@ returns-clause-ok g c =
     c.in_ok-registers.ensures.empty
     (answered_as tag cache c.in-Ok.ensures.made.cache_is.tag_is c.args.config lines first last
     empty kept old mid (string_bytes c.new-pending.result) [] rest c.new-pending.ensures.bytes
-    c.in_ok-play_lines.ensures.ok)) c.finish.ensures.ok
+    c.in_ok-play_lines.ensures.ok)
+    (λ told makes one.
+    let is_of = c.in-Ok.ensures.made.cache_is in
+    exact_all fits_trace c.args.config tag cache is_of
+    (c.law_lookups.ensures.first c.args.config tag cache is_of one)
+    (c.law_erasures.ensures c.args.config tag cache is_of one)
+    (c.law_totals.ensures.usage c.args.config tag cache is_of one)
+    (c.law_totals.ensures.occupancy c.args.config tag cache is_of one)
+    (ap (λ (g : Geometry). g.clients) is_of.geometry ∙ one) lines told first last empty kept
+    makes)) c.finish.ensures.ok
 
 pub returns-clause-part : goal.returns-clause-part
 returns-clause-part g c =

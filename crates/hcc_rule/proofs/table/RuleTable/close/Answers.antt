@@ -1,6 +1,7 @@
 use Rattle.std.proofs.Common.{ap, is_some}
 use Rattle.hcc_rule.specs.Seats.{view}
 use Rattle.hcc_rule.proofs.LastSeat.Closings.{shown_last, named_last, closes_last, within_last, begins_last}
+use Rattle.hcc_rule.proofs.LastSeat.Endings.{allowed_last, shows_last}
 use Rattle.hcc_rule.proofs.Seats.Lifts.{final_unlogged}
 use Rattle.hcc_rule.proofs.table.RuleTable.close.Goals as goal
 
@@ -46,3 +47,15 @@ returns-clause-begins g c back none =
     (begins_last g.T.Tag.fits c.args.self.table.shared.key c.args.self.geometry _ _ _
     c.args.seat.me.0 c.args.self.planned.0 c.close_with.ensures.values.2
     (ap is_some c.requires.seat.tagged) back none)
+
+pub returns-clause-left : goal.returns-clause-left
+returns-clause-left g c back =
+    rw c.of.ensures.closed
+    (shows_last g.T.Tag.fits c.args.self.table.shared.key c.args.self.geometry _ _ _
+    c.args.seat.me.0 c.close_with.ensures.values.2 c.args.self.planned.0
+    (ap is_some c.requires.seat.tagged) back)
+
+pub returns-clause-allowed : goal.returns-clause-allowed
+returns-clause-allowed g c =
+    allowed_last g.T.Tag.fits c.args.self.table.shared.key c.args.self.geometry _ _ _
+    c.args.seat.me.0 c.close_with.ensures.values.2

@@ -1,4 +1,4 @@
-use Rattle.std.proofs.Common.{◌≡◌, ◌∙◌, ap, refl, arith}
+use Rattle.std.proofs.Common.{◌≡◌, ◌&&◌, ◌∙◌, None, Some, ap, refl, arith}
 use Rattle.hcc_rule.specs.Callers.{geometry_of, room_of}
 use Rattle.hcc_rule.specs.Seats.{view}
 use Rattle.hcc_rule.specs.ToldReferences.{after_give}
@@ -6,7 +6,12 @@ use Rattle.hcc_shard.specs.declared.erasing.TheConstants.{IN_FLIGHT}
 use Rattle.hcc_shard.specs.Gets.{CopiesOut}
 use Rattle.hcc_table.specs.Pins.{is_useful}
 use Rattle.hcc_table.specs.Searched.{Sought}
+use Rattle.hcc_table.specs.Still.{is_still}
 use Rattle.hcc_table.proofs.Finds.{seat_then}
+use Rattle.hcc_table.proofs.Lasting.{searches_seek}
+use Rattle.hcc_table.proofs.Releases.{gives_still}
+use Rattle.hcc_table.proofs.Seeking.{goes_then}
+use Rattle.hcc_table.proofs.Still.{seeks_still}
 use Rattle.hcc_shard.proofs.Gettings.{gets_out, got_back, got_copied, got_pinned, got_readable, none_in_flight}
 use Rattle.hcc_shard.proofs.Names.{load_is}
 use Rattle.hcc_shard.proofs.Resting.{quiet_sought, rests_again}
@@ -110,6 +115,15 @@ returns-in-Some g c =
             gives = gives;
             counted = refl;
           });
+      stays =
+          goes_then table is_still old.seat c.find.new.seat c.give_back.new.seat
+          (seeks_still table old.seat c.find.new.seat
+          (searches_seek g.T.Tag.fits table c.args.key IN_FLIGHT c.args.self.now.marks (Some pin)
+          old.effort c.find.new.effort old.seat c.find.new.seat told.searches))
+          (goes_then table is_still c.find.new.seat c.copy_out-got.new.seat c.give_back.new.seat
+          (seeks_still table c.find.new.seat c.copy_out-got.new.seat c.copy_out-got.ensures.seeks)
+          (gives_still table (is_useful c.args.usage && pin.counting) 1 pin.name gives.0
+          c.copy_out-got.new.seat c.give_back.new.seat gives.2));
       effort = told.effort;
       counts = (refl, refl);
       steps = record {
@@ -119,3 +133,11 @@ returns-in-Some g c =
         steps = omega arith;
       };
     }
+
+pub returns-in-None-clause-stays : goal.returns-in-None-clause-stays
+returns-in-None-clause-stays g c =
+    let table = c.args.self.now.table in
+    let old = c.args.seat.now in
+    seeks_still table old.seat c.find.new.seat
+    (searches_seek g.T.Tag.fits table c.args.key IN_FLIGHT c.args.self.now.marks None old.effort
+    c.find.new.effort old.seat c.find.new.seat c.in-None.ensures.searches)

@@ -8,6 +8,7 @@ use Rattle.hcc_table.proofs.Logs.{adds_none}
 use Rattle.hcc_charge.proofs.Askings.{keeps_by, keeps_then}
 use Rattle.hcc_shard.proofs.Insertions.{left_dropped, left_none, may_insert, refused_by, tries_placed}
 use Rattle.hcc_shard.proofs.Reservings.{few_by, frees_by, idle_placed, idle_tried, leaves_reserved, leaves_unreserved, puts_in, refused_within, refuses, rose_same, tries_within}
+use Rattle.hcc_shard.proofs.Stayings.{placed_shows}
 use Rattle.hcc_shard.proofs.shard.Shard.insert.Goals as goal
 
 pub returns-in_err-reserved-clause-view : goal.returns-in_err-reserved-clause-view
@@ -177,3 +178,10 @@ returns-in-NoPlace-clause-steps g c =
 pub returns-in-Some-clause-large : goal.returns-in-Some-clause-large
 returns-in-Some-clause-large g c strict less =
     let wrong = c.in_ok-reserved.ensures.large strict less in cc
+
+pub returns-in-Some-clause-shown : goal.returns-in-Some-clause-shown
+returns-in-Some-clause-shown g c one placed = (
+  _,
+  placed_shows g.T.Tag.fits c.args.self.now c.args.draft one _ _ c.put.new.seat
+      c.in-Some.ensures.placed.2,
+)

@@ -10,6 +10,8 @@ use Rattle.hcc_charge.proofs.Askings.{keeps_by, keeps_then}
 use Rattle.hcc_shard.proofs.Insertions.{left_alone, left_stood, may_insert, refused_by, still_fresh, tries_placed}
 use Rattle.hcc_shard.proofs.Names.{not_standing}
 use Rattle.hcc_shard.proofs.Reservings.{few_by, frees_by, idle_placed, idle_tried, leaves_reserved, leaves_unreserved, puts_in, refused_within, refuses, rose_same, tries_within}
+use Rattle.hcc_shard.specs.Stays.{ShowsIn}
+use Rattle.hcc_shard.proofs.Stayings.{placed_shows, same_pin}
 use Rattle.hcc_shard.proofs.shard.Shard.insert_pinned.Goals as goal
 
 pub returns-in_err-reserved-clause-view : goal.returns-in_err-reserved-clause-view
@@ -197,3 +199,10 @@ returns-in-NoPlace-clause-steps g c =
 pub returns-in-Some-clause-large : goal.returns-in-Some-clause-large
 returns-in-Some-clause-large g c strict less =
     let wrong = c.in_ok-reserved.ensures.large strict less in cc
+
+pub returns-in-Some-clause-shown : goal.returns-in-Some-clause-shown
+returns-in-Some-clause-shown g c one pin placed =
+    let is : c.in-Some.slot ≡ pin.slot = ap (λ p. p.slot) (same_pin _ pin placed) in
+    subst (λ s. ShowsIn c.args.self.now c.args.draft.key s c.put.new.seat) is
+    (placed_shows g.T.Tag.fits c.args.self.now c.args.draft one c.in-Some.slot _ c.put.new.seat
+    c.in-Some.ensures.placed.2)

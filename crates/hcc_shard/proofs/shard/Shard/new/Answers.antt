@@ -1,5 +1,6 @@
 use Rattle.std.proofs.Common.{◌∙◌, arith}
 use Rattle.hcc_shard.proofs.Seatings.{are_new, numbered_length}
+use Rattle.hcc_shard.proofs.Stayings.{began_new, know_none}
 use Rattle.hcc_shard.proofs.shard.Shard.new.Goals as goal
 
 pub returns-clause-count : goal.returns-clause-count
@@ -13,3 +14,12 @@ returns-clause-seats g c =
     let few = c.requires.clients in
     are_new _ 0 c.in_ok-table.seats.items c.in_ok-seats.seats.items c.in_ok-table.ensures.seats
     c.in_ok-seats.ensures (omega arith)
+
+pub returns-clause-began : goal.returns-clause-began
+returns-clause-began g c =
+    began_new g.T.Tag.fits c.in_ok-table.table c.in_ok-table.ensures.image
+
+pub returns-clause-past : goal.returns-clause-past
+returns-clause-past g c =
+    know_none c.in_ok-table.table 0 0 c.in_ok-table.seats.items c.in_ok-seats.seats.items
+    c.in_ok-table.ensures.seats c.in_ok-seats.ensures

@@ -1,6 +1,10 @@
 use Rattle.std.proofs.Common.{◌≡◌, ap, refl, ◌∙◌, arith}
 use Rattle.hcc_rule.specs.Callers.{clients_of, geometry_of, slots_of}
+use Rattle.hcc_rule.specs.Events.{standing_done}
 use Rattle.hcc_rule.specs.Seats.{view}
+use Rattle.hcc_table.specs.Still.{is_still}
+use Rattle.hcc_table.proofs.Seeking.{goes_event, goes_then}
+use Rattle.hcc_table.proofs.Still.{seeks_still}
 use Rattle.hcc_shard.specs.declared.erasing.TheConstants.{IN_FLIGHT}
 use Rattle.hcc_shard.proofs.Names.{load_is, not_kept}
 use Rattle.hcc_shard.proofs.Pinning.{counted_none, counted_on}
@@ -14,6 +18,10 @@ loop-slot-init g c = record {
       pins_none (clients_of c.args.self.now.table) c.standing-sum.result c.args.seat.now _
       c.standing-sum.ensures.seat refl c.standing-sum.ensures.view refl (refl, refl) (omega arith);
   counts = counted_none g.T.Tag.fits c.args.self.now.table c.standing-sum.result _;
+  stays =
+      goes_event c.args.self.now.table is_still
+      (standing_done c.standing-sum.result (view c.args.seat.now.seat)) c.args.seat.now.seat
+      c.standing-sum.new.seat c.standing-sum.ensures.event refl;
 }
 
 pub loop-slot-preserved : goal.loop-slot-preserved
@@ -30,6 +38,11 @@ loop-slot-preserved g c =
           counted_on g.T.Tag.fits c.args.self.now.table c.loop-slot.slot c.standing-sum.result
           c.loop-slot.sum c.pinned_charge-sum.result _ c.loop-slot.seat _
           c.loop-slot.invariant.counts told.counts;
+      stays =
+          goes_then c.args.self.now.table is_still c.args.seat.now.seat c.loop-slot.seat.seat
+          c.pinned_charge-sum.new.seat c.loop-slot.invariant.stays
+          (seeks_still c.args.self.now.table c.loop-slot.seat.seat c.pinned_charge-sum.new.seat
+          told.seeks);
     }
 
 pub pinned_charge-sum-requires-clause-fresh : goal.pinned_charge-sum-requires-clause-fresh
@@ -98,3 +111,6 @@ returns-clause-loads g c =
       counts = counted.counts;
       sum = counted.sum_is;
     }
+
+pub returns-clause-stays : goal.returns-clause-stays
+returns-clause-stays g c = c.loop-slot.invariant.stays

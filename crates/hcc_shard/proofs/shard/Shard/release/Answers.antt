@@ -1,4 +1,4 @@
-use Rattle.std.proofs.Common.{◌&&◌, true, false, refl}
+use Rattle.std.proofs.Common.{◌&&◌, true, false, None, Some, refl}
 use Rattle.hcc_rule.specs.Callers.{geometry_of, room_of}
 use Rattle.hcc_rule.specs.Addresses.{address_of_meta}
 use Rattle.hcc_rule.specs.Seats.{view}
@@ -7,6 +7,8 @@ use Rattle.hcc_shard.proofs.Releases.{gives_back, gives_back_and_frees}
 use Rattle.hcc_shard.proofs.Settlings.{released, released_only}
 use Rattle.hcc_table.proofs.Finds.{seat_then}
 use Rattle.hcc_shard.proofs.Resting.{quiet_released, rests_again}
+use Rattle.hcc_table.specs.Seeking.{is_settling}
+use Rattle.hcc_table.proofs.Seeking.{goes_none}
 use Rattle.hcc_shard.proofs.shard.Shard.release.Goals as goal
 
 pub returns-in-Some-clause-view : goal.returns-in-Some-clause-view
@@ -53,3 +55,38 @@ returns-in-None-clause-gives g c =
     c.args.pin.name (is_useful c.args.usage && c.args.pin.counting) (erases c.args.last)
     told.tried.0 c.args.seat.now.effort _ c.args.seat.now.seat told.tried.1
     c.release.new.seat told.tried.2 told.tried.3
+
+pub returns-in-Some-clause-by : goal.returns-in-Some-clause-by
+returns-in-Some-clause-by g c =
+    let tried = c.in-Some.ensures.tried in
+    record {
+      charge = Some c.in-Some.charge;
+      freed_is = refl;
+      mid = c.release.new.seat;
+      releases = record {
+        left = tried.0;
+        between = tried.1;
+        gives = tried.4;
+        takes = tried.5;
+        due = tried.3.won.0;
+      };
+      settles = c.settle.ensures.by;
+    }
+
+pub returns-in-None-clause-by : goal.returns-in-None-clause-by
+returns-in-None-clause-by g c =
+    let tried = c.in-None.ensures.tried in
+    record {
+      charge = None;
+      freed_is = refl;
+      mid = c.release.new.seat;
+      releases = record {
+        left = tried.0;
+        between = tried.1;
+        gives = tried.4;
+        takes = tried.5;
+        due = tt;
+      };
+      settles = goes_none c.args.self.now.table is_settling c.release.new.seat
+          c.release.new.seat refl;
+    }

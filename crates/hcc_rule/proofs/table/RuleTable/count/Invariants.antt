@@ -1,6 +1,0 @@
-use Rattle.hcc_rule.specs.Rule.{setup_of}
-use Rattle.hcc_rule.specs.ToldTrails.{counts}
-use Rattle.hcc_rule.proofs.table.RuleTable.count.Given as goal
-
-abbrev pub ghosts-load : goal.ghosts-load
-ghosts-load g a = record { then = counts (setup_of a.self.now.table.shared.key) a._said }

@@ -1,0 +1,6 @@
+use Rattle.hcc_rule.specs.Rule.{setup_of}
+use Rattle.hcc_rule.specs.ToldTrails.{counts}
+use Rattle.hcc_rule.proofs.table.RuleTable.count_at.Given as goal
+
+abbrev pub ghosts-load : goal.ghosts-load
+ghosts-load g a = record { then = counts (setup_of a.self.now.table.shared.key) a._said }

@@ -1,0 +1,16 @@
+use Rattle.std.proofs.Common.{ap, refl, is_some}
+use Rattle.hcc_rule.proofs.References.Looks.{look_step}
+use Rattle.hcc_rule.specs.Rule.{setup_of}
+use Rattle.hcc_rule.proofs.table.RuleTable.look_at.Goals as goal
+
+pub load-requires : goal.load-requires
+load-requires g c =
+    let planned = c.args.self.now.planned in
+    let seat = c.requires.seat in (
+      seat,
+      c.head_address.ensures.inside,
+      look_step g.T.Tag.fits c.args.self.now.table.shared.key _ _ c.args.slot _ _
+          (setup_of c.args.self.now.table.shared.key) refl
+          (rw planned.0 c.requires.slot) (ap is_some seat.tagged)
+          (rw planned.0 c.head_address.ensures.value),
+    )

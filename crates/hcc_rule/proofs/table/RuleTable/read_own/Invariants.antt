@@ -1,5 +1,0 @@
-use Rattle.hcc_rule.specs.ToldOwners.{reads_own}
-use Rattle.hcc_rule.proofs.table.RuleTable.read_own.Given as goal
-
-abbrev pub ghosts-load : goal.ghosts-load
-ghosts-load g a = record { then = reads_own a._said }

@@ -1,0 +1,8 @@
+use Rattle.hcc_table.specs.Pins.{IsOf}
+use Rattle.hcc_table.proofs.Seeking.{seeks_read}
+use Rattle.hcc_table.proofs.readings.read_len.Goals as goal
+
+pub returns-clause-seeks : goal.returns-clause-seeks
+returns-clause-seeks g c =
+    seeks_read c.args.table.now c.args.pin.name (IsOf c.args.pin) c.args.seat.now
+    c.read.new.seat c.requires.holds c.read.ensures.event
