@@ -3,7 +3,7 @@
  *
  * A cache has keys of 16 bytes, values of at most 4,096 bytes, charges and priorities. Its table is
  * allocated when it is opened. Each call on a client makes at most a stated number of atomic steps,
- * whatever other threads do. What the library does is proved, except for a little C round it that is
+ * whatever other threads do. What the library does is proved, except a little C around it that is
  * tested (SECURITY.md); docs/GUIDE.md says how to use it and how to choose the sizes. The header is
  * for C11, C++11 and later; libferretgold.a exports its functions, also those that are inline here.
  * ferretgold_large.h has calls for values of up to 16 MiB, ferretgold_closed.h reads what is left of
@@ -271,7 +271,7 @@ ferretgold_status ferretgold_config_for(uint64_t bytes, size_t value, uint32_t t
 
 /*
  * Whether a cache can be opened so, whatever memory there is: refuses what ferretgold_open refuses,
- * but for OUT_OF_MEMORY.
+ * except OUT_OF_MEMORY.
  */
 ferretgold_status ferretgold_config_check(const ferretgold_config *config);
 

@@ -21,7 +21,7 @@ extern "C" {
 struct ferretgold_client {
     ferretgold_object session;
     ferretgold_cache *cache;
-    bool out; /* given out, and not given back yet: read and written by atomics alone */
+    bool out; /* given out, and not given back yet: read and written only by atomics */
 #ifdef FERRETGOLD_CHECK
     const char *inside; /* the call that a thread is in: likewise */
 #endif

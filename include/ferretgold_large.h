@@ -13,8 +13,8 @@
  *
  * ONE INSERTION
  *   A reading gives the bytes of one insertion, or misses. Each piece says the value's whole key,
- *   its length, its own number, and which insertion it is of: that no other one equals, of any
- *   client, nor one of another opening, unless the system's clock gave both the same nanosecond.
+ *   its length, its own number, and which insertion it is of, by a mark that no other has, of any
+ *   client or opening, unless the system's clock gave two openings the same nanosecond.
  *   Pieces that don't agree are never put together, and none is ever changed. The first piece is
  *   inserted last and erased first. If a piece is lost, the next reading misses, and erases the
  *   others; a value that is put at that very moment may go, too.
