@@ -1,5 +1,6 @@
 /*
- * ferretgold_closed.h - what is left of a cache that was closed: its entries and its words.
+ * ferretgold_closed.h - what is left of a cache that was closed: its entries and its words, as its
+ * clients left them.
  *
  * What ferretgold.h says of refusals and of what isn't checked holds here too.
  *

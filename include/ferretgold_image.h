@@ -47,8 +47,8 @@ void ferretgold_image_free(ferretgold_image *image);
 
 /*
  * Opens a cache as ferretgold_open does, which begins with the entries of an image. The image is
- * freed, whatever is returned. `left_out` gets how many entries the cache doesn't have, and may be
- * null.
+ * freed, whatever is returned. `left_out` gets how many entries the cache doesn't have, none if they
+ * are the visible ones of a closed cache of this configuration, and may be null.
  *
  * Each entry goes where its key belongs, by this configuration's seed and shards. In their order
  * those come in for which their shard has a place, of 84 for each hundred slots, and under strict
