@@ -32,9 +32,10 @@ by 1, 2 and 4 threads.
 Each line has the case, the size, the threads, the operations of all threads, the
 seconds from the first one's begin to the last one's end, operations in a second,
 nanoseconds of an operation as its thread sees it, hits, misses and evictions,
-or the entries saved, loaded and left out, which are the operations of save and
-load, and the books of the cache that was closed last: what its usage words say, the charges of its
-entries, what its occupancy words say, and how many slots have an entry.
+or, of save and load, the entries saved, loaded and left out, each of which is
+an operation; and the books of the cache that was closed last: what its usage
+words say, the charges of its entries, what its occupancy words say, and how many
+slots have an entry.
 
 Exit status: 0 done; 2 the arguments were refused; 3 a write or the clock failed;
 4 a number was refused; 5 out of memory.";
@@ -78,7 +79,7 @@ fn seed_arg<'a>(alloc: Global) -> Arg<'a> {
 fn check_arg<'a>(alloc: Global) -> Arg<'a> {
     Arg::new(alloc, "check")
         .long("check")
-        .help("Tells only what every run gives, and no times")
+        .help("Writes only what every run gives, and no times")
         .action(ArgAction::SetTrue)
 }
 

@@ -56,8 +56,8 @@ impl<T: Tag> Cache<T> {
     /// where all serials of the client are used, then where a strict shard's capacity is below the
     /// charge: nothing is changed then. It is refused under strict capacity where evictions freed
     /// too little, or no place: they stay made, and a serial is used. In a cache of one client it
-    /// meets the entry that look-ups find, or is put before it (`laws::law_matches`), and what was
-    /// placed is shown until it is evicted, erased or freed (`laws::law_kept_shown`).
+    /// meets the entry that look-ups find, or is put before it (`laws::law_matches`), and
+    /// `laws::law_kept_shown` says how long what was placed stays shown.
     ///
     /// The value fits the key by the tag and has at most [`Cache::room`] bytes, and the charge
     /// isn't 0. It allocates nothing. It costs a reservation, and each probe of the key as a

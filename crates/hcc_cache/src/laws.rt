@@ -208,7 +208,8 @@ pub fn law_matches<T: Tag>()
     law_room_alone::<Seeded<T>, Global>();
 }
 
-/// In a cache of one client what is shown stays so, until it is evicted, erased or freed.
+/// In a cache of one client what is shown stays so until an insertion into its shard, an erasure of
+/// its key, a release that frees it, or the last release of a standalone entry.
 pub fn law_kept_shown<T: Tag>()
     // A key that the client knows to be shown it knows so after each call that makes and takes no
     // entry, and shows and hides none: a look-up, a reading, one handle more, a count of what is
