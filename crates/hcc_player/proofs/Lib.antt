@@ -17,7 +17,6 @@ pub mod ReadsPlaced
 pub mod Dealing
 pub mod Crewing
 pub mod JsonLemmas
-pub mod Grown
 pub mod RegisterLemmas
 pub mod RunLemmas
 pub mod RunsLemmas

@@ -43,10 +43,6 @@ use Rattle.hcc_player.proofs.RunLemmas.{can_go_on}
 
 -- The beginning.
 
-none_at : (r : ℕ) → at [] r ≡ None
-none_at zero = refl
-none_at (suc r) = refl
-
 -- new clients, whose registers are empty
 pub manned_new : {T : Type 0} (fits : T → Key → List ℕ → Type 0) (config : Config) (tag : T)
     (cache : Cache T) (clients : List (Client T)) (registers : List Registers)
@@ -67,11 +63,10 @@ manned_new fits config tag cache clients registers opened empty count = record {
           strict = opened.cache_is.strict;
           capacity = opened.cache_is.capacity;
         };
-        each = λ r.
-            subst (λ x. IsFilled fits cache client None x) (sym (none_at r)) refl;
-        apart = λ r s h first second.
-            let no : None ≡ Some h = sym (none_at r) ∙ first in cc;
+        each = λ r. refl;
+        apart = λ r s h first second. cc;
         count = unused.held;
+        once = tt;
       });
 }
 

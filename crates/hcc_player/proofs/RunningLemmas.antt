@@ -234,7 +234,7 @@ module _ {T : Type 0} (fits : T → Key → List ℕ → Type 0) (cache : Cache 
       (registers : List Registers) (client client' : Client T) (held held' : Registers)
       → slice_get clients line.client ≡ Some client
       → slice_get registers line.client ≡ Some held
-      → Goes fits cache line.call answer client client' held.handles.items held'.handles.items
+      → Goes fits cache line.call answer client client' held.filled.items held'.filled.items
       → Steps fits cache line answer clients (slice_set clients line.client client') registers
       (slice_set registers line.client held')
   steps_by line answer clients registers client client' held held' here there goes config states
@@ -250,14 +250,14 @@ module _ {T : Type 0} (fits : T → Key → List ℕ → Type 0) (cache : Cache 
     where
       now : (next : State)
           × IsRight (fits cache.tag) config (states line.client) line.call answer next
-          × AreFilled fits cache config next client' held'.handles.items
+          × AreFilled fits cache config next client' held'.filled.items
       now = goes config (states line.client) (manned.each line.client client held here there)
 
       each : (c : ℕ) (one : Client T) (has : Registers)
           → slice_get (slice_set clients line.client client') c ≡ Some one
           → slice_get (slice_set registers line.client held') c ≡ Some has
           → AreFilled fits cache config (with_state states line.client now.0 c) one
-          has.handles.items
+          has.filled.items
       each c one has at holds =
           elim (cases_eq c line.client) [
             | inl e ↦

@@ -35,9 +35,9 @@ mod tag;
 /// 67,108,864 bytes by `TooLarge`; nothing is written then. Where the writer fails or memory is
 /// refused in the middle of a trace, a front of an output is out. The writer is flushed at the end.
 ///
-/// It allocates memory for the text, for the cache, for each client's registers up to the highest
-/// that was filled, for a part of the output and for the value of one line. Its time is linear in
-/// the text except for the calls.
+/// It allocates memory for the text, for the cache, for a part of the output, for the value of one
+/// line, and for as many registers of each client as were full at once, and one. Its time is linear
+/// in the text except for the calls, and for a look at each full register of a line's client.
 pub fn play_run<R: Read, W: Write>(
     alloc: Global,
     reader: &mut R,
