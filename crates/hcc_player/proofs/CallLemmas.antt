@@ -32,6 +32,7 @@ use Rattle.hcc_player.specs.RunStates.{IsRefused, MayHold, MayInsert, RefusesPin
 use Rattle.hcc_player.specs.RunStates.{with_emptied, with_filled, with_serial}
 use Rattle.hcc_player.proofs.RegisterLemmas.{less_filled, more_filled, on_register}
 use Rattle.hcc_player.proofs.RegisterLemmas.{serial_filled}
+use Rattle.hcc_player.proofs.StandingNames.{standing_used}
 
 -- no handle is in a register that a look finds empty
 pub no_handle : (handles : List Filled) (r : ℕ) → is_some (at handles r) ≡ false
@@ -270,7 +271,7 @@ module _ {T : Type 0} (fits : T → Key → List ℕ → Type 0) (cache : Cache 
           ),
         ),
         more_filled fits cache config s old new handles r handle _ known i.asks.works.self i.gains
-            right empty filled,
+            right empty (λ q k b name at on is same. cc) filled,
       )
   pin_goes s old new handles r k t q v handle inserted.Standalone known may i right empty
       filled = (
@@ -284,7 +285,10 @@ module _ {T : Type 0} (fits : T → Key → List ℕ → Type 0) (cache : Cache 
           ),
         ),
         more_filled fits cache config s old new handles r handle _ known i.asks.works.self i.gains
-            right empty filled,
+            right empty (λ q k b name at on is same.
+            let low = standing_used cache old filled.known k b name on same in
+            let used : old.used ≡ name = cc is in
+            absurd (omega (arith, used))) filled,
       )
   pin_goes s old new handles r k t q v handle inserted.Dropped known may i right empty
       filled =
@@ -377,7 +381,7 @@ module _ {T : Type 0} (fits : T → Key → List ℕ → Type 0) (cache : Cache 
           (held.insertion, found.asked, found.right, refl),
         ),
         more_filled fits cache config s old new handles r handle held known found.works.self
-            found.gains right empty filled,
+            found.gains right empty (λ q k b name at on is same. cc) filled,
       )
 
   pub fork_goes : (s : State) (old new : Client T) (handles : List Filled) (r g : ℕ)
@@ -403,7 +407,9 @@ module _ {T : Type 0} (fits : T → Key → List ℕ → Type 0) (cache : Cache 
           (again.held.insertion, inserted, refl),
         ),
         more_filled fits cache config s old new handles r more again.held known again.works.self
-            again.gains right empty filled,
+            again.gains right empty
+            (λ q k b name at on is same.
+            filled.alike g q handle k again.held b name full at again.was on is same) filled,
       )
 
   -- Releases.

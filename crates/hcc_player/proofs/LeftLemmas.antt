@@ -37,7 +37,7 @@ use Rattle.hcc_player.proofs.MadeLemmas.{MadeNone, adds, gives_none, made_in, no
 
 -- Sums over lists.
 
-total_mapped : {A B : Type 0} (f : B → ℕ) (g : A → B) (xs : List A)
+pub total_mapped : {A B : Type 0} (f : B → ℕ) (g : A → B) (xs : List A)
     → total f (map g xs) ≡ total (λ x. f (g x)) xs
 total_mapped f g [] = refl
 total_mapped f g (x ∷ xs) = ap (λ n. f (g x) + n) (total_mapped f g xs)

@@ -18,6 +18,11 @@ pub mod Dealing
 pub mod Crewing
 pub mod JsonLemmas
 pub mod RegisterLemmas
+pub mod SumsWithin
+pub mod StandingNames
+pub mod HeldRecords
+pub mod HeldCharges
+pub mod BoundedStates
 pub mod RunLemmas
 pub mod RunsLemmas
 pub mod MadeLemmas

@@ -39,6 +39,7 @@ use Rattle.hcc_player.proofs.ByteLemmas.{all_out, leaves_less, leaves_more, leav
 use Rattle.hcc_player.proofs.ByteLemmas.{writes_nothing}
 use Rattle.hcc_player.proofs.LeavesLemmas.{leaves_placed}
 use Rattle.hcc_player.proofs.LeftLemmas.{all_counted}
+use Rattle.hcc_player.proofs.BoundedStates.{new_bounded}
 use Rattle.hcc_player.proofs.RunLemmas.{can_go_on}
 
 -- The beginning.
@@ -67,6 +68,7 @@ manned_new fits config tag cache clients registers opened empty count = record {
         apart = λ r s h first second. cc;
         count = unused.held;
         once = tt;
+        alike = λ r q h k a b name here there on off is same. cc;
       });
 }
 
@@ -85,7 +87,7 @@ no_sums = record { charges = 0; occupied = 0; slots = 0; usage = 0 }
 pub some_played : (config : Config) (lines : List RunLine)
     → (out : List ℕ) × IsPlayed config lines out
 some_played config lines =
-    let some = can_go_on (Inserts lines) config new_states lines in (
+    let some = can_go_on (Inserts lines) config new_states (λ c. new_bounded) lines in (
       answers_text some.0 ++ sums_text no_sums,
       record {
         told = some.0;

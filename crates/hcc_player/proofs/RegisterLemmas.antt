@@ -180,7 +180,7 @@ module _ {T : Type 0} (fits : T → Key → List ℕ → Type 0) (cache : Cache 
       let same : g ≡ h = cc in subst (λ x. IsOn fits cache client x told) same filled
 
   -- a handle that nobody holds stands for nothing
-  unheld : (client : Client T) (h : Handle) → hold_of client h ≡ None
+  pub unheld : (client : Client T) (h : Handle) → hold_of client h ≡ None
       → held_of cache client h ≡ None
   unheld client h free = rw free refl
 
@@ -213,6 +213,8 @@ module _ {T : Type 0} (fits : T → Key → List ℕ → Type 0) (cache : Cache 
     apart = so_far.apart;
     count = keeps.count ∙ so_far.count;
     once = so_far.once;
+    alike = λ r q h k a b name here there on off. so_far.alike r q h k a b name here there
+        (sym (keeps.all h) ∙ on) (sym (keeps.all k) ∙ off);
   }
 
   -- or one
@@ -235,6 +237,8 @@ module _ {T : Type 0} (fits : T → Key → List ℕ → Type 0) (cache : Cache 
     apart = so_far.apart;
     count = keeps.count ∙ so_far.count;
     once = so_far.once;
+    alike = λ r q h k a b name here there on off. so_far.alike r q h k a b name here there
+        (sym (keeps.all h) ∙ on) (sym (keeps.all k) ∙ off);
   }
 
   pub on_register : (s : State) (client : Client T) (handles : List Filled) (r : ℕ)
@@ -243,15 +247,22 @@ module _ {T : Type 0} (fits : T → Key → List ℕ → Type 0) (cache : Cache 
   on_register s client handles r h full so_far =
       on_at fits cache client (s.registers r) (at handles r) h full (so_far.each r)
 
+  -- a standalone entry that a handle stands for has one insertion, with those of the registers
+  abbrev pub IsAlike : Client T → List Filled → Held → Type 0
+  IsAlike old handles held =
+      (q : ℕ) (k : Handle) (b : Held) (name : ℕ) → at handles q ≡ Some k
+      → held_of cache old k ≡ Some b → held.standing ≡ Some name → b.standing ≡ Some name
+      → held.insertion ≡ b.insertion
+
   -- an empty register is filled
   pub more_filled : (s : State) (old new : Client T) (handles : List Filled) (r : ℕ)
       (handle : Handle) (held : Held) → Knows cache new → IsSelf old new
       → Gains cache handle held old new
       → fits cache.tag held.insertion.key held.insertion.value
-      → at handles r ≡ None → AreFilled fits cache config s old handles
+      → at handles r ≡ None → IsAlike old handles held → AreFilled fits cache config s old handles
       → AreFilled fits cache config (with_filled s r held.insertion) new
       (filled_with handles r handle)
-  more_filled s old new handles r handle held known self gains right empty so_far = record {
+  more_filled s old new handles r handle held known self gains right empty fresh so_far = record {
     known = known;
     limited = record {
       full = gains.count ∙ ap (λ n. n + 1) so_far.limited.full;
@@ -265,6 +276,7 @@ module _ {T : Type 0} (fits : T → Key → List ℕ → Type 0) (cache : Cache 
     apart = apart;
     count = gains.count ∙ ap (λ n. n + 1) so_far.count ∙ sym (one_more handles r handle);
     once = once_filled handles r handle so_far.once empty;
+    alike = alike;
   }
     where
       -- a handle that was held is another one
@@ -324,6 +336,50 @@ module _ {T : Type 0} (fits : T → Key → List ℕ → Type 0) (cache : Cache 
                 ]
           ]
 
+      new_held : (q : ℕ) (h : Handle) (a : Held) → q ≡ r
+          → at (filled_with handles r handle) q ≡ Some h → held_of cache new h ≡ Some a → a ≡ held
+      new_held q h a same full on =
+          let both : Some a ≡ Some held =
+          sym on ∙ ap (held_of cache new) (new_at q h same full) ∙ gains.stands in cc
+
+      old_held : (q : ℕ) (h : Handle) (a : Held) → q ≢ r
+          → at (filled_with handles r handle) q ≡ Some h → held_of cache new h ≡ Some a
+          → held_of cache old h ≡ Some a
+      old_held q h a other full on =
+          sym (gains.others h (other_held q h (old_at q h other full))) ∙ on
+
+      alike : (q p : ℕ) (h k : Handle) (a b : Held) (name : ℕ)
+          → at (filled_with handles r handle) q ≡ Some h
+          → at (filled_with handles r handle) p ≡ Some k → held_of cache new h ≡ Some a
+          → held_of cache new k ≡ Some b → a.standing ≡ Some name → b.standing ≡ Some name
+          → a.insertion ≡ b.insertion
+      alike q p h k a b name here there on off is same =
+          elim (cases_eq q r) [
+            | inl first ↦
+                let mine = new_held q h a first here on in
+                elim (cases_eq p r) [
+                  | inl second ↦
+                      let its = new_held p k b second there off in
+                      ap (λ (x : Held). x.insertion) (mine ∙ sym its)
+                  | inr second ↦
+                      ap (λ (x : Held). x.insertion) mine
+                      ∙ fresh p k b name (old_at p k second there) (old_held p k b second there off)
+                      (ap (λ (x : Held). x.standing) (sym mine) ∙ is) same
+                ]
+            | inr first ↦
+                elim (cases_eq p r) [
+                  | inl second ↦
+                      let its = new_held p k b second there off in
+                      sym (ap (λ (x : Held). x.insertion) its
+                      ∙ fresh q h a name (old_at q h first here) (old_held q h a first here on)
+                      (ap (λ (x : Held). x.standing) (sym its) ∙ same) is)
+                  | inr second ↦
+                      so_far.alike q p h k a b name (old_at q h first here)
+                      (old_at p k second there) (old_held q h a first here on)
+                      (old_held p k b second there off) is same
+                ]
+          ]
+
   -- a full register is emptied
   pub less_filled : (s : State) (old new : Client T) (handles : List Filled) (r : ℕ)
       (handle : Handle) → Knows cache new → IsSelf old new → Loses cache handle old new
@@ -343,6 +399,9 @@ module _ {T : Type 0} (fits : T → Key → List ℕ → Type 0) (cache : Cache 
     count = let less = one_less handles r handle so_far.once full in
         let whole = so_far.count in let fewer = loses.count in omega arith;
     once = once_emptied handles r so_far.once;
+    alike = λ q p h k a b name here there on off. so_far.alike q p h k a b name (old_at q h here)
+        (old_at p k there) (sym (loses.others h (not_gone q h here)) ∙ on)
+        (sym (loses.others k (not_gone p k there)) ∙ off);
   }
     where
       each : (q : ℕ) → IsFilled fits cache new (with_register s.registers r None q)
@@ -372,6 +431,14 @@ module _ {T : Type 0} (fits : T → Key → List ℕ → Type 0) (cache : Cache 
                 let no : None ≡ Some h = sym here ∙ there in cc
             | inr other ↦ sym (off_emptied handles r q other) ∙ there
           ]
+
+      -- the handle is in no register any more
+      not_gone : (q : ℕ) (h : Handle) → at (filled_without handles r) q ≡ Some h → h ≢ handle
+      not_gone q h there same =
+          let here : q ≡ r =
+          so_far.apart q r handle (subst (λ x. at handles q ≡ Some x) same (old_at q h there)) full in
+          let none : at (filled_without handles r) q ≡ None = rw here (at_emptied handles r) in
+          let no : None ≡ Some h = sym none ∙ there in cc
 
       apart : (q p : ℕ) (h : Handle) → at (filled_without handles r) q ≡ Some h
           → at (filled_without handles r) p ≡ Some h → q ≡ p

@@ -71,6 +71,11 @@ module _ {T : Type 0} (fits : T → Key → List ℕ → Type 0) (cache : Cache 
           → at handles s ≡ Some handle → r ≡ s
       pub count : held_by client ≡ length handles
       pub once : AreOnce handles
+      -- on one standalone entry there is one insertion
+      pub alike : (r q : ℕ) (h k : Handle) (a b : Held) (name : ℕ) → at handles r ≡ Some h
+          → at handles q ≡ Some k → held_of cache client h ≡ Some a
+          → held_of cache client k ≡ Some b → a.standing ≡ Some name → b.standing ≡ Some name
+          → a.insertion ≡ b.insertion
 
   -- A client with its registers may play: so much is told of it, under some options.
   abbrev pub CanPlay : Client T → List Filled → Type 0

@@ -17,6 +17,7 @@ use Rattle.hcc_player.specs.declared.run.registers.Filled.{Filled}
 use Rattle.hcc_player.specs.declared.run.registers.Registers.{Registers}
 use Rattle.hcc_player.specs.declared.sums.Sums.{Sums}
 use Rattle.hcc_player.specs.RunCalls.{Does, GivesBack}
+use Rattle.hcc_player.specs.RunStates.{charge_of}
 
 -- the insertion of a call that was answered that its entry was placed
 abbrev pub placed_by : Call → Answer → Option Insertion
@@ -43,10 +44,6 @@ placed_of (Some line) (Some answer) = placed_by line.call answer
 -- the insertion of the line at this place, if it was answered that its entry was placed
 abbrev pub placed_at : List RunLine → List Answer → (place : ℕ) → Option Insertion
 placed_at lines told place = placed_of (slice_get lines place) (slice_get told place)
-
-abbrev pub charge_of : Option Insertion → ℕ
-charge_of None = 0
-charge_of (Some insertion) = insertion.charge
 
 -- What is left are entries that lines of these places placed, no line twice: so many slots, and
 -- their charges in sum.
