@@ -1,6 +1,6 @@
 -- States in which registers from some number on are empty: a sum covers what the others hold.
 use Rattle.std.proofs.Common.{◌≡◌, ◌≢◌, ℕ, zero, suc, ◌+◌, ◌<◌, ◌≤◌, ◌==◌, inl, inr, true, false}
-use Rattle.std.proofs.Common.{List, [], ◌∷◌, Some, None, refl, sym, ap, ◌∙◌, subst, arith, rules, tests}
+use Rattle.std.proofs.Common.{List, [], ◌∷◌, None, refl, sym, ap, ◌∙◌, subst, arith, rules, tests}
 use Rattle.std.proofs.lemmas.Bool.{cases_eq, cases_lt}
 use Rattle.hcc_core.specs.Sums.{total}
 use Rattle.hcc_rule.specs.declared.key.Key.{Key}
@@ -53,7 +53,7 @@ bounded_with states client s bounds bounded c =
 
 -- Of a client's registers.
 
-past : List Filled → ℕ
+abbrev past : List Filled → ℕ
 past [] = 0
 past (f ∷ fs) = f.register + 1 + past fs
 
@@ -74,7 +74,7 @@ filled_bounded fits cache config s client handles filled = (
 
 -- A sum that covers what is held.
 
-below : ℕ → List ℕ
+abbrev below : ℕ → List ℕ
 below zero = []
 below (suc n) = n ∷ below n
 
@@ -86,7 +86,7 @@ below_in (suc n) r low =
       | inr other ↦ inr (below_in n r (omega (arith, other)))
     ]
 
-pub charge_bound : State → ℕ → ℕ
+abbrev pub charge_bound : State → ℕ → ℕ
 charge_bound s n = total (λ r. charge_of (s.registers r)) (below n)
 
 pub covers_bounded : (s : State) (b : IsBounded s) → CoversHeld s (charge_bound s b.0)

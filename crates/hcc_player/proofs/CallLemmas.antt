@@ -1,6 +1,6 @@
 -- What the calls of a trace leave of a client and its registers.
 use Rattle.std.proofs.Common.{◌≡◌, ℕ, zero, suc, ◌<◌, ◌≤◌, true, false, List, Option, Some}
-use Rattle.std.proofs.Common.{None, Result, Ok, Err, IsSome, length, inl, inr, refl, sym, ap, ◌∙◌}
+use Rattle.std.proofs.Common.{None, Result, Ok, Err, IsSome, inl, inr, refl, sym, ap, ◌∙◌}
 use Rattle.std.proofs.Common.{subst, arith}
 use Rattle.std.specs.Prelude.{◌↔◌, is_some}
 use Rattle.std.proofs.lemmas.Bool.{cases_lt}

@@ -1,5 +1,5 @@
 -- What is charged for a client's entries is at least what its registers hold.
-use Rattle.std.proofs.Common.{◌≡◌, ℕ, ◌+◌, ◌<◌, ◌≤◌, ◌⊎◌, inl, inr, true, false, Bool, List, ◌++◌}
+use Rattle.std.proofs.Common.{◌≡◌, ℕ, ◌<◌, ◌≤◌, ◌⊎◌, inl, inr, true, false, Bool, List, ◌++◌}
 use Rattle.std.proofs.Common.{Option, Some, None, option_and_then, find, if◌then◌else◌, length}
 use Rattle.std.proofs.Common.{map, refl, sym, ap, ◌∙◌, subst, arith}
 use Rattle.std.specs.Prelude.{slice_get}
@@ -38,7 +38,7 @@ use Rattle.hcc_player.specs.RunStates.{CoversHeld, State, charge_of}
 use Rattle.hcc_player.proofs.HeldRecords.{Item, different_in, different_was, found_by_name, in_all}
 use Rattle.hcc_player.proofs.HeldRecords.{items, total_items}
 use Rattle.hcc_player.proofs.LeftLemmas.{total_mapped}
-use Rattle.hcc_player.proofs.RegisterLemmas.{none_empty, on_register, unheld}
+use Rattle.hcc_player.proofs.RegisterLemmas.{on_register, unheld}
 use Rattle.hcc_player.proofs.StandingNames.{hold_there, stands_alone, stands_pinned}
 use Rattle.hcc_player.proofs.SumsWithin.{Member, found_in, in_back, in_front, in_map, sum_within}
 

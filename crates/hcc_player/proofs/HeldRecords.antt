@@ -18,9 +18,9 @@ use Rattle.hcc_cache.specs.declared.holding.Hold.{Hold}
 use Rattle.hcc_cache.specs.declared.holding.Kept.{Kept}
 use Rattle.hcc_cache.specs.declared.holding.Kept.TheVariants.{Pinned, Standing}
 use Rattle.hcc_cache.specs.declared.seeded.Seeded.{Seeded}
-use Rattle.hcc_cache.specs.Clients.{records_in, view_by}
-use Rattle.hcc_cache.specs.Known.{IsKeptAs, Knows, count_of, is_pinned, records_at}
-use Rattle.hcc_player.proofs.SumsWithin.{Member, all_pass, each_as_large, fewer_pass, found_in, in_back}
+use Rattle.hcc_cache.specs.Clients.{view_by}
+use Rattle.hcc_cache.specs.Known.{IsKeptAs, Knows, is_pinned, records_at}
+use Rattle.hcc_player.proofs.SumsWithin.{Member, all_pass, each_as_large, fewer_pass, in_back}
 use Rattle.hcc_player.proofs.SumsWithin.{in_front, in_map, passes_in, sum_within, was_in}
 
 -- Of the records of a shard.

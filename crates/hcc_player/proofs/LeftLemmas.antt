@@ -1,5 +1,5 @@
 -- A whole play: the entries that are left, and those that were taken, are as many as were placed.
-use Rattle.std.proofs.Common.{◌≡◌, ℕ, zero, suc, ◌+◌, ◌<◌, false, List, [], ◌∷◌, Option, Some}
+use Rattle.std.proofs.Common.{◌≡◌, ℕ, suc, ◌+◌, ◌<◌, false, List, [], ◌∷◌, Option, Some}
 use Rattle.std.proofs.Common.{None, length, length-set, map, refl, sym, ap, ◌∙◌}
 use Rattle.std.proofs.Common.{arith}
 use Rattle.std.specs.Prelude.{slice_get}
@@ -19,7 +19,6 @@ use Rattle.hcc_cache.specs.declared.cache.Cache.{Cache}
 use Rattle.hcc_cache.specs.declared.client.Client.{Client}
 use Rattle.hcc_cache.specs.declared.closed.Closed.{Closed}
 use Rattle.hcc_cache.specs.declared.config.Config.{Config}
-use Rattle.hcc_cache.specs.declared.handle.Handle.{Handle}
 use Rattle.hcc_cache.specs.declared.seeded.Seeded.{Seeded}
 use Rattle.hcc_cache.specs.Clients.{view_at, view_by, view_in}
 use Rattle.hcc_cache.specs.Closings.{AreBack, IsClosed}
@@ -27,7 +26,6 @@ use Rattle.hcc_cache.specs.Left.{given, over_shards}
 use Rattle.hcc_cache.specs.Opened.{IsOpened}
 use Rattle.hcc_cache.specs.Totals.{taken_at, taken_by}
 use Rattle.hcc_player.specs.declared.run.answer.Answer.{Answer}
-use Rattle.hcc_player.specs.declared.run.call.Call.TheVariants as calls
 use Rattle.hcc_player.specs.declared.run.call.RunLine.{RunLine}
 use Rattle.hcc_player.specs.declared.run.registers.Filled.{Filled}
 use Rattle.hcc_player.specs.declared.run.registers.Registers.{Registers}

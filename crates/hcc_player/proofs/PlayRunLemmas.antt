@@ -1,5 +1,5 @@
 -- A whole play of a trace: what is written for its text.
-use Rattle.std.proofs.Common.{◌≡◌, inl, inr, ℕ, zero, suc, ◌≤◌, List, [], ◌++◌, Option}
+use Rattle.std.proofs.Common.{◌≡◌, inl, inr, ℕ, ◌≤◌, List, [], ◌++◌, Option}
 use Rattle.std.proofs.Common.{Some}
 use Rattle.std.proofs.Common.{None, Result, Ok, Err, IsOk, IfSome, ◌+◌, length, refl, sym, ap, ◌∙◌}
 use Rattle.std.proofs.Common.{subst}
@@ -30,7 +30,7 @@ use Rattle.hcc_player.specs.RunAlone.{AreAllExact}
 use Rattle.hcc_player.specs.Runs.{AreEmpty, MakesAll}
 use Rattle.hcc_player.specs.PlayRun.{Agree, Answered, AnsweredPart, AreManned, Ended, EndedPart}
 use Rattle.hcc_player.specs.PlayRun.{EndsRun, FitsIn, IsOutput, PlaysAll, Writes, WritesFront}
-use Rattle.hcc_player.specs.Registers.{at, AreFilled, IsFilled}
+use Rattle.hcc_player.specs.Registers.{AreFilled}
 use Rattle.hcc_player.specs.RunStates.{States, new_states}
 use Rattle.hcc_player.specs.Report.{sums_text}
 use Rattle.hcc_player.specs.RunAnswers.{answers_text, AreRight, Inserts, IsPlayed}

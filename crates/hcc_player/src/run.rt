@@ -49,10 +49,12 @@ pub fn play_run<R: Read, W: Write>(
         × (reader.new ≡ reader.old) × (writer.new ≡ writer.old)) }
 
     // What was read is a trace: its calls were made on one new cache, what they were answered is
-    // written, and behind it the sums of that cache, closed. What is left are entries that lines
-    // placed, no line twice; and with what was taken they are as many as lines placed. With one
-    // client a look-up hits exactly where the key is shown in the world that the client knows, an
-    // erasure counts what is shown of it, and totals are exact.
+    // written, and behind it the sums of that cache, closed. Of the totals that a line tells the
+    // usage and what is pinned are at least the charges of what its client's registers hold, each
+    // insertion counted once. What is left are entries that lines placed, no line twice; and with
+    // what was taken they are as many as lines placed. With one client a look-up hits exactly where
+    // the key is shown in the world that the client knows, an erasure counts what is shown of it,
+    // and totals are exact.
     ensures written { OnOk result (IfSome (R.remaining reader.old) (Writes options.now.config
         (W.contents writer.old) (W.contents writer.new))) }
 

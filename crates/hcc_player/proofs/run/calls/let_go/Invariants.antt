@@ -1,4 +1,4 @@
-use Rattle.std.proofs.Common.{List, take, drop}
+use Rattle.std.proofs.Common.{take, drop}
 use Rattle.hcc_player.specs.Registers.{CanPlay}
 use Rattle.hcc_player.specs.Runs.{LetsGo}
 use Rattle.hcc_player.proofs.run.calls.let_go.Given as goal
