@@ -91,7 +91,8 @@ charge_bound s n = total (λ r. charge_of (s.registers r)) (below n)
 
 pub covers_bounded : (s : State) (b : IsBounded s) → CoversHeld s (charge_bound s b.0)
 covers_bounded s b registers apart =
-    sum_within charge charge (λ r i. r ≡ i) Same one registers (below b.0) (λ k r here. held r) apart
+    sum_within charge charge (λ r i. r ≡ i) Same one registers (below b.0)
+    (λ k r here. held r) apart
   where
     charge : ℕ → ℕ
     charge r = charge_of (s.registers r)

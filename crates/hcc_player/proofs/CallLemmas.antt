@@ -259,39 +259,36 @@ module _ {T : Type 0} (fits : T → Key → List ℕ → Type 0) (cache : Cache 
       (placed_answer told) next
       × AreFilled fits cache config next new (filled_with handles r handle)
   unfolding IsRight
-  pin_goes s old new handles r k t q v handle inserted.Placed known may i right empty
-      filled = (
-        with_filled s r (record { key = k; value = v; charge = t }),
-        (
-          empty_told s old handles r empty filled,
-          (
-            (may_hold s old filled.limited may.0 may.1).0,
-            may_insert s old t filled.limited may.1 may.2,
-            refl,
-          ),
-        ),
-        more_filled fits cache config s old new handles r handle _ known i.asks.works.self i.gains
-            right empty (λ q k b name at on is same. cc) filled,
-      )
-  pin_goes s old new handles r k t q v handle inserted.Standalone known may i right empty
-      filled = (
-        with_filled s r (record { key = k; value = v; charge = t }),
-        (
-          empty_told s old handles r empty filled,
-          (
-            (may_hold s old filled.limited may.0 may.1).0,
-            may_insert s old t filled.limited may.1 may.2,
-            refl,
-          ),
-        ),
-        more_filled fits cache config s old new handles r handle _ known i.asks.works.self i.gains
-            right empty (λ q k b name at on is same.
-            let low = standing_used cache old filled.known k b name on same in
-            let used : old.used ≡ name = cc is in
-            absurd (omega (arith, used))) filled,
-      )
-  pin_goes s old new handles r k t q v handle inserted.Dropped known may i right empty
-      filled =
+  pin_goes s old new handles r k t q v handle inserted.Placed known may i right empty filled = (
+    with_filled s r (record { key = k; value = v; charge = t }),
+    (
+      empty_told s old handles r empty filled,
+      (
+        (may_hold s old filled.limited may.0 may.1).0,
+        may_insert s old t filled.limited may.1 may.2,
+        refl,
+      ),
+    ),
+    more_filled fits cache config s old new handles r handle _ known i.asks.works.self i.gains
+        right empty (λ q k b name at on is same. cc) filled,
+  )
+  pin_goes s old new handles r k t q v handle inserted.Standalone known may i right empty filled = (
+    with_filled s r (record { key = k; value = v; charge = t }),
+    (
+      empty_told s old handles r empty filled,
+      (
+        (may_hold s old filled.limited may.0 may.1).0,
+        may_insert s old t filled.limited may.1 may.2,
+        refl,
+      ),
+    ),
+    more_filled fits cache config s old new handles r handle _ known i.asks.works.self i.gains
+        right empty (λ q k b name at on is same.
+        let low = standing_used cache old filled.known k b name on same in
+        let used : old.used ≡ name = cc is in
+        absurd (omega (arith, used))) filled,
+  )
+  pin_goes s old new handles r k t q v handle inserted.Dropped known may i right empty filled =
       absurd i
 
   -- When one is refused: what is told of each refusal.

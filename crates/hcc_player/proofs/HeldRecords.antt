@@ -144,7 +144,8 @@ module _ {T : Type 0} (at : ℕ → ShardSeat T → List Item) where
 
   pub total_items : (weight : Item → ℕ) (f : ShardSeat T → ℕ)
       → ((n : ℕ) (seat : ShardSeat T) → total weight (at n seat) ≡ f seat)
-      → (number : ℕ) (seats : List (ShardSeat T)) → total weight (items number seats) ≡ total f seats
+      → (number : ℕ) (seats : List (ShardSeat T))
+      → total weight (items number seats) ≡ total f seats
   total_items weight f each number [] = refl
   total_items weight f each number (seat ∷ seats) =
       let here = each number seat in
@@ -213,7 +214,8 @@ module _ {T : Type 0} (cache : Cache T) (client : Client T) (known : Knows cache
         named_item hold.shard stands.handled,
         (hold, refl, refl, found.1),
         in_all named_at hold.shard seats seat.0 (named_item hold.shard stands.handled) seat.1
-            (in_map (named_item hold.shard) stands.handled (named (view_of seat.0).records) found.0),
+            (in_map (named_item hold.shard) stands.handled (named (view_of seat.0).records)
+            found.0),
         rw is (omega arith),
       )
 

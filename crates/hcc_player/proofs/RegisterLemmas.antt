@@ -436,7 +436,8 @@ module _ {T : Type 0} (fits : T → Key → List ℕ → Type 0) (cache : Cache 
       not_gone : (q : ℕ) (h : Handle) → at (filled_without handles r) q ≡ Some h → h ≢ handle
       not_gone q h there same =
           let here : q ≡ r =
-          so_far.apart q r handle (subst (λ x. at handles q ≡ Some x) same (old_at q h there)) full in
+          so_far.apart q r handle (subst (λ x. at handles q ≡ Some x) same (old_at q h there)) full
+          in
           let none : at (filled_without handles r) q ≡ None = rw here (at_emptied handles r) in
           let no : None ≡ Some h = sym none ∙ there in cc
 

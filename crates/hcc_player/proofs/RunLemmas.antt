@@ -106,8 +106,8 @@ module _ (Puts : Key → List ℕ → Type 0) (config : Config) where
   refuses_pin s charge errors.CapacityFull room refused = (room, refused)
   refuses_pin s charge errors.OccupancyFull room refused = (room, refused)
 
-  pin_choice : (s : State) (b : IsBounded s) (r : ℕ) (k : Key) (t : ℕ) (q : _) (v : List ℕ) (x : Option Insertion)
-      → s.registers r ≡ x → Choice s (calls.Pin r k t q v)
+  pin_choice : (s : State) (b : IsBounded s) (r : ℕ) (k : Key) (t : ℕ) (q : _) (v : List ℕ)
+      (x : Option Insertion) → s.registers r ≡ x → Choice s (calls.Pin r k t q v)
   unfolding IsRight
   pin_choice s b r k t q v (Some held) e =
       record { answer = answers.Busy; next = s; right = (rw e refl, refl); bounded = b }
@@ -136,19 +136,19 @@ module _ (Puts : Key → List ℕ → Type 0) (config : Config) where
         }
       ]
 
-  get_choice : (s : State) (b : IsBounded s) (r : ℕ) (k : Key) (x : Option Insertion) → s.registers r ≡ x
-      → Choice s (calls.Get r k)
+  get_choice : (s : State) (b : IsBounded s) (r : ℕ) (k : Key) (x : Option Insertion)
+      → s.registers r ≡ x → Choice s (calls.Get r k)
   unfolding IsRight
   get_choice s b r k (Some held) e =
       record { answer = answers.Busy; next = s; right = (rw e refl, refl); bounded = b }
   get_choice s b r k None e =
       elim (look_choice s) [
         | inl may ↦ record {
-              answer = answers.Miss;
-              next = s;
-              right = (e, may, refl);
-              bounded = b;
-            }
+          answer = answers.Miss;
+          next = s;
+          right = (e, may, refl);
+          bounded = b;
+        }
         | inr refused ↦ record {
           answer = answers.Refused refused.0;
           next = s;
@@ -180,10 +180,11 @@ module _ (Puts : Key → List ℕ → Type 0) (config : Config) where
         }
       ]
 
-  release_choice : (s : State) (b : IsBounded s) (r : ℕ) (u e : Bool) (x : Option Insertion) → s.registers r ≡ x
-      → Choice s (calls.Release r u e)
+  release_choice : (s : State) (b : IsBounded s) (r : ℕ) (u e : Bool) (x : Option Insertion)
+      → s.registers r ≡ x → Choice s (calls.Release r u e)
   unfolding IsRight
-  release_choice s b r u e None f = record { answer = answers.Nothing; next = s; right = (f, refl); bounded = b }
+  release_choice s b r u e None f =
+      record { answer = answers.Nothing; next = s; right = (f, refl); bounded = b }
   release_choice s b r u e (Some held) f =
       record {
         answer = answers.Kept;
@@ -195,7 +196,8 @@ module _ (Puts : Key → List ℕ → Type 0) (config : Config) where
   value_choice : (s : State) (b : IsBounded s) (r : ℕ) (x : Option Insertion) → s.registers r ≡ x
       → Choice s (calls.Value r)
   unfolding IsRight
-  value_choice s b r None e = record { answer = answers.Nothing; next = s; right = (e, refl); bounded = b }
+  value_choice s b r None e =
+      record { answer = answers.Nothing; next = s; right = (e, refl); bounded = b }
   value_choice s b r (Some held) e =
       record {
         answer = answers.Value held.value;
@@ -204,7 +206,8 @@ module _ (Puts : Key → List ℕ → Type 0) (config : Config) where
         bounded = b;
       }
 
-  put_choice : (s : State) (b : IsBounded s) (k : Key) (t : ℕ) (q : _) (v : List ℕ) → Choice s (calls.Insert k t q v)
+  put_choice : (s : State) (b : IsBounded s) (k : Key) (t : ℕ) (q : _) (v : List ℕ)
+      → Choice s (calls.Insert k t q v)
   unfolding IsRight
   put_choice s b k t q v =
       elim (insert_choice s t) [
@@ -236,7 +239,7 @@ module _ (Puts : Key → List ℕ → Type 0) (config : Config) where
     right = refl;
     bounded = b;
   }
-  choice s b calls.Totals = 
+  choice s b calls.Totals =
       let most = charge_bound s b.0 in
       let covers = covers_bounded s b in
       record {

@@ -66,7 +66,8 @@ module _ {T : Type 0} (cache : Cache T) (client : Client T) (known : Knows cache
       by_kept : (hold : Hold) (kept : Kept) → hold_of client h ≡ Some hold → hold.kept ≡ kept
           → name < client.used
       by_kept hold (Pinned slot counting) at is =
-          absurd (none_stands cache.seed name _ held (sym (stands_as cache client h hold (Pinned slot counting) at is) ∙ here) standing)
+          absurd (none_stands cache.seed name _ held
+          (sym (stands_as cache client h hold (Pinned slot counting) at is) ∙ here) standing)
       by_kept hold (Standing index) at is =
           let of = known.holds.each h.index hold (hold_there client.number h _ hold at) in
           let stands = subst (IsKeptAs cache.seed client.seats.items client.alone hold) is

@@ -46,9 +46,11 @@ returns-clause-goes g c =
           let told = w.in-Err.ensures in
           let gone = pin_refused fits cache config s client c.insert_pinned.new.client handles
           c.args.key c.args.charge c.args.priority c.args.value w.in-Err.error told.known
-          (told.full, told.spent, told.large) (rw c.into_vec.ensures at told.inserted) filled in
-          (gone.0, (empty_told fits cache config s client handles r empty filled, gone.1),
-          rw c.in_ok-reserve.ensures.same gone.2))
+          (told.full, told.spent, told.large) (rw c.into_vec.ensures at told.inserted) filled in (
+            gone.0,
+            (empty_told fits cache config s client handles r empty filled, gone.1),
+            rw c.in_ok-reserve.ensures.same gone.2,
+          ))
     ]
 
 pub returns-clause-did : goal.returns-clause-did
