@@ -22,6 +22,7 @@ use Rattle.hcc_player.specs.declared.run.answer.Answer.{Answer}
 use Rattle.hcc_player.specs.declared.run.answer.Answer.TheVariants as answers
 use Rattle.hcc_player.specs.declared.run.call.Call.{Call}
 use Rattle.hcc_player.specs.declared.run.call.Call.TheVariants as calls
+use Rattle.hcc_player.specs.declared.run.registers.Filled.{Filled}
 use Rattle.hcc_player.specs.declared.run.call.RunLine.{RunLine}
 use Rattle.hcc_player.specs.declared.run.registers.Registers.{Registers}
 use Rattle.hcc_player.specs.RunAlone.{AreAllExact, AreExact, HidesAll, InWorld, IsExact, ShowsFirst}
@@ -131,40 +132,40 @@ module _ {T : Type 0} (fits : T → Key → List ℕ → Type 0) (config : Confi
       }
 
   -- what was done for this call, which was answered this
-  abbrev Did : Call → Answer → (old new : Client T) → (was now : List (Option Handle)) → Type 0
+  abbrev Did : Call → Answer → (old new : Client T) → (was now : List Filled) → Type 0
   Did = Does fits cache
 
   did_as : (call call' : Call) (answer answer' : Answer) (old new : Client T)
-      (was now : List (Option Handle)) → call ≡ call' → answer ≡ answer'
+      (was now : List Filled) → call ≡ call' → answer ≡ answer'
       → Did call answer old new was now → Did call' answer' old new was now
   did_as call call' answer answer' old new was now is told did =
       subst (λ c. Did c answer' old new was now) is
       (subst (λ a. Did call a old new was now) told did)
 
-  hit : (register : ℕ) (key : Key) (old new : Client T) (was now : List (Option Handle))
+  hit : (register : ℕ) (key : Key) (old new : Client T) (was now : List Filled)
       → Did (calls.Get register key) answers.Hit old new was now → InWorld cache key ShowsFirst old
   unfolding Does
   hit register key old new was now did = found_first key did.handle old new did.searched
 
-  miss : (register : ℕ) (key : Key) (old new : Client T) (was now : List (Option Handle))
+  miss : (register : ℕ) (key : Key) (old new : Client T) (was now : List Filled)
       → Did (calls.Get register key) answers.Miss old new was now → InWorld cache key ShowsNone old
   unfolding Does
   miss register key old new was now did = found_none key old new did.searched
 
-  erased : (key : Key) (count : ℕ) (old new : Client T) (was now : List (Option Handle))
+  erased : (key : Key) (count : ℕ) (old new : Client T) (was now : List Filled)
       → Did (calls.Erase key) (answers.Erased count) old new was now
       → HidesAll cache key count old new
   unfolding Does
   erased key count old new was now did = hides_all key count old new did.searched
 
-  totals : (usage pinned occupancy : ℕ) (old new : Client T) (was now : List (Option Handle))
+  totals : (usage pinned occupancy : ℕ) (old new : Client T) (was now : List Filled)
       → Did calls.Totals (answers.Totals usage pinned occupancy) old new was now
       → AreExact cache usage pinned occupancy old
   unfolding Does
   totals usage pinned occupancy old new was now did =
       exact_totals usage pinned occupancy old new did
 
-  exact : (line : RunLine) (answer : Answer) (old new : Client T) (was now : List (Option Handle))
+  exact : (line : RunLine) (answer : Answer) (old new : Client T) (was now : List Filled)
       → Did line.call answer old new was now → IsExact cache line answer old new
   exact line answer old new was now did = record {
     hits = λ register key is told.

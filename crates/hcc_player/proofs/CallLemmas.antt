@@ -1,8 +1,8 @@
 -- What the calls of a trace leave of a client and its registers.
 use Rattle.std.proofs.Common.{◌≡◌, ℕ, zero, suc, ◌<◌, ◌≤◌, true, false, List, Option, Some}
-use Rattle.std.proofs.Common.{None, Result, Ok, Err, IsSome, length, inl, inr, refl, sym, ap, ◌∙◌}
+use Rattle.std.proofs.Common.{None, Result, Ok, Err, IsSome, inl, inr, refl, sym, ap, ◌∙◌}
 use Rattle.std.proofs.Common.{subst, arith}
-use Rattle.std.specs.Prelude.{◌↔◌, is_some, slice_set}
+use Rattle.std.specs.Prelude.{◌↔◌, is_some}
 use Rattle.std.proofs.lemmas.Bool.{cases_lt}
 use Rattle.std.proofs.Math.Nat.{eq-or-lt_of_le}
 use Rattle.hcc_rule.specs.declared.key.Key.{Key}
@@ -24,15 +24,18 @@ use Rattle.hcc_cache.specs.Inserts.{Inserts, InsertsWith, RefusesWith}
 use Rattle.hcc_cache.specs.Known.{Knows}
 use Rattle.hcc_player.specs.declared.run.answer.Answer.TheVariants as answers
 use Rattle.hcc_player.specs.declared.run.call.Call.TheVariants as calls
-use Rattle.hcc_player.specs.Registers.{at, AreFilled, IsFilled, IsLimited, IsOn}
+use Rattle.hcc_player.specs.declared.run.registers.Filled.{Filled}
+use Rattle.hcc_player.specs.Registers.{at, filled_with, filled_without, AreFilled, IsFilled}
+use Rattle.hcc_player.specs.Registers.{IsLimited, IsOn}
 use Rattle.hcc_player.specs.RunAnswers.{insert_answer, placed_answer, refusal_of, IsRight}
 use Rattle.hcc_player.specs.RunStates.{IsRefused, MayHold, MayInsert, RefusesPin, State}
 use Rattle.hcc_player.specs.RunStates.{with_emptied, with_filled, with_serial}
 use Rattle.hcc_player.proofs.RegisterLemmas.{less_filled, more_filled, on_register}
 use Rattle.hcc_player.proofs.RegisterLemmas.{serial_filled}
+use Rattle.hcc_player.proofs.StandingNames.{standing_used}
 
 -- no handle is in a register that a look finds empty
-pub no_handle : (handles : List (Option Handle)) (r : ℕ) → is_some (at handles r) ≡ false
+pub no_handle : (handles : List Filled) (r : ℕ) → is_some (at handles r) ≡ false
     → at handles r ≡ None
 no_handle handles r none = by (at handles r) none
   where
@@ -56,34 +59,34 @@ module _ {T : Type 0} (fits : T → Key → List ℕ → Type 0) (cache : Cache 
 module _ {T : Type 0} (fits : T → Key → List ℕ → Type 0) (cache : Cache T) (config : Config) where
   -- Of registers.
 
-  pub full_told : (s : State) (client : Client T) (handles : List (Option Handle)) (r : ℕ)
+  pub full_told : (s : State) (client : Client T) (handles : List Filled) (r : ℕ)
       (h : Handle) → at handles r ≡ Some h → AreFilled fits cache config s client handles
       → IsSome (s.registers r)
   full_told s client handles r h full filled =
       let on = on_register fits cache config s client handles r h full filled in
       rw on.inserted refl
 
-  some_told : (s : State) (client : Client T) (handles : List (Option Handle)) (r : ℕ)
+  some_told : (s : State) (client : Client T) (handles : List Filled) (r : ℕ)
       (x : Option Handle) → at handles r ≡ x → is_some x ≡ true
       → AreFilled fits cache config s client handles → IsSome (s.registers r)
   some_told s client handles r None full told filled = cc
   some_told s client handles r (Some h) full told filled =
       full_told s client handles r h full filled
 
-  pub busy_told : (s : State) (client : Client T) (handles : List (Option Handle)) (r : ℕ)
+  pub busy_told : (s : State) (client : Client T) (handles : List Filled) (r : ℕ)
       → is_some (at handles r) ≡ true → AreFilled fits cache config s client handles
       → IsSome (s.registers r)
   busy_told s client handles r full filled =
       some_told s client handles r (at handles r) refl full filled
 
-  pub empty_told : (s : State) (client : Client T) (handles : List (Option Handle)) (r : ℕ)
+  pub empty_told : (s : State) (client : Client T) (handles : List Filled) (r : ℕ)
       → at handles r ≡ None → AreFilled fits cache config s client handles
       → s.registers r ≡ None
   empty_told s client handles r empty filled =
       subst (IsFilled fits cache client (s.registers r)) empty (filled.each r)
 
   -- nothing happened to the client
-  pub stays : (s : State) (old new : Client T) (handles : List (Option Handle)) → new ≡ old
+  pub stays : (s : State) (old new : Client T) (handles : List Filled) → new ≡ old
       → AreFilled fits cache config s old handles → AreFilled fits cache config s new handles
   stays s old new handles same filled = rw same filled
 
@@ -170,7 +173,7 @@ module _ {T : Type 0} (fits : T → Key → List ℕ → Type 0) (cache : Cache 
       may_insert s client charge l some
       (λ strict. small_enough charge cache.capacity (λ over. fine (large.1 (some, strict, over))))
 
-  pub insert_goes : (s : State) (old new : Client T) (handles : List (Option Handle))
+  pub insert_goes : (s : State) (old new : Client T) (handles : List Filled)
       (key : Key) (charge : ℕ) (priority : Priority) (value : List ℕ)
       (told : Result Inserted InsertError) → Knows cache new
       → ((told ≡ Err errors.Spent) ↔ (old.left ≡ 0))
@@ -244,48 +247,48 @@ module _ {T : Type 0} (fits : T → Key → List ℕ → Type 0) (cache : Cache 
 
   -- Insertions with a handle.
 
-  pub pin_goes : (s : State) (old new : Client T) (handles : List (Option Handle)) (r : ℕ)
+  pub pin_goes : (s : State) (old new : Client T) (handles : List Filled) (r : ℕ)
       (key : Key) (charge : ℕ) (priority : Priority) (value : List ℕ) (handle : Handle)
       (told : Inserted) → Knows cache new
       → ((held_by old < old.most) × (0 < old.left)
       × (cache.strict ≡ true → charge ≤ cache.capacity))
       → InsertsWith cache key charge priority value handle told old new → fits cache.tag key value
-      → at handles r ≡ None → r < length handles → AreFilled fits cache config s old handles
+      → at handles r ≡ None → AreFilled fits cache config s old handles
       → (next : State)
       × IsRight (fits cache.tag) config s (calls.Pin r key charge priority value)
       (placed_answer told) next
-      × AreFilled fits cache config next new (slice_set handles r (Some handle))
+      × AreFilled fits cache config next new (filled_with handles r handle)
   unfolding IsRight
-  pin_goes s old new handles r k t q v handle inserted.Placed known may i right empty within
-      filled = (
-        with_filled s r (record { key = k; value = v; charge = t }),
-        (
-          empty_told s old handles r empty filled,
-          (
-            (may_hold s old filled.limited may.0 may.1).0,
-            may_insert s old t filled.limited may.1 may.2,
-            refl,
-          ),
-        ),
-        more_filled fits cache config s old new handles r handle _ known i.asks.works.self i.gains
-            right empty within filled,
-      )
-  pin_goes s old new handles r k t q v handle inserted.Standalone known may i right empty within
-      filled = (
-        with_filled s r (record { key = k; value = v; charge = t }),
-        (
-          empty_told s old handles r empty filled,
-          (
-            (may_hold s old filled.limited may.0 may.1).0,
-            may_insert s old t filled.limited may.1 may.2,
-            refl,
-          ),
-        ),
-        more_filled fits cache config s old new handles r handle _ known i.asks.works.self i.gains
-            right empty within filled,
-      )
-  pin_goes s old new handles r k t q v handle inserted.Dropped known may i right empty within
-      filled =
+  pin_goes s old new handles r k t q v handle inserted.Placed known may i right empty filled = (
+    with_filled s r (record { key = k; value = v; charge = t }),
+    (
+      empty_told s old handles r empty filled,
+      (
+        (may_hold s old filled.limited may.0 may.1).0,
+        may_insert s old t filled.limited may.1 may.2,
+        refl,
+      ),
+    ),
+    more_filled fits cache config s old new handles r handle _ known i.asks.works.self i.gains
+        right empty (λ q k b name at on is same. cc) filled,
+  )
+  pin_goes s old new handles r k t q v handle inserted.Standalone known may i right empty filled = (
+    with_filled s r (record { key = k; value = v; charge = t }),
+    (
+      empty_told s old handles r empty filled,
+      (
+        (may_hold s old filled.limited may.0 may.1).0,
+        may_insert s old t filled.limited may.1 may.2,
+        refl,
+      ),
+    ),
+    more_filled fits cache config s old new handles r handle _ known i.asks.works.self i.gains
+        right empty (λ q k b name at on is same.
+        let low = standing_used cache old filled.known k b name on same in
+        let used : old.used ≡ name = cc is in
+        absurd (omega (arith, used))) filled,
+  )
+  pin_goes s old new handles r k t q v handle inserted.Dropped known may i right empty filled =
       absurd i
 
   -- When one is refused: what is told of each refusal.
@@ -311,7 +314,7 @@ module _ {T : Type 0} (fits : T → Key → List ℕ → Type 0) (cache : Cache 
             (λ over. fine (due.2.1 (room, some, strict, over)))),
       )
 
-  pub pin_refused : (s : State) (old new : Client T) (handles : List (Option Handle))
+  pub pin_refused : (s : State) (old new : Client T) (handles : List Filled)
       (key : Key) (charge : ℕ) (priority : Priority) (value : List ℕ) (error : InsertError)
       → Knows cache new → IsDue error old charge
       → RefusesWith cache key charge priority value error old new
@@ -357,14 +360,14 @@ module _ {T : Type 0} (fits : T → Key → List ℕ → Type 0) (cache : Cache 
 
   -- Look-ups, and more handles.
 
-  pub get_goes : (s : State) (old new : Client T) (handles : List (Option Handle)) (r : ℕ)
+  pub get_goes : (s : State) (old new : Client T) (handles : List Filled) (r : ℕ)
       (key : Key) (handle : Handle) → Knows cache new → MayHold config s
       → Finds cache fits key handle old new
-      → at handles r ≡ None → r < length handles → AreFilled fits cache config s old handles
+      → at handles r ≡ None → AreFilled fits cache config s old handles
       → (next : State) × IsRight (fits cache.tag) config s (calls.Get r key) answers.Hit next
-      × AreFilled fits cache config next new (slice_set handles r (Some handle))
+      × AreFilled fits cache config next new (filled_with handles r handle)
   unfolding IsRight
-  get_goes s old new handles r key handle known may found empty within filled =
+  get_goes s old new handles r key handle known may found empty filled =
       let held : Held = held_entry cache.seed found.found.entry in
       let right = subst (λ k. fits cache.tag k held.insertion.value) (sym found.asked)
       found.right in (
@@ -375,18 +378,18 @@ module _ {T : Type 0} (fits : T → Key → List ℕ → Type 0) (cache : Cache 
           (held.insertion, found.asked, found.right, refl),
         ),
         more_filled fits cache config s old new handles r handle held known found.works.self
-            found.gains right empty within filled,
+            found.gains right empty (λ q k b name at on is same. cc) filled,
       )
 
-  pub fork_goes : (s : State) (old new : Client T) (handles : List (Option Handle)) (r g : ℕ)
+  pub fork_goes : (s : State) (old new : Client T) (handles : List Filled) (r g : ℕ)
       (handle more : Handle) → Knows cache new → MayHold config s
       → Rerefs cache handle more old new
-      → at handles g ≡ Some handle → at handles r ≡ None → r < length handles
+      → at handles g ≡ Some handle → at handles r ≡ None
       → AreFilled fits cache config s old handles
       → (next : State) × IsRight (fits cache.tag) config s (calls.Fork r g) answers.Held next
-      × AreFilled fits cache config next new (slice_set handles r (Some more))
+      × AreFilled fits cache config next new (filled_with handles r more)
   unfolding IsRight
-  fork_goes s old new handles r g handle more known may again full empty within filled =
+  fork_goes s old new handles r g handle more known may again full empty filled =
       let on = on_register fits cache config s old handles g handle full filled in
       let told : Some on.held ≡ Some again.held = sym on.here ∙ again.was in
       let same : on.held ≡ again.held = cc in
@@ -401,17 +404,19 @@ module _ {T : Type 0} (fits : T → Key → List ℕ → Type 0) (cache : Cache 
           (again.held.insertion, inserted, refl),
         ),
         more_filled fits cache config s old new handles r more again.held known again.works.self
-            again.gains right empty within filled,
+            again.gains right empty
+            (λ q k b name at on is same.
+            filled.alike g q handle k again.held b name full at again.was on is same) filled,
       )
 
   -- Releases.
 
-  pub release_goes : (s : State) (old new : Client T) (handles : List (Option Handle)) (r : ℕ)
+  pub release_goes : (s : State) (old new : Client T) (handles : List Filled) (r : ℕ)
       (handle : Handle) (erase freed : _) → Knows cache new
       → Releases cache handle erase freed old new → at handles r ≡ Some handle
       → AreFilled fits cache config s old handles
       → IsSome (s.registers r) × AreFilled fits cache config (with_emptied s r) new
-      (slice_set handles r None)
+      (filled_without handles r)
   release_goes s old new handles r handle erase freed known released full filled = (
     full_told s old handles r handle full filled,
     less_filled fits cache config s old new handles r handle known released.works.self

@@ -1,7 +1,5 @@
 -- What calls that fill a register did.
-use Rattle.std.proofs.Common.{◌≡◌, ℕ, List, Option, Some}
-use Rattle.std.proofs.Common.{ap, ◌∙◌, ◌<◌, length}
-use Rattle.std.specs.Prelude.{slice_set}
+use Rattle.std.proofs.Common.{◌≡◌, ℕ, List, Some}
 use Rattle.hcc_rule.specs.declared.key.Key.{Key}
 use Rattle.hcc_cache.specs.declared.cache.Cache.{Cache}
 use Rattle.hcc_cache.specs.declared.client.Client.{Client}
@@ -11,19 +9,14 @@ use Rattle.hcc_cache.specs.declared.inserting.Inserted.TheVariants as inserted
 use Rattle.hcc_cache.specs.declared.priority.Priority.{Priority}
 use Rattle.hcc_cache.specs.Inserts.{InsertsPinnedAt, InsertsWith}
 use Rattle.hcc_player.specs.declared.run.call.Call.TheVariants as calls
+use Rattle.hcc_player.specs.declared.run.registers.Filled.{Filled}
 use Rattle.hcc_player.specs.Registers.{at}
 use Rattle.hcc_player.specs.RunAnswers.{placed_answer}
 use Rattle.hcc_player.specs.RunCalls.{Does}
-use Rattle.hcc_player.proofs.RegisterLemmas.{at_set}
-
--- what a register holds that was set
-pub set_at : (xs ys : List (Option Handle)) (r : ℕ) (x : Option Handle) → ys ≡ slice_set xs r x
-    → r < length xs → at ys r ≡ x
-set_at xs ys r x is within = ap (λ zs. at zs r) is ∙ at_set xs r x within
 
 module _ {T : Type 0} (fits : T → Key → List ℕ → Type 0) (cache : Cache T) where
   -- an insertion with a handle
-  pub pin_did : (old new : Client T) (was now : List (Option Handle)) (r : ℕ) (key : Key)
+  pub pin_did : (old new : Client T) (was now : List Filled) (r : ℕ) (key : Key)
       (charge : ℕ) (priority : Priority) (value : List ℕ) (handle : Handle) (told : Inserted)
       → InsertsWith cache key charge priority value handle told old new
       → InsertsPinnedAt cache fits key charge priority told old new → at now r ≡ Some handle

@@ -46,8 +46,7 @@ module _ {T : Type 0} (fits : T → Key → List ℕ → Type 0) (config : Confi
       let new = there first k (omega arith) in
       let held = there kept k (omega arith) in
       let goes = ends.each k before.0 client held.0 before.1 held.1 at in
-      let none = goes_none fits cache (length held.0.handles.items) before.0 client
-      held.0.handles.items goes.0 goes.1 in
+      let none = goes_none fits cache held.0.filled.items before.0 client goes in
       let added = lines_add cache k s fits 0 lines told first last empty kept new.0 before.0 makes
       new.1 before.1 in
       let nothing = no_more (made_in s new.0)

@@ -1,5 +1,5 @@
 -- A whole play: the entries that are left, and those that were taken, are as many as were placed.
-use Rattle.std.proofs.Common.{◌≡◌, ℕ, zero, suc, ◌+◌, ◌<◌, false, List, [], ◌∷◌, Option, Some}
+use Rattle.std.proofs.Common.{◌≡◌, ℕ, suc, ◌+◌, ◌<◌, false, List, [], ◌∷◌, Option, Some}
 use Rattle.std.proofs.Common.{None, length, length-set, map, refl, sym, ap, ◌∙◌}
 use Rattle.std.proofs.Common.{arith}
 use Rattle.std.specs.Prelude.{slice_get}
@@ -19,7 +19,6 @@ use Rattle.hcc_cache.specs.declared.cache.Cache.{Cache}
 use Rattle.hcc_cache.specs.declared.client.Client.{Client}
 use Rattle.hcc_cache.specs.declared.closed.Closed.{Closed}
 use Rattle.hcc_cache.specs.declared.config.Config.{Config}
-use Rattle.hcc_cache.specs.declared.handle.Handle.{Handle}
 use Rattle.hcc_cache.specs.declared.seeded.Seeded.{Seeded}
 use Rattle.hcc_cache.specs.Clients.{view_at, view_by, view_in}
 use Rattle.hcc_cache.specs.Closings.{AreBack, IsClosed}
@@ -27,16 +26,16 @@ use Rattle.hcc_cache.specs.Left.{given, over_shards}
 use Rattle.hcc_cache.specs.Opened.{IsOpened}
 use Rattle.hcc_cache.specs.Totals.{taken_at, taken_by}
 use Rattle.hcc_player.specs.declared.run.answer.Answer.{Answer}
-use Rattle.hcc_player.specs.declared.run.call.Call.TheVariants as calls
 use Rattle.hcc_player.specs.declared.run.call.RunLine.{RunLine}
+use Rattle.hcc_player.specs.declared.run.registers.Filled.{Filled}
 use Rattle.hcc_player.specs.declared.run.registers.Registers.{Registers}
 use Rattle.hcc_player.specs.Runs.{ClosesAfter, LetsGo, MakesAll, placed_by, placed_in}
 use Rattle.hcc_player.proofs.CountLemmas.{made_at, made_over, over_adds, range_same}
-use Rattle.hcc_player.proofs.MadeLemmas.{MadeNone, adds, made_in, none_same, none_then}
+use Rattle.hcc_player.proofs.MadeLemmas.{MadeNone, adds, gives_none, made_in, none_same, none_then}
 
 -- Sums over lists.
 
-total_mapped : {A B : Type 0} (f : B → ℕ) (g : A → B) (xs : List A)
+pub total_mapped : {A B : Type 0} (f : B → ℕ) (g : A → B) (xs : List A)
     → total f (map g xs) ≡ total (λ x. f (g x)) xs
 total_mapped f g [] = refl
 total_mapped f g (x ∷ xs) = ap (λ n. f (g x) + n) (total_mapped f g xs)
@@ -86,12 +85,14 @@ module _ {T : Type 0} (fits : T → Key → List ℕ → Type 0) (cache : Cache 
       omega arith
 
   -- what is released was made before
-  pub goes_none : (number : ℕ) (old new : Client T) (was now : List (Option Handle))
-      → LetsGo fits cache number old new was now → MadeNone old new
-  goes_none zero old new was now goes = none_same old new goes.0
-  goes_none (suc register) old new was now goes =
-      none_then old goes.0 new (goes_none register old goes.0 was goes.1 goes.2)
-      (adds fits cache (calls.Release register false false) goes.3.0 goes.0 new goes.1 now goes.3.1)
+  pub goes_none : (held : List Filled) (old new : Client T) → LetsGo fits cache held old new
+      → MadeNone old new
+  goes_none [] old new goes = none_same old new goes
+  goes_none (f ∷ fs) old new goes =
+      let gives = goes.2 in
+      none_then old goes.0 new
+      (gives_none cache gives.handle false goes.1 old goes.0 gives.releases)
+      (goes_none fs goes.0 new goes.3)
 
   -- so all clients have made what they had made
   ends_same : (clients : List (Client T)) (registers : List Registers) (closed : Closed)
@@ -107,8 +108,7 @@ module _ {T : Type 0} (fits : T → Key → List ℕ → Type 0) (cache : Cache 
       let within = slice_get_within clients k client on in
       let held = there registers k (omega arith) in
       let goes = ends.each k client last held.0 on held.1 at in
-      let none = goes_none (length held.0.handles.items) client last held.0.handles.items goes.0
-      goes.1 in
+      let none = goes_none held.0.filled.items client last goes in
       ap length (none.same s)))
 
 module _ {T : Type 0} (config : Config) (tag : T) (cache : Cache T) (clients : List (Client T))

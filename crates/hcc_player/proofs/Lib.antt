@@ -17,8 +17,12 @@ pub mod ReadsPlaced
 pub mod Dealing
 pub mod Crewing
 pub mod JsonLemmas
-pub mod Grown
 pub mod RegisterLemmas
+pub mod SumsWithin
+pub mod StandingNames
+pub mod HeldRecords
+pub mod HeldCharges
+pub mod BoundedStates
 pub mod RunLemmas
 pub mod RunsLemmas
 pub mod MadeLemmas

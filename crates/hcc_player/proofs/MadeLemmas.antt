@@ -24,6 +24,7 @@ use Rattle.hcc_player.specs.declared.run.answer.Answer.{Answer}
 use Rattle.hcc_player.specs.declared.run.answer.Answer.TheVariants as answers
 use Rattle.hcc_player.specs.declared.run.call.Call.{Call}
 use Rattle.hcc_player.specs.declared.run.call.Call.TheVariants as calls
+use Rattle.hcc_player.specs.declared.run.registers.Filled.{Filled}
 use Rattle.hcc_player.specs.RunAnswers.{insert_answer}
 use Rattle.hcc_player.specs.RunCalls.{Does, ReadsTotals, ReadsWord}
 use Rattle.hcc_player.specs.Runs.{placed_by}
@@ -218,7 +219,7 @@ module _ {T : Type 0} (fits : T → Key → List ℕ → Type 0) (cache : Cache 
 
   -- Each line adds what its answer says.
   pub adds : (call : Call) (answer : Answer) (old new : Client T)
-      (was now : List (Option Handle)) → Does fits cache call answer old new was now
+      (was now : List Filled) → Does fits cache call answer old new was now
       → Adds cache (placed_by call answer) old new
   unfolding Does
   adds (calls.Insert k x p w) answer old new was now did =

@@ -22,7 +22,8 @@ use Rattle.hcc_cache.specs.Left.{given, over_shards}
 use Rattle.hcc_player.specs.declared.run.answer.Answer.{Answer}
 use Rattle.hcc_player.specs.declared.run.call.RunLine.{RunLine}
 use Rattle.hcc_player.specs.declared.sums.Sums.{Sums}
-use Rattle.hcc_player.specs.Runs.{LeavesPlaced, charge_of, placed_at}
+use Rattle.hcc_player.specs.Runs.{LeavesPlaced, placed_at}
+use Rattle.hcc_player.specs.RunStates.{charge_of}
 use Rattle.hcc_player.specs.Work.{AllWith}
 use Rattle.hcc_player.proofs.Gathering.{Gathers, Part, apart_at, gathers, joins}
 use Rattle.hcc_player.proofs.MadeLemmas.{made_in}

@@ -1,5 +1,5 @@
 -- A whole play of a trace: what is written for its text.
-use Rattle.std.proofs.Common.{◌≡◌, inl, inr, ℕ, zero, suc, ◌≤◌, List, [], ◌++◌, Option}
+use Rattle.std.proofs.Common.{◌≡◌, inl, inr, ℕ, ◌≤◌, List, [], ◌++◌, Option}
 use Rattle.std.proofs.Common.{Some}
 use Rattle.std.proofs.Common.{None, Result, Ok, Err, IsOk, IfSome, ◌+◌, length, refl, sym, ap, ◌∙◌}
 use Rattle.std.proofs.Common.{subst}
@@ -30,7 +30,7 @@ use Rattle.hcc_player.specs.RunAlone.{AreAllExact}
 use Rattle.hcc_player.specs.Runs.{AreEmpty, MakesAll}
 use Rattle.hcc_player.specs.PlayRun.{Agree, Answered, AnsweredPart, AreManned, Ended, EndedPart}
 use Rattle.hcc_player.specs.PlayRun.{EndsRun, FitsIn, IsOutput, PlaysAll, Writes, WritesFront}
-use Rattle.hcc_player.specs.Registers.{at, AreFilled, IsFilled}
+use Rattle.hcc_player.specs.Registers.{AreFilled}
 use Rattle.hcc_player.specs.RunStates.{States, new_states}
 use Rattle.hcc_player.specs.Report.{sums_text}
 use Rattle.hcc_player.specs.RunAnswers.{answers_text, AreRight, Inserts, IsPlayed}
@@ -39,13 +39,10 @@ use Rattle.hcc_player.proofs.ByteLemmas.{all_out, leaves_less, leaves_more, leav
 use Rattle.hcc_player.proofs.ByteLemmas.{writes_nothing}
 use Rattle.hcc_player.proofs.LeavesLemmas.{leaves_placed}
 use Rattle.hcc_player.proofs.LeftLemmas.{all_counted}
+use Rattle.hcc_player.proofs.BoundedStates.{new_bounded}
 use Rattle.hcc_player.proofs.RunLemmas.{can_go_on}
 
 -- The beginning.
-
-none_at : (r : ℕ) → at [] r ≡ None
-none_at zero = refl
-none_at (suc r) = refl
 
 -- new clients, whose registers are empty
 pub manned_new : {T : Type 0} (fits : T → Key → List ℕ → Type 0) (config : Config) (tag : T)
@@ -67,11 +64,11 @@ manned_new fits config tag cache clients registers opened empty count = record {
           strict = opened.cache_is.strict;
           capacity = opened.cache_is.capacity;
         };
-        each = λ r.
-            subst (λ x. IsFilled fits cache client None x) (sym (none_at r)) refl;
-        apart = λ r s h first second.
-            let no : None ≡ Some h = sym (none_at r) ∙ first in cc;
+        each = λ r. refl;
+        apart = λ r s h first second. cc;
         count = unused.held;
+        once = tt;
+        alike = λ r q h k a b name here there on off is same. cc;
       });
 }
 
@@ -90,7 +87,7 @@ no_sums = record { charges = 0; occupied = 0; slots = 0; usage = 0 }
 pub some_played : (config : Config) (lines : List RunLine)
     → (out : List ℕ) × IsPlayed config lines out
 some_played config lines =
-    let some = can_go_on (Inserts lines) config new_states lines in (
+    let some = can_go_on (Inserts lines) config new_states (λ c. new_bounded) lines in (
       answers_text some.0 ++ sums_text no_sums,
       record {
         told = some.0;

@@ -35,7 +35,8 @@ use Rattle.hcc_player.specs.BlocksLeft.{LeavesBlocks, block_at, length_of, reads
 use Rattle.hcc_player.specs.Reading.{Counts, ReadsLine, ReadsLines, counts_of, no_counts}
 use Rattle.hcc_player.specs.RunAnswers.{insert_answer}
 use Rattle.hcc_player.specs.RunCalls.{Does}
-use Rattle.hcc_player.specs.Runs.{charge_of, placed_at, placed_by}
+use Rattle.hcc_player.specs.Runs.{placed_at, placed_by}
+use Rattle.hcc_player.specs.RunStates.{charge_of}
 use Rattle.hcc_player.specs.Tally.{found_by}
 use Rattle.hcc_player.proofs.BlocksLeft.{copies_none, lacks_none}
 use Rattle.hcc_player.proofs.LeavesLemmas.{no_more}

@@ -1,8 +1,7 @@
 -- Registers that are filled and emptied.
-use Rattle.std.proofs.Common.{◌≡◌, ◌≢◌, ℕ, zero, suc, ◌+◌, ◌<◌, ◌==◌, inl, inr, true, false, List}
+use Rattle.std.proofs.Common.{◌≡◌, ◌≢◌, ℕ, zero, suc, ◌+◌, ◌==◌, inl, inr, true, false, List}
 use Rattle.std.proofs.Common.{[], ◌∷◌, ◌++◌, Option, Some, None, length, refl, sym, ap, ◌∙◌, subst}
 use Rattle.std.proofs.Common.{arith, rules, tests}
-use Rattle.std.specs.Prelude.{slice_set}
 use Rattle.std.proofs.lemmas.Bool.{cases_eq}
 use Rattle.hcc_rule.specs.declared.key.Key.{Key}
 use Rattle.hcc_cache.specs.declared.cache.Cache.{Cache}
@@ -13,63 +12,140 @@ use Rattle.hcc_cache.specs.Calls.{Gains, IsSelf, KeepsAll, Loses, UsesNone}
 use Rattle.hcc_cache.specs.Clients.{Held, Insertion, held_by, held_of, hold_of}
 use Rattle.hcc_cache.specs.Inserts.{KeepsHandles}
 use Rattle.hcc_cache.specs.Known.{Knows}
+use Rattle.hcc_player.specs.declared.run.registers.Filled.{Filled}
 use Rattle.hcc_player.specs.declared.run.registers.Registers.{Registers}
 use Rattle.hcc_player.specs.Runs.{AreEmpty}
-use Rattle.hcc_player.specs.Registers.{at, how_many, AreFilled, IsFilled, IsLimited, IsOn}
+use Rattle.hcc_player.specs.Registers.{at, filled_with, filled_without, AreFilled, AreOnce, IsFilled}
+use Rattle.hcc_player.specs.Registers.{IsLimited, IsOn}
 use Rattle.hcc_player.specs.RunStates.{State, with_emptied, with_filled, with_register, with_serial}
 
--- Of the list of registers that are kept.
+-- Of the list of full registers.
 
--- what a register holds that was set, and another
-pub at_set : (xs : List (Option Handle)) (r : ℕ) (x : Option Handle) → r < length xs
-    → at (slice_set xs r x) r ≡ x
-at_set [] r x within = absurd (omega arith)
-at_set (y ∷ ys) zero x within = refl
-at_set (y ∷ ys) (suc r) x within = at_set ys r x (omega arith)
+-- the first one, and those behind it
+pub first_at : (f : Filled) (fs : List Filled) (r : ℕ) → f.register ≡ r
+    → at (f ∷ fs) r ≡ Some f.handle
+first_at f fs r same =
+    let yes : (f.register == r) ≡ true = search (rules, tests) in rw yes refl
 
-pub off_set : (xs : List (Option Handle)) (r q : ℕ) (x : Option Handle) → q ≢ r
-    → at (slice_set xs r x) q ≡ at xs q
-off_set [] zero q x other = refl
-off_set [] (suc r) q x other = refl
-off_set (y ∷ ys) zero zero x other = absurd (other refl)
-off_set (y ∷ ys) zero (suc q) x other = refl
-off_set (y ∷ ys) (suc r) zero x other = refl
-off_set (y ∷ ys) (suc r) (suc q) x other = off_set ys r q x (λ e. other (ap suc e))
+pub behind_at : (f : Filled) (fs : List Filled) (r : ℕ) → f.register ≢ r
+    → at (f ∷ fs) r ≡ at fs r
+behind_at f fs r other =
+    let no : (f.register == r) ≡ false = search (rules, tests) in rw no refl
 
--- a full register is kept
-pub full_within : (xs : List (Option Handle)) (r : ℕ) (h : Handle) → at xs r ≡ Some h
-    → r < length xs
-full_within [] r h full = cc
-full_within (y ∷ ys) zero h full = omega arith
-full_within (y ∷ ys) (suc r) h full = let rest = full_within ys r h full in omega arith
+-- without one: where it is the first, and where it isn't
+without_first : (f : Filled) (fs : List Filled) (r : ℕ) → f.register ≡ r
+    → filled_without (f ∷ fs) r ≡ filled_without fs r
+without_first f fs r same =
+    let yes : (f.register == r) ≡ true = search (rules, tests) in rw yes refl
 
-one_more : (xs : List (Option Handle)) (r : ℕ) (h : Handle) → at xs r ≡ None → r < length xs
-    → how_many (slice_set xs r (Some h)) ≡ how_many xs + 1
-one_more [] r h empty within = absurd (omega arith)
-one_more (None ∷ ys) zero h empty within = omega arith
-one_more (Some k ∷ ys) zero h empty within = cc
-one_more (None ∷ ys) (suc r) h empty within = one_more ys r h empty (omega arith)
-one_more (Some k ∷ ys) (suc r) h empty within =
-    let rest = one_more ys r h empty (omega arith) in omega arith
+without_behind : (f : Filled) (fs : List Filled) (r : ℕ) → f.register ≢ r
+    → filled_without (f ∷ fs) r ≡ f ∷ filled_without fs r
+without_behind f fs r other =
+    let no : (f.register == r) ≡ false = search (rules, tests) in rw no refl
 
-one_less : (xs : List (Option Handle)) (r : ℕ) (h : Handle) → at xs r ≡ Some h
-    → how_many (slice_set xs r None) + 1 ≡ how_many xs
-one_less [] r h full = cc
-one_less (None ∷ ys) zero h full = cc
-one_less (Some k ∷ ys) zero h full = omega arith
-one_less (None ∷ ys) (suc r) h full = one_less ys r h full
-one_less (Some k ∷ ys) (suc r) h full = let rest = one_less ys r h full in omega arith
+-- the first one isn't one that is empty
+not_first : (f : Filled) (fs : List Filled) (r : ℕ) → at (f ∷ fs) r ≡ None → f.register ≢ r
+not_first f fs r empty same =
+    let no : None ≡ Some f.handle = sym empty ∙ first_at f fs r same in cc
 
--- no register holds a handle
-pub all_empty : (xs : List (Option Handle)) → ((r : ℕ) → r < length xs → at xs r ≡ None)
-    → how_many xs ≡ 0
-all_empty [] empty = refl
-all_empty (None ∷ ys) empty =
-    all_empty ys (λ r within. empty (suc r) (omega arith))
-all_empty (Some h ∷ ys) empty = let no = empty 0 (omega arith) in cc
+none_behind : (f : Filled) (fs : List Filled) (r : ℕ) → at (f ∷ fs) r ≡ None → at fs r ≡ None
+none_behind f fs r empty = sym (behind_at f fs r (not_first f fs r empty)) ∙ empty
+
+-- what a register holds that was filled, and another
+pub at_filled : (xs : List Filled) (r : ℕ) (h : Handle) → at xs r ≡ None
+    → at (filled_with xs r h) r ≡ Some h
+at_filled [] r h empty = first_at (record { register = r; handle = h }) [] r refl
+at_filled (f ∷ fs) r h empty =
+    behind_at f (filled_with fs r h) r (not_first f fs r empty)
+    ∙ at_filled fs r h (none_behind f fs r empty)
+
+off_filled : (xs : List Filled) (r q : ℕ) (h : Handle) → q ≢ r
+    → at (filled_with xs r h) q ≡ at xs q
+off_filled [] r q h other =
+    behind_at (record { register = r; handle = h }) [] q (λ e. other (sym e))
+off_filled (f ∷ fs) r q h other =
+    elim (cases_eq f.register q) [
+      | inl same ↦ first_at f (filled_with fs r h) q same ∙ sym (first_at f fs q same)
+      | inr far ↦ behind_at f (filled_with fs r h) q far ∙ off_filled fs r q h other
+          ∙ sym (behind_at f fs q far)
+    ]
+
+-- and one that was emptied, and another
+pub at_emptied : (xs : List Filled) (r : ℕ) → at (filled_without xs r) r ≡ None
+at_emptied [] r = refl
+at_emptied (f ∷ fs) r =
+    elim (cases_eq f.register r) [
+      | inl same ↦ rw (without_first f fs r same) (at_emptied fs r)
+      | inr far ↦ rw (without_behind f fs r far)
+          (behind_at f (filled_without fs r) r far ∙ at_emptied fs r)
+    ]
+
+off_emptied : (xs : List Filled) (r q : ℕ) → q ≢ r → at (filled_without xs r) q ≡ at xs q
+off_emptied [] r q other = refl
+off_emptied (f ∷ fs) r q other =
+    elim (cases_eq f.register r) [
+      | inl same ↦
+          let far : f.register ≢ q = λ e. other (sym e ∙ same) in
+          rw (without_first f fs r same) (off_emptied fs r q other ∙ sym (behind_at f fs q far))
+      | inr kept ↦ rw (without_behind f fs r kept)
+          (elim (cases_eq f.register q) [
+            | inl same ↦ first_at f (filled_without fs r) q same ∙ sym (first_at f fs q same)
+            | inr far ↦ behind_at f (filled_without fs r) q far ∙ off_emptied fs r q other
+                ∙ sym (behind_at f fs q far)
+          ])
+    ]
+
+-- each is kept once
+once_filled : (xs : List Filled) (r : ℕ) (h : Handle) → AreOnce xs → at xs r ≡ None
+    → AreOnce (filled_with xs r h)
+once_filled [] r h once empty = (refl, tt)
+once_filled (f ∷ fs) r h once empty = (
+  off_filled fs r f.register h (not_first f fs r empty) ∙ once.0,
+  once_filled fs r h once.1 (none_behind f fs r empty),
+)
+
+once_emptied : (xs : List Filled) (r : ℕ) → AreOnce xs → AreOnce (filled_without xs r)
+once_emptied [] r once = tt
+once_emptied (f ∷ fs) r once =
+    elim (cases_eq f.register r) [
+      | inl same ↦ rw (without_first f fs r same) (once_emptied fs r once.1)
+      | inr far ↦ rw (without_behind f fs r far)
+          (off_emptied fs r f.register far ∙ once.0, once_emptied fs r once.1)
+    ]
+
+-- how many are full
+one_more : (xs : List Filled) (r : ℕ) (h : Handle)
+    → length (filled_with xs r h) ≡ length xs + 1
+one_more [] r h = refl
+one_more (f ∷ fs) r h = let rest = one_more fs r h in omega arith
+
+all_kept : (xs : List Filled) (r : ℕ) → at xs r ≡ None → filled_without xs r ≡ xs
+all_kept [] r empty = refl
+all_kept (f ∷ fs) r empty =
+    without_behind f fs r (not_first f fs r empty)
+    ∙ ap (λ l. f ∷ l) (all_kept fs r (none_behind f fs r empty))
+
+-- without the first one are those behind it
+pub those_behind : (f : Filled) (fs : List Filled) → AreOnce (f ∷ fs)
+    → filled_without (f ∷ fs) f.register ≡ fs
+those_behind f fs once =
+    without_first f fs f.register refl ∙ all_kept fs f.register once.0
+
+one_less : (xs : List Filled) (r : ℕ) (h : Handle) → AreOnce xs → at xs r ≡ Some h
+    → length (filled_without xs r) + 1 ≡ length xs
+one_less [] r h once full = cc
+one_less (f ∷ fs) r h once full =
+    elim (cases_eq f.register r) [
+      | inl same ↦
+          let all = ap length (all_kept fs r (subst (λ n. at fs n ≡ None) same once.0)) in
+          rw (without_first f fs r same) (omega arith)
+      | inr far ↦
+          let rest = one_less fs r h once.1 (sym (behind_at f fs r far) ∙ full) in
+          rw (without_behind f fs r far) (omega arith)
+    ]
 
 -- clients more whose registers are empty
-pub empty_more : (all : List Registers) (x : Registers) → AreEmpty all → x.handles.items ≡ []
+pub empty_more : (all : List Registers) (x : Registers) → AreEmpty all → x.filled.items ≡ []
     → AreEmpty (all ++ x ∷ [])
 empty_more [] x empty here zero held at = let same : x ≡ held = cc in rw (← same) here
 empty_more [] x empty here (suc c) held at = cc
@@ -104,7 +180,7 @@ module _ {T : Type 0} (fits : T → Key → List ℕ → Type 0) (cache : Cache 
       let same : g ≡ h = cc in subst (λ x. IsOn fits cache client x told) same filled
 
   -- a handle that nobody holds stands for nothing
-  unheld : (client : Client T) (h : Handle) → hold_of client h ≡ None
+  pub unheld : (client : Client T) (h : Handle) → hold_of client h ≡ None
       → held_of cache client h ≡ None
   unheld client h free = rw free refl
 
@@ -126,7 +202,7 @@ module _ {T : Type 0} (fits : T → Key → List ℕ → Type 0) (cache : Cache 
   serials_less used left left' all less whole = omega arith
 
   -- the client holds what it held, and used no serial
-  pub same_filled : (s : State) (old new : Client T) (handles : List (Option Handle))
+  pub same_filled : (s : State) (old new : Client T) (handles : List Filled)
       → Knows cache new → IsSelf old new → KeepsAll cache old new
       → AreFilled fits cache config s old handles → AreFilled fits cache config s new handles
   same_filled s old new handles known self keeps so_far = record {
@@ -136,10 +212,13 @@ module _ {T : Type 0} (fits : T → Key → List ℕ → Type 0) (cache : Cache 
         (λ h full. keeps.all h) (so_far.each r);
     apart = so_far.apart;
     count = keeps.count ∙ so_far.count;
+    once = so_far.once;
+    alike = λ r q h k a b name here there on off. so_far.alike r q h k a b name here there
+        (sym (keeps.all h) ∙ on) (sym (keeps.all k) ∙ off);
   }
 
   -- or one
-  pub serial_filled : (s : State) (old new : Client T) (handles : List (Option Handle))
+  pub serial_filled : (s : State) (old new : Client T) (handles : List Filled)
       → Knows cache new → IsSelf old new → KeepsHandles cache old new
       → AreFilled fits cache config s old handles
       → AreFilled fits cache config (with_serial s) new handles
@@ -157,35 +236,33 @@ module _ {T : Type 0} (fits : T → Key → List ℕ → Type 0) (cache : Cache 
         (λ h full. keeps.all h) (so_far.each r);
     apart = so_far.apart;
     count = keeps.count ∙ so_far.count;
+    once = so_far.once;
+    alike = λ r q h k a b name here there on off. so_far.alike r q h k a b name here there
+        (sym (keeps.all h) ∙ on) (sym (keeps.all k) ∙ off);
   }
 
-  -- registers that are kept otherwise
-  pub moved_filled : (s : State) (client : Client T) (was now : List (Option Handle))
-      → ((r : ℕ) → at now r ≡ at was r) → how_many now ≡ how_many was
-      → AreFilled fits cache config s client was → AreFilled fits cache config s client now
-  moved_filled s client was now same count so_far = record {
-    known = so_far.known;
-    limited = so_far.limited;
-    each = λ r. rw (same r) (so_far.each r);
-    apart = λ r q h here there. so_far.apart r q h (sym (same r) ∙ here) (sym (same q) ∙ there);
-    count = so_far.count ∙ sym count;
-  }
-
-  pub on_register : (s : State) (client : Client T) (handles : List (Option Handle)) (r : ℕ)
+  pub on_register : (s : State) (client : Client T) (handles : List Filled) (r : ℕ)
       (h : Handle) → at handles r ≡ Some h → AreFilled fits cache config s client handles
       → IsOn fits cache client h (s.registers r)
   on_register s client handles r h full so_far =
       on_at fits cache client (s.registers r) (at handles r) h full (so_far.each r)
 
+  -- a standalone entry that a handle stands for has one insertion, with those of the registers
+  abbrev pub IsAlike : Client T → List Filled → Held → Type 0
+  IsAlike old handles held =
+      (q : ℕ) (k : Handle) (b : Held) (name : ℕ) → at handles q ≡ Some k
+      → held_of cache old k ≡ Some b → held.standing ≡ Some name → b.standing ≡ Some name
+      → held.insertion ≡ b.insertion
+
   -- an empty register is filled
-  pub more_filled : (s : State) (old new : Client T) (handles : List (Option Handle)) (r : ℕ)
+  pub more_filled : (s : State) (old new : Client T) (handles : List Filled) (r : ℕ)
       (handle : Handle) (held : Held) → Knows cache new → IsSelf old new
       → Gains cache handle held old new
       → fits cache.tag held.insertion.key held.insertion.value
-      → at handles r ≡ None → r < length handles → AreFilled fits cache config s old handles
+      → at handles r ≡ None → IsAlike old handles held → AreFilled fits cache config s old handles
       → AreFilled fits cache config (with_filled s r held.insertion) new
-      (slice_set handles r (Some handle))
-  more_filled s old new handles r handle held known self gains right empty within so_far = record {
+      (filled_with handles r handle)
+  more_filled s old new handles r handle held known self gains right empty fresh so_far = record {
     known = known;
     limited = record {
       full = gains.count ∙ ap (λ n. n + 1) so_far.limited.full;
@@ -197,8 +274,9 @@ module _ {T : Type 0} (fits : T → Key → List ℕ → Type 0) (cache : Cache 
     };
     each = each;
     apart = apart;
-    count = gains.count ∙ ap (λ n. n + 1) so_far.count
-        ∙ sym (one_more handles r handle empty within);
+    count = gains.count ∙ ap (λ n. n + 1) so_far.count ∙ sym (one_more handles r handle);
+    once = once_filled handles r handle so_far.once empty;
+    alike = alike;
   }
     where
       -- a handle that was held is another one
@@ -211,36 +289,36 @@ module _ {T : Type 0} (fits : T → Key → List ℕ → Type 0) (cache : Cache 
 
       each : (q : ℕ) → IsFilled fits cache new
           (with_register s.registers r (Some held.insertion) q)
-          (at (slice_set handles r (Some handle)) q)
+          (at (filled_with handles r handle) q)
       each q =
           elim (cases_eq q r) [
             | inl same ↦
                 let yes : (q == r) ≡ true = search (rules, tests) in
-                let here : at (slice_set handles r (Some handle)) q ≡ Some handle =
-                rw same (at_set handles r (Some handle) within) in
+                let here : at (filled_with handles r handle) q ≡ Some handle =
+                rw same (at_filled handles r handle empty) in
                 rw (yes, here)
                 (record { held = held; here = gains.stands; inserted = refl; right = right })
             | inr other ↦
                 let no : (q == r) ≡ false = search (rules, tests) in
-                rw (no, off_set handles r q (Some handle) other)
+                rw (no, off_filled handles r q handle other)
                 (kept_filled fits cache old new (s.registers q) (at handles q)
                 (λ h full. gains.others h (other_held q h full)) (so_far.each q))
           ]
 
       -- the other registers hold others
       old_at : (q : ℕ) (h : Handle) → q ≢ r
-          → at (slice_set handles r (Some handle)) q ≡ Some h → at handles q ≡ Some h
-      old_at q h other full = sym (off_set handles r q (Some handle) other) ∙ full
+          → at (filled_with handles r handle) q ≡ Some h → at handles q ≡ Some h
+      old_at q h other full = sym (off_filled handles r q handle other) ∙ full
 
       new_at : (q : ℕ) (h : Handle) → q ≡ r
-          → at (slice_set handles r (Some handle)) q ≡ Some h → h ≡ handle
+          → at (filled_with handles r handle) q ≡ Some h → h ≡ handle
       new_at q h same full =
-          let here : at (slice_set handles r (Some handle)) q ≡ Some handle =
-          rw same (at_set handles r (Some handle) within) in
+          let here : at (filled_with handles r handle) q ≡ Some handle =
+          rw same (at_filled handles r handle empty) in
           let told : Some h ≡ Some handle = sym full ∙ here in cc
 
-      apart : (q p : ℕ) (h : Handle) → at (slice_set handles r (Some handle)) q ≡ Some h
-          → at (slice_set handles r (Some handle)) p ≡ Some h → q ≡ p
+      apart : (q p : ℕ) (h : Handle) → at (filled_with handles r handle) q ≡ Some h
+          → at (filled_with handles r handle) p ≡ Some h → q ≡ p
       apart q p h here there =
           elim (cases_eq q r) [
             | inl first ↦
@@ -258,11 +336,55 @@ module _ {T : Type 0} (fits : T → Key → List ℕ → Type 0) (cache : Cache 
                 ]
           ]
 
+      new_held : (q : ℕ) (h : Handle) (a : Held) → q ≡ r
+          → at (filled_with handles r handle) q ≡ Some h → held_of cache new h ≡ Some a → a ≡ held
+      new_held q h a same full on =
+          let both : Some a ≡ Some held =
+          sym on ∙ ap (held_of cache new) (new_at q h same full) ∙ gains.stands in cc
+
+      old_held : (q : ℕ) (h : Handle) (a : Held) → q ≢ r
+          → at (filled_with handles r handle) q ≡ Some h → held_of cache new h ≡ Some a
+          → held_of cache old h ≡ Some a
+      old_held q h a other full on =
+          sym (gains.others h (other_held q h (old_at q h other full))) ∙ on
+
+      alike : (q p : ℕ) (h k : Handle) (a b : Held) (name : ℕ)
+          → at (filled_with handles r handle) q ≡ Some h
+          → at (filled_with handles r handle) p ≡ Some k → held_of cache new h ≡ Some a
+          → held_of cache new k ≡ Some b → a.standing ≡ Some name → b.standing ≡ Some name
+          → a.insertion ≡ b.insertion
+      alike q p h k a b name here there on off is same =
+          elim (cases_eq q r) [
+            | inl first ↦
+                let mine = new_held q h a first here on in
+                elim (cases_eq p r) [
+                  | inl second ↦
+                      let its = new_held p k b second there off in
+                      ap (λ (x : Held). x.insertion) (mine ∙ sym its)
+                  | inr second ↦
+                      ap (λ (x : Held). x.insertion) mine
+                      ∙ fresh p k b name (old_at p k second there) (old_held p k b second there off)
+                      (ap (λ (x : Held). x.standing) (sym mine) ∙ is) same
+                ]
+            | inr first ↦
+                elim (cases_eq p r) [
+                  | inl second ↦
+                      let its = new_held p k b second there off in
+                      sym (ap (λ (x : Held). x.insertion) its
+                      ∙ fresh q h a name (old_at q h first here) (old_held q h a first here on)
+                      (ap (λ (x : Held). x.standing) (sym its) ∙ same) is)
+                  | inr second ↦
+                      so_far.alike q p h k a b name (old_at q h first here)
+                      (old_at p k second there) (old_held q h a first here on)
+                      (old_held p k b second there off) is same
+                ]
+          ]
+
   -- a full register is emptied
-  pub less_filled : (s : State) (old new : Client T) (handles : List (Option Handle)) (r : ℕ)
+  pub less_filled : (s : State) (old new : Client T) (handles : List Filled) (r : ℕ)
       (handle : Handle) → Knows cache new → IsSelf old new → Loses cache handle old new
       → at handles r ≡ Some handle → AreFilled fits cache config s old handles
-      → AreFilled fits cache config (with_emptied s r) new (slice_set handles r None)
+      → AreFilled fits cache config (with_emptied s r) new (filled_without handles r)
   less_filled s old new handles r handle known self loses full so_far = record {
     known = known;
     limited = record {
@@ -274,41 +396,51 @@ module _ {T : Type 0} (fits : T → Key → List ℕ → Type 0) (cache : Cache 
     };
     each = each;
     apart = apart;
-    count = let less = one_less handles r handle full in
+    count = let less = one_less handles r handle so_far.once full in
         let whole = so_far.count in let fewer = loses.count in omega arith;
+    once = once_emptied handles r so_far.once;
+    alike = λ q p h k a b name here there on off. so_far.alike q p h k a b name (old_at q h here)
+        (old_at p k there) (sym (loses.others h (not_gone q h here)) ∙ on)
+        (sym (loses.others k (not_gone p k there)) ∙ off);
   }
     where
-      within : r < length handles
-      within = full_within handles r handle full
-
       each : (q : ℕ) → IsFilled fits cache new (with_register s.registers r None q)
-          (at (slice_set handles r None) q)
+          (at (filled_without handles r) q)
       each q =
           elim (cases_eq q r) [
             | inl same ↦
                 let yes : (q == r) ≡ true = search (rules, tests) in
-                let here : at (slice_set handles r None) q ≡ None =
-                rw same (at_set handles r None within) in
+                let here : at (filled_without handles r) q ≡ None =
+                rw same (at_emptied handles r) in
                 rw (yes, here) refl
             | inr other ↦
                 let no : (q == r) ≡ false = search (rules, tests) in
-                rw (no, off_set handles r q None other)
+                rw (no, off_emptied handles r q other)
                 (kept_filled fits cache old new (s.registers q) (at handles q)
                 (λ h there. loses.others h (λ same. other (so_far.apart q r handle
                 (rw same at there) full))) (so_far.each q))
           ]
 
-      old_at : (q : ℕ) (h : Handle) → at (slice_set handles r None) q ≡ Some h
+      old_at : (q : ℕ) (h : Handle) → at (filled_without handles r) q ≡ Some h
           → at handles q ≡ Some h
       old_at q h there =
           elim (cases_eq q r) [
             | inl same ↦
-                let here : at (slice_set handles r None) q ≡ None =
-                rw same (at_set handles r None within) in
+                let here : at (filled_without handles r) q ≡ None =
+                rw same (at_emptied handles r) in
                 let no : None ≡ Some h = sym here ∙ there in cc
-            | inr other ↦ sym (off_set handles r q None other) ∙ there
+            | inr other ↦ sym (off_emptied handles r q other) ∙ there
           ]
 
-      apart : (q p : ℕ) (h : Handle) → at (slice_set handles r None) q ≡ Some h
-          → at (slice_set handles r None) p ≡ Some h → q ≡ p
+      -- the handle is in no register any more
+      not_gone : (q : ℕ) (h : Handle) → at (filled_without handles r) q ≡ Some h → h ≢ handle
+      not_gone q h there same =
+          let here : q ≡ r =
+          so_far.apart q r handle (subst (λ x. at handles q ≡ Some x) same (old_at q h there)) full
+          in
+          let none : at (filled_without handles r) q ≡ None = rw here (at_emptied handles r) in
+          let no : None ≡ Some h = sym none ∙ there in cc
+
+      apart : (q p : ℕ) (h : Handle) → at (filled_without handles r) q ≡ Some h
+          → at (filled_without handles r) p ≡ Some h → q ≡ p
       apart q p h here there = so_far.apart q p h (old_at q h here) (old_at p h there)

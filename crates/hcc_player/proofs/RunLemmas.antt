@@ -19,6 +19,8 @@ use Rattle.hcc_player.specs.RunAnswers.{IsRight, AreRight, answer_line, answers_
 use Rattle.hcc_player.specs.RunStates.{IsRefused, MayHold, MayInsert, RefusesInsert, RefusesPin}
 use Rattle.hcc_player.specs.RunStates.{State, States, with_emptied, with_filled, with_serial}
 use Rattle.hcc_player.specs.RunStates.{with_state}
+use Rattle.hcc_player.proofs.BoundedStates.{IsBounded, bounded_emptied, bounded_filled, bounded_with}
+use Rattle.hcc_player.proofs.BoundedStates.{charge_bound, covers_bounded}
 
 -- Texts.
 
@@ -61,6 +63,7 @@ module _ (Puts : Key → List ℕ → Type 0) (config : Config) where
     answer : Answer
     next : State
     right : IsRight Puts config s call answer next
+    bounded : IsBounded next
 
   -- what is told of a handle that may be given, or not
   look_choice : (s : State) → MayHold config s ⊎ ((error : InsertError) × IsRefused config error s)
@@ -103,12 +106,12 @@ module _ (Puts : Key → List ℕ → Type 0) (config : Config) where
   refuses_pin s charge errors.CapacityFull room refused = (room, refused)
   refuses_pin s charge errors.OccupancyFull room refused = (room, refused)
 
-  pin_choice : (s : State) (r : ℕ) (k : Key) (t : ℕ) (q : _) (v : List ℕ) (x : Option Insertion)
-      → s.registers r ≡ x → Choice s (calls.Pin r k t q v)
+  pin_choice : (s : State) (b : IsBounded s) (r : ℕ) (k : Key) (t : ℕ) (q : _) (v : List ℕ)
+      (x : Option Insertion) → s.registers r ≡ x → Choice s (calls.Pin r k t q v)
   unfolding IsRight
-  pin_choice s r k t q v (Some held) e =
-      record { answer = answers.Busy; next = s; right = (rw e refl, refl) }
-  pin_choice s r k t q v None e =
+  pin_choice s b r k t q v (Some held) e =
+      record { answer = answers.Busy; next = s; right = (rw e refl, refl); bounded = b }
+  pin_choice s b r k t q v None e =
       elim (cases_lt s.full config.handles) [
         | inl room ↦
             elim (insert_choice s t) [
@@ -116,98 +119,142 @@ module _ (Puts : Key → List ℕ → Type 0) (config : Config) where
                 answer = answers.Standalone;
                 next = with_filled s r (record { key = k; value = v; charge = t });
                 right = (e, (room, may, refl));
+                bounded = bounded_filled s r _ b;
               }
               | inr refused ↦ record {
                 answer = answers.Refused refused.0;
                 next = s;
                 right = (e, refuses_pin s t refused.0 room refused.1);
+                bounded = b;
               }
             ]
         | inr full ↦ record {
           answer = answers.Refused errors.HandlesFull;
           next = s;
           right = (e, (full, refl));
+          bounded = b;
         }
       ]
 
-  get_choice : (s : State) (r : ℕ) (k : Key) (x : Option Insertion) → s.registers r ≡ x
-      → Choice s (calls.Get r k)
+  get_choice : (s : State) (b : IsBounded s) (r : ℕ) (k : Key) (x : Option Insertion)
+      → s.registers r ≡ x → Choice s (calls.Get r k)
   unfolding IsRight
-  get_choice s r k (Some held) e =
-      record { answer = answers.Busy; next = s; right = (rw e refl, refl) }
-  get_choice s r k None e =
+  get_choice s b r k (Some held) e =
+      record { answer = answers.Busy; next = s; right = (rw e refl, refl); bounded = b }
+  get_choice s b r k None e =
       elim (look_choice s) [
-        | inl may ↦ record { answer = answers.Miss; next = s; right = (e, may, refl) }
+        | inl may ↦ record {
+          answer = answers.Miss;
+          next = s;
+          right = (e, may, refl);
+          bounded = b;
+        }
         | inr refused ↦ record {
           answer = answers.Refused refused.0;
           next = s;
           right = (e, refused.1, refl);
+          bounded = b;
         }
       ]
 
-  fork_choice : (s : State) (r g : ℕ) (x y : Option Insertion) → s.registers r ≡ x
+  fork_choice : (s : State) (b : IsBounded s) (r g : ℕ) (x y : Option Insertion) → s.registers r ≡ x
       → s.registers g ≡ y → Choice s (calls.Fork r g)
   unfolding IsRight
-  fork_choice s r g (Some held) y e f =
-      record { answer = answers.Busy; next = s; right = (rw e refl, refl) }
-  fork_choice s r g None None e f =
-      record { answer = answers.Nothing; next = s; right = (e, f, refl) }
-  fork_choice s r g None (Some held) e f =
+  fork_choice s b r g (Some held) y e f =
+      record { answer = answers.Busy; next = s; right = (rw e refl, refl); bounded = b }
+  fork_choice s b r g None None e f =
+      record { answer = answers.Nothing; next = s; right = (e, f, refl); bounded = b }
+  fork_choice s b r g None (Some held) e f =
       elim (look_choice s) [
         | inl may ↦ record {
           answer = answers.Held;
           next = with_filled s r held;
           right = (e, may, (held, f, refl));
+          bounded = bounded_filled s r held b;
         }
         | inr refused ↦ record {
           answer = answers.Refused refused.0;
           next = s;
           right = (e, rw f refl, refused.1, refl);
+          bounded = b;
         }
       ]
 
-  release_choice : (s : State) (r : ℕ) (u e : Bool) (x : Option Insertion) → s.registers r ≡ x
-      → Choice s (calls.Release r u e)
+  release_choice : (s : State) (b : IsBounded s) (r : ℕ) (u e : Bool) (x : Option Insertion)
+      → s.registers r ≡ x → Choice s (calls.Release r u e)
   unfolding IsRight
-  release_choice s r u e None f = record { answer = answers.Nothing; next = s; right = (f, refl) }
-  release_choice s r u e (Some held) f =
-      record { answer = answers.Kept; next = with_emptied s r; right = (rw f refl, refl) }
+  release_choice s b r u e None f =
+      record { answer = answers.Nothing; next = s; right = (f, refl); bounded = b }
+  release_choice s b r u e (Some held) f =
+      record {
+        answer = answers.Kept;
+        next = with_emptied s r;
+        right = (rw f refl, refl);
+        bounded = bounded_emptied s r b;
+      }
 
-  value_choice : (s : State) (r : ℕ) (x : Option Insertion) → s.registers r ≡ x
+  value_choice : (s : State) (b : IsBounded s) (r : ℕ) (x : Option Insertion) → s.registers r ≡ x
       → Choice s (calls.Value r)
   unfolding IsRight
-  value_choice s r None e = record { answer = answers.Nothing; next = s; right = (e, refl) }
-  value_choice s r (Some held) e =
-      record { answer = answers.Value held.value; next = s; right = ((held, e, refl), refl) }
+  value_choice s b r None e =
+      record { answer = answers.Nothing; next = s; right = (e, refl); bounded = b }
+  value_choice s b r (Some held) e =
+      record {
+        answer = answers.Value held.value;
+        next = s;
+        right = ((held, e, refl), refl);
+        bounded = b;
+      }
 
-  put_choice : (s : State) (k : Key) (t : ℕ) (q : _) (v : List ℕ) → Choice s (calls.Insert k t q v)
+  put_choice : (s : State) (b : IsBounded s) (k : Key) (t : ℕ) (q : _) (v : List ℕ)
+      → Choice s (calls.Insert k t q v)
   unfolding IsRight
-  put_choice s k t q v =
+  put_choice s b k t q v =
       elim (insert_choice s t) [
         | inl may ↦ record {
           answer = answers.Dropped;
           next = with_serial s;
           right = (may, refl);
+          bounded = b;
         }
         | inr refused ↦ record {
           answer = answers.Refused refused.0;
           next = s;
           right = refused.1;
+          bounded = b;
         }
       ]
 
-  choice : (s : State) (call : Call) → Choice s call
+  choice : (s : State) (b : IsBounded s) (call : Call) → Choice s call
   unfolding IsRight
-  choice s (calls.Insert k t q v) = put_choice s k t q v
-  choice s (calls.Pin r k t q v) = pin_choice s r k t q v (s.registers r) refl
-  choice s (calls.Get r k) = get_choice s r k (s.registers r) refl
-  choice s (calls.Fork r g) = fork_choice s r g (s.registers r) (s.registers g) refl refl
-  choice s (calls.Release r u e) = release_choice s r u e (s.registers r) refl
-  choice s (calls.Value r) = value_choice s r (s.registers r) refl
-  choice s (calls.Erase k) = record { answer = answers.Erased 0; next = s; right = refl }
-  choice s calls.Totals = record { answer = answers.Totals 0 0 0; next = s; right = refl }
-  choice s (calls.Word shard slot) = record { answer = answers.Word 0 0; next = s; right = refl }
-  choice s calls.Stats =
+  choice s b (calls.Insert k t q v) = put_choice s b k t q v
+  choice s b (calls.Pin r k t q v) = pin_choice s b r k t q v (s.registers r) refl
+  choice s b (calls.Get r k) = get_choice s b r k (s.registers r) refl
+  choice s b (calls.Fork r g) = fork_choice s b r g (s.registers r) (s.registers g) refl refl
+  choice s b (calls.Release r u e) = release_choice s b r u e (s.registers r) refl
+  choice s b (calls.Value r) = value_choice s b r (s.registers r) refl
+  choice s b (calls.Erase k) = record {
+    answer = answers.Erased 0;
+    next = s;
+    right = refl;
+    bounded = b;
+  }
+  choice s b calls.Totals =
+      let most = charge_bound s b.0 in
+      let covers = covers_bounded s b in
+      record {
+        answer = answers.Totals most most 0;
+        next = s;
+        right = (covers, covers, refl);
+        bounded = b;
+      }
+  choice s b (calls.Word shard slot) = record {
+    answer = answers.Word 0 0;
+    next = s;
+    right = refl;
+    bounded = b;
+  }
+  choice s b calls.Stats =
       record {
         answer = answers.Stats (record {
           probes = 0;
@@ -221,13 +268,15 @@ module _ (Puts : Key → List ℕ → Type 0) (config : Config) where
         });
         next = s;
         right = refl;
+        bounded = b;
       }
 
   -- the lines that are left can be answered
-  pub can_go_on : (states : States) (lines : List RunLine)
+  pub can_go_on : (states : States) → ((c : ℕ) → IsBounded (states c)) → (lines : List RunLine)
       → (told : List Answer) × (last : States) × AreRight Puts config states lines told last
-  can_go_on states [] = ([], states, refl)
-  can_go_on states (line ∷ lines) =
-      let here = choice (states line.client) line.call in
-      let rest = can_go_on (with_state states line.client here.next) lines in
+  can_go_on states bounds [] = ([], states, refl)
+  can_go_on states bounds (line ∷ lines) =
+      let here = choice (states line.client) (bounds line.client) line.call in
+      let rest = can_go_on (with_state states line.client here.next)
+      (bounded_with states line.client here.next bounds here.bounded) lines in
       (here.answer ∷ rest.0, rest.1, (here.next, here.right, rest.2))

@@ -1,5 +1,5 @@
 -- A trace in the middle of its play.
-use Rattle.std.proofs.Common.{◌≡◌, ℕ, ◌+◌, List, [], ◌∷◌, ◌++◌, Option, Some, Ok, Err, Result, IsOk}
+use Rattle.std.proofs.Common.{◌≡◌, ℕ, zero, suc, ◌+◌, List, [], ◌∷◌, ◌++◌, Option, Some, Ok, Err, Result, IsOk}
 use Rattle.std.proofs.Common.{length}
 use Rattle.std.proofs.Common.{refl, sym, ap, ◌∙◌, subst, append_assoc, append-nil, length-set, inl}
 use Rattle.std.proofs.Common.{inr, true, false, ◌==◌, rules, tests}
@@ -23,6 +23,7 @@ use Rattle.hcc_player.specs.Runs.{Makes, MakesAll}
 use Rattle.hcc_player.specs.declared.fault.ScriptFault.{ScriptFault}
 use Rattle.hcc_player.specs.Script.{lines_of, script_from, script_of}
 use Rattle.hcc_player.specs.TraceTag.{run_trace, said}
+use Rattle.hcc_player.proofs.BoundedStates.{IsBounded, bounded_with, filled_bounded, new_bounded}
 use Rattle.hcc_player.proofs.ByteLemmas.{leaves_less, leaves_more}
 use Rattle.hcc_player.proofs.EndLemmas.{at_member, off_member}
 use Rattle.hcc_player.proofs.RunLemmas.{answers_more, can_go_on, right_more, right_one}
@@ -45,6 +46,13 @@ inserts_here all front line more cut key value puts = record {
   here = ap (λ ls. slice_get ls (length front)) (sym cut) ∙ place_behind front line more;
   puts = puts;
 }
+
+-- what was set is there
+got_set : {A : Type 0} (xs : List A) (n : ℕ) (x y : A) → slice_get xs n ≡ Some x
+    → slice_get (slice_set xs n y) n ≡ Some y
+got_set [] n x y at = cc
+got_set (z ∷ zs) zero x y at = refl
+got_set (z ∷ zs) (suc n) x y at = got_set zs n x y at
 
 -- the lines of a good trace
 pub said_good : (config : Config) (text : List ℕ) → IsOk (run_trace config text)
@@ -72,6 +80,7 @@ module _ {T : Type 0} (fits : T → Key → List ℕ → Type 0) (cache : Cache 
     pub states : States
     pub right : AreRight (fits cache.tag) config new_states front told states
     pub manned : AreManned fits cache config states clients registers
+    pub bounded : (c : ℕ) → IsBounded (states c)
     pub made : MakesAll fits cache front told first clients empty registers
     pub out : Leaves old new (before ++ answers_text told) pending
 
@@ -90,6 +99,7 @@ module _ {T : Type 0} (fits : T → Key → List ℕ → Type 0) (cache : Cache 
     states = new_states;
     right = refl;
     manned = manned;
+    bounded = λ c. new_bounded;
     made = (refl, refl);
     out = rw (append-nil before) out;
   }
@@ -130,6 +140,21 @@ module _ {T : Type 0} (fits : T → Key → List ℕ → Type 0) (cache : Cache 
       (inserts_here all so_far.front line next.more
       (ap (λ l. so_far.front ++ l) (sym next.left_is) ∙ so_far.cut) key value puts)
 
+  -- the registers of the client that acted
+  acted_bounded : (states : States) (clients clients' : List (Client T))
+      (registers registers' : List Registers) (line : RunLine) (answer : Answer) (next : State)
+      → Makes fits cache line answer clients clients' registers registers'
+      → AreManned fits cache config (with_state states line.client next) clients' registers'
+      → IsBounded next
+  acted_bounded states clients clients' registers registers' line answer next makes manned =
+      let here = got_set clients line.client makes.before makes.after makes.client_was in
+      let there = got_set registers line.client makes.held makes.holds makes.registers_were in
+      let yes : (line.client == line.client) ≡ true = search (rules, tests) in
+      let filled = manned.each line.client makes.after makes.holds
+      (rw makes.clients_are here) (rw makes.registers_are there) in
+      filled_bounded fits cache config next makes.after makes.holds.filled.items
+      (rw yes at filled)
+
   -- a line more
   pub running_goes : (old mid new : Option (List ℕ)) (before pending pending' rest after : List ℕ)
       (all : List RunLine) (clients clients' : List (Client T))
@@ -161,6 +186,9 @@ module _ {T : Type 0} (fits : T → Key → List ℕ → Type 0) (cache : Cache 
         right = right_one (fits cache.tag) config new_states so_far.states so_far.front
             so_far.told line answer now.0 so_far.right now.1;
         manned = now.2;
+        bounded = bounded_with so_far.states line.client now.0 so_far.bounded
+            (acted_bounded so_far.states clients clients' registers registers' line answer now.0
+            makes now.2);
         made = makes_one fits cache so_far.front so_far.told line answer first clients clients'
             empty registers registers' so_far.made makes;
         out = rw text (leaves_less old mid new _ _ _
@@ -193,7 +221,7 @@ module _ {T : Type 0} (fits : T → Key → List ℕ → Type 0) (cache : Cache 
       → Running old new before pending rest all clients registers
       → AnsweredPart (fits cache.tag) config all old new before
   running_stops old new before pending rest all clients registers so_far =
-      let more = can_go_on (fits cache.tag) config so_far.states so_far.left in
+      let more = can_go_on (fits cache.tag) config so_far.states so_far.bounded so_far.left in
       let right = right_more (fits cache.tag) config new_states so_far.states more.1 so_far.front
       so_far.left so_far.told more.0 so_far.right more.2 in
       let text : before ++ answers_text (so_far.told ++ more.0)
@@ -234,7 +262,7 @@ module _ {T : Type 0} (fits : T → Key → List ℕ → Type 0) (cache : Cache 
       (registers : List Registers) (client client' : Client T) (held held' : Registers)
       → slice_get clients line.client ≡ Some client
       → slice_get registers line.client ≡ Some held
-      → Goes fits cache line.call answer client client' held.handles.items held'.handles.items
+      → Goes fits cache line.call answer client client' held.filled.items held'.filled.items
       → Steps fits cache line answer clients (slice_set clients line.client client') registers
       (slice_set registers line.client held')
   steps_by line answer clients registers client client' held held' here there goes config states
@@ -250,14 +278,14 @@ module _ {T : Type 0} (fits : T → Key → List ℕ → Type 0) (cache : Cache 
     where
       now : (next : State)
           × IsRight (fits cache.tag) config (states line.client) line.call answer next
-          × AreFilled fits cache config next client' held'.handles.items
+          × AreFilled fits cache config next client' held'.filled.items
       now = goes config (states line.client) (manned.each line.client client held here there)
 
       each : (c : ℕ) (one : Client T) (has : Registers)
           → slice_get (slice_set clients line.client client') c ≡ Some one
           → slice_get (slice_set registers line.client held') c ≡ Some has
           → AreFilled fits cache config (with_state states line.client now.0 c) one
-          has.handles.items
+          has.filled.items
       each c one has at holds =
           elim (cases_eq c line.client) [
             | inl e ↦

@@ -84,7 +84,7 @@ pub record AreManned {T : Type 0} (fits : T → Key → List ℕ → Type 0) (ca
   pub count : length registers ≡ length clients
   pub each : (c : ℕ) (client : Client T) (held : Registers) → slice_get clients c ≡ Some client
       → slice_get registers c ≡ Some held
-      → AreFilled fits cache config (states c) client held.handles.items
+      → AreFilled fits cache config (states c) client held.filled.items
 
 -- So much is told of the clients with their registers, under some options.
 abbrev pub CanAllPlay : {T : Type 0} → (T → Key → List ℕ → Type 0) → Cache T → List (Client T)

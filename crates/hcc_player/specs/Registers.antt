@@ -1,5 +1,8 @@
 -- The registers of a client: which handles they hold, and on which entries these are.
-use Rattle.std.specs.Prelude.{◌≡◌, ℕ, ◌+◌, List, [], ◌∷◌, Option, Some, None, slice_get}
+use Rattle.std.specs.Prelude.{◌≡◌, ◌==◌, ℕ, ◌+◌, List, [], ◌∷◌, ◌++◌, Option, Some, None, length}
+use Rattle.std.specs.Prelude.{not}
+use Rattle.std.specs.List.{filter, find}
+use Rattle.std.specs.Option.{option_map}
 use Rattle.hcc_rule.specs.declared.key.Key.{Key}
 use Rattle.hcc_cache.specs.declared.cache.Cache.{Cache}
 use Rattle.hcc_cache.specs.declared.client.Client.{Client}
@@ -10,22 +13,29 @@ use Rattle.hcc_cache.specs.Configs.{shard_capacity}
 use Rattle.hcc_cache.specs.Known.{Knows}
 use Rattle.hcc_player.specs.declared.run.answer.Answer.{Answer}
 use Rattle.hcc_player.specs.declared.run.call.Call.{Call}
+use Rattle.hcc_player.specs.declared.run.registers.Filled.{Filled}
 use Rattle.hcc_player.specs.RunAnswers.{IsRight}
 use Rattle.hcc_player.specs.RunStates.{State}
 
--- what a register holds; those that are not kept are empty
-abbrev pub in_kept : Option (Option Handle) → Option Handle
-in_kept None = None
-in_kept (Some held) = held
+-- what a register holds: those that are not kept are empty
+abbrev pub at : List Filled → ℕ → Option Handle
+at handles register =
+    option_map (λ (f : Filled). f.handle) (find (λ (f : Filled). f.register == register) handles)
 
-abbrev pub at : List (Option Handle) → ℕ → Option Handle
-at handles register = in_kept (slice_get handles register)
+-- a register more is full
+abbrev pub filled_with : List Filled → ℕ → Handle → List Filled
+filled_with handles register handle =
+    handles ++ record { register = register; handle = handle } ∷ []
 
--- how many registers hold a handle
-abbrev pub how_many : List (Option Handle) → ℕ
-how_many [] = 0
-how_many (None ∷ more) = how_many more
-how_many (Some handle ∷ more) = 1 + how_many more
+-- this one is not
+abbrev pub filled_without : List Filled → ℕ → List Filled
+filled_without handles register =
+    filter (λ (f : Filled). not (f.register == register)) handles
+
+-- no register is kept twice
+abbrev pub AreOnce : List Filled → Type 0
+AreOnce [] = Unit {0}
+AreOnce (f ∷ more) = (at more f.register ≡ None) × AreOnce more
 
 module _ {T : Type 0} (fits : T → Key → List ℕ → Type 0) (cache : Cache T) where
   -- the handle is on an entry of this insertion, whose value fits its key
@@ -52,21 +62,27 @@ module _ {T : Type 0} (fits : T → Key → List ℕ → Type 0) (cache : Cache 
 
     -- The registers of a client hold its handles, each of them once, and each is on the entry of
     -- the insertion that is told of it. No other handle is held.
-    pub record AreFilled (s : State) (client : Client T) (handles : List (Option Handle))
+    pub record AreFilled (s : State) (client : Client T) (handles : List Filled)
         : Type 0 where
       pub known : Knows cache client
       pub limited : IsLimited s client
       pub each : (r : ℕ) → IsFilled client (s.registers r) (at handles r)
       pub apart : (r s : ℕ) (handle : Handle) → at handles r ≡ Some handle
           → at handles s ≡ Some handle → r ≡ s
-      pub count : held_by client ≡ how_many handles
+      pub count : held_by client ≡ length handles
+      pub once : AreOnce handles
+      -- on one standalone entry there is one insertion
+      pub alike : (r q : ℕ) (h k : Handle) (a b : Held) (name : ℕ) → at handles r ≡ Some h
+          → at handles q ≡ Some k → held_of cache client h ≡ Some a
+          → held_of cache client k ≡ Some b → a.standing ≡ Some name → b.standing ≡ Some name
+          → a.insertion ≡ b.insertion
 
   -- A client with its registers may play: so much is told of it, under some options.
-  abbrev pub CanPlay : Client T → List (Option Handle) → Type 0
+  abbrev pub CanPlay : Client T → List Filled → Type 0
   CanPlay client handles = (config : Config) × (s : State) × AreFilled config s client handles
 
   -- What a call leaves of a client and its registers: the answer is right, and they are as it says.
-  abbrev pub Goes : Call → Answer → (old new : Client T) → (was now : List (Option Handle)) → Type 0
+  abbrev pub Goes : Call → Answer → (old new : Client T) → (was now : List Filled) → Type 0
   Goes call answer old new was now =
       (config : Config) (s : State) → AreFilled config s old was
       → (next : State) × IsRight (fits cache.tag) config s call answer next

@@ -21,9 +21,10 @@ use Rattle.hcc_player.specs.declared.run.call.Call.TheVariants as calls
 use Rattle.hcc_player.specs.declared.run.call.RunLine.{RunLine}
 use Rattle.hcc_player.specs.declared.sums.Sums.{Sums}
 use Rattle.hcc_player.specs.Report.{sums_text}
-use Rattle.hcc_player.specs.RunStates.{IsEmpty, IsFull, IsPinned, IsRefused, MayHold, MayInsert}
-use Rattle.hcc_player.specs.RunStates.{RefusesInsert, RefusesPin, State, States, new_states}
-use Rattle.hcc_player.specs.RunStates.{with_emptied, with_filled, with_serial, with_state}
+use Rattle.hcc_player.specs.RunStates.{CoversHeld, IsEmpty, IsFull, IsPinned, IsRefused, MayHold}
+use Rattle.hcc_player.specs.RunStates.{MayInsert, RefusesInsert, RefusesPin, State, States}
+use Rattle.hcc_player.specs.RunStates.{new_states, with_emptied, with_filled, with_serial}
+use Rattle.hcc_player.specs.RunStates.{with_state}
 use Rattle.hcc_player.specs.Text.{byte_text, value_text}
 
 -- Which answers are right.
@@ -35,7 +36,8 @@ module _ (Puts : Key → List ℕ → Type 0) (config : Config) where
   -- register to be read is empty. Refusals that change nothing come exactly where they are due. A
   -- register is filled with its own line's insertion, with what another register holds, or by a
   -- hit: that is on one insertion of the key, of a value that the trace inserts under it. A value
-  -- is that of the insertion that the register holds.
+  -- is that of the insertion that the register holds. Two of the totals are at least what the
+  -- registers hold.
   unfoldable pub IsRight : State → Call → Answer → State → Type 0
   IsRight s (calls.Insert key charge priority value) answers.Placed new =
       MayInsert config s charge × (new ≡ with_serial s)
@@ -82,7 +84,8 @@ module _ (Puts : Key → List ℕ → Type 0) (config : Config) where
       × (new ≡ s)
   IsRight s (calls.Value register) answers.Nothing new = IsEmpty s register × (new ≡ s)
   IsRight s (calls.Erase key) (answers.Erased count) new = new ≡ s
-  IsRight s calls.Totals (answers.Totals usage pinned occupancy) new = new ≡ s
+  IsRight s calls.Totals (answers.Totals usage pinned occupancy) new =
+      CoversHeld s usage × CoversHeld s pinned × (new ≡ s)
   IsRight s (calls.Word shard slot) (answers.Word word displaced) new = new ≡ s
   IsRight s calls.Stats (answers.Stats stats) new = new ≡ s
   IsRight s call answer new = ⊥

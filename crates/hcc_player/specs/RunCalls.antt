@@ -21,6 +21,7 @@ use Rattle.hcc_player.specs.declared.run.answer.Answer.{Answer}
 use Rattle.hcc_player.specs.declared.run.answer.Answer.TheVariants as answers
 use Rattle.hcc_player.specs.declared.run.call.Call.{Call}
 use Rattle.hcc_player.specs.declared.run.call.Call.TheVariants as calls
+use Rattle.hcc_player.specs.declared.run.registers.Filled.{Filled}
 use Rattle.hcc_player.specs.Registers.{at}
 use Rattle.hcc_player.specs.RunAnswers.{insert_answer}
 
@@ -119,12 +120,12 @@ module _ {T : Type 0} (fits : T → Key → List ℕ → Type 0) (cache : Cache 
     pub reads : Reads cache between new
 
   -- The client did nothing, and its registers hold what they held.
-  pub record DoesNothing (old new : Client T) (was now : List (Option Handle)) : Type 0 where
+  pub record DoesNothing (old new : Client T) (was now : List Filled) : Type 0 where
     pub client : new ≡ old
     pub registers : (r : ℕ) → at now r ≡ at was r
 
   -- What a call did that was answered so. Where a register was busy or empty no call was made.
-  unfoldable pub Does : Call → Answer → (old new : Client T) → (was now : List (Option Handle))
+  unfoldable pub Does : Call → Answer → (old new : Client T) → (was now : List Filled)
       → Type 0
   Does (calls.Insert key charge priority value) answer old new was now =
       MakesEntry key charge priority value answer old new

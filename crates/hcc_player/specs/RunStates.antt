@@ -1,5 +1,7 @@
 -- What the lines and answers of a trace of calls tell of its clients, so far.
-use Rattle.std.specs.Prelude.{◌≡◌, ℕ, ◌+◌, ◌-◌, ◌<◌, ◌≤◌, ◌==◌, true, Option, Some, None, IsSome, if◌then◌else◌}
+use Rattle.std.specs.Prelude.{◌≡◌, ℕ, ◌+◌, ◌-◌, ◌<◌, ◌≤◌, ◌==◌, true, List, Option, Some, None}
+use Rattle.std.specs.Prelude.{IsSome, slice_get, if◌then◌else◌}
+use Rattle.hcc_core.specs.Sums.{total}
 use Rattle.hcc_cache.specs.declared.config.Config.{Config}
 use Rattle.hcc_cache.specs.declared.errors.InsertError.{InsertError}
 use Rattle.hcc_cache.specs.declared.errors.InsertError.TheVariants.{HandlesFull, Spent, TooLarge, CapacityFull, OccupancyFull}
@@ -45,6 +47,23 @@ IsFull s register = IsSome (s.registers register)
 
 abbrev pub IsEmpty : State → ℕ → Type 0
 IsEmpty s register = s.registers register ≡ None
+
+-- what was charged for an insertion
+abbrev pub charge_of : Option Insertion → ℕ
+charge_of None = 0
+charge_of (Some insertion) = insertion.charge
+
+-- the insertions of these registers are pairwise different
+abbrev pub AreApart : State → List ℕ → Type 0
+AreApart s registers =
+    (j k r q : ℕ) → slice_get registers j ≡ Some r → slice_get registers k ≡ Some q
+    → s.registers r ≡ s.registers q → j ≡ k
+
+-- A sum of charges is at least those of what the registers hold, each insertion counted once.
+abbrev pub CoversHeld : State → (sum : ℕ) → Type 0
+CoversHeld s sum =
+    (registers : List ℕ) → AreApart s registers
+    → total (λ r. charge_of (s.registers r)) registers ≤ sum
 
 -- By the options: what a client that stands so may do, and why it may not.
 module _ (config : Config) where

@@ -1,12 +1,11 @@
 -- What a play of a trace of calls does on its one cache, from its opening to its closing.
-use Rattle.std.specs.Prelude.{◌≡◌, ℕ, zero, suc, ◌+◌, false, List, [], ◌∷◌, Option, Some, None}
+use Rattle.std.specs.Prelude.{◌≡◌, ℕ, ◌+◌, Bool, false, List, [], ◌∷◌, Option, Some, None}
 use Rattle.std.specs.Prelude.{IsSome, is_some, length, slice_get, slice_set}
 use Rattle.hcc_core.specs.Sums.{total, when}
 use Rattle.hcc_rule.specs.declared.key.Key.{Key}
 use Rattle.hcc_cache.specs.declared.cache.Cache.{Cache}
 use Rattle.hcc_cache.specs.declared.client.Client.{Client}
 use Rattle.hcc_cache.specs.declared.closed.Closed.{Closed}
-use Rattle.hcc_cache.specs.declared.handle.Handle.{Handle}
 use Rattle.hcc_cache.specs.Clients.{Insertion}
 use Rattle.hcc_cache.specs.Closings.{AreBack, IsClosed}
 use Rattle.hcc_player.specs.declared.run.answer.Answer.{Answer}
@@ -14,9 +13,11 @@ use Rattle.hcc_player.specs.declared.run.answer.Answer.TheVariants as answers
 use Rattle.hcc_player.specs.declared.run.call.Call.{Call}
 use Rattle.hcc_player.specs.declared.run.call.Call.TheVariants as calls
 use Rattle.hcc_player.specs.declared.run.call.RunLine.{RunLine}
+use Rattle.hcc_player.specs.declared.run.registers.Filled.{Filled}
 use Rattle.hcc_player.specs.declared.run.registers.Registers.{Registers}
 use Rattle.hcc_player.specs.declared.sums.Sums.{Sums}
-use Rattle.hcc_player.specs.RunCalls.{Does}
+use Rattle.hcc_player.specs.RunCalls.{Does, GivesBack}
+use Rattle.hcc_player.specs.RunStates.{charge_of}
 
 -- the insertion of a call that was answered that its entry was placed
 abbrev pub placed_by : Call → Answer → Option Insertion
@@ -44,10 +45,6 @@ placed_of (Some line) (Some answer) = placed_by line.call answer
 abbrev pub placed_at : List RunLine → List Answer → (place : ℕ) → Option Insertion
 placed_at lines told place = placed_of (slice_get lines place) (slice_get told place)
 
-abbrev pub charge_of : Option Insertion → ℕ
-charge_of None = 0
-charge_of (Some insertion) = insertion.charge
-
 -- What is left are entries that lines of these places placed, no line twice: so many slots, and
 -- their charges in sum.
 pub record LeavesPlaced (lines : List RunLine) (told : List Answer) (sums : Sums) : Type 0 where
@@ -61,7 +58,7 @@ pub record LeavesPlaced (lines : List RunLine) (told : List Answer) (sums : Sums
 
 -- no register is kept yet
 abbrev pub AreEmpty : List Registers → Type 0
-AreEmpty all = (c : ℕ) (held : Registers) → slice_get all c ≡ Some held → held.handles.items ≡ []
+AreEmpty all = (c : ℕ) (held : Registers) → slice_get all c ≡ Some held → held.filled.items ≡ []
 
 module _ {T : Type 0} (fits : T → Key → List ℕ → Type 0) (cache : Cache T) where
   -- A line's client made its call with its registers, which was answered so. No other client did
@@ -76,8 +73,8 @@ module _ {T : Type 0} (fits : T → Key → List ℕ → Type 0) (cache : Cache 
     pub registers_were : slice_get was line.client ≡ Some held
     pub clients_are : new ≡ slice_set old line.client after
     pub registers_are : now ≡ slice_set was line.client holds
-    pub did : Does fits cache line.call answer before after held.handles.items
-        holds.handles.items
+    pub did : Does fits cache line.call answer before after held.filled.items
+        holds.filled.items
 
   -- Each of these lines was so, one after another.
   abbrev pub MakesAll : List RunLine → List Answer → (old new : List (Client T))
@@ -90,20 +87,14 @@ module _ {T : Type 0} (fits : T → Key → List ℕ → Type 0) (cache : Cache 
       × Makes line answer old clients was registers
       × MakesAll lines told clients new registers now
 
-  -- A client released what its registers below this number held, one after another: not as a use,
-  -- and without erasing it.
-  abbrev pub LetsGo : (number : ℕ) → (old new : Client T) → (was now : List (Option Handle))
-      → Type 0
-  LetsGo zero old new was now = (new ≡ old) × (now ≡ was)
-  LetsGo (suc register) old new was now =
-      (client : Client T) × (handles : List (Option Handle))
-      × LetsGo register old client was handles
-      × ((answer : Answer)
-      × Does fits cache (calls.Release register false false) answer client new handles now)
-
-  -- a client of this cache released all that its registers held
-  abbrev pub LetsAllGo : (old new : Client T) → (was : List (Option Handle)) → Type 0
-  LetsAllGo old new was = (now : List (Option Handle)) × LetsGo (length was) old new was now
+  -- A client released what these registers held, one after another: not as a use, and without
+  -- erasing it.
+  abbrev pub LetsGo : List Filled → (old new : Client T) → Type 0
+  LetsGo [] old new = new ≡ old
+  LetsGo (filled ∷ more) old new =
+      (client : Client T) × (freed : Bool)
+      × GivesBack fits cache false false freed (Some filled.handle) None old client
+      × LetsGo more client new
 
   -- All clients released what they held, and the cache was closed by what they are then.
   pub record ClosesAfter (clients : List (Client T)) (registers : List Registers)
@@ -112,6 +103,6 @@ module _ {T : Type 0} (fits : T → Key → List ℕ → Type 0) (cache : Cache 
     pub count : length left ≡ length clients
     pub each : (c : ℕ) (client last : Client T) (held : Registers)
         → slice_get clients c ≡ Some client → slice_get registers c ≡ Some held
-        → slice_get left c ≡ Some last → LetsAllGo client last held.handles.items
+        → slice_get left c ≡ Some last → LetsGo held.filled.items client last
     pub back : AreBack cache left
     pub closes : IsClosed fits cache left closed

@@ -35,9 +35,9 @@ mod tag;
 /// 67,108,864 bytes by `TooLarge`; nothing is written then. Where the writer fails or memory is
 /// refused in the middle of a trace, a front of an output is out. The writer is flushed at the end.
 ///
-/// It allocates memory for the text, for the cache, for each client's registers up to the highest
-/// that was filled, for a part of the output and for the value of one line. Its time is linear in
-/// the text except for the calls.
+/// It allocates memory for the text, for the cache, for a part of the output, for the value of one
+/// line, and for as many registers of each client as were full at once, and one. Its time is linear
+/// in the text except for the calls, and for a look at each full register of a line's client.
 pub fn play_run<R: Read, W: Write>(
     alloc: Global,
     reader: &mut R,
@@ -49,10 +49,12 @@ pub fn play_run<R: Read, W: Write>(
         × (reader.new ≡ reader.old) × (writer.new ≡ writer.old)) }
 
     // What was read is a trace: its calls were made on one new cache, what they were answered is
-    // written, and behind it the sums of that cache, closed. What is left are entries that lines
-    // placed, no line twice; and with what was taken they are as many as lines placed. With one
-    // client a look-up hits exactly where the key is shown in the world that the client knows, an
-    // erasure counts what is shown of it, and totals are exact.
+    // written, and behind it the sums of that cache, closed. Of the totals that a line tells the
+    // usage and what is pinned are at least the charges of what its client's registers hold, each
+    // insertion counted once. What is left are entries that lines placed, no line twice; and with
+    // what was taken they are as many as lines placed. With one client a look-up hits exactly where
+    // the key is shown in the world that the client knows, an erasure counts what is shown of it,
+    // and totals are exact.
     ensures written { OnOk result (IfSome (R.remaining reader.old) (Writes options.now.config
         (W.contents writer.old) (W.contents writer.new))) }
 

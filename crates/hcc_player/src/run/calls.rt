@@ -1,14 +1,14 @@
 //! What the calls of a trace do: each on a client and its registers.
-ghost use Rattle.std.specs.Prelude.{◌≡◌, ◌*◌, ◌<◌, ◌≤◌, ℕ, List, Option, Some, None, IfOk, length};
+ghost use Rattle.std.specs.Prelude.{◌≡◌, ◌*◌, ◌<◌, ◌≤◌, ℕ, List, None, IfOk, length};
 ghost use Rattle.hcc_rule.specs.declared.key.Key.{Key};
-ghost use Rattle.hcc_cache.specs.declared.handle.Handle.{Handle};
 ghost use Rattle.hcc_cache.specs.Clients.{held_by};
 ghost use Rattle.hcc_cache.specs.Known.{Knows};
+ghost use Rattle.hcc_player.specs.declared.run.registers.Filled.{Filled};
 ghost use Rattle.hcc_player.specs.Registers.{CanPlay, Goes};
 ghost use Rattle.hcc_player.specs.RunCalls.{Does};
 ghost use Rattle.hcc_player.specs.RunAnswers.{placed_answer, refusal_of, PutsIn};
 ghost use Rattle.hcc_player.specs.RunLine.{IsSoundCall};
-ghost use Rattle.hcc_player.specs.Runs.{LetsAllGo};
+ghost use Rattle.hcc_player.specs.Runs.{LetsGo};
 
 use crate::run::answer::Answer;
 use crate::run::bytes::Bytes;
@@ -18,7 +18,7 @@ use hcc_cache::{Cache, Client, InsertError, Inserted, Key, LookupError, Priority
 use std::alloc::{AllocError, Global};
 
 /// Makes a call, whose values fit their keys, and answers it. It allocates memory for a register
-/// that is filled, once the call gave its handle, and for a value that is read.
+/// that may be filled, before the call is made, and for a value that is read.
 pub(crate) fn answer<T: Tag>(
     alloc: Global,
     cache: &Cache<T>,
@@ -26,15 +26,15 @@ pub(crate) fn answer<T: Tag>(
     registers: &mut Registers,
     call: Call,
 ) -> Result<Answer, AllocError>
-    requires can { CanPlay T.fits cache.now client.old registers.old.handles.items }
+    requires can { CanPlay T.fits cache.now client.old registers.old.filled.items }
     requires sound { IsSoundCall cache.now.geometry.room (length cache.now.shards.items)
         cache.now.geometry.slots call }
     requires fits { (key : Key) (value : List ℕ) → PutsIn call key value
         → T.fits cache.now.tag key value }
     ensures goes { IfOk result (λ answer. Goes T.fits cache.now call answer client.old client.new
-        registers.old.handles.items registers.new.handles.items) }
+        registers.old.filled.items registers.new.filled.items) }
     ensures did { IfOk result (λ answer. Does T.fits cache.now call answer client.old client.new
-        registers.old.handles.items registers.new.handles.items) }
+        registers.old.filled.items registers.new.filled.items) }
 {
     match call {
         Call::Insert {
@@ -93,9 +93,9 @@ fn insert<T: Tag>(
     requires fits { T.fits cache.now.tag key value.now }
     requires short { length value.now ≤ 8 * cache.now.geometry.room }
     requires paid { 0 < charge }
-    ensures goes { (handles : List (Option Handle)) → Goes T.fits cache.now
+    ensures goes { (handles : List Filled) → Goes T.fits cache.now
         (Call.Insert key charge priority value.now) result client.old client.new handles handles }
-    ensures did { (handles : List (Option Handle)) → Does T.fits cache.now
+    ensures did { (handles : List Filled) → Does T.fits cache.now
         (Call.Insert key charge priority value.now) result client.old client.new handles handles }
 {
     match cache.insert(client, key, value, charge, priority) {
@@ -126,24 +126,24 @@ fn pin<T: Tag>(
     charge: u32,
     priority: Priority,
 ) -> Result<Answer, AllocError>
-    requires can { CanPlay T.fits cache.now client.old registers.old.handles.items }
+    requires can { CanPlay T.fits cache.now client.old registers.old.filled.items }
     requires fits { T.fits cache.now.tag key value }
     requires short { length value ≤ 8 * cache.now.geometry.room }
     requires paid { 0 < charge }
     ensures goes { IfOk result (λ answer. Goes T.fits cache.now
         (Call.Pin register key charge priority value) answer client.old client.new
-        registers.old.handles.items registers.new.handles.items) }
+        registers.old.filled.items registers.new.filled.items) }
     ensures did { IfOk result (λ answer. Does T.fits cache.now
         (Call.Pin register key charge priority value) answer client.old client.new
-        registers.old.handles.items registers.new.handles.items) }
+        registers.old.filled.items registers.new.filled.items) }
 {
     if registers.get(register).is_some() {
         return Ok(Answer::Busy);
     }
+    registers.reserve()?;
     match cache.insert_pinned(client, key, value.into_vec(), charge, priority) {
         Ok((handle, inserted)) => {
-            registers.reserve(register)?;
-            registers.set(register, Some(handle));
+            registers.fill(register, handle);
             Ok(placed(inserted))
         }
         Err((error, _)) => Ok(Answer::Refused(error)),
@@ -158,19 +158,19 @@ fn get<T: Tag>(
     register: usize,
     key: Key,
 ) -> Result<Answer, AllocError>
-    requires { CanPlay T.fits cache.now client.old registers.old.handles.items }
+    requires { CanPlay T.fits cache.now client.old registers.old.filled.items }
     ensures goes { IfOk result (λ answer. Goes T.fits cache.now (Call.Get register key) answer
-        client.old client.new registers.old.handles.items registers.new.handles.items) }
+        client.old client.new registers.old.filled.items registers.new.filled.items) }
     ensures did { IfOk result (λ answer. Does T.fits cache.now (Call.Get register key) answer
-        client.old client.new registers.old.handles.items registers.new.handles.items) }
+        client.old client.new registers.old.filled.items registers.new.filled.items) }
 {
     if registers.get(register).is_some() {
         return Ok(Answer::Busy);
     }
+    registers.reserve()?;
     match cache.lookup(client, key) {
         Ok(Some(handle)) => {
-            registers.reserve(register)?;
-            registers.set(register, Some(handle));
+            registers.fill(register, handle);
             Ok(Answer::Hit)
         }
         Ok(None) => Ok(Answer::Miss),
@@ -186,11 +186,11 @@ fn fork<T: Tag>(
     register: usize,
     from: usize,
 ) -> Result<Answer, AllocError>
-    requires { CanPlay T.fits cache.now client.old registers.old.handles.items }
+    requires { CanPlay T.fits cache.now client.old registers.old.filled.items }
     ensures goes { IfOk result (λ answer. Goes T.fits cache.now (Call.Fork register from) answer
-        client.old client.new registers.old.handles.items registers.new.handles.items) }
+        client.old client.new registers.old.filled.items registers.new.filled.items) }
     ensures did { IfOk result (λ answer. Does T.fits cache.now (Call.Fork register from) answer
-        client.old client.new registers.old.handles.items registers.new.handles.items) }
+        client.old client.new registers.old.filled.items registers.new.filled.items) }
 {
     if registers.get(register).is_some() {
         return Ok(Answer::Busy);
@@ -198,10 +198,10 @@ fn fork<T: Tag>(
     let Some(held) = registers.get(from) else {
         return Ok(Answer::Nothing);
     };
+    registers.reserve()?;
     match cache.reref(client, held) {
         Ok(handle) => {
-            registers.reserve(register)?;
-            registers.set(register, Some(handle));
+            registers.fill(register, handle);
             Ok(Answer::Held)
         }
         Err(error) => Ok(Answer::Refused(refusal(error))),
@@ -227,17 +227,16 @@ fn release<T: Tag>(
     useful: bool,
     erase: bool,
 ) -> Answer
-    requires { CanPlay T.fits cache.now client.old registers.old.handles.items }
+    requires { CanPlay T.fits cache.now client.old registers.old.filled.items }
     ensures goes { Goes T.fits cache.now (Call.Release register useful erase) result
-        client.old client.new registers.old.handles.items registers.new.handles.items }
+        client.old client.new registers.old.filled.items registers.new.filled.items }
     ensures did { Does T.fits cache.now (Call.Release register useful erase) result
-        client.old client.new registers.old.handles.items registers.new.handles.items }
-    ensures count { length registers.new.handles.items ≡ length registers.old.handles.items }
+        client.old client.new registers.old.filled.items registers.new.filled.items }
 {
     let Some(handle) = registers.get(register) else {
         return Answer::Nothing;
     };
-    registers.set(register, None);
+    registers.empty(register);
     if cache.release(client, handle, useful, erase) {
         Answer::Freed
     } else {
@@ -253,11 +252,11 @@ fn value<T: Tag>(
     registers: &Registers,
     register: usize,
 ) -> Result<Answer, AllocError>
-    requires { CanPlay T.fits cache.now client.old registers.now.handles.items }
+    requires { CanPlay T.fits cache.now client.old registers.now.filled.items }
     ensures goes { IfOk result (λ answer. Goes T.fits cache.now (Call.Value register) answer
-        client.old client.new registers.now.handles.items registers.now.handles.items) }
+        client.old client.new registers.now.filled.items registers.now.filled.items) }
     ensures did { IfOk result (λ answer. Does T.fits cache.now (Call.Value register) answer
-        client.old client.new registers.now.handles.items registers.now.handles.items) }
+        client.old client.new registers.now.filled.items registers.now.filled.items) }
 {
     let Some(handle) = registers.get(register) else {
         return Ok(Answer::Nothing);
@@ -271,9 +270,9 @@ fn value<T: Tag>(
 /// The three totals.
 fn totals<T: Tag>(cache: &Cache<T>, client: &mut Client<T>) -> Answer
     requires { Knows cache.now client.old }
-    ensures goes { (handles : List (Option Handle)) → Goes T.fits cache.now Call.Totals result
+    ensures goes { (handles : List Filled) → Goes T.fits cache.now Call.Totals result
         client.old client.new handles handles }
-    ensures did { (handles : List (Option Handle)) → Does T.fits cache.now Call.Totals result
+    ensures did { (handles : List Filled) → Does T.fits cache.now Call.Totals result
         client.old client.new handles handles }
 {
     let usage = cache.usage(client);
@@ -291,9 +290,9 @@ fn word<T: Tag>(cache: &Cache<T>, client: &mut Client<T>, shard: u32, slot: u32)
     requires known { Knows cache.now client.old }
     requires shard { shard < length cache.now.shards.items }
     requires slot { slot < cache.now.geometry.slots }
-    ensures goes { (handles : List (Option Handle)) → Goes T.fits cache.now
+    ensures goes { (handles : List Filled) → Goes T.fits cache.now
         (Call.Word shard slot) result client.old client.new handles handles }
-    ensures did { (handles : List (Option Handle)) → Does T.fits cache.now
+    ensures did { (handles : List Filled) → Does T.fits cache.now
         (Call.Word shard slot) result client.old client.new handles handles }
 {
     let word = cache.word(client, shard, slot);
@@ -301,14 +300,14 @@ fn word<T: Tag>(cache: &Cache<T>, client: &mut Client<T>, shard: u32, slot: u32)
     Answer::Word { word, displaced }
 }
 
-/// Releases all that a client's registers hold, in their order.
-pub(crate) fn let_go<T: Tag>(cache: &Cache<T>, client: &mut Client<T>, registers: &mut Registers)
-    requires { CanPlay T.fits cache.now client.old registers.old.handles.items }
+/// Releases all that a client's registers hold, in the order in which they were filled.
+pub(crate) fn let_go<T: Tag>(cache: &Cache<T>, client: &mut Client<T>, registers: &Registers)
+    requires { CanPlay T.fits cache.now client.old registers.now.filled.items }
     ensures known { Knows cache.now client.new }
     ensures none { held_by client.new ≡ 0 }
-    ensures did { LetsAllGo T.fits cache.now client.old client.new registers.old.handles.items }
+    ensures did { LetsGo T.fits cache.now registers.now.filled.items client.old client.new }
 {
-    for register in 0..registers.kept() {
-        release(cache, client, registers, register, false, false);
+    for filled in registers.filled.iter() {
+        cache.release(client, filled.handle, false, false);
     }
 }

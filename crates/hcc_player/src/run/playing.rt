@@ -202,14 +202,14 @@ fn finish<T: Tag + Copy, W: Write>(
 fn closed<T: Tag + Copy>(
     cache: Cache<T>,
     mut clients: Vec<Client<T>>,
-    mut registers: Vec<Registers>,
+    registers: Vec<Registers>,
 ) -> Closed
     requires enough { cache.geometry.clients ≤ length clients.items }
     requires manned { CanAllPlay T.fits cache clients.items registers.items }
     ensures { ClosesAfter T.fits cache clients.items registers.items result }
 {
     for number in 0..clients.len() {
-        let_go(&cache, &mut clients[number], &mut registers[number]);
+        let_go(&cache, &mut clients[number], &registers[number]);
     }
     match cache.close(clients) {
         Ok(closed) => closed,

@@ -1,62 +1,68 @@
 //! The registers of a client.
-ghost use Rattle.std.specs.Prelude.{◌≡◌, ◌<◌, ℕ, [], OnOk, length, slice_set};
-ghost use Rattle.hcc_player.specs.Registers.{at, how_many};
+ghost use Rattle.std.specs.Prelude.{◌≡◌, ◌<◌, [], OnOk, length};
+ghost use Rattle.std.specs.Vec.{vec_capacity};
+ghost use Rattle.hcc_player.specs.Registers.{at, filled_with, filled_without};
 
 use hcc_cache::Handle;
 use std::alloc::{AllocError, Global};
 
-/// The handles in a client's registers. As many registers are kept as were needed so far; the
-/// others are empty.
+/// A register that holds a handle.
+#[derive(Clone, Copy)]
+pub(crate) struct Filled {
+    pub(crate) register: usize,
+    pub(crate) handle: Handle,
+}
+
+/// The registers of a client that are full, in the order in which they were filled: 32 bytes each.
+/// All others are empty.
 #[derive(Drop)]
 pub(crate) struct Registers {
-    pub(crate) handles: Vec<Option<Handle>>,
+    pub(crate) filled: Vec<Filled>,
 }
 
 impl Registers {
     /// Empty registers. It allocates nothing.
     pub(crate) fn new(alloc: Global) -> Self
-        ensures { result.handles.items ≡ [] }
+        ensures { result.filled.items ≡ [] }
     {
         Registers {
-            handles: Vec::new(alloc),
+            filled: Vec::new(alloc),
         }
     }
 
-    /// How many are kept.
-    pub(crate) fn kept(&self) -> usize
-        ensures { result ≡ length self.now.handles.items }
-    {
-        self.handles.len()
-    }
-
-    /// What a register holds.
+    /// What a register holds. It costs a look at each that is full.
     pub(crate) fn get(&self, register: usize) -> Option<Handle>
-        ensures { result ≡ at self.now.handles.items register }
+        ensures { result ≡ at self.now.filled.items register }
     {
-        match self.handles.get(register) {
-            Some(handle) => *handle,
-            None => None,
+        self.filled
+            .iter()
+            .find(|filled| filled.register == register)
+            .map(|filled| filled.handle)
+    }
+
+    /// Takes the memory for one more to be filled.
+    pub(crate) fn reserve(&mut self) -> Result<(), AllocError>
+        ensures room { OnOk result (length self.new.filled.items < vec_capacity self.new.filled) }
+        ensures same { self.new.filled.items ≡ self.old.filled.items }
+    {
+        self.filled.reserve(1)
+    }
+
+    /// Fills a register that is empty, for which there is memory.
+    pub(crate) fn fill(&mut self, register: usize, handle: Handle)
+        requires { length self.old.filled.items < vec_capacity self.old.filled }
+        ensures { self.new.filled.items ≡ filled_with self.old.filled.items register handle }
+    {
+        match self.filled.push(Filled { register, handle }) {
+            Ok(()) => {}
+            Err(_) => unreachable!(),
         }
     }
 
-    /// Takes the memory for a register to be filled.
-    #[tactic(auto, using(crate::proofs::Grown::at_grown, crate::proofs::Grown::count_grown))]
-    pub(crate) fn reserve(&mut self, register: usize) -> Result<(), AllocError>
-        ensures there { OnOk result (register < length self.new.handles.items) }
-        ensures same { (r : ℕ) → at self.new.handles.items r ≡ at self.old.handles.items r }
-        ensures count { how_many self.new.handles.items ≡ how_many self.old.handles.items }
+    /// Empties a register. It costs a look at each that is full.
+    pub(crate) fn empty(&mut self, register: usize)
+        ensures { self.new.filled.items ≡ filled_without self.old.filled.items register }
     {
-        while self.handles.len() <= register {
-            self.handles.push(None)?;
-        }
-        Ok(())
-    }
-
-    /// Fills a register that has its memory, or empties it.
-    pub(crate) fn set(&mut self, register: usize, handle: Option<Handle>)
-        requires { register < length self.old.handles.items }
-        ensures { self.new.handles.items ≡ slice_set self.old.handles.items register handle }
-    {
-        self.handles[register] = handle;
+        self.filled.retain(|filled| filled.register != register);
     }
 }

@@ -7,12 +7,12 @@ use Rattle.hcc_player.proofs.run.calls.answer.Goals as goal
 pub returns-in-Insert-clause-goes : goal.returns-in-Insert-clause-goes
 returns-in-Insert-clause-goes g c =
     rw c.in-Insert.is
-    (rw c.as_slice.ensures at (c.insert.ensures.goes c.args.registers.now.handles.items))
+    (rw c.as_slice.ensures at (c.insert.ensures.goes c.args.registers.now.filled.items))
 
 pub returns-in-Insert-clause-did : goal.returns-in-Insert-clause-did
 returns-in-Insert-clause-did g c =
     rw c.in-Insert.is
-    (rw c.as_slice.ensures at (c.insert.ensures.did c.args.registers.now.handles.items))
+    (rw c.as_slice.ensures at (c.insert.ensures.did c.args.registers.now.filled.items))
 
 pub returns-in-Pin-clause-goes : goal.returns-in-Pin-clause-goes
 returns-in-Pin-clause-goes g c = rw c.in-Pin.is c.pin.ensures.goes
@@ -52,7 +52,7 @@ returns-in-Erase-clause-goes g c =
       s,
       refl,
       same_filled g.T.Tag.fits c.args.cache.now config s c.args.client.now c.erase.new.client
-          c.args.registers.now.handles.items c.erase.ensures.known erased.works.self
+          c.args.registers.now.filled.items c.erase.ensures.known erased.works.self
           erased.keeps filled,
     ))
 
@@ -64,19 +64,19 @@ returns-in-Erase-clause-did g c =
 
 pub returns-in-Totals-clause-goes : goal.returns-in-Totals-clause-goes
 returns-in-Totals-clause-goes g c =
-    rw c.in-Totals.is (c.totals.ensures.goes c.args.registers.now.handles.items)
+    rw c.in-Totals.is (c.totals.ensures.goes c.args.registers.now.filled.items)
 
 pub returns-in-Totals-clause-did : goal.returns-in-Totals-clause-did
 returns-in-Totals-clause-did g c =
-    rw c.in-Totals.is (c.totals.ensures.did c.args.registers.now.handles.items)
+    rw c.in-Totals.is (c.totals.ensures.did c.args.registers.now.filled.items)
 
 pub returns-in-Word-clause-goes : goal.returns-in-Word-clause-goes
 returns-in-Word-clause-goes g c =
-    rw c.in-Word.is (c.word.ensures.goes c.args.registers.now.handles.items)
+    rw c.in-Word.is (c.word.ensures.goes c.args.registers.now.filled.items)
 
 pub returns-in-Word-clause-did : goal.returns-in-Word-clause-did
 returns-in-Word-clause-did g c =
-    rw c.in-Word.is (c.word.ensures.did c.args.registers.now.handles.items)
+    rw c.in-Word.is (c.word.ensures.did c.args.registers.now.filled.items)
 
 pub returns-in-Stats-clause-goes : goal.returns-in-Stats-clause-goes
 unfolding IsRight

@@ -5,8 +5,7 @@ use Rattle.hcc_player.specs.RunAnswers.{IsRight}
 use Rattle.hcc_player.specs.RunCalls.{Does}
 use Rattle.hcc_player.proofs.CallLemmas.{busy_told, empty_told, fork_goes, full_told, look_refused}
 use Rattle.hcc_player.proofs.CallLemmas.{may_look, no_handle, stays}
-use Rattle.hcc_player.proofs.DoesLemmas.{set_at}
-use Rattle.hcc_player.proofs.RegisterLemmas.{moved_filled}
+use Rattle.hcc_player.proofs.RegisterLemmas.{at_filled}
 use Rattle.hcc_player.proofs.run.calls.fork.Goals as goal
 
 pub returns-then-is_some-clause-goes : goal.returns-then-is_some-clause-goes
@@ -15,7 +14,7 @@ returns-then-is_some-clause-goes g c config s filled =
     let fits = g.T.Tag.fits in
     let cache = c.args.cache.now in
     let client = c.args.client.now in
-    let handles = c.args.registers.now.handles.items in
+    let handles = c.args.registers.now.filled.items in
     let r = c.args.register in
     let full : is_some (at handles r) ≡ true =
     rw c.get.ensures at (sym c.is_some.ensures ∙ c.if-is_some.true) in
@@ -31,7 +30,7 @@ returns-in_default-clause-goes g c config s filled =
     let fits = g.T.Tag.fits in
     let cache = c.args.cache.now in
     let client = c.args.client.now in
-    let handles = c.args.registers.now.handles.items in
+    let handles = c.args.registers.now.filled.items in
     let r = c.args.register in
     let empty : at handles r ≡ None = no_handle handles r
     (rw c.get.ensures at (sym c.is_some.ensures ∙ c.if-is_some.false)) in
@@ -49,40 +48,39 @@ pub returns-in_default-clause-did : goal.returns-in_default-clause-did
 unfolding Does
 returns-in_default-clause-did g c = record { client = refl; registers = λ r. refl }
 
-pub returns-in_ok-reserve-in-Ok-clause-goes : goal.returns-in_ok-reserve-in-Ok-clause-goes
-returns-in_ok-reserve-in-Ok-clause-goes g c config s filled =
+pub returns-in-Ok-clause-goes : goal.returns-in-Ok-clause-goes
+returns-in-Ok-clause-goes g c config s filled =
     let fits = g.T.Tag.fits in
     let cache = c.args.cache.now in
     let client = c.args.client.now in
-    let handles = c.args.registers.now.handles.items in
+    let handles = c.args.registers.now.filled.items in
     let r = c.args.register in
-    let kept = c.reserve.new.self.handles.items in
-    let reserved = c.in_ok-reserve-in-Ok.ensures in
     let told = c.in-Ok.ensures in
     let empty : at handles r ≡ None = no_handle handles r
     (rw c.get.ensures at (sym c.is_some.ensures ∙ c.if-is_some.false)) in
-    let free : at kept r ≡ None = reserved.same r ∙ empty in
-    let moved = moved_filled fits cache config s client handles kept reserved.same
-    reserved.count filled in
     let from = c.args.from in
-    let full : at kept from ≡ Some c.in-Some.held =
-    reserved.same from ∙ sym c.get-2.ensures ∙ c.in-Some.is in
+    let full : at handles from ≡ Some c.in-Some.held = sym c.get-2.ensures ∙ c.in-Some.is in
     let may = may_look fits cache config s client (Ok c.in-Ok.handle) c.in-Ok.handle refl
     filled.known filled.limited told.full told.spent in
-    rw c.set.ensures
-    (fork_goes fits cache config s client c.reref.new.client kept r from c.in-Some.held
-    c.in-Ok.handle told.known may told.again full free reserved.there moved)
+    rw (c.fill.ensures, c.in_ok-reserve.ensures.same)
+    (fork_goes fits cache config s client c.reref.new.client handles r from c.in-Some.held
+    c.in-Ok.handle told.known may told.again full empty filled)
 
-pub returns-in_ok-reserve-in-Ok-clause-did : goal.returns-in_ok-reserve-in-Ok-clause-did
+pub returns-in-Ok-clause-did : goal.returns-in-Ok-clause-did
 unfolding Does
-returns-in_ok-reserve-in-Ok-clause-did g c = record {
-  handle = c.in-Some.held;
-  more = c.in-Ok.handle;
-  held = sym c.get-2.ensures ∙ c.in-Some.is;
-  filled = set_at c.reserve.new.self.handles.items c.set.new.self.handles.items
-      c.args.register (Some c.in-Ok.handle) c.set.ensures c.in_ok-reserve-in-Ok.ensures.there;
-  again = c.in-Ok.ensures.again;
-}
+returns-in-Ok-clause-did g c =
+    let handles = c.args.registers.now.filled.items in
+    let r = c.args.register in
+    let empty : at handles r ≡ None = no_handle handles r
+    (rw c.get.ensures at (sym c.is_some.ensures ∙ c.if-is_some.false)) in
+    record {
+      handle = c.in-Some.held;
+      more = c.in-Ok.handle;
+      held = sym c.get-2.ensures ∙ c.in-Some.is;
+      filled = rw (c.fill.ensures, c.in_ok-reserve.ensures.same)
+          (at_filled handles r c.in-Ok.handle empty);
+      again = c.in-Ok.ensures.again;
+    }
 
 pub returns-in-Err-clause-goes : goal.returns-in-Err-clause-goes
 unfolding IsRight
@@ -90,7 +88,7 @@ returns-in-Err-clause-goes g c config s filled =
     let fits = g.T.Tag.fits in
     let cache = c.args.cache.now in
     let client = c.args.client.now in
-    let handles = c.args.registers.now.handles.items in
+    let handles = c.args.registers.now.filled.items in
     let r = c.args.register in
     let told = c.in-Err.ensures in
     let empty : at handles r ≡ None = no_handle handles r
@@ -106,12 +104,13 @@ returns-in-Err-clause-goes g c config s filled =
         rw c.refusal.ensures refused,
         refl,
       ),
-      stays fits cache config s client c.reref.new.client handles told.refused filled,
+      rw c.in_ok-reserve.ensures.same
+          (stays fits cache config s client c.reref.new.client handles told.refused filled),
     )
 
 pub returns-in-Err-clause-did : goal.returns-in-Err-clause-did
 unfolding Does
 returns-in-Err-clause-did g c = record {
   client = c.in-Err.ensures.refused;
-  registers = λ r. refl;
+  registers = λ r. rw c.in_ok-reserve.ensures.same refl;
 }

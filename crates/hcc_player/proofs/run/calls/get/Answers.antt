@@ -1,12 +1,11 @@
-use Rattle.std.proofs.Common.{◌≡◌, true, None, Some, Ok, Err, refl, sym, ◌∙◌}
+use Rattle.std.proofs.Common.{◌≡◌, true, None, Ok, Err, refl, sym, ◌∙◌}
 use Rattle.std.specs.Prelude.{is_some}
 use Rattle.hcc_player.specs.Registers.{at}
 use Rattle.hcc_player.specs.RunAnswers.{IsRight}
 use Rattle.hcc_player.specs.RunCalls.{Does}
 use Rattle.hcc_player.proofs.CallLemmas.{busy_told, empty_told, get_goes, look_refused, may_look}
 use Rattle.hcc_player.proofs.CallLemmas.{no_handle, stays}
-use Rattle.hcc_player.proofs.DoesLemmas.{set_at}
-use Rattle.hcc_player.proofs.RegisterLemmas.{moved_filled, same_filled}
+use Rattle.hcc_player.proofs.RegisterLemmas.{at_filled, same_filled}
 use Rattle.hcc_player.proofs.run.calls.get.Goals as goal
 
 pub returns-then-is_some-clause-goes : goal.returns-then-is_some-clause-goes
@@ -15,7 +14,7 @@ returns-then-is_some-clause-goes g c config s filled =
     let fits = g.T.Tag.fits in
     let cache = c.args.cache.now in
     let client = c.args.client.now in
-    let handles = c.args.registers.now.handles.items in
+    let handles = c.args.registers.now.filled.items in
     let r = c.args.register in
     let full : is_some (at handles r) ≡ true =
     rw c.get.ensures at (sym c.is_some.ensures ∙ c.if-is_some.true) in
@@ -25,37 +24,35 @@ pub returns-then-is_some-clause-did : goal.returns-then-is_some-clause-did
 unfolding Does
 returns-then-is_some-clause-did g c = record { client = refl; registers = λ r. refl }
 
-pub returns-in_ok-reserve-in-Ok-Some-clause-goes : goal.returns-in_ok-reserve-in-Ok-Some-clause-goes
-returns-in_ok-reserve-in-Ok-Some-clause-goes g c config s filled =
+pub returns-in-Ok-Some-clause-goes : goal.returns-in-Ok-Some-clause-goes
+returns-in-Ok-Some-clause-goes g c config s filled =
     let fits = g.T.Tag.fits in
     let cache = c.args.cache.now in
     let client = c.args.client.now in
-    let handles = c.args.registers.now.handles.items in
+    let handles = c.args.registers.now.filled.items in
     let r = c.args.register in
-    let kept = c.reserve.new.self.handles.items in
-    let reserved = c.in_ok-reserve-in-Ok-Some.ensures in
     let told = c.in-Ok-Some.ensures in
     let empty : at handles r ≡ None = no_handle handles r
     (rw c.get.ensures at (sym c.is_some.ensures ∙ c.if-is_some.false)) in
-    let free : at kept r ≡ None = reserved.same r ∙ empty in
-    let moved = moved_filled fits cache config s client handles kept reserved.same
-    reserved.count filled in
     let found = rw c.in-Ok-Some.field-0-is at told.found in
     let may = may_look fits cache config s client (Ok c.in-Ok-Some.field-0) c.in-Ok-Some.field-0
     refl filled.known filled.limited told.full told.spent in
-    rw c.set.ensures
-    (get_goes fits cache config s client c.lookup.new.client kept r c.args.key
-    c.in-Ok-Some.handle told.known may found free reserved.there moved)
+    rw (c.fill.ensures, c.in_ok-reserve.ensures.same)
+    (get_goes fits cache config s client c.lookup.new.client handles r c.args.key
+    c.in-Ok-Some.handle told.known may found empty filled)
 
-pub returns-in_ok-reserve-in-Ok-Some-clause-did : goal.returns-in_ok-reserve-in-Ok-Some-clause-did
+pub returns-in-Ok-Some-clause-did : goal.returns-in-Ok-Some-clause-did
 unfolding Does
-returns-in_ok-reserve-in-Ok-Some-clause-did g c =
+returns-in-Ok-Some-clause-did g c =
     let told = c.in-Ok-Some.ensures in
+    let handles = c.args.registers.now.filled.items in
+    let r = c.args.register in
+    let empty : at handles r ≡ None = no_handle handles r
+    (rw c.get.ensures at (sym c.is_some.ensures ∙ c.if-is_some.false)) in
     record {
       handle = c.in-Ok-Some.handle;
-      filled = set_at c.reserve.new.self.handles.items c.set.new.self.handles.items
-          c.args.register (Some c.in-Ok-Some.handle) c.set.ensures
-          c.in_ok-reserve-in-Ok-Some.ensures.there;
+      filled = rw (c.fill.ensures, c.in_ok-reserve.ensures.same)
+          (at_filled handles r c.in-Ok-Some.handle empty);
       finds = rw c.in-Ok-Some.field-0-is at told.found;
       searched = rw c.in-Ok-Some.field-0-is at told.searched;
     }
@@ -66,7 +63,7 @@ returns-in-Ok-None-clause-goes g c config s filled =
     let fits = g.T.Tag.fits in
     let cache = c.args.cache.now in
     let client = c.args.client.now in
-    let handles = c.args.registers.now.handles.items in
+    let handles = c.args.registers.now.filled.items in
     let r = c.args.register in
     let told = c.in-Ok-None.ensures in
     let empty : at handles r ≡ None = no_handle handles r
@@ -76,8 +73,9 @@ returns-in-Ok-None-clause-goes g c config s filled =
     let missed = rw c.in-Ok-None.field-0-is at told.missed in (
       s,
       (empty_told fits cache config s client handles r empty filled, may, refl),
-      same_filled fits cache config s client c.lookup.new.client handles told.known
-          missed.works.self missed.keeps filled,
+      rw c.in_ok-reserve.ensures.same
+          (same_filled fits cache config s client c.lookup.new.client handles told.known
+          missed.works.self missed.keeps filled),
     )
 
 pub returns-in-Ok-None-clause-did : goal.returns-in-Ok-None-clause-did
@@ -93,7 +91,7 @@ returns-in-Err-clause-goes g c config s filled =
     let fits = g.T.Tag.fits in
     let cache = c.args.cache.now in
     let client = c.args.client.now in
-    let handles = c.args.registers.now.handles.items in
+    let handles = c.args.registers.now.filled.items in
     let r = c.args.register in
     let told = c.in-Err.ensures in
     let empty : at handles r ≡ None = no_handle handles r
@@ -106,12 +104,13 @@ returns-in-Err-clause-goes g c config s filled =
         rw c.refusal.ensures refused,
         refl,
       ),
-      stays fits cache config s client c.lookup.new.client handles told.refused filled,
+      rw c.in_ok-reserve.ensures.same
+          (stays fits cache config s client c.lookup.new.client handles told.refused filled),
     )
 
 pub returns-in-Err-clause-did : goal.returns-in-Err-clause-did
 unfolding Does
 returns-in-Err-clause-did g c = record {
   client = c.in-Err.ensures.refused;
-  registers = λ r. refl;
+  registers = λ r. rw c.in_ok-reserve.ensures.same refl;
 }

@@ -1,12 +1,12 @@
-use Rattle.std.proofs.Common.{◌≡◌, true, None, Some, refl, sym, ◌∙◌}
+use Rattle.std.proofs.Common.{◌≡◌, true, None, refl, sym, ◌∙◌}
 use Rattle.std.specs.Prelude.{is_some}
 use Rattle.hcc_player.specs.Registers.{at}
 use Rattle.hcc_player.specs.RunAnswers.{IsRight}
 use Rattle.hcc_player.specs.RunCalls.{Does}
 use Rattle.hcc_player.proofs.CallLemmas.{busy_told, empty_told, no_handle, pin_goes, pin_refused}
-use Rattle.hcc_player.proofs.DoesLemmas.{pin_did, set_at}
-use Rattle.hcc_player.proofs.RegisterLemmas.{moved_filled}
-use Rattle.hcc_player.proofs.run.calls.pin.Goals.{in-Ok+in_ok-reserve-in-Ok, in-Err}
+use Rattle.hcc_player.proofs.DoesLemmas.{pin_did}
+use Rattle.hcc_player.proofs.RegisterLemmas.{at_filled}
+use Rattle.hcc_player.proofs.run.calls.pin.Goals.{in-Ok, in-Err}
 use Rattle.hcc_player.proofs.run.calls.pin.Goals as goal
 
 pub returns-then-is_some-clause-goes : goal.returns-then-is_some-clause-goes
@@ -15,7 +15,7 @@ returns-then-is_some-clause-goes g c config s filled =
     let fits = g.T.Tag.fits in
     let cache = c.args.cache.now in
     let client = c.args.client.now in
-    let handles = c.args.registers.now.handles.items in
+    let handles = c.args.registers.now.filled.items in
     let r = c.args.register in
     let full : is_some (at handles r) ≡ true =
     rw c.get.ensures at (sym c.is_some.ensures ∙ c.if-is_some.true) in
@@ -31,28 +31,26 @@ returns-clause-goes g c =
     let fits = g.T.Tag.fits in
     let cache = c.args.cache.now in
     let client = c.args.client.now in
-    let handles = c.args.registers.now.handles.items in
+    let handles = c.args.registers.now.filled.items in
     let r = c.args.register in
     let empty : at handles r ≡ None = no_handle handles r
     (rw c.get.ensures at (sym c.is_some.ensures ∙ c.if-is_some.false)) in
     elim c.match-insert_pinned.branch [
-      | in-Ok+in_ok-reserve-in-Ok w ↦ rw (w.result-is, w.registers-is) (λ config s filled.
-          let kept = w.reserve.new.self.handles.items in
-          let reserved = w.in_ok-reserve-in-Ok.ensures in
-          rw (w.placed.ensures, w.set.ensures)
-          (pin_goes fits cache config s client c.insert_pinned.new.client kept r c.args.key
+      | in-Ok w ↦ rw (w.result-is, w.registers-is) (λ config s filled.
+          rw (w.placed.ensures, w.fill.ensures, c.in_ok-reserve.ensures.same)
+          (pin_goes fits cache config s client c.insert_pinned.new.client handles r c.args.key
           c.args.charge c.args.priority c.args.value w.in-Ok.handle w.in-Ok.inserted
           w.in-Ok.ensures.known w.in-Ok.ensures.may
-          (rw c.into_vec.ensures at w.in-Ok.ensures.inserted)
-          c.requires.fits (reserved.same r ∙ empty) reserved.there
-          (moved_filled fits cache config s client handles kept reserved.same reserved.count
-          filled)))
+          (rw c.into_vec.ensures at w.in-Ok.ensures.inserted) c.requires.fits empty filled))
       | in-Err w ↦ rw (w.result-is, w.registers-is) (λ config s filled.
           let told = w.in-Err.ensures in
           let gone = pin_refused fits cache config s client c.insert_pinned.new.client handles
           c.args.key c.args.charge c.args.priority c.args.value w.in-Err.error told.known
-          (told.full, told.spent, told.large) (rw c.into_vec.ensures at told.inserted) filled in
-          (gone.0, (empty_told fits cache config s client handles r empty filled, gone.1), gone.2))
+          (told.full, told.spent, told.large) (rw c.into_vec.ensures at told.inserted) filled in (
+            gone.0,
+            (empty_told fits cache config s client handles r empty filled, gone.1),
+            rw c.in_ok-reserve.ensures.same gone.2,
+          ))
     ]
 
 pub returns-clause-did : goal.returns-clause-did
@@ -60,16 +58,18 @@ unfolding Does
 returns-clause-did g c =
     let fits = g.T.Tag.fits in
     let cache = c.args.cache.now in
-    let handles = c.args.registers.now.handles.items in
+    let handles = c.args.registers.now.filled.items in
     let r = c.args.register in
+    let empty : at handles r ≡ None = no_handle handles r
+    (rw c.get.ensures at (sym c.is_some.ensures ∙ c.if-is_some.false)) in
     elim c.match-insert_pinned.branch [
-      | in-Ok+in_ok-reserve-in-Ok w ↦ rw (w.result-is, w.registers-is, w.placed.ensures)
+      | in-Ok w ↦ rw (w.result-is, w.registers-is, w.placed.ensures)
           (pin_did fits cache c.args.client.now c.insert_pinned.new.client handles
-          w.set.new.self.handles.items r c.args.key c.args.charge c.args.priority c.args.value
+          w.fill.new.self.filled.items r c.args.key c.args.charge c.args.priority c.args.value
           w.in-Ok.handle w.in-Ok.inserted (rw c.into_vec.ensures at w.in-Ok.ensures.inserted)
           w.in-Ok.ensures.evicts
-          (set_at w.reserve.new.self.handles.items w.set.new.self.handles.items r
-          (Some w.in-Ok.handle) w.set.ensures w.in_ok-reserve-in-Ok.ensures.there))
+          (rw (w.fill.ensures, c.in_ok-reserve.ensures.same)
+          (at_filled handles r w.in-Ok.handle empty)))
       | in-Err w ↦ rw w.result-is (record {
         refuses = rw c.into_vec.ensures at w.in-Err.ensures.inserted;
         evicts = w.in-Err.ensures.evicts;

@@ -12,7 +12,6 @@ loop-number-init g c =
       before = λ c client within at. absurd (omega arith);
       did = λ c client within at. absurd (omega arith);
       same = λ c within. refl;
-      alone = λ c within. refl;
       behind = λ k client held within here there. (m.0, m.1 k, m.2.each k client held here there);
     }
 
@@ -21,29 +20,27 @@ let_go-requires g c =
     let inv = c.loop-number.invariant in
     let n = c.loop-number.number in
     let clients = c.loop-number.clients.items in
-    let registers = c.loop-number.registers.items in
+    let registers = c.args.registers.items in
     let below = c.loop-number-test.true in
     let all = c.len-number-end.ensures in
     let count = inv.count in
     let alike = inv.alike in
     let client = c.index_mut.result.now in
-    let held = c.index_mut-in-loop-number.result.now in
+    let held = c.index.result.now in
     inv.behind n client held (omega arith)
     (slice_get_read clients (length clients) n client refl (omega arith)
     c.index_mut.ensures.value)
     (slice_get_read registers (length registers) n held refl (omega arith)
-    c.index_mut-in-loop-number.ensures.value)
+    c.index.ensures)
 
 pub loop-number-preserved : goal.loop-number-preserved
 loop-number-preserved g c =
     let clients = c.loop-number.clients.items in
-    let registers = c.loop-number.registers.items in
+    let registers = c.args.registers.items in
     let n = c.loop-number.number in
     lets_go g.T.Tag.fits c.args.cache n c.args.clients.items clients _ c.args.registers.items
-    registers _
-    c.let_go.new.client c.let_go.new.registers c.loop-number.invariant refl refl
-    (length-set clients n c.let_go.new.client) (length-set registers n c.let_go.new.registers)
-    c.let_go.ensures.known c.let_go.ensures.none
+    c.let_go.new.client c.loop-number.invariant refl
+    (length-set clients n c.let_go.new.client) c.let_go.ensures.known c.let_go.ensures.none
     (λ client held here there.
     let inv = c.loop-number.invariant in
     let count = inv.count in
@@ -53,13 +50,12 @@ loop-number-preserved g c =
     let mine : slice_get clients n ≡ Some c.index_mut.result.now =
     slice_get_read clients (length clients) n c.index_mut.result.now refl (omega arith)
     c.index_mut.ensures.value in
-    let its : slice_get registers n ≡ Some c.index_mut-in-loop-number.result.now =
-    slice_get_read registers (length registers) n c.index_mut-in-loop-number.result.now refl
-    (omega arith) c.index_mut-in-loop-number.ensures.value in
+    let its : slice_get registers n ≡ Some c.index.result.now =
+    slice_get_read registers (length registers) n c.index.result.now refl
+    (omega arith) c.index.ensures in
     let same : client ≡ c.index_mut.result.now =
     cc (here, mine, inv.same n (omega arith)) in
-    let alone : held ≡ c.index_mut-in-loop-number.result.now =
-    cc (there, its, inv.alone n (omega arith)) in
+    let alone : held ≡ c.index.result.now = cc (there, its) in
     rw (same, alone) c.let_go.ensures.did)
 
 pub close-requires : goal.close-requires

@@ -3,4 +3,4 @@ use Rattle.hcc_player.proofs.run.playing.closed.Given as goal
 
 abbrev pub invariant-loop-number : goal.invariant-loop-number
 invariant-loop-number g l = LettingGo g.T.Tag.fits l.cache l.number l.fn.clients.items
-    l.clients.items l.fn.registers.items l.registers.items
+    l.clients.items l.fn.registers.items
