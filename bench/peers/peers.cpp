@@ -4,6 +4,9 @@
 //   peers [--case NAME]... [--cache NAME]... [--value-size N]... [--threads N]...
 //         [--shards N] [--rounds N] [--operations N]
 //
+// Where a cache's memory lies makes it faster or slower, so all are made anew for every three rounds,
+// in another order; and each round begins with the next of them.
+//
 // An option that is left out stands for all there are, but for the cache ferretgold-large, which plays
 // all but `pinned` by the calls for large values: then sizes go up to 65,536 bytes, and those above
 // 4,096 leave out ferretgold and its twin. Each thread makes as many operations a round
@@ -12,6 +15,7 @@
 
 #include <algorithm>
 #include <cinttypes>
+#include <iterator>
 #include <memory>
 
 #ifndef PEERS_BUILD
@@ -27,6 +31,8 @@ constexpr double round_seconds = 0.04;
 // A slower cache may take so many times as long.
 constexpr std::uint64_t longest = 5;
 constexpr std::uint64_t first_guess = 100;
+// How many rounds the same caches are played.
+constexpr std::uint64_t rounds_together = 3;
 
 struct options {
     std::vector<std::string> cases;
@@ -117,12 +123,38 @@ template <class Cache> struct player_of : player {
     bench<Cache> bench_;
 };
 
-template <class Cache>
-void add(std::vector<std::unique_ptr<player>> &players, const options &asked, kind is,
-         const sizes &sizes) {
-    if (is_asked(asked.caches, Cache::name())) {
-        players.push_back(std::make_unique<player_of<Cache>>(is, sizes));
+using players = std::vector<std::unique_ptr<player>>;
+
+// How a cache is made and filled, by its name.
+struct maker {
+    std::string name;
+    std::unique_ptr<player> (*make)(kind, const sizes &);
+};
+
+template <class Cache> maker maker_of() {
+    return {Cache::name(), [](kind is, const sizes &sizes) -> std::unique_ptr<player> {
+                return std::make_unique<player_of<Cache>>(is, sizes);
+            }};
+}
+
+// Those of the caches that are asked for and can be played so.
+std::vector<maker> makers_of(const options &asked, kind is, const sizes &sizes) {
+    std::vector<maker> all;
+    if (sizes.value_size <= most_bytes) {
+        all = {maker_of<ferret>(), maker_of<twin>()};
     }
+    if (!asked.caches.empty() && is != kind::pinned) {
+        all.push_back(maker_of<ferret_large>());
+    }
+    all.push_back(maker_of<hyper_clock>());
+    all.push_back(maker_of<lru>());
+    std::vector<maker> some;
+    std::copy_if(all.begin(), all.end(), std::back_inserter(some),
+                 [&asked](const maker &it) { return is_asked(asked.caches, it.name); });
+    if (some.empty()) {
+        stop("there is no such cache");
+    }
+    return some;
 }
 
 // How many operations take a cache as long as a round should.
@@ -140,9 +172,9 @@ std::uint64_t operations_of(player &of) {
 }
 
 // The same for all of them, where no round should take any of them much longer.
-std::uint64_t operations_of(const std::vector<std::unique_ptr<player>> &players) {
-    std::uint64_t operations = operations_of(*players.front());
-    for (const std::unique_ptr<player> &it : players) {
+std::uint64_t operations_of(const players &all) {
+    std::uint64_t operations = operations_of(*all.front());
+    for (const std::unique_ptr<player> &it : all) {
         operations = std::min(operations, longest * operations_of(*it));
     }
     return operations;
@@ -170,24 +202,23 @@ void print(const player &of, const char *case_name, const sizes &sizes, std::uin
 }
 
 void compare(const options &asked, const named_case &of, const sizes &sizes) {
-    std::vector<std::unique_ptr<player>> players;
-    if (sizes.value_size <= most_bytes) {
-        add<ferret>(players, asked, of.is, sizes);
-        add<twin>(players, asked, of.is, sizes);
-    }
-    if (!asked.caches.empty() && of.is != kind::pinned) {
-        add<ferret_large>(players, asked, of.is, sizes);
-    }
-    add<hyper_clock>(players, asked, of.is, sizes);
-    add<lru>(players, asked, of.is, sizes);
-    if (players.empty()) {
-        stop("there is no such cache");
-    }
-    std::uint64_t operations =
-        asked.operations != 0 ? asked.operations : operations_of(players);
+    std::vector<maker> makers = makers_of(asked, of.is, sizes);
+    std::uint64_t operations = asked.operations;
+    players all;
     for (std::uint64_t round = 0; round < asked.rounds; ++round) {
-        for (const std::unique_ptr<player> &it : players) {
-            print(*it, of.name, sizes, round, it->play(operations));
+        if (round % rounds_together == 0) {
+            all.clear();
+            for (const maker &it : makers) {
+                all.push_back(it.make(of.is, sizes));
+            }
+            std::rotate(makers.begin(), makers.begin() + 1, makers.end());
+        }
+        if (operations == 0) {
+            operations = operations_of(all);
+        }
+        for (std::size_t turn = 0; turn < all.size(); ++turn) {
+            player &it = *all[(round + turn) % all.size()];
+            print(it, of.name, sizes, round, it.play(operations));
         }
     }
     std::fflush(stdout);

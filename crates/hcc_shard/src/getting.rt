@@ -1,8 +1,10 @@
 //! Values that are read by their keys.
 ghost use Rattle.std.specs.Prelude.{◌≡◌, ◌+◌, IfSome, IsSomeAnd};
+ghost use Rattle.hcc_rule.specs.declared.layout.TheConstants.{DATA};
 ghost use Rattle.hcc_rule.specs.Callers.{room_of, slots_of, IsSeatAt, IsSlotOf};
 ghost use Rattle.hcc_rule.specs.Records.{record_in};
 ghost use Rattle.hcc_rule.specs.Seats.{IsSameSeat, view};
+ghost use Rattle.hcc_rule.specs.Words.{field_at};
 ghost use Rattle.hcc_table.specs.Efforts.{Took};
 ghost use Rattle.hcc_table.specs.Pins.{IsPinned, is_useful};
 ghost use Rattle.hcc_table.specs.Readings.{IsReadable};
@@ -66,8 +68,9 @@ impl<T: Tag, A: Allocator> Shard<T, A> {
             &mut seat.effort,
         ) {
             Some(pin) => {
-                let got = copy_out(&self.table, &mut seat.seat, pin, buffer);
-                give_back(&self.table, &mut seat.seat, pin, usage);
+                let first = self.table.data_of(pin.slot);
+                let got = copy_out(&self.table, &mut seat.seat, pin, first, buffer);
+                give_back(&self.table, &mut seat.seat, pin, first, usage);
                 got
             }
             None => Got::Miss,
@@ -81,10 +84,12 @@ fn copy_out<T: Tag, A: Allocator>(
     table: &RuleTable<T, A>,
     seat: &mut RuleSeat<T>,
     pin: Pin,
+    first: usize,
     buffer: &mut [u8],
 ) -> Got
     requires seat { IsSeatAt table.now seat.old }
     requires slot { IsSlotOf table.now pin.slot }
+    requires first { first ≡ field_at (room_of table.now) pin.slot DATA }
     requires holds { IsPinned pin (view seat.old) }
     requires readable { IfSome (record_in pin.name (view seat.old).records)
         (λ r. IsReadable (room_of table.now) r) }
@@ -95,10 +100,10 @@ fn copy_out<T: Tag, A: Allocator>(
     ensures seeks { Seeks table.now seat.old seat.new }
     ensures steps { MakesAtMost (room_of table.now + 1) seat.old seat.new }
 {
-    let count = read_len(table, seat, pin);
+    let count = read_len(table, seat, pin, first);
     if count > buffer.len() {
         return Got::Short(count);
     }
-    copy_bytes(table, seat, pin, count, buffer);
+    copy_bytes(table, seat, pin, first, count, buffer);
     Got::Hit(count)
 }

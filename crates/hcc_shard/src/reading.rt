@@ -110,7 +110,8 @@ impl<T: Tag, A: Allocator> Shard<T, A> {
         ensures counts { SameCounts seat.old seat.new }
         ensures steps { MakesAtMost 1 seat.old.seat seat.new.seat }
     {
-        read_len(&self.table, &mut seat.seat, pin)
+        let first = self.table.data_of(pin.slot);
+        read_len(&self.table, &mut seat.seat, pin, first)
     }
 
     /// Copies the value of the entry of a pin that the client holds to the front of a buffer, which
@@ -166,11 +167,12 @@ impl<T: Tag, A: Allocator> Shard<T, A> {
             MakesAtMost (words_for len + 1) seat.old.seat seat.new.seat) }
         ensures few { IfErr result (λ _. MakesAtMost 1 seat.old.seat seat.new.seat) }
     {
-        let count = read_len(&self.table, &mut seat.seat, pin);
+        let first = self.table.data_of(pin.slot);
+        let count = read_len(&self.table, &mut seat.seat, pin, first);
         if buffer.len() < count {
             return Err(count);
         }
-        copy_bytes(&self.table, &mut seat.seat, pin, count, buffer);
+        copy_bytes(&self.table, &mut seat.seat, pin, first, count, buffer);
         Ok(count)
     }
 }

@@ -89,17 +89,21 @@ pub fn displacement<T: Tag, A: Allocator>(
     table.count(seat, slot)
 }
 
-/// How many bytes the value has of the entry of a pin.
+/// How many bytes the value has of the entry of a pin, for a caller that has the address of its
+/// slot's first data word.
 ///
 /// The client holds the pin's reference. What the client has stays. It refuses nothing and
 /// allocates nothing. It costs one load.
+#[inline(always)]
 pub fn read_len<T: Tag, A: Allocator>(
     table: &RuleTable<T, A>,
     seat: &mut RuleSeat<T>,
     pin: Pin,
+    first: usize,
 ) -> usize
     requires seat { IsSeatAt table.now seat.old }
     requires slot { IsSlotOf table.now pin.slot }
+    requires first { first ≡ field_at (room_of table.now) pin.slot DATA }
     requires holds { IsPinned pin (view seat.old) }
     ensures seat { IsSameSeat seat.old seat.new }
     ensures view { view seat.new ≡ view seat.old }
@@ -108,7 +112,7 @@ pub fn read_len<T: Tag, A: Allocator>(
     ensures seeks { Seeks table.now seat.old seat.new }
     ensures steps { MakesAtMost 1 seat.old seat.new }
 {
-    table.read(seat, pin.slot, LENGTH, pin.name) as usize
+    table.read_at(seat, pin.slot, first, LENGTH, pin.name) as usize
 }
 
 /// The key of the entry of a pin.
@@ -165,8 +169,9 @@ pub fn read_bytes<T: Tag, A: Allocator>(
     ensures seeks { Seeks table.now seat.old seat.new }
     ensures steps { MakesAtMost (words_for result + 1) seat.old seat.new }
 {
-    let length = read_len(table, seat, pin);
-    copy_bytes(table, seat, pin, length, buffer);
+    let first = table.data_of(pin.slot);
+    let length = read_len(table, seat, pin, first);
+    copy_bytes(table, seat, pin, first, length, buffer);
     length
 }
 
@@ -176,11 +181,13 @@ pub fn copy_bytes<T: Tag, A: Allocator>(
     table: &RuleTable<T, A>,
     seat: &mut RuleSeat<T>,
     pin: Pin,
+    first: usize,
     count: usize,
     buffer: &mut [u8],
 )
     requires seat { IsSeatAt table.now seat.old }
     requires slot { IsSlotOf table.now pin.slot }
+    requires first { first ≡ field_at (room_of table.now) pin.slot DATA }
     requires holds { IsPinned pin (view seat.old) }
     requires readable { IfSome (record_in pin.name (view seat.old).records)
         (λ r. IsReadable (room_of table.now) r) }
@@ -194,16 +201,15 @@ pub fn copy_bytes<T: Tag, A: Allocator>(
     ensures seeks { Seeks table.now seat.old seat.new }
     ensures steps { MakesAtMost (words_for count) seat.old seat.new }
 {
-    let first = table.data_of(pin.slot);
     let whole = count / 8;
-    let fours = whole / 4;
-    for four in 0..fours {
-        copy_word(table, seat, pin, first, 4 * four, 8, buffer);
-        copy_word(table, seat, pin, first, 4 * four + 1, 8, buffer);
-        copy_word(table, seat, pin, first, 4 * four + 2, 8, buffer);
-        copy_word(table, seat, pin, first, 4 * four + 3, 8, buffer);
+    let eights = whole / 8;
+    for eight in 0..eights {
+        // The compiler unrolls these.
+        for part in 0..8 {
+            copy_word(table, seat, pin, first, 8 * eight + part, 8, buffer);
+        }
     }
-    for index in 4 * fours..whole {
+    for index in 8 * eights..whole {
         copy_word(table, seat, pin, first, index, 8, buffer);
     }
     let rest = count % 8;

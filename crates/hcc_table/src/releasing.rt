@@ -81,7 +81,8 @@ pub fn release<T: Tag, A: Allocator>(
 }
 
 /// Gives the reference of a pin back, as a use where it is useful and counts, and frees nothing: an
-/// erased entry that nobody holds then stays until the clock comes by.
+/// erased entry that nobody holds then stays until the clock comes by. The caller has the address of
+/// the slot's first data word.
 ///
 /// The client holds the pin's reference. Its record is gone afterwards, and no other. It allocates
 /// nothing. It costs one atomic add or subtraction.
@@ -90,17 +91,18 @@ pub fn give_back<T: Tag, A: Allocator>(
     table: &RuleTable<T, A>,
     seat: &mut RuleSeat<T>,
     pin: Pin,
+    first: usize,
     usage: Use,
 )
     requires seat { IsSeatAt table.now seat.old }
     requires slot { IsSlotOf table.now pin.slot }
+    requires first { first ≡ field_at (room_of table.now) pin.slot DATA }
     requires holds { IsPinned pin (view seat.old) }
     ensures seat { IsSameSeat seat.old seat.new }
     ensures gives { GivesOnce table.now pin (is_useful usage) seat.old seat.new }
     ensures steps { MakesAtMost 1 seat.old seat.new }
 {
     let used = usage.is_use(pin.counting);
-    let first = table.data_of(pin.slot);
     let_go(table, seat, pin.slot, first, 1, pin.name, used);
 }
 

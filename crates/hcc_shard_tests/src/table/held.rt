@@ -89,7 +89,8 @@ impl Caller<'_> {
         ensures holds { HoldsOne found (view self.new.seat) }
     {
         let key = read_key(self.table, &mut self.seat, found);
-        let length = read_len(self.table, &mut self.seat, found);
+        let first = self.table.data_of(found.slot);
+        let length = read_len(self.table, &mut self.seat, found, first);
         let mut buffer = [UNREAD; 20];
         let count = read_bytes(self.table, &mut self.seat, found, &mut buffer);
         (key, length, count, buffer)

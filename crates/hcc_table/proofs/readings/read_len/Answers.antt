@@ -5,4 +5,4 @@ use Rattle.hcc_table.proofs.readings.read_len.Goals as goal
 pub returns-clause-seeks : goal.returns-clause-seeks
 returns-clause-seeks g c =
     seeks_read c.args.table.now c.args.pin.name (IsOf c.args.pin) c.args.seat.now
-    c.read.new.seat c.requires.holds c.read.ensures.event
+    c.read_at.new.seat c.requires.holds c.read_at.ensures.event
