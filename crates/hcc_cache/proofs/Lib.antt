@@ -47,3 +47,4 @@ pub mod Beginning
 pub mod Reopenings
 pub mod Roomy
 pub mod Staying
+pub mod Fitting

@@ -20,3 +20,4 @@ pub mod Taken
 pub mod Drafts
 pub mod Reopened
 pub mod Stays
+pub mod Room

@@ -9,7 +9,7 @@ use Rattle.hcc_cache.specs.declared.cache.Cache.{Cache}
 use Rattle.hcc_cache.specs.declared.client.Client.{Client}
 use Rattle.hcc_cache.specs.declared.handle.Handle.{Handle}
 use Rattle.hcc_cache.specs.declared.holding.Hold.{Hold}
-use Rattle.hcc_cache.specs.declared.holding.Kept.TheVariants.{Pinned}
+use Rattle.hcc_cache.specs.declared.holding.Kept.TheVariants.{Pinned, Standing}
 use Rattle.hcc_cache.specs.declared.seeded.Seeded.{Seeded}
 use Rattle.hcc_cache.specs.Calls.{AtShard, OnlyAt}
 use Rattle.hcc_cache.specs.Clients.{hold_of}
@@ -39,6 +39,12 @@ module _ {T : Type 0} (cache : Cache T) where
       (hold : Hold) (slot : ℕ) (counting : Bool) → hold_of old handle ≡ Some hold
       → hold.kept ≡ Pinned slot counting
       → ReleasesPin hold slot (useful && counting) erase freed old new
+
+  -- one on a standalone entry changes nothing of what is shown
+  abbrev pub StaysWhereStanding : Handle → (old new : Client T) → Type 0
+  StaysWhereStanding handle old new =
+      (hold : Hold) (index : ℕ) → hold_of old handle ≡ Some hold → hold.kept ≡ Standing index
+      → Stays old new
 
   -- the entries with which each shard began keep their limits
   abbrev pub BeganEachWithin : (fits : T → Key → List ℕ → Type 0) → Type 0

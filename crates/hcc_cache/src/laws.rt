@@ -26,7 +26,7 @@ ghost use Rattle.hcc_cache.specs.declared.handle.Handle.{Handle};
 ghost use Rattle.hcc_cache.specs.declared.priority.Priority.{Priority};
 ghost use Rattle.hcc_cache.specs.declared.seeded.Seeded.{Seeded};
 ghost use Rattle.hcc_cache.specs.declared.holding.Hold.{Hold};
-ghost use Rattle.hcc_cache.specs.Calls.{shard_in, ErasesFor, Gains, SearchesFor};
+ghost use Rattle.hcc_cache.specs.Calls.{shard_in, ErasesFor, Gains, OnlyAt, SearchesFor};
 ghost use Rattle.hcc_cache.specs.Clients.{Held, Holds};
 ghost use Rattle.hcc_cache.specs.Configs.{shard_capacity};
 ghost use Rattle.hcc_cache.specs.Gets.{GetsAt};
@@ -35,6 +35,7 @@ ghost use Rattle.hcc_cache.specs.Keys.{fits_seeded};
 ghost use Rattle.hcc_cache.specs.Known.{Knows};
 ghost use Rattle.hcc_cache.specs.Moments.{IsMoment, IsQuietMiss, KnowsShown, ShowsKeyIn, plan_in};
 ghost use Rattle.hcc_cache.specs.Opened.{IsCacheOf};
+ghost use Rattle.hcc_cache.specs.Room.{FitsAs, FitsPinnedAs, HasRoom};
 ghost use Rattle.hcc_cache.specs.Sharding.{key_to};
 ghost use Rattle.hcc_cache.specs.Stays.{BeganEachWithin, ReleasesPin, Stays};
 ghost use Rattle.hcc_cache.specs.Totals.{occupancy_in, usage_in, KnowsEach, LoadsEachOccupancy, LoadsEachUsage};
@@ -208,12 +209,59 @@ pub fn law_matches<T: Tag>()
     law_room_alone::<Seeded<T>, Global>();
 }
 
-/// In a cache of one client what is shown stays so until an insertion into its shard, an erasure of
-/// its key, a release that frees it, or the last release of a standalone entry.
+/// In a cache of one client an insertion for which there is room evicts nothing.
+pub fn law_room<T: Tag>()
+    // There is room where, in the world that the client knows of the key's shard when the call
+    // begins, a place is left and the charge is within the shard's capacity beside the usage. Then
+    // a place is reserved: it isn't refused, and no entry is taken. From that world to the one that
+    // the client knows at the end: Placed: its slot showed nothing, and is an earlier probe of the
+    // key than each that shows the key; then it shows it. Dropped: it met the first probe that
+    // shows the key, or none does. All other slots show what they showed.
+    ensures stores { (config : Config) (tag : T) (cache : Cache T)
+        → IsCacheOf config tag cache → config.clients ≡ 1
+        → (key : Key) (charge : ℕ) (priority : Priority) (answer : Result Inserted Refused)
+        (old new : Client T) (h : StoresAt cache T.fits key charge priority answer old new)
+        → HasRoom config charge (world_at h.shard.table h.was.seat)
+        → FitsAs h.shard (draft_of cache key charge priority (λ c. None) old) T.fits answer h.was
+        h.is h.did }
+
+    // The same of one that gives a handle, on a standalone entry where that is dropped.
+    ensures pins { (config : Config) (tag : T) (cache : Cache T)
+        → IsCacheOf config tag cache → config.clients ≡ 1
+        → (key : Key) (charge : ℕ) (priority : Priority) (answer : Result Pinned Refused)
+        (old new : Client T) (h : PinsAt cache T.fits key charge priority answer old new)
+        → HasRoom config charge (world_at h.shard.table h.was.seat)
+        → FitsPinnedAs h.shard (draft_of cache key charge priority (λ c. Some c.used) old) T.fits
+        answer h.was h.is h.did }
+
+    // So each key that the client knew to be shown it knows so still,
+    ensures kept { (config : Config) (tag : T) (cache : Cache T)
+        → IsCacheOf config tag cache → config.clients ≡ 1
+        → (key : Key) (charge : ℕ) (priority : Priority) (answer : Result Inserted Refused)
+        (old new : Client T) (h : StoresAt cache T.fits key charge priority answer old new)
+        → HasRoom config charge (world_at h.shard.table h.was.seat)
+        → OnlyAt (shard_in cache key) old new → (other : Key)
+        → KnowsShown cache other old → KnowsShown cache other new }
+
+    // and so it is behind one that gives a handle.
+    ensures kept_pinned { (config : Config) (tag : T) (cache : Cache T)
+        → IsCacheOf config tag cache → config.clients ≡ 1
+        → (key : Key) (charge : ℕ) (priority : Priority) (answer : Result Pinned Refused)
+        (old new : Client T) (h : PinsAt cache T.fits key charge priority answer old new)
+        → HasRoom config charge (world_at h.shard.table h.was.seat)
+        → OnlyAt (shard_in cache key) old new → (other : Key)
+        → KnowsShown cache other old → KnowsShown cache other new }
+{
+    law_inserted_alone::<Seeded<T>, Global>();
+}
+
+/// In a cache of one client what is shown stays so until an insertion into its shard for which
+/// there is no room (`law_room`), an erasure of its key, or a release that frees it.
 pub fn law_kept_shown<T: Tag>()
     // A key that the client knows to be shown it knows so after each call that makes and takes no
     // entry, and shows and hides none: a look-up, a reading, one handle more, a count of what is
-    // held, a load of a slot's words, and a release that freed nothing.
+    // held, a load of a slot's words, a release that freed nothing, and one of a handle on a
+    // standalone entry.
     ensures stays { (config : Config) (tag : T) (cache : Cache T)
         → IsCacheOf config tag cache → config.clients ≡ 1 → (key : Key) (old new : Client T)
         → Stays cache old new → KnowsShown cache key old → KnowsShown cache key new }

@@ -5,7 +5,7 @@ ghost use Rattle.hcc_cache.specs.Calls.{CountsAt, CountsBy, CountsNone, GivesBac
 ghost use Rattle.hcc_cache.specs.Clients.{hold_of, Holds};
 ghost use Rattle.hcc_cache.specs.Handles.{handle_of, HoldsNone};
 ghost use Rattle.hcc_cache.specs.Known.{Knows};
-ghost use Rattle.hcc_cache.specs.Stays.{ReleasesIn, ReleasesPin, Stays};
+ghost use Rattle.hcc_cache.specs.Stays.{ReleasesIn, ReleasesPin, Stays, StaysWhereStanding};
 ghost use Rattle.hcc_table.specs.Steps.{freeing};
 
 use crate::cache::Cache;
@@ -41,6 +41,7 @@ impl<T: Tag> Cache<T> {
         ensures by { ReleasesIn self.now handle useful erase_if_last result
             client.old client.new }
         ensures stays { result ≡ false → Stays self.now client.old client.new }
+        ensures standing { StaysWhereStanding self.now handle client.old client.new }
         ensures counts { CountsBy handle client.old client.new }
         ensures steps { TakesAtMost (freeing self.now.geometry.slots + 3) client.old client.new }
     {
@@ -71,6 +72,8 @@ impl<T: Tag> Cache<T> {
         ensures by { IfSome result (λ freed. ReleasesIn self.now (handle_of numbers) useful
             erase_if_last freed client.old client.new) }
         ensures stays { ¬ (result ≡ Some true) → Stays self.now client.old client.new }
+        ensures standing { StaysWhereStanding self.now (handle_of numbers)
+            client.old client.new }
         ensures counts { IfSome result (λ _. CountsBy (handle_of numbers)
             client.old client.new) }
         ensures steps { TakesAtMost (freeing self.now.geometry.slots + 3) client.old client.new }
@@ -98,6 +101,7 @@ impl<T: Tag> Cache<T> {
         ensures by { ReleasesIn self.now handle useful erase_if_last result
             client.old client.new }
         ensures stays { result ≡ false → Stays self.now client.old client.new }
+        ensures standing { StaysWhereStanding self.now handle client.old client.new }
         ensures counts { CountsBy handle client.old client.new }
         ensures steps { TakesAtMost (freeing self.now.geometry.slots + 3) client.old client.new }
     {
@@ -163,7 +167,7 @@ impl<T: Tag> Cache<T> {
         ensures known { Knows self.now client.new }
         ensures released { (erase : _) → Releases self.now handle erase result
             client.old client.new }
-        ensures stays { result ≡ false → Stays self.now client.old client.new }
+        ensures stays { Stays self.now client.old client.new }
         ensures counts { CountsNone client.old client.new }
         ensures steps { TakesAtMost 2 client.old client.new }
     {

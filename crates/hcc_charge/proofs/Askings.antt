@@ -5,14 +5,17 @@ use Rattle.hcc_rule.specs.declared.key.Key.{Key}
 use Rattle.hcc_rule.specs.declared.layout.TheConstants.{USAGE}
 use Rattle.hcc_rule.specs.declared.table.RuleTable.{RuleTable}
 use Rattle.hcc_rule.specs.declared.view.View.{View}
-use Rattle.hcc_rule.specs.Callers.{capacity_of, is_strict, slots_of}
+use Rattle.hcc_rule.specs.Callers.{capacity_of, is_strict, plan_of, slots_of, IsEvent}
 use Rattle.hcc_rule.specs.Addresses.{address_of_ledger}
+use Rattle.hcc_rule.specs.Events.{enter_done}
+use Rattle.hcc_rule.specs.Rule.{setup_of}
 use Rattle.hcc_rule.specs.Seats.{SeatOf, Makes, view}
 use Rattle.hcc_table.specs.declared.efforts.Effort.{Effort}
 use Rattle.hcc_table.specs.Efforts.{Lost}
+use Rattle.hcc_table.specs.Still.{GoesOnStill}
 use Rattle.hcc_charge.specs.declared.swept.Swept.{Swept}
 use Rattle.hcc_charge.specs.declared.tally.Tally.{Tally}
-use Rattle.hcc_charge.specs.Asked.{added, is_full, lacked, Enters, EvictsAsAsked, EvictsNothing}
+use Rattle.hcc_charge.specs.Asked.{added, is_full, lacked, Enters, EvictsAsAsked, EvictsNothing, FindsBy}
 use Rattle.hcc_charge.specs.Evicted.{EvictsFor, IsSweptFor, Sweeps, sweeping}
 use Rattle.hcc_charge.specs.Reserved.{ask_of, asked, at_least_one, entered, needed_by, still_needed, sweeping_between}
 use Rattle.hcc_charge.specs.Swept.{Tallied}
@@ -78,14 +81,15 @@ module _ {T A : Type 0} (fits : T → Key → List ℕ → Type 0) (table : Rule
       → ask ≡ asked strict (capacity_of table) charge full used
       → Enters table taken a u → view u ≡ entered full (view a)
       → Makes (address_of_ledger table USAGE) (added strict charge) 0 used u b
-      → EvictsNothing (view u) (view b)
+      → IsEvent table (enter_done (setup_of (plan_of table)) taken (view a)) a u
+      → FindsBy table strict charge used u b → EvictsNothing (view u) (view b)
       → EvictsFor fits table ask swept b c → IsSweptFor (slots_of table) ask swept
       → Sweeps swept.turns swept.slots swept.charge (view b) (view c)
       → Tallied swept before after → Lost swept.lost swept.lost effort counted → (d : SeatOf T)
-      → EvictsNothing (view c) (view d)
+      → EvictsNothing (view c) (view d) → GoesOnStill table c d
       → EvictsAsAsked fits table charge before after effort counted a d
-  evicts_as_asked is_found is_kind is_asked enters opens finds first evicts within sweeps tallied
-      lost d last =
+  evicts_as_asked is_found is_kind is_asked enters opens finds enters_by finds_by first evicts
+      within sweeps tallied lost d last behind =
       record {
         taken = taken;
         used = used;
@@ -97,6 +101,8 @@ module _ {T A : Type 0} (fits : T → Key → List ℕ → Type 0) (table : Rule
         finds =
             subst (λ s. Makes (address_of_ledger table USAGE) (added s charge) 0 used u b)
             (sym is_kind) finds;
+        enters_by = enters_by;
+        finds_by = subst (λ s. FindsBy table s charge used u b) (sym is_kind) finds_by;
         evicts = subst (λ n. EvictsFor fits table n swept b c) here evicts;
         within = subst (λ n. IsSweptFor (slots_of table) n swept) here within;
         turns =
@@ -111,6 +117,7 @@ module _ {T A : Type 0} (fits : T → Key → List ℕ → Type 0) (table : Rule
             ∙ ap (λ f. (view a).open_places + when f 1) is_found)));
         tallied = tallied;
         lost = lost;
+        behind = behind;
       }
     where
       here : ask ≡ asked (is_strict table) (capacity_of table) charge (is_full table taken) used

@@ -4,3 +4,4 @@ pub mod Turnings
 pub mod Reservings
 pub mod Answered
 pub mod Askings
+pub mod Stayings

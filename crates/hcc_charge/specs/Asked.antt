@@ -1,4 +1,4 @@
--- What a reservation found, and what it evicted for that, told of its atomic steps.
+-- What a reservation found, and what it evicted for that, told of its atomic steps and its events.
 use Rattle.std.specs.Prelude.{◌≡◌, ℕ, ◌+◌, ◌<◌, ◌≤◌, Bool, true, false, nat_le, List, Result, Ok, Err, if◌then◌else◌}
 use Rattle.hcc_core.specs.Sums.{when}
 use Rattle.hcc_core.specs.World.{limit_of}
@@ -6,13 +6,14 @@ use Rattle.hcc_rule.specs.declared.key.Key.{Key}
 use Rattle.hcc_rule.specs.declared.layout.TheConstants.{OCCUPANCY, USAGE}
 use Rattle.hcc_rule.specs.declared.table.RuleTable.{RuleTable}
 use Rattle.hcc_rule.specs.declared.view.View.{View}
-use Rattle.hcc_rule.specs.Callers.{capacity_of, is_strict, plan_of, slots_of}
+use Rattle.hcc_rule.specs.Callers.{capacity_of, is_strict, plan_of, slots_of, IsEvent}
 use Rattle.hcc_rule.specs.Addresses.{address_of_ledger}
+use Rattle.hcc_rule.specs.Events.{charge_done, enter_done, usage_done}
 use Rattle.hcc_rule.specs.Rule.{setup_of}
 use Rattle.hcc_rule.specs.Seats.{SeatOf, Makes, MakesSome, view}
 use Rattle.hcc_table.specs.declared.efforts.Effort.{Effort}
 use Rattle.hcc_table.specs.Efforts.{Lost}
-use Rattle.hcc_table.specs.Steps.{MakesNone}
+use Rattle.hcc_table.specs.Still.{GoesOnStill}
 use Rattle.hcc_charge.specs.declared.reserving.Reservation.{Reservation}
 use Rattle.hcc_charge.specs.declared.reserving.Reservation.TheVariants.{Reserved, NoPlace}
 use Rattle.hcc_charge.specs.declared.reserving.Refused.{Refused}
@@ -47,6 +48,13 @@ module _ {T A : Type 0} (table : RuleTable T A) where
   abbrev pub Enters : (taken : ℕ) → SeatOf T → SeatOf T → Type 0
   Enters = Makes (address_of_ledger table OCCUPANCY) 1 0
 
+  -- The usage was found by a load, or under strict capacity by the addition of the charge: by the
+  -- event of that.
+  abbrev pub FindsBy : (strict : Bool) → (charge used : ℕ) → SeatOf T → SeatOf T → Type 0
+  FindsBy true charge used old new =
+      IsEvent table (charge_done (setup_of (plan_of table)) charge used (view old)) old new
+  FindsBy false charge used old new = IsEvent table (usage_done used (view old)) old new
+
   -- What was freed was settled, and the charge is granted: without strict capacity it was added
   -- between the two.
   abbrev pub Grants : (strict : Bool) → (charge : ℕ) → Swept → SeatOf T → SeatOf T → Type 0
@@ -67,7 +75,9 @@ module _ {T A : Type 0} (fits : T → Key → List ℕ → Type 0) (table : Rule
   where
     -- A reservation found so many places taken, and this usage, and evicted exactly for what it
     -- asks for then, which left the seat c. The client's view counts the turns, what they took and
-    -- the open place, its tally all that they did, and its effort the exchanges that they lost.
+    -- the open place, its tally all that they did, and its effort the exchanges that they lost. The
+    -- steps before the eviction are told by their events, too. Behind it in a shard of one client
+    -- no entry is made or taken, shown or hidden.
     pub record EvictsAsAsked (before after : Tally) (effort counted : Effort) (a d : SeatOf T)
         : Type 0 where
       pub taken : ℕ
@@ -78,6 +88,8 @@ module _ {T A : Type 0} (fits : T → Key → List ℕ → Type 0) (table : Rule
       pub c : SeatOf T
       pub enters : Enters table taken a u
       pub finds : Makes (address_of_ledger table USAGE) (added (is_strict table) charge) 0 used u b
+      pub enters_by : IsEvent table (enter_done (setup_of (plan_of table)) taken (view a)) a u
+      pub finds_by : FindsBy table (is_strict table) charge used u b
       pub evicts : EvictsFor fits table
           (asked (is_strict table) (capacity_of table) charge (is_full table taken) used) swept b c
       pub within : IsSweptFor (slots_of table)
@@ -87,6 +99,7 @@ module _ {T A : Type 0} (fits : T → Key → List ℕ → Type 0) (table : Rule
       pub opened : (view d).open_places ≡ (view a).open_places + when (is_full table taken) 1
       pub tallied : Tallied swept before after
       pub lost : Lost swept.lost swept.lost effort counted
+      pub behind : GoesOnStill table c d
 
     -- What a reservation found and evicted, by its answer: what was lacked was freed, and a slot
     -- where the shard was full; no slot was freed in a full shard; or less charge was than was
@@ -103,7 +116,7 @@ module _ {T A : Type 0} (fits : T → Key → List ℕ → Type 0) (table : Rule
         × (e.swept.slots ≡ 0)
         × MakesSome (address_of_ledger table OCCUPANCY) 1 0 e.c d
     EvictsBy (Err TooLarge) before after effort counted a d =
-        (after ≡ before) × (counted ≡ effort) × MakesNone a d
+        (after ≡ before) × (counted ≡ effort) × (d ≡ a) × (capacity_of table < charge)
     EvictsBy (Err CapacityFull) before after effort counted a d =
         (e : EvictsAsAsked before after effort counted a d)
         × (e.swept.charge < lacked table charge e.used)

@@ -2,8 +2,10 @@
 ghost use Rattle.std.specs.Prelude.{◌≡◌, ◌≢◌, ℕ, ◌+◌, ◌*◌, ◌^◌, ◌<◌, ◌≤◌, false, true, Ok, Err};
 ghost use Rattle.hcc_core.specs.declared.client.Place.TheVariants.{Absent};
 ghost use Rattle.hcc_core.specs.World.{is_placed};
-ghost use Rattle.hcc_rule.specs.Callers.{capacity_of, is_strict, slots_of, IsSeatAt};
+ghost use Rattle.hcc_rule.specs.Callers.{capacity_of, is_strict, plan_of, slots_of, IsEvent, IsSeatAt};
 ghost use Rattle.hcc_rule.specs.Between.{IsBetweenCalls};
+ghost use Rattle.hcc_rule.specs.Events.{enter_done};
+ghost use Rattle.hcc_rule.specs.Rule.{setup_of};
 ghost use Rattle.hcc_rule.specs.Seats.{IsSameSeat, view};
 ghost use Rattle.hcc_rule.specs.ToldLedgers.{waived};
 ghost use Rattle.hcc_table.specs.Efforts.{Lost};
@@ -14,6 +16,7 @@ ghost use Rattle.hcc_charge.specs.Evicted.{asking, most_turns, sweeping, EvictsF
 ghost use Rattle.hcc_charge.specs.Reserved.{entered, settled_as, sweeping_between, ReservedBy};
 ghost use Rattle.hcc_charge.specs.Swept.{Tallied};
 ghost use Rattle.hcc_table.specs.Steps.{MakesAtMost};
+ghost use Rattle.hcc_table.specs.Still.{GoesOnStill};
 
 use crate::asking::{ask, at_least_one, needed};
 use crate::evicting::evict;
@@ -65,7 +68,8 @@ pub enum Refused {
 ///
 /// The eviction is for exactly what is asked for, by the words that the first two steps found:
 /// before its last turn less than that was freed, and the last turn frees at most four entries
-/// more. The steps behind it settle or give back exactly what it freed.
+/// more. The steps behind it settle or give back exactly what it freed. In a shard of one client
+/// only the eviction changes what is shown.
 ///
 /// The client has nothing in hand but its references and standalone entries, and the charge isn't
 /// 0. What the eviction did is added to the tally, and compare-exchanges that lost to the effort.
@@ -89,6 +93,8 @@ pub fn reserve<T: Tag, A: Allocator>(
         → result ≡ Err TooLarge }
     ensures evicts { EvictsBy T.fits table.now charge result tally.old tally.new
         effort.old effort.new seat.old seat.new }
+    ensures still { (view seat.new).turns ≡ (view seat.old).turns
+        → GoesOnStill table.now seat.old seat.new }
     ensures effort { Lost 0 (4 * most_turns (slots_of table.now)) effort.old effort.new }
     ensures steps { MakesAtMost (asking
         + sweeping_between (slots_of table.now) (view seat.old) (view seat.new))
@@ -185,7 +191,9 @@ fn enter<T: Tag, A: Allocator>(table: &RuleTable<T, A>, seat: &mut RuleSeat<T>) 
     ensures seat { IsSameSeat seat.old seat.new }
     ensures view { view seat.new ≡ entered result (view seat.old) }
     ensures enters { (taken : ℕ) × (result ≡ is_full table.now taken)
-        × Enters table.now taken seat.old seat.new }
+        × Enters table.now taken seat.old seat.new
+        × IsEvent table.now (enter_done (setup_of (plan_of table.now)) taken (view seat.old))
+        seat.old seat.new }
 {
     let limit = table.geometry().slots as u64 * OCCUPANCY_PERCENT / 100;
     table.enter(seat) >= limit
@@ -235,6 +243,7 @@ fn refuse<T: Tag, A: Allocator>(
     ensures seat { IsSameSeat seat.old seat.new }
     ensures view { view seat.new ≡ settled_as Absent 0 (view seat.old) }
     ensures gives { GivesAllBack table.now charge swept seat.old seat.new }
+    ensures still { GoesOnStill table.now seat.old seat.new }
     ensures steps { MakesAtMost 2 seat.old seat.new }
 {
     table.quit(seat, 1 + swept.slots);

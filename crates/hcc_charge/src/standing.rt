@@ -8,6 +8,7 @@ ghost use Rattle.hcc_rule.specs.Callers.{is_strict, IsSeatAt};
 ghost use Rattle.hcc_rule.specs.Seats.{IsSameSeat, view};
 ghost use Rattle.hcc_charge.specs.Settled.{fallen, stood};
 ghost use Rattle.hcc_table.specs.Steps.{Adds, MakesAtMost};
+ghost use Rattle.hcc_table.specs.Still.{GoesOnStill};
 
 use crate::settling::give_charge;
 use hcc_rule::{RuleSeat, RuleTable, Tag};
@@ -35,6 +36,7 @@ pub fn standalone_in<T: Tag, A: Allocator>(
     requires few { length (view seat.old).work.standalones < MOST_HANDLES }
     ensures seat { IsSameSeat seat.old seat.new }
     ensures view { view seat.new ≡ stood name charge (view seat.old) }
+    ensures still { GoesOnStill table.now seat.old seat.new }
     ensures adds { Adds seat.old seat.new }
     ensures steps { MakesAtMost 2 seat.old seat.new }
 {
@@ -62,6 +64,7 @@ pub fn standalone_out<T: Tag, A: Allocator>(
     requires settled { (view seat.old).work.freed ≡ 0 }
     ensures seat { IsSameSeat seat.old seat.new }
     ensures view { view seat.new ≡ fallen name (view seat.old) }
+    ensures still { GoesOnStill table.now seat.old seat.new }
     ensures steps { MakesAtMost 2 seat.old seat.new }
 {
     table.fall(seat, name, charge as u64);

@@ -26,12 +26,13 @@ use Rattle.hcc_table.specs.Rises.{Rose}
 use Rattle.hcc_table.specs.Inserted.{IsPlaced, Meets, Tried}
 use Rattle.hcc_table.specs.Searched.{Buried}
 use Rattle.hcc_table.proofs.Logs.{adds_none, adds_then, ends_adds}
-use Rattle.hcc_table.specs.Steps.{Adds, Among, Ends, MakesAtMost, MakesFor, after}
+use Rattle.hcc_table.proofs.Seeking.{goes_none}
+use Rattle.hcc_table.specs.Steps.{Adds, Among, Ends, MakesAtMost, MakesFor}
+use Rattle.hcc_table.specs.Still.{GoesOnStill, is_still}
 use Rattle.hcc_table.specs.Tries.{Inserts}
 use Rattle.hcc_charge.specs.declared.reserving.Refused.{Refused}
 use Rattle.hcc_charge.specs.declared.reserving.Refused.TheVariants.{TooLarge, CapacityFull, OccupancyFull}
 use Rattle.hcc_charge.specs.declared.reserving.Reservation.TheVariants.{Reserved, NoPlace}
-use Rattle.hcc_charge.specs.declared.tally.Tally.{Tally}
 use Rattle.hcc_charge.specs.Asked.{EvictsBy, EvictsNothing}
 use Rattle.hcc_charge.specs.Evicted.{asking, evicting, most_turns, sweeping}
 use Rattle.hcc_charge.specs.Reserved.{Reserves, sweeping_between}
@@ -172,6 +173,7 @@ module _ {T A : Type 0} (shard : Shard T A) (draft : Draft) where
         idle = record { turns = refl; takings = refl; opened = refl };
         rest = λ less. adds_none new.seat new.seat refl;
       };
+      ends = refl;
       counts = refl;
       probes = probes;
       boosts = boosts;
@@ -180,14 +182,15 @@ module _ {T A : Type 0} (shard : Shard T A) (draft : Draft) where
     -- What was tried from where the reservation ended.
     tries_from : (answer : Insertion) (mid between new : ShardSeat T)
         → TriesEach fits shard draft answer mid between → new.effort ≡ between.effort
-        → Adds between.seat new.seat
+        → Adds between.seat new.seat → GoesOnStill shard.table between.seat new.seat
         → TriesFrom fits shard draft mid.seat mid.effort answer new
-    tries_from answer mid between new tries same behind = record {
+    tries_from answer mid between new tries same behind still = record {
       done = between.seat;
       inserts =
           subst (λ e. Inserts fits shard.table draft.key draft.serial draft.countdown answer
           mid.effort e mid.seat between.seat) (sym same) tries.inserts;
       adds = behind;
+      still = still;
     }
 
     -- The entry was put in a slot that was reserved for it.
@@ -221,8 +224,8 @@ module _ {T A : Type 0} (shard : Shard T A) (draft : Draft) where
           (ap (λ (z : View T). z.records) r.same) told.dead;
       last = last;
       tries =
-          tries_from (Placed slot) mid new new tries refl
-          (adds_none new.seat new.seat refl);
+          tries_from (Placed slot) mid new new tries refl (adds_none new.seat new.seat refl)
+          (goes_none shard.table is_still new.seat new.seat refl);
       probes =
           slots_from (Placed slot) old mid new new (ap (λ (z : View T). z.saw) r.same) lost.0
           refl refl tries.counts;
@@ -244,11 +247,12 @@ module _ {T A : Type 0} (shard : Shard T A) (draft : Draft) where
         → EvictsNothing (view between.seat) (view new.seat)
         → (view new.seat).met ≡ (view between.seat).met
         → (view new.seat).saw ≡ (view between.seat).saw → Adds between.seat new.seat
+        → GoesOnStill shard.table between.seat new.seat
         → Rose (when matched 1) (when matched 1) old.boosts new.boosts
         → TriesEach fits shard draft (left_out matched) mid between → new.effort ≡ between.effort
         → LeavesOut fits shard draft old new
     leaves_reserved matched old mid between new r lost counts evicts tried adds why idle met saw
-        behind boosts tries same = record {
+        behind still boosts tries same = record {
           told = Reserved;
           matched = matched;
           reserves = record {
@@ -267,7 +271,7 @@ module _ {T A : Type 0} (shard : Shard T A) (draft : Draft) where
           why =
               left_from matched old mid between new (ap (λ (z : View T). z.met) r.same) first met
               saw why;
-          tries = tries_from (left_out matched) mid between new tries same behind;
+          tries = tries_from (left_out matched) mid between new tries same behind still;
           probes =
               slots_from (left_out matched) old mid between new first lost.0 saw same
               tries.counts;
@@ -284,9 +288,10 @@ module _ {T A : Type 0} (shard : Shard T A) (draft : Draft) where
         → EvictsBy fits shard.table draft.charge (Ok NoPlace) old.tally new.tally
         old.effort new.effort old.seat a
         → EvictsNothing (view a) (view new.seat) → (view new.seat).saw ≡ (view a).saw
-        → Adds a new.seat → new.effort.probes ≡ old.effort.probes → new.boosts ≡ old.boosts
+        → Adds a new.seat → GoesOnStill shard.table a new.seat
+        → new.effort.probes ≡ old.effort.probes → new.boosts ≡ old.boosts
         → LeavesOut fits shard draft old new
-    leaves_unreserved old new a r evicts idle saw behind probes boosts = record {
+    leaves_unreserved old new a r evicts idle saw behind still probes boosts = record {
       told = NoPlace;
       matched = false;
       reserves = record {
@@ -297,7 +302,7 @@ module _ {T A : Type 0} (shard : Shard T A) (draft : Draft) where
         rest = λ less. behind;
       };
       why = (refl, saw ∙ ap (λ (z : View T). z.saw) r.same, probes);
-      tries = refl;
+      tries = (refl, still);
       probes = (
         0,
         (let before = ap (λ (z : View T). z.saw) r.same in omega arith),

@@ -1,5 +1,5 @@
 -- What an insertion reserved and evicted, and what became of its entry, told of its seats.
-use Rattle.std.specs.Prelude.{◌≡◌, ℕ, ◌+◌, ◌*◌, ◌<◌, Bool, true, false, List, Result, Ok, Err}
+use Rattle.std.specs.Prelude.{◌≡◌, ℕ, ◌+◌, ◌<◌, Bool, true, false, List, Result, Ok, Err}
 use Rattle.hcc_core.specs.Sums.{when}
 use Rattle.hcc_rule.specs.declared.key.Key.{Key}
 use Rattle.hcc_rule.specs.declared.steps.shows.Draft.{Draft}
@@ -15,6 +15,7 @@ use Rattle.hcc_table.specs.Rises.{Rose}
 use Rattle.hcc_table.specs.Inserted.{Meets, visited_by}
 use Rattle.hcc_table.specs.Searched.{Buried, IsBefore}
 use Rattle.hcc_table.specs.Steps.{Adds, Ends}
+use Rattle.hcc_table.specs.Still.{GoesOnStill}
 use Rattle.hcc_table.specs.Tries.{Inserts}
 use Rattle.hcc_charge.specs.declared.reserving.Reservation.{Reservation}
 use Rattle.hcc_charge.specs.declared.reserving.Reservation.TheVariants.{Reserved, NoPlace}
@@ -71,19 +72,23 @@ module _ {T A : Type 0} (fits : T → Key → List ℕ → Type 0) (shard : Shar
         new.effort old.seat new.seat
     pub counts : CountsSlots answer old new
 
-  -- They were tried from where the reservation ended, and only steps were added behind that.
+  -- They were tried from where the reservation ended, and only steps were added behind that: in a
+  -- shard of one client by events that make and take no entry, and show and hide none.
   pub record TriesFrom (reserved : SeatOf T) (counted : Effort) (answer : Insertion)
       (new : ShardSeat T) : Type 0 where
     pub done : SeatOf T
     pub inserts : Inserts fits shard.table draft.key draft.serial draft.countdown answer counted
         new.effort reserved done
     pub adds : Adds done new.seat
+    pub still : GoesOnStill shard.table done new.seat
 
-  -- What was tried where a place was reserved; else nothing was.
+  -- What was tried where a place was reserved; else nothing was, and only such events came behind
+  -- the reservation.
   abbrev pub TriesWhere : Reservation → SeatOf T → Effort → Insertion → (new : ShardSeat T)
       → Type 0
   TriesWhere Reserved reserved counted answer new = TriesFrom reserved counted answer new
-  TriesWhere NoPlace reserved counted answer new = new.effort ≡ counted
+  TriesWhere NoPlace reserved counted answer new =
+      (new.effort ≡ counted) × GoesOnStill shard.table reserved new.seat
 
   -- The entry was put in this slot, probe i of its key: the i probes before it were taken, and each
   -- entry of the key that the client holds there is dead to it. The last step showed the entry by
@@ -112,9 +117,10 @@ module _ {T A : Type 0} (fits : T → Key → List ℕ → Type 0) (shard : Shar
     pub probes : CountsSlots (left_out matched) old new
     pub boosts : Rose (when matched 1) (when matched 1) old.boosts new.boosts
 
-  -- Nothing was reserved, and no slot was tried.
+  -- Nothing was reserved, no slot was tried, and nothing more was done.
   pub record Refuses (why : Refused) (old new : ShardSeat T) : Type 0 where
     pub reserves : ReservedAs (Err why) old new
+    pub ends : new.seat ≡ reserves.reserved
     pub counts : new.effort ≡ reserves.counted
     pub probes : new.effort.probes ≡ old.effort.probes
     pub boosts : new.boosts ≡ old.boosts

@@ -17,7 +17,7 @@ ghost use Rattle.hcc_shard.specs.Callers.{AcquiresAt, GivesBackAt, SearchesAt};
 ghost use Rattle.hcc_shard.specs.Counted.{SameCounts, SameEvictions};
 ghost use Rattle.hcc_shard.specs.Referred.{IsReleased};
 ghost use Rattle.hcc_shard.specs.Seated.{IsNext, Rests};
-ghost use Rattle.hcc_shard.specs.Stays.{AcquiresBy, ReleasesAt};
+ghost use Rattle.hcc_shard.specs.Stays.{AcquiresBy, ReleasesAt, StaysAt};
 
 use crate::seat::ShardSeat;
 use crate::shard::Shard;
@@ -153,6 +153,7 @@ impl<T: Tag, A: Allocator> Shard<T, A> {
             ≡ Some (record { name = name; charge = charge }) }
         ensures seat { Rests self.now seat.new }
         ensures view { view seat.new.seat ≡ fallen name (view seat.old.seat) }
+        ensures stays { StaysAt self.now seat.old seat.new }
         ensures counts { SameCounts seat.old seat.new }
         ensures steps { MakesAtMost 2 seat.old.seat seat.new.seat }
     {

@@ -1,7 +1,11 @@
 use Rattle.std.proofs.Common.{◌≡◌, ◌<◌, true, sym, subst, refl, ◌∙◌, arith}
 use Rattle.hcc_rule.specs.Callers.{plan_of, slots_of}
+use Rattle.hcc_rule.specs.Events.{charge_done, quit_done}
 use Rattle.hcc_rule.specs.Rule.{setup_of}
 use Rattle.hcc_rule.specs.Seats.{SeatOf, view}
+use Rattle.hcc_table.specs.Still.{GoesOnStill, is_still}
+use Rattle.hcc_table.proofs.Seeking.{goes_event, goes_then}
+use Rattle.hcc_table.proofs.Still.{settled_still}
 use Rattle.hcc_charge.specs.Asked.{EvictsAsAsked, EvictsNothing, Grants}
 use Rattle.hcc_charge.proofs.Answered.{lax_refused, lax_reserved}
 use Rattle.hcc_charge.proofs.Askings.{asked_lax, between_is, evicts_as_asked, keeps_by, keeps_then, lacked_lax}
@@ -46,6 +50,7 @@ returns-clause-view g c =
 -- What was found and evicted, whatever came behind it.
 abbrev evicted : (g : given.Over) (c : After-evict_for-swept g) (d : SeatOf g.row.T.Denot)
     → EvictsNothing (view c.evict_for-swept.new.seat) (view d)
+    → GoesOnStill c.args.table.now c.evict_for-swept.new.seat d
     → EvictsAsAsked g.T.Tag.fits c.args.table.now c.args.charge c.args.tally.now
     c.evict_for-swept.new.tally c.args.effort.now c.evict_for-swept.new.effort c.args.seat.now d
 evicted g c =
@@ -54,7 +59,7 @@ evicted g c =
     evicts_as_asked g.T.Tag.fits c.args.table.now c.args.charge opens.enters.1 c.requires.lax
     (asked_lax c.usage-used.result c.args.charge c.enter-full.result c.capacity.ensures
     c.ask.ensures.value c.at_least_one-least.ensures.value)
-    opens.enters.2 opens.view c.usage-used.ensures.step
+    opens.enters.2 opens.view c.usage-used.ensures.step opens.enters.3 c.usage-used.ensures.event
     (keeps_by _ _ (view c.enter-full.new.seat) c.usage-used.ensures.view refl refl refl)
     told.evicts told.swept told.view told.tally told.effort
 
@@ -72,10 +77,27 @@ idle g c =
     (keeps_by _ (view c.give_charge.new.seat) (view c.charge.new.seat) c.give_charge.ensures.view
     refl refl refl))
 
+-- Nor does it make or take an entry, or show or hide one.
+behind : (g : given.Over) (c : After-give_charge g)
+    → GoesOnStill c.args.table.now c.evict_for-swept.new.seat c.give_charge.new.seat
+behind g c =
+    let table = c.args.table.now in
+    goes_then table is_still c.evict_for-swept.new.seat c.give_slots.new.seat
+    c.give_charge.new.seat
+    (settled_still table c.evict_for-swept.new.seat c.give_slots.new.seat c.give_slots.ensures.by)
+    (goes_then table is_still c.give_slots.new.seat c.charge.new.seat c.give_charge.new.seat
+    (goes_event table is_still
+    (charge_done (setup_of (plan_of table)) c.args.charge c.charge.result
+    (view c.give_slots.new.seat))
+    c.give_slots.new.seat c.charge.new.seat c.charge.ensures.event refl)
+    (settled_still table c.charge.new.seat c.give_charge.new.seat c.give_charge.ensures.by))
+
 pub returns-then-swept-eq0-clause-evicts : goal.returns-then-swept-eq0-clause-evicts
 returns-then-swept-eq0-clause-evicts g c = (
   evicted g (goal.at.returns-then-swept-eq0-clause-evicts g c).After-evict_for-swept c.quit.new.seat
-      (keeps_by _ _ (view c.evict_for-swept.new.seat) c.quit.ensures.view refl refl refl),
+      (keeps_by _ _ (view c.evict_for-swept.new.seat) c.quit.ensures.view refl refl refl)
+      (goes_event c.args.table.now is_still (quit_done (view c.evict_for-swept.new.seat))
+      c.evict_for-swept.new.seat c.quit.new.seat c.quit.ensures.event refl),
   sym c.enter-full.ensures.enters.1 ∙ c.if-full.true,
   c.if-swept-eq0.true,
   c.quit.ensures.step,
@@ -84,7 +106,7 @@ returns-then-swept-eq0-clause-evicts g c = (
 pub returns-clause-evicts : goal.returns-clause-evicts
 returns-clause-evicts g c = (
   evicted g (goal.at.returns-clause-evicts g c).After-evict_for-swept c.give_charge.new.seat
-      (idle g c),
+      (idle g c) (behind g c),
   λ is. placed g c (c.enter-full.ensures.enters.1 ∙ is),
   (let none = lacked_lax c.args.table.now c.args.charge c.usage-used.result c.requires.lax in
       omega arith),
@@ -101,7 +123,7 @@ returns-clause-evicts g c = (
 pub returns-clause-steps : goal.returns-clause-steps
 returns-clause-steps g c =
     let e = evicted g (goal.at.returns-clause-steps g c).After-evict_for-swept
-    c.give_charge.new.seat (idle g c) in
+    c.give_charge.new.seat (idle g c) (behind g c) in
     rw (between_is (slots_of c.args.table.now) c.evict_for-swept.result.turns
     c.evict_for-swept.result.slots (view c.args.seat.now) (view c.give_charge.new.seat)
     e.turns e.takings)

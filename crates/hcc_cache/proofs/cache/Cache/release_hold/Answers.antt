@@ -35,3 +35,10 @@ returns-in-Standing-clause-by g c = λ hold slot counting at kept.
     let is : Standing c.in-Standing.index ≡ Pinned slot counting =
     sym c.in-Standing.is ∙ sym (ap (λ (h : Hold). h.kept) same) ∙ kept in
     absurd (let never : ⊥ = cc in never)
+
+pub returns-in-Pinned-clause-standing : goal.returns-in-Pinned-clause-standing
+returns-in-Pinned-clause-standing g c = λ hold index at kept.
+    let same : hold ≡ c.args.hold = same_Some _ _ (sym at ∙ c.requires.held) in
+    let is : Pinned c.in-Pinned.slot c.in-Pinned.counting ≡ Standing index =
+    sym c.in-Pinned.is ∙ sym (ap (λ (h : Hold). h.kept) same) ∙ kept in
+    absurd (let never : ⊥ = cc in never)

@@ -11,7 +11,7 @@ use Rattle.hcc_cache.proofs.Less.{IsLess}
 use Rattle.hcc_cache.proofs.Released.{knows_fallen, knows_fewer, lets_go, releases_fallen, releases_fewer}
 use Rattle.hcc_cache.proofs.Slots.{updates_set}
 use Rattle.hcc_cache.proofs.Standing.{known_there}
-use Rattle.hcc_cache.proofs.Staying.{stays_same}
+use Rattle.hcc_cache.proofs.Staying.{stays_at, stays_same}
 use Rattle.hcc_cache.proofs.cache.Cache.release_standing.Goals as goal
 
 pub index-requires : goal.index-requires
@@ -89,7 +89,7 @@ returns-then-index-gt1 g c =
       released =
           releases_fewer cache old new c.args.handle hold lets c.args.index a c.requires.kept there
           c.requires.known b same reference some updates seats;
-      stays = λ none. stays_same cache old new seats;
+      stays = stays_same cache old new seats;
       counts = λ s. ap (λ l. counts_by (slice_get l s)) seats;
       steps = omega arith;
     }
@@ -180,7 +180,9 @@ returns g c =
       released =
           releases_fallen cache old new c.args.handle hold lets c.args.index a c.requires.kept there
           shard was is at change c.release_standalone.ensures.view one updates;
-      stays = λ none. cc;
+      stays =
+          stays_at cache old new hold.shard shard was is at change
+          c.release_standalone.ensures.stays;
       counts =
           counts_none cache old new hold.shard shard was is at change
           c.release_standalone.ensures.counts;

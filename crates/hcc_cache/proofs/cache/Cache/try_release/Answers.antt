@@ -14,3 +14,10 @@ returns-clause-by g c = rw c.handle-handle.ensures at c.release_hold.ensures.by
 pub returns-in_err-hold-clause-stays : goal.returns-in_err-hold-clause-stays
 returns-in_err-hold-clause-stays g c kept =
     stays_same c.args.self.now c.args.client.now c.args.client.now refl
+
+pub returns-clause-standing : goal.returns-clause-standing
+returns-clause-standing g c = rw c.handle-handle.ensures at c.release_hold.ensures.standing
+
+pub returns-in_err-hold-clause-standing : goal.returns-in_err-hold-clause-standing
+returns-in_err-hold-clause-standing g c hold index at kept =
+    stays_same c.args.self.now c.args.client.now c.args.client.now refl

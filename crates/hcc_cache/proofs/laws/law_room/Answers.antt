@@ -1,0 +1,75 @@
+use Rattle.std.proofs.Common.{◌≡◌, ℕ, ◌+◌, ◌*◌, ◌/◌, ◌<◌, ◌≤◌, None, Some, ap, sym, subst, ◌∙◌}
+use Rattle.std.specs.declared.alloc.Global.{Global}
+use Rattle.hcc_core.specs.declared.limits.TheConstants.{OCCUPANCY_PERCENT}
+use Rattle.hcc_core.specs.World.{State, limit_of, occupancy_of, usage_of}
+use Rattle.hcc_rule.specs.declared.geometry.Geometry.{Geometry}
+use Rattle.hcc_rule.specs.Callers.{capacity_of, clients_of, plan_of}
+use Rattle.hcc_rule.specs.Rule.{setup_of}
+use Rattle.hcc_shard.specs.declared.shard.Shard.{Shard}
+use Rattle.hcc_cache.specs.declared.config.Config.{Config}
+use Rattle.hcc_cache.specs.declared.seeded.Seeded.{Seeded}
+use Rattle.hcc_cache.specs.Calls.{shard_in}
+use Rattle.hcc_cache.specs.Inserts.{draft_of}
+use Rattle.hcc_cache.specs.Opened.{IsConfigured}
+use Rattle.hcc_cache.specs.Room.{HasRoom}
+use Rattle.hcc_cache.proofs.Fitting.{fits_as, fits_keeps, fits_pinned_as, fits_pinned_keeps, knows_over}
+use Rattle.hcc_cache.proofs.laws.law_room.Goals as goal
+
+module _ {T : Type 0} (config : Config) (tag : T) (shard : Shard (Seeded T) Global)
+    (made : IsConfigured config tag shard) where
+  alone : config.clients ≡ 1 → clients_of shard.table ≡ 1
+  alone one = ap (λ (x : Geometry). x.clients) made.geometry ∙ one
+
+  -- The limits of the shard are those that the cache was made with.
+  place_in : (charge : ℕ) (world : State) → HasRoom config charge world
+      → occupancy_of world < limit_of (setup_of (plan_of shard.table))
+  place_in charge world room =
+      subst (λ n. occupancy_of world < n * OCCUPANCY_PERCENT / 100)
+      (sym (ap (λ (x : Geometry). x.slots) (shard.table.planned.0 ∙ made.geometry))) room.place
+
+  room_in : (charge : ℕ) (world : State) → HasRoom config charge world
+      → usage_of world + charge ≤ capacity_of shard.table
+  room_in charge world room =
+      subst (λ n. usage_of world + charge ≤ n) (sym made.capacity) room.within
+
+pub returns-clause-stores : goal.returns-clause-stores
+returns-clause-stores g c = λ config tag cache is_of one key charge priority answer old new h room.
+    let made = is_of.shards _ h.shard h.shard_is in
+    let single = alone config tag h.shard made one in
+    let draft = draft_of cache key charge priority (λ c. None) old in
+    fits_as g.T.Tag.fits h.shard draft single
+    (λ told before after was is did. c.law_inserted_alone.ensures h.shard.table draft.key
+    draft.serial draft.countdown told before after was is single did)
+    h.was h.is (place_in config tag h.shard made charge _ room)
+    (room_in config tag h.shard made charge _ room) answer h.did
+
+pub returns-clause-pins : goal.returns-clause-pins
+returns-clause-pins g c = λ config tag cache is_of one key charge priority answer old new h room.
+    let made = is_of.shards _ h.shard h.shard_is in
+    let single = alone config tag h.shard made one in
+    let draft = draft_of cache key charge priority (λ c. Some c.used) old in
+    fits_pinned_as g.T.Tag.fits h.shard draft single
+    (λ told before after was is did. c.law_inserted_alone.ensures h.shard.table draft.key
+    draft.serial draft.countdown told before after was is single did)
+    h.was h.is (place_in config tag h.shard made charge _ room)
+    (room_in config tag h.shard made charge _ room) answer h.did
+
+pub returns-clause-kept : goal.returns-clause-kept
+returns-clause-kept g c = λ config tag cache is_of one key charge priority answer old new h room
+    only other.
+    knows_over cache (shard_in cache key) other old new h.shard h.was h.is h.shard_is h.seat_was
+    h.seat_is only
+    (fits_keeps g.T.Tag.fits h.shard (draft_of cache key charge priority (λ c. None) old) h.was
+    h.is answer h.did
+    (returns-clause-stores g c config tag cache is_of one key charge priority answer old new h
+    room))
+
+pub returns-clause-kept_pinned : goal.returns-clause-kept_pinned
+returns-clause-kept_pinned g c = λ config tag cache is_of one key charge priority answer old new h
+    room only other.
+    knows_over cache (shard_in cache key) other old new h.shard h.was h.is h.shard_is h.seat_was
+    h.seat_is only
+    (fits_pinned_keeps g.T.Tag.fits h.shard
+    (draft_of cache key charge priority (λ c. Some c.used) old) h.was h.is answer h.did
+    (returns-clause-pins g c config tag cache is_of one key charge priority answer old new h
+    room))

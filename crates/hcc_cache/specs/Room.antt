@@ -1,0 +1,59 @@
+-- An insertion into a shard that has room for its entry, in a cache of one client.
+use Rattle.std.specs.Prelude.{◌≡◌, ℕ, ◌+◌, ◌*◌, ◌/◌, ◌<◌, ◌≤◌, List, Result, Ok, Err}
+use Rattle.std.specs.declared.alloc.Global.{Global}
+use Rattle.hcc_core.specs.declared.limits.TheConstants.{OCCUPANCY_PERCENT}
+use Rattle.hcc_core.specs.World.{State, occupancy_of, usage_of}
+use Rattle.hcc_rule.specs.declared.key.Key.{Key}
+use Rattle.hcc_rule.specs.declared.steps.shows.Draft.{Draft}
+use Rattle.hcc_rule.specs.Callers.{slots_of}
+use Rattle.hcc_rule.specs.Seats.{view}
+use Rattle.hcc_table.specs.declared.inserting.Insertion.{Insertion}
+use Rattle.hcc_table.specs.declared.inserting.Insertion.TheVariants as insertions
+use Rattle.hcc_table.specs.Standing.{InsertsShown, world_at}
+use Rattle.hcc_charge.specs.declared.reserving.Refused.{Refused}
+use Rattle.hcc_charge.specs.declared.reserving.Reservation.TheVariants.{Reserved}
+use Rattle.hcc_charge.specs.Asked.{EvictsNothing}
+use Rattle.hcc_shard.specs.declared.inserting.Inserted.{Inserted}
+use Rattle.hcc_shard.specs.declared.inserting.Inserted.TheVariants as stored
+use Rattle.hcc_shard.specs.declared.inserting.Pinned.{Pinned}
+use Rattle.hcc_shard.specs.declared.inserting.Pinned.TheVariants as pinned
+use Rattle.hcc_shard.specs.declared.seat.ShardSeat.{ShardSeat}
+use Rattle.hcc_shard.specs.declared.shard.Shard.{Shard}
+use Rattle.hcc_shard.specs.Reserving.{InsertedAs, PinnedAs, left_out}
+use Rattle.hcc_cache.specs.declared.config.Config.{Config}
+use Rattle.hcc_cache.specs.declared.seeded.Seeded.{Seeded}
+use Rattle.hcc_cache.specs.Configs.{shard_capacity}
+use Rattle.hcc_cache.specs.Keys.{fits_seeded}
+
+-- A world of a shard has room for an entry of this charge: it has a place left, and the charge is
+-- within the shard's capacity beside its usage.
+pub record HasRoom (config : Config) (charge : ℕ) (world : State) : Type 0 where
+  pub place : occupancy_of world < config.slots * OCCUPANCY_PERCENT / 100
+  pub within : usage_of world + charge ≤ shard_capacity config
+
+module _ {T : Type 0} (shard : Shard (Seeded T) Global) (draft : Draft) where
+  -- An insertion with this answer evicted nothing. In the worlds that the client knows of the shard
+  -- when the call begins and when it ends, each slot shows what it showed, but for the one where
+  -- the entry was placed.
+  pub record ShowsOver (answer : Insertion) (old new : ShardSeat (Seeded T)) : Type 0 where
+    pub shows : InsertsShown (slots_of shard.table) draft.key answer
+        (world_at shard.table old.seat) (world_at shard.table new.seat)
+    pub idle : EvictsNothing (view old.seat) (view new.seat)
+
+  module _ (fits : T → Key → List ℕ → Type 0) where
+    -- An insertion where there is room, by its answer: a place is reserved, and nothing refused.
+    abbrev pub FitsAs : (answer : Result Inserted Refused) (old new : ShardSeat (Seeded T))
+        → InsertedAs (fits_seeded fits) shard draft answer old new → Type 0
+    FitsAs (Ok stored.Placed) old new did = ShowsOver (insertions.Placed did.0) old new
+    FitsAs (Ok stored.Dropped) old new did =
+        (did.told ≡ Reserved) × ShowsOver (left_out did.matched) old new
+    FitsAs (Err why) old new did = ⊥
+
+    -- one that keeps a reference
+    abbrev pub FitsPinnedAs : (answer : Result Pinned Refused) (old new : ShardSeat (Seeded T))
+        → PinnedAs (fits_seeded fits) shard draft answer old new → Type 0
+    FitsPinnedAs (Ok (pinned.Placed pin)) old new did =
+        ShowsOver (insertions.Placed pin.slot) old new
+    FitsPinnedAs (Ok pinned.Standalone) old new did =
+        (did.told ≡ Reserved) × ShowsOver (left_out did.matched) old new
+    FitsPinnedAs (Err why) old new did = ⊥

@@ -1,0 +1,282 @@
+-- What a reservation leaves of what a shard shows, and what it finds where there is room.
+use Rattle.std.proofs.Common.{◌≡◌, ℕ, zero, suc, ◌+◌, ◌-◌, min, ◌<◌, ◌≤◌, Bool, true, false, ◌&&◌, nat_le, nat_lt, List, Some, Result, Ok, Err, cond, slice_get, sym, subst, refl, ap, ◌∙◌, arith}
+use Rattle.std.specs.Prelude.{if◌then◌else◌}
+use Rattle.std.proofs.lemmas.Bool.{lt-leb, lt-ltb, ltb-true}
+use Rattle.hcc_core.specs.declared.client.Client.{Client}
+use Rattle.hcc_core.specs.declared.client.Place.{Place}
+use Rattle.hcc_core.specs.declared.event.Event.TheVariants as events
+use Rattle.hcc_core.specs.declared.event.Reply.TheVariants as replies
+use Rattle.hcc_core.specs.declared.setup.Setup.{Setup}
+use Rattle.hcc_core.specs.Ledgers.{charge_by, enter_of, grant_of, may_charge}
+use Rattle.hcc_core.specs.Outcomes.{allow, live_at, with_client}
+use Rattle.hcc_core.specs.Steps.{outcome_of}
+use Rattle.hcc_core.specs.Sums.{when}
+use Rattle.hcc_core.specs.World.{State, charged_to, is_absent, limit_of, occupancy_of, usage_of}
+use Rattle.hcc_core.proofs.Keeps.{live_ok}
+use Rattle.hcc_core.proofs.SumLemmas.{total-set}
+use Rattle.hcc_rule.specs.declared.key.Key.{Key}
+use Rattle.hcc_rule.specs.declared.table.RuleTable.{RuleTable}
+use Rattle.hcc_rule.specs.Acts.{events_of, past}
+use Rattle.hcc_rule.specs.Callers.{capacity_of, clients_of, is_strict, plan_of}
+use Rattle.hcc_rule.specs.Events.{charge_done, enter_done, entered, usage_done}
+use Rattle.hcc_rule.specs.Opening.{begun_world}
+use Rattle.hcc_rule.specs.Rule.{setup_of}
+use Rattle.hcc_rule.specs.Seats.{SeatOf, view}
+use Rattle.hcc_table.specs.declared.efforts.Effort.{Effort}
+use Rattle.hcc_table.specs.Standing.{world_at}
+use Rattle.hcc_table.specs.Still.{GoesOnStill, is_still}
+use Rattle.hcc_table.proofs.Alone.{event_alone, usage_tells}
+use Rattle.hcc_table.proofs.Seeking.{goes_event, goes_none, goes_then}
+use Rattle.hcc_table.proofs.Setups.{setup_stays}
+use Rattle.hcc_table.proofs.Shown.{bound, ruled, same_outcome}
+use Rattle.hcc_charge.specs.declared.reserving.Refused.{Refused}
+use Rattle.hcc_charge.specs.declared.reserving.Refused.TheVariants.{TooLarge, CapacityFull, OccupancyFull}
+use Rattle.hcc_charge.specs.declared.reserving.Reservation.{Reservation}
+use Rattle.hcc_charge.specs.declared.reserving.Reservation.TheVariants.{Reserved, NoPlace}
+use Rattle.hcc_charge.specs.declared.tally.Tally.{Tally}
+use Rattle.hcc_charge.specs.Asked.{is_full, lacked, EvictsAsAsked, EvictsBy, EvictsNothing, FindsBy}
+use Rattle.hcc_charge.specs.Reserved.{asked, needed_by, still_needed, surplus}
+use Rattle.hcc_charge.specs.Swept.{nothing_swept}
+
+-- Nothing is asked for where no turn was made.
+asks_none : (turns ask : ℕ) → turns ≡ 0 → nat_lt 0 turns ≡ nat_lt 0 ask → ask ≡ 0
+asks_none turns zero none same = refl
+asks_none turns (suc n) none same =
+    absurd (let more = ltb-true 0 turns (same ∙ lt-ltb 0 (suc n) (omega arith)) in omega arith)
+
+-- What a reservation found is no change of what is shown.
+pub finds_still : {T A : Type 0} (table : RuleTable T A) (strict : Bool) (charge used : ℕ)
+    (a b : SeatOf T) → FindsBy table strict charge used a b → GoesOnStill table a b
+finds_still table true charge used a b event =
+    goes_event table is_still (charge_done (setup_of (plan_of table)) charge used (view a)) a b
+    event refl
+finds_still table false charge used a b event =
+    goes_event table is_still (usage_done used (view a)) a b event refl
+
+module _ {T A : Type 0} (fits : T → Key → List ℕ → Type 0) (table : RuleTable T A) (charge : ℕ)
+    {before after : Tally} {effort counted : Effort} {a d : SeatOf T} where
+  -- what this reservation asked for
+  abbrev pub asked_by : EvictsAsAsked fits table charge before after effort counted a d → ℕ
+  asked_by e =
+      asked (is_strict table) (capacity_of table) charge (is_full table e.taken) e.used
+
+  -- Where nothing is asked for all that is shown stays.
+  pub unasked_still : (e : EvictsAsAsked fits table charge before after effort counted a d)
+      → asked_by e ≡ 0 → GoesOnStill table a d
+  unasked_still e none =
+      goes_then table is_still a e.u d
+      (goes_event table is_still (enter_done (setup_of (plan_of table)) e.taken (view a)) a e.u
+      e.enters_by refl)
+      (goes_then table is_still e.u e.b d
+      (finds_still table (is_strict table) charge e.used e.u e.b e.finds_by)
+      (subst (λ z. GoesOnStill table z d) (e.evicts.none none).1 e.behind))
+
+  turned_still : (e : EvictsAsAsked fits table charge before after effort counted a d)
+      → (view d).turns ≡ (view a).turns → GoesOnStill table a d
+  turned_still e same =
+      unasked_still e
+      (asks_none e.swept.turns (asked_by e) (let all = e.turns in omega arith) e.within.made)
+
+-- So it does where the hand wasn't turned.
+pub unturned_still : {T A : Type 0} (fits : T → Key → List ℕ → Type 0) (table : RuleTable T A)
+    (charge : ℕ) (answer : Result Reservation Refused) (before after : Tally)
+    (effort counted : Effort) (a d : SeatOf T)
+    → EvictsBy fits table charge answer before after effort counted a d
+    → (view d).turns ≡ (view a).turns → GoesOnStill table a d
+unturned_still fits table charge (Ok Reserved) before after effort counted a d h same =
+    turned_still fits table charge h.0 same
+unturned_still fits table charge (Ok NoPlace) before after effort counted a d h same =
+    turned_still fits table charge h.0 same
+unturned_still fits table charge (Err TooLarge) before after effort counted a d h same =
+    goes_none table is_still a d (ap past h.2)
+unturned_still fits table charge (Err CapacityFull) before after effort counted a d h same =
+    turned_still fits table charge h.0 same
+unturned_still fits table charge (Err OccupancyFull) before after effort counted a d h same =
+    turned_still fits table charge h.0 same
+
+-- What replies tell of the world.
+
+same_place : (b c : Bool)
+    → (if b then replies.Granted else replies.Open) ≡ (if c then replies.Granted else replies.Open)
+    → b ≡ c
+same_place true true is = refl
+same_place true false is = cc
+same_place false true is = cc
+same_place false false is = refl
+
+same_split : (m n k l : ℕ) → replies.Split m n ≡ replies.Split k l → m ≡ k
+same_split m n k l is = cc
+
+-- An enter tells whether the world has a place left, and leaves its usage.
+enter_tells : (w next : State) (setup : Setup) (client taken : ℕ) → w.setup ≡ setup
+    → outcome_of w (events.Enter client) ≡ Ok (entered setup taken, next)
+    → (nat_lt (occupancy_of w) (limit_of setup) ≡ nat_lt taken (limit_of setup))
+    × (usage_of next ≡ usage_of w)
+unfolding enter_of
+enter_tells w next setup client taken same is =
+    let first = bound (live_at w client) _ _ (ruled w (events.Enter client) _ is) in
+    let second = bound (allow (is_absent first.0.place)) _ _ first.2 in
+    let told = same_outcome _ _ second.2 in
+    by first.0 _ (live_ok w client first.0 first.1)
+    (same_place _ _ (ap (λ s. if nat_lt (occupancy_of w) (limit_of s)
+    then replies.Granted else replies.Open) (sym same) ∙ ap (λ z. z.0) told))
+    (ap (λ z. z.1) told)
+  where
+    by : (found : Client) (place : Place) → slice_get w.clients client ≡ Some found
+        → nat_lt (occupancy_of w) (limit_of setup) ≡ nat_lt taken (limit_of setup)
+        → with_client w client (record found { place = place }) ≡ next
+        → (nat_lt (occupancy_of w) (limit_of setup) ≡ nat_lt taken (limit_of setup))
+        × (usage_of next ≡ usage_of w)
+    by found place at room left = (
+      room,
+      ap usage_of (sym left)
+          ∙ (let change =
+          total-set charged_to w.clients client found (record found { place = place }) at in
+          omega arith),
+    )
+
+-- A charge is granted by the usage of the world.
+charge_tells : (w next : State) (client charge granted needed : ℕ)
+    → outcome_of w (events.Charge client charge) ≡ Ok (replies.Split granted needed, next)
+    → grant_of w.setup (usage_of w) charge ≡ granted
+unfolding charge_by
+charge_tells w next client charge granted needed is =
+    let first = bound (live_at w client) _ _ (ruled w (events.Charge client charge) _ is) in
+    let second = bound (allow (may_charge first.0 (usage_of w) charge)) _ _ first.2 in
+    same_split _ _ _ _ (ap (λ z. z.0) (same_outcome _ _ second.2))
+
+-- Where there is room nothing is asked for, and nothing is lacked.
+
+-- without strict capacity
+lax_fits : (capacity charge used : ℕ) → used + charge ≤ capacity
+    → asked false capacity charge false used ≡ 0
+lax_fits capacity charge used fits = by (nat_le charge used)
+  where
+    by : (b : Bool)
+        → cond (b && nat_lt capacity (used + charge)) (charge + surplus capacity used charge) 0 ≡ 0
+    by true =
+        ap (λ c. cond c (charge + surplus capacity used charge) 0)
+        (lt-leb (suc capacity) (used + charge) (omega arith))
+    by false = refl
+
+-- under strict capacity, where the usage gets the same grant as one beside which the charge fits
+strict_fits : (setup : Setup) (capacity charge used usage : ℕ) → setup.strict ≡ true
+    → setup.capacity ≡ capacity → usage + charge ≤ capacity
+    → grant_of setup usage charge ≡ grant_of setup used charge
+    → still_needed capacity used charge ≡ 0
+strict_fits setup capacity charge used usage strict within fits same =
+    let grants : (n : ℕ) → grant_of setup n charge ≡ min charge (capacity - min n capacity) =
+    λ n. ap (λ s. cond s (min charge (setup.capacity - min n setup.capacity)) charge) strict
+    ∙ ap (λ c. min charge (c - min n c)) within in
+    let whole = grants usage in
+    let found = grants used in
+    omega arith
+
+module _ {T A : Type 0} (fits : T → Key → List ℕ → Type 0) (table : RuleTable T A)
+    (one : clients_of table ≡ 1) (charge : ℕ) where
+  setup_at : (a : SeatOf T) → (world_at table a).setup ≡ setup_of (plan_of table)
+  setup_at a = setup_stays (events_of (past a)) (begun_world (plan_of table))
+
+  -- what is found of a usage beside which the charge fits
+  finds_room : (strict : Bool) (used : ℕ) (u b : SeatOf T) → is_strict table ≡ strict
+      → FindsBy table strict charge used u b
+      → usage_of (world_at table u) + charge ≤ capacity_of table
+      → (asked strict (capacity_of table) charge false used ≡ 0)
+      × (needed_by strict (capacity_of table) used charge ≡ 0)
+  finds_room false used u b lax event room = (
+    lax_fits (capacity_of table) charge used
+        (let is =
+        usage_tells (world_at table u) (world_at table b) (view u).client used
+        (event_alone table one (usage_done used (view u)) u b event) in
+        omega arith),
+    refl,
+  )
+  finds_room true used u b strict event room =
+      let none =
+      strict_fits (setup_of (plan_of table)) (capacity_of table) charge used
+      (usage_of (world_at table u)) (table.planned.2 ∙ strict) table.planned.1 room
+      (ap (λ s. grant_of s (usage_of (world_at table u)) charge) (sym (setup_at u))
+      ∙ charge_tells (world_at table u) (world_at table b) (view u).client charge _ _
+      (event_alone table one (charge_done (setup_of (plan_of table)) charge used (view u)) u b
+      event)) in
+      (none, none)
+
+  module _ {before after : Tally} {effort counted : Effort} {a d : SeatOf T} where
+    -- A reservation in a world with room finds a place and all of the charge.
+    room_found : (e : EvictsAsAsked fits table charge before after effort counted a d)
+        → occupancy_of (world_at table a) < limit_of (setup_of (plan_of table))
+        → usage_of (world_at table a) + charge ≤ capacity_of table
+        → (is_full table e.taken ≡ false)
+        × (asked_by fits table charge e ≡ 0) × (lacked table charge e.used ≡ 0)
+    room_found e place room = (
+      free,
+      ap (λ f. asked (is_strict table) (capacity_of table) charge f e.used) free ∙ found.0,
+      found.1,
+    )
+      where
+        told : (nat_lt (occupancy_of (world_at table a)) (limit_of (setup_of (plan_of table)))
+            ≡ nat_lt e.taken (limit_of (setup_of (plan_of table))))
+            × (usage_of (world_at table e.u) ≡ usage_of (world_at table a))
+        told =
+            enter_tells (world_at table a) (world_at table e.u) (setup_of (plan_of table))
+            (view a).client e.taken (setup_at a)
+            (event_alone table one (enter_done (setup_of (plan_of table)) e.taken (view a)) a e.u
+            e.enters_by)
+
+        free : is_full table e.taken ≡ false
+        free =
+            lt-leb (limit_of (setup_of (plan_of table))) e.taken
+            (ltb-true e.taken (limit_of (setup_of (plan_of table)))
+            (sym told.0
+            ∙ lt-ltb (occupancy_of (world_at table a)) (limit_of (setup_of (plan_of table)))
+            place))
+
+        found : (asked (is_strict table) (capacity_of table) charge false e.used ≡ 0)
+            × (needed_by (is_strict table) (capacity_of table) e.used charge ≡ 0)
+        found =
+            finds_room (is_strict table) e.used e.u e.b refl e.finds_by
+            (let same = told.1 in omega arith)
+
+    -- Nothing is evicted then.
+    room_idle : (e : EvictsAsAsked fits table charge before after effort counted a d)
+        → is_full table e.taken ≡ false → asked_by fits table charge e ≡ 0
+        → GoesOnStill table a d × EvictsNothing (view a) (view d)
+    room_idle e free none = (
+      unasked_still fits table charge e none,
+      record {
+        turns = let all = e.turns in let no = ap (λ s. s.turns) swept in omega arith;
+        takings = let all = e.takings in let no = ap (λ s. s.slots) swept in omega arith;
+        opened =
+            e.opened ∙ (let no = ap (λ f. when f 1) free in omega arith);
+      },
+    )
+      where
+        swept : e.swept ≡ nothing_swept
+        swept = (e.evicts.none none).0
+
+-- A reservation in a world with room is granted, it evicts nothing, and all that is shown stays.
+pub roomy : {T A : Type 0} (fits : T → Key → List ℕ → Type 0) (table : RuleTable T A)
+    (charge : ℕ) (answer : Result Reservation Refused) (before after : Tally)
+    (effort counted : Effort) (a d : SeatOf T) → clients_of table ≡ 1
+    → EvictsBy fits table charge answer before after effort counted a d
+    → occupancy_of (world_at table a) < limit_of (setup_of (plan_of table))
+    → usage_of (world_at table a) + charge ≤ capacity_of table
+    → (answer ≡ Ok Reserved) × GoesOnStill table a d × EvictsNothing (view a) (view d)
+roomy fits table charge (Ok Reserved) before after effort counted a d one h place room =
+    let found = room_found fits table one charge h.0 place room in
+    let idle = room_idle fits table one charge h.0 found.0 found.1 in
+    (refl, idle.0, idle.1)
+roomy fits table charge (Ok NoPlace) before after effort counted a d one h place room =
+    let full = h.1 in
+    let free = (room_found fits table one charge h.0 place room).0 in
+    absurd (let never : ⊥ = cc in never)
+roomy fits table charge (Err TooLarge) before after effort counted a d one h place room =
+    absurd (let large = h.3 in omega arith)
+roomy fits table charge (Err CapacityFull) before after effort counted a d one h place room =
+    let short = h.1 in
+    let none = (room_found fits table one charge h.0 place room).2 in
+    absurd (omega arith)
+roomy fits table charge (Err OccupancyFull) before after effort counted a d one h place room =
+    let full = h.1 in
+    let free = (room_found fits table one charge h.0 place room).0 in
+    absurd (let never : ⊥ = cc in never)
