@@ -1,5 +1,5 @@
--- What an insertion into a shard of one client leaves of what is shown, where there is room.
-use Rattle.std.proofs.Common.{◌≡◌, inl, inr, ℕ, ◌+◌, ◌<◌, ◌≤◌, Bool, List, Some, Result, Ok, Err, slice_get, sym, refl, ap, ◌∙◌, subst}
+-- What an insertion that evicts nothing leaves of what a shard of one client shows.
+use Rattle.std.proofs.Common.{◌≡◌, inl, inr, ℕ, ◌+◌, ◌<◌, ◌≤◌, Bool, List, Some, Result, Ok, Err, IsOk, slice_get, sym, refl, ap, ◌∙◌, subst}
 use Rattle.std.specs.Prelude.{IsSomeAnd}
 use Rattle.std.proofs.lemmas.Bool.{cases_eq}
 use Rattle.std.proofs.lemmas.Option.{same_Some}
@@ -15,29 +15,28 @@ use Rattle.hcc_table.specs.declared.efforts.Effort.{Effort}
 use Rattle.hcc_table.specs.declared.inserting.Insertion.{Insertion}
 use Rattle.hcc_table.specs.declared.inserting.Insertion.TheVariants.{Placed, Matched, NoSlot}
 use Rattle.hcc_table.specs.Standing.{InsertsShown, ShowsKey, ShowsSame, shown_at, world_at}
-use Rattle.hcc_table.specs.Still.{GoesOnStill}
 use Rattle.hcc_table.specs.Tries.{Inserts}
 use Rattle.hcc_table.proofs.Releases.{still_shows}
 use Rattle.hcc_charge.specs.declared.reserving.Refused.{Refused}
+use Rattle.hcc_charge.specs.declared.reserving.Refused.TheVariants.{TooLarge, CapacityFull, OccupancyFull}
 use Rattle.hcc_charge.specs.declared.reserving.Reservation.{Reservation}
 use Rattle.hcc_charge.specs.declared.reserving.Reservation.TheVariants.{Reserved, NoPlace}
-use Rattle.hcc_charge.specs.Asked.{EvictsNothing}
 use Rattle.hcc_charge.proofs.Askings.{keeps_then}
-use Rattle.hcc_charge.proofs.Stayings.{roomy}
+use Rattle.hcc_charge.proofs.Stayings.{roomy, unturned, unturned_still}
 use Rattle.hcc_shard.specs.declared.inserting.Inserted.{Inserted}
 use Rattle.hcc_shard.specs.declared.inserting.Inserted.TheVariants as stored
 use Rattle.hcc_shard.specs.declared.inserting.Pinned.{Pinned}
 use Rattle.hcc_shard.specs.declared.inserting.Pinned.TheVariants as pinned
 use Rattle.hcc_shard.specs.declared.seat.ShardSeat.{ShardSeat}
 use Rattle.hcc_shard.specs.declared.shard.Shard.{Shard}
-use Rattle.hcc_shard.specs.Reserving.{InsertedAs, PinnedAs, ReservedAs, TriesFrom, TriesWhere, left_out}
+use Rattle.hcc_shard.specs.Reserving.{InsertedAs, PinnedAs, Refuses, ReservedAs, TriesFrom, TriesWhere, left_out}
 use Rattle.hcc_cache.specs.declared.cache.Cache.{Cache}
 use Rattle.hcc_cache.specs.declared.client.Client.{Client}
 use Rattle.hcc_cache.specs.declared.seeded.Seeded.{Seeded}
 use Rattle.hcc_cache.specs.Calls.{OnlyAt, shard_in}
 use Rattle.hcc_cache.specs.Keys.{fits_seeded}
 use Rattle.hcc_cache.specs.Moments.{KnowsShown}
-use Rattle.hcc_cache.specs.Room.{FitsAs, FitsPinnedAs, ShowsOver}
+use Rattle.hcc_cache.specs.Room.{KeepsAs, KeepsPinnedAs, ShowsOver, TurnsNone}
 use Rattle.hcc_cache.specs.Sharding.{key_to}
 use Rattle.hcc_cache.proofs.Staying.{knows_slot}
 
@@ -83,72 +82,115 @@ kept_over slots key other Matched w z slot h shows = h.4 slot
 kept_over slots key other NoSlot w z slot h shows = h.1 slot
 
 module _ {T : Type 0} (fits : T → Key → List ℕ → Type 0) (shard : Shard (Seeded T) Global)
-    (draft : Draft) (one : clients_of shard.table ≡ 1)
-    (tells : (answer : Insertion) (before after : Effort) (old new : SeatOf (Seeded T))
-    → Inserts (fits_seeded fits) shard.table draft.key draft.serial draft.countdown answer before
-    after old new
-    → InsertsShown (slots_of shard.table) draft.key answer (world_at shard.table old)
-    (world_at shard.table new))
-    (old new : ShardSeat (Seeded T))
-    (place : occupancy_of (world_at shard.table old.seat) < limit_of (setup_of (plan_of shard.table)))
-    (room : usage_of (world_at shard.table old.seat) + draft.charge ≤ capacity_of shard.table) where
-  -- What the reservation of a call answers, and leaves.
-  found : (answer : Result Reservation Refused)
-      (r : ReservedAs (fits_seeded fits) shard draft answer old new)
-      → (answer ≡ Ok Reserved) × GoesOnStill shard.table old.seat r.reserved
-      × EvictsNothing (view old.seat) (view r.reserved)
-  found answer r =
-      roomy (fits_seeded fits) shard.table draft.charge answer old.tally new.tally old.effort
-      r.counted old.seat r.reserved one r.evicts place room
+    (draft : Draft) (old new : ShardSeat (Seeded T)) where
+  -- An insertion's reservation turned the hand no further than the insertion.
+  turns_of : (answer : Result Reservation Refused)
+      (r : ReservedAs (fits_seeded fits) shard draft answer old new) → TurnsNone old new
+      → (view r.reserved).turns ≡ (view old.seat).turns
+  turns_of answer r same = sym r.idle.turns ∙ same
 
-  -- The probes were tried.
-  shows_over : (answer : Insertion)
-      (r : ReservedAs (fits_seeded fits) shard draft (Ok Reserved) old new)
-      → TriesFrom (fits_seeded fits) shard draft r.reserved r.counted answer new
-      → ShowsOver shard draft answer old new
-  shows_over answer r t =
-      let began = found (Ok Reserved) r in
-      record {
-        shows =
-            inserts_over (slots_of shard.table) draft.key answer (world_at shard.table old.seat)
-            (world_at shard.table r.reserved) (world_at shard.table t.done)
-            (world_at shard.table new.seat)
-            (still_shows shard.table one old.seat r.reserved began.1)
-            (tells answer r.counted new.effort r.reserved t.done t.inserts)
-            (still_shows shard.table one t.done new.seat t.still);
-        idle = keeps_then (view old.seat) (view r.reserved) (view new.seat) began.2 r.idle;
-      }
+  -- Where there is room an insertion isn't refused, and turns the hand no further,
+  module _ (one : clients_of shard.table ≡ 1)
+      (place : occupancy_of (world_at shard.table old.seat)
+      < limit_of (setup_of (plan_of shard.table)))
+      (room : usage_of (world_at shard.table old.seat) + draft.charge
+      ≤ capacity_of shard.table) where
+    found : (answer : Result Reservation Refused)
+        (r : ReservedAs (fits_seeded fits) shard draft answer old new)
+        → (answer ≡ Ok Reserved) × TurnsNone old new
+    found answer r =
+        let began =
+        roomy (fits_seeded fits) shard.table draft.charge answer old.tally new.tally old.effort
+        r.counted old.seat r.reserved one r.evicts place room in
+        (began.0, r.idle.turns ∙ began.1)
 
-  -- The entry was left out.
-  left_over : (told : Reservation) (matched : Bool)
-      (r : ReservedAs (fits_seeded fits) shard draft (Ok told) old new)
-      → TriesWhere (fits_seeded fits) shard draft told r.reserved r.counted (left_out matched) new
-      → (told ≡ Reserved) × ShowsOver shard draft (left_out matched) old new
-  left_over Reserved matched r t = (refl, shows_over (left_out matched) r t)
-  left_over NoPlace matched r t =
-      absurd (let is = (found (Ok NoPlace) r).0 in let never : ⊥ = cc in never)
+    pub room_idles : (answer : Result Inserted Refused)
+        → InsertedAs (fits_seeded fits) shard draft answer old new
+        → IsOk answer × TurnsNone old new
+    room_idles (Ok stored.Placed) did = (refl, (found (Ok Reserved) did.1.reserves).1)
+    room_idles (Ok stored.Dropped) did = (refl, (found (Ok did.told) did.reserves).1)
+    room_idles (Err why) did =
+        absurd (let is = (found (Err why) did.reserves).0 in let never : ⊥ = cc in never)
 
-  -- An insertion isn't refused,
-  never_refused : (why : Refused) → ReservedAs (fits_seeded fits) shard draft (Err why) old new → ⊥
-  never_refused why r = let is = (found (Err why) r).0 in cc
+    pub room_idles_pinned : (answer : Result Pinned Refused)
+        → PinnedAs (fits_seeded fits) shard draft answer old new
+        → IsOk answer × TurnsNone old new
+    room_idles_pinned (Ok (pinned.Placed pin)) did = (refl, (found (Ok Reserved) did.reserves).1)
+    room_idles_pinned (Ok pinned.Standalone) did = (refl, (found (Ok did.told) did.reserves).1)
+    room_idles_pinned (Err why) did =
+        absurd (let is = (found (Err why) did.reserves).0 in let never : ⊥ = cc in never)
 
-  -- by its answer,
-  pub fits_as : (answer : Result Inserted Refused)
-      (did : InsertedAs (fits_seeded fits) shard draft answer old new)
-      → FitsAs shard draft fits answer old new did
-  fits_as (Ok stored.Placed) did = shows_over (Placed did.0) did.1.reserves did.1.tries
-  fits_as (Ok stored.Dropped) did = left_over did.told did.matched did.reserves did.tries
-  fits_as (Err why) did = never_refused why did.reserves
+  module _ (one : clients_of shard.table ≡ 1)
+      (tells : (answer : Insertion) (before after : Effort) (old new : SeatOf (Seeded T))
+      → Inserts (fits_seeded fits) shard.table draft.key draft.serial draft.countdown answer
+      before after old new
+      → InsertsShown (slots_of shard.table) draft.key answer (world_at shard.table old)
+      (world_at shard.table new))
+      (same : TurnsNone old new) where
+    -- and where it turned the hand no further the probes were tried,
+    shows_over : (answer : Insertion)
+        (r : ReservedAs (fits_seeded fits) shard draft (Ok Reserved) old new)
+        → TriesFrom (fits_seeded fits) shard draft r.reserved r.counted answer new
+        → ShowsOver shard draft answer old new
+    shows_over answer r t = record {
+      shows =
+          inserts_over (slots_of shard.table) draft.key answer (world_at shard.table old.seat)
+          (world_at shard.table r.reserved) (world_at shard.table t.done)
+          (world_at shard.table new.seat)
+          (still_shows shard.table one old.seat r.reserved
+          (unturned_still (fits_seeded fits) shard.table draft.charge (Ok Reserved) old.tally
+          new.tally old.effort r.counted old.seat r.reserved r.evicts
+          (turns_of (Ok Reserved) r same)))
+          (tells answer r.counted new.effort r.reserved t.done t.inserts)
+          (still_shows shard.table one t.done new.seat t.still);
+      idle =
+          keeps_then (view old.seat) (view r.reserved) (view new.seat)
+          (unturned (fits_seeded fits) shard.table draft.charge (Ok Reserved) old.tally new.tally
+          old.effort r.counted old.seat r.reserved r.evicts (turns_of (Ok Reserved) r same)).1
+          r.idle;
+    }
 
-  -- and one that keeps a reference.
-  pub fits_pinned_as : (answer : Result Pinned Refused)
-      (did : PinnedAs (fits_seeded fits) shard draft answer old new)
-      → FitsPinnedAs shard draft fits answer old new did
-  fits_pinned_as (Ok (pinned.Placed pin)) did =
-      shows_over (Placed pin.slot) did.reserves did.tries
-  fits_pinned_as (Ok pinned.Standalone) did =
-      left_over did.told did.matched did.reserves did.tries
-  fits_pinned_as (Err why) did = never_refused why did.reserves
+    -- where the entry was left out, too,
+    left_over : (told : Reservation) (matched : Bool)
+        (r : ReservedAs (fits_seeded fits) shard draft (Ok told) old new)
+        → TriesWhere (fits_seeded fits) shard draft told r.reserved r.counted (left_out matched)
+        new → (told ≡ Reserved) × ShowsOver shard draft (left_out matched) old new
+    left_over Reserved matched r t = (refl, shows_over (left_out matched) r t)
+    left_over NoPlace matched r t =
+        absurd (unturned (fits_seeded fits) shard.table draft.charge (Ok NoPlace) old.tally
+        new.tally old.effort r.counted old.seat r.reserved r.evicts
+        (turns_of (Ok NoPlace) r same)).0
+
+    -- or it was refused at once;
+    refused_over : (why : Refused) → Refuses (fits_seeded fits) shard draft why old new
+        → (why ≡ TooLarge) × (new.seat ≡ old.seat)
+    refused_over TooLarge h = (refl, h.ends ∙ h.reserves.evicts.2)
+    refused_over CapacityFull h =
+        absurd (unturned (fits_seeded fits) shard.table draft.charge (Err CapacityFull) old.tally
+        new.tally old.effort h.reserves.counted old.seat h.reserves.reserved h.reserves.evicts
+        (turns_of (Err CapacityFull) h.reserves same)).0
+    refused_over OccupancyFull h =
+        absurd (unturned (fits_seeded fits) shard.table draft.charge (Err OccupancyFull) old.tally
+        new.tally old.effort h.reserves.counted old.seat h.reserves.reserved h.reserves.evicts
+        (turns_of (Err OccupancyFull) h.reserves same)).0
+
+    -- by its answer,
+    pub keeps_as : (answer : Result Inserted Refused)
+        (did : InsertedAs (fits_seeded fits) shard draft answer old new)
+        → KeepsAs shard draft fits answer old new did
+    keeps_as (Ok stored.Placed) did = shows_over (Placed did.0) did.1.reserves did.1.tries
+    keeps_as (Ok stored.Dropped) did = left_over did.told did.matched did.reserves did.tries
+    keeps_as (Err why) did = refused_over why did
+
+    -- and so one that keeps a reference.
+    pub keeps_pinned_as : (answer : Result Pinned Refused)
+        (did : PinnedAs (fits_seeded fits) shard draft answer old new)
+        → KeepsPinnedAs shard draft fits answer old new did
+    keeps_pinned_as (Ok (pinned.Placed pin)) did =
+        shows_over (Placed pin.slot) did.reserves did.tries
+    keeps_pinned_as (Ok pinned.Standalone) did =
+        left_over did.told did.matched did.reserves did.tries
+    keeps_pinned_as (Err why) did = refused_over why did
 
 module _ {T : Type 0} (fits : T → Key → List ℕ → Type 0) (shard : Shard (Seeded T) Global)
     (draft : Draft) (old new : ShardSeat (Seeded T)) where
@@ -164,21 +206,24 @@ module _ {T : Type 0} (fits : T → Key → List ℕ → Type 0) (shard : Shard 
       kept_over (slots_of shard.table) draft.key other answer (world_at shard.table old.seat)
       (world_at shard.table new.seat) slot h.shows shows
 
-  -- behind an insertion for which there was room,
-  pub fits_keeps : (answer : Result Inserted Refused)
+  same_keeps : new.seat ≡ old.seat → KeepsKeys
+  same_keeps same other slot shows = ap (λ z. shown_at (world_at shard.table z) slot) same
+
+  -- behind an insertion that turned the hand no further,
+  pub keeps_keys : (answer : Result Inserted Refused)
       (did : InsertedAs (fits_seeded fits) shard draft answer old new)
-      → FitsAs shard draft fits answer old new did → KeepsKeys
-  fits_keeps (Ok stored.Placed) did h = over_keeps (Placed did.0) h
-  fits_keeps (Ok stored.Dropped) did h = over_keeps (left_out did.matched) h.1
-  fits_keeps (Err why) did h = absurd h
+      → KeepsAs shard draft fits answer old new did → KeepsKeys
+  keeps_keys (Ok stored.Placed) did h = over_keeps (Placed did.0) h
+  keeps_keys (Ok stored.Dropped) did h = over_keeps (left_out did.matched) h.1
+  keeps_keys (Err why) did h = same_keeps h.1
 
   -- and behind one that keeps a reference.
-  pub fits_pinned_keeps : (answer : Result Pinned Refused)
+  pub keeps_pinned_keys : (answer : Result Pinned Refused)
       (did : PinnedAs (fits_seeded fits) shard draft answer old new)
-      → FitsPinnedAs shard draft fits answer old new did → KeepsKeys
-  fits_pinned_keeps (Ok (pinned.Placed pin)) did h = over_keeps (Placed pin.slot) h
-  fits_pinned_keeps (Ok pinned.Standalone) did h = over_keeps (left_out did.matched) h.1
-  fits_pinned_keeps (Err why) did h = absurd h
+      → KeepsPinnedAs shard draft fits answer old new did → KeepsKeys
+  keeps_pinned_keys (Ok (pinned.Placed pin)) did h = over_keeps (Placed pin.slot) h
+  keeps_pinned_keys (Ok pinned.Standalone) did h = over_keeps (left_out did.matched) h.1
+  keeps_pinned_keys (Err why) did h = same_keeps h.1
 
 -- What the client knew to be shown it knows so still, where that shard alone was called.
 pub knows_over : {T : Type 0} (cache : Cache T) (number : ℕ) (other : Key) (old new : Client T)

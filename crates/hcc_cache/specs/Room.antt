@@ -1,4 +1,4 @@
--- An insertion into a shard that has room for its entry, in a cache of one client.
+-- An insertion that evicts nothing, as where there is room for its entry, in a cache of one client.
 use Rattle.std.specs.Prelude.{◌≡◌, ℕ, ◌+◌, ◌*◌, ◌/◌, ◌<◌, ◌≤◌, List, Result, Ok, Err}
 use Rattle.std.specs.declared.alloc.Global.{Global}
 use Rattle.hcc_core.specs.declared.limits.TheConstants.{OCCUPANCY_PERCENT}
@@ -11,6 +11,7 @@ use Rattle.hcc_table.specs.declared.inserting.Insertion.{Insertion}
 use Rattle.hcc_table.specs.declared.inserting.Insertion.TheVariants as insertions
 use Rattle.hcc_table.specs.Standing.{InsertsShown, world_at}
 use Rattle.hcc_charge.specs.declared.reserving.Refused.{Refused}
+use Rattle.hcc_charge.specs.declared.reserving.Refused.TheVariants.{TooLarge}
 use Rattle.hcc_charge.specs.declared.reserving.Reservation.TheVariants.{Reserved}
 use Rattle.hcc_charge.specs.Asked.{EvictsNothing}
 use Rattle.hcc_shard.specs.declared.inserting.Inserted.{Inserted}
@@ -41,19 +42,24 @@ module _ {T : Type 0} (shard : Shard (Seeded T) Global) (draft : Draft) where
     pub idle : EvictsNothing (view old.seat) (view new.seat)
 
   module _ (fits : T → Key → List ℕ → Type 0) where
-    -- An insertion where there is room, by its answer: a place is reserved, and nothing refused.
-    abbrev pub FitsAs : (answer : Result Inserted Refused) (old new : ShardSeat (Seeded T))
+    -- Such an insertion by its answer: a place was reserved, and refused is only a charge above a
+    -- strict capacity, before anything was done.
+    abbrev pub KeepsAs : (answer : Result Inserted Refused) (old new : ShardSeat (Seeded T))
         → InsertedAs (fits_seeded fits) shard draft answer old new → Type 0
-    FitsAs (Ok stored.Placed) old new did = ShowsOver (insertions.Placed did.0) old new
-    FitsAs (Ok stored.Dropped) old new did =
+    KeepsAs (Ok stored.Placed) old new did = ShowsOver (insertions.Placed did.0) old new
+    KeepsAs (Ok stored.Dropped) old new did =
         (did.told ≡ Reserved) × ShowsOver (left_out did.matched) old new
-    FitsAs (Err why) old new did = ⊥
+    KeepsAs (Err why) old new did = (why ≡ TooLarge) × (new.seat ≡ old.seat)
 
     -- one that keeps a reference
-    abbrev pub FitsPinnedAs : (answer : Result Pinned Refused) (old new : ShardSeat (Seeded T))
+    abbrev pub KeepsPinnedAs : (answer : Result Pinned Refused) (old new : ShardSeat (Seeded T))
         → PinnedAs (fits_seeded fits) shard draft answer old new → Type 0
-    FitsPinnedAs (Ok (pinned.Placed pin)) old new did =
+    KeepsPinnedAs (Ok (pinned.Placed pin)) old new did =
         ShowsOver (insertions.Placed pin.slot) old new
-    FitsPinnedAs (Ok pinned.Standalone) old new did =
+    KeepsPinnedAs (Ok pinned.Standalone) old new did =
         (did.told ≡ Reserved) × ShowsOver (left_out did.matched) old new
-    FitsPinnedAs (Err why) old new did = ⊥
+    KeepsPinnedAs (Err why) old new did = (why ≡ TooLarge) × (new.seat ≡ old.seat)
+
+-- the client turned the hand of the shard no further
+abbrev pub TurnsNone : {T : Type 0} → (old new : ShardSeat T) → Type 0
+TurnsNone old new = (view new.seat).turns ≡ (view old.seat).turns

@@ -56,7 +56,8 @@ impl<T: Tag> Cache<T> {
     /// where all serials of the client are used, then where a strict shard's capacity is below the
     /// charge: nothing is changed then. It is refused under strict capacity where evictions freed
     /// too little, or no place: they stay made, and a serial is used. In a cache of one client it
-    /// meets the entry that look-ups find, or is put before it (`laws::law_matches`), and
+    /// meets the entry that look-ups find, or is put before it (`laws::law_matches`), and where it
+    /// evicts nothing, as where there is room, it changes no other slot (`laws::law_room`).
     /// `laws::law_kept_shown` says how long what was placed stays shown.
     ///
     /// The value fits the key by the tag and has at most [`Cache::room`] bytes, and the charge

@@ -2,7 +2,7 @@
 //!
 //! No function here does anything when it runs: its contract is the law. `m.holds.world` is the
 //! lawful world that the shard's words and what its clients know show.
-ghost use Rattle.std.specs.Prelude.{◌≡◌, ℕ, ◌+◌, ◌-◌, ◌*◌, ◌/◌, ◌^◌, ◌<◌, ◌≤◌, ◌↔◌, min, Bool, true, false, List, Option, None, Some, Ok, Result, IsNone, IsSome, slice_get};
+ghost use Rattle.std.specs.Prelude.{◌≡◌, ℕ, ◌+◌, ◌-◌, ◌*◌, ◌/◌, ◌^◌, ◌<◌, ◌≤◌, ◌↔◌, min, Bool, true, false, List, Option, None, Some, Ok, Result, IsNone, IsOk, IsSome, slice_get};
 ghost use Rattle.hcc_core.specs.declared.limits.TheConstants.{OCCUPANCY_PERCENT};
 ghost use Rattle.hcc_core.specs.Lawful.{real_in, taken_in};
 ghost use Rattle.hcc_core.specs.Sums.{total};
@@ -35,7 +35,7 @@ ghost use Rattle.hcc_cache.specs.Keys.{fits_seeded};
 ghost use Rattle.hcc_cache.specs.Known.{Knows};
 ghost use Rattle.hcc_cache.specs.Moments.{IsMoment, IsQuietMiss, KnowsShown, ShowsKeyIn, plan_in};
 ghost use Rattle.hcc_cache.specs.Opened.{IsCacheOf};
-ghost use Rattle.hcc_cache.specs.Room.{FitsAs, FitsPinnedAs, HasRoom};
+ghost use Rattle.hcc_cache.specs.Room.{HasRoom, KeepsAs, KeepsPinnedAs, TurnsNone};
 ghost use Rattle.hcc_cache.specs.Sharding.{key_to};
 ghost use Rattle.hcc_cache.specs.Stays.{BeganEachWithin, ReleasesPin, Stays};
 ghost use Rattle.hcc_cache.specs.Totals.{occupancy_in, usage_in, KnowsEach, LoadsEachOccupancy, LoadsEachUsage};
@@ -209,20 +209,38 @@ pub fn law_matches<T: Tag>()
     law_room_alone::<Seeded<T>, Global>();
 }
 
-/// In a cache of one client an insertion for which there is room evicts nothing.
+/// In a cache of one client an insertion that evicts nothing changes nothing of what is shown but
+/// the slot where its entry is placed.
 pub fn law_room<T: Tag>()
     // There is room where, in the world that the client knows of the key's shard when the call
     // begins, a place is left and the charge is within the shard's capacity beside the usage. Then
-    // a place is reserved: it isn't refused, and no entry is taken. From that world to the one that
-    // the client knows at the end: Placed: its slot showed nothing, and is an earlier probe of the
-    // key than each that shows the key; then it shows it. Dropped: it met the first probe that
-    // shows the key, or none does. All other slots show what they showed.
-    ensures stores { (config : Config) (tag : T) (cache : Cache T)
+    // the insertion isn't refused, and turns the hand no further.
+    ensures room { (config : Config) (tag : T) (cache : Cache T)
         → IsCacheOf config tag cache → config.clients ≡ 1
         → (key : Key) (charge : ℕ) (priority : Priority) (answer : Result Inserted Refused)
         (old new : Client T) (h : StoresAt cache T.fits key charge priority answer old new)
         → HasRoom config charge (world_at h.shard.table h.was.seat)
-        → FitsAs h.shard (draft_of cache key charge priority (λ c. None) old) T.fits answer h.was
+        → IsOk answer × TurnsNone h.was h.is }
+
+    // So it is of one that gives a handle.
+    ensures room_pinned { (config : Config) (tag : T) (cache : Cache T)
+        → IsCacheOf config tag cache → config.clients ≡ 1
+        → (key : Key) (charge : ℕ) (priority : Priority) (answer : Result Pinned Refused)
+        (old new : Client T) (h : PinsAt cache T.fits key charge priority answer old new)
+        → HasRoom config charge (world_at h.shard.table h.was.seat)
+        → IsOk answer × TurnsNone h.was h.is }
+
+    // One that turns the hand no further evicts nothing. From that world to the one that the client
+    // knows at the end: Placed: its slot showed nothing, and is an earlier probe of the key than
+    // each that shows the key; then it shows it. Dropped: a place was reserved, and it met the
+    // first probe that shows the key, or none does. All other slots show what they showed. Refused
+    // is only a charge above a strict capacity, and nothing was done.
+    ensures stores { (config : Config) (tag : T) (cache : Cache T)
+        → IsCacheOf config tag cache → config.clients ≡ 1
+        → (key : Key) (charge : ℕ) (priority : Priority) (answer : Result Inserted Refused)
+        (old new : Client T) (h : StoresAt cache T.fits key charge priority answer old new)
+        → TurnsNone h.was h.is
+        → KeepsAs h.shard (draft_of cache key charge priority (λ c. None) old) T.fits answer h.was
         h.is h.did }
 
     // The same of one that gives a handle, on a standalone entry where that is dropped.
@@ -230,8 +248,8 @@ pub fn law_room<T: Tag>()
         → IsCacheOf config tag cache → config.clients ≡ 1
         → (key : Key) (charge : ℕ) (priority : Priority) (answer : Result Pinned Refused)
         (old new : Client T) (h : PinsAt cache T.fits key charge priority answer old new)
-        → HasRoom config charge (world_at h.shard.table h.was.seat)
-        → FitsPinnedAs h.shard (draft_of cache key charge priority (λ c. Some c.used) old) T.fits
+        → TurnsNone h.was h.is
+        → KeepsPinnedAs h.shard (draft_of cache key charge priority (λ c. Some c.used) old) T.fits
         answer h.was h.is h.did }
 
     // So each key that the client knew to be shown it knows so still,
@@ -239,8 +257,7 @@ pub fn law_room<T: Tag>()
         → IsCacheOf config tag cache → config.clients ≡ 1
         → (key : Key) (charge : ℕ) (priority : Priority) (answer : Result Inserted Refused)
         (old new : Client T) (h : StoresAt cache T.fits key charge priority answer old new)
-        → HasRoom config charge (world_at h.shard.table h.was.seat)
-        → OnlyAt (shard_in cache key) old new → (other : Key)
+        → TurnsNone h.was h.is → OnlyAt (shard_in cache key) old new → (other : Key)
         → KnowsShown cache other old → KnowsShown cache other new }
 
     // and so it is behind one that gives a handle.
@@ -248,15 +265,14 @@ pub fn law_room<T: Tag>()
         → IsCacheOf config tag cache → config.clients ≡ 1
         → (key : Key) (charge : ℕ) (priority : Priority) (answer : Result Pinned Refused)
         (old new : Client T) (h : PinsAt cache T.fits key charge priority answer old new)
-        → HasRoom config charge (world_at h.shard.table h.was.seat)
-        → OnlyAt (shard_in cache key) old new → (other : Key)
+        → TurnsNone h.was h.is → OnlyAt (shard_in cache key) old new → (other : Key)
         → KnowsShown cache other old → KnowsShown cache other new }
 {
     law_inserted_alone::<Seeded<T>, Global>();
 }
 
-/// In a cache of one client what is shown stays so until an insertion into its shard for which
-/// there is no room (`law_room`), an erasure of its key, or a release that frees it.
+/// In a cache of one client what is shown stays so until an insertion into its shard that evicts
+/// (`law_room`), an erasure of its key, or a release that frees it.
 pub fn law_kept_shown<T: Tag>()
     // A key that the client knows to be shown it knows so after each call that makes and takes no
     // entry, and shows and hides none: a look-up, a reading, one handle more, a count of what is

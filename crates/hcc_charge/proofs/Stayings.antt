@@ -36,13 +36,21 @@ use Rattle.hcc_charge.specs.declared.reserving.Reservation.TheVariants.{Reserved
 use Rattle.hcc_charge.specs.declared.tally.Tally.{Tally}
 use Rattle.hcc_charge.specs.Asked.{is_full, lacked, EvictsAsAsked, EvictsBy, EvictsNothing, FindsBy}
 use Rattle.hcc_charge.specs.Reserved.{asked, needed_by, still_needed, surplus}
-use Rattle.hcc_charge.specs.Swept.{nothing_swept}
 
 -- Nothing is asked for where no turn was made.
 asks_none : (turns ask : ℕ) → turns ≡ 0 → nat_lt 0 turns ≡ nat_lt 0 ask → ask ≡ 0
 asks_none turns zero none same = refl
 asks_none turns (suc n) none same =
     absurd (let more = ltb-true 0 turns (same ∙ lt-ltb 0 (suc n) (omega arith)) in omega arith)
+
+-- Where nothing is asked for a place was left, and all of the charge is granted.
+lacks_none : (strict : Bool) (capacity charge used : ℕ) (full : Bool)
+    → asked strict capacity charge full used ≡ 0
+    → (full ≡ false) × (needed_by strict capacity used charge ≡ 0)
+lacks_none true capacity charge used true none = absurd (omega arith)
+lacks_none true capacity charge used false none = (refl, none)
+lacks_none false capacity charge used true none = absurd (omega arith)
+lacks_none false capacity charge used false none = (refl, refl)
 
 -- What a reservation found is no change of what is shown.
 pub finds_still : {T A : Type 0} (table : RuleTable T A) (strict : Bool) (charge used : ℕ)
@@ -71,13 +79,35 @@ module _ {T A : Type 0} (fits : T → Key → List ℕ → Type 0) (table : Rule
       (finds_still table (is_strict table) charge e.used e.u e.b e.finds_by)
       (subst (λ z. GoesOnStill table z d) (e.evicts.none none).1 e.behind))
 
-  turned_still : (e : EvictsAsAsked fits table charge before after effort counted a d)
-      → (view d).turns ≡ (view a).turns → GoesOnStill table a d
-  turned_still e same =
-      unasked_still e
-      (asks_none e.swept.turns (asked_by e) (let all = e.turns in omega arith) e.within.made)
+  -- So it is where no turn was made:
+  module _ (e : EvictsAsAsked fits table charge before after effort counted a d)
+      (same : (view d).turns ≡ (view a).turns) where
+    asks_nothing : asked_by e ≡ 0
+    asks_nothing =
+        asks_none e.swept.turns (asked_by e) (let all = e.turns in omega arith) e.within.made
 
--- So it does where the hand wasn't turned.
+    turned_still : GoesOnStill table a d
+    turned_still = unasked_still e asks_nothing
+
+    -- a place was found then, and all of the charge,
+    turned_found : (is_full table e.taken ≡ false) × (lacked table charge e.used ≡ 0)
+    turned_found =
+        lacks_none (is_strict table) (capacity_of table) charge e.used (is_full table e.taken)
+        asks_nothing
+
+    -- and nothing was evicted.
+    turned_idle : EvictsNothing (view a) (view d)
+    turned_idle = record {
+      turns = same;
+      takings =
+          let all = e.takings in
+          let none = ap (λ s. s.slots) (e.evicts.none asks_nothing).0 in
+          omega arith;
+      opened =
+          e.opened ∙ (let none = ap (λ f. when f 1) turned_found.0 in omega arith);
+    }
+
+-- A reservation that turned the hand no further leaves all that is shown.
 pub unturned_still : {T A : Type 0} (fits : T → Key → List ℕ → Type 0) (table : RuleTable T A)
     (charge : ℕ) (answer : Result Reservation Refused) (before after : Tally)
     (effort counted : Effort) (a d : SeatOf T)
@@ -93,6 +123,43 @@ unturned_still fits table charge (Err CapacityFull) before after effort counted 
     turned_still fits table charge h.0 same
 unturned_still fits table charge (Err OccupancyFull) before after effort counted a d h same =
     turned_still fits table charge h.0 same
+
+-- what one may answer that turned the hand no further
+abbrev pub MayAnswer : Result Reservation Refused → Type 0
+MayAnswer (Ok Reserved) = Unit {0}
+MayAnswer (Ok NoPlace) = ⊥
+MayAnswer (Err TooLarge) = Unit {0}
+MayAnswer (Err CapacityFull) = ⊥
+MayAnswer (Err OccupancyFull) = ⊥
+
+-- It evicted nothing, and answers so.
+pub unturned : {T A : Type 0} (fits : T → Key → List ℕ → Type 0) (table : RuleTable T A)
+    (charge : ℕ) (answer : Result Reservation Refused) (before after : Tally)
+    (effort counted : Effort) (a d : SeatOf T)
+    → EvictsBy fits table charge answer before after effort counted a d
+    → (view d).turns ≡ (view a).turns → MayAnswer answer × EvictsNothing (view a) (view d)
+unturned fits table charge (Ok Reserved) before after effort counted a d h same =
+    let idle = turned_idle fits table charge h.0 same in (tt, idle)
+unturned fits table charge (Ok NoPlace) before after effort counted a d h same =
+    let full = h.1 in
+    let free = (turned_found fits table charge h.0 same).0 in
+    absurd (let never : ⊥ = cc in never)
+unturned fits table charge (Err TooLarge) before after effort counted a d h same = (
+  tt,
+  record {
+    turns = ap (λ z. (view z).turns) h.2;
+    takings = ap (λ z. (view z).takings) h.2;
+    opened = ap (λ z. (view z).open_places) h.2;
+  },
+)
+unturned fits table charge (Err CapacityFull) before after effort counted a d h same =
+    let short = h.1 in
+    let none = (turned_found fits table charge h.0 same).1 in
+    absurd (omega arith)
+unturned fits table charge (Err OccupancyFull) before after effort counted a d h same =
+    let full = h.1 in
+    let free = (turned_found fits table charge h.0 same).0 in
+    absurd (let never : ⊥ = cc in never)
 
 -- What replies tell of the world.
 
@@ -237,35 +304,19 @@ module _ {T A : Type 0} (fits : T → Key → List ℕ → Type 0) (table : Rule
             finds_room (is_strict table) e.used e.u e.b refl e.finds_by
             (let same = told.1 in omega arith)
 
-    -- Nothing is evicted then.
-    room_idle : (e : EvictsAsAsked fits table charge before after effort counted a d)
-        → is_full table e.taken ≡ false → asked_by fits table charge e ≡ 0
-        → GoesOnStill table a d × EvictsNothing (view a) (view d)
-    room_idle e free none = (
-      unasked_still fits table charge e none,
-      record {
-        turns = let all = e.turns in let no = ap (λ s. s.turns) swept in omega arith;
-        takings = let all = e.takings in let no = ap (λ s. s.slots) swept in omega arith;
-        opened =
-            e.opened ∙ (let no = ap (λ f. when f 1) free in omega arith);
-      },
-    )
-      where
-        swept : e.swept ≡ nothing_swept
-        swept = (e.evicts.none none).0
-
--- A reservation in a world with room is granted, it evicts nothing, and all that is shown stays.
+-- A reservation in a world with room is granted, and turns the hand no further.
 pub roomy : {T A : Type 0} (fits : T → Key → List ℕ → Type 0) (table : RuleTable T A)
     (charge : ℕ) (answer : Result Reservation Refused) (before after : Tally)
     (effort counted : Effort) (a d : SeatOf T) → clients_of table ≡ 1
     → EvictsBy fits table charge answer before after effort counted a d
     → occupancy_of (world_at table a) < limit_of (setup_of (plan_of table))
     → usage_of (world_at table a) + charge ≤ capacity_of table
-    → (answer ≡ Ok Reserved) × GoesOnStill table a d × EvictsNothing (view a) (view d)
+    → (answer ≡ Ok Reserved) × ((view d).turns ≡ (view a).turns)
 roomy fits table charge (Ok Reserved) before after effort counted a d one h place room =
-    let found = room_found fits table one charge h.0 place room in
-    let idle = room_idle fits table one charge h.0 found.0 found.1 in
-    (refl, idle.0, idle.1)
+    let asks = (room_found fits table one charge h.0 place room).1 in
+    let none = ap (λ s. s.turns) (h.0.evicts.none asks).0 in
+    let all = h.0.turns in
+    (refl, omega arith)
 roomy fits table charge (Ok NoPlace) before after effort counted a d one h place room =
     let full = h.1 in
     let free = (room_found fits table one charge h.0 place room).0 in

@@ -12,7 +12,7 @@ use Rattle.hcc_cache.specs.Calls.{shard_in}
 use Rattle.hcc_cache.specs.Inserts.{draft_of}
 use Rattle.hcc_cache.specs.Opened.{IsConfigured}
 use Rattle.hcc_cache.specs.Room.{HasRoom}
-use Rattle.hcc_cache.proofs.Fitting.{fits_as, fits_keeps, fits_pinned_as, fits_pinned_keeps, knows_over}
+use Rattle.hcc_cache.proofs.Fitting.{keeps_as, keeps_keys, keeps_pinned_as, keeps_pinned_keys, knows_over, room_idles, room_idles_pinned}
 use Rattle.hcc_cache.proofs.laws.law_room.Goals as goal
 
 module _ {T : Type 0} (config : Config) (tag : T) (shard : Shard (Seeded T) Global)
@@ -32,44 +32,58 @@ module _ {T : Type 0} (config : Config) (tag : T) (shard : Shard (Seeded T) Glob
   room_in charge world room =
       subst (λ n. usage_of world + charge ≤ n) (sym made.capacity) room.within
 
+pub returns-clause-room : goal.returns-clause-room
+returns-clause-room g c = λ config tag cache is_of one key charge priority answer old new h room.
+    let made = is_of.shards _ h.shard h.shard_is in
+    room_idles g.T.Tag.fits h.shard (draft_of cache key charge priority (λ c. None) old) h.was h.is
+    (alone config tag h.shard made one) (place_in config tag h.shard made charge _ room)
+    (room_in config tag h.shard made charge _ room) answer h.did
+
+pub returns-clause-room_pinned : goal.returns-clause-room_pinned
+returns-clause-room_pinned g c = λ config tag cache is_of one key charge priority answer old new h
+    room.
+    let made = is_of.shards _ h.shard h.shard_is in
+    room_idles_pinned g.T.Tag.fits h.shard
+    (draft_of cache key charge priority (λ c. Some c.used) old) h.was h.is
+    (alone config tag h.shard made one) (place_in config tag h.shard made charge _ room)
+    (room_in config tag h.shard made charge _ room) answer h.did
+
 pub returns-clause-stores : goal.returns-clause-stores
-returns-clause-stores g c = λ config tag cache is_of one key charge priority answer old new h room.
+returns-clause-stores g c = λ config tag cache is_of one key charge priority answer old new h same.
     let made = is_of.shards _ h.shard h.shard_is in
     let single = alone config tag h.shard made one in
     let draft = draft_of cache key charge priority (λ c. None) old in
-    fits_as g.T.Tag.fits h.shard draft single
+    keeps_as g.T.Tag.fits h.shard draft h.was h.is single
     (λ told before after was is did. c.law_inserted_alone.ensures h.shard.table draft.key
     draft.serial draft.countdown told before after was is single did)
-    h.was h.is (place_in config tag h.shard made charge _ room)
-    (room_in config tag h.shard made charge _ room) answer h.did
+    same answer h.did
 
 pub returns-clause-pins : goal.returns-clause-pins
-returns-clause-pins g c = λ config tag cache is_of one key charge priority answer old new h room.
+returns-clause-pins g c = λ config tag cache is_of one key charge priority answer old new h same.
     let made = is_of.shards _ h.shard h.shard_is in
     let single = alone config tag h.shard made one in
     let draft = draft_of cache key charge priority (λ c. Some c.used) old in
-    fits_pinned_as g.T.Tag.fits h.shard draft single
+    keeps_pinned_as g.T.Tag.fits h.shard draft h.was h.is single
     (λ told before after was is did. c.law_inserted_alone.ensures h.shard.table draft.key
     draft.serial draft.countdown told before after was is single did)
-    h.was h.is (place_in config tag h.shard made charge _ room)
-    (room_in config tag h.shard made charge _ room) answer h.did
+    same answer h.did
 
 pub returns-clause-kept : goal.returns-clause-kept
-returns-clause-kept g c = λ config tag cache is_of one key charge priority answer old new h room
+returns-clause-kept g c = λ config tag cache is_of one key charge priority answer old new h same
     only other.
     knows_over cache (shard_in cache key) other old new h.shard h.was h.is h.shard_is h.seat_was
     h.seat_is only
-    (fits_keeps g.T.Tag.fits h.shard (draft_of cache key charge priority (λ c. None) old) h.was
+    (keeps_keys g.T.Tag.fits h.shard (draft_of cache key charge priority (λ c. None) old) h.was
     h.is answer h.did
     (returns-clause-stores g c config tag cache is_of one key charge priority answer old new h
-    room))
+    same))
 
 pub returns-clause-kept_pinned : goal.returns-clause-kept_pinned
 returns-clause-kept_pinned g c = λ config tag cache is_of one key charge priority answer old new h
-    room only other.
+    same only other.
     knows_over cache (shard_in cache key) other old new h.shard h.was h.is h.shard_is h.seat_was
     h.seat_is only
-    (fits_pinned_keeps g.T.Tag.fits h.shard
+    (keeps_pinned_keys g.T.Tag.fits h.shard
     (draft_of cache key charge priority (λ c. Some c.used) old) h.was h.is answer h.did
     (returns-clause-pins g c config tag cache is_of one key charge priority answer old new h
-    room))
+    same))
