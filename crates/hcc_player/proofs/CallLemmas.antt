@@ -260,7 +260,7 @@ module _ {T : Type 0} (fits : T → Key → List ℕ → Type 0) (cache : Cache 
       × AreFilled fits cache config next new (filled_with handles r handle)
   unfolding IsRight
   pin_goes s old new handles r k t q v handle inserted.Placed known may i right empty filled = (
-    with_filled s r (record { key = k; value = v; charge = t }),
+    with_filled s r (record { key = k; value = v; charge = t }) false,
     (
       empty_told s old handles r empty filled,
       (
@@ -273,7 +273,7 @@ module _ {T : Type 0} (fits : T → Key → List ℕ → Type 0) (cache : Cache 
         right empty (λ q k b name at on is same. cc) filled,
   )
   pin_goes s old new handles r k t q v handle inserted.Standalone known may i right empty filled = (
-    with_filled s r (record { key = k; value = v; charge = t }),
+    with_filled s r (record { key = k; value = v; charge = t }) true,
     (
       empty_told s old handles r empty filled,
       (
@@ -371,7 +371,7 @@ module _ {T : Type 0} (fits : T → Key → List ℕ → Type 0) (cache : Cache 
       let held : Held = held_entry cache.seed found.found.entry in
       let right = subst (λ k. fits cache.tag k held.insertion.value) (sym found.asked)
       found.right in (
-        with_filled s r held.insertion,
+        with_filled s r held.insertion false,
         (
           empty_told s old handles r empty filled,
           may,
@@ -396,12 +396,17 @@ module _ {T : Type 0} (fits : T → Key → List ℕ → Type 0) (cache : Cache 
       let right = subst (λ (h : Held). fits cache.tag h.insertion.key h.insertion.value) same
       on.right in
       let inserted : s.registers g ≡ Some again.held.insertion =
-      on.inserted ∙ ap (λ (h : Held). Some h.insertion) same in (
-        with_filled s r again.held.insertion,
+      on.inserted ∙ ap (λ (h : Held). Some h.insertion) same in
+      let kind = filled.kinds g handle again.held full again.was in (
+        with_filled s r again.held.insertion (is_some again.held.standing),
         (
           empty_told s old handles r empty filled,
           may,
-          (again.held.insertion, inserted, refl),
+          (
+            again.held.insertion,
+            inserted,
+            ap (with_filled s r again.held.insertion) (sym kind),
+          ),
         ),
         more_filled fits cache config s old new handles r more again.held known again.works.self
             again.gains right empty

@@ -1,4 +1,5 @@
--- What is charged for a client's entries is at least what its registers hold.
+-- What is charged for a client's entries is at least what its registers hold, and as many entries
+-- of the table are among them.
 use Rattle.std.proofs.Common.{◌≡◌, ℕ, ◌<◌, ◌≤◌, ◌⊎◌, inl, inr, true, false, Bool, List, ◌++◌}
 use Rattle.std.proofs.Common.{Option, Some, None, option_and_then, find, if◌then◌else◌, length}
 use Rattle.std.proofs.Common.{map, refl, sym, ap, ◌∙◌, subst, arith}
@@ -31,21 +32,28 @@ use Rattle.hcc_cache.specs.declared.seeded.Seeded.{Seeded}
 use Rattle.hcc_cache.specs.Clients.{Held, held_alone, held_entry, held_of, hold_of}
 use Rattle.hcc_cache.specs.Clients.{records_in, standalones_in, view_by}
 use Rattle.hcc_cache.specs.Known.{IsKeptAs, Knows}
-use Rattle.hcc_cache.specs.Totals.{LoadsEachUsage, charge_at, charge_by}
+use Rattle.hcc_cache.specs.Totals.{LoadsEachUsage, SearchesAll, charge_at, charge_by, entries_at}
+use Rattle.hcc_cache.specs.Totals.{entries_by}
 use Rattle.hcc_player.specs.declared.run.registers.Filled.{Filled}
 use Rattle.hcc_player.specs.Registers.{at, AreFilled, IsFilled}
-use Rattle.hcc_player.specs.RunStates.{CoversHeld, State, charge_of}
+use Rattle.hcc_player.specs.RunStates.{CoversEntries, CoversHeld, IsFull, State, charge_of}
 use Rattle.hcc_player.proofs.HeldRecords.{Item, different_in, different_was, found_by_name, in_all}
 use Rattle.hcc_player.proofs.HeldRecords.{items, total_items}
 use Rattle.hcc_player.proofs.LeftLemmas.{total_mapped}
 use Rattle.hcc_player.proofs.RegisterLemmas.{on_register, unheld}
 use Rattle.hcc_player.proofs.StandingNames.{hold_there, stands_alone, stands_pinned}
-use Rattle.hcc_player.proofs.SumsWithin.{Member, found_in, in_back, in_front, in_map, sum_within}
+use Rattle.hcc_player.proofs.SumsWithin.{Member, count_within, found_in, in_back, in_front}
+use Rattle.hcc_player.proofs.SumsWithin.{in_map, sum_within, total_ones}
 
 -- a larger sum covers it, too
 pub covers_more : (s : State) (few many : ℕ) → few ≤ many → CoversHeld s few → CoversHeld s many
 covers_more s few many less covers registers apart =
     let sum = covers registers apart in omega arith
+
+pub entries_more : (s : State) (few many : ℕ) → few ≤ many → CoversEntries s few
+    → CoversEntries s many
+entries_more s few many less covers registers apart within =
+    let count = covers registers apart within in omega arith
 
 -- Records of one slot are on one entry.
 
@@ -138,6 +146,11 @@ module _ {T : Type 0} where
           let here = there old.seats.items shard (omega arith) in
           (alike shard here.0 seat (omega arith) here.1 off).0
 
+  -- a search leaves the records as they are
+  pub searches_agree : (old new : Client T) → SearchesAll old new → Agrees old → Agrees new
+  searches_agree old new searches agree shard =
+      subst AgreesIn (sym (searches.all shard).records) (agree shard)
+
 -- What is charged for a client, entry by entry.
 
 abbrev table_item : (shard : ℕ) → Record → Item
@@ -151,10 +164,12 @@ alone_item shard x =
 abbrev item_charge : Item → ℕ
 item_charge i = i.charge
 
+abbrev tabled_at : {T : Type 0} → ℕ → ShardSeat T → List Item
+tabled_at shard seat = map (table_item shard) (different (view_of seat).records)
+
 abbrev charged_at : {T : Type 0} → ℕ → ShardSeat T → List Item
 charged_at shard seat =
-    map (alone_item shard) (view_of seat).work.standalones
-    ++ map (table_item shard) (different (view_of seat).records)
+    map (alone_item shard) (view_of seat).work.standalones ++ tabled_at shard seat
 
 charge_whole : {T : Type 0} (shard : ℕ) (seat : ShardSeat T)
     → total item_charge (charged_at shard seat) ≡ charge_at seat
@@ -166,6 +181,12 @@ charge_whole shard seat =
     let first = total_mapped item_charge (alone_item shard) alone in
     let second = total_mapped item_charge (table_item shard) rs in
     omega arith
+
+entries_whole : {T : Type 0} (shard : ℕ) (seat : ShardSeat T)
+    → total (λ (i : Item). 1) (tabled_at shard seat) ≡ entries_at seat
+entries_whole shard seat =
+    let rs = different (view_of seat).records in
+    total_mapped (λ (i : Item). 1) (table_item shard) rs ∙ total_ones rs
 
 module _ {T : Type 0} (fits : T → Key → List ℕ → Type 0) (cache : Cache T) (config : Config)
     (s : State) (client : Client T) (handles : List Filled)
@@ -207,11 +228,14 @@ module _ {T : Type 0} (fits : T → Key → List ℕ → Type 0) (cache : Cache 
       × (charge_of (s.registers r) ≤ i.charge))
 
   -- on one entry there is one insertion
-  one : (r q : ℕ) (i : Item) → On r i → On q i → Same r q
-  one r q i (inl a) (inl b) =
+  one_tabled : (r q : ℕ) (i : Item) → OnTable r i → OnTable q i → Same r q
+  one_tabled r q i a b =
       let same : a.0.entry ≡ b.0.entry =
       agree i.shard a.1 b.1 a.0 b.0 a.2 b.2 (sym a.5 ∙ b.5) in
       a.3 ∙ ap (λ (e : Entry). Some (held_entry cache.seed e).insertion) same ∙ sym b.3
+
+  one : (r q : ℕ) (i : Item) → On r i → On q i → Same r q
+  one r q i (inl a) (inl b) = one_tabled r q i a b
   one r q i (inl a) (inr b) = let no : false ≡ true = sym a.4 ∙ b.5 in cc
   one r q i (inr a) (inl b) = let no : false ≡ true = sym b.4 ∙ a.5 in cc
   one r q i (inr a) (inr b) =
@@ -219,9 +243,20 @@ module _ {T : Type 0} (fits : T → Key → List ℕ → Type 0) (cache : Cache 
       ∙ ap Some (filled.alike r q a.0 b.0 a.1 b.1 i.number a.2 b.2 a.3 b.3 a.4 b.4)
       ∙ sym (told_as q b.0 b.1 b.2 b.3)
 
-  kept_charged : (r : ℕ) (h : Handle) (hold : Hold) (kept : Kept) → at handles r ≡ Some h
-      → hold_of client h ≡ Some hold → hold.kept ≡ kept → IsCharged r
-  kept_charged r h hold (Pinned slot counting) full here is =
+  -- what a register holds is one of the different entries of the table at its shard
+  record IsTabled (r : ℕ) : Type 0 where
+    shard : ℕ
+    seat : ShardSeat (Seeded T)
+    seat_is : slice_get seats shard ≡ Some seat
+    first : Record
+    among : Member first (different (view_of seat).records)
+    on : OnTable r (table_item shard first)
+    charge : charge_of (s.registers r) ≡ first.entry.charge
+
+  pinned_tabled : (r : ℕ) (h : Handle) (hold : Hold) (slot : ℕ) (counting : Bool)
+      → at handles r ≡ Some h → hold_of client h ≡ Some hold → hold.kept ≡ Pinned slot counting
+      → IsTabled r
+  pinned_tabled r h hold slot counting full here is =
       let held = filled.known.holds.each h.index hold
       (hold_there client.number h _ hold here) in
       let stands = subst (IsKeptAs cache.seed seats client.alone hold) is held.0.stands in
@@ -240,16 +275,30 @@ module _ {T : Type 0} (fits : T → Key → List ℕ → Type 0) (cache : Cache 
       let stood : held_of cache client h ≡ Some (held_entry cache.seed q.entry) =
       stands_pinned cache client h hold slot counting q here is stands.there in
       let told = told_as r h (held_entry cache.seed q.entry) full stood in
-      let charge = ap charge_of told in
-      let alike = ap (λ (e : Entry). e.charge) same in
+      record {
+        shard = hold.shard;
+        seat = seat.0;
+        seat_is = seat.1;
+        first = first.0;
+        among = first.1;
+        on = (q, hold.serial, stands.there, told, refl, first.2);
+        charge = ap charge_of told ∙ ap (λ (e : Entry). e.charge) (sym same);
+      }
+
+  kept_charged : (r : ℕ) (h : Handle) (hold : Hold) (kept : Kept) → at handles r ≡ Some h
+      → hold_of client h ≡ Some hold → hold.kept ≡ kept → IsCharged r
+  kept_charged r h hold (Pinned slot counting) full here is =
+      let t = pinned_tabled r h hold slot counting full here is in
+      let rs = (view_of t.seat).records in
+      let charge = t.charge in
       inr (
-        table_item hold.shard first.0,
-        inl (q, hold.serial, stands.there, told, refl, first.2),
-        in_all charged_at hold.shard seats seat.0 (table_item hold.shard first.0) seat.1
-            (in_back (table_item hold.shard first.0)
-            (map (alone_item hold.shard) (view_of seat.0).work.standalones)
-            (map (table_item hold.shard) (different rs))
-            (in_map (table_item hold.shard) first.0 (different rs) first.1)),
+        table_item t.shard t.first,
+        inl t.on,
+        in_all charged_at t.shard seats t.seat (table_item t.shard t.first) t.seat_is
+            (in_back (table_item t.shard t.first)
+            (map (alone_item t.shard) (view_of t.seat).work.standalones)
+            (tabled_at t.shard t.seat)
+            (in_map (table_item t.shard) t.first (different rs) t.among)),
         omega arith,
       )
   kept_charged r h hold (Standing index) full here is =
@@ -272,28 +321,38 @@ module _ {T : Type 0} (fits : T → Key → List ℕ → Type 0) (cache : Cache 
         in_all charged_at hold.shard seats seat.0 (alone_item hold.shard x) seat.1
             (in_front (alone_item hold.shard x)
             (map (alone_item hold.shard) (view_of seat.0).work.standalones)
-            (map (table_item hold.shard) (different (view_of seat.0).records))
+            (tabled_at hold.shard seat.0)
             (in_map (alone_item hold.shard) x (view_of seat.0).work.standalones
             (found_in (is_standing a.name) (view_of seat.0).work.standalones x found))),
         omega arith,
       )
 
-  is_charged : (r : ℕ) → IsCharged r
-  is_charged r = by (at handles r) refl
+  -- what the client keeps of a register's handle
+  hold_at : (r : ℕ) (h : Handle) → at handles r ≡ Some h
+      → (hold : Hold) × (hold_of client h ≡ Some hold)
+  hold_at r h full = by (hold_of client h) refl
     where
-      by_hold : (h : Handle) (o : Option Hold) → at handles r ≡ Some h → hold_of client h ≡ o
-          → IsCharged r
-      by_hold h None full free =
+      by : (o : Option Hold) → hold_of client h ≡ o
+          → (hold : Hold) × (hold_of client h ≡ Some hold)
+      by None free =
           let on = on_register fits cache config s client handles r h full filled in
           let none = unheld fits cache client h free in
           let no : None ≡ Some on.held = sym none ∙ on.here in cc
-      by_hold h (Some hold) full here = kept_charged r h hold hold.kept full here refl
+      by (Some hold) here = (hold, here)
 
+  -- nothing is told of a register that holds nothing
+  none_told : (r : ℕ) → at handles r ≡ None → s.registers r ≡ None
+  none_told r empty =
+      subst (IsFilled fits cache client (s.registers r)) empty (filled.each r)
+
+  is_charged : (r : ℕ) → IsCharged r
+  is_charged r = by (at handles r) refl
+    where
       by : (o : Option Handle) → at handles r ≡ o → IsCharged r
-      by None empty =
-          inl (ap charge_of
-          (subst (IsFilled fits cache client (s.registers r)) empty (filled.each r)))
-      by (Some h) full = by_hold h (hold_of client h) full refl
+      by None empty = inl (ap charge_of (none_told r empty))
+      by (Some h) full =
+          let kept = hold_at r h full in
+          kept_charged r h kept.0 kept.0.kept full kept.1 refl
 
   -- all registers whose insertions differ are charged within what is charged for the client
   pub covers_held : CoversHeld s (charge_by client)
@@ -302,3 +361,43 @@ module _ {T : Type 0} (fits : T → Key → List ℕ → Type 0) (cache : Cache 
       (items charged_at 0 seats) (λ k r at. is_charged r) apart in
       let whole = total_items charged_at item_charge charge_at charge_whole 0 seats in
       omega arith
+
+  -- a full register that isn't told to be on a standalone entry is on one of the table
+  told_tabled : (r : ℕ) → IsFull s r → s.alone r ≡ false → IsTabled r
+  told_tabled r full shared = by (at handles r) refl
+    where
+      by_kept : (h : Handle) (hold : Hold) (kept : Kept) → at handles r ≡ Some h
+          → hold_of client h ≡ Some hold → hold.kept ≡ kept → IsTabled r
+      by_kept h hold (Pinned slot counting) there here is =
+          pinned_tabled r h hold slot counting there here is
+      by_kept h hold (Standing index) there here is =
+          let held = filled.known.holds.each h.index hold
+          (hold_there client.number h _ hold here) in
+          let stands = subst (IsKeptAs cache.seed seats client.alone hold) is held.0.stands in
+          let stood : held_of cache client h ≡ Some (held_alone hold.key stands.entry) =
+          stands_alone cache client h hold index stands.entry here is stands.there in
+          let no : false ≡ true = sym shared ∙ filled.kinds r h _ there stood in cc
+
+      by : (o : Option Handle) → at handles r ≡ o → IsTabled r
+      by None empty = let no : false ≡ true = rw (none_told r empty) at full in cc
+      by (Some h) there =
+          let kept = hold_at r h there in
+          by_kept h kept.0 kept.0.kept there kept.1 refl
+
+  -- all registers on entries of the table whose insertions differ are on different entries
+  pub covers_entries : CoversEntries s (entries_by client)
+  covers_entries registers apart within =
+      let few = count_within OnTable Same one_tabled registers (items tabled_at 0 seats)
+      (λ k r at. let told = within k r at in in_table r (told_tabled r told.0 told.1)) apart in
+      let ones = total_ones (items tabled_at 0 seats) in
+      let whole = total_items tabled_at (λ (i : Item). 1) entries_at entries_whole 0 seats in
+      omega arith
+    where
+      in_table : (r : ℕ) → IsTabled r
+          → (i : Item) × OnTable r i × Member i (items tabled_at 0 seats)
+      in_table r t = (
+        table_item t.shard t.first,
+        t.on,
+        in_all tabled_at t.shard seats t.seat (table_item t.shard t.first) t.seat_is
+            (in_map (table_item t.shard) t.first (different (view_of t.seat).records) t.among),
+      )

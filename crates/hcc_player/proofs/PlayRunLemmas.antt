@@ -68,6 +68,7 @@ manned_new fits config tag cache clients registers opened empty count = record {
         apart = λ r s h first second. cc;
         count = unused.held;
         once = tt;
+        kinds = λ r h held full on. cc;
         alike = λ r q h k a b name here there on off is same. cc;
       });
 }

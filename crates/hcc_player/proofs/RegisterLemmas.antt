@@ -2,6 +2,7 @@
 use Rattle.std.proofs.Common.{◌≡◌, ◌≢◌, ℕ, zero, suc, ◌+◌, ◌==◌, inl, inr, true, false, List}
 use Rattle.std.proofs.Common.{[], ◌∷◌, ◌++◌, Option, Some, None, length, refl, sym, ap, ◌∙◌, subst}
 use Rattle.std.proofs.Common.{arith, rules, tests}
+use Rattle.std.specs.Prelude.{is_some}
 use Rattle.std.proofs.lemmas.Bool.{cases_eq}
 use Rattle.hcc_rule.specs.declared.key.Key.{Key}
 use Rattle.hcc_cache.specs.declared.cache.Cache.{Cache}
@@ -215,6 +216,7 @@ module _ {T : Type 0} (fits : T → Key → List ℕ → Type 0) (cache : Cache 
     once = so_far.once;
     alike = λ r q h k a b name here there on off. so_far.alike r q h k a b name here there
         (sym (keeps.all h) ∙ on) (sym (keeps.all k) ∙ off);
+    kinds = λ r h held full on. so_far.kinds r h held full (sym (keeps.all h) ∙ on);
   }
 
   -- or one
@@ -239,6 +241,7 @@ module _ {T : Type 0} (fits : T → Key → List ℕ → Type 0) (cache : Cache 
     once = so_far.once;
     alike = λ r q h k a b name here there on off. so_far.alike r q h k a b name here there
         (sym (keeps.all h) ∙ on) (sym (keeps.all k) ∙ off);
+    kinds = λ r h held full on. so_far.kinds r h held full (sym (keeps.all h) ∙ on);
   }
 
   pub on_register : (s : State) (client : Client T) (handles : List Filled) (r : ℕ)
@@ -260,7 +263,7 @@ module _ {T : Type 0} (fits : T → Key → List ℕ → Type 0) (cache : Cache 
       → Gains cache handle held old new
       → fits cache.tag held.insertion.key held.insertion.value
       → at handles r ≡ None → IsAlike old handles held → AreFilled fits cache config s old handles
-      → AreFilled fits cache config (with_filled s r held.insertion) new
+      → AreFilled fits cache config (with_filled s r held.insertion (is_some held.standing)) new
       (filled_with handles r handle)
   more_filled s old new handles r handle held known self gains right empty fresh so_far = record {
     known = known;
@@ -276,6 +279,7 @@ module _ {T : Type 0} (fits : T → Key → List ℕ → Type 0) (cache : Cache 
     apart = apart;
     count = gains.count ∙ ap (λ n. n + 1) so_far.count ∙ sym (one_more handles r handle);
     once = once_filled handles r handle so_far.once empty;
+    kinds = kinds;
     alike = alike;
   }
     where
@@ -348,6 +352,21 @@ module _ {T : Type 0} (fits : T → Key → List ℕ → Type 0) (cache : Cache 
       old_held q h a other full on =
           sym (gains.others h (other_held q h (old_at q h other full))) ∙ on
 
+      kinds : (q : ℕ) (h : Handle) (a : Held) → at (filled_with handles r handle) q ≡ Some h
+          → held_of cache new h ≡ Some a
+          → with_register s.alone r (is_some held.standing) q ≡ is_some a.standing
+      kinds q h a here on =
+          elim (cases_eq q r) [
+            | inl same ↦
+                let yes : (q == r) ≡ true = search (rules, tests) in
+                rw yes
+                (ap (λ (x : Held). is_some x.standing) (sym (new_held q h a same here on)))
+            | inr other ↦
+                let no : (q == r) ≡ false = search (rules, tests) in
+                rw no
+                (so_far.kinds q h a (old_at q h other here) (old_held q h a other here on))
+          ]
+
       alike : (q p : ℕ) (h k : Handle) (a b : Held) (name : ℕ)
           → at (filled_with handles r handle) q ≡ Some h
           → at (filled_with handles r handle) p ≡ Some k → held_of cache new h ≡ Some a
@@ -399,6 +418,8 @@ module _ {T : Type 0} (fits : T → Key → List ℕ → Type 0) (cache : Cache 
     count = let less = one_less handles r handle so_far.once full in
         let whole = so_far.count in let fewer = loses.count in omega arith;
     once = once_emptied handles r so_far.once;
+    kinds = λ q h held here on. so_far.kinds q h held (old_at q h here)
+        (sym (loses.others h (not_gone q h here)) ∙ on);
     alike = λ q p h k a b name here there on off. so_far.alike q p h k a b name (old_at q h here)
         (old_at p k there) (sym (loses.others h (not_gone q h here)) ∙ on)
         (sym (loses.others k (not_gone p k there)) ∙ off);

@@ -20,7 +20,7 @@ use Rattle.hcc_player.specs.RunStates.{IsRefused, MayHold, MayInsert, RefusesIns
 use Rattle.hcc_player.specs.RunStates.{State, States, with_emptied, with_filled, with_serial}
 use Rattle.hcc_player.specs.RunStates.{with_state}
 use Rattle.hcc_player.proofs.BoundedStates.{IsBounded, bounded_emptied, bounded_filled, bounded_with}
-use Rattle.hcc_player.proofs.BoundedStates.{charge_bound, covers_bounded}
+use Rattle.hcc_player.proofs.BoundedStates.{charge_bound, covers_bounded, entries_bounded}
 
 -- Texts.
 
@@ -117,9 +117,9 @@ module _ (Puts : Key → List ℕ → Type 0) (config : Config) where
             elim (insert_choice s t) [
               | inl may ↦ record {
                 answer = answers.Standalone;
-                next = with_filled s r (record { key = k; value = v; charge = t });
+                next = with_filled s r (record { key = k; value = v; charge = t }) true;
                 right = (e, (room, may, refl));
-                bounded = bounded_filled s r _ b;
+                bounded = bounded_filled s r _ true b;
               }
               | inr refused ↦ record {
                 answer = answers.Refused refused.0;
@@ -168,9 +168,9 @@ module _ (Puts : Key → List ℕ → Type 0) (config : Config) where
       elim (look_choice s) [
         | inl may ↦ record {
           answer = answers.Held;
-          next = with_filled s r held;
+          next = with_filled s r held (s.alone g);
           right = (e, may, (held, f, refl));
-          bounded = bounded_filled s r held b;
+          bounded = bounded_filled s r held (s.alone g) b;
         }
         | inr refused ↦ record {
           answer = answers.Refused refused.0;
@@ -243,9 +243,9 @@ module _ (Puts : Key → List ℕ → Type 0) (config : Config) where
       let most = charge_bound s b.0 in
       let covers = covers_bounded s b in
       record {
-        answer = answers.Totals most most 0;
+        answer = answers.Totals most most b.0;
         next = s;
-        right = (covers, covers, refl);
+        right = (covers, covers, entries_bounded s b, refl);
         bounded = b;
       }
   choice s b (calls.Word shard slot) = record {

@@ -181,3 +181,23 @@ module _ {A I : Type 0} (charge : A → ℕ) (weight : I → ℕ) (On : A → I 
           let all = ap (total weight) c.is ∙ total_cut weight h.0 c.front c.back in
           let mine = h.3 in
           omega arith
+
+-- as many ones as members
+pub total_ones : {A : Type 0} (xs : List A) → total (λ (x : A). 1) xs ≡ length xs
+total_ones [] = refl
+total_ones (x ∷ xs) = let rest = total_ones xs in omega arith
+
+module _ {A I : Type 0} (On : A → I → Type 0) (Same : A → A → Type 0)
+    (one : (a b : A) (i : I) → On a i → On b i → Same a b) where
+  -- different ones that each stand for one of these are no more than these
+  pub count_within : (list : List A) (items : List I)
+      → ((k : ℕ) (a : A) → slice_get list k ≡ Some a → (i : I) × On a i × Member i items)
+      → ((j k : ℕ) (a b : A) → slice_get list j ≡ Some a → slice_get list k ≡ Some b → Same a b
+      → j ≡ k)
+      → length list ≤ length items
+  count_within list items stands apart =
+      let sum = sum_within (λ (a : A). 1) (λ (i : I). 1) On Same one list items
+      (λ k a at. let h = stands k a at in inr (h.0, h.1, h.2, omega arith)) apart in
+      let few = total_ones list in
+      let many = total_ones items in
+      omega arith

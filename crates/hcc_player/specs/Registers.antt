@@ -1,6 +1,6 @@
 -- The registers of a client: which handles they hold, and on which entries these are.
 use Rattle.std.specs.Prelude.{◌≡◌, ◌==◌, ℕ, ◌+◌, List, [], ◌∷◌, ◌++◌, Option, Some, None, length}
-use Rattle.std.specs.Prelude.{not}
+use Rattle.std.specs.Prelude.{is_some, not}
 use Rattle.std.specs.List.{filter, find}
 use Rattle.std.specs.Option.{option_map}
 use Rattle.hcc_rule.specs.declared.key.Key.{Key}
@@ -71,6 +71,9 @@ module _ {T : Type 0} (fits : T → Key → List ℕ → Type 0) (cache : Cache 
           → at handles s ≡ Some handle → r ≡ s
       pub count : held_by client ≡ length handles
       pub once : AreOnce handles
+      -- an entry stands alone where that is told
+      pub kinds : (r : ℕ) (h : Handle) (held : Held) → at handles r ≡ Some h
+          → held_of cache client h ≡ Some held → s.alone r ≡ is_some held.standing
       -- on one standalone entry there is one insertion
       pub alike : (r q : ℕ) (h k : Handle) (a b : Held) (name : ℕ) → at handles r ≡ Some h
           → at handles q ≡ Some k → held_of cache client h ≡ Some a

@@ -1,6 +1,6 @@
 -- What the lines of a trace of calls are answered: which answers are right, and their texts.
 use Rattle.std.specs.Prelude.{◌≡◌, ℕ, List, [], ◌∷◌, ◌++◌, Some, Result, Ok, Err}
-use Rattle.std.specs.Prelude.{codes, decimal, slice_get}
+use Rattle.std.specs.Prelude.{true, false, codes, decimal, slice_get}
 use Rattle.std.specs.Int.{to_be_bytes}
 use Rattle.std.specs.List.{flat_map}
 use mir.Syntax.{w64}
@@ -21,10 +21,10 @@ use Rattle.hcc_player.specs.declared.run.call.Call.TheVariants as calls
 use Rattle.hcc_player.specs.declared.run.call.RunLine.{RunLine}
 use Rattle.hcc_player.specs.declared.sums.Sums.{Sums}
 use Rattle.hcc_player.specs.Report.{sums_text}
-use Rattle.hcc_player.specs.RunStates.{CoversHeld, IsEmpty, IsFull, IsPinned, IsRefused, MayHold}
-use Rattle.hcc_player.specs.RunStates.{MayInsert, RefusesInsert, RefusesPin, State, States}
-use Rattle.hcc_player.specs.RunStates.{new_states, with_emptied, with_filled, with_serial}
-use Rattle.hcc_player.specs.RunStates.{with_state}
+use Rattle.hcc_player.specs.RunStates.{CoversEntries, CoversHeld, IsEmpty, IsFull, IsPinned}
+use Rattle.hcc_player.specs.RunStates.{IsRefused, MayHold, MayInsert, RefusesInsert, RefusesPin}
+use Rattle.hcc_player.specs.RunStates.{State, States, new_states, with_emptied, with_filled}
+use Rattle.hcc_player.specs.RunStates.{with_serial, with_state}
 use Rattle.hcc_player.specs.Text.{byte_text, value_text}
 
 -- Which answers are right.
@@ -35,9 +35,9 @@ module _ (Puts : Key → List ℕ → Type 0) (config : Config) where
   -- comes exactly where the register to be filled is full, and else `none` exactly where the
   -- register to be read is empty. Refusals that change nothing come exactly where they are due. A
   -- register is filled with its own line's insertion, with what another register holds, or by a
-  -- hit: that is on one insertion of the key, of a value that the trace inserts under it. A value
-  -- is that of the insertion that the register holds. Two of the totals are at least what the
-  -- registers hold.
+  -- hit: that is on one insertion of the key, of a value that the trace inserts under it, with an
+  -- entry of the table. A value is that of the insertion that the register holds. The totals are at
+  -- least what the registers hold: the occupancy, their entries of the table.
   unfoldable pub IsRight : State → Call → Answer → State → Type 0
   IsRight s (calls.Insert key charge priority value) answers.Placed new =
       MayInsert config s charge × (new ≡ with_serial s)
@@ -49,17 +49,17 @@ module _ (Puts : Key → List ℕ → Type 0) (config : Config) where
       IsFull s register × (new ≡ s)
   IsRight s (calls.Pin register key charge priority value) answers.Placed new =
       IsEmpty s register × IsPinned config s register
-      (record { key = key; value = value; charge = charge }) new
+      (record { key = key; value = value; charge = charge }) false new
   IsRight s (calls.Pin register key charge priority value) answers.Standalone new =
       IsEmpty s register × IsPinned config s register
-      (record { key = key; value = value; charge = charge }) new
+      (record { key = key; value = value; charge = charge }) true new
   IsRight s (calls.Pin register key charge priority value) (answers.Refused error) new =
       IsEmpty s register × RefusesPin config charge error s new
   IsRight s (calls.Get register key) answers.Busy new = IsFull s register × (new ≡ s)
   IsRight s (calls.Get register key) answers.Hit new =
       IsEmpty s register × MayHold config s
       × ((held : Insertion) × (held.key ≡ key) × Puts key held.value
-      × (new ≡ with_filled s register held))
+      × (new ≡ with_filled s register held false))
   IsRight s (calls.Get register key) answers.Miss new =
       IsEmpty s register × MayHold config s × (new ≡ s)
   IsRight s (calls.Get register key) (answers.Refused error) new =
@@ -70,7 +70,7 @@ module _ (Puts : Key → List ℕ → Type 0) (config : Config) where
   IsRight s (calls.Fork register from) answers.Held new =
       IsEmpty s register × MayHold config s
       × ((held : Insertion) × (s.registers from ≡ Some held)
-      × (new ≡ with_filled s register held))
+      × (new ≡ with_filled s register held (s.alone from)))
   IsRight s (calls.Fork register from) (answers.Refused error) new =
       IsEmpty s register × IsFull s from × IsRefused config error s × (new ≡ s)
   IsRight s (calls.Release register useful erase) answers.Freed new =
@@ -85,7 +85,7 @@ module _ (Puts : Key → List ℕ → Type 0) (config : Config) where
   IsRight s (calls.Value register) answers.Nothing new = IsEmpty s register × (new ≡ s)
   IsRight s (calls.Erase key) (answers.Erased count) new = new ≡ s
   IsRight s calls.Totals (answers.Totals usage pinned occupancy) new =
-      CoversHeld s usage × CoversHeld s pinned × (new ≡ s)
+      CoversHeld s usage × CoversHeld s pinned × CoversEntries s occupancy × (new ≡ s)
   IsRight s (calls.Word shard slot) (answers.Word word displaced) new = new ≡ s
   IsRight s calls.Stats (answers.Stats stats) new = new ≡ s
   IsRight s call answer new = ⊥

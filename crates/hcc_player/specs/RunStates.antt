@@ -1,6 +1,6 @@
 -- What the lines and answers of a trace of calls tell of its clients, so far.
-use Rattle.std.specs.Prelude.{◌≡◌, ℕ, ◌+◌, ◌-◌, ◌<◌, ◌≤◌, ◌==◌, true, List, Option, Some, None}
-use Rattle.std.specs.Prelude.{IsSome, slice_get, if◌then◌else◌}
+use Rattle.std.specs.Prelude.{◌≡◌, ℕ, ◌+◌, ◌-◌, ◌<◌, ◌≤◌, ◌==◌, true, false, Bool, List, Option}
+use Rattle.std.specs.Prelude.{Some, None, IsSome, length, slice_get, if◌then◌else◌}
 use Rattle.hcc_core.specs.Sums.{total}
 use Rattle.hcc_cache.specs.declared.config.Config.{Config}
 use Rattle.hcc_cache.specs.declared.errors.InsertError.{InsertError}
@@ -9,27 +9,36 @@ use Rattle.hcc_cache.specs.Clients.{Insertion}
 use Rattle.hcc_cache.specs.Configs.{shard_capacity}
 
 -- What is told of a client: the insertion on whose entry each of its registers is, none where it is
--- empty; how many registers are full; and how many serials were used.
+-- empty; whether the entry of a full one stands alone, outside the table; how many registers are
+-- full; and how many serials were used.
 pub record State : Type 0 where
   pub registers : ℕ → Option Insertion
+  pub alone : ℕ → Bool
   pub full : ℕ
   pub used : ℕ
 
 abbrev pub new_state : State
-new_state = record { registers = λ register. None; full = 0; used = 0 }
+new_state =
+    record { registers = λ register. None; alone = λ register. false; full = 0; used = 0 }
 
 -- one register changed
-abbrev pub with_register : (ℕ → Option Insertion) → ℕ → Option Insertion → ℕ → Option Insertion
-with_register registers register held r = if r == register then held else registers r
+abbrev pub with_register : {A : Type 0} → (ℕ → A) → ℕ → A → ℕ → A
+with_register registers register told r = if r == register then told else registers r
 
 -- a serial more was used
 abbrev pub with_serial : State → State
-with_serial s = record { registers = s.registers; full = s.full; used = s.used + 1 }
+with_serial s = record {
+  registers = s.registers;
+  alone = s.alone;
+  full = s.full;
+  used = s.used + 1;
+}
 
--- an empty register was filled, by a handle that used a serial
-abbrev pub with_filled : State → ℕ → Insertion → State
-with_filled s register held = record {
+-- an empty register was filled, by a handle that used a serial, on a standalone entry or not
+abbrev pub with_filled : State → ℕ → Insertion → (alone : Bool) → State
+with_filled s register held alone = record {
   registers = with_register s.registers register (Some held);
+  alone = with_register s.alone register alone;
   full = s.full + 1;
   used = s.used + 1;
 }
@@ -38,6 +47,7 @@ with_filled s register held = record {
 abbrev pub with_emptied : State → ℕ → State
 with_emptied s register = record {
   registers = with_register s.registers register None;
+  alone = s.alone;
   full = s.full - 1;
   used = s.used;
 }
@@ -65,6 +75,18 @@ CoversHeld s sum =
     (registers : List ℕ) → AreApart s registers
     → total (λ r. charge_of (s.registers r)) registers ≤ sum
 
+-- these registers are full, each with an entry of the table
+abbrev pub AreInTable : State → List ℕ → Type 0
+AreInTable s registers =
+    (k r : ℕ) → slice_get registers k ≡ Some r → IsFull s r × (s.alone r ≡ false)
+
+-- A count is at least how many entries of the table the registers hold, each insertion counted
+-- once.
+abbrev pub CoversEntries : State → (count : ℕ) → Type 0
+CoversEntries s count =
+    (registers : List ℕ) → AreApart s registers → AreInTable s registers
+    → length registers ≤ count
+
 -- By the options: what a client that stands so may do, and why it may not.
 module _ (config : Config) where
   abbrev pub MayHold : State → Type 0
@@ -74,11 +96,12 @@ module _ (config : Config) where
   MayInsert s charge =
       (s.used < config.serials) × (config.strict ≡ true → charge ≤ shard_capacity config)
 
-  -- an insertion with a handle filled a register
-  abbrev pub IsPinned : (old : State) → (register : ℕ) → Insertion → (new : State) → Type 0
-  IsPinned old register made new =
+  -- an insertion with a handle filled a register, whose entry stands alone or not
+  abbrev pub IsPinned : (old : State) → (register : ℕ) → Insertion → (alone : Bool)
+      → (new : State) → Type 0
+  IsPinned old register made alone new =
       (old.full < config.handles) × MayInsert old made.charge
-      × (new ≡ with_filled old register made)
+      × (new ≡ with_filled old register made alone)
 
   -- a handle is refused so
   abbrev pub IsRefused : InsertError → State → Type 0
