@@ -202,14 +202,14 @@ pub fn copy_bytes<T: Tag, A: Allocator>(
     ensures steps { MakesAtMost (words_for count) seat.old seat.new }
 {
     let whole = count / 8;
-    let eights = whole / 8;
-    for eight in 0..eights {
-        // The compiler unrolls these.
-        for part in 0..8 {
-            copy_word(table, seat, pin, first, 8 * eight + part, 8, buffer);
+    let fours = whole / 4;
+    for four in 0..fours {
+        // These are unrolled; of more the compiler reckons each address anew.
+        for part in 0..4 {
+            copy_word(table, seat, pin, first, 4 * four + part, 8, buffer);
         }
     }
-    for index in 8 * eights..whole {
+    for index in 4 * fours..whole {
         copy_word(table, seat, pin, first, index, 8, buffer);
     }
     let rest = count % 8;

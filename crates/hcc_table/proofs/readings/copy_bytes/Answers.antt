@@ -6,13 +6,13 @@ use Rattle.hcc_table.proofs.readings.copy_bytes.Goals as goal
 pub loop-part-preserved : goal.loop-part-preserved
 loop-part-preserved g c =
     let told = c.copy_word.ensures in
-    let at : ℕ = 8 * c.loop-eight.eight + c.loop-part.part in
-    let low : c.loop-eight.eight < c.args.count / 8 / 8 = c.loop-eight-test.true in
-    let few : c.loop-part.part < 8 = c.loop-part-test.true in
+    let at : ℕ = 4 * c.loop-four.four + c.loop-part.part in
+    let low : c.loop-four.four < c.args.count / 8 / 4 = c.loop-four-test.true in
+    let few : c.loop-part.part < 4 = c.loop-part-test.true in
     let so_far = c.loop-part.invariant.1 in
     let one = told.steps in (
       reads_next c.args.pin.name c.args.count c.args.seat.now c.args.buffer.now
-          c.requires.exact at (8 * c.loop-eight.eight + (c.loop-part.part + 1))
+          c.requires.exact at (4 * c.loop-four.four + (c.loop-part.part + 1))
           c.loop-part.seat c.copy_word.new.seat c.loop-part.buffer c.copy_word.new.buffer
           (omega arith) (omega arith) c.loop-part.invariant.0 told.seat told.view told.bytes,
       omega arith,

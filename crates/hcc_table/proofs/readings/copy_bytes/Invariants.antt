@@ -4,15 +4,15 @@ use Rattle.hcc_table.specs.Seeking.{Seeks}
 use Rattle.hcc_table.proofs.Values.{IsReading}
 use Rattle.hcc_table.proofs.readings.copy_bytes.Given as goal
 
-abbrev pub invariant-loop-eight : goal.invariant-loop-eight
-invariant-loop-eight g l =
-    IsReading l.pin.name (8 * l.eight) l.fn.seat l.seat l.fn.buffer l.buffer
-    × (made l.seat ≤ made l.fn.seat + 8 * l.eight) × Seeks l.table l.fn.seat l.seat
+abbrev pub invariant-loop-four : goal.invariant-loop-four
+invariant-loop-four g l =
+    IsReading l.pin.name (4 * l.four) l.fn.seat l.seat l.fn.buffer l.buffer
+    × (made l.seat ≤ made l.fn.seat + 4 * l.four) × Seeks l.table l.fn.seat l.seat
 
 abbrev pub invariant-loop-part : goal.invariant-loop-part
 invariant-loop-part g l =
-    IsReading l.pin.name (8 * l.eight + l.part) l.fn.seat l.seat l.fn.buffer l.buffer
-    × (made l.seat ≤ made l.fn.seat + (8 * l.eight + l.part)) × Seeks l.table l.fn.seat l.seat
+    IsReading l.pin.name (4 * l.four + l.part) l.fn.seat l.seat l.fn.buffer l.buffer
+    × (made l.seat ≤ made l.fn.seat + (4 * l.four + l.part)) × Seeks l.table l.fn.seat l.seat
 
 abbrev pub invariant-loop-index : goal.invariant-loop-index
 invariant-loop-index g l =
