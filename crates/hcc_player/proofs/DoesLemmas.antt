@@ -26,25 +26,25 @@ module _ {T : Type 0} (fits : T → Key → List ℕ → Type 0) (cache : Cache 
       → OnlyAt (shard_in cache key) old new → at now r ≡ Some handle
       → Does fits cache (calls.Pin r key charge priority value) (placed_answer told) old new was now
   unfolding Does
-  pin_did old new was now r k t q v handle inserted.Placed inserts evicts words shown others filled =
+  pin_did old new was now r k t q v handle inserted.Placed inserts evicts w shown others on =
       record {
         handle = handle;
-        filled = filled;
+        filled = on;
         inserts = inserts;
         evicts = evicts;
-        words = words;
+        words = w;
         shown = shown;
         others = others;
       }
-  pin_did old new was now r k t q v handle inserted.Standalone inserts evicts words shown others filled =
+  pin_did old new was now r k t q v handle inserted.Standalone inserts evicts w shown others on =
       record {
         handle = handle;
-        filled = filled;
+        filled = on;
         inserts = inserts;
         evicts = evicts;
-        words = words;
+        words = w;
         shown = shown;
         others = others;
       }
-  pin_did old new was now r k t q v handle inserted.Dropped inserts evicts words shown others filled =
+  pin_did old new was now r k t q v handle inserted.Dropped inserts evicts w shown others on =
       absurd inserts
