@@ -7,23 +7,44 @@ use Rattle.hcc_cache.specs.declared.handle.Handle.{Handle}
 use Rattle.hcc_cache.specs.declared.inserting.Inserted.{Inserted}
 use Rattle.hcc_cache.specs.declared.inserting.Inserted.TheVariants as inserted
 use Rattle.hcc_cache.specs.declared.priority.Priority.{Priority}
+use Rattle.hcc_cache.specs.Calls.{OnlyAt, shard_in}
 use Rattle.hcc_cache.specs.Inserts.{InsertsPinnedAt, InsertsWith}
+use Rattle.hcc_cache.specs.Moments.{KnowsShown}
 use Rattle.hcc_player.specs.declared.run.call.Call.TheVariants as calls
 use Rattle.hcc_player.specs.declared.run.registers.Filled.{Filled}
 use Rattle.hcc_player.specs.Registers.{at}
 use Rattle.hcc_player.specs.RunAnswers.{placed_answer}
-use Rattle.hcc_player.specs.RunCalls.{Does}
+use Rattle.hcc_player.specs.RunCalls.{Does, IsOfWords}
 
 module _ {T : Type 0} (fits : T → Key → List ℕ → Type 0) (cache : Cache T) where
   -- an insertion with a handle
   pub pin_did : (old new : Client T) (was now : List Filled) (r : ℕ) (key : Key)
       (charge : ℕ) (priority : Priority) (value : List ℕ) (handle : Handle) (told : Inserted)
       → InsertsWith cache key charge priority value handle told old new
-      → InsertsPinnedAt cache fits key charge priority told old new → at now r ≡ Some handle
+      → InsertsPinnedAt cache fits key charge priority told old new → IsOfWords key
+      → (cache.geometry.clients ≡ 1 → told ≡ inserted.Placed → KnowsShown cache key new)
+      → OnlyAt (shard_in cache key) old new → at now r ≡ Some handle
       → Does fits cache (calls.Pin r key charge priority value) (placed_answer told) old new was now
   unfolding Does
-  pin_did old new was now r k t q v handle inserted.Placed inserts evicts filled =
-      record { handle = handle; filled = filled; inserts = inserts; evicts = evicts }
-  pin_did old new was now r k t q v handle inserted.Standalone inserts evicts filled =
-      record { handle = handle; filled = filled; inserts = inserts; evicts = evicts }
-  pin_did old new was now r k t q v handle inserted.Dropped inserts evicts filled = absurd inserts
+  pin_did old new was now r k t q v handle inserted.Placed inserts evicts w shown others on =
+      record {
+        handle = handle;
+        filled = on;
+        inserts = inserts;
+        evicts = evicts;
+        words = w;
+        shown = shown;
+        others = others;
+      }
+  pin_did old new was now r k t q v handle inserted.Standalone inserts evicts w shown others on =
+      record {
+        handle = handle;
+        filled = on;
+        inserts = inserts;
+        evicts = evicts;
+        words = w;
+        shown = shown;
+        others = others;
+      }
+  pin_did old new was now r k t q v handle inserted.Dropped inserts evicts w shown others on =
+      absurd inserts

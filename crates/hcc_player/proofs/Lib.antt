@@ -37,6 +37,9 @@ pub mod CallLemmas
 pub mod DoesLemmas
 pub mod EndLemmas
 pub mod AloneLemmas
+pub mod ToldWorlds
+pub mod ToldShows
+pub mod ToldLemmas
 pub mod PlayRunLemmas
 pub mod Fine
 pub mod Playing

@@ -202,7 +202,7 @@ module _ {T : Type 0} (fits : T → Key → List ℕ → Type 0) (cache : Cache 
       (none_works shard old r.between _ _ r.sees refl) (none_rests r.between new r.reads.rests)
 
   -- an insertion, by what it told
-  inserted_adds : (key : Key) (charge : ℕ) (priority : Priority) (value : List ℕ)
+  pub inserted_adds : (key : Key) (charge : ℕ) (priority : Priority) (value : List ℕ)
       (told : Result Inserted InsertError) (answer : Answer) (old new : Client T)
       → answer ≡ insert_answer told → Inserts cache key charge priority value told old new
       → InsertsAt cache fits key charge priority told old new

@@ -28,6 +28,7 @@ use Rattle.hcc_player.specs.RunLine.{run_line}
 use Rattle.hcc_player.specs.Script.{script_of}
 use Rattle.hcc_player.specs.RunAlone.{AreAllExact}
 use Rattle.hcc_player.specs.Runs.{AreEmpty, MakesAll}
+use Rattle.hcc_player.specs.RunTold.{AreAllTold, untold}
 use Rattle.hcc_player.specs.PlayRun.{Agree, Answered, AnsweredPart, AreManned, Ended, EndedPart}
 use Rattle.hcc_player.specs.PlayRun.{EndsRun, FitsIn, IsOutput, PlaysAll, Writes, WritesFront}
 use Rattle.hcc_player.specs.Registers.{AreFilled}
@@ -122,7 +123,8 @@ pub play_whole : (tag : TraceTag) (cache : Cache TraceTag) (config : Config)
     → Answered (Inserts lines) fits_trace cache config lines first last empty kept old mid []
     pending
     → ((told : List Answer) (makes : MakesAll fits_trace cache lines told first last empty kept)
-    → config.clients ≡ 1 → AreAllExact cache fits_trace lines told first last empty kept makes)
+    → config.clients ≡ 1 → AreAllExact cache fits_trace lines told first last empty kept makes
+    × AreAllTold cache fits_trace untold lines told first last empty kept makes)
     → Ended fits_trace cache last kept mid new pending → PlaysAll config lines old new
 play_whole tag cache config lines first last empty kept old mid new pending opened alike nothing
     answered exact ended =
@@ -150,7 +152,8 @@ play_whole tag cache config lines first last empty kept old mid new pending open
         leaves = leaves_placed fits_trace config tag cache lines answered.0 first last empty kept
             ended.2.0 opened alike answered.3 ended.2.1 ended.0 ended.2.2.slots
             ended.2.2.charges;
-        alone = exact answered.0 answered.3;
+        alone = λ one. (exact answered.0 answered.3 one).0;
+        foretold = λ one. (exact answered.0 answered.3 one).1;
       },
       all_out old new (text ++ more) (leaves_less old mid new (text ++ more) (pending ++ more) []
           (leaves_more old mid text pending more answered.4)

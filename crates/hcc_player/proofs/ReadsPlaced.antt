@@ -34,14 +34,13 @@ use Rattle.hcc_player.specs.declared.sums.Sums.{Sums}
 use Rattle.hcc_player.specs.BlocksLeft.{LeavesBlocks, block_at, length_of, reads_by}
 use Rattle.hcc_player.specs.Reading.{Counts, ReadsLine, ReadsLines, counts_of, no_counts}
 use Rattle.hcc_player.specs.RunAnswers.{insert_answer}
-use Rattle.hcc_player.specs.RunCalls.{Does}
 use Rattle.hcc_player.specs.Runs.{placed_at, placed_by}
 use Rattle.hcc_player.specs.RunStates.{charge_of}
 use Rattle.hcc_player.specs.Tally.{found_by}
 use Rattle.hcc_player.proofs.BlocksLeft.{copies_none, lacks_none}
 use Rattle.hcc_player.proofs.LeavesLemmas.{no_more}
 use Rattle.hcc_player.proofs.LeftLemmas.{new_made}
-use Rattle.hcc_player.proofs.MadeLemmas.{Adds, MadeNone, adds, made_in, none_same, none_then}
+use Rattle.hcc_player.proofs.MadeLemmas.{Adds, MadeNone, inserted_adds, made_in, none_same, none_then}
 use Rattle.hcc_player.proofs.PlacedLeft.{FromLines, left_placed}
 use Rattle.hcc_player.proofs.PlacedLemmas.{MadeBy, Placed, adds_here, made_first, numbers, only_here}
 use Rattle.hcc_player.proofs.PlacedLemmas.{others_none, placed_on, with_placed}
@@ -186,14 +185,9 @@ module _ {T : Type 0} (fits : T → Key → List ℕ → Type 0) (cache : Cache 
   hands_adds : (line : BlockRead) (value : List ℕ) (old new : Client T)
       (hands : Hands cache (key_of line.file line.index) fits value old new)
       → Adds cache (placed_by (handed line value) (insert_answer hands.answer)) old new
-  unfolding Does
   hands_adds line value old new hands =
-      adds fits cache (handed line value) (insert_answer hands.answer) old new [] [] (record {
-        told = hands.answer;
-        answer_is = refl;
-        inserts = hands.inserts;
-        evicts = hands.evicts;
-      })
+      inserted_adds fits cache (key_of line.file line.index) (length value) Low value hands.answer
+      (insert_answer hands.answer) old new refl hands.inserts hands.evicts
 
   block_placed : (k : ℕ) (line : BlockRead) (was is : Client T)
       → Loads cache (key_of line.file line.index) fits

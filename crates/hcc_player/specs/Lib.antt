@@ -19,6 +19,7 @@ pub mod RunCalls
 pub mod TraceTag
 pub mod Runs
 pub mod RunAlone
+pub mod RunTold
 pub mod RunOf
 pub mod PlayRun
 pub mod BlocksLine

@@ -1,5 +1,5 @@
 -- What the lines of a trace of calls do on the cache, as its own calls say it.
-use Rattle.std.specs.Prelude.{◌≡◌, ℕ, ◌≤◌, ◌+◌, true, false, Bool, List, Option, Some, None, Result}
+use Rattle.std.specs.Prelude.{◌≡◌, ℕ, ◌≤◌, ◌<◌, ◌+◌, ◌^◌, true, false, Bool, List, Option, Some, None, Result, Ok}
 use Rattle.hcc_rule.specs.declared.key.Key.{Key}
 use Rattle.hcc_rule.specs.Looked.{after_look}
 use Rattle.hcc_shard.specs.Callers.{LoadsDisplacement, LoadsWord}
@@ -10,11 +10,13 @@ use Rattle.hcc_cache.specs.declared.handle.Handle.{Handle}
 use Rattle.hcc_cache.specs.declared.inserting.Inserted.{Inserted}
 use Rattle.hcc_cache.specs.declared.inserting.Inserted.TheVariants as inserted
 use Rattle.hcc_cache.specs.declared.priority.Priority.{Priority}
-use Rattle.hcc_cache.specs.Calls.{AtShard, Erases, ErasesFor, Finds, GivesUp, Misses, Reads}
-use Rattle.hcc_cache.specs.Calls.{Releases, Rerefs, SearchesFor, Works}
+use Rattle.hcc_cache.specs.Calls.{AtShard, Erases, ErasesFor, Finds, GivesUp, Misses, OnlyAt, Reads}
+use Rattle.hcc_cache.specs.Calls.{Releases, Rerefs, SearchesFor, Works, shard_in}
 use Rattle.hcc_cache.specs.Clients.{Held, held_of, view_at}
 use Rattle.hcc_cache.specs.Inserts.{Inserts, InsertsAt, InsertsPinnedAt, InsertsWith}
 use Rattle.hcc_cache.specs.Inserts.{RefusesPinnedAt, RefusesWith}
+use Rattle.hcc_cache.specs.Moments.{KnowsShown}
+use Rattle.hcc_cache.specs.Stays.{ReleasesIn, Stays, StaysWhereStanding}
 use Rattle.hcc_cache.specs.Totals.{LoadsEachOccupancy, LoadsEachUsage, LoadsUsages, SearchesAll}
 use Rattle.hcc_cache.specs.Totals.{charge_by, entries_by, made_by, no_stats, stats_over, taken_by}
 use Rattle.hcc_player.specs.declared.run.answer.Answer.{Answer}
@@ -25,6 +27,10 @@ use Rattle.hcc_player.specs.declared.run.registers.Filled.{Filled}
 use Rattle.hcc_player.specs.Registers.{at}
 use Rattle.hcc_player.specs.RunAnswers.{insert_answer}
 
+-- a key's numbers are words
+abbrev pub IsOfWords : Key → Type 0
+IsOfWords key = (key.w0 < 2 ^ 64) × (key.w1 < 2 ^ 64)
+
 module _ {T : Type 0} (fits : T → Key → List ℕ → Type 0) (cache : Cache T) where
   -- An insertion was made, and answered this.
   pub record MakesEntry (key : Key) (charge : ℕ) (priority : Priority) (value : List ℕ)
@@ -33,6 +39,9 @@ module _ {T : Type 0} (fits : T → Key → List ℕ → Type 0) (cache : Cache 
     pub answer_is : answer ≡ insert_answer told
     pub inserts : Inserts cache key charge priority value told old new
     pub evicts : InsertsAt cache fits key charge priority told old new
+    pub words : IsOfWords key
+    pub shown : cache.geometry.clients ≡ 1 → told ≡ Ok inserted.Placed → KnowsShown cache key new
+    pub others : OnlyAt (shard_in cache key) old new
 
   -- One was made that gave the handle which the register holds now.
   pub record MakesPinned (key : Key) (charge : ℕ) (priority : Priority) (value : List ℕ)
@@ -41,12 +50,16 @@ module _ {T : Type 0} (fits : T → Key → List ℕ → Type 0) (cache : Cache 
     pub filled : now ≡ Some handle
     pub inserts : InsertsWith cache key charge priority value handle told old new
     pub evicts : InsertsPinnedAt cache fits key charge priority told old new
+    pub words : IsOfWords key
+    pub shown : cache.geometry.clients ≡ 1 → told ≡ inserted.Placed → KnowsShown cache key new
+    pub others : OnlyAt (shard_in cache key) old new
 
   -- One was refused its handle, or its entry.
   pub record MakesNone (key : Key) (charge : ℕ) (priority : Priority) (value : List ℕ)
       (error : InsertError) (old new : Client T) : Type 0 where
     pub refuses : RefusesWith cache key charge priority value error old new
     pub evicts : RefusesPinnedAt cache fits key charge priority error old new
+    pub others : OnlyAt (shard_in cache key) old new
 
   -- A look-up found an entry, and its handle fills the register.
   pub record FindsInto (key : Key) (now : Option Handle) (old new : Client T) : Type 0 where
@@ -54,11 +67,15 @@ module _ {T : Type 0} (fits : T → Key → List ℕ → Type 0) (cache : Cache 
     pub filled : now ≡ Some handle
     pub finds : Finds cache fits key handle old new
     pub searched : SearchesFor cache fits key (Some handle) old new
+    pub words : IsOfWords key
+    pub stays : Stays cache old new
 
   -- One found none.
   pub record FindsNone (key : Key) (old new : Client T) : Type 0 where
     pub misses : Misses cache key old new
     pub searched : SearchesFor cache fits key None old new
+    pub words : IsOfWords key
+    pub stays : Stays cache old new
 
   -- The register holds one handle more on what the other holds.
   pub record RefersAgain (was now : Option Handle) (old new : Client T) : Type 0 where
@@ -67,6 +84,7 @@ module _ {T : Type 0} (fits : T → Key → List ℕ → Type 0) (cache : Cache 
     pub held : was ≡ Some handle
     pub filled : now ≡ Some more
     pub again : Rerefs cache handle more old new
+    pub stays : Stays cache old new
 
   -- The handle that the register held was given back, as a use or not.
   pub record GivesBack (useful erase freed : Bool) (was now : Option Handle) (old new : Client T)
@@ -76,6 +94,9 @@ module _ {T : Type 0} (fits : T → Key → List ℕ → Type 0) (cache : Cache 
     pub emptied : now ≡ None
     pub releases : Releases cache handle erase freed old new
     pub gives : GivesUp cache handle useful erase freed old new
+    pub by : ReleasesIn cache handle useful erase freed old new
+    pub stays : freed ≡ false → Stays cache old new
+    pub standing : StaysWhereStanding cache handle old new
 
   -- The value was read of what the register's handle stands for.
   pub record ReadsValue (value : List ℕ) (was : Option Handle) (old new : Client T) : Type 0 where
@@ -86,12 +107,16 @@ module _ {T : Type 0} (fits : T → Key → List ℕ → Type 0) (cache : Cache 
     pub value_is : value ≡ stands.insertion.value
     pub between : Client T
     pub measures : Reads cache old between
+    pub measured : Stays cache old between
     pub reads : Reads cache between new
+    pub stays : Stays cache between new
 
   -- The key was erased.
   pub record ErasesKey (key : Key) (count : ℕ) (old new : Client T) : Type 0 where
     pub erases : Erases cache key count old new
     pub searched : ErasesFor cache fits key count old new
+    pub words : IsOfWords key
+    pub others : OnlyAt (shard_in cache key) old new
 
   -- The three totals were read, one after the other. Each counts what the client holds; where it is
   -- the only one, what is pinned is just that, and what is there is what it made and didn't take.
@@ -102,6 +127,7 @@ module _ {T : Type 0} (fits : T → Key → List ℕ → Type 0) (cache : Cache 
     pub views : LoadsUsages old first
     pub charged : charge_by old ≤ usage
     pub searches : SearchesAll first second
+    pub stays : Stays cache first second
     pub held : charge_by first ≤ pinned
     pub alone : cache.geometry.clients ≡ 1 → pinned ≡ charge_by first
     pub counts : LoadsEachOccupancy cache occupancy second new
@@ -115,9 +141,11 @@ module _ {T : Type 0} (fits : T → Key → List ℕ → Type 0) (cache : Cache 
     pub loads : AtShard cache (λ there was is. LoadsWord there slot word was is) shard old between
     pub sees : Works shard old between (view_at shard old)
         (after_look slot word (view_at shard old))
+    pub looks : Stays cache old between
     pub counts : AtShard cache (λ there was is. LoadsDisplacement there slot displaced was is) shard
         between new
     pub reads : Reads cache between new
+    pub stays : Stays cache between new
 
   -- The client did nothing, and its registers hold what they held.
   pub record DoesNothing (old new : Client T) (was now : List Filled) : Type 0 where

@@ -1,4 +1,4 @@
-use Rattle.std.proofs.Common.{refl}
+use Rattle.std.proofs.Common.{refl, arith}
 use Rattle.hcc_player.specs.RunAnswers.{IsRight}
 use Rattle.hcc_player.specs.RunCalls.{Does}
 use Rattle.hcc_player.proofs.RegisterLemmas.{same_filled}
@@ -60,7 +60,12 @@ pub returns-in-Erase-clause-did : goal.returns-in-Erase-clause-did
 unfolding Does
 returns-in-Erase-clause-did g c =
     rw c.in-Erase.is
-    (record { erases = c.erase.ensures.erased; searched = c.erase.ensures.searched })
+    (record {
+      erases = c.erase.ensures.erased;
+      searched = c.erase.ensures.searched;
+      words = (omega arith, omega arith);
+      others = c.erase.ensures.counts.others;
+    })
 
 pub returns-in-Totals-clause-goes : goal.returns-in-Totals-clause-goes
 returns-in-Totals-clause-goes g c =

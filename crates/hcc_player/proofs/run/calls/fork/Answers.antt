@@ -80,6 +80,7 @@ returns-in-Ok-clause-did g c =
       filled = rw (c.fill.ensures, c.in_ok-reserve.ensures.same)
           (at_filled handles r c.in-Ok.handle empty);
       again = c.in-Ok.ensures.again;
+      stays = c.in-Ok.ensures.stays;
     }
 
 pub returns-in-Err-clause-goes : goal.returns-in-Err-clause-goes

@@ -1,4 +1,4 @@
-use Rattle.std.proofs.Common.{◌≡◌, true, None, Ok, Err, refl, sym, ◌∙◌}
+use Rattle.std.proofs.Common.{◌≡◌, true, None, Ok, Err, refl, sym, ◌∙◌, arith}
 use Rattle.std.specs.Prelude.{is_some}
 use Rattle.hcc_player.specs.Registers.{at}
 use Rattle.hcc_player.specs.RunAnswers.{IsRight}
@@ -55,6 +55,8 @@ returns-in-Ok-Some-clause-did g c =
           (at_filled handles r c.in-Ok-Some.handle empty);
       finds = rw c.in-Ok-Some.field-0-is at told.found;
       searched = rw c.in-Ok-Some.field-0-is at told.searched;
+      words = (omega arith, omega arith);
+      stays = told.stays;
     }
 
 pub returns-in-Ok-None-clause-goes : goal.returns-in-Ok-None-clause-goes
@@ -83,6 +85,8 @@ unfolding Does
 returns-in-Ok-None-clause-did g c = record {
   misses = rw c.in-Ok-None.field-0-is at c.in-Ok-None.ensures.missed;
   searched = rw c.in-Ok-None.field-0-is at c.in-Ok-None.ensures.searched;
+  words = (omega arith, omega arith);
+  stays = c.in-Ok-None.ensures.stays;
 }
 
 pub returns-in-Err-clause-goes : goal.returns-in-Err-clause-goes

@@ -1,4 +1,4 @@
-use Rattle.std.proofs.Common.{Ok, Err, refl}
+use Rattle.std.proofs.Common.{Ok, Err, refl, arith}
 use Rattle.hcc_player.specs.RunCalls.{Does}
 use Rattle.hcc_player.proofs.CallLemmas.{insert_goes}
 use Rattle.hcc_player.proofs.run.calls.insert.Goals as goal
@@ -18,6 +18,9 @@ returns-in-Ok-clause-did g c handles = record {
   answer_is = c.placed.ensures;
   inserts = c.in-Ok.ensures.inserted;
   evicts = c.in-Ok.ensures.evicts;
+  words = (omega arith, omega arith);
+  shown = c.in-Ok.ensures.shown;
+  others = c.in-Ok.ensures.others;
 }
 
 pub returns-in-Err-clause-goes : goal.returns-in-Err-clause-goes
@@ -34,4 +37,7 @@ returns-in-Err-clause-did g c handles = record {
   answer_is = refl;
   inserts = c.in-Err.ensures.inserted;
   evicts = c.in-Err.ensures.evicts;
+  words = (omega arith, omega arith);
+  shown = c.in-Err.ensures.shown;
+  others = c.in-Err.ensures.others;
 }

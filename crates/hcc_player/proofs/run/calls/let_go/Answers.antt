@@ -38,5 +38,8 @@ loop-filled-preserved g c =
             emptied = refl;
             releases = c.release.ensures.released;
             gives = c.release.ensures.gives;
+            by = c.release.ensures.by;
+            stays = c.release.ensures.stays;
+            standing = c.release.ensures.standing;
           }));
     }

@@ -1,4 +1,4 @@
-use Rattle.std.proofs.Common.{◌≡◌, true, None, refl, sym, ◌∙◌}
+use Rattle.std.proofs.Common.{◌≡◌, true, None, refl, sym, ◌∙◌, arith}
 use Rattle.std.specs.Prelude.{is_some}
 use Rattle.hcc_player.specs.Registers.{at}
 use Rattle.hcc_player.specs.RunAnswers.{IsRight}
@@ -67,11 +67,13 @@ returns-clause-did g c =
           (pin_did fits cache c.args.client.now c.insert_pinned.new.client handles
           w.fill.new.self.filled.items r c.args.key c.args.charge c.args.priority c.args.value
           w.in-Ok.handle w.in-Ok.inserted (rw c.into_vec.ensures at w.in-Ok.ensures.inserted)
-          w.in-Ok.ensures.evicts
+          w.in-Ok.ensures.evicts (omega arith, omega arith) w.in-Ok.ensures.shown
+          w.in-Ok.ensures.others
           (rw (w.fill.ensures, c.in_ok-reserve.ensures.same)
           (at_filled handles r w.in-Ok.handle empty)))
       | in-Err w ↦ rw w.result-is (record {
         refuses = rw c.into_vec.ensures at w.in-Err.ensures.inserted;
         evicts = w.in-Err.ensures.evicts;
+        others = w.in-Err.ensures.others;
       })
     ]

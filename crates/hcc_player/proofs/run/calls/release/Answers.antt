@@ -47,6 +47,9 @@ returns-then-release-clause-did g c =
       emptied = rw c.empty.ensures (at_emptied handles r);
       releases = rw c.if-release.true at c.release.ensures.released;
       gives = rw c.if-release.true at c.release.ensures.gives;
+      by = rw c.if-release.true at c.release.ensures.by;
+      stays = λ never. cc;
+      standing = c.release.ensures.standing;
     }
 
 pub returns-else-release-clause-goes : goal.returns-else-release-clause-goes
@@ -74,4 +77,7 @@ returns-else-release-clause-did g c =
       emptied = rw c.empty.ensures (at_emptied handles r);
       releases = rw c.if-release.false at c.release.ensures.released;
       gives = rw c.if-release.false at c.release.ensures.gives;
+      by = rw c.if-release.false at c.release.ensures.by;
+      stays = λ kept. c.release.ensures.stays c.if-release.false;
+      standing = c.release.ensures.standing;
     }

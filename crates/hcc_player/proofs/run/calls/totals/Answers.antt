@@ -48,6 +48,7 @@ returns-clause-did g c handles = record {
   views = c.usage-usage.ensures.views;
   charged = c.usage-usage.ensures.entries;
   searches = c.pinned_usage-pinned.ensures.views;
+  stays = c.pinned_usage-pinned.ensures.stays;
   held = c.pinned_usage-pinned.ensures.entries;
   alone = c.pinned_usage-pinned.ensures.alone;
   counts = c.occupancy-occupancy.ensures.loads;

@@ -75,5 +75,7 @@ returns-clause-did g c =
           c.from_vec.ensures bytes (c.in_ok-bytes.ensures.len ∙ len);
       between = c.value_len-len.new.client;
       measures = looked.reads;
+      measured = looked.stays;
       reads = read.reads;
+      stays = read.stays;
     }

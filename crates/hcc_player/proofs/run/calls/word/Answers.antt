@@ -26,6 +26,8 @@ returns-clause-did g c handles = record {
   between = c.word-word.new.client;
   loads = c.word-word.ensures.loads;
   sees = c.word-word.ensures.view;
+  looks = c.word-word.ensures.stays;
   counts = c.displacement-displaced.ensures.loads;
   reads = c.displacement-displaced.ensures.reads;
+  stays = c.displacement-displaced.ensures.stays;
 }

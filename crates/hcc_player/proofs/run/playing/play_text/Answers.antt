@@ -6,6 +6,7 @@ use Rattle.hcc_player.proofs.AloneLemmas.{exact_all}
 use Rattle.hcc_player.proofs.ByteLemmas.{on_error, on_error_so, on_ok_so}
 use Rattle.hcc_player.proofs.PlayRunLemmas.{answered_as, manned_new, part_as, play_cut}
 use Rattle.hcc_player.proofs.PlayRunLemmas.{play_stopped, play_unbegun, play_whole}
+use Rattle.hcc_player.proofs.ToldLemmas.{told_new}
 use Rattle.hcc_player.proofs.run.playing.play_text.Goals as goal
 
 pub returns-in_default-clause-part : goal.returns-in_default-clause-part
@@ -61,13 +62,20 @@ returns-clause-ok g c =
     c.in_ok-play_lines.ensures.ok)
     (λ told makes one.
     let is_of = c.in-Ok.ensures.made.cache_is in
-    exact_all fits_trace c.args.config tag cache is_of
+    let exact = exact_all fits_trace c.args.config tag cache is_of
     (c.law_lookups.ensures.first c.args.config tag cache is_of one)
     (c.law_erasures.ensures c.args.config tag cache is_of one)
     (c.law_totals.ensures.usage c.args.config tag cache is_of one)
     (c.law_totals.ensures.occupancy c.args.config tag cache is_of one)
     (ap (λ (g : Geometry). g.clients) is_of.geometry ∙ one) lines told first last empty kept
-    makes)) c.finish.ensures.ok
+    makes in (
+      exact,
+      told_new fits_trace c.args.config tag cache is_of one
+          (c.law_room.ensures.stores c.args.config tag cache is_of one)
+          (c.law_room.ensures.pins c.args.config tag cache is_of one)
+          (c.law_kept_shown.ensures.usage cache) (c.law_kept_shown.ensures.occupancy cache) lines
+          told first last empty kept makes (c.in-Ok.ensures.made.dealt.count ∙ one) exact,
+    ))) c.finish.ensures.ok
 
 pub returns-clause-part : goal.returns-clause-part
 returns-clause-part g c =

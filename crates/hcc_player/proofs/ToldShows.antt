@@ -1,0 +1,290 @@
+-- Which keys are shown by the worlds that a client knows, as it is told, and what leaves that so.
+use Rattle.std.proofs.Common.{◌≡◌, inl, inr, ℕ, zero, suc, ◌<◌, ◌≤◌, Bool, true, false, List, Option, Some, None, sym, refl, ap, ◌∙◌, subst, arith}
+use Rattle.std.specs.Prelude.{slice_get}
+use Rattle.std.proofs.lemmas.Bool.{cases_eq}
+use Rattle.std.proofs.lemmas.Option.{same_Some}
+use Rattle.std.specs.declared.alloc.Global.{Global}
+use Rattle.hcc_rule.specs.declared.geometry.Geometry.{Geometry}
+use Rattle.hcc_rule.specs.declared.key.Key.{Key}
+use Rattle.hcc_rule.specs.Callers.{clients_of, slots_of}
+use Rattle.hcc_rule.specs.Probes.{probe_slot}
+use Rattle.hcc_rule.proofs.Probes.ProbeLaws.{probe_inside, some_slots}
+use Rattle.hcc_table.specs.Standing.{shown_at, world_at}
+use Rattle.hcc_table.proofs.Releases.{still_shows}
+use Rattle.hcc_shard.specs.declared.seat.ShardSeat.{ShardSeat}
+use Rattle.hcc_shard.specs.declared.shard.Shard.{Shard}
+use Rattle.hcc_cache.specs.declared.cache.Cache.{Cache}
+use Rattle.hcc_cache.specs.declared.client.Client.{Client}
+use Rattle.hcc_cache.specs.declared.config.Config.{Config}
+use Rattle.hcc_cache.specs.declared.handle.Handle.{Handle}
+use Rattle.hcc_cache.specs.declared.holding.Hold.{Hold}
+use Rattle.hcc_cache.specs.declared.holding.Kept.{Kept}
+use Rattle.hcc_cache.specs.declared.holding.Kept.TheVariants.{Pinned as AtSlot, Standing}
+use Rattle.hcc_cache.specs.declared.seeded.Seeded.{Seeded}
+use Rattle.hcc_cache.specs.Calls.{AtShard, OnlyAt, shard_in}
+use Rattle.hcc_cache.specs.Clients.{held_as, hold_of}
+use Rattle.hcc_cache.specs.Moments.{KnowsShown}
+use Rattle.hcc_cache.specs.Opened.{IsCacheOf}
+use Rattle.hcc_cache.specs.Sharding.{key_to}
+use Rattle.hcc_cache.specs.Stays.{Stays}
+use Rattle.hcc_player.specs.RunAlone.{HidesAll, InWorld, ShowsFirst, ShowsNone}
+use Rattle.hcc_player.specs.RunCalls.{IsOfWords, GivesBack}
+use Rattle.hcc_player.specs.RunTold.{Told, only_gone}
+use Rattle.hcc_player.specs.RunTold.{told_erased, with_told}
+use Rattle.hcc_player.proofs.ToldWorlds.{ShowsSome, by_hidden, by_less, by_same, gone_only}
+use Rattle.hcc_player.proofs.ToldWorlds.{none_hidden, release_less, same_key, shown_none, shown_some}
+use Rattle.hcc_player.proofs.ToldWorlds.{shows_by, there_only, told_cases}
+
+module _ {T : Type 0} (cache : Cache T) where
+  -- the world that a client knows of a key's shard shows it, or doesn't
+  abbrev pub Shows : Key → Bool → Client T → Type 0
+  Shows key b client = InWorld cache key (shows_by b) client
+
+  -- so it is of each key of which that is told
+  abbrev pub Tells : Told → Client T → Type 0
+  Tells told client =
+      (key : Key) (b : Bool) → IsOfWords key → told key ≡ Some b → Shows key b client
+
+  -- and of each but this one
+  abbrev pub TellsBut : Key → Told → Client T → Type 0
+  TellsBut key told client =
+      (other : Key) (b : Bool) → IsOfWords other → ¬ (key ≡ other) → told other ≡ Some b
+      → Shows other b client
+
+module _ {T : Type 0} (config : Config) (tag : T) (cache : Cache T)
+    (is_of : IsCacheOf config tag cache) (one : config.clients ≡ 1) where
+  alone : (s : ℕ) (shard : Shard (Seeded T) Global) → slice_get cache.shards.items s ≡ Some shard
+      → clients_of shard.table ≡ 1
+  alone s shard at = ap (λ (g : Geometry). g.clients) (is_of.shards s shard at).geometry ∙ one
+
+  slots_same : (s : ℕ) (shard : Shard (Seeded T) Global)
+      → slice_get cache.shards.items s ≡ Some shard
+      → slots_of shard.table ≡ cache.geometry.slots
+  slots_same s shard at =
+      ap (λ (g : Geometry). g.slots) (is_of.shards s shard at).geometry
+      ∙ sym (ap (λ (g : Geometry). g.slots) is_of.geometry)
+
+  -- A key is shown or not.
+  pub not_both : (key : Key) (client : Client T) → Shows cache key true client
+      → Shows cache key false client → ⊥
+  not_both key client h g =
+      let shard : h.shard ≡ g.shard = same_Some _ _ (sym h.shard_is ∙ g.shard_is) in
+      let seat : h.seat ≡ g.seat = same_Some _ _ (sym h.seat_is ∙ g.seat_is) in
+      let some : ShowsSome cache.geometry.slots (key_to cache.seed key)
+      (world_at g.shard.table g.seat.seat) =
+      subst (λ (z : Shard (Seeded T) Global). ShowsSome cache.geometry.slots
+      (key_to cache.seed key) (world_at z.table g.seat.seat)) shard
+      (subst (λ (q : ShardSeat (Seeded T)). ShowsSome cache.geometry.slots
+      (key_to cache.seed key) (world_at h.shard.table q.seat)) seat h.holds) in
+      g.holds some.0 some.1 some.2
+
+  -- A key that look-ups find first is shown.
+  pub first_some : (key : Key) (client : Client T) → InWorld cache key ShowsFirst client
+      → Shows cache key true client
+  first_some key client h = record {
+    shard = h.shard;
+    seat = h.seat;
+    shard_is = h.shard_is;
+    seat_is = h.seat_is;
+    holds = (
+      probe_slot cache.geometry.slots (key_to cache.seed key) h.holds.0,
+      probe_inside cache.geometry.slots (key_to cache.seed key) h.holds.0
+          (subst (λ n. 0 < n) (slots_same _ h.shard h.shard_is)
+          (some_slots (slots_of h.shard.table) h.shard.table.limits.power)),
+      h.holds.1,
+    );
+  }
+
+  pub known_some : (key : Key) (client : Client T) → KnowsShown cache key client
+      → Shows cache key true client
+  known_some key client h = record {
+    shard = h.shard;
+    seat = h.seat;
+    shard_is = h.shard_is;
+    seat_is = h.seat_is;
+    holds = (h.slot, h.within, h.shows);
+  }
+
+  -- What a call that changes nothing of what is shown leaves.
+  pub shows_stays : (key : Key) (b : Bool) (old new : Client T) → Stays cache old new
+      → Shows cache key b old → Shows cache key b new
+  shows_stays key b old new stays w =
+      let at = stays.each (shard_in cache key) w.shard w.seat w.shard_is w.seat_is in
+      record {
+        shard = w.shard;
+        seat = at.0;
+        shard_is = w.shard_is;
+        seat_is = at.1;
+        holds =
+            by_same b cache.geometry.slots (key_to cache.seed key)
+            (world_at w.shard.table w.seat.seat) (world_at w.shard.table at.0.seat)
+            (λ s less. still_shows w.shard.table (alone _ w.shard w.shard_is) w.seat.seat at.0.seat
+            at.2 s) w.holds;
+      }
+
+  pub tells_stays : (told : Told) (old new : Client T) → Stays cache old new → Tells cache told old
+      → Tells cache told new
+  tells_stays told old new stays tells key b words is =
+      shows_stays key b old new stays (tells key b words is)
+
+  pub tells_same : (told : Told) (old new : Client T) → new ≡ old → Tells cache told old
+      → Tells cache told new
+  tells_same told old new same tells = subst (Tells cache told) (sym same) tells
+
+  -- What one that changes it at one shard leaves.
+  pub shows_at : (Did : Shard (Seeded T) Global → (old new : ShardSeat (Seeded T)) → Type 0)
+      (number : ℕ) (key : Key) (b : Bool) (old new : Client T)
+      (h : AtShard cache Did number old new) → OnlyAt number old new
+      → (shows_by b cache.geometry.slots (key_to cache.seed key)
+      (world_at h.shard.table h.was.seat)
+      → shows_by b cache.geometry.slots (key_to cache.seed key)
+      (world_at h.shard.table h.is.seat))
+      → Shows cache key b old → Shows cache key b new
+  shows_at Did number key b old new h only goes w = elim (cases_eq (shard_in cache key) number) [
+    | inl here ↦
+        let shard : w.shard ≡ h.shard =
+        same_Some _ _ (sym w.shard_is ∙ ap (slice_get cache.shards.items) here ∙ h.shard_is) in
+        let seat : w.seat ≡ h.was =
+        same_Some _ _ (sym w.seat_is ∙ ap (slice_get old.seats.items) here ∙ h.seat_was) in
+        record {
+          shard = h.shard;
+          seat = h.is;
+          shard_is = ap (slice_get cache.shards.items) here ∙ h.shard_is;
+          seat_is = ap (slice_get new.seats.items) here ∙ h.seat_is;
+          holds = goes
+              (subst (λ (z : Shard (Seeded T) Global). shows_by b cache.geometry.slots
+              (key_to cache.seed key) (world_at z.table h.was.seat)) shard
+              (subst (λ (q : ShardSeat (Seeded T)). shows_by b cache.geometry.slots
+              (key_to cache.seed key) (world_at w.shard.table q.seat)) seat w.holds));
+        }
+    | inr other ↦ record {
+      shard = w.shard;
+      seat = w.seat;
+      shard_is = w.shard_is;
+      seat_is = only (shard_in cache key) other ∙ w.seat_is;
+      holds = w.holds;
+    }
+  ]
+
+  -- one key is told anew
+  pub tells_with : (key : Key) (is : Bool) (told : Told) (client : Client T)
+      → TellsBut cache key told client → Shows cache key is client → Tells cache (with_told key is
+      told) client
+  tells_with key is told client but here other b words h = elim (told_cases key other is b told h) [
+    | inl same ↦
+        subst (λ k. Shows cache k b client) same.0 (subst (λ z. Shows cache key z client) same.1
+        here)
+    | inr apart ↦ but other b words apart.0 apart.1
+  ]
+
+  pub tells_more : (key : Key) (is : Bool) (told : Told) (client : Client T)
+      → Tells cache told client → Shows cache key is client → Tells cache (with_told key is told)
+      client
+  tells_more key is told client tells =
+      tells_with key is told client (λ other b words apart h. tells other b words h)
+
+  -- What is the same at one shard.
+  pub tells_over : (Did : Shard (Seeded T) Global → (old new : ShardSeat (Seeded T)) → Type 0)
+      (number : ℕ) (told : Told) (old new : Client T) (h : AtShard cache Did number old new)
+      → OnlyAt number old new
+      → ((s : ℕ) → shown_at (world_at h.shard.table h.is.seat) s
+      ≡ shown_at (world_at h.shard.table h.was.seat) s)
+      → Tells cache told old → Tells cache told new
+  tells_over Did number told old new h only same tells key b words is =
+      shows_at Did number key b old new h only
+      (by_same b cache.geometry.slots (key_to cache.seed key) (world_at h.shard.table h.was.seat)
+      (world_at h.shard.table h.is.seat) (λ s less. same s)) (tells key b words is)
+
+  -- A release that freed an entry.
+  pub freed_tells : (fits : T → Key → List ℕ → Type 0) (told : Told) (useful erase : Bool)
+      (was now : Option Handle) (old new : Client T)
+      → GivesBack fits cache useful erase true was now old new → Tells cache told old
+      → Tells cache (λ key. only_gone (told key)) new
+  freed_tells fits told useful erase was now old new did tells key b words is =
+      let gone = gone_only (told key) b is in
+      subst (λ z. Shows cache key z new) gone.0
+      (by (hold_of old did.handle) refl (tells key false words gone.1))
+    where
+      by_kept : (hold : Hold) → hold_of old did.handle ≡ Some hold → (kept : Kept)
+          → hold.kept ≡ kept → Shows cache key false old → Shows cache key false new
+      by_kept hold here (AtSlot slot counting) kept w =
+          let pin = did.by hold slot counting here kept in
+          shows_at _ hold.shard key false old new pin.0 pin.1
+          (by_less cache.geometry.slots (key_to cache.seed key)
+          (world_at pin.0.shard.table pin.0.was.seat) (world_at pin.0.shard.table pin.0.is.seat)
+          (release_less pin.0.shard slot hold.serial _ erase true pin.0.was pin.0.is pin.0.did
+          (alone _ pin.0.shard pin.0.shard_is))) w
+      by_kept hold here (Standing index) kept w =
+          shows_stays key false old new (did.standing hold index here kept) w
+
+      by : (o : Option Hold) → hold_of old did.handle ≡ o → Shows cache key false old
+          → Shows cache key false new
+      by None here w =
+          let none = subst (λ o. held_as cache.seed old.seats.items old.alone o
+          ≡ Some did.releases.held) here did.releases.was in
+          cc
+      by (Some hold) here w = by_kept hold here hold.kept refl w
+
+  -- An erasure.
+  module _ (told : Told) (key : Key) (old new : Client T) (words : IsOfWords key)
+      (only : OnlyAt (shard_in cache key) old new) (tells : Tells cache told old) where
+    erased_but : (count : ℕ) → HidesAll cache key count old new
+        → TellsBut cache key (told_erased count told) new
+    erased_but zero h other b theirs apart is =
+        shows_at _ (shard_in cache key) other b old new h only
+        (by_same b cache.geometry.slots (key_to cache.seed other)
+        (world_at h.shard.table h.was.seat) (world_at h.shard.table h.is.seat)
+        (none_hidden cache.geometry.slots (key_to cache.seed key)
+        (world_at h.shard.table h.was.seat) (world_at h.shard.table h.is.seat) h.did))
+        (tells other b theirs is)
+    erased_but (suc n) h other b theirs apart is =
+        let there = there_only (told other) b is in
+        subst (λ z. Shows cache other z new) there.0
+        (shows_at _ (shard_in cache key) other true old new h only
+        (by_hidden cache.geometry.slots (suc n) (key_to cache.seed key) (key_to cache.seed other)
+        (world_at h.shard.table h.was.seat) (world_at h.shard.table h.is.seat) h.did
+        (λ e. apart (same_key cache.seed key other words theirs e)))
+        (tells other true theirs there.1))
+
+    pub erased_tells : (count : ℕ) → HidesAll cache key count old new
+        → Tells cache (with_told key false (told_erased count told)) new
+    erased_tells count h =
+        tells_with key false (told_erased count told) new (erased_but count h) (record {
+          shard = h.shard;
+          seat = h.is;
+          shard_is = h.shard_is;
+          seat_is = h.seat_is;
+          holds = h.did.none;
+        })
+
+  -- an erasure of a key that is there hides some, and of one that isn't none
+  pub some_erased : (key : Key) (count : ℕ) (old new : Client T) → HidesAll cache key count old new
+      → Shows cache key true old → 1 ≤ count
+  some_erased key count old new h w =
+      let shard : w.shard ≡ h.shard = same_Some _ _ (sym w.shard_is ∙ h.shard_is) in
+      let seat : w.seat ≡ h.was = same_Some _ _ (sym w.seat_is ∙ h.seat_was) in
+      let some : ShowsSome cache.geometry.slots (key_to cache.seed key)
+      (world_at h.shard.table h.was.seat) =
+      subst (λ (z : Shard (Seeded T) Global). ShowsSome cache.geometry.slots
+      (key_to cache.seed key) (world_at z.table h.was.seat)) shard
+      (subst (λ (q : ShardSeat (Seeded T)). ShowsSome cache.geometry.slots
+      (key_to cache.seed key) (world_at w.shard.table q.seat)) seat w.holds) in
+      let counted = shown_some cache.geometry.slots (key_to cache.seed key)
+      (world_at h.shard.table h.was.seat) some.0 some.1 some.2 in
+      let all = h.did.all in
+      omega arith
+
+  pub none_erased : (key : Key) (count : ℕ) (old new : Client T) → HidesAll cache key count old new
+      → Shows cache key false old → count ≡ 0
+  none_erased key count old new h w =
+      let shard : w.shard ≡ h.shard = same_Some _ _ (sym w.shard_is ∙ h.shard_is) in
+      let seat : w.seat ≡ h.was = same_Some _ _ (sym w.seat_is ∙ h.seat_was) in
+      let none : ShowsNone cache.geometry.slots (key_to cache.seed key)
+      (world_at h.shard.table h.was.seat) =
+      subst (λ (z : Shard (Seeded T) Global). ShowsNone cache.geometry.slots
+      (key_to cache.seed key) (world_at z.table h.was.seat)) shard
+      (subst (λ (q : ShardSeat (Seeded T)). ShowsNone cache.geometry.slots
+      (key_to cache.seed key) (world_at w.shard.table q.seat)) seat w.holds) in
+      h.did.all
+      ∙ shown_none cache.geometry.slots (key_to cache.seed key)
+      (world_at h.shard.table h.was.seat) none

@@ -1,0 +1,227 @@
+-- Keys that a world shows or doesn't, and what leaves that so.
+use Rattle.std.proofs.Common.{◌≡◌, inl, inr, ℕ, zero, suc, ◌==◌, ◌&&◌, ◌<◌, ◌≤◌, Bool, true, false, Option, Some, None, sym, refl, ap, ◌∙◌, subst, arith, ◌⊎◌}
+use Rattle.std.specs.Prelude.{IsSomeAnd, if◌then◌else◌}
+use Rattle.std.proofs.lemmas.Bool.{cases_eq, eq-eqb, eqb-true, true≢false}
+use Rattle.std.proofs.lemmas.Option.{same_Some}
+use Rattle.hcc_core.specs.declared.slot.Entry.{Entry}
+use Rattle.hcc_core.specs.Sums.{when}
+use Rattle.hcc_core.specs.World.{State}
+use Rattle.hcc_rule.specs.declared.key.Key.{Key}
+use Rattle.hcc_rule.specs.Callers.{clients_of}
+use Rattle.hcc_rule.specs.Words.{key_of}
+use Rattle.hcc_table.specs.Searched.{is_key}
+use Rattle.hcc_table.specs.Standing.{HidesShown, InsertsShown, ShowsKey, ShowsMore, ShowsSame}
+use Rattle.hcc_table.specs.Standing.{counts_shown, shown_at, shown_of, world_at}
+use Rattle.hcc_table.specs.Still.{ShowsBut}
+use Rattle.hcc_table.proofs.HidesAlone.{settled_keeps}
+use Rattle.hcc_table.proofs.Releases.{releases_show}
+use Rattle.hcc_shard.specs.declared.seat.ShardSeat.{ShardSeat}
+use Rattle.hcc_shard.specs.declared.shard.Shard.{Shard}
+use Rattle.hcc_shard.specs.Reserving.{left_out}
+use Rattle.hcc_shard.specs.Stays.{ReleasesAt}
+use Rattle.hcc_cache.specs.Keys.{key_from}
+use Rattle.hcc_cache.specs.Sharding.{key_to}
+use Rattle.hcc_cache.proofs.Readings.{key_back}
+use Rattle.hcc_player.specs.RunAlone.{ShowsNone}
+use Rattle.hcc_player.specs.RunCalls.{IsOfWords}
+use Rattle.hcc_player.specs.RunTold.{Told, only_gone, only_there, with_told}
+
+-- Keys.
+
+both_true : (a b : Bool) → (a && b) ≡ true → (a ≡ true) × (b ≡ true)
+both_true true b is = (refl, is)
+both_true false b is = cc
+
+key_equal : (a b : Key) → is_key a b ≡ true → a ≡ b
+key_equal a b is =
+    let both = both_true (a.w0 == b.w0) (a.w1 == b.w1) is in
+    let first : a.w0 ≡ b.w0 = eqb-true a.w0 b.w0 both.0 in
+    let second : a.w1 ≡ b.w1 = eqb-true a.w1 b.w1 both.1 in
+    λ k. record { w0 = first k; w1 = second k }
+
+key_self : (a : Key) → is_key a a ≡ true
+key_self a = λ k. eq-eqb a.w0 a.w0 refl k && eq-eqb a.w1 a.w1 refl k
+
+-- keys of words are apart under a seed
+pub same_key : (seed : ℕ) (a b : Key) → IsOfWords a → IsOfWords b
+    → key_to seed a ≡ key_to seed b → a ≡ b
+same_key seed a b x y same =
+    sym (key_back seed a x.0 x.1) ∙ ap (key_from seed) same ∙ key_back seed b y.0 y.1
+
+-- What is told.
+
+-- where one key is told so, that is told of it, and of each other what was
+pub told_cases : (key other : Key) (is b : Bool) (told : Told)
+    → with_told key is told other ≡ Some b
+    → ((key ≡ other) × (is ≡ b)) ⊎ ((¬ (key ≡ other)) × (told other ≡ Some b))
+told_cases key other is b told h = by (is_key key other) refl h
+  where
+    by : (t : Bool) → is_key key other ≡ t → (if t then Some is else told other) ≡ Some b
+        → ((key ≡ other) × (is ≡ b)) ⊎ ((¬ (key ≡ other)) × (told other ≡ Some b))
+    by true same h = inl (key_equal key other same, same_Some _ _ h)
+    by false apart h =
+        inr (
+          λ e. true≢false (sym (subst (λ k. is_key key k ≡ true) e (key_self key)) ∙ apart),
+          h,
+        )
+
+pub there_only : (o : Option Bool) (b : Bool) → only_there o ≡ Some b
+    → (true ≡ b) × (o ≡ Some true)
+there_only None b is = cc
+there_only (Some true) b is = (same_Some _ _ is, refl)
+there_only (Some false) b is = cc
+
+pub gone_only : (o : Option Bool) (b : Bool) → only_gone o ≡ Some b
+    → (false ≡ b) × (o ≡ Some false)
+gone_only None b is = cc
+gone_only (Some true) b is = cc
+gone_only (Some false) b is = (same_Some _ _ is, refl)
+
+-- Worlds.
+
+-- a world shows the key in one of its slots
+abbrev pub ShowsSome : (slots : ℕ) → Key → State → Type 0
+ShowsSome slots key world = (slot : ℕ) × (slot < slots) × ShowsKey world key slot
+
+-- it shows the key, or doesn't
+abbrev pub shows_by : Bool → (slots : ℕ) → Key → State → Type 0
+shows_by true slots key world = ShowsSome slots key world
+shows_by false slots key world = ShowsNone slots key world
+
+shows_too : (key : Key) (slot : ℕ) (w v : State) → shown_at v slot ≡ shown_at w slot
+    → ShowsKey w key slot → ShowsKey v key slot
+shows_too key slot w v same shows = subst (λ o. IsSomeAnd o (λ e. key_of e ≡ key)) (sym same) shows
+
+-- where each slot shows what it showed
+pub by_same : (b : Bool) (slots : ℕ) (key : Key) (w v : State)
+    → ((s : ℕ) → s < slots → shown_at v s ≡ shown_at w s)
+    → shows_by b slots key w → shows_by b slots key v
+by_same true slots key w v same h = (h.0, h.1, shows_too key h.0 w v (same h.0 h.1) h.2)
+by_same false slots key w v same h =
+    λ s less shows. h s less (shows_too key s v w (sym (same s less)) shows)
+
+-- a slot shows one key
+one_key : (o : Option Entry) (a b : Key) → IsSomeAnd o (λ e. key_of e ≡ a)
+    → IsSomeAnd o (λ e. key_of e ≡ b) → a ≡ b
+one_key None a b h g = absurd h
+one_key (Some e) a b h g = sym h ∙ g
+
+-- where a slot came to show another key
+pub by_more : (b : Bool) (slots size : ℕ) (under other : Key) (slot : ℕ) (w v : State)
+    → ShowsMore size under slot w v → ¬ (under ≡ other)
+    → shows_by b slots other w → shows_by b slots other v
+by_more true slots size under other slot w v h apart g =
+    (g.0, g.1, shows_too other g.0 w v (h.others g.0 off) g.2)
+  where
+    off : ¬ (g.0 ≡ slot)
+    off here =
+        subst (λ o. IsSomeAnd o (λ e. key_of e ≡ other)) (ap (shown_at w) here ∙ h.free) g.2
+by_more false slots size under other slot w v h apart g =
+    λ s less shows. elim (cases_eq s slot) [
+      | inl here ↦
+          apart (one_key (shown_at v slot) under other h.shows
+          (subst (λ n. ShowsKey v other n) here shows))
+      | inr off ↦ g s less (shows_too other s v w (sym (h.others s off)) shows)
+    ]
+
+-- where an entry was left out
+pub out_same : (matched : Bool) (slots : ℕ) (key : Key) (w v : State)
+    → InsertsShown slots key (left_out matched) w v → ShowsSame w v
+out_same true slots key w v h = h.4
+out_same false slots key w v h = h.1
+
+-- a slot that shows the key counts
+counts_one : (key : Key) (o : Option Entry) → IsSomeAnd o (λ e. key_of e ≡ key)
+    → counts_shown key o ≡ 1
+counts_one key None asked = absurd asked
+counts_one key (Some e) asked =
+    ap (λ z. when (is_key key z) 1) asked ∙ ap (λ b. when b 1) (key_self key)
+
+-- and one that doesn't doesn't
+counts_none : (key : Key) (o : Option Entry) → ¬ IsSomeAnd o (λ e. key_of e ≡ key)
+    → counts_shown key o ≡ 0
+counts_none key None lacks = refl
+counts_none key (Some e) lacks = by (is_key key (key_of e)) refl
+  where
+    by : (b : Bool) → is_key key (key_of e) ≡ b → when (is_key key (key_of e)) 1 ≡ 0
+    by true is = absurd (lacks (sym (key_equal key (key_of e) is)))
+    by false is = ap (λ b. when b 1) is
+
+pub shown_some : (n : ℕ) (key : Key) (w : State) (slot : ℕ) → slot < n → ShowsKey w key slot
+    → 1 ≤ shown_of n key w
+shown_some zero key w slot less shows = absurd (omega arith)
+shown_some (suc n) key w slot less shows = elim (cases_eq slot n) [
+  | inl here ↦
+      let one : counts_shown key (shown_at w n) ≡ 1 =
+      counts_one key (shown_at w n) (subst (λ s. ShowsKey w key s) here shows) in
+      omega arith
+  | inr other ↦
+      let some : 1 ≤ shown_of n key w = shown_some n key w slot (omega arith) shows in
+      omega arith
+]
+
+-- where none shows it the count is none
+pub shown_none : (n : ℕ) (key : Key) (w : State) → ShowsNone n key w → shown_of n key w ≡ 0
+shown_none zero key w none = refl
+shown_none (suc n) key w none =
+    let rest : shown_of n key w ≡ 0 =
+    shown_none n key w (λ s less. none s (omega arith)) in
+    let here : counts_shown key (shown_at w n) ≡ 0 =
+    counts_none key (shown_at w n) (none n (omega arith)) in
+    omega arith
+
+-- where all that showed another key was hidden
+pub by_hidden : (slots count : ℕ) (under other : Key) (w v : State)
+    → HidesShown slots under count w v → ¬ (under ≡ other)
+    → ShowsSome slots other w → ShowsSome slots other v
+by_hidden slots count under other w v h apart g = (
+  g.0,
+  g.1,
+  shows_too other g.0 w v
+      (h.others g.0 (λ shows. apart (one_key (shown_at w g.0) under other shows g.2))) g.2,
+)
+
+-- where nothing was hidden
+pub none_hidden : (slots : ℕ) (under : Key) (w v : State) → HidesShown slots under 0 w v
+    → (s : ℕ) → s < slots → shown_at v s ≡ shown_at w s
+none_hidden slots under w v h s less = h.others s lacks
+  where
+    lacks : ¬ ShowsKey w under s
+    lacks shows =
+        let some = shown_some slots under w s less shows in
+        let all = h.all in
+        omega arith
+
+-- where slots show what they showed, or nothing
+pub by_less : (slots : ℕ) (key : Key) (w v : State)
+    → ((s : ℕ) → (shown_at v s ≡ shown_at w s) ⊎ (shown_at v s ≡ None))
+    → ShowsNone slots key w → ShowsNone slots key v
+by_less slots key w v less h = λ s within shows. elim (less s) [
+  | inl same ↦ h s within (shows_too key s v w (sym same) shows)
+  | inr none ↦ subst (λ o. IsSomeAnd o (λ e. key_of e ≡ key)) none shows
+]
+
+-- as a release leaves them
+but_less : (slot : ℕ) (freed : Option ℕ) (w v : State) → ShowsBut slot freed w v
+    → (s : ℕ) → (shown_at v s ≡ shown_at w s) ⊎ (shown_at v s ≡ None)
+but_less slot None w v h s = elim (cases_eq s slot) [
+  | inl here ↦ inl (subst (λ n. shown_at v n ≡ shown_at w n) (sym here) h.kept)
+  | inr other ↦ inl (h.others s other)
+]
+but_less slot (Some charge) w v h s = elim (cases_eq s slot) [
+  | inl here ↦ inr (ap (shown_at v) here ∙ h.gone)
+  | inr other ↦ inl (h.others s other)
+]
+
+pub release_less : {T A : Type 0} (shard : Shard T A) (slot name : ℕ) (used erase freed : Bool)
+    (old new : ShardSeat T) → ReleasesAt shard slot name used erase freed old new
+    → clients_of shard.table ≡ 1 → (s : ℕ)
+    → (shown_at (world_at shard.table new.seat) s ≡ shown_at (world_at shard.table old.seat) s)
+    ⊎ (shown_at (world_at shard.table new.seat) s ≡ None)
+release_less shard slot name used erase freed old new h one s =
+    let settled = settled_keeps shard.table one h.mid new.seat h.settles s in
+    elim (but_less slot h.charge (world_at shard.table old.seat) (world_at shard.table h.mid)
+    (releases_show shard.table one slot name used erase h.charge old.seat h.mid h.releases) s) [
+      | inl same ↦ inl (settled ∙ same)
+      | inr none ↦ inr (settled ∙ none)
+    ]
