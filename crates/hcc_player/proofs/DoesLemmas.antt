@@ -14,7 +14,7 @@ use Rattle.hcc_player.specs.declared.run.call.Call.TheVariants as calls
 use Rattle.hcc_player.specs.declared.run.registers.Filled.{Filled}
 use Rattle.hcc_player.specs.Registers.{at}
 use Rattle.hcc_player.specs.RunAnswers.{placed_answer}
-use Rattle.hcc_player.specs.RunCalls.{Does, IsOfWords}
+use Rattle.hcc_player.specs.RunCalls.{Does, IsOfWords, MakesPinned}
 
 module _ {T : Type 0} (fits : T → Key → List ℕ → Type 0) (cache : Cache T) where
   -- an insertion with a handle
@@ -26,8 +26,8 @@ module _ {T : Type 0} (fits : T → Key → List ℕ → Type 0) (cache : Cache 
       → OnlyAt (shard_in cache key) old new → at now r ≡ Some handle
       → Does fits cache (calls.Pin r key charge priority value) (placed_answer told) old new was now
   unfolding Does
-  pin_did old new was now r k t q v handle inserted.Placed inserts evicts w shown others on =
-      record {
+  pin_did old new was now r k t q v handle told inserts evicts w shown others on =
+      by told inserts (record {
         handle = handle;
         filled = on;
         inserts = inserts;
@@ -35,16 +35,11 @@ module _ {T : Type 0} (fits : T → Key → List ℕ → Type 0) (cache : Cache 
         words = w;
         shown = shown;
         others = others;
-      }
-  pin_did old new was now r k t q v handle inserted.Standalone inserts evicts w shown others on =
-      record {
-        handle = handle;
-        filled = on;
-        inserts = inserts;
-        evicts = evicts;
-        words = w;
-        shown = shown;
-        others = others;
-      }
-  pin_did old new was now r k t q v handle inserted.Dropped inserts evicts w shown others on =
-      absurd inserts
+      })
+    where
+      by : (told : Inserted) → InsertsWith cache k t q v handle told old new
+          → MakesPinned fits cache k t q v told (at now r) old new
+          → Does fits cache (calls.Pin r k t q v) (placed_answer told) old new was now
+      by inserted.Placed inserts made = made
+      by inserted.Standalone inserts made = made
+      by inserted.Dropped inserts made = absurd inserts

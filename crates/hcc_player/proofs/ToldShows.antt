@@ -27,7 +27,7 @@ use Rattle.hcc_cache.specs.Moments.{KnowsShown}
 use Rattle.hcc_cache.specs.Opened.{IsCacheOf}
 use Rattle.hcc_cache.specs.Sharding.{key_to}
 use Rattle.hcc_cache.specs.Stays.{Stays}
-use Rattle.hcc_player.specs.RunAlone.{HidesAll, InWorld, ShowsFirst, ShowsNone}
+use Rattle.hcc_player.specs.RunAlone.{HidesAll, InWorld, ShowsFirst}
 use Rattle.hcc_player.specs.RunCalls.{IsOfWords, GivesBack}
 use Rattle.hcc_player.specs.RunTold.{Told, only_gone}
 use Rattle.hcc_player.specs.RunTold.{told_erased, with_told}
@@ -257,18 +257,24 @@ module _ {T : Type 0} (config : Config) (tag : T) (cache : Cache T)
           holds = h.did.none;
         })
 
+  -- what an erasure found of its key when it began
+  found_of : (b : Bool) (key : Key) (count : ℕ) (old new : Client T)
+      (h : HidesAll cache key count old new) → Shows cache key b old
+      → shows_by b cache.geometry.slots (key_to cache.seed key)
+      (world_at h.shard.table h.was.seat)
+  found_of b key count old new h w =
+      let shard : w.shard ≡ h.shard = same_Some _ _ (sym w.shard_is ∙ h.shard_is) in
+      let seat : w.seat ≡ h.was = same_Some _ _ (sym w.seat_is ∙ h.seat_was) in
+      subst (λ (z : Shard (Seeded T) Global). shows_by b cache.geometry.slots
+      (key_to cache.seed key) (world_at z.table h.was.seat)) shard
+      (subst (λ (q : ShardSeat (Seeded T)). shows_by b cache.geometry.slots
+      (key_to cache.seed key) (world_at w.shard.table q.seat)) seat w.holds)
+
   -- an erasure of a key that is there hides some, and of one that isn't none
   pub some_erased : (key : Key) (count : ℕ) (old new : Client T) → HidesAll cache key count old new
       → Shows cache key true old → 1 ≤ count
   some_erased key count old new h w =
-      let shard : w.shard ≡ h.shard = same_Some _ _ (sym w.shard_is ∙ h.shard_is) in
-      let seat : w.seat ≡ h.was = same_Some _ _ (sym w.seat_is ∙ h.seat_was) in
-      let some : ShowsSome cache.geometry.slots (key_to cache.seed key)
-      (world_at h.shard.table h.was.seat) =
-      subst (λ (z : Shard (Seeded T) Global). ShowsSome cache.geometry.slots
-      (key_to cache.seed key) (world_at z.table h.was.seat)) shard
-      (subst (λ (q : ShardSeat (Seeded T)). ShowsSome cache.geometry.slots
-      (key_to cache.seed key) (world_at w.shard.table q.seat)) seat w.holds) in
+      let some = found_of true key count old new h w in
       let counted = shown_some cache.geometry.slots (key_to cache.seed key)
       (world_at h.shard.table h.was.seat) some.0 some.1 some.2 in
       let all = h.did.all in
@@ -277,14 +283,6 @@ module _ {T : Type 0} (config : Config) (tag : T) (cache : Cache T)
   pub none_erased : (key : Key) (count : ℕ) (old new : Client T) → HidesAll cache key count old new
       → Shows cache key false old → count ≡ 0
   none_erased key count old new h w =
-      let shard : w.shard ≡ h.shard = same_Some _ _ (sym w.shard_is ∙ h.shard_is) in
-      let seat : w.seat ≡ h.was = same_Some _ _ (sym w.seat_is ∙ h.seat_was) in
-      let none : ShowsNone cache.geometry.slots (key_to cache.seed key)
-      (world_at h.shard.table h.was.seat) =
-      subst (λ (z : Shard (Seeded T) Global). ShowsNone cache.geometry.slots
-      (key_to cache.seed key) (world_at z.table h.was.seat)) shard
-      (subst (λ (q : ShardSeat (Seeded T)). ShowsNone cache.geometry.slots
-      (key_to cache.seed key) (world_at w.shard.table q.seat)) seat w.holds) in
       h.did.all
       ∙ shown_none cache.geometry.slots (key_to cache.seed key)
-      (world_at h.shard.table h.was.seat) none
+      (world_at h.shard.table h.was.seat) (found_of false key count old new h w)
