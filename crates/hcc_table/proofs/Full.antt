@@ -39,7 +39,7 @@ use Rattle.hcc_table.specs.Tries.{Inserts, PassesTaken}
 use Rattle.hcc_table.proofs.Alone.{event_alone}
 use Rattle.hcc_table.proofs.Lasting.{entry_seeks}
 use Rattle.hcc_table.proofs.Seeking.{goes_event}
-use Rattle.hcc_table.proofs.Setups.{setup_stays}
+use Rattle.hcc_table.proofs.Setups.{setup_stays, slots_at}
 use Rattle.hcc_table.proofs.Shown.{bound, ruled, same_outcome}
 use Rattle.hcc_table.proofs.Still.{is_taken, leaves_taken, seeks_still, still_alone}
 
@@ -154,7 +154,7 @@ full_never w l some each =
 
 module _ {T A : Type 0} (fits : T → Key → List ℕ → Type 0) (table : RuleTable T A)
     (one : clients_of table ≡ 1) (began : BeganWithin table fits) where
-  -- The worlds that a seat knows are lawful, and have the table's size.
+  -- The worlds that a seat knows are lawful, and have one client.
   planned : IsPlanned (plan_of table).geometry (plan_of table).capacity
   planned =
       subst (λ g. IsPlanned g (plan_of table).capacity) (sym table.planned.0)
@@ -170,11 +170,6 @@ module _ {T A : Type 0} (fits : T → Key → List ℕ → Type 0) (table : Rule
   clients_at a =
       (lawful_at a).sized.client_count ∙ ap (λ z. z.clients) (setup_at a)
       ∙ ap (λ z. z.clients) table.planned.0 ∙ one
-
-  slots_at : (a : SeatOf T) → length (world_at table a).slots ≡ slots_of table
-  slots_at a =
-      (lawful_at a).sized.slot_count ∙ ap (λ z. z.slots) (setup_at a)
-      ∙ ap (λ z. z.slots) table.planned.0
 
   -- there is an entry in the slot, in the world that the seat knows
   abbrev Taken : SeatOf T → (slot : ℕ) → Type 0
@@ -235,8 +230,8 @@ module _ {T A : Type 0} (fits : T → Key → List ℕ → Type 0) (table : Rule
         → Inserts fits table key name weight NoSlot before after old new → ⊥
     never_full before after old new m =
         full_never (world_at table m.done) (lawful_at m.done)
-        (let size = slots_at m.done in let some = table.limits.some_slots in omega arith)
-        (λ s less. every s (let size = slots_at m.done in omega arith))
+        (let size = slots_at table m.done in let some = table.limits.some_slots in omega arith)
+        (λ s less. every s (let size = slots_at table m.done in omega arith))
       where
         earlier : SameTaken (world_at table old) (world_at table m.mid)
             × ((k : ℕ) → 0 ≤ k → k < 0 + length m.earlier

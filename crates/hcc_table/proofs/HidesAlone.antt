@@ -1,5 +1,5 @@
 -- Hiding in a shard of one client: of the key just what the shard shows.
-use Rattle.std.proofs.Common.{◌≡◌, ◌≢◌, inl, inr, ℕ, zero, suc, ◌+◌, ◌==◌, ◌&&◌, ◌<◌, ◌≤◌, Bool, true, false, List, [], ◌∷◌, ◌++◌, Option, Some, None, length, slice_get, sym, refl, ap, ◌∙◌, subst, arith, zero-add}
+use Rattle.std.proofs.Common.{◌≡◌, ◌≢◌, ◌⊎◌, inl, inr, ℕ, zero, suc, ◌+◌, ◌==◌, ◌&&◌, ◌<◌, ◌≤◌, Bool, true, false, List, [], ◌∷◌, ◌++◌, Option, Some, None, length, slice_get, sym, refl, ap, ◌∙◌, subst, arith, zero-add}
 use Rattle.std.specs.Int.{from_bool}
 use Rattle.std.specs.Prelude.{IfNone, IfSome, IsSomeAnd, bit_and, option_and_then, if◌then◌else◌}
 use Rattle.std.proofs.lemmas.Bool.{cases_eq, cases_lt, eq-eqb, eqb-true}
@@ -9,6 +9,7 @@ use Rattle.hcc_core.specs.declared.client.Owned.TheVariants as owned
 use Rattle.hcc_core.specs.declared.event.Event.TheVariants as events
 use Rattle.hcc_core.specs.declared.event.Reply.TheVariants as replies
 use Rattle.hcc_core.specs.declared.slot.Entry.{Entry}
+use Rattle.hcc_core.specs.declared.slot.Slot.{Slot}
 use Rattle.hcc_core.specs.declared.slot.Slot.TheVariants as slots
 use Rattle.hcc_core.specs.Runs.{FindsOne, after_all, held_at}
 use Rattle.hcc_core.specs.Sums.{total, when}
@@ -27,6 +28,7 @@ use Rattle.hcc_rule.specs.Records.{record_in}
 use Rattle.hcc_rule.specs.Seats.{SeatOf, Makes, view}
 use Rattle.hcc_rule.specs.ToldReferences.{after_hide}
 use Rattle.hcc_rule.specs.Words.{key_of}
+use Rattle.hcc_rule.proofs.Basics.Lists.{within}
 use Rattle.hcc_rule.proofs.Probes.ProbeLaws.{probe_inside, probe_of_slot, some_slots}
 use Rattle.hcc_rule.proofs.Seats.Histories.{after_more}
 use Rattle.hcc_rule.proofs.Seats.Runs.{run_finds}
@@ -42,16 +44,17 @@ use Rattle.hcc_table.proofs.Alone.{event_alone}
 use Rattle.hcc_table.proofs.Lasting.{alone_shows, event_trails, lacks_alone, looks_seek, none_shown, passes_lack, passes_seek, reach_seeks, reached_seeks, some_and}
 use Rattle.hcc_table.proofs.Probings.{one_longer}
 use Rattle.hcc_table.proofs.Seeking.{seeks_none, seeks_one, seeks_then}
+use Rattle.hcc_table.proofs.Setups.{slots_at}
 use Rattle.hcc_table.proofs.Shown.{count_tells, shown_counted}
 use Rattle.hcc_table.proofs.Unshown.{KeepsOwned, empty_tells, free_tells, hide_tells, owned_at, settling_keeps, unpasses_keep}
 
 -- Keys.
 
-both_true : (a b : Bool) → (a && b) ≡ true → (a ≡ true) × (b ≡ true)
+pub both_true : (a b : Bool) → (a && b) ≡ true → (a ≡ true) × (b ≡ true)
 both_true true b is = (refl, is)
 both_true false b is = cc
 
-key_equal : (a b : Key) → is_key a b ≡ true → b ≡ a
+pub key_equal : (a b : Key) → is_key a b ≡ true → b ≡ a
 key_equal a b is =
     let both = both_true (a.w0 == b.w0) (a.w1 == b.w1) is in
     let first : a.w0 ≡ b.w0 = eqb-true a.w0 b.w0 both.0 in
@@ -66,7 +69,7 @@ module _ (key : Key) where
       ∙ (λ k. when (eq-eqb key.w0 key.w0 refl k && eq-eqb key.w1 key.w1 refl k) 1)
 
   -- and what shows none doesn't
-  counts_none : (o : Option Entry) → ¬ IsSomeAnd o (λ e. key_of e ≡ key) → counts_shown key o ≡ 0
+  pub counts_none : (o : Option Entry) → ¬ IsSomeAnd o (λ e. key_of e ≡ key) → counts_shown key o ≡ 0
   counts_none None lacks = refl
   counts_none (Some e) lacks = by (is_key key (key_of e)) refl
     where
@@ -86,7 +89,7 @@ module _ (key : Key) where
       ap (counts_shown key) (same n (omega arith)) in
       omega arith
 
-  nothing_shown : (n : ℕ) (w : State) → ((s : ℕ) → s < n → ¬ ShowsKey w key s)
+  pub nothing_shown : (n : ℕ) (w : State) → ((s : ℕ) → s < n → ¬ ShowsKey w key s)
       → shown_of n key w ≡ 0
   nothing_shown zero w none = refl
   nothing_shown (suc n) w none =
@@ -119,10 +122,12 @@ module _ (key : Key) where
   ]
 
 module _ (size : ℕ) (key : Key) where
-  -- So many slots fewer show the key, and each that didn't shows what it showed.
+  -- So many slots fewer show the key, and each that didn't shows what it showed. Each that shows
+  -- another thing than it did shows nothing.
   pub record Loses (n : ℕ) (w next : State) : Type 0 where
     pub count : shown_of size key next + n ≡ shown_of size key w
     pub others : (s : ℕ) → ¬ ShowsKey w key s → shown_at next s ≡ shown_at w s
+    pub less : (s : ℕ) → (shown_at next s ≡ shown_at w s) ⊎ (shown_at next s ≡ None)
 
   loses_same : (w next : State) → ((s : ℕ) → shown_at next s ≡ shown_at w s) → Loses 0 w next
   loses_same w next same = record {
@@ -131,6 +136,7 @@ module _ (size : ℕ) (key : Key) where
         shown_same key size w next (λ s less. same s) in
         omega arith;
     others = λ s lacks. same s;
+    less = λ s. inl (same s);
   }
 
   still_lacks : (n : ℕ) (w next : State) → Loses n w next → (s : ℕ) → ¬ ShowsKey w key s
@@ -142,11 +148,32 @@ module _ (size : ℕ) (key : Key) where
   loses_then m n u v w h g = record {
     count = let first = h.count in let second = g.count in omega arith;
     others = λ s lacks. g.others s (still_lacks m u v h s lacks) ∙ h.others s lacks;
+    less = λ s. elim (g.less s) [
+      | inl same ↦ elim (h.less s) [
+        | inl was ↦ inl (same ∙ was)
+        | inr none ↦ inr (same ∙ none)
+      ]
+      | inr none ↦ inr none
+    ];
   }
 
 module _ {T A : Type 0} (table : RuleTable T A) (one : clients_of table ≡ 1) where
   finds_at : (a : SeatOf T) → FindsOne (world_at table a)
   finds_at a = run_finds (plan_of table) (events_of (past a))
+
+  -- A slot that shows a key is one of the table.
+  shows_inside : (a : SeatOf T) (key : Key) (slot : ℕ) → ShowsKey (world_at table a) key slot
+      → slot < slots_of table
+  shows_inside a key slot shows = by (slice_get (world_at table a).slots slot) refl shows
+    where
+      by : (o : Option Slot) → slice_get (world_at table a).slots slot ≡ o
+          → IsSomeAnd (option_and_then entry_shown o) (λ e. key_of e ≡ key)
+          → slot < slots_of table
+      by None at shows = absurd shows
+      by (Some seen) at shows =
+          let low = within (world_at table a).slots slot seen at in
+          let all = slots_at table a in
+          omega arith
 
   -- An entry that isn't shown was taken, and its slot freed: what is shown stays.
   freed_keeps : (slot charge : ℕ) (name : Option ℕ) (a took b : SeatOf T)
@@ -249,6 +276,10 @@ module _ {T A : Type 0} (table : RuleTable T A) (one : clients_of table ≡ 1) w
               (subst (λ o. ¬ IsSomeAnd o (λ e. key_of e ≡ key)) is.1
               (subst (λ n. ¬ ShowsKey (world_at table a) key n) here lacks))))
           | inr other ↦ is.2 s other
+        ];
+        less = λ s. elim (cases_eq s slot) [
+          | inl here ↦ inr (subst (λ n. shown_at (world_at table hid) n ≡ None) (sym here) is.0)
+          | inr other ↦ inl (is.2 s other)
         ];
       },
       is.0,
@@ -482,5 +513,11 @@ module _ {T A : Type 0} (table : RuleTable T A) (one : clients_of table ≡ 1) w
                   let sum = m.hidden in
                   omega arith;
               none = none_left;
+              gone = λ slot shows. elim (h.0.less slot) [
+                | inl same ↦
+                    absurd (none_left slot (shows_inside old key slot shows)
+                    (subst (λ o. IsSomeAnd o (λ e. key_of e ≡ key)) (sym same) shows))
+                | inr none ↦ none
+              ];
               others = h.0.others;
             }

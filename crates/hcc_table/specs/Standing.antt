@@ -42,11 +42,12 @@ abbrev pub shown_of : (slots : ℕ) → Key → State → ℕ
 shown_of zero key world = 0
 shown_of (suc n) key world = shown_of n key world + counts_shown key (shown_at world n)
 
--- From one world to the next so many slots that showed the key stopped to: all that did. Each other
--- slot shows what it showed.
+-- From one world to the next so many slots that showed the key stopped to: all that did, and they
+-- show nothing then. Each other slot shows what it showed.
 pub record HidesShown (slots : ℕ) (key : Key) (hidden : ℕ) (world next : State) : Type 0 where
   pub all : hidden ≡ shown_of slots key world
   pub none : (slot : ℕ) → slot < slots → ¬ ShowsKey next key slot
+  pub gone : (slot : ℕ) → ShowsKey world key slot → shown_at next slot ≡ None
   pub others : (slot : ℕ) → ¬ ShowsKey world key slot → shown_at next slot ≡ shown_at world slot
 
 -- each slot shows what it showed

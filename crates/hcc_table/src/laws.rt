@@ -58,8 +58,8 @@ pub fn law_found_alone<T: Tag, A: Allocator>()
 /// In a shard of one client hiding a key hides exactly what the shard shows of it.
 pub fn law_hidden_alone<T: Tag, A: Allocator>()
     // As many slots are hidden as show the key in the world that the seat knows when the call
-    // begins; none does in the one that it knows at the end, and each other slot shows what it
-    // showed.
+    // begins. In the one that it knows at the end none does: those show nothing, and each other
+    // slot shows what it showed.
     ensures hides { (table : RuleTable T A) (key : Key) (name : ℕ) (all : Erased)
         (before after : Effort) (old new : SeatOf T) → clients_of table ≡ 1
         → HidesAll T.fits table key name all before after old new
