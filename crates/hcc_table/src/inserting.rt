@@ -70,7 +70,6 @@ pub enum Insertion {
 /// probe follows, and where the slot shows an entry an add, a load of each half of the key and a
 /// subtraction, with a compare-exchange where references don't count. An entry that is placed costs
 /// a store for each of its words and one more; else each slot that was passed costs a subtraction.
-#[inline(always)]
 pub fn insert<T: Tag, A: Allocator>(
     table: &RuleTable<T, A>,
     seat: &mut RuleSeat<T>,
