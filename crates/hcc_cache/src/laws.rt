@@ -156,8 +156,8 @@ pub fn law_lookups<T: Tag>()
 /// In a cache of one client an erasure hides exactly what is shown of the key.
 pub fn law_erasures<T: Tag>()
     // It answers how many slots show the key in the world that the client knows of the key's shard
-    // when the call begins. In the one that it knows at the end none does, and each other slot
-    // shows what it showed.
+    // when the call begins. In the one that it knows at the end none does, each of these shows
+    // nothing, and each other slot shows what it showed.
     ensures { (config : Config) (tag : T) (cache : Cache T)
         → IsCacheOf config tag cache → config.clients ≡ 1
         → (key : Key) (hidden : ℕ) (old new : Client T)

@@ -18,6 +18,7 @@ hidden_still size key n world mid next h same = record {
   all = h.all;
   none = λ slot low shows.
       h.none slot low (subst (λ o. IsSomeAnd o (λ e. key_of e ≡ key)) (same slot) shows);
+  gone = λ slot shows. same slot ∙ h.gone slot shows;
   others = λ slot lacks. same slot ∙ h.others slot lacks;
 }
 
