@@ -13,7 +13,6 @@ use Rattle.hcc_shard.specs.declared.seat.ShardSeat.{ShardSeat}
 use Rattle.hcc_shard.specs.declared.shard.Shard.{Shard}
 use Rattle.hcc_shard.specs.Callers.{plan_of}
 use Rattle.hcc_shard.specs.Seated.{IsBegun}
-use Rattle.hcc_shard.specs.Stays.{BeganWithinLimits}
 use Rattle.hcc_cache.specs.declared.cache.Cache.{Cache}
 use Rattle.hcc_cache.specs.declared.client.Client.{Client}
 use Rattle.hcc_cache.specs.declared.config.Config.{Config}
@@ -24,6 +23,7 @@ use Rattle.hcc_cache.specs.Keys.{IsKeyOf, fits_seeded}
 use Rattle.hcc_cache.specs.Known.{Knows}
 use Rattle.hcc_cache.specs.Opened.{IsCacheOf}
 use Rattle.hcc_cache.specs.Sharding.{IsReached}
+use Rattle.hcc_cache.specs.Stays.{BeganEachWithin}
 use Rattle.hcc_cache.specs.Taken.{IsOneOf, begun, split_of, sum_in}
 
 module _ {T A : Type 0} where
@@ -109,7 +109,5 @@ module _ {T : Type 0} where
         → IsStarted config cache.shards.items k client
     pub known : (k : ℕ) (client : Client T) → slice_get clients k ≡ Some client
         → Knows cache client
-    pub began : (s : ℕ) (shard : Shard (Seeded T) _)
-        → slice_get cache.shards.items s ≡ Some shard
-        → BeganWithinLimits shard (fits_seeded fits)
+    pub began : BeganEachWithin cache fits
     pub past : KnowNothing clients
