@@ -15,8 +15,11 @@ use Rattle.hcc_cache.specs.declared.client.Client.{Client}
 use Rattle.hcc_cache.specs.declared.config.Config.{Config}
 use Rattle.hcc_cache.specs.declared.seeded.Seeded.{Seeded}
 use Rattle.hcc_cache.specs.Configs.{IsAllowed}
+use Rattle.hcc_cache.specs.Ended.{KnowNothing}
 use Rattle.hcc_cache.specs.Known.{AreAlike, AreHeld, IsSeated, Knows, records_at, standalones_at}
 use Rattle.hcc_cache.specs.Opened.{AreDealt, AreGiven, AreUnseated, Gains, IsCacheOf, IsDealt, IsOpened, IsUnused}
+use Rattle.hcc_cache.specs.Reopened.{image_of}
+use Rattle.hcc_cache.proofs.Unknowing.{none_shown}
 
 -- a list with one more member has that one, or what was there
 pub get_push : {X : Type 0} (xs : List X) (x y : X) (k : ℕ) → slice_get (xs ++ x ∷ []) k ≡ Some y
@@ -292,15 +295,17 @@ module _ {T : Type 0} where
         );
   }
 
-  -- With clients that were dealt their seats it is a new cache.
+  -- Of shards without entries, with clients that were dealt their seats, it is a new cache.
   pub opened : (config : Config) (tag : T) (cache : Cache T) (clients : List (Client T))
       → IsAllowed config → IsCacheOf config tag cache → AreDealt config cache.shards.items clients
-      → IsOpened config tag cache clients
-  opened config tag cache clients allowed made dealt =
+      → ((s : ℕ) (shard : Shard (Seeded T) _) → slice_get cache.shards.items s ≡ Some shard
+      → image_of shard ≡ []) → KnowNothing clients → IsOpened config tag cache clients
+  opened config tag cache clients allowed made dealt images nothing =
       let alike = made_alike config tag cache allowed made in
       record {
         cache_is = made;
         dealt = dealt;
         known = λ k client h.
             dealt_known config cache k client allowed alike (dealt.each k client h);
+        empty = none_shown cache clients images nothing;
       }

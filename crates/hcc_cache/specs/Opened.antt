@@ -1,5 +1,7 @@
 -- What a new cache and its clients are.
-use Rattle.std.specs.Prelude.{◌≡◌, ℕ, ◌<◌, ◌≤◌, ◌++◌, ◌∷◌, List, [], Some, length, slice_get}
+use Rattle.std.specs.Prelude.{◌≡◌, ℕ, ◌<◌, ◌≤◌, ◌++◌, ◌∷◌, List, [], None, Some, length, slice_get}
+use Rattle.std.specs.declared.alloc.Global.{Global}
+use Rattle.hcc_table.specs.Standing.{shown_at, world_at}
 use Rattle.hcc_shard.specs.declared.seat.ShardSeat.{ShardSeat}
 use Rattle.hcc_shard.specs.declared.shard.Shard.{Shard}
 use Rattle.hcc_shard.specs.Callers.{capacity_of, geometry_of, is_marking, is_strict, plan_of}
@@ -82,11 +84,20 @@ pub record IsCacheOf {T : Type 0} (config : Config) (tag : T) (cache : Cache T) 
   pub shards : (s : ℕ) (shard : Shard (Seeded T) _) → slice_get cache.shards.items s ≡ Some shard
       → IsConfigured config tag shard
 
+-- In the world that the client knows of each shard no slot shows an entry.
+abbrev pub KnowsNoneShown : {T : Type 0} → Cache T → Client T → Type 0
+KnowsNoneShown {T = T} cache client =
+    (s : ℕ) (shard : Shard (Seeded T) Global) (seat : ShardSeat (Seeded T))
+    → slice_get cache.shards.items s ≡ Some shard → slice_get client.seats.items s ≡ Some seat
+    → (slot : ℕ) → shown_at (world_at shard.table seat.seat) slot ≡ None
+
 -- A new cache with its clients: as many as configured, and each known to the cache, with nothing
--- done at any shard.
+-- done at any shard. None sees an entry anywhere.
 pub record IsOpened {T : Type 0} (config : Config) (tag : T) (cache : Cache T)
     (clients : List (Client T)) : Type 0 where
   pub cache_is : IsCacheOf config tag cache
   pub dealt : AreDealt config cache.shards.items clients
   pub known : (k : ℕ) (client : Client T) → slice_get clients k ≡ Some client
       → Knows cache client
+  pub empty : (k : ℕ) (client : Client T) → slice_get clients k ≡ Some client
+      → KnowsNoneShown cache client

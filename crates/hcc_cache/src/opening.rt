@@ -1,11 +1,12 @@
 //! A new cache, whose clients are dealt a seat at each shard.
-ghost use Rattle.std.specs.Prelude.{◌≡◌, Err, IfOk, IfErr, IsOkUnless, OnOk, length};
+ghost use Rattle.std.specs.Prelude.{◌≡◌, [], Err, IfOk, IfErr, IsOkUnless, OnOk, length};
 ghost use Rattle.hcc_shard.specs.Seated.{AreNew};
 ghost use Rattle.hcc_shard.specs.Stays.{BeganWithinLimits, KnowNoEvent};
 ghost use Rattle.hcc_cache.specs.Configs.{checked, IsAllowed};
 ghost use Rattle.hcc_cache.specs.Ended.{KnowNothing};
 ghost use Rattle.hcc_cache.specs.Keys.{fits_seeded};
 ghost use Rattle.hcc_cache.specs.Opened.{AreGiven, AreUnseated, IsConfigured, IsOpened};
+ghost use Rattle.hcc_cache.specs.Reopened.{image_of};
 ghost use Rattle.hcc_cache.specs.Stays.{BeganEachWithin};
 
 use crate::cache::Cache;
@@ -82,6 +83,7 @@ fn configured<T: Tag + Copy>(
 ) -> Result<(Shard<Seeded<T>, Global>, Vec<ShardSeat<Seeded<T>>>), AllocError>
     requires { IsAllowed config }
     ensures shard { IfOk result (λ made. IsConfigured config tag made.0) }
+    ensures image { IfOk result (λ made. image_of made.0 ≡ []) }
     ensures count { IfOk result (λ made. length made.1.items ≡ config.clients) }
     ensures seats { IfOk result (λ made. AreNew made.0 0 made.1.items) }
     ensures began { IfOk result (λ made. BeganWithinLimits made.0 (fits_seeded T.fits)) }

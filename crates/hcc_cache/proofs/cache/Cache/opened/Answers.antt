@@ -4,6 +4,7 @@ use Rattle.hcc_rule.proofs.Seats.Splits.{each_snoc}
 use Rattle.hcc_shard.specs.Stays.{BeganWithinLimits}
 use Rattle.hcc_cache.specs.Keys.{fits_seeded}
 use Rattle.hcc_cache.specs.Opened.{IsConfigured}
+use Rattle.hcc_cache.specs.Reopened.{image_of}
 use Rattle.hcc_cache.proofs.Dealing.{dealt_more, dealt_none, opened}
 use Rattle.hcc_cache.proofs.Unknowing.{nothing_first, nothing_more}
 use Rattle.hcc_cache.proofs.cache.Cache.opened.Goals as goal
@@ -16,6 +17,7 @@ loop-init g c =
       dealt = rw items
           (dealt_none c.args.config c.in_ok-clients.clients.items c.in_ok-clients.ensures);
       configured = λ s shard h. absurd (let none = ap (λ xs. slice_get xs s) items in cc);
+      images = λ s shard h. absurd (let none = ap (λ xs. slice_get xs s) items in cc);
       began = λ s shard h. absurd (let none = ap (λ xs. slice_get xs s) items in cc);
       past = nothing_first c.args.config c.in_ok-clients.clients.items c.in_ok-clients.ensures;
     }
@@ -35,6 +37,7 @@ loop-preserved g c =
           c.in_ok-shard.seats.items kept.dealt c.in_ok-deal.ensures made.seats);
       configured = rw items
           (each_snoc (IsConfigured c.args.config c.args.tag) old shard made.shard kept.configured);
+      images = rw items (each_snoc (λ z. image_of z ≡ []) old shard made.image kept.images);
       began = rw items
           (each_snoc (λ z. BeganWithinLimits z (fits_seeded g.T.Tag.fits)) old shard made.began
           kept.began);
@@ -57,7 +60,7 @@ returns g c =
             strict = refl;
             count = omega arith;
             shards = kept.configured;
-          }) kept.dealt;
+          }) kept.dealt kept.images kept.past;
       began = kept.began;
       past = kept.past;
     }
