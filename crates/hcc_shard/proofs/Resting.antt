@@ -1,5 +1,5 @@
 -- A seat is at rest again after what a call left of its view.
-use Rattle.std.proofs.Common.{◌≡◌, ℕ, ◌<◌, ◌++◌, Bool, List, [], ◌∷◌, Option, Some, None, IfSome, IfNone, length, sym, refl, ap, ◌∙◌, arith}
+use Rattle.std.proofs.Common.{◌≡◌, ℕ, ◌<◌, ◌++◌, Bool, List, [], ◌∷◌, IfSome, length, sym, refl, ap, ◌∙◌, arith}
 use Rattle.hcc_core.specs.declared.client.Client.{Client}
 use Rattle.hcc_core.specs.declared.limits.TheConstants.{MOST_HANDLES, STAMPS_PER_CLIENT}
 use Rattle.hcc_core.specs.Outcomes.{dropped}
@@ -15,7 +15,7 @@ use Rattle.hcc_rule.specs.Views.{is_called}
 use Rattle.hcc_rule.specs.Records.{record_in}
 use Rattle.hcc_table.specs.declared.pins.Pin.{Pin}
 use Rattle.hcc_table.specs.Pins.{IsOf, IsPinned}
-use Rattle.hcc_table.specs.Searched.{IsFound, IsMissed, Searched, Sought}
+use Rattle.hcc_table.specs.Searched.{IsFound, Searched, Sought}
 use Rattle.hcc_shard.specs.declared.seat.ShardSeat.{ShardSeat}
 use Rattle.hcc_shard.specs.declared.shard.Shard.{Shard}
 use Rattle.hcc_shard.specs.Referred.{IsErasedAll, IsReleased}
@@ -114,17 +114,6 @@ module _ {T : Type 0} where
           named = rw f.called low;
           readable = record { short = f.short; bytes = f.bytes };
         }) room
-
-    -- the answer of a look-up
-    pub quiet_looked : (fits : T → Key → List ℕ → Type 0) (serial : ℕ) (key : Key) (o : Option Pin)
-        → IfSome o (λ pin. (pin.slot < geometry.slots) × (pin.name ≡ serial))
-        → IfSome o (λ pin. (r : Record)
-        × IsFound fits geometry.room pin.slot serial key v w r × (r.counting ≡ pin.counting))
-        → IfNone o (IsMissed key v w) → serial < STAMPS_PER_CLIENT
-        → length v.records < MOST_HANDLES → IsQuietAgain geometry v w
-    quiet_looked fits serial key None within found missed low room = quiet_sought missed.sought
-    quiet_looked fits serial key (Some pin) within found missed low room =
-        quiet_found fits pin.slot serial key found.0 found.1 within.0 low room
 
     pub quiet_again : (pin new : Pin) (serial : ℕ) (r : Record) → Searched v w
         → w.records ≡ v.records ++ r ∷ [] → IsOf new r → new.slot ≡ pin.slot → r.name ≡ serial

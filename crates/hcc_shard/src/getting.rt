@@ -67,8 +67,9 @@ impl<T: Tag, A: Allocator> Shard<T, A> {
             self.marks,
             &mut seat.effort,
         ) {
-            Some(pin) => {
-                let first = self.table.data_of(pin.slot);
+            Some(found) => {
+                let pin = found.pin;
+                let first = found.first;
                 let got = copy_out(&self.table, &mut seat.seat, pin, first, buffer);
                 give_back(&self.table, &mut seat.seat, pin, first, usage);
                 got

@@ -63,14 +63,17 @@ impl<T: Tag, A: Allocator> Shard<T, A> {
         ensures steps { MakesFor 7 0 (slots_of self.now.table) seat.old.effort seat.new.effort
             seat.old.seat seat.new.seat }
     {
-        let found = find(
+        let found = match find(
             &self.table,
             &mut seat.seat,
             key,
             serial,
             self.marks,
             &mut seat.effort,
-        );
+        ) {
+            Some(found) => Some(found.pin),
+            None => None,
+        };
         found
     }
 

@@ -84,5 +84,5 @@ pub use pinning::pinned_charge;
 pub use pins::{IfLast, Pin, Use};
 pub use readings::{copy_bytes, displacement, read_bytes, read_key, read_len, word};
 pub use releasing::{give_back, release};
-pub use search::find;
+pub use search::{Found, find};
 pub use visiting::{ClockVisit, visit};

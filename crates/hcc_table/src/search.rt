@@ -14,6 +14,7 @@ ghost use Rattle.hcc_rule.specs.Views.{load_of};
 ghost use Rattle.hcc_rule.specs.Records.{record_in};
 ghost use Rattle.hcc_rule.specs.Words.{field_at, key_of};
 ghost use Rattle.hcc_table.specs.Efforts.{Took};
+ghost use Rattle.hcc_table.specs.Pins.{pin_of};
 ghost use Rattle.hcc_table.specs.Probed.{Catches, LoadsKey, LoadsOther, Looks, Passes, Searches};
 ghost use Rattle.hcc_table.specs.Searched.{Sought, IsFound, IsMissed, Buried};
 ghost use Rattle.hcc_table.specs.Seeking.{Seeks};
@@ -28,6 +29,15 @@ use hcc_rule::layout::{KEY0, KEY1};
 use hcc_rule::{Key, RuleSeat, RuleTable, Tag};
 use hcc_word::hit;
 use std::alloc::Allocator;
+
+/// What a search found.
+#[derive(Clone, Copy, Debug, PartialEq, Eq)]
+pub struct Found {
+    /// The reference on the entry.
+    pub pin: Pin,
+    /// The address of the first data word of its slot, for those who read the entry next.
+    pub first: usize,
+}
 
 /// Finds a visible entry of the key, and acquires a reference on it under this name, which the
 /// client doesn't hold; it has room for one more. With `marks` the entry's hit bit is set. Each
@@ -57,23 +67,26 @@ pub fn find<T: Tag, A: Allocator>(
     name: u64,
     marks: bool,
     effort: &mut Effort,
-) -> Option<Pin>
+) -> Option<Found>
     requires seat { IsSeatAt table.now seat.old }
     requires fresh { record_in name (view seat.old).records ≡ None }
     requires load { load_of (view seat.old).records + 1 ≤ REFERENCES_PER_CLIENT }
     ensures seat { IsSameSeat seat.old seat.new }
     ensures effort { Took 1 (slots_of table.now) (slots_of table.now) effort.old effort.new }
-    ensures pin { IfSome result (λ pin. (pin.slot < slots_of table.now) × (pin.name ≡ name)) }
-    ensures found { IfSome result (λ pin. (r : Record)
+    ensures pin { IfSome (pin_of result) (λ pin. (pin.slot < slots_of table.now)
+        × (pin.name ≡ name)) }
+    ensures first { IfSome result (λ found.
+        found.first ≡ field_at (room_of table.now) found.pin.slot DATA) }
+    ensures found { IfSome (pin_of result) (λ pin. (r : Record)
         × IsFound T.fits (room_of table.now) pin.slot name key (view seat.old) (view seat.new) r
         × (r.counting ≡ pin.counting)) }
     ensures missed { IfNone result (IsMissed key (view seat.old) (view seat.new)) }
-    ensures searches { Searches T.fits table.now key name marks result effort.old effort.new
-        seat.old seat.new }
-    ensures acquired { IfSome result (λ pin. (found : ℕ) × (is_visible found ≡ true)
+    ensures searches { Searches T.fits table.now key name marks (pin_of result) effort.old
+        effort.new seat.old seat.new }
+    ensures acquired { IfSome (pin_of result) (λ pin. (found : ℕ) × (is_visible found ≡ true)
         × (pin.counting ≡ is_counting found)
         × Among (atomic (address_of_meta table.now pin.slot) 1 0 found) seat.old seat.new) }
-    ensures marked { marks ≡ true → IfSome result (λ pin.
+    ensures marked { marks ≡ true → IfSome (pin_of result) (λ pin.
         Marks (address_of_meta table.now pin.slot) seat.old seat.new) }
     ensures unmarked { marks ≡ false → AddsUnmarked seat.old seat.new }
     ensures steps { MakesFor 7 0 (slots_of table.now) effort.old effort.new seat.old seat.new }
@@ -86,11 +99,12 @@ pub fn find<T: Tag, A: Allocator>(
     if let Some(found) = acquire_at(table, seat, home, first, key, name, effort) {
         mark_if(table, seat, home, name, marks, found);
         effort.probes(1);
-        return Some(Pin {
+        let pin = Pin {
             slot: home,
             name,
             counting: counts(found),
-        });
+        };
+        return Some(Found { pin, first });
     }
     if table.count_at(seat, home, first) == 0 {
         effort.probes(1);
@@ -103,11 +117,12 @@ pub fn find<T: Tag, A: Allocator>(
         if let Some(found) = acquire_at(table, seat, slot, first, key, name, effort) {
             mark_if(table, seat, slot, name, marks, found);
             effort.probes(probe as u64 + 1);
-            return Some(Pin {
+            let pin = Pin {
                 slot,
                 name,
                 counting: counts(found),
-            });
+            };
+            return Some(Found { pin, first });
         }
         if table.count_at(seat, slot, first) == 0 {
             effort.probes(probe as u64 + 1);

@@ -166,14 +166,17 @@ impl Caller<'_> {
         ensures holds { IfSome result (λ found. HoldsOne found (view self.new.seat)) }
         ensures ready { IfNone result (IsReady (view self.new.seat)) }
     {
-        find(
+        match find(
             self.table,
             &mut self.seat,
             key,
             NAME,
             marks,
             &mut self.effort,
-        )
+        ) {
+            Some(found) => Some(found.pin),
+            None => None,
+        }
     }
 
     /// Releases a handle.

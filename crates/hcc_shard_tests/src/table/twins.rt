@@ -189,7 +189,8 @@ impl Caller<'_> {
             false,
             &mut self.effort,
         )
-        .expect(rt, "not found");
+        .expect(rt, "not found")
+        .pin;
         let held = word(self.table, &mut self.seat, third.slot);
         let mut buffer = [0; 16];
         read_bytes(self.table, &mut self.seat, third, &mut buffer);
