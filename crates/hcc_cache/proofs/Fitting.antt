@@ -1,15 +1,16 @@
 -- What an insertion that evicts nothing leaves of what a shard of one client shows.
-use Rattle.std.proofs.Common.{◌≡◌, inl, inr, ℕ, ◌+◌, ◌<◌, ◌≤◌, Bool, List, Some, Result, Ok, Err, IsOk, slice_get, sym, refl, ap, ◌∙◌, subst}
+use Rattle.std.proofs.Common.{◌≡◌, inl, inr, ℕ, ◌+◌, ◌-◌, ◌<◌, ◌≤◌, Bool, List, length, Some, Result, Ok, Err, IsOk, slice_get, sym, refl, ap, ◌∙◌, subst}
 use Rattle.std.specs.Prelude.{IsSomeAnd}
 use Rattle.std.proofs.lemmas.Bool.{cases_eq}
 use Rattle.std.proofs.lemmas.Option.{same_Some}
 use Rattle.std.specs.declared.alloc.Global.{Global}
-use Rattle.hcc_core.specs.World.{State, limit_of, occupancy_of, usage_of}
+use Rattle.hcc_core.specs.World.{State, limit_of, occupancy_of, standing_of, usage_of}
 use Rattle.hcc_rule.specs.declared.key.Key.{Key}
 use Rattle.hcc_rule.specs.declared.steps.shows.Draft.{Draft}
 use Rattle.hcc_rule.specs.Callers.{capacity_of, clients_of, plan_of, slots_of}
 use Rattle.hcc_rule.specs.Rule.{setup_of}
 use Rattle.hcc_rule.specs.Seats.{SeatOf, view}
+use Rattle.hcc_rule.specs.Views.{charge_made}
 use Rattle.hcc_rule.specs.Words.{key_of}
 use Rattle.hcc_table.specs.declared.efforts.Effort.{Effort}
 use Rattle.hcc_table.specs.declared.inserting.Insertion.{Insertion}
@@ -22,7 +23,7 @@ use Rattle.hcc_charge.specs.declared.reserving.Refused.TheVariants.{TooLarge, Ca
 use Rattle.hcc_charge.specs.declared.reserving.Reservation.{Reservation}
 use Rattle.hcc_charge.specs.declared.reserving.Reservation.TheVariants.{Reserved, NoPlace}
 use Rattle.hcc_charge.proofs.Askings.{keeps_then}
-use Rattle.hcc_charge.proofs.Stayings.{roomy, unturned, unturned_still}
+use Rattle.hcc_charge.proofs.Stayings.{roomy, roomy_beside, unturned, unturned_still}
 use Rattle.hcc_shard.specs.declared.inserting.Inserted.{Inserted}
 use Rattle.hcc_shard.specs.declared.inserting.Inserted.TheVariants as stored
 use Rattle.hcc_shard.specs.declared.inserting.Pinned.{Pinned}
@@ -89,35 +90,54 @@ module _ {T : Type 0} (fits : T → Key → List ℕ → Type 0) (shard : Shard 
       → (view r.reserved).turns ≡ (view old.seat).turns
   turns_of answer r same = sym r.idle.turns ∙ same
 
-  -- Where there is room an insertion isn't refused, and turns the hand no further,
-  module _ (one : clients_of shard.table ≡ 1)
-      (place : occupancy_of (world_at shard.table old.seat)
-      < limit_of (setup_of (plan_of shard.table)))
-      (room : usage_of (world_at shard.table old.seat) + draft.charge
-      ≤ capacity_of shard.table) where
-    found : (answer : Result Reservation Refused)
-        (r : ReservedAs (fits_seeded fits) shard draft answer old new)
-        → (answer ≡ Ok Reserved) × TurnsNone old new
-    found answer r =
-        let began =
-        roomy (fits_seeded fits) shard.table draft.charge answer old.tally new.tally old.effort
-        r.counted old.seat r.reserved one r.evicts place room in
-        (began.0, r.idle.turns ∙ began.1)
+  -- Where there is room in the world that the client knows a reservation is granted, and the
+  -- insertion turns the hand no further,
+  pub found_room : clients_of shard.table ≡ 1
+      → occupancy_of (world_at shard.table old.seat) < limit_of (setup_of (plan_of shard.table))
+      → usage_of (world_at shard.table old.seat) + draft.charge ≤ capacity_of shard.table
+      → (answer : Result Reservation Refused)
+      → ReservedAs (fits_seeded fits) shard draft answer old new
+      → (answer ≡ Ok Reserved) × TurnsNone old new
+  found_room one place room answer r =
+      let began =
+      roomy (fits_seeded fits) shard.table draft.charge answer old.tally new.tally old.effort
+      r.counted old.seat r.reserved one r.evicts place room in
+      (began.0, r.idle.turns ∙ began.1)
 
-    pub room_idles : (answer : Result Inserted Refused)
+  -- and so it is where there is room beside all that the client made.
+  pub found_beside : clients_of shard.table ≡ 1
+      → length (view old.seat).made - (view old.seat).takings
+      < limit_of (setup_of (plan_of shard.table))
+      → standing_of (view old.seat).work + charge_made (view old.seat) + draft.charge
+      ≤ capacity_of shard.table
+      → (answer : Result Reservation Refused)
+      → ReservedAs (fits_seeded fits) shard draft answer old new
+      → (answer ≡ Ok Reserved) × TurnsNone old new
+  found_beside one place room answer r =
+      let began =
+      roomy_beside (fits_seeded fits) shard.table draft.charge answer old.tally new.tally
+      old.effort r.counted old.seat r.reserved one r.evicts place room in
+      (began.0, r.idle.turns ∙ began.1)
+
+  -- Where that is so of each reservation the insertion isn't refused,
+  module _ (found : (answer : Result Reservation Refused)
+      → ReservedAs (fits_seeded fits) shard draft answer old new
+      → (answer ≡ Ok Reserved) × TurnsNone old new) where
+    pub found_idles : (answer : Result Inserted Refused)
         → InsertedAs (fits_seeded fits) shard draft answer old new
         → IsOk answer × TurnsNone old new
-    room_idles (Ok stored.Placed) did = (refl, (found (Ok Reserved) did.1.reserves).1)
-    room_idles (Ok stored.Dropped) did = (refl, (found (Ok did.told) did.reserves).1)
-    room_idles (Err why) did =
+    found_idles (Ok stored.Placed) did = (refl, (found (Ok Reserved) did.1.reserves).1)
+    found_idles (Ok stored.Dropped) did = (refl, (found (Ok did.told) did.reserves).1)
+    found_idles (Err why) did =
         absurd (let is = (found (Err why) did.reserves).0 in let never : ⊥ = cc in never)
 
-    pub room_idles_pinned : (answer : Result Pinned Refused)
+    pub found_idles_pinned : (answer : Result Pinned Refused)
         → PinnedAs (fits_seeded fits) shard draft answer old new
         → IsOk answer × TurnsNone old new
-    room_idles_pinned (Ok (pinned.Placed pin)) did = (refl, (found (Ok Reserved) did.reserves).1)
-    room_idles_pinned (Ok pinned.Standalone) did = (refl, (found (Ok did.told) did.reserves).1)
-    room_idles_pinned (Err why) did =
+    found_idles_pinned (Ok (pinned.Placed pin)) did =
+        (refl, (found (Ok Reserved) did.reserves).1)
+    found_idles_pinned (Ok pinned.Standalone) did = (refl, (found (Ok did.told) did.reserves).1)
+    found_idles_pinned (Err why) did =
         absurd (let is = (found (Err why) did.reserves).0 in let never : ⊥ = cc in never)
 
   module _ (one : clients_of shard.table ≡ 1)

@@ -1,12 +1,14 @@
 -- An insertion that evicts nothing, as where there is room for its entry, in a cache of one client.
-use Rattle.std.specs.Prelude.{◌≡◌, ℕ, ◌+◌, ◌*◌, ◌/◌, ◌<◌, ◌≤◌, List, Result, Ok, Err}
+use Rattle.std.specs.Prelude.{◌≡◌, ℕ, ◌+◌, ◌-◌, ◌*◌, ◌/◌, ◌<◌, ◌≤◌, List, Result, Ok, Err, length}
 use Rattle.std.specs.declared.alloc.Global.{Global}
 use Rattle.hcc_core.specs.declared.limits.TheConstants.{OCCUPANCY_PERCENT}
-use Rattle.hcc_core.specs.World.{State, occupancy_of, usage_of}
+use Rattle.hcc_core.specs.World.{State, occupancy_of, standing_of, usage_of}
 use Rattle.hcc_rule.specs.declared.key.Key.{Key}
 use Rattle.hcc_rule.specs.declared.steps.shows.Draft.{Draft}
+use Rattle.hcc_rule.specs.declared.view.View.{View}
 use Rattle.hcc_rule.specs.Callers.{slots_of}
 use Rattle.hcc_rule.specs.Seats.{view}
+use Rattle.hcc_rule.specs.Views.{charge_made}
 use Rattle.hcc_table.specs.declared.inserting.Insertion.{Insertion}
 use Rattle.hcc_table.specs.declared.inserting.Insertion.TheVariants as insertions
 use Rattle.hcc_table.specs.Standing.{InsertsShown, world_at}
@@ -31,6 +33,13 @@ use Rattle.hcc_cache.specs.Keys.{fits_seeded}
 pub record HasRoom (config : Config) (charge : ℕ) (world : State) : Type 0 where
   pub place : occupancy_of world < config.slots * OCCUPANCY_PERCENT / 100
   pub within : usage_of world + charge ≤ shard_capacity config
+
+-- A shard whose one client knows this has room for such an entry beside all that the client made
+-- there: of these entries those that it didn't take leave a place, and the charges of all of them,
+-- with those of its standalone entries, leave room for the charge.
+pub record HasRoomBeside {T : Type 0} (config : Config) (charge : ℕ) (v : View T) : Type 0 where
+  pub place : length v.made - v.takings < config.slots * OCCUPANCY_PERCENT / 100
+  pub within : standing_of v.work + charge_made v + charge ≤ shard_capacity config
 
 module _ {T : Type 0} (shard : Shard (Seeded T) Global) (draft : Draft) where
   -- An insertion with this answer evicted nothing. In the worlds that the client knows of the shard

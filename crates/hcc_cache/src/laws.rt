@@ -10,6 +10,7 @@ ghost use Rattle.hcc_rule.specs.declared.layout.TheConstants.{OCCUPANCY};
 ghost use Rattle.hcc_rule.specs.declared.key.Key.{Key};
 ghost use Rattle.hcc_rule.specs.declared.view.View.{View};
 ghost use Rattle.hcc_rule.specs.Laws.{StateOf, ledger_word, AreMade, AreOfMade};
+ghost use Rattle.hcc_rule.specs.Seats.{view};
 ghost use Rattle.hcc_charge.specs.declared.reserving.Refused.{Refused};
 ghost use Rattle.hcc_charge.specs.declared.reserving.Reservation.TheVariants.{Reserved};
 ghost use Rattle.hcc_shard.specs.declared.getting.Got.{Got};
@@ -35,7 +36,7 @@ ghost use Rattle.hcc_cache.specs.Keys.{fits_seeded};
 ghost use Rattle.hcc_cache.specs.Known.{Knows};
 ghost use Rattle.hcc_cache.specs.Moments.{IsMoment, IsQuietMiss, KnowsShown, ShowsKeyIn, plan_in};
 ghost use Rattle.hcc_cache.specs.Opened.{IsCacheOf};
-ghost use Rattle.hcc_cache.specs.Room.{HasRoom, KeepsAs, KeepsPinnedAs, TurnsNone};
+ghost use Rattle.hcc_cache.specs.Room.{HasRoom, HasRoomBeside, KeepsAs, KeepsPinnedAs, TurnsNone};
 ghost use Rattle.hcc_cache.specs.Sharding.{key_to};
 ghost use Rattle.hcc_cache.specs.Stays.{BeganEachWithin, ReleasesPin, Stays};
 ghost use Rattle.hcc_cache.specs.Totals.{occupancy_in, usage_in, KnowsEach, LoadsEachOccupancy, LoadsEachUsage};
@@ -230,11 +231,28 @@ pub fn law_room<T: Tag>()
         → HasRoom config charge (world_at h.shard.table h.was.seat)
         → IsOk answer × TurnsNone h.was h.is }
 
-    // One that turns the hand no further evicts nothing. From that world to the one that the client
-    // knows at the end: Placed: its slot showed nothing, and is an earlier probe of the key than
-    // each that shows the key; then it shows it. Dropped: a place was reserved, and it met the
-    // first probe that shows the key, or none does. All other slots show what they showed. Refused
-    // is only a charge above a strict capacity, and nothing was done.
+    // So it is, whatever became of what the client made at the key's shard, where those entries
+    // that it didn't take leave a place, and the charges of all that it made there, with those of
+    // its standalone entries, leave room for the charge.
+    ensures fits { (config : Config) (tag : T) (cache : Cache T)
+        → IsCacheOf config tag cache → config.clients ≡ 1
+        → (key : Key) (charge : ℕ) (priority : Priority) (answer : Result Inserted Refused)
+        (old new : Client T) (h : StoresAt cache T.fits key charge priority answer old new)
+        → HasRoomBeside config charge (view h.was.seat) → IsOk answer × TurnsNone h.was h.is }
+
+    // And so it is of one that gives a handle.
+    ensures fits_pinned { (config : Config) (tag : T) (cache : Cache T)
+        → IsCacheOf config tag cache → config.clients ≡ 1
+        → (key : Key) (charge : ℕ) (priority : Priority) (answer : Result Pinned Refused)
+        (old new : Client T) (h : PinsAt cache T.fits key charge priority answer old new)
+        → HasRoomBeside config charge (view h.was.seat) → IsOk answer × TurnsNone h.was h.is }
+
+    // One that turns the hand no further evicts nothing. From the world that the client knows of
+    // the shard when the call begins to the one that it knows at the end: Placed: its slot showed
+    // nothing, and is an earlier probe of the key than each that shows the key; then it shows it.
+    // Dropped: a place was reserved, and it met the first probe that shows the key, or none does.
+    // All other slots show what they showed. Refused is only a charge above a strict capacity, and
+    // nothing was done.
     ensures stores { (config : Config) (tag : T) (cache : Cache T)
         → IsCacheOf config tag cache → config.clients ≡ 1
         → (key : Key) (charge : ℕ) (priority : Priority) (answer : Result Inserted Refused)
