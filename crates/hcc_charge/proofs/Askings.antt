@@ -1,15 +1,18 @@
 -- What a reservation found, and what it evicted for that.
-use Rattle.std.proofs.Common.{◌≡◌, ℕ, ◌+◌, ◌-◌, Bool, true, false, List, sym, subst, ap, ◌∙◌, arith}
+use Rattle.std.proofs.Common.{◌≡◌, ℕ, ◌+◌, ◌-◌, ◌≤◌, Bool, true, false, List, length, sym, subst, ap, ◌∙◌, arith}
 use Rattle.hcc_core.specs.Sums.{when}
+use Rattle.hcc_core.specs.World.{charged_to, occupied_by, standing_of}
 use Rattle.hcc_rule.specs.declared.key.Key.{Key}
 use Rattle.hcc_rule.specs.declared.layout.TheConstants.{USAGE}
 use Rattle.hcc_rule.specs.declared.table.RuleTable.{RuleTable}
 use Rattle.hcc_rule.specs.declared.view.View.{View}
-use Rattle.hcc_rule.specs.Callers.{capacity_of, is_strict, plan_of, slots_of, IsEvent}
+use Rattle.hcc_rule.specs.Between.{IsBetweenCalls}
+use Rattle.hcc_rule.specs.Callers.{capacity_of, clients_of, is_strict, plan_of, slots_of, IsEvent}
 use Rattle.hcc_rule.specs.Addresses.{address_of_ledger}
 use Rattle.hcc_rule.specs.Events.{enter_done}
 use Rattle.hcc_rule.specs.Rule.{setup_of}
 use Rattle.hcc_rule.specs.Seats.{SeatOf, Makes, view}
+use Rattle.hcc_rule.specs.Views.{charge_made}
 use Rattle.hcc_table.specs.declared.efforts.Effort.{Effort}
 use Rattle.hcc_table.specs.Efforts.{Lost}
 use Rattle.hcc_table.specs.Still.{GoesOnStill}
@@ -85,11 +88,15 @@ module _ {T A : Type 0} (fits : T → Key → List ℕ → Type 0) (table : Rule
       → FindsBy table strict charge used u b → EvictsNothing (view u) (view b)
       → EvictsFor fits table ask swept b c → IsSweptFor (slots_of table) ask swept
       → Sweeps swept.turns swept.slots swept.charge (view b) (view c)
-      → Tallied swept before after → Lost swept.lost swept.lost effort counted → (d : SeatOf T)
-      → EvictsNothing (view c) (view d) → GoesOnStill table c d
+      → Tallied swept before after → Lost swept.lost swept.lost effort counted
+      → IsBetweenCalls (view a).work
+      → (clients_of table ≡ 1
+      → taken + (view a).takings ≡ length (view a).made + occupied_by (view a).work)
+      → (clients_of table ≡ 1 → used ≤ charged_to (view u).work + charge_made (view u))
+      → (d : SeatOf T) → EvictsNothing (view c) (view d) → GoesOnStill table c d
       → EvictsAsAsked fits table charge before after effort counted a d
   evicts_as_asked is_found is_kind is_asked enters opens finds enters_by finds_by first evicts
-      within sweeps tallied lost d last behind =
+      within sweeps tallied lost idle places charges d last behind =
       record {
         taken = taken;
         used = used;
@@ -118,8 +125,23 @@ module _ {T A : Type 0} (fits : T → Key → List ℕ → Type 0) (table : Rule
         tallied = tallied;
         lost = lost;
         behind = behind;
+        taken_alone = λ one. let found = places one in let none = no_place in omega arith;
+        used_alone = λ one. let found = charges one in let own = stands in omega arith;
       }
     where
+      -- between two calls a client has no place and no freed slot,
+      no_place : occupied_by (view a).work ≡ 0
+      no_place = ap occupied_by idle
+
+      -- and only its standalone entries stand for it
+      stands : charged_to (view u).work + charge_made (view u)
+          ≡ standing_of (view a).work + charge_made (view a)
+      stands =
+          let made = ap charge_made opens in
+          let charged = ap (λ (z : View T). charged_to z.work) opens in
+          let own = ap charged_to idle in
+          omega arith
+
       here : ask ≡ asked (is_strict table) (capacity_of table) charge (is_full table taken) used
       here =
           is_asked

@@ -1,5 +1,5 @@
 -- What a reservation leaves of what a shard shows, and what it finds where there is room.
-use Rattle.std.proofs.Common.{◌≡◌, ℕ, zero, suc, ◌+◌, ◌-◌, min, ◌<◌, ◌≤◌, Bool, true, false, ◌&&◌, nat_le, nat_lt, List, Some, Result, Ok, Err, cond, slice_get, sym, subst, refl, ap, ◌∙◌, arith}
+use Rattle.std.proofs.Common.{◌≡◌, ℕ, zero, suc, ◌+◌, ◌-◌, min, ◌<◌, ◌≤◌, Bool, true, false, ◌&&◌, nat_le, nat_lt, List, Some, length, Result, Ok, Err, cond, slice_get, sym, subst, refl, ap, ◌∙◌, arith}
 use Rattle.std.specs.Prelude.{if◌then◌else◌}
 use Rattle.std.proofs.lemmas.Bool.{lt-leb, lt-ltb, ltb-true}
 use Rattle.hcc_core.specs.declared.client.Client.{Client}
@@ -11,7 +11,7 @@ use Rattle.hcc_core.specs.Ledgers.{charge_by, enter_of, grant_of, may_charge}
 use Rattle.hcc_core.specs.Outcomes.{allow, live_at, with_client}
 use Rattle.hcc_core.specs.Steps.{outcome_of}
 use Rattle.hcc_core.specs.Sums.{when}
-use Rattle.hcc_core.specs.World.{State, charged_to, is_absent, limit_of, occupancy_of, usage_of}
+use Rattle.hcc_core.specs.World.{State, charged_to, is_absent, limit_of, occupancy_of, standing_of, usage_of}
 use Rattle.hcc_core.proofs.Keeps.{live_ok}
 use Rattle.hcc_core.proofs.SumLemmas.{total-set}
 use Rattle.hcc_rule.specs.declared.key.Key.{Key}
@@ -22,6 +22,7 @@ use Rattle.hcc_rule.specs.Events.{charge_done, enter_done, entered, usage_done}
 use Rattle.hcc_rule.specs.Opening.{begun_world}
 use Rattle.hcc_rule.specs.Rule.{setup_of}
 use Rattle.hcc_rule.specs.Seats.{SeatOf, view}
+use Rattle.hcc_rule.specs.Views.{charge_made}
 use Rattle.hcc_table.specs.declared.efforts.Effort.{Effort}
 use Rattle.hcc_table.specs.Standing.{world_at}
 use Rattle.hcc_table.specs.Still.{GoesOnStill, is_still}
@@ -239,6 +240,45 @@ strict_fits setup capacity charge used usage strict within fits same =
     let found = grants used in
     omega arith
 
+-- and of either kind, where the charge fits beside the usage that was found
+room_lacks : (strict : Bool) (capacity charge used : ℕ) → used + charge ≤ capacity
+    → (asked strict capacity charge false used ≡ 0) × (needed_by strict capacity used charge ≡ 0)
+room_lacks true capacity charge used fits = (omega arith, omega arith)
+room_lacks false capacity charge used fits = (lax_fits capacity charge used fits, refl)
+
+module _ {T A : Type 0} (fits : T → Key → List ℕ → Type 0) (table : RuleTable T A) (charge : ℕ)
+    {before after : Tally} {effort counted : Effort} {a d : SeatOf T} where
+  -- A reservation found a place and all of the charge, and asked eviction for nothing.
+  pub record FindsAll (e : EvictsAsAsked fits table charge before after effort counted a d)
+      : Type 0 where
+    pub free : is_full table e.taken ≡ false
+    pub asks : asked_by fits table charge e ≡ 0
+    pub lacks : lacked table charge e.used ≡ 0
+
+  finds_all : (e : EvictsAsAsked fits table charge before after effort counted a d)
+      → e.taken < limit_of (setup_of (plan_of table))
+      → (asked (is_strict table) (capacity_of table) charge false e.used ≡ 0)
+      × (needed_by (is_strict table) (capacity_of table) e.used charge ≡ 0) → FindsAll e
+  finds_all e place found = record {
+    free = free;
+    asks = ap (λ f. asked (is_strict table) (capacity_of table) charge f e.used) free ∙ found.0;
+    lacks = found.1;
+  }
+    where
+      free : is_full table e.taken ≡ false
+      free = lt-leb (limit_of (setup_of (plan_of table))) e.taken place
+
+  -- It does where all that one client made leaves room.
+  made_found : clients_of table ≡ 1
+      → (e : EvictsAsAsked fits table charge before after effort counted a d)
+      → length (view a).made - (view a).takings < limit_of (setup_of (plan_of table))
+      → standing_of (view a).work + charge_made (view a) + charge ≤ capacity_of table → FindsAll e
+  made_found one e place room =
+      let taken = e.taken_alone one in
+      let used = e.used_alone one in
+      finds_all e (omega arith)
+      (room_lacks (is_strict table) (capacity_of table) charge e.used (omega arith))
+
 module _ {T A : Type 0} (fits : T → Key → List ℕ → Type 0) (table : RuleTable T A)
     (one : clients_of table ≡ 1) (charge : ℕ) where
   setup_at : (a : SeatOf T) → (world_at table a).setup ≡ setup_of (plan_of table)
@@ -250,14 +290,11 @@ module _ {T A : Type 0} (fits : T → Key → List ℕ → Type 0) (table : Rule
       → usage_of (world_at table u) + charge ≤ capacity_of table
       → (asked strict (capacity_of table) charge false used ≡ 0)
       × (needed_by strict (capacity_of table) used charge ≡ 0)
-  finds_room false used u b lax event room = (
-    lax_fits (capacity_of table) charge used
-        (let is =
-        usage_tells (world_at table u) (world_at table b) (view u).client used
-        (event_alone table one (usage_done used (view u)) u b event) in
-        omega arith),
-    refl,
-  )
+  finds_room false used u b lax event room =
+      let is =
+      usage_tells (world_at table u) (world_at table b) (view u).client used
+      (event_alone table one (usage_done used (view u)) u b event) in
+      room_lacks false (capacity_of table) charge used (omega arith)
   finds_room true used u b strict event room =
       let none =
       strict_fits (setup_of (plan_of table)) (capacity_of table) charge used
@@ -269,17 +306,18 @@ module _ {T A : Type 0} (fits : T → Key → List ℕ → Type 0) (table : Rule
       (none, none)
 
   module _ {before after : Tally} {effort counted : Effort} {a d : SeatOf T} where
-    -- A reservation in a world with room finds a place and all of the charge.
+    -- A reservation in a world with room finds all.
     room_found : (e : EvictsAsAsked fits table charge before after effort counted a d)
         → occupancy_of (world_at table a) < limit_of (setup_of (plan_of table))
-        → usage_of (world_at table a) + charge ≤ capacity_of table
-        → (is_full table e.taken ≡ false)
-        × (asked_by fits table charge e ≡ 0) × (lacked table charge e.used ≡ 0)
-    room_found e place room = (
-      free,
-      ap (λ f. asked (is_strict table) (capacity_of table) charge f e.used) free ∙ found.0,
-      found.1,
-    )
+        → usage_of (world_at table a) + charge ≤ capacity_of table → FindsAll fits table charge e
+    room_found e place room =
+        finds_all fits table charge e
+        (ltb-true e.taken (limit_of (setup_of (plan_of table)))
+        (sym told.0
+        ∙ lt-ltb (occupancy_of (world_at table a)) (limit_of (setup_of (plan_of table)))
+        place))
+        (finds_room (is_strict table) e.used e.u e.b refl e.finds_by
+        (let same = told.1 in omega arith))
       where
         told : (nat_lt (occupancy_of (world_at table a)) (limit_of (setup_of (plan_of table)))
             ≡ nat_lt e.taken (limit_of (setup_of (plan_of table))))
@@ -290,44 +328,50 @@ module _ {T A : Type 0} (fits : T → Key → List ℕ → Type 0) (table : Rule
             (event_alone table one (enter_done (setup_of (plan_of table)) e.taken (view a)) a e.u
             e.enters_by)
 
-        free : is_full table e.taken ≡ false
-        free =
-            lt-leb (limit_of (setup_of (plan_of table))) e.taken
-            (ltb-true e.taken (limit_of (setup_of (plan_of table)))
-            (sym told.0
-            ∙ lt-ltb (occupancy_of (world_at table a)) (limit_of (setup_of (plan_of table)))
-            place))
-
-        found : (asked (is_strict table) (capacity_of table) charge false e.used ≡ 0)
-            × (needed_by (is_strict table) (capacity_of table) e.used charge ≡ 0)
-        found =
-            finds_room (is_strict table) e.used e.u e.b refl e.finds_by
-            (let same = told.1 in omega arith)
-
--- A reservation in a world with room is granted, and turns the hand no further.
-pub roomy : {T A : Type 0} (fits : T → Key → List ℕ → Type 0) (table : RuleTable T A)
+-- A reservation that finds all is granted, and turns the hand no further.
+granted : {T A : Type 0} (fits : T → Key → List ℕ → Type 0) (table : RuleTable T A)
     (charge : ℕ) (answer : Result Reservation Refused) (before after : Tally)
-    (effort counted : Effort) (a d : SeatOf T) → clients_of table ≡ 1
+    (effort counted : Effort) (a d : SeatOf T)
     → EvictsBy fits table charge answer before after effort counted a d
-    → occupancy_of (world_at table a) < limit_of (setup_of (plan_of table))
-    → usage_of (world_at table a) + charge ≤ capacity_of table
+    → charge ≤ capacity_of table
+    → ((e : EvictsAsAsked fits table charge before after effort counted a d)
+    → FindsAll fits table charge e)
     → (answer ≡ Ok Reserved) × ((view d).turns ≡ (view a).turns)
-roomy fits table charge (Ok Reserved) before after effort counted a d one h place room =
-    let asks = (room_found fits table one charge h.0 place room).1 in
-    let none = ap (λ s. s.turns) (h.0.evicts.none asks).0 in
+granted fits table charge (Ok Reserved) before after effort counted a d h small found =
+    let none = ap (λ s. s.turns) (h.0.evicts.none (found h.0).asks).0 in
     let all = h.0.turns in
     (refl, omega arith)
-roomy fits table charge (Ok NoPlace) before after effort counted a d one h place room =
+granted fits table charge (Ok NoPlace) before after effort counted a d h small found =
     let full = h.1 in
-    let free = (room_found fits table one charge h.0 place room).0 in
+    let free = (found h.0).free in
     absurd (let never : ⊥ = cc in never)
-roomy fits table charge (Err TooLarge) before after effort counted a d one h place room =
+granted fits table charge (Err TooLarge) before after effort counted a d h small found =
     absurd (let large = h.3 in omega arith)
-roomy fits table charge (Err CapacityFull) before after effort counted a d one h place room =
+granted fits table charge (Err CapacityFull) before after effort counted a d h small found =
     let short = h.1 in
-    let none = (room_found fits table one charge h.0 place room).2 in
+    let none = (found h.0).lacks in
     absurd (omega arith)
-roomy fits table charge (Err OccupancyFull) before after effort counted a d one h place room =
+granted fits table charge (Err OccupancyFull) before after effort counted a d h small found =
     let full = h.1 in
-    let free = (room_found fits table one charge h.0 place room).0 in
+    let free = (found h.0).free in
     absurd (let never : ⊥ = cc in never)
+
+module _ {T A : Type 0} (fits : T → Key → List ℕ → Type 0) (table : RuleTable T A) (charge : ℕ)
+    (answer : Result Reservation Refused) (before after : Tally) (effort counted : Effort)
+    (a d : SeatOf T) (one : clients_of table ≡ 1)
+    (h : EvictsBy fits table charge answer before after effort counted a d) where
+  -- So it is in a world with room,
+  pub roomy : occupancy_of (world_at table a) < limit_of (setup_of (plan_of table))
+      → usage_of (world_at table a) + charge ≤ capacity_of table
+      → (answer ≡ Ok Reserved) × ((view d).turns ≡ (view a).turns)
+  roomy place room =
+      granted fits table charge answer before after effort counted a d h (omega arith)
+      (λ e. room_found fits table one charge e place room)
+
+  -- and where all that the one client made leaves room.
+  pub roomy_beside : length (view a).made - (view a).takings < limit_of (setup_of (plan_of table))
+      → standing_of (view a).work + charge_made (view a) + charge ≤ capacity_of table
+      → (answer ≡ Ok Reserved) × ((view d).turns ≡ (view a).turns)
+  roomy_beside place room =
+      granted fits table charge answer before after effort counted a d h (omega arith)
+      (λ e. made_found fits table charge one e place room)

@@ -1,16 +1,17 @@
 -- What a reservation found, and what it evicted for that, told of its atomic steps and its events.
-use Rattle.std.specs.Prelude.{◌≡◌, ℕ, ◌+◌, ◌<◌, ◌≤◌, Bool, true, false, nat_le, List, Result, Ok, Err, if◌then◌else◌}
+use Rattle.std.specs.Prelude.{◌≡◌, ℕ, ◌+◌, ◌<◌, ◌≤◌, Bool, true, false, nat_le, List, length, Result, Ok, Err, if◌then◌else◌}
 use Rattle.hcc_core.specs.Sums.{when}
-use Rattle.hcc_core.specs.World.{limit_of}
+use Rattle.hcc_core.specs.World.{limit_of, standing_of}
 use Rattle.hcc_rule.specs.declared.key.Key.{Key}
 use Rattle.hcc_rule.specs.declared.layout.TheConstants.{OCCUPANCY, USAGE}
 use Rattle.hcc_rule.specs.declared.table.RuleTable.{RuleTable}
 use Rattle.hcc_rule.specs.declared.view.View.{View}
-use Rattle.hcc_rule.specs.Callers.{capacity_of, is_strict, plan_of, slots_of, IsEvent}
+use Rattle.hcc_rule.specs.Callers.{capacity_of, clients_of, is_strict, plan_of, slots_of, IsEvent}
 use Rattle.hcc_rule.specs.Addresses.{address_of_ledger}
 use Rattle.hcc_rule.specs.Events.{charge_done, enter_done, usage_done}
 use Rattle.hcc_rule.specs.Rule.{setup_of}
 use Rattle.hcc_rule.specs.Seats.{SeatOf, Makes, MakesSome, view}
+use Rattle.hcc_rule.specs.Views.{charge_made}
 use Rattle.hcc_table.specs.declared.efforts.Effort.{Effort}
 use Rattle.hcc_table.specs.Efforts.{Lost}
 use Rattle.hcc_table.specs.Still.{GoesOnStill}
@@ -100,6 +101,13 @@ module _ {T A : Type 0} (fits : T → Key → List ℕ → Type 0) (table : Rule
       pub tallied : Tallied swept before after
       pub lost : Lost swept.lost swept.lost effort counted
       pub behind : GoesOnStill table c d
+      -- A client that is alone made all that it found: the places taken are for what it made and
+      -- didn't take,
+      pub taken_alone : clients_of table ≡ 1
+          → taken + (view a).takings ≡ length (view a).made
+      -- and the usage is at most the charges of all that it made, with what stands for it.
+      pub used_alone : clients_of table ≡ 1
+          → used ≤ standing_of (view a).work + charge_made (view a)
 
     -- What a reservation found and evicted, by its answer: what was lacked was freed, and a slot
     -- where the shard was full; no slot was freed in a full shard; or less charge was than was

@@ -1,8 +1,8 @@
 //! Reserving a place and a charge for an entry.
-ghost use Rattle.std.specs.Prelude.{◌≡◌, ◌≢◌, ℕ, ◌+◌, ◌*◌, ◌^◌, ◌<◌, ◌≤◌, false, true, Ok, Err};
+ghost use Rattle.std.specs.Prelude.{◌≡◌, ◌≢◌, ℕ, ◌+◌, ◌*◌, ◌^◌, ◌<◌, ◌≤◌, false, true, length, Ok, Err};
 ghost use Rattle.hcc_core.specs.declared.client.Place.TheVariants.{Absent};
-ghost use Rattle.hcc_core.specs.World.{is_placed};
-ghost use Rattle.hcc_rule.specs.Callers.{capacity_of, is_strict, plan_of, slots_of, IsEvent, IsSeatAt};
+ghost use Rattle.hcc_core.specs.World.{is_placed, occupied_by};
+ghost use Rattle.hcc_rule.specs.Callers.{capacity_of, clients_of, is_strict, plan_of, slots_of, IsEvent, IsSeatAt};
 ghost use Rattle.hcc_rule.specs.Between.{IsBetweenCalls};
 ghost use Rattle.hcc_rule.specs.Events.{enter_done};
 ghost use Rattle.hcc_rule.specs.Rule.{setup_of};
@@ -69,7 +69,9 @@ pub enum Refused {
 /// The eviction is for exactly what is asked for, by the words that the first two steps found:
 /// before its last turn less than that was freed, and the last turn frees at most four entries
 /// more. The steps behind it settle or give back exactly what it freed. In a shard of one client
-/// only the eviction changes what is shown.
+/// only the eviction changes what is shown. There the places found taken are as many as the entries
+/// that the client made and didn't take, and the usage found is at most the charges of all that it
+/// made, with what stands for it.
 ///
 /// The client has nothing in hand but its references and standalone entries, and the charge isn't
 /// 0. What the eviction did is added to the tally, and compare-exchanges that lost to the effort.
@@ -193,7 +195,10 @@ fn enter<T: Tag, A: Allocator>(table: &RuleTable<T, A>, seat: &mut RuleSeat<T>) 
     ensures enters { (taken : ℕ) × (result ≡ is_full table.now taken)
         × Enters table.now taken seat.old seat.new
         × IsEvent table.now (enter_done (setup_of (plan_of table.now)) taken (view seat.old))
-        seat.old seat.new }
+        seat.old seat.new
+        × (clients_of table.now ≡ 1
+        → taken + (view seat.old).takings
+        ≡ length (view seat.old).made + occupied_by (view seat.old).work) }
 {
     let limit = table.geometry().slots as u64 * OCCUPANCY_PERCENT / 100;
     table.enter(seat) >= limit

@@ -4,5 +4,6 @@ pub mod SlotLimits
 pub mod Passed
 pub mod Rounds
 pub mod MadeEntries
+pub mod MadeCharges
 pub mod Beginnings
 pub mod TrailLimits

@@ -12,7 +12,7 @@ use Rattle.hcc_core.specs.Ledgers.{grant_of, place_granted, is_standing}
 use Rattle.hcc_rule.specs.declared.view.Record.{Record}
 use Rattle.hcc_rule.specs.declared.view.Done.{Done}
 use Rattle.hcc_rule.specs.declared.view.View.{View}
-use Rattle.hcc_rule.specs.Views.{Each}
+use Rattle.hcc_rule.specs.Views.{charge_made, Each}
 use Rattle.hcc_rule.specs.Records.{charge_held, different}
 use Rattle.hcc_rule.specs.Told.{Held}
 use Rattle.hcc_rule.specs.Events.{charge_done, enter_done, fall_done, occupancy_done, quit_done, settle_done, slots_done, stand_done, standing_done, turn_done, usage_done, waive_done}
@@ -45,6 +45,9 @@ module _ {T : Type 0} where
     -- and the word is above it by what clients still need, less than 2^32 each
     pub most : setup.strict ≡ true
         → word ≤ setup.capacity + v.work.needed + 2 ^ 32 * (setup.clients - 1)
+    -- a client that is alone made all entries: the word is at most their charges, with what it has
+    -- in hand
+    pub alone : setup.clients ≡ 1 → word ≤ charged_to v.work + charge_made v
 
   abbrev pub usages : Setup → Step (Unit {0}) → Held T → ℕ → Held T → Option Done → Type 0
   usages setup step me word after act =

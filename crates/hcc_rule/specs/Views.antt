@@ -2,6 +2,7 @@
 use Rattle.std.specs.Prelude.{ℕ, ◌+◌, Bool, ◌&&◌, ◌==◌, List, [], ◌∷◌, is_some, length}
 use Rattle.hcc_core.specs.declared.slot.Reference.{Reference}
 use Rattle.hcc_core.specs.Sums.{when, total}
+use Rattle.hcc_rule.specs.declared.view.Made.{Made}
 use Rattle.hcc_rule.specs.declared.view.Record.{Record}
 use Rattle.hcc_rule.specs.declared.view.Other.{Other}
 use Rattle.hcc_rule.specs.declared.view.View.{View}
@@ -47,6 +48,10 @@ abbrev pub names : {T : Type 0} → ℕ → View T → ℕ
 names client v =
     when (is_seated v && v.client == client) 1
     + total (λ (o : Other). when (o.client == client) 1) v.others
+
+-- the charges of all entries that its client showed
+abbrev pub charge_made : {T : Type 0} → View T → ℕ
+charge_made v = total (λ (m : Made). m.charge) v.made
 
 -- how many clients it names
 abbrev pub named_by : {T : Type 0} → View T → ℕ

@@ -8,7 +8,6 @@ use Rattle.hcc_word.specs.Word.{is_empty, is_shareable, refs_of, releases_of}
 use Rattle.hcc_word.proofs.CodeLaws.{is_empty-empty, refs_of-shareable, releases_of-shareable}
 use Rattle.hcc_core.specs.declared.limits.TheConstants.{MOST_USES, MOST_WEIGHT, OCCUPANCY_PERCENT}
 use Rattle.hcc_core.specs.declared.client.Client.{Client}
-use Rattle.hcc_core.specs.declared.slot.Entry.{Entry}
 use Rattle.hcc_core.specs.declared.slot.Reference.{Reference}
 use Rattle.hcc_core.specs.declared.slot.Resident.{Resident}
 use Rattle.hcc_core.specs.declared.setup.Setup.{Setup}
@@ -18,7 +17,7 @@ use Rattle.hcc_core.specs.Sums.{when, total}
 use Rattle.hcc_core.specs.World.{taken_by_slot, charge_of, charged_to, occupied_by, standing_of, trail_of, times, is_shareable as slot_has_entry}
 use Rattle.hcc_core.specs.Lawful.{Lawful, owned_by, owner_in}
 use Rattle.hcc_rule.specs.declared.key.Key.{Key}
-use Rattle.hcc_rule.specs.declared.layout.TheConstants.{KEY0, KEY1, CHARGE, HAND}
+use Rattle.hcc_rule.specs.declared.layout.TheConstants.{CHARGE, HAND}
 use Rattle.hcc_rule.specs.declared.rule.Plan.{Plan}
 use Rattle.hcc_rule.specs.declared.view.Made.{Made}
 use Rattle.hcc_rule.specs.declared.view.Other.{Other}
@@ -28,7 +27,7 @@ use Rattle.hcc_rule.specs.Probes.{trail_to}
 use Rattle.hcc_rule.specs.Rule.{resting, entry_in, hand_at, IsNamed, IsSpent, IsStored, Holds}
 use Rattle.hcc_rule.specs.Views.{is_seated, held, Each}
 use Rattle.hcc_rule.specs.Records.{weight_on}
-use Rattle.hcc_rule.specs.Words.{key_of, ledger_at, made_words}
+use Rattle.hcc_rule.specs.Words.{ledger_at}
 use Rattle.hcc_rule.proofs.Parts.Addresses.{data_field}
 use Rattle.hcc_rule.proofs.Parts.Clients.{total-nothing, total-only}
 use Rattle.hcc_rule.proofs.LastSeat.ClosingClients.{IsQuiet, made_of, lawful, client_count, slot_count, spent, known, book_known}

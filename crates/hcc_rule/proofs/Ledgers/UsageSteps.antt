@@ -25,6 +25,7 @@ use Rattle.hcc_rule.specs.Rule.{IsRecorded, IsModest, setup_of, Holds}
 use Rattle.hcc_rule.proofs.Basics.Lists.{read_at, each_map}
 use Rattle.hcc_rule.proofs.Basics.Different.{charges_within}
 use Rattle.hcc_rule.proofs.Limits.LedgerLimits.{real_beside, usage_most}
+use Rattle.hcc_rule.proofs.Limits.MadeCharges.{usage_alone}
 use Rattle.hcc_rule.proofs.Ledgers.LedgerSteps.{on_usage, Pays}
 use Rattle.hcc_rule.proofs.Ledgers.LedgerGives.{usage_gives, charge_allowed, settle_allowed, waive_gives}
 use Rattle.hcc_rule.proofs.Parts.Asides.{pays_at, modest_is, law_is, usage_low, goes_by}
@@ -76,6 +77,7 @@ module _ {T : Type 0} (fits : T → Key → List ℕ → Type 0) (p : Plan T) (c
       real = λ strict. real_beside fits p s r strict me.0.client me.0.work client me.0.records
           recorded;
       most = λ strict. usage_most fits p s r strict me.0.client me.0.work client;
+      alone = λ one. usage_alone fits p s r id me.0 at seated one;
     }
       where
         client : slice_get r.world.clients me.0.client ≡ Some me.0.work

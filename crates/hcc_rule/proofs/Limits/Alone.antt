@@ -43,7 +43,7 @@ alone_total f g (y ∷ ys) (suc i) x at few none_too =
     omega arith
 
 -- the sum over a list of one
-one_total : {A : Type 0} (g : A → ℕ) (xs : List A) (i : ℕ) (x : A) → slice_get xs i ≡ Some x
+pub one_total : {A : Type 0} (g : A → ℕ) (xs : List A) (i : ℕ) (x : A) → slice_get xs i ≡ Some x
     → length xs ≡ 1 → total g xs ≡ g x
 one_total g xs i x at one =
     let ones = total_ones xs in
@@ -53,7 +53,7 @@ module _ {T : Type 0} (fits : T → Key → List ℕ → Type 0) (p : Plan T) (s
     (r : Holds fits p s) (id : ℕ) (v : View T) (at : slice_get s.views id ≡ Some v)
     (seated : is_seated v ≡ true) (alone : p.geometry.clients ≡ 1) where
   -- the world has that client alone
-  one_client : length r.world.clients ≡ 1
+  pub one_client : length r.world.clients ≡ 1
   one_client = (law_is fits p s r).sized.client_count ∙ (ap (λ x. x.clients) r.setup ∙ alone)
 
   -- a view that names none took none

@@ -113,7 +113,7 @@ module _ {T : Type 0} (fits : T → Key → List ℕ → Type 0) (p : Plan T) (s
         rw (first, second) refl
 
     -- an entry's maker is a client
-    maker_near : entry.stamp.client < length r.world.clients
+    pub maker_near : entry.stamp.client < length r.world.clients
     maker_near = by (slice_get r.books entry.stamp.client) refl
       where
         by : (o : Option (List Made)) → slice_get r.books entry.stamp.client ≡ o

@@ -10,7 +10,7 @@ ghost use Rattle.hcc_rule.specs.Events.{charge_done, settle_done, usage_done, wa
 ghost use Rattle.hcc_rule.specs.Rule.{setup_of};
 ghost use Rattle.hcc_rule.specs.Seats.{IsSameSeat, Makes, MakesSome, view};
 ghost use Rattle.hcc_rule.specs.ToldLedgers.{Charged, after_usage, after_charge, after_settle, after_waive, waived};
-ghost use Rattle.hcc_rule.specs.Views.{Each};
+ghost use Rattle.hcc_rule.specs.Views.{charge_made, Each};
 ghost use Rattle.hcc_rule.specs.Records.{charge_held};
 ghost use Rattle.hcc_rule.specs.Words.{ledger_at};
 
@@ -58,7 +58,8 @@ impl<T: Tag, A: Allocator> RuleTable<T, A> {
     /// (`different`). Under strict capacity, these charges with the client's real charge (what it
     /// was granted, what it freed, and its standalone entries) are at most the capacity, and the
     /// usage is above that by what clients still need at most: less than 2^32 for each other
-    /// client.
+    /// client. Where the shard has one client, it is at most the charges of all that the client
+    /// showed, with what stands for it.
     ///
     /// It allocates nothing. It costs one load.
     pub fn usage(&self, seat: &mut RuleSeat<T>) -> u64
@@ -77,6 +78,8 @@ impl<T: Tag, A: Allocator> RuleTable<T, A> {
         ensures most { is_strict self.now ≡ true
             → result ≤ capacity_of self.now + (view seat.old).work.needed + 2 ^ 32
             * (clients_of self.now - 1) }
+        ensures alone { clients_of self.now ≡ 1
+            → result ≤ charged_to (view seat.old).work + charge_made (view seat.old) }
         ensures step { Makes (address_of_ledger self.now USAGE) 0 0 result seat.old seat.new }
         ensures event { IsEvent self.now (usage_done result (view seat.old))
             seat.old seat.new }
@@ -91,8 +94,10 @@ impl<T: Tag, A: Allocator> RuleTable<T, A> {
     ///
     /// It returns the usage before: below 2^60, and at least what stood for the client with the
     /// charges of all entries that it holds references on. Under strict capacity it is above the
-    /// capacity by what other clients still need at most. It allocates nothing. It costs one atomic
-    /// add.
+    /// capacity by what other clients still need at most. Where the shard has one client, it is at
+    /// most the charges of all that the client showed, with what stood for it.
+    ///
+    /// It allocates nothing. It costs one atomic add.
     pub fn charge(&self, seat: &mut RuleSeat<T>, amount: u32) -> u64
         requires seat { IsSeatAt self.now seat.old }
         requires spent { ((view seat.old).work.granted ≡ 0) × ((view seat.old).work.needed ≡ 0) }
@@ -107,6 +112,8 @@ impl<T: Tag, A: Allocator> RuleTable<T, A> {
             ≤ capacity_of self.now }
         ensures most { is_strict self.now ≡ true
             → result ≤ capacity_of self.now + 2 ^ 32 * (clients_of self.now - 1) }
+        ensures alone { clients_of self.now ≡ 1
+            → result ≤ charged_to (view seat.old).work + charge_made (view seat.old) }
         ensures step { Makes (address_of_ledger self.now USAGE) amount 0 result seat.old seat.new }
         ensures event { IsEvent self.now (charge_done (setup_of (plan_of self.now)) amount result
             (view seat.old))

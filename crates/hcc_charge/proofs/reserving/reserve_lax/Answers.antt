@@ -61,7 +61,8 @@ evicted g c =
     c.ask.ensures.value c.at_least_one-least.ensures.value)
     opens.enters.2 opens.view c.usage-used.ensures.step opens.enters.3 c.usage-used.ensures.event
     (keeps_by _ _ (view c.enter-full.new.seat) c.usage-used.ensures.view refl refl refl)
-    told.evicts told.swept told.view told.tally told.effort
+    told.evicts told.swept told.view told.tally told.effort c.requires.idle opens.enters.4
+    c.usage-used.ensures.alone
 
 -- What settles takes nothing more.
 idle : (g : given.Over) (c : After-give_charge g)

@@ -87,7 +87,8 @@ evicted g c =
     opens.enters.2 opens.view c.charge-used.ensures.step opens.enters.3
     c.charge-used.ensures.event
     (keeps_by _ _ (view c.enter-full.new.seat) c.charge-used.ensures.view refl refl refl)
-    told.evicts told.swept told.view told.tally told.effort
+    told.evicts told.swept told.view told.tally told.effort c.requires.idle opens.enters.4
+    c.charge-used.ensures.alone
 
 pub returns-then-swept-needed-clause-evicts : goal.returns-then-swept-needed-clause-evicts
 returns-then-swept-needed-clause-evicts g c = (
