@@ -63,7 +63,7 @@ impl<T: Tag, A: Allocator> Shard<T, A> {
         ensures steps { MakesFor 7 0 (slots_of self.now.table) seat.old.effort seat.new.effort
             seat.old.seat seat.new.seat }
     {
-        let found = match find(
+        match find(
             &self.table,
             &mut seat.seat,
             key,
@@ -73,8 +73,7 @@ impl<T: Tag, A: Allocator> Shard<T, A> {
         ) {
             Some(found) => Some(found.pin),
             None => None,
-        };
-        found
+        }
     }
 
     /// One reference more on the entry of a pin that the client holds, named by the serial that the
