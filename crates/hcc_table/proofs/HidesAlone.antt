@@ -69,7 +69,8 @@ module _ (key : Key) where
       ∙ (λ k. when (eq-eqb key.w0 key.w0 refl k && eq-eqb key.w1 key.w1 refl k) 1)
 
   -- and what shows none doesn't
-  pub counts_none : (o : Option Entry) → ¬ IsSomeAnd o (λ e. key_of e ≡ key) → counts_shown key o ≡ 0
+  pub counts_none : (o : Option Entry) → ¬ IsSomeAnd o (λ e. key_of e ≡ key)
+      → counts_shown key o ≡ 0
   counts_none None lacks = refl
   counts_none (Some e) lacks = by (is_key key (key_of e)) refl
     where

@@ -33,16 +33,16 @@ find-requires-clause-load g c =
 pub copy_out-got-requires-clause-holds : goal.copy_out-got-requires-clause-holds
 copy_out-got-requires-clause-holds g c =
     let told = c.in-Some.ensures in
-    got_pinned g.T.Tag.fits (room_of c.args.self.now.table) IN_FLIGHT c.in-Some.found.pin c.args.key
-    (view c.args.seat.now.seat) (view c.find.new.seat) told.found.0
+    got_pinned g.T.Tag.fits (room_of c.args.self.now.table) IN_FLIGHT c.in-Some.found.pin
+    c.args.key (view c.args.seat.now.seat) (view c.find.new.seat) told.found.0
     (none_in_flight (geometry_of c.args.self.now.table) (view c.args.seat.now.seat)
     c.requires.seat.quiet) told.found.1 told.pin.1 told.found.2
 
 pub copy_out-got-requires-clause-readable : goal.copy_out-got-requires-clause-readable
 copy_out-got-requires-clause-readable g c =
     let told = c.in-Some.ensures in
-    got_readable g.T.Tag.fits (room_of c.args.self.now.table) IN_FLIGHT c.in-Some.found.pin c.args.key
-    (view c.args.seat.now.seat) (view c.find.new.seat) told.found.0
+    got_readable g.T.Tag.fits (room_of c.args.self.now.table) IN_FLIGHT c.in-Some.found.pin
+    c.args.key (view c.args.seat.now.seat) (view c.find.new.seat) told.found.0
     (none_in_flight (geometry_of c.args.self.now.table) (view c.args.seat.now.seat)
     c.requires.seat.quiet) told.found.1 told.pin.1
 
@@ -50,8 +50,8 @@ pub give_back-requires-clause-holds : goal.give_back-requires-clause-holds
 give_back-requires-clause-holds g c =
     let told = c.in-Some.ensures in
     rw c.copy_out-got.ensures.view
-    (got_pinned g.T.Tag.fits (room_of c.args.self.now.table) IN_FLIGHT c.in-Some.found.pin c.args.key
-    (view c.args.seat.now.seat) (view c.find.new.seat) told.found.0
+    (got_pinned g.T.Tag.fits (room_of c.args.self.now.table) IN_FLIGHT c.in-Some.found.pin
+    c.args.key (view c.args.seat.now.seat) (view c.find.new.seat) told.found.0
     (none_in_flight (geometry_of c.args.self.now.table) (view c.args.seat.now.seat)
     c.requires.seat.quiet) told.found.1 told.pin.1 told.found.2)
 
