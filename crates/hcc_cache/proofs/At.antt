@@ -1,5 +1,5 @@
 -- What a client works with at one shard, and what it knows afterwards.
-use Rattle.std.proofs.Common.{◌≡◌, ℕ, ◌+◌, ◌*◌, ◌<◌, ◌≤◌, Some, length, get_or, slice_get, slice_set, refl, ap, arith, subst}
+use Rattle.std.proofs.Common.{◌≡◌, ℕ, ◌+◌, ◌*◌, ◌<◌, ◌≤◌, Some, length, get_or, slice_get, slice_set, refl, ap, arith, subst, ◌∙◌}
 use Rattle.std.proofs.lemmas.Option.{slice_get_read}
 use Rattle.std.specs.declared.alloc.Global.{Global}
 use Rattle.slab.specs.Slab.{slab_len}
@@ -36,6 +36,7 @@ module _ {T : Type 0} where
     pub seats : new.seats.items ≡ slice_set old.seats.items i is
     pub number : new.number ≡ old.number
     pub most : new.most ≡ old.most
+    pub seed : new.seed ≡ old.seed
     pub capacity : (new.handles.capacity ≡ old.handles.capacity)
         × (new.alone.capacity ≡ old.alone.capacity)
 
@@ -161,6 +162,7 @@ module _ {T : Type 0} where
           → new.used + new.left ≤ STAMPS_PER_CLIENT → Knows cache new
       knows_at later seated homes holds count few serials = record {
         alike = at.knows.alike;
+        seed = change.seed ∙ at.knows.seed;
         seated =
             rw (change.seats, change.number)
             (seated_set cache.shards.items old.number old.used new.used old.seats.items i shard is

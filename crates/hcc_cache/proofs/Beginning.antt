@@ -233,11 +233,12 @@ module _ {T : Type 0} (config : Config) (cache : Cache T) (k : ℕ) (client : Cl
       }
 
   -- It is known to the cache, where each shard began with entries of its own.
-  pub begun_known : IsAllowed config → AreAlike cache → most_in cache.shards.items ≤ MOST_SLOTS
+  pub begun_known : IsAllowed config → AreAlike cache → cache.seed ≡ config.seed
+      → most_in cache.shards.items ≤ MOST_SLOTS
       → ((s : ℕ) (shard : Shard (Seeded T) Global) → slice_get cache.shards.items s ≡ Some shard
       → Each (IsHomeEntry cache.seed (length cache.shards.items) s) (image_of shard))
       → Knows cache client
-  begun_known allowed alike low home =
+  begun_known allowed alike seed low home =
       let held = is.held in
       let most = is.most in
       let used = is.used in
@@ -246,6 +247,7 @@ module _ {T : Type 0} (config : Config) (cache : Cache T) (k : ℕ) (client : Cl
       let few = serials_low cache.shards.items k in
       record {
         alike = alike;
+        seed = is.seed ∙ sym seed;
         seated = record {
           count = is.count;
           each = λ s shard seat hd hs.
@@ -292,6 +294,7 @@ module _ {T A : Type 0} (config : Config) (shards : List (Shard (Seeded T) A)) w
           let same = starts.same in
           record {
             number_is = ap (λ (x : Client T). x.number) same ∙ unused.number_is;
+            seed = ap (λ (x : Client T). x.seed) same ∙ unused.seed;
             most = ap (λ (x : Client T). x.most) same ∙ unused.most;
             held = ap (λ (x : Client T). x.held) same ∙ unused.held;
             used = starts.used_is;
@@ -318,6 +321,7 @@ module _ {T A : Type 0} (config : Config) (shards : List (Shard (Seeded T) A)) w
           let serials = allowed.serials in
           record {
             number_is = unused.number_is;
+            seed = unused.seed;
             most = unused.most;
             held = unused.held;
             used = used;

@@ -133,6 +133,7 @@ module _ {T : Type 0} where
       → IsUnused config k was → Gains was seat client → IsUnused config k client
   unused_still config k was client seat unused gains = record {
     number_is = ap (λ (x : Client T). x.number) gains.same ∙ unused.number_is;
+    seed = ap (λ (x : Client T). x.seed) gains.same ∙ unused.seed;
     most = ap (λ (x : Client T). x.most) gains.same ∙ unused.most;
     held = ap (λ (x : Client T). x.held) gains.same ∙ unused.held;
     used = ap (λ (x : Client T). x.used) gains.same ∙ unused.used;
@@ -248,9 +249,9 @@ module _ {T A : Type 0} where
 module _ {T : Type 0} where
   -- Such a client is known to the cache.
   dealt_known : (config : Config) (cache : Cache T) (k : ℕ) (client : Client T)
-      → IsAllowed config → AreAlike cache → IsDealt config cache.shards.items k client
-      → Knows cache client
-  dealt_known config cache k client allowed alike dealt =
+      → IsAllowed config → AreAlike cache → cache.seed ≡ config.seed
+      → IsDealt config cache.shards.items k client → Knows cache client
+  dealt_known config cache k client allowed alike seed dealt =
       let unused = dealt.unused in
       let held = unused.held in
       let most = unused.most in
@@ -260,6 +261,7 @@ module _ {T : Type 0} where
       let serials = allowed.serials in
       record {
         alike = alike;
+        seed = unused.seed ∙ sym seed;
         seated = record {
           count = dealt.count;
           each = λ s shard seat hd hs.
@@ -306,6 +308,6 @@ module _ {T : Type 0} where
         cache_is = made;
         dealt = dealt;
         known = λ k client h.
-            dealt_known config cache k client allowed alike (dealt.each k client h);
+            dealt_known config cache k client allowed alike made.seed (dealt.each k client h);
         empty = none_shown cache clients images nothing;
       }

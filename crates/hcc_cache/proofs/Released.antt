@@ -97,6 +97,7 @@ pub record LetsGo {T : Type 0} (old new : Client T) (handle : Handle) (hold : Ho
   pub gone : IsLess old.handles new.handles handle.index hold
   pub number : new.number ≡ old.number
   pub most : new.most ≡ old.most
+  pub seed : new.seed ≡ old.seed
   pub held : new.held + 1 ≡ old.held
   pub uses : UsesNone old new
 
@@ -119,6 +120,7 @@ module _ {T : Type 0} (cache : Cache T) (old new : Client T) (handle : Handle) (
             (ap (λ (x : Client T). x.handles) same) gone;
         number = ap (λ (x : Client T). x.number) whole;
         most = ap (λ (x : Client T). x.most) whole;
+        seed = ap (λ (x : Client T). x.seed) whole;
         held = omega arith;
         uses = (ap (λ (x : Client T). x.used) whole, ap (λ (x : Client T). x.left) whole);
       }
@@ -214,6 +216,7 @@ module _ {T : Type 0} (cache : Cache T) (old new : Client T) (handle : Handle) (
             let most = lets.most in
             record {
               alike = knows.alike;
+              seed = lets.seed ∙ knows.seed;
               seated = rw (seats, lets.number, lets.uses.0) knows.seated;
               homes = rw seats knows.homes;
               holds =

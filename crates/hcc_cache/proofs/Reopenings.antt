@@ -296,7 +296,7 @@ module _ {T : Type 0} (fits : T → Key → List ℕ → Type 0) (config : Confi
         clients_are = count;
         started = started;
         known = λ k client h. begun_known config cache k client (started k client h) allowed
-            (made_alike config tag cache allowed made) few
+            (made_alike config tag cache allowed made) made.seed few
             (λ s shard at. rw (made.seed, made.count) (begins s shard at).home);
         began = began;
         past = nothing;

@@ -55,6 +55,7 @@ module _ {T : Type 0} (cache : Cache T) (old new : Client T) (i : ℕ) (shard : 
         seats = seats;
         number = ap (λ (c : Client T). c.number) only.rest;
         most = ap (λ (c : Client T). c.most) only.rest;
+        seed = ap (λ (c : Client T). c.seed) only.rest;
         capacity = (
           ap (λ (c : Client T). c.handles.capacity) only.rest,
           ap (λ (c : Client T). c.alone.capacity) only.rest,

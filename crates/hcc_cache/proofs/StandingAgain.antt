@@ -64,7 +64,7 @@ module _ {T : Type 0} (cache : Cache T) (old : Client T) (first : Hold) (from : 
       (same : IsSameAlone a b) (references : b.references ≡ a.references + 1)
       (updates : Updates old.alone new.alone index (Some b))
       (given : IsGiven old new more hold) (seats : new.seats.items ≡ old.seats.items)
-      (most : new.most ≡ old.most)
+      (most : new.most ≡ old.most) (seed : new.seed ≡ old.seed)
       (capacity : (new.handles.capacity ≡ old.handles.capacity)
       × (new.alone.capacity ≡ old.alone.capacity)) where
     changes : ChangesAt old new first.shard somewhere.seat
@@ -73,6 +73,7 @@ module _ {T : Type 0} (cache : Cache T) (old : Client T) (first : Hold) (from : 
           seats ∙ sym (set_same old.seats.items first.shard somewhere.seat somewhere.at.seat_is);
       number = given.number;
       most = most;
+      seed = seed;
       capacity = capacity;
     }
 

@@ -161,6 +161,7 @@ pub record AreAlike {T : Type 0} (cache : Cache T) : Type 0 where
 -- The client is one that this cache was made with.
 pub record Knows {T : Type 0} (cache : Cache T) (client : Client T) : Type 0 where
   pub alike : AreAlike cache
+  pub seed : client.seed ≡ cache.seed
   pub seated : AreSeated cache.shards.items client.number client.used client.seats.items
   pub homes : AreHome cache.seed client.seats.items
   pub holds : AreHeld cache.seed client.used client.seats.items client.handles client.alone

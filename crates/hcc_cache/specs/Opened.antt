@@ -17,6 +17,7 @@ module _ {T : Type 0} where
   -- a client of this number that did nothing yet: it holds nothing, and all its serials are left
   pub record IsUnused (config : Config) (number : ℕ) (client : Client T) : Type 0 where
     pub number_is : client.number ≡ number
+    pub seed : client.seed ≡ config.seed
     pub most : client.most ≡ config.handles
     pub held : client.held ≡ 0
     pub used : client.used ≡ 0

@@ -75,6 +75,7 @@ module _ {T A : Type 0} where
   pub record IsStarted (config : Config) (shards : List (Shard (Seeded T) A)) (number : ℕ)
       (client : Client T) : Type 0 where
     pub number_is : client.number ≡ number
+    pub seed : client.seed ≡ config.seed
     pub most : client.most ≡ config.handles
     pub held : client.held ≡ 0
     pub used : client.used ≡ serials_of number shards

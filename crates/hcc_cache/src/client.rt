@@ -13,6 +13,8 @@ use slab::Slab;
 #[derive(Drop)]
 pub struct Client<T> {
     pub(crate) number: u32,
+    /// The seed of its cache, beside what each call reads of a client.
+    pub(crate) seed: u64,
     /// How many handles it holds, and how many it may hold.
     pub(crate) held: u32,
     pub(crate) most: u32,

@@ -6,7 +6,6 @@ ghost use Rattle.hcc_cache.specs.Known.{Knows};
 
 use crate::cache::Cache;
 use crate::client::Client;
-use crate::seeded::key_to;
 use hcc_rule::{Key, Tag};
 
 impl<T: Tag> Cache<T> {
@@ -33,7 +32,7 @@ impl<T: Tag> Cache<T> {
             ((freeing self.now.geometry.slots + 9) * self.now.geometry.slots + 2)
             client.old client.new }
     {
-        let under = key_to(self.seed, key);
+        let under = self.key_to(client, key);
         let shard = self.shard_number(under);
         let seat = &mut client.seats[shard];
         self.shards[shard].erase(seat, under)

@@ -7,7 +7,6 @@ ghost use Rattle.hcc_cache.specs.Stays.{Stays};
 
 use crate::cache::Cache;
 use crate::client::Client;
-use crate::seeded::key_to;
 use hcc_rule::{Key, Tag};
 use hcc_shard::Got;
 use hcc_table::Use;
@@ -41,7 +40,7 @@ impl<T: Tag> Cache<T> {
         ensures steps { TakesFor self.now 7 (λ v w. self.now.geometry.room + 2)
             (shard_in self.now key) client.old client.new }
     {
-        let under = key_to(self.seed, key);
+        let under = self.key_to(client, key);
         let shard = self.shard_number(under);
         let seat = &mut client.seats[shard];
         self.shards[shard].get(seat, under, buffer, Use::of(useful))

@@ -16,7 +16,6 @@ use crate::handle::Handle;
 use crate::holding::{Alone, Kept};
 use crate::lookups::pinned;
 use crate::priority::Priority;
-use crate::seeded::key_to;
 use hcc_charge::Refused;
 use hcc_rule::{Draft, Key, Tag};
 use hcc_shard::Pinned;
@@ -137,7 +136,7 @@ impl<T: Tag> Cache<T> {
             (inserting self.now.geometry.slots self.now.geometry.room)
             client.old client.new }
     {
-        let under = key_to(self.seed, key);
+        let under = self.key_to(client, key);
         let shard = self.shard_number(under);
         let draft = Draft {
             key: under,
@@ -296,7 +295,7 @@ impl<T: Tag> Cache<T> {
             (inserting self.now.geometry.slots self.now.geometry.room)
             client.old client.new }
     {
-        let under = key_to(self.seed, key);
+        let under = self.key_to(client, key);
         let shard = self.shard_number(under);
         let draft = Draft {
             key: under,

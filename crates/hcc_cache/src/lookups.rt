@@ -4,7 +4,8 @@ ghost use Rattle.hcc_shard.specs.Callers.{AcquiresAt};
 ghost use Rattle.hcc_cache.specs.declared.holding.Kept.TheVariants.{Pinned, Standing};
 ghost use Rattle.hcc_cache.specs.Calls.{AcquiresFor, AtShard, CountsAt, CountsBy, CountsNone, Finds, Misses, Rerefs, SearchesFor, TakesAtMost, TakesFor, shard_in};
 ghost use Rattle.hcc_cache.specs.Clients.{held_by, hold_of, Holds};
-ghost use Rattle.hcc_cache.specs.Sharding.{shard_of};
+ghost use Rattle.hcc_cache.specs.Keys.{key_from};
+ghost use Rattle.hcc_cache.specs.Sharding.{key_to, shard_of};
 ghost use Rattle.hcc_cache.specs.Known.{AreAlike, Knows};
 ghost use Rattle.hcc_cache.specs.Stays.{Stays};
 
@@ -69,12 +70,22 @@ impl<T: Tag> Cache<T> {
             client.old client.new }
         ensures steps { TakesAtMost (7 * self.now.geometry.slots) client.old client.new }
     {
-        let under = key_to(self.seed, key);
+        let under = self.key_to(client, key);
         let shard = self.shard_number(under);
         let serial = client.used;
         let seat = &mut client.seats[shard];
         let pin = self.shards[shard].lookup(seat, under, serial)?;
         Some(client.keep(key, shard, pinned(pin)))
+    }
+
+    /// A key under the cache's seed, which each call has from its client: the cache lies further.
+    #[inline(always)]
+    pub(crate) fn key_to(&self, client: &Client<T>, key: Key) -> Key
+        requires { client.now.seed ≡ self.now.seed }
+        ensures words { result ≡ key_to self.now.seed key }
+        ensures undone { key_from self.now.seed result ≡ key }
+    {
+        key_to(client.seed, key)
     }
 
     /// The number of the shard of a seeded key.

@@ -109,9 +109,11 @@ pub(crate) fn unseated<T>(alloc: Global, config: Config) -> Result<Vec<Client<T>
     ensures { IfOk result (λ clients. AreUnseated config clients.items) }
 {
     let mut clients = Vec::with_capacity(alloc, config.clients as usize)?;
+    let seed = config.seed;
     for number in 0..config.clients {
         clients.push(Client {
             number,
+            seed,
             held: 0,
             most: config.handles,
             used: 0,

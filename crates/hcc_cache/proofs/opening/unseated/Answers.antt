@@ -10,6 +10,7 @@ loop-number-preserved g c =
     let items = c.in_ok-push.ensures.items in
     let made : Client g.row.T.Denot = record {
       number = c.loop-number.number;
+      seed = c.args.config.seed;
       held = 0;
       most = c.args.config.handles;
       used = 0;
@@ -28,6 +29,7 @@ loop-number-preserved g c =
             | inr last ↦ rw (← last.1) (
               record {
                 number_is = sym (last.0 ∙ kept.count);
+                seed = refl;
                 most = refl;
                 held = refl;
                 used = refl;

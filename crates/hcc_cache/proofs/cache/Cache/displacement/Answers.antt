@@ -47,7 +47,8 @@ returns-clause-reads g c =
               seats = with_item c.args.client.now.seats c.args.shard c.displacement.new.seat;
             }) c.args.shard c.index.result.now was
             c.displacement.new.seat at
-            (record { seats = refl; number = refl; most = refl; capacity = (refl, refl) })
+            (record { seats = refl; number = refl; most = refl; seed = refl;
+                capacity = (refl, refl) })
             c.displacement.ensures.counts;
       };
       keeps = keeps_same c.args.self.now c.args.client.now _ c.args.shard c.index.result.now was
@@ -74,7 +75,7 @@ returns-clause-loads g c =
     c.requires.known c.requires.shard c.index.ensures c.index_mut-seat.ensures.value in
     did_at c.args.self.now c.args.client.now _ c.args.shard c.index.result.now was
     c.displacement.new.seat at
-    (record { seats = refl; number = refl; most = refl; capacity = (refl, refl) })
+    (record { seats = refl; number = refl; most = refl; seed = refl; capacity = (refl, refl) })
     (λ s a b. LoadsDisplacement s c.args.slot c.displacement.result a b)
     c.displacement.ensures.loads c.args.shard refl
 
@@ -95,7 +96,7 @@ returns-clause-stays g c =
     (record c.args.client.now {
       seats = with_item c.args.client.now.seats c.args.shard c.displacement.new.seat;
     }) c.args.shard c.index.result.now was c.displacement.new.seat at
-    (record { seats = refl; number = refl; most = refl; capacity = (refl, refl) })
+    (record { seats = refl; number = refl; most = refl; seed = refl; capacity = (refl, refl) })
     (goes_event c.index.result.now.table is_still
     (count_done c.args.slot c.displacement.result (view_of was)) was.seat
     c.displacement.new.seat.seat c.displacement.ensures.by refl)

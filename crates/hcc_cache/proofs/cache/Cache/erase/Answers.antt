@@ -54,7 +54,7 @@ returns-clause-erased g c =
     let works : Works (shard_in cache c.args.key) old new (view_of was) (view_of is) =
     rw (← there)
     (works_at cache old new i c.index.result.now was is at
-    (record { seats = refl; number = refl; most = refl; capacity = (refl, refl) })) in
+    (record { seats = refl; number = refl; most = refl; seed = refl; capacity = (refl, refl) })) in
     let dead : AllDead (key_to cache.seed c.args.key) (view_of was) (view_of is) =
     rw (← words) c.erase.ensures.dead in
     record {
@@ -83,7 +83,7 @@ returns-clause-searched g c =
     let there = c.shard_number-shard.ensures.value
     ∙ ap (λ k. shard_of k (length cache.shards.items)) words in
     did_at cache old _ i c.index.result.now was c.erase.new.seat at
-    (record { seats = refl; number = refl; most = refl; capacity = (refl, refl) })
+    (record { seats = refl; number = refl; most = refl; seed = refl; capacity = (refl, refl) })
     (λ s a b. ErasesAt (fits_seeded g.T.Tag.fits) s (key_to cache.seed c.args.key) c.erase.result a
     b) (rw (← words) c.erase.ensures.erases) (shard_in cache c.args.key) there
 
@@ -96,7 +96,7 @@ returns-clause-counts g c =
     let at = is_at cache old i c.index.result.now was c.requires
     c.shard_number-shard.ensures.inside c.index.ensures c.index_mut-seat.ensures.value in
     does_at cache old _ i c.index.result.now was c.erase.new.seat at
-    (record { seats = refl; number = refl; most = refl; capacity = (refl, refl) })
+    (record { seats = refl; number = refl; most = refl; seed = refl; capacity = (refl, refl) })
     SameEvictions c.erase.ensures.counts (shard_in cache c.args.key)
     (c.shard_number-shard.ensures.value
     ∙ ap (λ k. shard_of k (length cache.shards.items)) c.key_to-under.ensures.words)
@@ -114,7 +114,8 @@ returns-clause-frees g c =
     let more : View _ → View _ → ℕ = λ v w.
     (cache.geometry.slots + 4) * (w.takings - v.takings) + 2 in
     takes_for cache old (record old { seats = with_item old.seats i is }) i c.index.result.now was
-    is at (record { seats = refl; number = refl; most = refl; capacity = (refl, refl) }) 9
+    is at (record { seats = refl; number = refl; most = refl; seed = refl;
+        capacity = (refl, refl) }) 9
     (more (view_of was) (view_of is)) more (shard_in cache c.args.key)
     (c.shard_number-shard.ensures.value
     ∙ ap (λ k. shard_of k (length cache.shards.items)) c.key_to-under.ensures.words)

@@ -49,7 +49,8 @@ returns-clause-reads g c =
               seats = with_item c.args.client.now.seats c.args.shard c.occupancy.new.seat;
             }) c.args.shard c.index.result.now was
             c.occupancy.new.seat at
-            (record { seats = refl; number = refl; most = refl; capacity = (refl, refl) })
+            (record { seats = refl; number = refl; most = refl; seed = refl;
+                capacity = (refl, refl) })
             c.occupancy.ensures.counts;
       };
       keeps = keeps_same c.args.self.now c.args.client.now _ c.args.shard c.index.result.now was
@@ -94,7 +95,7 @@ returns-clause-loads g c =
     c.requires.known c.requires.within c.index.ensures c.index_mut-seat.ensures.value in
     did_at c.args.self.now c.args.client.now _ c.args.shard c.index.result.now was
     c.occupancy.new.seat at
-    (record { seats = refl; number = refl; most = refl; capacity = (refl, refl) })
+    (record { seats = refl; number = refl; most = refl; seed = refl; capacity = (refl, refl) })
     (λ s a b. LoadsOccupancy s c.occupancy.result a b) c.occupancy.ensures.loads c.args.shard refl
 
 pub returns-clause-others : goal.returns-clause-others

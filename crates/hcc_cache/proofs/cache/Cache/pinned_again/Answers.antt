@@ -143,6 +143,7 @@ returns g c =
       seats = ap (λ (x : Client g.row.T.Denot). x.seats.items) rest;
       number = ap (λ (x : Client g.row.T.Denot). x.number) rest;
       most = ap (λ (x : Client g.row.T.Denot). x.most) rest;
+      seed = ap (λ (x : Client g.row.T.Denot). x.seed) rest;
       capacity = (
         c.keep.ensures.capacity,
         ap (λ (x : Client g.row.T.Denot). x.alone.capacity) rest,

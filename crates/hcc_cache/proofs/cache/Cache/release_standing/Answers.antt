@@ -167,6 +167,7 @@ returns g c =
       seats = ap (λ (x : Client g.row.T.Denot). slice_set x.seats.items hold.shard is) rest;
       number = ap (λ (x : Client g.row.T.Denot). x.number) rest;
       most = ap (λ (x : Client g.row.T.Denot). x.most) rest;
+      seed = ap (λ (x : Client g.row.T.Denot). x.seed) rest;
       capacity = (
         c.let_go.ensures.capacity,
         c.remove-gone.ensures.capacity ∙ ap (λ (x : Client g.row.T.Denot). x.alone.capacity) rest,

@@ -58,7 +58,7 @@ returns-in_err-pin-clause-known g c =
     let at = is_at cache old i shard was c.requires.known c.shard_number-shard.ensures.inside
     c.index.ensures c.index_mut-seat.ensures.value in
     knows_sought cache old _ i shard was is at
-    (record { seats = refl; number = refl; most = refl; capacity = (refl, refl) })
+    (record { seats = refl; number = refl; most = refl; seed = refl; capacity = (refl, refl) })
     (record { handles = refl; alone = refl; held = refl; uses = (refl, refl) })
     c.lookup.ensures.seat c.in_err-pin.ensures.missed.sought
 
@@ -76,7 +76,7 @@ returns-in_err-pin-clause-missed g c =
     let shards = length cache.shards.items in
     rw (c.from_residual.ensures)
     (misses cache old _ i shard was is at
-    (record { seats = refl; number = refl; most = refl; capacity = (refl, refl) })
+    (record { seats = refl; number = refl; most = refl; seed = refl; capacity = (refl, refl) })
     c.args.key
     (record { handles = refl; alone = refl; held = refl; uses = (refl, refl) })
     (c.shard_number-shard.ensures.value ∙ ap (λ k. shard_of k shards) words)
@@ -96,7 +96,7 @@ returns-in_err-pin-clause-searched g c =
     let shards = length cache.shards.items in
     rw (c.from_residual.ensures)
     (searched_at cache old _ i shard was is at
-    (record { seats = refl; number = refl; most = refl; capacity = (refl, refl) })
+    (record { seats = refl; number = refl; most = refl; seed = refl; capacity = (refl, refl) })
     g.T.Tag.fits c.args.key None
     (c.shard_number-shard.ensures.value ∙ ap (λ k. shard_of k shards) words) c.lookup.result
     (ap is_some c.in_err-pin.was) (rw words at c.lookup.ensures.searches))
@@ -110,7 +110,7 @@ returns-in_err-pin-clause-counts g c =
     let at = is_at cache old i c.index.result.now was c.requires.known
     c.shard_number-shard.ensures.inside c.index.ensures c.index_mut-seat.ensures.value in
     does_at cache old _ i c.index.result.now was c.lookup.new.seat at
-    (record { seats = refl; number = refl; most = refl; capacity = (refl, refl) })
+    (record { seats = refl; number = refl; most = refl; seed = refl; capacity = (refl, refl) })
     SameEvictions c.lookup.ensures.counts (shard_in cache c.args.key)
     (c.shard_number-shard.ensures.value
     ∙ ap (λ k. shard_of k (length cache.shards.items)) c.key_to-under.ensures.words)
@@ -127,7 +127,8 @@ returns-in_err-pin-clause-visits g c =
     c.index.ensures c.index_mut-seat.ensures.value in
     let words = c.key_to-under.ensures.words in
     visits_at cache old (record old { seats = with_item old.seats i is }) i shard was is at
-    (record { seats = refl; number = refl; most = refl; capacity = (refl, refl) }) c.args.key
+    (record { seats = refl; number = refl; most = refl; seed = refl;
+        capacity = (refl, refl) }) c.args.key
     (c.shard_number-shard.ensures.value ∙ ap (λ k. shard_of k (length cache.shards.items)) words)
     c.lookup.ensures.steps
 
@@ -142,7 +143,8 @@ returns-in_err-pin-clause-steps g c =
     let at = is_at cache old i shard was c.requires.known c.shard_number-shard.ensures.inside
     c.index.ensures c.index_mut-seat.ensures.value in
     looks_at cache old (record old { seats = with_item old.seats i is }) i shard was is at
-    (record { seats = refl; number = refl; most = refl; capacity = (refl, refl) }) was.effort
+    (record { seats = refl; number = refl; most = refl; seed = refl;
+        capacity = (refl, refl) }) was.effort
     is.effort c.lookup.ensures.steps
 
 pub returns : goal.returns
@@ -174,6 +176,7 @@ returns g c =
       seats = ap (λ (x : Client g.row.T.Denot). x.seats.items) rest;
       number = ap (λ (x : Client g.row.T.Denot). x.number) rest;
       most = ap (λ (x : Client g.row.T.Denot). x.most) rest;
+      seed = ap (λ (x : Client g.row.T.Denot). x.seed) rest;
       capacity = (
         c.keep.ensures.capacity,
         ap (λ (x : Client g.row.T.Denot). x.alone.capacity) rest,
@@ -240,7 +243,7 @@ returns-in_err-pin-clause-stays g c =
     let at = is_at cache old i shard was c.requires.known c.shard_number-shard.ensures.inside
     c.index.ensures c.index_mut-seat.ensures.value in
     stays_at cache old (record old { seats = with_item old.seats i is }) i shard was is at
-    (record { seats = refl; number = refl; most = refl; capacity = (refl, refl) })
+    (record { seats = refl; number = refl; most = refl; seed = refl; capacity = (refl, refl) })
     (seeks_still shard.table was.seat is.seat
     (searches_seek (fits_seeded g.T.Tag.fits) shard.table c.key_to-under.result old.used shard.marks
     c.lookup.result was.effort is.effort was.seat is.seat c.lookup.ensures.searches))

@@ -82,6 +82,7 @@ returns g c =
       seats = ap (λ (x : Client g.row.T.Denot). slice_set x.seats.items i is) rest;
       number = ap (λ (x : Client g.row.T.Denot). x.number) rest;
       most = ap (λ (x : Client g.row.T.Denot). x.most) rest;
+      seed = ap (λ (x : Client g.row.T.Denot). x.seed) rest;
       capacity = (
         ap (λ (x : Client g.row.T.Denot). x.handles.capacity) rest,
         ap (λ (x : Client g.row.T.Denot). x.alone.capacity) rest,

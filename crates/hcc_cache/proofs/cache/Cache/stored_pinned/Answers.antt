@@ -113,6 +113,7 @@ returns-in-Ok-Placed g c =
       seats = ap (λ (x : Client g.row.T.Denot). x.seats.items) rest;
       number = ap (λ (x : Client g.row.T.Denot). x.number) rest;
       most = ap (λ (x : Client g.row.T.Denot). x.most) rest;
+      seed = ap (λ (x : Client g.row.T.Denot). x.seed) rest;
       capacity = (c.keep-handle.ensures.capacity, ap (λ a. a.capacity) alone);
     } in
     let given : IsGiven old new c.keep-handle.result
@@ -198,6 +199,7 @@ returns-in-Ok-Standalone g c =
       seats = ap (λ (x : Client g.row.T.Denot). x.seats.items) rest;
       number = ap (λ (x : Client g.row.T.Denot). x.number) rest;
       most = ap (λ (x : Client g.row.T.Denot). x.most) rest;
+      seed = ap (λ (x : Client g.row.T.Denot). x.seed) rest;
       capacity = c.keep_alone-handle.ensures.capacity;
     } in
     let kept = c.keep_alone-handle.ensures.kept in
@@ -295,6 +297,7 @@ returns-in-Err g c =
       seats = ap (λ (x : Client g.row.T.Denot). x.seats.items) rest;
       number = ap (λ (x : Client g.row.T.Denot). x.number) rest;
       most = ap (λ (x : Client g.row.T.Denot). x.most) rest;
+      seed = ap (λ (x : Client g.row.T.Denot). x.seed) rest;
       capacity = (
         ap (λ (x : Client g.row.T.Denot). x.handles.capacity) rest,
         ap (λ (x : Client g.row.T.Denot). x.alone.capacity) rest,

@@ -52,7 +52,8 @@ returns-clause-view g c =
       told.0,
       rw (ap view_by at.seat_is, ← told.1)
           (works_at c.args.self.now old _ c.args.shard c.index.result.now was is at
-          (record { seats = refl; number = refl; most = refl; capacity = (refl, refl) })),
+          (record { seats = refl; number = refl; most = refl; seed = refl;
+              capacity = (refl, refl) })),
     )
 
 pub returns-clause-entries : goal.returns-clause-entries
@@ -77,7 +78,7 @@ returns-clause-loads g c =
     c.requires.known c.requires.within c.index.ensures c.index_mut-seat.ensures.value in
     did_at c.args.self.now c.args.client.now _ c.args.shard c.index.result.now was
     c.usage.new.seat at
-    (record { seats = refl; number = refl; most = refl; capacity = (refl, refl) })
+    (record { seats = refl; number = refl; most = refl; seed = refl; capacity = (refl, refl) })
     (λ s a b. LoadsUsage s c.usage.result a b) c.usage.ensures.view c.args.shard refl
 
 pub returns-clause-others : goal.returns-clause-others
@@ -94,7 +95,7 @@ returns-clause-counts g c =
       seats = with_item c.args.client.now.seats c.args.shard c.usage.new.seat;
     }) c.args.shard c.index.result.now was
     c.usage.new.seat at
-    (record { seats = refl; number = refl; most = refl; capacity = (refl, refl) })
+    (record { seats = refl; number = refl; most = refl; seed = refl; capacity = (refl, refl) })
     c.usage.ensures.counts
 
 pub returns-clause-steps : goal.returns-clause-steps
