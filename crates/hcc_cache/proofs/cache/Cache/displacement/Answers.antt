@@ -47,8 +47,13 @@ returns-clause-reads g c =
               seats = with_item c.args.client.now.seats c.args.shard c.displacement.new.seat;
             }) c.args.shard c.index.result.now was
             c.displacement.new.seat at
-            (record { seats = refl; number = refl; most = refl; seed = refl;
-                capacity = (refl, refl) })
+            (record {
+              seats = refl;
+              number = refl;
+              most = refl;
+              seed = refl;
+              capacity = (refl, refl);
+            })
             c.displacement.ensures.counts;
       };
       keeps = keeps_same c.args.self.now c.args.client.now _ c.args.shard c.index.result.now was

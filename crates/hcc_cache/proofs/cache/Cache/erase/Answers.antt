@@ -114,8 +114,13 @@ returns-clause-frees g c =
     let more : View _ → View _ → ℕ = λ v w.
     (cache.geometry.slots + 4) * (w.takings - v.takings) + 2 in
     takes_for cache old (record old { seats = with_item old.seats i is }) i c.index.result.now was
-    is at (record { seats = refl; number = refl; most = refl; seed = refl;
-        capacity = (refl, refl) }) 9
+    is at (record {
+      seats = refl;
+      number = refl;
+      most = refl;
+      seed = refl;
+      capacity = (refl, refl);
+    }) 9
     (more (view_of was) (view_of is)) more (shard_in cache c.args.key)
     (c.shard_number-shard.ensures.value
     ∙ ap (λ k. shard_of k (length cache.shards.items)) c.key_to-under.ensures.words)

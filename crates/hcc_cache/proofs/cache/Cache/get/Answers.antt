@@ -42,49 +42,89 @@ returns g c =
     record {
       known =
           knows_sought cache old _ i shard was is at
-          (record { seats = refl; number = refl; most = refl; seed = refl;
-              capacity = (refl, refl) })
+          (record {
+            seats = refl;
+            number = refl;
+            most = refl;
+            seed = refl;
+            capacity = (refl, refl);
+          })
           (record { handles = refl; alone = refl; held = refl; uses = (refl, refl) })
           c.get.ensures.seat sought;
       keeps =
           keeps_left cache old _ i shard was is at
-          (record { seats = refl; number = refl; most = refl; seed = refl;
-              capacity = (refl, refl) })
+          (record {
+            seats = refl;
+            number = refl;
+            most = refl;
+            seed = refl;
+            capacity = (refl, refl);
+          })
           (record { handles = refl; alone = refl; held = refl; uses = (refl, refl) })
           sought.records (ap (λ v. v.work.standalones) sought.searched.same);
       seeks =
           seeks_at cache old (record old { seats = with_item old.seats i is }) i shard was is at
-          (record { seats = refl; number = refl; most = refl; seed = refl;
-              capacity = (refl, refl) })
+          (record {
+            seats = refl;
+            number = refl;
+            most = refl;
+            seed = refl;
+            capacity = (refl, refl);
+          })
           g.T.Tag.fits c.args.key there (rw words at c.key_to-under.ensures.undone)
           c.args.useful c.args.buffer.now c.get.new.buffer sought;
       got =
           gets_for cache old (record old { seats = with_item old.seats i is }) i shard was is at
-          (record { seats = refl; number = refl; most = refl; seed = refl;
-              capacity = (refl, refl) })
+          (record {
+            seats = refl;
+            number = refl;
+            most = refl;
+            seed = refl;
+            capacity = (refl, refl);
+          })
           g.T.Tag.fits c.args.key there (rw words at c.key_to-under.ensures.undone)
           c.args.useful c.args.buffer.now c.get.new.buffer c.get.result got;
       gets =
           did_at cache old _ i shard was is at
-          (record { seats = refl; number = refl; most = refl; seed = refl;
-              capacity = (refl, refl) })
+          (record {
+            seats = refl;
+            number = refl;
+            most = refl;
+            seed = refl;
+            capacity = (refl, refl);
+          })
           (λ s a b. Gets (fits_seeded g.T.Tag.fits) s (key_to cache.seed c.args.key)
           c.args.useful c.get.result c.args.buffer.now c.get.new.buffer a b) got
           (shard_in cache c.args.key) there;
       stays =
           stays_at cache old (record old { seats = with_item old.seats i is }) i shard was is at
-          (record { seats = refl; number = refl; most = refl; seed = refl;
-              capacity = (refl, refl) })
+          (record {
+            seats = refl;
+            number = refl;
+            most = refl;
+            seed = refl;
+            capacity = (refl, refl);
+          })
           c.get.ensures.stays;
       counts =
           does_at cache old _ i shard was is at
-          (record { seats = refl; number = refl; most = refl; seed = refl;
-              capacity = (refl, refl) })
+          (record {
+            seats = refl;
+            number = refl;
+            most = refl;
+            seed = refl;
+            capacity = (refl, refl);
+          })
           SameEvictions c.get.ensures.counts (shard_in cache c.args.key) there;
       steps =
           takes_for cache old (record old { seats = with_item old.seats i is }) i shard was is at
-          (record { seats = refl; number = refl; most = refl; seed = refl;
-              capacity = (refl, refl) }) 7
+          (record {
+            seats = refl;
+            number = refl;
+            most = refl;
+            seed = refl;
+            capacity = (refl, refl);
+          }) 7
           (cache.geometry.room + 2) (λ v w. cache.geometry.room + 2)
           (shard_in cache c.args.key) there (rw (← alike.0) c.get.ensures.steps) (omega arith);
     }

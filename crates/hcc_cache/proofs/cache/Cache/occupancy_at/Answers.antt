@@ -49,8 +49,13 @@ returns-clause-reads g c =
               seats = with_item c.args.client.now.seats c.args.shard c.occupancy.new.seat;
             }) c.args.shard c.index.result.now was
             c.occupancy.new.seat at
-            (record { seats = refl; number = refl; most = refl; seed = refl;
-                capacity = (refl, refl) })
+            (record {
+              seats = refl;
+              number = refl;
+              most = refl;
+              seed = refl;
+              capacity = (refl, refl);
+            })
             c.occupancy.ensures.counts;
       };
       keeps = keeps_same c.args.self.now c.args.client.now _ c.args.shard c.index.result.now was

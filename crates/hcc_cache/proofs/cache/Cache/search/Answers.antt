@@ -127,8 +127,13 @@ returns-in_err-pin-clause-visits g c =
     c.index.ensures c.index_mut-seat.ensures.value in
     let words = c.key_to-under.ensures.words in
     visits_at cache old (record old { seats = with_item old.seats i is }) i shard was is at
-    (record { seats = refl; number = refl; most = refl; seed = refl;
-        capacity = (refl, refl) }) c.args.key
+    (record {
+      seats = refl;
+      number = refl;
+      most = refl;
+      seed = refl;
+      capacity = (refl, refl);
+    }) c.args.key
     (c.shard_number-shard.ensures.value ∙ ap (λ k. shard_of k (length cache.shards.items)) words)
     c.lookup.ensures.steps
 
@@ -143,8 +148,13 @@ returns-in_err-pin-clause-steps g c =
     let at = is_at cache old i shard was c.requires.known c.shard_number-shard.ensures.inside
     c.index.ensures c.index_mut-seat.ensures.value in
     looks_at cache old (record old { seats = with_item old.seats i is }) i shard was is at
-    (record { seats = refl; number = refl; most = refl; seed = refl;
-        capacity = (refl, refl) }) was.effort
+    (record {
+      seats = refl;
+      number = refl;
+      most = refl;
+      seed = refl;
+      capacity = (refl, refl);
+    }) was.effort
     is.effort c.lookup.ensures.steps
 
 pub returns : goal.returns

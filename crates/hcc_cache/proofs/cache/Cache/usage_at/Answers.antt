@@ -52,8 +52,13 @@ returns-clause-view g c =
       told.0,
       rw (ap view_by at.seat_is, ← told.1)
           (works_at c.args.self.now old _ c.args.shard c.index.result.now was is at
-          (record { seats = refl; number = refl; most = refl; seed = refl;
-              capacity = (refl, refl) })),
+          (record {
+            seats = refl;
+            number = refl;
+            most = refl;
+            seed = refl;
+            capacity = (refl, refl);
+          })),
     )
 
 pub returns-clause-entries : goal.returns-clause-entries
