@@ -20,7 +20,7 @@ use Rattle.hcc_cache.specs.declared.priority.Priority.{Priority}
 use Rattle.hcc_cache.specs.Calls.{OnlyAt, shard_in}
 use Rattle.hcc_cache.specs.Inserts.{InsertsAt, PinsAt, RefusesPinnedAt, StoresAt, draft_of}
 use Rattle.hcc_cache.specs.Moments.{KnowsShown}
-use Rattle.hcc_cache.specs.Opened.{IsCacheOf}
+use Rattle.hcc_cache.specs.Opened.{IsCacheOf, IsOpened}
 use Rattle.hcc_cache.specs.Room.{KeepsAs, KeepsPinnedAs, TurnsNone}
 use Rattle.hcc_cache.specs.Sharding.{key_to}
 use Rattle.hcc_cache.specs.Stays.{Stays}
@@ -38,10 +38,10 @@ use Rattle.hcc_player.specs.RunAnswers.{insert_answer}
 use Rattle.hcc_player.specs.RunCalls.{Does, IsOfWords}
 use Rattle.hcc_player.specs.Runs.{MakesAll}
 use Rattle.hcc_player.specs.RunTold.{AreAllTold, HadNoCause, IsTold, Told, TurnsNoneFor}
-use Rattle.hcc_player.specs.RunTold.{told_after, untold}
+use Rattle.hcc_player.specs.RunTold.{all_gone, told_after}
 use Rattle.hcc_player.proofs.ToldWorlds.{by_more}
 use Rattle.hcc_player.proofs.ToldWorlds.{out_same, same_key}
-use Rattle.hcc_player.proofs.ToldShows.{Tells, TellsBut, erased_tells, first_some, freed_tells, known_some, none_erased, not_both, shows_at, shows_stays, some_erased, tells_more, tells_over, tells_same, tells_stays, tells_with}
+use Rattle.hcc_player.proofs.ToldShows.{Shows, Tells, TellsBut, erased_tells, first_some, freed_tells, known_some, none_erased, none_there, not_both, shows_at, shows_stays, some_erased, tells_more, tells_over, tells_same, tells_stays, tells_with}
 
 module _ {T : Type 0} (fits : T → Key → List ℕ → Type 0) (config : Config) (tag : T)
     (cache : Cache T) (is_of : IsCacheOf config tag cache) (one : config.clients ≡ 1)
@@ -305,8 +305,8 @@ module _ {T : Type 0} (fits : T → Key → List ℕ → Type 0) (config : Confi
       tells_same config tag cache is_of one t old new did.client tells
   after l (calls.Erase k) (answers.Value w) t old new was now is exact did idle tells = absurd did
   after l (calls.Erase k) (answers.Erased n) t old new was now is exact did idle tells =
-      erased_tells config tag cache is_of one t k old new did.words did.others tells n
-      (exact.erases k n is refl)
+      erased_tells config tag cache is_of one t k n old new did.words did.others
+      (exact.erases k n is refl) tells
   after l (calls.Erase k) (answers.Totals a b c) t old new was now is exact did idle tells =
       absurd did
   after l (calls.Erase k) (answers.Word a b) t old new was now is exact did idle tells = absurd did
@@ -465,13 +465,18 @@ module _ {T : Type 0} (fits : T → Key → List ℕ → Type 0) (config : Confi
             m.holds.filled.items refl exact.0 m.did idle before))),
       )
 
-  -- where nothing is told at the beginning
-  nothing_told : (clients : List (Client T)) → AllTell untold clients
-  nothing_told clients c client there key b words is = cc
+  -- At the beginning nothing is there.
+  new_told : (clients : List (Client T)) → IsOpened config tag cache clients
+      → AllTell all_gone clients
+  new_told clients opened c client there key b words is =
+      subst (λ z. Shows cache key z client) (same_Some _ _ is)
+      (none_there config tag cache is_of one key client (opened.known c client there)
+      (opened.empty c client there))
 
   pub told_new : (lines : List RunLine) (answered : List Answer) (old new : List (Client T))
       (was now : List Registers) (makes : MakesAll fits cache lines answered old new was now)
-      → length old ≡ 1 → AreAllExact cache fits lines answered old new was now makes
-      → AreAllTold cache fits untold lines answered old new was now makes
-  told_new lines answered old new was now makes single exact =
-      told_all untold lines answered old new was now makes single exact (nothing_told old)
+      → IsOpened config tag cache old → AreAllExact cache fits lines answered old new was now makes
+      → AreAllTold cache fits all_gone lines answered old new was now makes
+  told_new lines answered old new was now makes opened exact =
+      told_all all_gone lines answered old new was now makes (opened.dealt.count ∙ one) exact
+      (new_told old opened)

@@ -1,6 +1,6 @@
 -- Which keys are shown by the worlds that a client knows, as it is told, and what leaves that so.
-use Rattle.std.proofs.Common.{◌≡◌, inl, inr, ℕ, zero, suc, ◌<◌, ◌≤◌, Bool, true, false, List, Option, Some, None, sym, refl, ap, ◌∙◌, subst, arith}
-use Rattle.std.specs.Prelude.{slice_get}
+use Rattle.std.proofs.Common.{◌≡◌, inl, inr, ℕ, ◌<◌, ◌≤◌, Bool, true, false, List, Option, Some, None, length, sym, refl, ap, ◌∙◌, subst, arith}
+use Rattle.std.specs.Prelude.{IsSomeAnd, slice_get}
 use Rattle.std.proofs.lemmas.Bool.{cases_eq}
 use Rattle.std.proofs.lemmas.Option.{same_Some}
 use Rattle.std.specs.declared.alloc.Global.{Global}
@@ -8,8 +8,11 @@ use Rattle.hcc_rule.specs.declared.geometry.Geometry.{Geometry}
 use Rattle.hcc_rule.specs.declared.key.Key.{Key}
 use Rattle.hcc_rule.specs.Callers.{clients_of, slots_of}
 use Rattle.hcc_rule.specs.Probes.{probe_slot}
+use Rattle.hcc_rule.specs.Words.{key_of}
+use Rattle.hcc_rule.proofs.Basics.Lists.{there}
 use Rattle.hcc_rule.proofs.Probes.ProbeLaws.{probe_inside, some_slots}
 use Rattle.hcc_table.specs.Standing.{shown_at, world_at}
+use Rattle.hcc_table.proofs.HidesAlone.{nothing_shown}
 use Rattle.hcc_table.proofs.Releases.{still_shows}
 use Rattle.hcc_shard.specs.declared.seat.ShardSeat.{ShardSeat}
 use Rattle.hcc_shard.specs.declared.shard.Shard.{Shard}
@@ -23,17 +26,16 @@ use Rattle.hcc_cache.specs.declared.holding.Kept.TheVariants.{Pinned as AtSlot, 
 use Rattle.hcc_cache.specs.declared.seeded.Seeded.{Seeded}
 use Rattle.hcc_cache.specs.Calls.{AtShard, OnlyAt, shard_in}
 use Rattle.hcc_cache.specs.Clients.{held_as, hold_of}
+use Rattle.hcc_cache.specs.Known.{Knows}
 use Rattle.hcc_cache.specs.Moments.{KnowsShown}
-use Rattle.hcc_cache.specs.Opened.{IsCacheOf}
+use Rattle.hcc_cache.specs.Opened.{IsCacheOf, KnowsNoneShown}
 use Rattle.hcc_cache.specs.Sharding.{key_to}
 use Rattle.hcc_cache.specs.Stays.{Stays}
 use Rattle.hcc_player.specs.RunAlone.{HidesAll, InWorld, ShowsFirst}
 use Rattle.hcc_player.specs.RunCalls.{IsOfWords, GivesBack}
-use Rattle.hcc_player.specs.RunTold.{Told, only_gone}
-use Rattle.hcc_player.specs.RunTold.{told_erased, with_told}
-use Rattle.hcc_player.proofs.ToldWorlds.{ShowsSome, by_hidden, by_less, by_same, gone_only}
-use Rattle.hcc_player.proofs.ToldWorlds.{none_hidden, release_less, same_key, shown_none, shown_some}
-use Rattle.hcc_player.proofs.ToldWorlds.{shows_by, there_only, told_cases}
+use Rattle.hcc_player.specs.RunTold.{Told, only_gone, with_told}
+use Rattle.hcc_player.proofs.ToldWorlds.{ShowsSome, by_hides, by_less, by_same, gone_only}
+use Rattle.hcc_player.proofs.ToldWorlds.{release_less, same_key, shown_some, shows_by, told_cases}
 
 module _ {T : Type 0} (cache : Cache T) where
   -- the world that a client knows of a key's shard shows it, or doesn't
@@ -104,6 +106,25 @@ module _ {T : Type 0} (config : Config) (tag : T) (cache : Cache T)
     seat_is = h.seat_is;
     holds = (h.slot, h.within, h.shows);
   }
+
+  -- A new cache shows no key.
+  pub none_there : (key : Key) (client : Client T) → Knows cache client
+      → KnowsNoneShown cache client → Shows cache key false client
+  none_there key client known none =
+      let some = known.alike.some in
+      let count = known.seated.count in
+      let low : shard_in cache key < length cache.shards.items = omega arith in
+      let shard = there cache.shards.items (shard_in cache key) low in
+      let seat = there client.seats.items (shard_in cache key) (omega arith) in
+      record {
+        shard = shard.0;
+        seat = seat.0;
+        shard_is = shard.1;
+        seat_is = seat.1;
+        holds = λ slot less shows.
+            subst (λ o. IsSomeAnd o (λ e. key_of e ≡ key_to cache.seed key))
+            (none (shard_in cache key) shard.0 seat.0 shard.1 seat.1 slot) shows;
+      }
 
   -- What a call that changes nothing of what is shown leaves.
   pub shows_stays : (key : Key) (b : Bool) (old new : Client T) → Stays cache old new
@@ -226,36 +247,22 @@ module _ {T : Type 0} (config : Config) (tag : T) (cache : Cache T)
       by (Some hold) here w = by_kept hold here hold.kept refl w
 
   -- An erasure.
-  module _ (told : Told) (key : Key) (old new : Client T) (words : IsOfWords key)
-      (only : OnlyAt (shard_in cache key) old new) (tells : Tells cache told old) where
-    erased_but : (count : ℕ) → HidesAll cache key count old new
-        → TellsBut cache key (told_erased count told) new
-    erased_but zero h other b theirs apart is =
-        shows_at _ (shard_in cache key) other b old new h only
-        (by_same b cache.geometry.slots (key_to cache.seed other)
-        (world_at h.shard.table h.was.seat) (world_at h.shard.table h.is.seat)
-        (none_hidden cache.geometry.slots (key_to cache.seed key)
-        (world_at h.shard.table h.was.seat) (world_at h.shard.table h.is.seat) h.did))
-        (tells other b theirs is)
-    erased_but (suc n) h other b theirs apart is =
-        let there = there_only (told other) b is in
-        subst (λ z. Shows cache other z new) there.0
-        (shows_at _ (shard_in cache key) other true old new h only
-        (by_hidden cache.geometry.slots (suc n) (key_to cache.seed key) (key_to cache.seed other)
-        (world_at h.shard.table h.was.seat) (world_at h.shard.table h.is.seat) h.did
-        (λ e. apart (same_key cache.seed key other words theirs e)))
-        (tells other true theirs there.1))
-
-    pub erased_tells : (count : ℕ) → HidesAll cache key count old new
-        → Tells cache (with_told key false (told_erased count told)) new
-    erased_tells count h =
-        tells_with key false (told_erased count told) new (erased_but count h) (record {
-          shard = h.shard;
-          seat = h.is;
-          shard_is = h.shard_is;
-          seat_is = h.seat_is;
-          holds = h.did.none;
-        })
+  pub erased_tells : (told : Told) (key : Key) (count : ℕ) (old new : Client T) → IsOfWords key
+      → OnlyAt (shard_in cache key) old new → HidesAll cache key count old new
+      → Tells cache told old → Tells cache (with_told key false told) new
+  erased_tells told key count old new words only h tells =
+      tells_with key false told new (λ other b theirs apart is.
+      shows_at _ (shard_in cache key) other b old new h only
+      (by_hides b cache.geometry.slots count (key_to cache.seed key) (key_to cache.seed other)
+      (world_at h.shard.table h.was.seat) (world_at h.shard.table h.is.seat) h.did
+      (λ e. apart (same_key cache.seed key other words theirs e)))
+      (tells other b theirs is)) (record {
+        shard = h.shard;
+        seat = h.is;
+        shard_is = h.shard_is;
+        seat_is = h.seat_is;
+        holds = h.did.none;
+      })
 
   -- what an erasure found of its key when it began
   found_of : (b : Bool) (key : Key) (count : ℕ) (old new : Client T)
@@ -284,5 +291,5 @@ module _ {T : Type 0} (config : Config) (tag : T) (cache : Cache T)
       → Shows cache key false old → count ≡ 0
   none_erased key count old new h w =
       h.did.all
-      ∙ shown_none cache.geometry.slots (key_to cache.seed key)
+      ∙ nothing_shown (key_to cache.seed key) cache.geometry.slots
       (world_at h.shard.table h.was.seat) (found_of false key count old new h w)

@@ -1,6 +1,6 @@
--- What the lines of a trace of calls and their answers alone tell of what is there, on a cache with
--- one client.
-use Rattle.std.specs.Prelude.{◌≡◌, ℕ, zero, suc, ◌≤◌, Bool, true, false, List, [], ◌∷◌, Option}
+-- What the lines of a trace of calls and their answers alone tell of what is there, on a new cache
+-- with one client.
+use Rattle.std.specs.Prelude.{◌≡◌, ℕ, ◌≤◌, Bool, true, false, List, [], ◌∷◌, Option}
 use Rattle.std.specs.Prelude.{Some, None, slice_get, if◌then◌else◌}
 use Rattle.hcc_rule.specs.declared.key.Key.{Key}
 use Rattle.hcc_table.specs.Searched.{is_key}
@@ -22,38 +22,28 @@ use Rattle.hcc_player.specs.Runs.{MakesAll}
 abbrev pub Told : Type 0
 Told = Key → Option Bool
 
-abbrev pub untold : Told
-untold key = None
+-- of a new cache: nothing is there
+abbrev pub all_gone : Told
+all_gone key = Some false
 
 -- one key is told so
 abbrev pub with_told : Key → Bool → Told → Told
 with_told key is told other = if is_key key other then Some is else told other
 
--- only the keys of which it is told that an entry is shown, or that none is
-abbrev pub only_there : Option Bool → Option Bool
-only_there (Some true) = Some true
-only_there other = None
-
+-- only that none is shown
 abbrev pub only_gone : Option Bool → Option Bool
 only_gone (Some false) = Some false
 only_gone other = None
 
--- what is still told of other keys where an erasure hid so many entries
-abbrev pub told_erased : (count : ℕ) → Told → Told
-told_erased zero told = told
-told_erased (suc n) told = λ key. only_there (told key)
-
 -- What is told once a call was answered so. Each key that was placed or hit is there; each that was
--- erased or missed isn't. Where entries were hidden it isn't told any more that others aren't
--- there; where one was freed, that any are.
+-- erased or missed isn't. Where an entry was freed it isn't told any more that any are.
 abbrev pub told_after : Call → Answer → Told → Told
 told_after (calls.Insert key charge priority value) answers.Placed told = with_told key true told
 told_after (calls.Pin register key charge priority value) answers.Placed told =
     with_told key true told
 told_after (calls.Get register key) answers.Hit told = with_told key true told
 told_after (calls.Get register key) answers.Miss told = with_told key false told
-told_after (calls.Erase key) (answers.Erased count) told =
-    with_told key false (told_erased count told)
+told_after (calls.Erase key) (answers.Erased count) told = with_told key false told
 told_after (calls.Release register useful erase) answers.Freed told = λ key. only_gone (told key)
 told_after call answer told = told
 

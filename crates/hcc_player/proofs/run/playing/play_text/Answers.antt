@@ -74,7 +74,7 @@ returns-clause-ok g c =
           (c.law_room.ensures.stores c.args.config tag cache is_of one)
           (c.law_room.ensures.pins c.args.config tag cache is_of one)
           (c.law_kept_shown.ensures.usage cache) (c.law_kept_shown.ensures.occupancy cache) lines
-          told first last empty kept makes (c.in-Ok.ensures.made.dealt.count ∙ one) exact,
+          told first last empty kept makes c.in-Ok.ensures.made exact,
     ))) c.finish.ensures.ok
 
 pub returns-clause-part : goal.returns-clause-part
