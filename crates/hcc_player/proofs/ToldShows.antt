@@ -33,7 +33,7 @@ use Rattle.hcc_cache.specs.Sharding.{key_to}
 use Rattle.hcc_cache.specs.Stays.{Stays}
 use Rattle.hcc_player.specs.RunAlone.{HidesAll, InWorld, ShowsFirst}
 use Rattle.hcc_player.specs.RunCalls.{IsOfWords, GivesBack}
-use Rattle.hcc_player.specs.RunTold.{Told, only_gone, with_told}
+use Rattle.hcc_player.specs.RunTold.{Keys, only_gone, with_told}
 use Rattle.hcc_player.proofs.ToldWorlds.{ShowsSome, by_hides, by_less, by_same, gone_only}
 use Rattle.hcc_player.proofs.ToldWorlds.{release_less, same_key, shown_some, shows_by, told_cases}
 
@@ -43,14 +43,14 @@ module _ {T : Type 0} (cache : Cache T) where
   Shows key b client = InWorld cache key (shows_by b) client
 
   -- so it is of each key of which that is told
-  abbrev pub Tells : Told → Client T → Type 0
-  Tells told client =
-      (key : Key) (b : Bool) → IsOfWords key → told key ≡ Some b → Shows key b client
+  abbrev pub Tells : Keys → Client T → Type 0
+  Tells keys client =
+      (key : Key) (b : Bool) → IsOfWords key → keys key ≡ Some b → Shows key b client
 
   -- and of each but this one
-  abbrev pub TellsBut : Key → Told → Client T → Type 0
-  TellsBut key told client =
-      (other : Key) (b : Bool) → IsOfWords other → ¬ (key ≡ other) → told other ≡ Some b
+  abbrev pub TellsBut : Key → Keys → Client T → Type 0
+  TellsBut key keys client =
+      (other : Key) (b : Bool) → IsOfWords other → ¬ (key ≡ other) → keys other ≡ Some b
       → Shows other b client
 
 module _ {T : Type 0} (config : Config) (tag : T) (cache : Cache T)
@@ -143,14 +143,14 @@ module _ {T : Type 0} (config : Config) (tag : T) (cache : Cache T)
             at.2 s) w.holds;
       }
 
-  pub tells_stays : (told : Told) (old new : Client T) → Stays cache old new → Tells cache told old
-      → Tells cache told new
-  tells_stays told old new stays tells key b words is =
+  pub tells_stays : (keys : Keys) (old new : Client T) → Stays cache old new → Tells cache keys old
+      → Tells cache keys new
+  tells_stays keys old new stays tells key b words is =
       shows_stays key b old new stays (tells key b words is)
 
-  pub tells_same : (told : Told) (old new : Client T) → new ≡ old → Tells cache told old
-      → Tells cache told new
-  tells_same told old new same tells = subst (Tells cache told) (sym same) tells
+  pub tells_same : (keys : Keys) (old new : Client T) → new ≡ old → Tells cache keys old
+      → Tells cache keys new
+  tells_same keys old new same tells = subst (Tells cache keys) (sym same) tells
 
   -- What one that changes it at one shard leaves.
   pub shows_at : (Did : Shard (Seeded T) Global → (old new : ShardSeat (Seeded T)) → Type 0)
@@ -188,41 +188,41 @@ module _ {T : Type 0} (config : Config) (tag : T) (cache : Cache T)
   ]
 
   -- one key is told anew
-  pub tells_with : (key : Key) (is : Bool) (told : Told) (client : Client T)
-      → TellsBut cache key told client → Shows cache key is client → Tells cache (with_told key is
-      told) client
-  tells_with key is told client but here other b words h = elim (told_cases key other is b told h) [
+  pub tells_with : (key : Key) (is : Bool) (keys : Keys) (client : Client T)
+      → TellsBut cache key keys client → Shows cache key is client → Tells cache (with_told key is
+      keys) client
+  tells_with key is keys client but here other b words h = elim (told_cases key other is b keys h) [
     | inl same ↦
         subst (λ k. Shows cache k b client) same.0 (subst (λ z. Shows cache key z client) same.1
         here)
     | inr apart ↦ but other b words apart.0 apart.1
   ]
 
-  pub tells_more : (key : Key) (is : Bool) (told : Told) (client : Client T)
-      → Tells cache told client → Shows cache key is client → Tells cache (with_told key is told)
+  pub tells_more : (key : Key) (is : Bool) (keys : Keys) (client : Client T)
+      → Tells cache keys client → Shows cache key is client → Tells cache (with_told key is keys)
       client
-  tells_more key is told client tells =
-      tells_with key is told client (λ other b words apart h. tells other b words h)
+  tells_more key is keys client tells =
+      tells_with key is keys client (λ other b words apart h. tells other b words h)
 
   -- What is the same at one shard.
   pub tells_over : (Did : Shard (Seeded T) Global → (old new : ShardSeat (Seeded T)) → Type 0)
-      (number : ℕ) (told : Told) (old new : Client T) (h : AtShard cache Did number old new)
+      (number : ℕ) (keys : Keys) (old new : Client T) (h : AtShard cache Did number old new)
       → OnlyAt number old new
       → ((s : ℕ) → shown_at (world_at h.shard.table h.is.seat) s
       ≡ shown_at (world_at h.shard.table h.was.seat) s)
-      → Tells cache told old → Tells cache told new
-  tells_over Did number told old new h only same tells key b words is =
+      → Tells cache keys old → Tells cache keys new
+  tells_over Did number keys old new h only same tells key b words is =
       shows_at Did number key b old new h only
       (by_same b cache.geometry.slots (key_to cache.seed key) (world_at h.shard.table h.was.seat)
       (world_at h.shard.table h.is.seat) (λ s less. same s)) (tells key b words is)
 
   -- A release that freed an entry.
-  pub freed_tells : (fits : T → Key → List ℕ → Type 0) (told : Told) (useful erase : Bool)
+  pub freed_tells : (fits : T → Key → List ℕ → Type 0) (keys : Keys) (useful erase : Bool)
       (was now : Option Handle) (old new : Client T)
-      → GivesBack fits cache useful erase true was now old new → Tells cache told old
-      → Tells cache (λ key. only_gone (told key)) new
-  freed_tells fits told useful erase was now old new did tells key b words is =
-      let gone = gone_only (told key) b is in
+      → GivesBack fits cache useful erase true was now old new → Tells cache keys old
+      → Tells cache (λ key. only_gone (keys key)) new
+  freed_tells fits keys useful erase was now old new did tells key b words is =
+      let gone = gone_only (keys key) b is in
       subst (λ z. Shows cache key z new) gone.0
       (by (hold_of old did.handle) refl (tells key false words gone.1))
     where
@@ -247,11 +247,11 @@ module _ {T : Type 0} (config : Config) (tag : T) (cache : Cache T)
       by (Some hold) here w = by_kept hold here hold.kept refl w
 
   -- An erasure.
-  pub erased_tells : (told : Told) (key : Key) (count : ℕ) (old new : Client T) → IsOfWords key
+  pub erased_tells : (keys : Keys) (key : Key) (count : ℕ) (old new : Client T) → IsOfWords key
       → OnlyAt (shard_in cache key) old new → HidesAll cache key count old new
-      → Tells cache told old → Tells cache (with_told key false told) new
-  erased_tells told key count old new words only h tells =
-      tells_with key false told new (λ other b theirs apart is.
+      → Tells cache keys old → Tells cache (with_told key false keys) new
+  erased_tells keys key count old new words only h tells =
+      tells_with key false keys new (λ other b theirs apart is.
       shows_at _ (shard_in cache key) other b old new h only
       (by_hides b cache.geometry.slots count (key_to cache.seed key) (key_to cache.seed other)
       (world_at h.shard.table h.was.seat) (world_at h.shard.table h.is.seat) h.did

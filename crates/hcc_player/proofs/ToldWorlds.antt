@@ -24,7 +24,7 @@ use Rattle.hcc_cache.specs.Sharding.{key_to}
 use Rattle.hcc_cache.proofs.Readings.{key_back}
 use Rattle.hcc_player.specs.RunAlone.{ShowsNone}
 use Rattle.hcc_player.specs.RunCalls.{IsOfWords}
-use Rattle.hcc_player.specs.RunTold.{Told, only_gone, with_told}
+use Rattle.hcc_player.specs.RunTold.{Keys, only_gone, with_told}
 
 -- Keys.
 
@@ -44,13 +44,13 @@ same_key seed a b x y same =
 -- What is told.
 
 -- where one key is told so, that is told of it, and of each other what was
-pub told_cases : (key other : Key) (is b : Bool) (told : Told)
-    → with_told key is told other ≡ Some b
-    → ((key ≡ other) × (is ≡ b)) ⊎ ((¬ (key ≡ other)) × (told other ≡ Some b))
-told_cases key other is b told h = by (is_key key other) refl h
+pub told_cases : (key other : Key) (is b : Bool) (keys : Keys)
+    → with_told key is keys other ≡ Some b
+    → ((key ≡ other) × (is ≡ b)) ⊎ ((¬ (key ≡ other)) × (keys other ≡ Some b))
+told_cases key other is b keys h = by (is_key key other) refl h
   where
-    by : (t : Bool) → is_key key other ≡ t → (if t then Some is else told other) ≡ Some b
-        → ((key ≡ other) × (is ≡ b)) ⊎ ((¬ (key ≡ other)) × (told other ≡ Some b))
+    by : (t : Bool) → is_key key other ≡ t → (if t then Some is else keys other) ≡ Some b
+        → ((key ≡ other) × (is ≡ b)) ⊎ ((¬ (key ≡ other)) × (keys other ≡ Some b))
     by true same h = inl (sym (key_equal key other same), same_Some _ _ h)
     by false apart h = inr (off_key key other apart, h)
 

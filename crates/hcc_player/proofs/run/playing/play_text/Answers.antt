@@ -70,10 +70,12 @@ returns-clause-ok g c =
     (ap (λ (g : Geometry). g.clients) is_of.geometry ∙ one) lines told first last empty kept
     makes in (
       exact,
-      told_new fits_trace c.args.config tag cache is_of one
-          (c.law_room.ensures.stores c.args.config tag cache is_of one)
-          (c.law_room.ensures.pins c.args.config tag cache is_of one)
-          (c.law_kept_shown.ensures.usage cache) (c.law_kept_shown.ensures.occupancy cache) lines
+      told_new fits_trace c.args.config tag cache is_of one (record {
+        keeps = c.law_room.ensures.stores c.args.config tag cache is_of one;
+        keeps_pinned = c.law_room.ensures.pins c.args.config tag cache is_of one;
+        room = c.law_room.ensures.fits c.args.config tag cache is_of one;
+        room_pinned = c.law_room.ensures.fits_pinned c.args.config tag cache is_of one;
+      }) (c.law_kept_shown.ensures.usage cache) (c.law_kept_shown.ensures.occupancy cache) lines
           told first last empty kept makes c.in-Ok.ensures.made exact,
     ))) c.finish.ensures.ok
 
