@@ -81,7 +81,8 @@ module _ {T : Type 0} (fits : T → Key → List ℕ → Type 0) (cache : Cache 
       let rest = makes_adds lines told makes.0 new makes.1 now makes.3 in
       let here = ap (made_over (length cache.shards.items)) one.clients_are in
       let more = over_adds cache l.client old one.before one.after (stood_by l.call a)
-      (placed_by l.call a) one.client_was (adds fits cache l.call a one.before one.after _ _ one.did) in
+      (placed_by l.call a) one.client_was
+      (adds fits cache l.call a one.before one.after _ _ one.did) in
       omega arith
 
   -- what is released was made before

@@ -252,7 +252,8 @@ module _ {T : Type 0} (fits : T → Key → List ℕ → Type 0) (cache : Cache 
       → ReadsWord fits cache shard slot word displaced old new → MadeNone 0 old new
   word_none shard slot word displaced old new r =
       none_then old r.between new
-      (none_works shard old r.between _ _ _ r.sees refl refl refl) (none_rests r.between new r.reads.rests)
+      (none_works shard old r.between _ _ _ r.sees refl refl refl)
+      (none_rests r.between new r.reads.rests)
 
   -- an insertion, by what it told
   pub inserted_adds : (key : Key) (charge : ℕ) (priority : Priority) (value : List ℕ)

@@ -1,11 +1,13 @@
 -- What an insertion leaves of what is told, where it had no cause to evict.
-use Rattle.std.proofs.Common.{◌≡◌, ◌⊎◌, inl, inr, ℕ, Bool, true, List, Some, None, Result, Ok, Err, sym, refl, ap}
+use Rattle.std.proofs.Common.{◌≡◌, ◌⊎◌, inl, inr, ℕ, Bool, true, false, List, Some, None, Result, Ok, Err, ◌<◌, sym, refl, ap, subst}
 use Rattle.std.specs.Prelude.{IsOk}
 use Rattle.std.proofs.lemmas.Bool.{true≢false}
 use Rattle.std.specs.declared.alloc.Global.{Global}
 use Rattle.hcc_rule.specs.declared.key.Key.{Key}
 use Rattle.hcc_rule.specs.Callers.{slots_of}
+use Rattle.hcc_rule.specs.Probes.{probe_slot}
 use Rattle.hcc_rule.specs.Seats.{view}
+use Rattle.hcc_rule.proofs.Probes.ProbeLaws.{probe_inside, some_slots}
 use Rattle.hcc_table.specs.declared.pins.Pin.{Pin}
 use Rattle.hcc_table.specs.Standing.{InsertsShown, ShowsMore, ShowsSame, shown_at, world_at}
 use Rattle.hcc_shard.specs.declared.inserting.Inserted.TheVariants as stored
@@ -32,14 +34,17 @@ use Rattle.hcc_player.specs.declared.run.answer.Answer.TheVariants as answers
 use Rattle.hcc_player.specs.declared.run.call.Call.TheVariants as calls
 use Rattle.hcc_player.specs.RunAnswers.{insert_answer}
 use Rattle.hcc_player.specs.RunCalls.{IsOfWords}
-use Rattle.hcc_player.specs.RunTold.{FitsBeside, Told, TurnsNoneFor, WantsRoom, keys_after, with_told}
+use Rattle.hcc_player.specs.RunTold.{FitsBeside, IsLeftOut, Told, TurnsNoneFor, WantsRoom}
+use Rattle.hcc_player.specs.RunTold.{keys_after, with_told}
 use Rattle.hcc_player.proofs.ToldBounds.{IsWithin, has_room}
 use Rattle.hcc_player.proofs.ToldWorlds.{by_more, out_same, same_key}
-use Rattle.hcc_player.proofs.ToldShows.{Tells, known_some, shows_at, tells_over, tells_same, tells_with}
+use Rattle.hcc_player.proofs.ToldShows.{Tells, found_of, known_some, shows_at, slots_same}
+use Rattle.hcc_player.proofs.ToldShows.{tells_over, tells_same, tells_with}
 
 module _ {T : Type 0} (fits : T → Key → List ℕ → Type 0) (config : Config) (cache : Cache T) where
   -- What the laws of a cache of one client say of insertions: what those leave that turn the hand
-  -- no further, and that those turn it no further, and aren't refused, for which there is room.
+  -- no further, that those turn it no further, and aren't refused, for which there is room, and
+  -- that those meet their key whose entries are left out.
   pub record AreLaws : Type 0 where
     pub keeps : (key : Key) (charge : ℕ) (priority : Priority) (answer : _)
         (old new : Client T) (h : StoresAt cache fits key charge priority answer old new)
@@ -58,6 +63,12 @@ module _ {T : Type 0} (fits : T → Key → List ℕ → Type 0) (config : Confi
         (answer : _) (old new : Client T)
         (h : PinsAt cache fits key charge priority answer old new)
         → HasRoomBeside config charge (view h.was.seat) → IsOk answer × TurnsNone h.was h.is
+    pub met : (key : Key) (charge : ℕ) (priority : Priority) (old new : Client T)
+        (h : StoresAt cache fits key charge priority (Ok stored.Dropped) old new)
+        → TurnsNone h.was h.is → h.did.matched ≡ true
+    pub met_pinned : (key : Key) (charge : ℕ) (priority : Priority) (old new : Client T)
+        (h : PinsAt cache fits key charge priority (Ok pinned.Standalone) old new)
+        → TurnsNone h.was h.is → h.did.matched ≡ true
 
 module _ {T : Type 0} (fits : T → Key → List ℕ → Type 0) (config : Config) (tag : T)
     (cache : Cache T) (is_of : IsCacheOf config tag cache) (one : config.clients ≡ 1)
@@ -106,6 +117,42 @@ module _ {T : Type 0} (fits : T → Key → List ℕ → Type 0) (config : Confi
   unwanted_pinned beside errors.TooLarge at wants = wants
   unwanted_pinned beside errors.CapacityFull at wants = unrefused_pinned beside _ at
   unwanted_pinned beside errors.OccupancyFull at wants = unrefused_pinned beside _ at
+
+  -- one whose key isn't there isn't left out
+  unmet : (Did : Shard (Seeded T) Global → (old new : ShardSeat (Seeded T)) → Type 0)
+      (matched : Bool) (h : AtShard cache Did (shard_in cache key) old new)
+      → InsertsShown (slots_of h.shard.table) (key_to cache.seed key) (left_out matched)
+      (world_at h.shard.table h.was.seat) (world_at h.shard.table h.is.seat) → matched ≡ true
+      → IsOfWords key → told.keys key ≡ Some false → ⊥
+  unmet Did false h left met words gone = cc
+  unmet Did true h left met words gone =
+      found_of config tag cache is_of one Did false key old new h (tells key false words gone)
+      (probe_slot (slots_of h.shard.table) (key_to cache.seed key) left.0)
+      (subst (λ n. probe_slot (slots_of h.shard.table) (key_to cache.seed key) left.0 < n)
+      (slots_same config tag cache is_of one _ h.shard h.shard_is)
+      (probe_inside (slots_of h.shard.table) (key_to cache.seed key) left.0
+      (some_slots (slots_of h.shard.table) h.shard.table.limits.power))) left.2
+
+  pub placed_where_gone : FitsBeside config told charge → (did : Result Inserted InsertError)
+      → InsertsAt cache fits key charge priority did old new → IsOfWords key
+      → told.keys key ≡ Some false → ¬ IsLeftOut (insert_answer did)
+  placed_where_gone beside (Ok inserted.Placed) at words gone out = out
+  placed_where_gone beside (Ok inserted.Dropped) at words gone out =
+      let idle = (fits_stored beside (Ok stored.Dropped) at).1 in
+      unmet _ at.did.matched at
+      (laws.keeps key charge priority (Ok stored.Dropped) old new at idle).1.shows
+      (laws.met key charge priority old new at idle) words gone
+  placed_where_gone beside (Ok inserted.Standalone) at words gone out = at
+  placed_where_gone beside (Err error) at words gone out = out
+
+  pub pinned_where_gone : FitsBeside config told charge
+      → PinsAt cache fits key charge priority (Ok pinned.Standalone) old new → IsOfWords key
+      → told.keys key ≡ Some false → ⊥
+  pinned_where_gone beside at words gone =
+      let idle = (fits_pinned beside (Ok pinned.Standalone) at).1 in
+      unmet _ at.did.matched at
+      (laws.keeps_pinned key charge priority (Ok pinned.Standalone) old new at idle).1.shows
+      (laws.met_pinned key charge priority old new at idle) words gone
 
   module _ (cause : FitsBeside config told charge ⊎ TurnsNoneFor config cache key old new)
       (only : OnlyAt (shard_in cache key) old new) where

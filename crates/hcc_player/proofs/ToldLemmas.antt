@@ -8,6 +8,7 @@ use Rattle.hcc_rule.specs.declared.key.Key.{Key}
 use Rattle.hcc_cache.specs.declared.cache.Cache.{Cache}
 use Rattle.hcc_cache.specs.declared.client.Client.{Client}
 use Rattle.hcc_cache.specs.declared.config.Config.{Config}
+use Rattle.hcc_cache.specs.Clients.{Insertion}
 use Rattle.hcc_cache.specs.Opened.{IsCacheOf, IsOpened}
 use Rattle.hcc_cache.specs.Stays.{Stays}
 use Rattle.hcc_cache.specs.Totals.{LoadsEachOccupancy, LoadsEachUsage}
@@ -22,11 +23,13 @@ use Rattle.hcc_player.specs.declared.run.registers.Registers.{Registers}
 use Rattle.hcc_player.specs.RunAlone.{AreAllExact, IsExact}
 use Rattle.hcc_player.specs.RunCalls.{Does, IsOfWords}
 use Rattle.hcc_player.specs.Runs.{MakesAll}
-use Rattle.hcc_player.specs.RunTold.{AreAllTold, FitsBeside, HadNoCause, IsTold, Told, WantsRoom}
+use Rattle.hcc_player.specs.RunTold.{AreAllTold, FitsBeside, HadNoCause, IsLeftOut, IsTold}
+use Rattle.hcc_player.specs.RunTold.{Told, WantsRoom}
 use Rattle.hcc_player.specs.RunTold.{asked_by, keys_after, new_told, told_after}
 use Rattle.hcc_player.proofs.ToldBounds.{IsWithin, within_after, within_new}
-use Rattle.hcc_player.proofs.ToldInserts.{AreLaws, entered, pinned_tells, standing_tells, unentered}
-use Rattle.hcc_player.proofs.ToldInserts.{unwanted, unwanted_pinned}
+use Rattle.hcc_player.proofs.ToldInserts.{AreLaws, entered, pinned_tells, pinned_where_gone}
+use Rattle.hcc_player.proofs.ToldInserts.{placed_where_gone, standing_tells, unentered, unwanted}
+use Rattle.hcc_player.proofs.ToldInserts.{unwanted_pinned}
 use Rattle.hcc_player.proofs.ToldShows.{Shows, Tells, erased_tells, first_some, freed_tells, none_erased}
 use Rattle.hcc_player.proofs.ToldShows.{none_there, not_both, shows_stays, some_erased, tells_more}
 use Rattle.hcc_player.proofs.ToldShows.{tells_same, tells_stays}
@@ -53,19 +56,19 @@ module _ {T : Type 0} (fits : T → Key → List ℕ → Type 0) (config : Confi
       → Agrees told old → Tells cache (keys_after call answer told.keys) new
   unfolding Does
   after l (calls.Insert k x p v) answer t old new was now is exact did cause agrees =
-      rw did.answer_is (entered fits config tag cache is_of one laws t k x p old new agrees.tells agrees.most cause
-      did.others v did.told did.evicts did.words (did.shown here))
+      rw did.answer_is (entered fits config tag cache is_of one laws t k x p old new agrees.tells
+      agrees.most cause did.others v did.told did.evicts did.words (did.shown here))
   after l (calls.Pin r k x p v) answers.Placed t old new was now is exact did cause agrees =
-      pinned_tells fits config tag cache is_of one laws t k x p old new agrees.tells agrees.most cause did.others
-      did.evicts.0 did.evicts.1 did.words (did.shown here refl)
+      pinned_tells fits config tag cache is_of one laws t k x p old new agrees.tells agrees.most
+      cause did.others did.evicts.0 did.evicts.1 did.words (did.shown here refl)
   after l (calls.Pin r k x p v) answers.Dropped t old new was now is exact did cause agrees =
       absurd did
   after l (calls.Pin r k x p v) answers.Standalone t old new was now is exact did cause agrees =
-      standing_tells fits config tag cache is_of one laws t k x p old new agrees.tells agrees.most cause did.others
-      did.evicts
+      standing_tells fits config tag cache is_of one laws t k x p old new agrees.tells agrees.most
+      cause did.others did.evicts
   after l (calls.Pin r k x p v) (answers.Refused e) t old new was now is exact did cause agrees =
-      unentered fits config tag cache is_of one laws t k x p old new agrees.tells agrees.most cause did.others e
-      did.evicts
+      unentered fits config tag cache is_of one laws t k x p old new agrees.tells agrees.most cause
+      did.others e did.evicts
   after l (calls.Pin r k x p v) answers.Busy t old new was now is exact did cause agrees =
       tells_same config tag cache is_of one t.keys old new did.client agrees.tells
   after l (calls.Pin r k x p v) answers.Hit t old new was now is exact did cause agrees = absurd did
@@ -220,8 +223,8 @@ module _ {T : Type 0} (fits : T → Key → List ℕ → Type 0) (config : Confi
   after l calls.Totals (answers.Value w) t old new was now is exact did cause agrees = absurd did
   after l calls.Totals (answers.Erased n) t old new was now is exact did cause agrees = absurd did
   after l calls.Totals (answers.Totals a b c) t old new was now is exact did cause agrees =
-      tells_stays config tag cache is_of one t.keys old new (stays_then cache old did.first new (uses a
-      old did.first did.loads)
+      tells_stays config tag cache is_of one t.keys old new (stays_then cache old did.first new
+      (uses a old did.first did.loads)
       (stays_then cache did.first did.second new did.stays
       (occupies c did.second new did.counts))) agrees.tells
   after l calls.Totals (answers.Word a b) t old new was now is exact did cause agrees = absurd did
@@ -294,21 +297,51 @@ module _ {T : Type 0} (fits : T → Key → List ℕ → Type 0) (config : Confi
       (subst (λ a. Does fits cache call a old new was now) said did)
 
   -- an insertion that fits isn't refused for want of room
-  fits_by : (call : Call) (answer : Answer) (told : Told) (old new : Client T) (was now : List Filled)
-      → Does fits cache call answer old new was now → Agrees told old → (charge : ℕ)
-      → asked_by call ≡ Some charge → FitsBeside config told charge → ¬ WantsRoom answer
+  fits_by : (call : Call) (answer : Answer) (told : Told) (old new : Client T)
+      (was now : List Filled) → Does fits cache call answer old new was now → Agrees told old
+      → (asked : Insertion) → asked_by call ≡ Some asked → FitsBeside config told asked.charge
+      → ¬ WantsRoom answer
   unfolding Does
-  fits_by (calls.Insert k x p v) answer told old new was now did agrees charge is beside wants =
+  fits_by (calls.Insert k x p v) answer told old new was now did agrees asked is beside wants =
       unwanted fits config tag cache is_of one laws told k x p old new agrees.tells agrees.most
-      (subst (FitsBeside config told) (sym (same_Some _ _ is)) beside) did.told did.evicts
-      (subst WantsRoom did.answer_is wants)
-  fits_by (calls.Pin r k x p v) (answers.Refused e) told old new was now did agrees charge is
-      beside wants =
-      unwanted_pinned fits config tag cache is_of one laws told k x p old new agrees.tells agrees.most
-      (subst (FitsBeside config told) (sym (same_Some _ _ is)) beside) e did.evicts wants
-  fits_by (calls.Pin r k x p v) answer told old new was now did agrees charge is beside wants =
+      (subst (λ (i : Insertion). FitsBeside config told i.charge) (sym (same_Some _ _ is)) beside)
+      did.told did.evicts (subst WantsRoom did.answer_is wants)
+  fits_by (calls.Pin r k x p v) (answers.Refused e) told old new was now did agrees asked is beside
+      wants =
+      unwanted_pinned fits config tag cache is_of one laws told k x p old new agrees.tells
+      agrees.most
+      (subst (λ (i : Insertion). FitsBeside config told i.charge) (sym (same_Some _ _ is)) beside) e
+      did.evicts wants
+  fits_by (calls.Pin r k x p v) answer told old new was now did agrees asked is beside wants =
       absurd wants
-  fits_by call answer told old new was now did agrees charge is beside wants = cc
+  fits_by call answer told old new was now did agrees asked is beside wants = cc
+
+  -- nor is it left out where its key isn't there
+  places_by : (call : Call) (answer : Answer) (told : Told) (old new : Client T)
+      (was now : List Filled) → Does fits cache call answer old new was now → Agrees told old
+      → (asked : Insertion) → asked_by call ≡ Some asked → FitsBeside config told asked.charge
+      → told.keys asked.key ≡ Some false → ¬ IsLeftOut answer
+  unfolding Does
+  places_by (calls.Insert k x p v) answer told old new was now did agrees asked is beside gone out =
+      placed_where_gone fits config tag cache is_of one laws told k x p old new agrees.tells
+      agrees.most
+      (subst (λ (i : Insertion). FitsBeside config told i.charge) (sym (same_Some _ _ is)) beside)
+      did.told did.evicts did.words
+      (subst (λ (i : Insertion). told.keys i.key ≡ Some false) (sym (same_Some _ _ is)) gone)
+      (subst IsLeftOut did.answer_is out)
+  places_by (calls.Pin r k x p v) answers.Standalone told old new was now did agrees asked is beside
+      gone out =
+      pinned_where_gone fits config tag cache is_of one laws told k x p old new agrees.tells
+      agrees.most
+      (subst (λ (i : Insertion). FitsBeside config told i.charge) (sym (same_Some _ _ is)) beside)
+      did.evicts did.words
+      (subst (λ (i : Insertion). told.keys i.key ≡ Some false) (sym (same_Some _ _ is)) gone)
+  places_by (calls.Pin r k x p v) answers.Dropped told old new was now did agrees asked is beside
+      gone out =
+      absurd did
+  places_by (calls.Pin r k x p v) answer told old new was now did agrees asked is beside gone out =
+      absurd out
+  places_by call answer told old new was now did agrees asked is beside gone out = cc
 
   told_so : (line : RunLine) (answer : Answer) (told : Told) (old new : Client T)
       (was now : List Filled) → IsExact cache line answer old new
@@ -332,6 +365,7 @@ module _ {T : Type 0} (fits : T → Key → List ℕ → Type 0) (config : Confi
         (agrees.tells key false (erased_words key count old new was now
         (did_as _ _ _ _ old new was now is said did)) gone);
     fits = fits_by line.call answer told old new was now did agrees;
+    places = places_by line.call answer told old new was now did agrees;
   }
 
   -- of all clients, of which there is one

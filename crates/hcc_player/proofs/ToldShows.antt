@@ -59,7 +59,7 @@ module _ {T : Type 0} (config : Config) (tag : T) (cache : Cache T)
       → clients_of shard.table ≡ 1
   alone s shard at = ap (λ (g : Geometry). g.clients) (is_of.shards s shard at).geometry ∙ one
 
-  slots_same : (s : ℕ) (shard : Shard (Seeded T) Global)
+  pub slots_same : (s : ℕ) (shard : Shard (Seeded T) Global)
       → slice_get cache.shards.items s ≡ Some shard
       → slots_of shard.table ≡ cache.geometry.slots
   slots_same s shard at =
@@ -264,12 +264,13 @@ module _ {T : Type 0} (config : Config) (tag : T) (cache : Cache T)
         holds = h.did.none;
       })
 
-  -- what an erasure found of its key when it began
-  found_of : (b : Bool) (key : Key) (count : ℕ) (old new : Client T)
-      (h : HidesAll cache key count old new) → Shows cache key b old
+  -- what a call found of its key when it began
+  pub found_of : (Did : Shard (Seeded T) Global → (old new : ShardSeat (Seeded T)) → Type 0)
+      (b : Bool) (key : Key) (old new : Client T)
+      (h : AtShard cache Did (shard_in cache key) old new) → Shows cache key b old
       → shows_by b cache.geometry.slots (key_to cache.seed key)
       (world_at h.shard.table h.was.seat)
-  found_of b key count old new h w =
+  found_of Did b key old new h w =
       let shard : w.shard ≡ h.shard = same_Some _ _ (sym w.shard_is ∙ h.shard_is) in
       let seat : w.seat ≡ h.was = same_Some _ _ (sym w.seat_is ∙ h.seat_was) in
       subst (λ (z : Shard (Seeded T) Global). shows_by b cache.geometry.slots
@@ -281,7 +282,7 @@ module _ {T : Type 0} (config : Config) (tag : T) (cache : Cache T)
   pub some_erased : (key : Key) (count : ℕ) (old new : Client T) → HidesAll cache key count old new
       → Shows cache key true old → 1 ≤ count
   some_erased key count old new h w =
-      let some = found_of true key count old new h w in
+      let some = found_of _ true key old new h w in
       let counted = shown_some cache.geometry.slots (key_to cache.seed key)
       (world_at h.shard.table h.was.seat) some.0 some.1 some.2 in
       let all = h.did.all in
@@ -292,4 +293,4 @@ module _ {T : Type 0} (config : Config) (tag : T) (cache : Cache T)
   none_erased key count old new h w =
       h.did.all
       ∙ nothing_shown (key_to cache.seed key) cache.geometry.slots
-      (world_at h.shard.table h.was.seat) (found_of false key count old new h w)
+      (world_at h.shard.table h.was.seat) (found_of _ false key old new h w)

@@ -41,7 +41,7 @@ pub record IsRunOf (config : Config) (lines : List RunLine) (told : List Answer)
   -- with one client the answers say exactly what is there
   pub alone : config.clients ≡ 1
       → AreAllExact cache fits_trace lines told first last empty kept plays
-  -- And as long as no insertion had cause to evict they are as the lines and answers before tell: at
-  -- the beginning nothing is there.
+  -- And as long as no insertion had cause to evict they are as the lines and answers before tell:
+  -- at the beginning nothing is there.
   pub foretold : config.clients ≡ 1
       → AreAllTold config cache fits_trace new_told lines told first last empty kept plays

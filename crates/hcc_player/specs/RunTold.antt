@@ -13,6 +13,7 @@ use Rattle.hcc_cache.specs.declared.config.Config.{Config}
 use Rattle.hcc_cache.specs.declared.errors.InsertError.TheVariants.{CapacityFull, OccupancyFull}
 use Rattle.hcc_cache.specs.declared.seeded.Seeded.{Seeded}
 use Rattle.hcc_cache.specs.Calls.{shard_in}
+use Rattle.hcc_cache.specs.Clients.{Insertion}
 use Rattle.hcc_cache.specs.Configs.{shard_capacity}
 use Rattle.hcc_cache.specs.Room.{TurnsNone}
 use Rattle.hcc_player.specs.declared.run.answer.Answer.{Answer}
@@ -67,17 +68,21 @@ told_after call answer told = record {
   charged = told.charged + charge_of (placed_by call answer) + stood_by call answer;
 }
 
--- the charge of an insertion
-abbrev pub asked_by : Call → Option ℕ
-asked_by (calls.Insert key charge priority value) = Some charge
-asked_by (calls.Pin register key charge priority value) = Some charge
-asked_by call = None
+-- the insertion that a call asks for
+abbrev pub asked_by : Call → Option Insertion
+asked_by call = placed_by call answers.Placed
 
--- an insertion was refused for want of room
+-- one was refused for want of room
 abbrev pub WantsRoom : Answer → Type 0
 WantsRoom (answers.Refused CapacityFull) = Unit {0}
 WantsRoom (answers.Refused OccupancyFull) = Unit {0}
 WantsRoom answer = ⊥
+
+-- one was left out of the table, though it wasn't refused
+abbrev pub IsLeftOut : Answer → Type 0
+IsLeftOut answers.Dropped = Unit {0}
+IsLeftOut answers.Standalone = Unit {0}
+IsLeftOut answer = ⊥
 
 module _ (config : Config) where
   -- By the options there is room in one shard for an entry of this charge, beside all that was
@@ -88,7 +93,8 @@ module _ (config : Config) where
 
   -- A line's answer is as it is told: a look-up of a key that is there doesn't miss, one of a key
   -- that isn't doesn't hit, and an erasure hides entries just where some are. An insertion for
-  -- which there is room so isn't refused for want of it.
+  -- which there is room so isn't refused for want of it, and where its key isn't there its entry
+  -- isn't left out of the table.
   pub record IsTold (told : Told) (line : RunLine) (answer : Answer) : Type 0 where
     pub hits : (register : ℕ) (key : Key) → line.call ≡ calls.Get register key
         → told.keys key ≡ Some true → ¬ (answer ≡ answers.Miss)
@@ -98,8 +104,10 @@ module _ (config : Config) where
         → answer ≡ answers.Erased count → told.keys key ≡ Some true → 1 ≤ count
     pub erases_none : (key : Key) (count : ℕ) → line.call ≡ calls.Erase key
         → answer ≡ answers.Erased count → told.keys key ≡ Some false → count ≡ 0
-    pub fits : (charge : ℕ) → asked_by line.call ≡ Some charge → FitsBeside told charge
-        → ¬ WantsRoom answer
+    pub fits : (asked : Insertion) → asked_by line.call ≡ Some asked
+        → FitsBeside told asked.charge → ¬ WantsRoom answer
+    pub places : (asked : Insertion) → asked_by line.call ≡ Some asked
+        → FitsBeside told asked.charge → told.keys asked.key ≡ Some false → ¬ IsLeftOut answer
 
   module _ {T : Type 0} (cache : Cache T) where
     -- the client turned the hand of a key's shard no further
