@@ -282,26 +282,12 @@ module _ {T : Type 0} (fits : T → Key → List ℕ → Type 0) (cache : Cache 
       pins_one cache k x p w did.handle old new
       (slice_get_within cache.shards.items (shard_in cache k) did.evicts.1.shard
       did.evicts.1.shard_is) did.inserts
-  adds (calls.Pin r k x p w) answers.Dropped old new was now did = absurd did
   adds (calls.Pin r k x p w) answers.Standalone old new was now did =
       stands_none cache k x p w did.handle old new did.inserts
   adds (calls.Pin r k x p w) (answers.Refused e) old new was now did =
       unpinned_none cache k x p w e old new did.refuses
   adds (calls.Pin r k x p w) answers.Busy old new was now did = none_same old new did.client
-  adds (calls.Pin r k x p w) answers.Hit old new was now did = absurd did
-  adds (calls.Pin r k x p w) answers.Miss old new was now did = absurd did
-  adds (calls.Pin r k x p w) answers.Held old new was now did = absurd did
-  adds (calls.Pin r k x p w) answers.Freed old new was now did = absurd did
-  adds (calls.Pin r k x p w) answers.Kept old new was now did = absurd did
   adds (calls.Pin r k x p w) answers.Nothing old new was now did = none_same old new did.client
-  adds (calls.Pin r k x p w) (answers.Value v) old new was now did = absurd did
-  adds (calls.Pin r k x p w) (answers.Erased n) old new was now did = absurd did
-  adds (calls.Pin r k x p w) (answers.Totals a b c) old new was now did = absurd did
-  adds (calls.Pin r k x p w) (answers.Word a b) old new was now did = absurd did
-  adds (calls.Pin r k x p w) (answers.Stats t) old new was now did = absurd did
-  adds (calls.Get r k) answers.Placed old new was now did = absurd did
-  adds (calls.Get r k) answers.Dropped old new was now did = absurd did
-  adds (calls.Get r k) answers.Standalone old new was now did = absurd did
   adds (calls.Get r k) (answers.Refused e) old new was now did = none_same old new did.client
   adds (calls.Get r k) answers.Busy old new was now did = none_same old new did.client
   adds (calls.Get r k) answers.Hit old new was now did =
@@ -310,132 +296,36 @@ module _ {T : Type 0} (fits : T → Key → List ℕ → Type 0) (cache : Cache 
   adds (calls.Get r k) answers.Miss old new was now did =
       none_works _ old new did.misses.v did.misses.w _ did.misses.works
       did.misses.misses.sought.searched.same refl refl
-  adds (calls.Get r k) answers.Held old new was now did = absurd did
-  adds (calls.Get r k) answers.Freed old new was now did = absurd did
-  adds (calls.Get r k) answers.Kept old new was now did = absurd did
   adds (calls.Get r k) answers.Nothing old new was now did = none_same old new did.client
-  adds (calls.Get r k) (answers.Value v) old new was now did = absurd did
-  adds (calls.Get r k) (answers.Erased n) old new was now did = absurd did
-  adds (calls.Get r k) (answers.Totals a b c) old new was now did = absurd did
-  adds (calls.Get r k) (answers.Word a b) old new was now did = absurd did
-  adds (calls.Get r k) (answers.Stats t) old new was now did = absurd did
-  adds (calls.Fork r f) answers.Placed old new was now did = absurd did
-  adds (calls.Fork r f) answers.Dropped old new was now did = absurd did
-  adds (calls.Fork r f) answers.Standalone old new was now did = absurd did
   adds (calls.Fork r f) (answers.Refused e) old new was now did = none_same old new did.client
   adds (calls.Fork r f) answers.Busy old new was now did = none_same old new did.client
-  adds (calls.Fork r f) answers.Hit old new was now did = absurd did
-  adds (calls.Fork r f) answers.Miss old new was now did = absurd did
   adds (calls.Fork r f) answers.Held old new was now did =
       none_works _ old new did.again.v did.again.w _ did.again.works did.again.searched.same refl
       refl
-  adds (calls.Fork r f) answers.Freed old new was now did = absurd did
-  adds (calls.Fork r f) answers.Kept old new was now did = absurd did
   adds (calls.Fork r f) answers.Nothing old new was now did = none_same old new did.client
-  adds (calls.Fork r f) (answers.Value v) old new was now did = absurd did
-  adds (calls.Fork r f) (answers.Erased n) old new was now did = absurd did
-  adds (calls.Fork r f) (answers.Totals a b c) old new was now did = absurd did
-  adds (calls.Fork r f) (answers.Word a b) old new was now did = absurd did
-  adds (calls.Fork r f) (answers.Stats t) old new was now did = absurd did
-  adds (calls.Release r y z) answers.Placed old new was now did = absurd did
-  adds (calls.Release r y z) answers.Dropped old new was now did = absurd did
-  adds (calls.Release r y z) answers.Standalone old new was now did = absurd did
-  adds (calls.Release r y z) (answers.Refused e) old new was now did = absurd did
   adds (calls.Release r y z) answers.Busy old new was now did = none_same old new did.client
-  adds (calls.Release r y z) answers.Hit old new was now did = absurd did
-  adds (calls.Release r y z) answers.Miss old new was now did = absurd did
-  adds (calls.Release r y z) answers.Held old new was now did = absurd did
   adds (calls.Release r y z) answers.Freed old new was now did =
       gives_none cache did.handle z true old new did.releases
   adds (calls.Release r y z) answers.Kept old new was now did =
       gives_none cache did.handle z false old new did.releases
   adds (calls.Release r y z) answers.Nothing old new was now did = none_same old new did.client
-  adds (calls.Release r y z) (answers.Value v) old new was now did = absurd did
-  adds (calls.Release r y z) (answers.Erased n) old new was now did = absurd did
-  adds (calls.Release r y z) (answers.Totals a b c) old new was now did = absurd did
-  adds (calls.Release r y z) (answers.Word a b) old new was now did = absurd did
-  adds (calls.Release r y z) (answers.Stats t) old new was now did = absurd did
-  adds (calls.Value r) answers.Placed old new was now did = absurd did
-  adds (calls.Value r) answers.Dropped old new was now did = absurd did
-  adds (calls.Value r) answers.Standalone old new was now did = absurd did
-  adds (calls.Value r) (answers.Refused e) old new was now did = absurd did
   adds (calls.Value r) answers.Busy old new was now did = none_same old new did.client
-  adds (calls.Value r) answers.Hit old new was now did = absurd did
-  adds (calls.Value r) answers.Miss old new was now did = absurd did
-  adds (calls.Value r) answers.Held old new was now did = absurd did
-  adds (calls.Value r) answers.Freed old new was now did = absurd did
-  adds (calls.Value r) answers.Kept old new was now did = absurd did
   adds (calls.Value r) answers.Nothing old new was now did = none_same old new did.client
   adds (calls.Value r) (answers.Value v) old new was now did =
       none_then old did.between new (none_rests old did.between did.measures.rests)
       (none_rests did.between new did.reads.rests)
-  adds (calls.Value r) (answers.Erased n) old new was now did = absurd did
-  adds (calls.Value r) (answers.Totals a b c) old new was now did = absurd did
-  adds (calls.Value r) (answers.Word a b) old new was now did = absurd did
-  adds (calls.Value r) (answers.Stats t) old new was now did = absurd did
-  adds (calls.Erase k) answers.Placed old new was now did = absurd did
-  adds (calls.Erase k) answers.Dropped old new was now did = absurd did
-  adds (calls.Erase k) answers.Standalone old new was now did = absurd did
-  adds (calls.Erase k) (answers.Refused e) old new was now did = absurd did
   adds (calls.Erase k) answers.Busy old new was now did = none_same old new did.client
-  adds (calls.Erase k) answers.Hit old new was now did = absurd did
-  adds (calls.Erase k) answers.Miss old new was now did = absurd did
-  adds (calls.Erase k) answers.Held old new was now did = absurd did
-  adds (calls.Erase k) answers.Freed old new was now did = absurd did
-  adds (calls.Erase k) answers.Kept old new was now did = absurd did
   adds (calls.Erase k) answers.Nothing old new was now did = none_same old new did.client
-  adds (calls.Erase k) (answers.Value v) old new was now did = absurd did
   adds (calls.Erase k) (answers.Erased n) old new was now did =
       none_works _ old new did.erases.v did.erases.w _ did.erases.works did.erases.erases.same refl
       refl
-  adds (calls.Erase k) (answers.Totals a b c) old new was now did = absurd did
-  adds (calls.Erase k) (answers.Word a b) old new was now did = absurd did
-  adds (calls.Erase k) (answers.Stats t) old new was now did = absurd did
-  adds calls.Totals answers.Placed old new was now did = absurd did
-  adds calls.Totals answers.Dropped old new was now did = absurd did
-  adds calls.Totals answers.Standalone old new was now did = absurd did
-  adds calls.Totals (answers.Refused e) old new was now did = absurd did
   adds calls.Totals answers.Busy old new was now did = none_same old new did.client
-  adds calls.Totals answers.Hit old new was now did = absurd did
-  adds calls.Totals answers.Miss old new was now did = absurd did
-  adds calls.Totals answers.Held old new was now did = absurd did
-  adds calls.Totals answers.Freed old new was now did = absurd did
-  adds calls.Totals answers.Kept old new was now did = absurd did
   adds calls.Totals answers.Nothing old new was now did = none_same old new did.client
-  adds calls.Totals (answers.Value v) old new was now did = absurd did
-  adds calls.Totals (answers.Erased n) old new was now did = absurd did
   adds calls.Totals (answers.Totals a b c) old new was now did = totals_none a b c old new did
-  adds calls.Totals (answers.Word a b) old new was now did = absurd did
-  adds calls.Totals (answers.Stats t) old new was now did = absurd did
-  adds (calls.Word i j) answers.Placed old new was now did = absurd did
-  adds (calls.Word i j) answers.Dropped old new was now did = absurd did
-  adds (calls.Word i j) answers.Standalone old new was now did = absurd did
-  adds (calls.Word i j) (answers.Refused e) old new was now did = absurd did
   adds (calls.Word i j) answers.Busy old new was now did = none_same old new did.client
-  adds (calls.Word i j) answers.Hit old new was now did = absurd did
-  adds (calls.Word i j) answers.Miss old new was now did = absurd did
-  adds (calls.Word i j) answers.Held old new was now did = absurd did
-  adds (calls.Word i j) answers.Freed old new was now did = absurd did
-  adds (calls.Word i j) answers.Kept old new was now did = absurd did
   adds (calls.Word i j) answers.Nothing old new was now did = none_same old new did.client
-  adds (calls.Word i j) (answers.Value v) old new was now did = absurd did
-  adds (calls.Word i j) (answers.Erased n) old new was now did = absurd did
-  adds (calls.Word i j) (answers.Totals a b c) old new was now did = absurd did
   adds (calls.Word i j) (answers.Word a b) old new was now did = word_none i j a b old new did
-  adds (calls.Word i j) (answers.Stats t) old new was now did = absurd did
-  adds calls.Stats answers.Placed old new was now did = absurd did
-  adds calls.Stats answers.Dropped old new was now did = absurd did
-  adds calls.Stats answers.Standalone old new was now did = absurd did
-  adds calls.Stats (answers.Refused e) old new was now did = absurd did
   adds calls.Stats answers.Busy old new was now did = none_same old new did.client
-  adds calls.Stats answers.Hit old new was now did = absurd did
-  adds calls.Stats answers.Miss old new was now did = absurd did
-  adds calls.Stats answers.Held old new was now did = absurd did
-  adds calls.Stats answers.Freed old new was now did = absurd did
-  adds calls.Stats answers.Kept old new was now did = absurd did
   adds calls.Stats answers.Nothing old new was now did = none_same old new did.client
-  adds calls.Stats (answers.Value v) old new was now did = absurd did
-  adds calls.Stats (answers.Erased n) old new was now did = absurd did
-  adds calls.Stats (answers.Totals a b c) old new was now did = absurd did
-  adds calls.Stats (answers.Word a b) old new was now did = absurd did
   adds calls.Stats (answers.Stats t) old new was now did = none_same old new did.1.client
+  adds call answer old new was now did = absurd did

@@ -61,8 +61,6 @@ module _ {T : Type 0} (fits : T → Key → List ℕ → Type 0) (config : Confi
   after l (calls.Pin r k x p v) answers.Placed t old new was now is exact did cause agrees =
       pinned_tells fits config tag cache is_of one laws t k x p old new agrees.tells agrees.most
       cause did.others did.evicts.0 did.evicts.1 did.words (did.shown here refl)
-  after l (calls.Pin r k x p v) answers.Dropped t old new was now is exact did cause agrees =
-      absurd did
   after l (calls.Pin r k x p v) answers.Standalone t old new was now is exact did cause agrees =
       standing_tells fits config tag cache is_of one laws t k x p old new agrees.tells agrees.most
       cause did.others did.evicts
@@ -71,26 +69,8 @@ module _ {T : Type 0} (fits : T → Key → List ℕ → Type 0) (config : Confi
       did.others e did.evicts
   after l (calls.Pin r k x p v) answers.Busy t old new was now is exact did cause agrees =
       tells_same config tag cache is_of one t.keys old new did.client agrees.tells
-  after l (calls.Pin r k x p v) answers.Hit t old new was now is exact did cause agrees = absurd did
-  after l (calls.Pin r k x p v) answers.Miss t old new was now is exact did cause agrees = absurd did
-  after l (calls.Pin r k x p v) answers.Held t old new was now is exact did cause agrees = absurd did
-  after l (calls.Pin r k x p v) answers.Freed t old new was now is exact did cause agrees = absurd did
-  after l (calls.Pin r k x p v) answers.Kept t old new was now is exact did cause agrees = absurd did
   after l (calls.Pin r k x p v) answers.Nothing t old new was now is exact did cause agrees =
       tells_same config tag cache is_of one t.keys old new did.client agrees.tells
-  after l (calls.Pin r k x p v) (answers.Value w) t old new was now is exact did cause agrees =
-      absurd did
-  after l (calls.Pin r k x p v) (answers.Erased n) t old new was now is exact did cause agrees =
-      absurd did
-  after l (calls.Pin r k x p v) (answers.Totals a b c) t old new was now is exact did cause agrees =
-      absurd did
-  after l (calls.Pin r k x p v) (answers.Word a b) t old new was now is exact did cause agrees =
-      absurd did
-  after l (calls.Pin r k x p v) (answers.Stats s) t old new was now is exact did cause agrees =
-      absurd did
-  after l (calls.Get r k) answers.Placed t old new was now is exact did cause agrees = absurd did
-  after l (calls.Get r k) answers.Dropped t old new was now is exact did cause agrees = absurd did
-  after l (calls.Get r k) answers.Standalone t old new was now is exact did cause agrees = absurd did
   after l (calls.Get r k) (answers.Refused e) t old new was now is exact did cause agrees =
       tells_same config tag cache is_of one t.keys old new did.client agrees.tells
   after l (calls.Get r k) answers.Busy t old new was now is exact did cause agrees =
@@ -104,172 +84,61 @@ module _ {T : Type 0} (fits : T → Key → List ℕ → Type 0) (config : Confi
       tells_more config tag cache is_of one k false t.keys new
       (tells_stays config tag cache is_of one t.keys old new did.stays agrees.tells)
       (shows_stays config tag cache is_of one k false old new did.stays (exact.misses r k is refl))
-  after l (calls.Get r k) answers.Held t old new was now is exact did cause agrees = absurd did
-  after l (calls.Get r k) answers.Freed t old new was now is exact did cause agrees = absurd did
-  after l (calls.Get r k) answers.Kept t old new was now is exact did cause agrees = absurd did
   after l (calls.Get r k) answers.Nothing t old new was now is exact did cause agrees =
       tells_same config tag cache is_of one t.keys old new did.client agrees.tells
-  after l (calls.Get r k) (answers.Value w) t old new was now is exact did cause agrees = absurd did
-  after l (calls.Get r k) (answers.Erased n) t old new was now is exact did cause agrees = absurd did
-  after l (calls.Get r k) (answers.Totals a b c) t old new was now is exact did cause agrees =
-      absurd did
-  after l (calls.Get r k) (answers.Word a b) t old new was now is exact did cause agrees = absurd did
-  after l (calls.Get r k) (answers.Stats s) t old new was now is exact did cause agrees = absurd did
-  after l (calls.Fork r f) answers.Placed t old new was now is exact did cause agrees = absurd did
-  after l (calls.Fork r f) answers.Dropped t old new was now is exact did cause agrees = absurd did
-  after l (calls.Fork r f) answers.Standalone t old new was now is exact did cause agrees = absurd did
   after l (calls.Fork r f) (answers.Refused e) t old new was now is exact did cause agrees =
       tells_same config tag cache is_of one t.keys old new did.client agrees.tells
   after l (calls.Fork r f) answers.Busy t old new was now is exact did cause agrees =
       tells_same config tag cache is_of one t.keys old new did.client agrees.tells
-  after l (calls.Fork r f) answers.Hit t old new was now is exact did cause agrees = absurd did
-  after l (calls.Fork r f) answers.Miss t old new was now is exact did cause agrees = absurd did
   after l (calls.Fork r f) answers.Held t old new was now is exact did cause agrees =
       tells_stays config tag cache is_of one t.keys old new did.stays agrees.tells
-  after l (calls.Fork r f) answers.Freed t old new was now is exact did cause agrees = absurd did
-  after l (calls.Fork r f) answers.Kept t old new was now is exact did cause agrees = absurd did
   after l (calls.Fork r f) answers.Nothing t old new was now is exact did cause agrees =
       tells_same config tag cache is_of one t.keys old new did.client agrees.tells
-  after l (calls.Fork r f) (answers.Value w) t old new was now is exact did cause agrees = absurd did
-  after l (calls.Fork r f) (answers.Erased n) t old new was now is exact did cause agrees = absurd did
-  after l (calls.Fork r f) (answers.Totals a b c) t old new was now is exact did cause agrees =
-      absurd did
-  after l (calls.Fork r f) (answers.Word a b) t old new was now is exact did cause agrees = absurd did
-  after l (calls.Fork r f) (answers.Stats s) t old new was now is exact did cause agrees = absurd did
-  after l (calls.Release r y z) answers.Placed t old new was now is exact did cause agrees =
-      absurd did
-  after l (calls.Release r y z) answers.Dropped t old new was now is exact did cause agrees =
-      absurd did
-  after l (calls.Release r y z) answers.Standalone t old new was now is exact did cause agrees =
-      absurd did
-  after l (calls.Release r y z) (answers.Refused e) t old new was now is exact did cause agrees =
-      absurd did
   after l (calls.Release r y z) answers.Busy t old new was now is exact did cause agrees =
       tells_same config tag cache is_of one t.keys old new did.client agrees.tells
-  after l (calls.Release r y z) answers.Hit t old new was now is exact did cause agrees = absurd did
-  after l (calls.Release r y z) answers.Miss t old new was now is exact did cause agrees = absurd did
-  after l (calls.Release r y z) answers.Held t old new was now is exact did cause agrees = absurd did
   after l (calls.Release r y z) answers.Freed t old new was now is exact did cause agrees =
       freed_tells config tag cache is_of one fits t.keys y z _ _ old new did agrees.tells
   after l (calls.Release r y z) answers.Kept t old new was now is exact did cause agrees =
       tells_stays config tag cache is_of one t.keys old new (did.stays refl) agrees.tells
   after l (calls.Release r y z) answers.Nothing t old new was now is exact did cause agrees =
       tells_same config tag cache is_of one t.keys old new did.client agrees.tells
-  after l (calls.Release r y z) (answers.Value w) t old new was now is exact did cause agrees =
-      absurd did
-  after l (calls.Release r y z) (answers.Erased n) t old new was now is exact did cause agrees =
-      absurd did
-  after l (calls.Release r y z) (answers.Totals a b c) t old new was now is exact did cause agrees =
-      absurd did
-  after l (calls.Release r y z) (answers.Word a b) t old new was now is exact did cause agrees =
-      absurd did
-  after l (calls.Release r y z) (answers.Stats s) t old new was now is exact did cause agrees =
-      absurd did
-  after l (calls.Value r) answers.Placed t old new was now is exact did cause agrees = absurd did
-  after l (calls.Value r) answers.Dropped t old new was now is exact did cause agrees = absurd did
-  after l (calls.Value r) answers.Standalone t old new was now is exact did cause agrees = absurd did
-  after l (calls.Value r) (answers.Refused e) t old new was now is exact did cause agrees = absurd did
   after l (calls.Value r) answers.Busy t old new was now is exact did cause agrees =
       tells_same config tag cache is_of one t.keys old new did.client agrees.tells
-  after l (calls.Value r) answers.Hit t old new was now is exact did cause agrees = absurd did
-  after l (calls.Value r) answers.Miss t old new was now is exact did cause agrees = absurd did
-  after l (calls.Value r) answers.Held t old new was now is exact did cause agrees = absurd did
-  after l (calls.Value r) answers.Freed t old new was now is exact did cause agrees = absurd did
-  after l (calls.Value r) answers.Kept t old new was now is exact did cause agrees = absurd did
   after l (calls.Value r) answers.Nothing t old new was now is exact did cause agrees =
       tells_same config tag cache is_of one t.keys old new did.client agrees.tells
   after l (calls.Value r) (answers.Value w) t old new was now is exact did cause agrees =
       tells_stays config tag cache is_of one t.keys old new (stays_then cache old did.between new
       did.measured did.stays) agrees.tells
-  after l (calls.Value r) (answers.Erased n) t old new was now is exact did cause agrees = absurd did
-  after l (calls.Value r) (answers.Totals a b c) t old new was now is exact did cause agrees =
-      absurd did
-  after l (calls.Value r) (answers.Word a b) t old new was now is exact did cause agrees = absurd did
-  after l (calls.Value r) (answers.Stats s) t old new was now is exact did cause agrees = absurd did
-  after l (calls.Erase k) answers.Placed t old new was now is exact did cause agrees = absurd did
-  after l (calls.Erase k) answers.Dropped t old new was now is exact did cause agrees = absurd did
-  after l (calls.Erase k) answers.Standalone t old new was now is exact did cause agrees = absurd did
-  after l (calls.Erase k) (answers.Refused e) t old new was now is exact did cause agrees = absurd did
   after l (calls.Erase k) answers.Busy t old new was now is exact did cause agrees =
       tells_same config tag cache is_of one t.keys old new did.client agrees.tells
-  after l (calls.Erase k) answers.Hit t old new was now is exact did cause agrees = absurd did
-  after l (calls.Erase k) answers.Miss t old new was now is exact did cause agrees = absurd did
-  after l (calls.Erase k) answers.Held t old new was now is exact did cause agrees = absurd did
-  after l (calls.Erase k) answers.Freed t old new was now is exact did cause agrees = absurd did
-  after l (calls.Erase k) answers.Kept t old new was now is exact did cause agrees = absurd did
   after l (calls.Erase k) answers.Nothing t old new was now is exact did cause agrees =
       tells_same config tag cache is_of one t.keys old new did.client agrees.tells
-  after l (calls.Erase k) (answers.Value w) t old new was now is exact did cause agrees = absurd did
   after l (calls.Erase k) (answers.Erased n) t old new was now is exact did cause agrees =
       erased_tells config tag cache is_of one t.keys k n old new did.words did.others
       (exact.erases k n is refl) agrees.tells
-  after l (calls.Erase k) (answers.Totals a b c) t old new was now is exact did cause agrees =
-      absurd did
-  after l (calls.Erase k) (answers.Word a b) t old new was now is exact did cause agrees = absurd did
-  after l (calls.Erase k) (answers.Stats s) t old new was now is exact did cause agrees = absurd did
-  after l calls.Totals answers.Placed t old new was now is exact did cause agrees = absurd did
-  after l calls.Totals answers.Dropped t old new was now is exact did cause agrees = absurd did
-  after l calls.Totals answers.Standalone t old new was now is exact did cause agrees = absurd did
-  after l calls.Totals (answers.Refused e) t old new was now is exact did cause agrees = absurd did
   after l calls.Totals answers.Busy t old new was now is exact did cause agrees =
       tells_same config tag cache is_of one t.keys old new did.client agrees.tells
-  after l calls.Totals answers.Hit t old new was now is exact did cause agrees = absurd did
-  after l calls.Totals answers.Miss t old new was now is exact did cause agrees = absurd did
-  after l calls.Totals answers.Held t old new was now is exact did cause agrees = absurd did
-  after l calls.Totals answers.Freed t old new was now is exact did cause agrees = absurd did
-  after l calls.Totals answers.Kept t old new was now is exact did cause agrees = absurd did
   after l calls.Totals answers.Nothing t old new was now is exact did cause agrees =
       tells_same config tag cache is_of one t.keys old new did.client agrees.tells
-  after l calls.Totals (answers.Value w) t old new was now is exact did cause agrees = absurd did
-  after l calls.Totals (answers.Erased n) t old new was now is exact did cause agrees = absurd did
   after l calls.Totals (answers.Totals a b c) t old new was now is exact did cause agrees =
       tells_stays config tag cache is_of one t.keys old new (stays_then cache old did.first new
       (uses a old did.first did.loads)
       (stays_then cache did.first did.second new did.stays
       (occupies c did.second new did.counts))) agrees.tells
-  after l calls.Totals (answers.Word a b) t old new was now is exact did cause agrees = absurd did
-  after l calls.Totals (answers.Stats s) t old new was now is exact did cause agrees = absurd did
-  after l (calls.Word i j) answers.Placed t old new was now is exact did cause agrees = absurd did
-  after l (calls.Word i j) answers.Dropped t old new was now is exact did cause agrees = absurd did
-  after l (calls.Word i j) answers.Standalone t old new was now is exact did cause agrees = absurd did
-  after l (calls.Word i j) (answers.Refused e) t old new was now is exact did cause agrees =
-      absurd did
   after l (calls.Word i j) answers.Busy t old new was now is exact did cause agrees =
       tells_same config tag cache is_of one t.keys old new did.client agrees.tells
-  after l (calls.Word i j) answers.Hit t old new was now is exact did cause agrees = absurd did
-  after l (calls.Word i j) answers.Miss t old new was now is exact did cause agrees = absurd did
-  after l (calls.Word i j) answers.Held t old new was now is exact did cause agrees = absurd did
-  after l (calls.Word i j) answers.Freed t old new was now is exact did cause agrees = absurd did
-  after l (calls.Word i j) answers.Kept t old new was now is exact did cause agrees = absurd did
   after l (calls.Word i j) answers.Nothing t old new was now is exact did cause agrees =
       tells_same config tag cache is_of one t.keys old new did.client agrees.tells
-  after l (calls.Word i j) (answers.Value w) t old new was now is exact did cause agrees = absurd did
-  after l (calls.Word i j) (answers.Erased n) t old new was now is exact did cause agrees = absurd did
-  after l (calls.Word i j) (answers.Totals a b c) t old new was now is exact did cause agrees =
-      absurd did
   after l (calls.Word i j) (answers.Word a b) t old new was now is exact did cause agrees =
       tells_stays config tag cache is_of one t.keys old new (stays_then cache old did.between new
       did.looks did.stays) agrees.tells
-  after l (calls.Word i j) (answers.Stats s) t old new was now is exact did cause agrees = absurd did
-  after l calls.Stats answers.Placed t old new was now is exact did cause agrees = absurd did
-  after l calls.Stats answers.Dropped t old new was now is exact did cause agrees = absurd did
-  after l calls.Stats answers.Standalone t old new was now is exact did cause agrees = absurd did
-  after l calls.Stats (answers.Refused e) t old new was now is exact did cause agrees = absurd did
   after l calls.Stats answers.Busy t old new was now is exact did cause agrees =
       tells_same config tag cache is_of one t.keys old new did.client agrees.tells
-  after l calls.Stats answers.Hit t old new was now is exact did cause agrees = absurd did
-  after l calls.Stats answers.Miss t old new was now is exact did cause agrees = absurd did
-  after l calls.Stats answers.Held t old new was now is exact did cause agrees = absurd did
-  after l calls.Stats answers.Freed t old new was now is exact did cause agrees = absurd did
-  after l calls.Stats answers.Kept t old new was now is exact did cause agrees = absurd did
   after l calls.Stats answers.Nothing t old new was now is exact did cause agrees =
       tells_same config tag cache is_of one t.keys old new did.client agrees.tells
-  after l calls.Stats (answers.Value w) t old new was now is exact did cause agrees = absurd did
-  after l calls.Stats (answers.Erased n) t old new was now is exact did cause agrees = absurd did
-  after l calls.Stats (answers.Totals a b c) t old new was now is exact did cause agrees = absurd did
-  after l calls.Stats (answers.Word a b) t old new was now is exact did cause agrees = absurd did
   after l calls.Stats (answers.Stats s) t old new was now is exact did cause agrees =
       tells_same config tag cache is_of one t.keys old new did.1.client agrees.tells
+  after l call answer t old new was now is exact did cause agrees = absurd did
 
   -- Lines are answered as it is told.
 
