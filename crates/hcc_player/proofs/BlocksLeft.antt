@@ -75,7 +75,7 @@ module _ {T : Type 0} where
   abbrev made_by_one : ℕ → Client T → ℕ
   made_by_one count client = total (λ s. length (made_in s client)) (range_with_len 0 count)
 
-  none_made : (count : ℕ) (old new : Client T) → MadeNone old new
+  none_made : (count : ℕ) (old new : Client T) → MadeNone 0 old new
       → made_by_one count new ≡ made_by_one count old
   none_made count old new none =
       range_same (λ s. length (made_in s new)) (λ s. length (made_in s old)) 0 count
@@ -108,20 +108,20 @@ module _ {T : Type 0} (fits : T → Key → List ℕ → Type 0) (cache : Cache 
           omega arith
 
   pub lacks_none : (key : Key) (old new : Client T) → Lacks cache key fits old new
-      → MadeNone old new
+      → MadeNone 0 old new
   lacks_none key old new lacks = elim lacks [
     | inl refused ↦ none_same old new refused.1
     | inr missed ↦
-        none_works _ old new missed.0.v missed.0.w missed.0.works
-        (ap listed missed.0.misses.sought.searched.same)
+        none_works _ old new missed.0.v missed.0.w _ missed.0.works
+        missed.0.misses.sought.searched.same refl refl
   ]
 
   pub copies_none : (key : Key) (old new : Client T) → Copies cache key fits old new
-      → MadeNone old new
+      → MadeNone 0 old new
   copies_none key old new c =
       none_then old c.found new
-      (none_works _ old c.found c.finds.v c.finds.w c.finds.works
-      (ap listed c.finds.finds.searched.same))
+      (none_works _ old c.found c.finds.v c.finds.w _ c.finds.works c.finds.finds.searched.same
+      refl refl)
       (none_then c.found c.was new (none_rests c.found c.was c.reads.rests)
       (gives_none cache c.handle false c.freed c.was new c.releases))
 

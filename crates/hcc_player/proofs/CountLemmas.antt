@@ -73,16 +73,16 @@ module _ {T : Type 0} where
 
 module _ {T : Type 0} (cache : Cache T) where
   -- a line adds what was placed
-  pub over_adds : (n : ℕ) (clients : List (Client T)) (old new : Client T)
+  pub over_adds : (n : ℕ) (clients : List (Client T)) (old new : Client T) (alone : ℕ)
       (placed : Option Insertion)
-      → slice_get clients n ≡ Some old → Adds cache placed old new
+      → slice_get clients n ≡ Some old → Adds cache alone placed old new
       → made_over (length cache.shards.items) (slice_set clients n new)
       ≡ made_over (length cache.shards.items) clients + when (is_some placed) 1
-  over_adds n clients old new None at adds =
+  over_adds n clients old new alone None at adds =
       let same = range_same (λ s. made_at s (slice_set clients n new)) (λ s. made_at s clients) 0
       (length cache.shards.items) (λ s low high. at_none s n clients old new at (adds.same s)) in
       omega arith
-  over_adds n clients old new (Some placed) at adds =
+  over_adds n clients old new alone (Some placed) at adds =
       range_one (λ s. made_at s (slice_set clients n new)) (λ s. made_at s clients) _ 0
       (length cache.shards.items) (omega arith) (let w = adds.within in omega arith)
       (at_one _ n clients old new adds.made at adds.more)

@@ -29,7 +29,7 @@ use Rattle.hcc_player.specs.declared.run.answer.Answer.{Answer}
 use Rattle.hcc_player.specs.declared.run.call.RunLine.{RunLine}
 use Rattle.hcc_player.specs.declared.run.registers.Filled.{Filled}
 use Rattle.hcc_player.specs.declared.run.registers.Registers.{Registers}
-use Rattle.hcc_player.specs.Runs.{ClosesAfter, LetsGo, MakesAll, placed_by, placed_in}
+use Rattle.hcc_player.specs.Runs.{ClosesAfter, LetsGo, MakesAll, placed_by, placed_in, stood_by}
 use Rattle.hcc_player.proofs.CountLemmas.{made_at, made_over, over_adds, range_same}
 use Rattle.hcc_player.proofs.MadeLemmas.{MadeNone, adds, gives_none, made_in, none_same, none_then}
 
@@ -80,13 +80,14 @@ module _ {T : Type 0} (fits : T → Key → List ℕ → Type 0) (cache : Cache 
       let one = makes.2 in
       let rest = makes_adds lines told makes.0 new makes.1 now makes.3 in
       let here = ap (made_over (length cache.shards.items)) one.clients_are in
-      let more = over_adds cache l.client old one.before one.after (placed_by l.call a)
-      one.client_was (adds fits cache l.call a one.before one.after _ _ one.did) in
+      let more = over_adds cache l.client old one.before one.after (stood_by l.call a)
+      (placed_by l.call a) one.client_was
+      (adds fits cache l.call a one.before one.after _ _ one.did) in
       omega arith
 
   -- what is released was made before
   pub goes_none : (held : List Filled) (old new : Client T) → LetsGo fits cache held old new
-      → MadeNone old new
+      → MadeNone 0 old new
   goes_none [] old new goes = none_same old new goes
   goes_none (f ∷ fs) old new goes =
       let gives = goes.2 in

@@ -39,6 +39,8 @@ pub mod EndLemmas
 pub mod AloneLemmas
 pub mod ToldWorlds
 pub mod ToldShows
+pub mod ToldBounds
+pub mod ToldInserts
 pub mod ToldLemmas
 pub mod PlayRunLemmas
 pub mod Fine

@@ -13,7 +13,7 @@ use Rattle.hcc_cache.specs.Clients.{Insertion}
 use Rattle.hcc_player.specs.declared.run.answer.Answer.{Answer}
 use Rattle.hcc_player.specs.declared.run.call.RunLine.{RunLine}
 use Rattle.hcc_player.specs.declared.run.registers.Registers.{Registers}
-use Rattle.hcc_player.specs.Runs.{Makes, MakesAll, placed_by}
+use Rattle.hcc_player.specs.Runs.{Makes, MakesAll, placed_by, stood_by}
 use Rattle.hcc_player.specs.Work.{AllWith}
 use Rattle.hcc_player.proofs.EndLemmas.{off_member}
 use Rattle.hcc_player.proofs.MadeLemmas.{Adds, adds, made_in}
@@ -174,10 +174,10 @@ module _ {T : Type 0} (cache : Cache T) (c s : ℕ) where
   AddsHere (Some i) old new =
       (m : Made) × (m.charge ≡ i.charge) × (made_in s new ≡ made_in s old ++ m ∷ [])
 
-  pub adds_here : (placed : Option Insertion) (old new : Client T) → Adds cache placed old new
-      → AddsHere (only_here c placed) old new
-  adds_here None old new none = none.same s
-  adds_here (Some i) old new one =
+  pub adds_here : (alone : ℕ) (placed : Option Insertion) (old new : Client T)
+      → Adds cache alone placed old new → AddsHere (only_here c placed) old new
+  adds_here alone None old new none = none.same s
+  adds_here alone (Some i) old new one =
       let on : (c == c) ≡ true = search (rules, tests) in
       elim (cases_eq (shard_in cache i.key) s) [
         | inl there ↦
@@ -188,10 +188,10 @@ module _ {T : Type 0} (cache : Cache T) (c s : ℕ) where
             rw (on, at) (one.others s (λ e. other (sym e)))
       ]
 
-  pub numbers : (placed : Option Insertion) (old new : Client T) → Adds cache placed old new
-      → new.number ≡ old.number
-  numbers None old new none = none.number
-  numbers (Some i) old new one = one.number
+  pub numbers : (alone : ℕ) (placed : Option Insertion) (old new : Client T)
+      → Adds cache alone placed old new → new.number ≡ old.number
+  numbers alone None old new none = none.number
+  numbers alone (Some i) old new one = one.number
 
   pub others_none : (client : ℕ) (placed : Option Insertion) → client ≢ c
       → only_here client placed ≡ None
@@ -242,8 +242,10 @@ module _ {T : Type 0} (cache : Cache T) (c s : ℕ) where
                 one.after,
                 here,
                 rw (mine, ← before)
-                    (adds_here (placed_by line.call answer) one.before one.after all),
-                numbers (placed_by line.call answer) one.before one.after all
+                    (adds_here (stood_by line.call answer) (placed_by line.call answer)
+                    one.before one.after all),
+                numbers (stood_by line.call answer) (placed_by line.call answer) one.before
+                    one.after all
                     ∙ ap (λ (x : Client T). x.number) before,
               )
           | inr other ↦ (

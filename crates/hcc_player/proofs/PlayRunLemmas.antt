@@ -28,7 +28,7 @@ use Rattle.hcc_player.specs.RunLine.{run_line}
 use Rattle.hcc_player.specs.Script.{script_of}
 use Rattle.hcc_player.specs.RunAlone.{AreAllExact}
 use Rattle.hcc_player.specs.Runs.{AreEmpty, MakesAll}
-use Rattle.hcc_player.specs.RunTold.{AreAllTold, untold}
+use Rattle.hcc_player.specs.RunTold.{AreAllTold, new_told}
 use Rattle.hcc_player.specs.PlayRun.{Agree, Answered, AnsweredPart, AreManned, Ended, EndedPart}
 use Rattle.hcc_player.specs.PlayRun.{EndsRun, FitsIn, IsOutput, PlaysAll, Writes, WritesFront}
 use Rattle.hcc_player.specs.Registers.{AreFilled}
@@ -124,7 +124,7 @@ pub play_whole : (tag : TraceTag) (cache : Cache TraceTag) (config : Config)
     pending
     → ((told : List Answer) (makes : MakesAll fits_trace cache lines told first last empty kept)
     → config.clients ≡ 1 → AreAllExact cache fits_trace lines told first last empty kept makes
-    × AreAllTold cache fits_trace untold lines told first last empty kept makes)
+    × AreAllTold config cache fits_trace new_told lines told first last empty kept makes)
     → Ended fits_trace cache last kept mid new pending → PlaysAll config lines old new
 play_whole tag cache config lines first last empty kept old mid new pending opened alike nothing
     answered exact ended =

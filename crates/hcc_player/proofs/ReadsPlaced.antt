@@ -137,8 +137,8 @@ module _ (files : List (List ℕ)) (size : ℕ) where
 module _ {T : Type 0} (fits : T → Key → List ℕ → Type 0) (cache : Cache T)
     (files : List (List ℕ)) (size : ℕ) where
   -- what is added after nothing was
-  then_adds : (o : Option Insertion) (old mid new : Client T) → MadeNone old mid
-      → Adds cache o mid new → Adds cache o old new
+  then_adds : (o : Option Insertion) (old mid new : Client T) → MadeNone 0 old mid
+      → Adds cache 0 o mid new → Adds cache 0 o old new
   then_adds None old mid new none added = none_then old mid new none added
   then_adds (Some i) old mid new none added = record {
     within = added.within;
@@ -146,6 +146,7 @@ module _ {T : Type 0} (fits : T → Key → List ℕ → Type 0) (cache : Cache 
     charge_is = added.charge_is;
     more = added.more ∙ ap (λ l. l ++ added.made ∷ []) (none.same _);
     others = λ s other. added.others s other ∙ none.same s;
+    stands = λ s. let few = none.stands s in let fewer = added.stands s in omega arith;
     number = added.number ∙ none.number;
   }
 
@@ -154,9 +155,9 @@ module _ {T : Type 0} (fits : T → Key → List ℕ → Type 0) (cache : Cache 
     read : ReadAs files size
     line_is : read.line ≡ line
     mine : read.call.client ≡ k
-    added : Adds cache (placed_by read.call.call read.answer) was is
+    added : Adds cache 0 (placed_by read.call.call read.answer) was is
 
-  nothing_placed : (k : ℕ) (line : BlockRead) (was is : Client T) → MadeNone was is
+  nothing_placed : (k : ℕ) (line : BlockRead) (was is : Client T) → MadeNone 0 was is
       → AsLine k line was is
   nothing_placed k line was is none = record {
     read = record {
@@ -184,7 +185,7 @@ module _ {T : Type 0} (fits : T → Key → List ℕ → Type 0) (cache : Cache 
   -- what was handed to an insertion was made as its answer says
   hands_adds : (line : BlockRead) (value : List ℕ) (old new : Client T)
       (hands : Hands cache (key_of line.file line.index) fits value old new)
-      → Adds cache (placed_by (handed line value) (insert_answer hands.answer)) old new
+      → Adds cache 0 (placed_by (handed line value) (insert_answer hands.answer)) old new
   hands_adds line value old new hands =
       inserted_adds fits cache (key_of line.file line.index) (length value) Low value hands.answer
       (insert_answer hands.answer) old new refl hands.inserts hands.evicts
@@ -238,8 +239,8 @@ module _ {T : Type 0} (fits : T → Key → List ℕ → Type 0) (cache : Cache 
       rw one.mine
       (made_first cache k s (only_here cache k s k placed) from
       (placed_for files size cache k s (from + 1) reads) was mid is
-      (adds_here cache k s placed was mid one.added) (numbers cache k s placed was mid one.added)
-      rest)
+      (adds_here cache k s 0 placed was mid one.added)
+      (numbers cache k s 0 placed was mid one.added) rest)
 
   as_lines : (k : ℕ) (lines : List BlockRead) (old new : Counts) (was is : Client T)
       → ReadsLines fits cache files size lines old new was is → AsLines k lines was is

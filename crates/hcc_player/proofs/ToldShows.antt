@@ -1,6 +1,6 @@
 -- Which keys are shown by the worlds that a client knows, as it is told, and what leaves that so.
-use Rattle.std.proofs.Common.{◌≡◌, inl, inr, ℕ, zero, suc, ◌<◌, ◌≤◌, Bool, true, false, List, Option, Some, None, sym, refl, ap, ◌∙◌, subst, arith}
-use Rattle.std.specs.Prelude.{slice_get}
+use Rattle.std.proofs.Common.{◌≡◌, inl, inr, ℕ, ◌<◌, ◌≤◌, Bool, true, false, List, Option, Some, None, length, sym, refl, ap, ◌∙◌, subst, arith}
+use Rattle.std.specs.Prelude.{IsSomeAnd, slice_get}
 use Rattle.std.proofs.lemmas.Bool.{cases_eq}
 use Rattle.std.proofs.lemmas.Option.{same_Some}
 use Rattle.std.specs.declared.alloc.Global.{Global}
@@ -8,8 +8,11 @@ use Rattle.hcc_rule.specs.declared.geometry.Geometry.{Geometry}
 use Rattle.hcc_rule.specs.declared.key.Key.{Key}
 use Rattle.hcc_rule.specs.Callers.{clients_of, slots_of}
 use Rattle.hcc_rule.specs.Probes.{probe_slot}
+use Rattle.hcc_rule.specs.Words.{key_of}
+use Rattle.hcc_rule.proofs.Basics.Lists.{there}
 use Rattle.hcc_rule.proofs.Probes.ProbeLaws.{probe_inside, some_slots}
 use Rattle.hcc_table.specs.Standing.{shown_at, world_at}
+use Rattle.hcc_table.proofs.HidesAlone.{nothing_shown}
 use Rattle.hcc_table.proofs.Releases.{still_shows}
 use Rattle.hcc_shard.specs.declared.seat.ShardSeat.{ShardSeat}
 use Rattle.hcc_shard.specs.declared.shard.Shard.{Shard}
@@ -23,17 +26,16 @@ use Rattle.hcc_cache.specs.declared.holding.Kept.TheVariants.{Pinned as AtSlot, 
 use Rattle.hcc_cache.specs.declared.seeded.Seeded.{Seeded}
 use Rattle.hcc_cache.specs.Calls.{AtShard, OnlyAt, shard_in}
 use Rattle.hcc_cache.specs.Clients.{held_as, hold_of}
+use Rattle.hcc_cache.specs.Known.{Knows}
 use Rattle.hcc_cache.specs.Moments.{KnowsShown}
-use Rattle.hcc_cache.specs.Opened.{IsCacheOf}
+use Rattle.hcc_cache.specs.Opened.{IsCacheOf, KnowsNoneShown}
 use Rattle.hcc_cache.specs.Sharding.{key_to}
 use Rattle.hcc_cache.specs.Stays.{Stays}
 use Rattle.hcc_player.specs.RunAlone.{HidesAll, InWorld, ShowsFirst}
 use Rattle.hcc_player.specs.RunCalls.{IsOfWords, GivesBack}
-use Rattle.hcc_player.specs.RunTold.{Told, only_gone}
-use Rattle.hcc_player.specs.RunTold.{told_erased, with_told}
-use Rattle.hcc_player.proofs.ToldWorlds.{ShowsSome, by_hidden, by_less, by_same, gone_only}
-use Rattle.hcc_player.proofs.ToldWorlds.{none_hidden, release_less, same_key, shown_none, shown_some}
-use Rattle.hcc_player.proofs.ToldWorlds.{shows_by, there_only, told_cases}
+use Rattle.hcc_player.specs.RunTold.{Keys, only_gone, with_told}
+use Rattle.hcc_player.proofs.ToldWorlds.{ShowsSome, by_hides, by_less, by_same, gone_only}
+use Rattle.hcc_player.proofs.ToldWorlds.{release_less, same_key, shown_some, shows_by, told_cases}
 
 module _ {T : Type 0} (cache : Cache T) where
   -- the world that a client knows of a key's shard shows it, or doesn't
@@ -41,14 +43,14 @@ module _ {T : Type 0} (cache : Cache T) where
   Shows key b client = InWorld cache key (shows_by b) client
 
   -- so it is of each key of which that is told
-  abbrev pub Tells : Told → Client T → Type 0
-  Tells told client =
-      (key : Key) (b : Bool) → IsOfWords key → told key ≡ Some b → Shows key b client
+  abbrev pub Tells : Keys → Client T → Type 0
+  Tells keys client =
+      (key : Key) (b : Bool) → IsOfWords key → keys key ≡ Some b → Shows key b client
 
   -- and of each but this one
-  abbrev pub TellsBut : Key → Told → Client T → Type 0
-  TellsBut key told client =
-      (other : Key) (b : Bool) → IsOfWords other → ¬ (key ≡ other) → told other ≡ Some b
+  abbrev pub TellsBut : Key → Keys → Client T → Type 0
+  TellsBut key keys client =
+      (other : Key) (b : Bool) → IsOfWords other → ¬ (key ≡ other) → keys other ≡ Some b
       → Shows other b client
 
 module _ {T : Type 0} (config : Config) (tag : T) (cache : Cache T)
@@ -57,7 +59,7 @@ module _ {T : Type 0} (config : Config) (tag : T) (cache : Cache T)
       → clients_of shard.table ≡ 1
   alone s shard at = ap (λ (g : Geometry). g.clients) (is_of.shards s shard at).geometry ∙ one
 
-  slots_same : (s : ℕ) (shard : Shard (Seeded T) Global)
+  pub slots_same : (s : ℕ) (shard : Shard (Seeded T) Global)
       → slice_get cache.shards.items s ≡ Some shard
       → slots_of shard.table ≡ cache.geometry.slots
   slots_same s shard at =
@@ -105,6 +107,25 @@ module _ {T : Type 0} (config : Config) (tag : T) (cache : Cache T)
     holds = (h.slot, h.within, h.shows);
   }
 
+  -- A new cache shows no key.
+  pub none_there : (key : Key) (client : Client T) → Knows cache client
+      → KnowsNoneShown cache client → Shows cache key false client
+  none_there key client known none =
+      let some = known.alike.some in
+      let count = known.seated.count in
+      let low : shard_in cache key < length cache.shards.items = omega arith in
+      let shard = there cache.shards.items (shard_in cache key) low in
+      let seat = there client.seats.items (shard_in cache key) (omega arith) in
+      record {
+        shard = shard.0;
+        seat = seat.0;
+        shard_is = shard.1;
+        seat_is = seat.1;
+        holds = λ slot less shows.
+            subst (λ o. IsSomeAnd o (λ e. key_of e ≡ key_to cache.seed key))
+            (none (shard_in cache key) shard.0 seat.0 shard.1 seat.1 slot) shows;
+      }
+
   -- What a call that changes nothing of what is shown leaves.
   pub shows_stays : (key : Key) (b : Bool) (old new : Client T) → Stays cache old new
       → Shows cache key b old → Shows cache key b new
@@ -122,14 +143,14 @@ module _ {T : Type 0} (config : Config) (tag : T) (cache : Cache T)
             at.2 s) w.holds;
       }
 
-  pub tells_stays : (told : Told) (old new : Client T) → Stays cache old new → Tells cache told old
-      → Tells cache told new
-  tells_stays told old new stays tells key b words is =
+  pub tells_stays : (keys : Keys) (old new : Client T) → Stays cache old new → Tells cache keys old
+      → Tells cache keys new
+  tells_stays keys old new stays tells key b words is =
       shows_stays key b old new stays (tells key b words is)
 
-  pub tells_same : (told : Told) (old new : Client T) → new ≡ old → Tells cache told old
-      → Tells cache told new
-  tells_same told old new same tells = subst (Tells cache told) (sym same) tells
+  pub tells_same : (keys : Keys) (old new : Client T) → new ≡ old → Tells cache keys old
+      → Tells cache keys new
+  tells_same keys old new same tells = subst (Tells cache keys) (sym same) tells
 
   -- What one that changes it at one shard leaves.
   pub shows_at : (Did : Shard (Seeded T) Global → (old new : ShardSeat (Seeded T)) → Type 0)
@@ -167,41 +188,41 @@ module _ {T : Type 0} (config : Config) (tag : T) (cache : Cache T)
   ]
 
   -- one key is told anew
-  pub tells_with : (key : Key) (is : Bool) (told : Told) (client : Client T)
-      → TellsBut cache key told client → Shows cache key is client → Tells cache (with_told key is
-      told) client
-  tells_with key is told client but here other b words h = elim (told_cases key other is b told h) [
+  pub tells_with : (key : Key) (is : Bool) (keys : Keys) (client : Client T)
+      → TellsBut cache key keys client → Shows cache key is client → Tells cache (with_told key is
+      keys) client
+  tells_with key is keys client but here other b words h = elim (told_cases key other is b keys h) [
     | inl same ↦
         subst (λ k. Shows cache k b client) same.0 (subst (λ z. Shows cache key z client) same.1
         here)
     | inr apart ↦ but other b words apart.0 apart.1
   ]
 
-  pub tells_more : (key : Key) (is : Bool) (told : Told) (client : Client T)
-      → Tells cache told client → Shows cache key is client → Tells cache (with_told key is told)
+  pub tells_more : (key : Key) (is : Bool) (keys : Keys) (client : Client T)
+      → Tells cache keys client → Shows cache key is client → Tells cache (with_told key is keys)
       client
-  tells_more key is told client tells =
-      tells_with key is told client (λ other b words apart h. tells other b words h)
+  tells_more key is keys client tells =
+      tells_with key is keys client (λ other b words apart h. tells other b words h)
 
   -- What is the same at one shard.
   pub tells_over : (Did : Shard (Seeded T) Global → (old new : ShardSeat (Seeded T)) → Type 0)
-      (number : ℕ) (told : Told) (old new : Client T) (h : AtShard cache Did number old new)
+      (number : ℕ) (keys : Keys) (old new : Client T) (h : AtShard cache Did number old new)
       → OnlyAt number old new
       → ((s : ℕ) → shown_at (world_at h.shard.table h.is.seat) s
       ≡ shown_at (world_at h.shard.table h.was.seat) s)
-      → Tells cache told old → Tells cache told new
-  tells_over Did number told old new h only same tells key b words is =
+      → Tells cache keys old → Tells cache keys new
+  tells_over Did number keys old new h only same tells key b words is =
       shows_at Did number key b old new h only
       (by_same b cache.geometry.slots (key_to cache.seed key) (world_at h.shard.table h.was.seat)
       (world_at h.shard.table h.is.seat) (λ s less. same s)) (tells key b words is)
 
   -- A release that freed an entry.
-  pub freed_tells : (fits : T → Key → List ℕ → Type 0) (told : Told) (useful erase : Bool)
+  pub freed_tells : (fits : T → Key → List ℕ → Type 0) (keys : Keys) (useful erase : Bool)
       (was now : Option Handle) (old new : Client T)
-      → GivesBack fits cache useful erase true was now old new → Tells cache told old
-      → Tells cache (λ key. only_gone (told key)) new
-  freed_tells fits told useful erase was now old new did tells key b words is =
-      let gone = gone_only (told key) b is in
+      → GivesBack fits cache useful erase true was now old new → Tells cache keys old
+      → Tells cache (λ key. only_gone (keys key)) new
+  freed_tells fits keys useful erase was now old new did tells key b words is =
+      let gone = gone_only (keys key) b is in
       subst (λ z. Shows cache key z new) gone.0
       (by (hold_of old did.handle) refl (tells key false words gone.1))
     where
@@ -226,43 +247,30 @@ module _ {T : Type 0} (config : Config) (tag : T) (cache : Cache T)
       by (Some hold) here w = by_kept hold here hold.kept refl w
 
   -- An erasure.
-  module _ (told : Told) (key : Key) (old new : Client T) (words : IsOfWords key)
-      (only : OnlyAt (shard_in cache key) old new) (tells : Tells cache told old) where
-    erased_but : (count : ℕ) → HidesAll cache key count old new
-        → TellsBut cache key (told_erased count told) new
-    erased_but zero h other b theirs apart is =
-        shows_at _ (shard_in cache key) other b old new h only
-        (by_same b cache.geometry.slots (key_to cache.seed other)
-        (world_at h.shard.table h.was.seat) (world_at h.shard.table h.is.seat)
-        (none_hidden cache.geometry.slots (key_to cache.seed key)
-        (world_at h.shard.table h.was.seat) (world_at h.shard.table h.is.seat) h.did))
-        (tells other b theirs is)
-    erased_but (suc n) h other b theirs apart is =
-        let there = there_only (told other) b is in
-        subst (λ z. Shows cache other z new) there.0
-        (shows_at _ (shard_in cache key) other true old new h only
-        (by_hidden cache.geometry.slots (suc n) (key_to cache.seed key) (key_to cache.seed other)
-        (world_at h.shard.table h.was.seat) (world_at h.shard.table h.is.seat) h.did
-        (λ e. apart (same_key cache.seed key other words theirs e)))
-        (tells other true theirs there.1))
+  pub erased_tells : (keys : Keys) (key : Key) (count : ℕ) (old new : Client T) → IsOfWords key
+      → OnlyAt (shard_in cache key) old new → HidesAll cache key count old new
+      → Tells cache keys old → Tells cache (with_told key false keys) new
+  erased_tells keys key count old new words only h tells =
+      tells_with key false keys new (λ other b theirs apart is.
+      shows_at _ (shard_in cache key) other b old new h only
+      (by_hides b cache.geometry.slots count (key_to cache.seed key) (key_to cache.seed other)
+      (world_at h.shard.table h.was.seat) (world_at h.shard.table h.is.seat) h.did
+      (λ e. apart (same_key cache.seed key other words theirs e)))
+      (tells other b theirs is)) (record {
+        shard = h.shard;
+        seat = h.is;
+        shard_is = h.shard_is;
+        seat_is = h.seat_is;
+        holds = h.did.none;
+      })
 
-    pub erased_tells : (count : ℕ) → HidesAll cache key count old new
-        → Tells cache (with_told key false (told_erased count told)) new
-    erased_tells count h =
-        tells_with key false (told_erased count told) new (erased_but count h) (record {
-          shard = h.shard;
-          seat = h.is;
-          shard_is = h.shard_is;
-          seat_is = h.seat_is;
-          holds = h.did.none;
-        })
-
-  -- what an erasure found of its key when it began
-  found_of : (b : Bool) (key : Key) (count : ℕ) (old new : Client T)
-      (h : HidesAll cache key count old new) → Shows cache key b old
+  -- what a call found of its key when it began
+  pub found_of : (Did : Shard (Seeded T) Global → (old new : ShardSeat (Seeded T)) → Type 0)
+      (b : Bool) (key : Key) (old new : Client T)
+      (h : AtShard cache Did (shard_in cache key) old new) → Shows cache key b old
       → shows_by b cache.geometry.slots (key_to cache.seed key)
       (world_at h.shard.table h.was.seat)
-  found_of b key count old new h w =
+  found_of Did b key old new h w =
       let shard : w.shard ≡ h.shard = same_Some _ _ (sym w.shard_is ∙ h.shard_is) in
       let seat : w.seat ≡ h.was = same_Some _ _ (sym w.seat_is ∙ h.seat_was) in
       subst (λ (z : Shard (Seeded T) Global). shows_by b cache.geometry.slots
@@ -274,7 +282,7 @@ module _ {T : Type 0} (config : Config) (tag : T) (cache : Cache T)
   pub some_erased : (key : Key) (count : ℕ) (old new : Client T) → HidesAll cache key count old new
       → Shows cache key true old → 1 ≤ count
   some_erased key count old new h w =
-      let some = found_of true key count old new h w in
+      let some = found_of _ true key old new h w in
       let counted = shown_some cache.geometry.slots (key_to cache.seed key)
       (world_at h.shard.table h.was.seat) some.0 some.1 some.2 in
       let all = h.did.all in
@@ -284,5 +292,5 @@ module _ {T : Type 0} (config : Config) (tag : T) (cache : Cache T)
       → Shows cache key false old → count ≡ 0
   none_erased key count old new h w =
       h.did.all
-      ∙ shown_none cache.geometry.slots (key_to cache.seed key)
-      (world_at h.shard.table h.was.seat) (found_of false key count old new h w)
+      ∙ nothing_shown (key_to cache.seed key) cache.geometry.slots
+      (world_at h.shard.table h.was.seat) (found_of _ false key old new h w)

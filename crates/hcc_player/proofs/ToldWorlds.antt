@@ -1,7 +1,7 @@
 -- Keys that a world shows or doesn't, and what leaves that so.
-use Rattle.std.proofs.Common.{◌≡◌, inl, inr, ℕ, zero, suc, ◌==◌, ◌&&◌, ◌<◌, ◌≤◌, Bool, true, false, Option, Some, None, sym, refl, ap, ◌∙◌, subst, arith, ◌⊎◌}
+use Rattle.std.proofs.Common.{◌≡◌, inl, inr, ℕ, zero, suc, ◌&&◌, ◌<◌, ◌≤◌, Bool, true, false, Option, Some, None, sym, refl, ap, ◌∙◌, subst, arith, ◌⊎◌}
 use Rattle.std.specs.Prelude.{IsSomeAnd, if◌then◌else◌}
-use Rattle.std.proofs.lemmas.Bool.{cases_eq, eq-eqb, eqb-true, true≢false}
+use Rattle.std.proofs.lemmas.Bool.{cases_eq, eq-eqb, true≢false}
 use Rattle.std.proofs.lemmas.Option.{same_Some}
 use Rattle.hcc_core.specs.declared.slot.Entry.{Entry}
 use Rattle.hcc_core.specs.Sums.{when}
@@ -13,7 +13,7 @@ use Rattle.hcc_table.specs.Searched.{is_key}
 use Rattle.hcc_table.specs.Standing.{HidesShown, InsertsShown, ShowsKey, ShowsMore, ShowsSame}
 use Rattle.hcc_table.specs.Standing.{counts_shown, shown_at, shown_of, world_at}
 use Rattle.hcc_table.specs.Still.{ShowsBut}
-use Rattle.hcc_table.proofs.HidesAlone.{settled_keeps}
+use Rattle.hcc_table.proofs.HidesAlone.{key_equal, settled_keeps}
 use Rattle.hcc_table.proofs.Releases.{releases_show}
 use Rattle.hcc_shard.specs.declared.seat.ShardSeat.{ShardSeat}
 use Rattle.hcc_shard.specs.declared.shard.Shard.{Shard}
@@ -24,23 +24,16 @@ use Rattle.hcc_cache.specs.Sharding.{key_to}
 use Rattle.hcc_cache.proofs.Readings.{key_back}
 use Rattle.hcc_player.specs.RunAlone.{ShowsNone}
 use Rattle.hcc_player.specs.RunCalls.{IsOfWords}
-use Rattle.hcc_player.specs.RunTold.{Told, only_gone, only_there, with_told}
+use Rattle.hcc_player.specs.RunTold.{Keys, only_gone, with_told}
 
 -- Keys.
 
-both_true : (a b : Bool) → (a && b) ≡ true → (a ≡ true) × (b ≡ true)
-both_true true b is = (refl, is)
-both_true false b is = cc
-
-key_equal : (a b : Key) → is_key a b ≡ true → a ≡ b
-key_equal a b is =
-    let both = both_true (a.w0 == b.w0) (a.w1 == b.w1) is in
-    let first : a.w0 ≡ b.w0 = eqb-true a.w0 b.w0 both.0 in
-    let second : a.w1 ≡ b.w1 = eqb-true a.w1 b.w1 both.1 in
-    λ k. record { w0 = first k; w1 = second k }
-
 key_self : (a : Key) → is_key a a ≡ true
 key_self a = λ k. eq-eqb a.w0 a.w0 refl k && eq-eqb a.w1 a.w1 refl k
+
+off_key : (a b : Key) → is_key a b ≡ false → ¬ (a ≡ b)
+off_key a b off same =
+    true≢false (sym (subst (λ k. is_key a k ≡ true) same (key_self a)) ∙ off)
 
 -- keys of words are apart under a seed
 pub same_key : (seed : ℕ) (a b : Key) → IsOfWords a → IsOfWords b
@@ -51,25 +44,15 @@ same_key seed a b x y same =
 -- What is told.
 
 -- where one key is told so, that is told of it, and of each other what was
-pub told_cases : (key other : Key) (is b : Bool) (told : Told)
-    → with_told key is told other ≡ Some b
-    → ((key ≡ other) × (is ≡ b)) ⊎ ((¬ (key ≡ other)) × (told other ≡ Some b))
-told_cases key other is b told h = by (is_key key other) refl h
+pub told_cases : (key other : Key) (is b : Bool) (keys : Keys)
+    → with_told key is keys other ≡ Some b
+    → ((key ≡ other) × (is ≡ b)) ⊎ ((¬ (key ≡ other)) × (keys other ≡ Some b))
+told_cases key other is b keys h = by (is_key key other) refl h
   where
-    by : (t : Bool) → is_key key other ≡ t → (if t then Some is else told other) ≡ Some b
-        → ((key ≡ other) × (is ≡ b)) ⊎ ((¬ (key ≡ other)) × (told other ≡ Some b))
-    by true same h = inl (key_equal key other same, same_Some _ _ h)
-    by false apart h =
-        inr (
-          λ e. true≢false (sym (subst (λ k. is_key key k ≡ true) e (key_self key)) ∙ apart),
-          h,
-        )
-
-pub there_only : (o : Option Bool) (b : Bool) → only_there o ≡ Some b
-    → (true ≡ b) × (o ≡ Some true)
-there_only None b is = cc
-there_only (Some true) b is = (same_Some _ _ is, refl)
-there_only (Some false) b is = cc
+    by : (t : Bool) → is_key key other ≡ t → (if t then Some is else keys other) ≡ Some b
+        → ((key ≡ other) × (is ≡ b)) ⊎ ((¬ (key ≡ other)) × (keys other ≡ Some b))
+    by true same h = inl (sym (key_equal key other same), same_Some _ _ h)
+    by false apart h = inr (off_key key other apart, h)
 
 pub gone_only : (o : Option Bool) (b : Bool) → only_gone o ≡ Some b
     → (false ≡ b) × (o ≡ Some false)
@@ -106,6 +89,16 @@ one_key : (o : Option Entry) (a b : Key) → IsSomeAnd o (λ e. key_of e ≡ a)
 one_key None a b h g = absurd h
 one_key (Some e) a b h g = sym h ∙ g
 
+-- it does or doesn't
+shows_or : (key : Key) (o : Option Entry)
+    → IsSomeAnd o (λ e. key_of e ≡ key) ⊎ (¬ IsSomeAnd o (λ e. key_of e ≡ key))
+shows_or key None = inr (λ shows. shows)
+shows_or key (Some e) = by (is_key key (key_of e)) refl
+  where
+    by : (b : Bool) → is_key key (key_of e) ≡ b → (key_of e ≡ key) ⊎ (¬ (key_of e ≡ key))
+    by true same = inl (key_equal key (key_of e) same)
+    by false off = inr (λ same. off_key key (key_of e) off (sym same))
+
 -- where a slot came to show another key
 pub by_more : (b : Bool) (slots size : ℕ) (under other : Key) (slot : ℕ) (w v : State)
     → ShowsMore size under slot w v → ¬ (under ≡ other)
@@ -137,16 +130,6 @@ counts_one key None asked = absurd asked
 counts_one key (Some e) asked =
     ap (λ z. when (is_key key z) 1) asked ∙ ap (λ b. when b 1) (key_self key)
 
--- and one that doesn't doesn't
-counts_none : (key : Key) (o : Option Entry) → ¬ IsSomeAnd o (λ e. key_of e ≡ key)
-    → counts_shown key o ≡ 0
-counts_none key None lacks = refl
-counts_none key (Some e) lacks = by (is_key key (key_of e)) refl
-  where
-    by : (b : Bool) → is_key key (key_of e) ≡ b → when (is_key key (key_of e)) 1 ≡ 0
-    by true is = absurd (lacks (sym (key_equal key (key_of e) is)))
-    by false is = ap (λ b. when b 1) is
-
 pub shown_some : (n : ℕ) (key : Key) (w : State) (slot : ℕ) → slot < n → ShowsKey w key slot
     → 1 ≤ shown_of n key w
 shown_some zero key w slot less shows = absurd (omega arith)
@@ -160,38 +143,6 @@ shown_some (suc n) key w slot less shows = elim (cases_eq slot n) [
       omega arith
 ]
 
--- where none shows it the count is none
-pub shown_none : (n : ℕ) (key : Key) (w : State) → ShowsNone n key w → shown_of n key w ≡ 0
-shown_none zero key w none = refl
-shown_none (suc n) key w none =
-    let rest : shown_of n key w ≡ 0 =
-    shown_none n key w (λ s less. none s (omega arith)) in
-    let here : counts_shown key (shown_at w n) ≡ 0 =
-    counts_none key (shown_at w n) (none n (omega arith)) in
-    omega arith
-
--- where all that showed another key was hidden
-pub by_hidden : (slots count : ℕ) (under other : Key) (w v : State)
-    → HidesShown slots under count w v → ¬ (under ≡ other)
-    → ShowsSome slots other w → ShowsSome slots other v
-by_hidden slots count under other w v h apart g = (
-  g.0,
-  g.1,
-  shows_too other g.0 w v
-      (h.others g.0 (λ shows. apart (one_key (shown_at w g.0) under other shows g.2))) g.2,
-)
-
--- where nothing was hidden
-pub none_hidden : (slots : ℕ) (under : Key) (w v : State) → HidesShown slots under 0 w v
-    → (s : ℕ) → s < slots → shown_at v s ≡ shown_at w s
-none_hidden slots under w v h s less = h.others s lacks
-  where
-    lacks : ¬ ShowsKey w under s
-    lacks shows =
-        let some = shown_some slots under w s less shows in
-        let all = h.all in
-        omega arith
-
 -- where slots show what they showed, or nothing
 pub by_less : (slots : ℕ) (key : Key) (w v : State)
     → ((s : ℕ) → (shown_at v s ≡ shown_at w s) ⊎ (shown_at v s ≡ None))
@@ -200,6 +151,22 @@ by_less slots key w v less h = λ s within shows. elim (less s) [
   | inl same ↦ h s within (shows_too key s v w (sym same) shows)
   | inr none ↦ subst (λ o. IsSomeAnd o (λ e. key_of e ≡ key)) none shows
 ]
+
+-- where all that showed another key was hidden
+pub by_hides : (b : Bool) (slots count : ℕ) (under other : Key) (w v : State)
+    → HidesShown slots under count w v → ¬ (under ≡ other)
+    → shows_by b slots other w → shows_by b slots other v
+by_hides true slots count under other w v h apart g = (
+  g.0,
+  g.1,
+  shows_too other g.0 w v
+      (h.others g.0 (λ shows. apart (one_key (shown_at w g.0) under other shows g.2))) g.2,
+)
+by_hides false slots count under other w v h apart g =
+    by_less slots other w v (λ s. elim (shows_or under (shown_at w s)) [
+      | inl shows ↦ inr (h.gone s shows)
+      | inr lacks ↦ inl (h.others s lacks)
+    ]) g
 
 -- as a release leaves them
 but_less : (slot : ℕ) (freed : Option ℕ) (w v : State) → ShowsBut slot freed w v

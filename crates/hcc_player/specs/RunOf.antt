@@ -13,7 +13,7 @@ use Rattle.hcc_player.specs.declared.run.registers.Registers.{Registers}
 use Rattle.hcc_player.specs.declared.run.tag.TraceTag.{TraceTag}
 use Rattle.hcc_player.specs.declared.sums.Sums.{Sums}
 use Rattle.hcc_player.specs.RunAlone.{AreAllExact}
-use Rattle.hcc_player.specs.RunTold.{AreAllTold, untold}
+use Rattle.hcc_player.specs.RunTold.{AreAllTold, new_told}
 use Rattle.hcc_player.specs.Runs.{AreEmpty, ClosesAfter, LeavesPlaced, MakesAll, placed_in}
 use Rattle.hcc_player.specs.Sums.{AreSumsOf}
 use Rattle.hcc_player.specs.TraceTag.{fits_trace}
@@ -41,6 +41,7 @@ pub record IsRunOf (config : Config) (lines : List RunLine) (told : List Answer)
   -- with one client the answers say exactly what is there
   pub alone : config.clients ≡ 1
       → AreAllExact cache fits_trace lines told first last empty kept plays
-  -- and as long as no insertion had cause to evict they are as the lines and answers before tell
+  -- And as long as no insertion had cause to evict they are as the lines and answers before tell:
+  -- at the beginning nothing is there.
   pub foretold : config.clients ≡ 1
-      → AreAllTold cache fits_trace untold lines told first last empty kept plays
+      → AreAllTold config cache fits_trace new_told lines told first last empty kept plays

@@ -27,7 +27,12 @@ placed_by (calls.Pin register key charge priority value) answers.Placed =
     Some (record { key = key; value = value; charge = charge })
 placed_by call answer = None
 
--- how many lines were answered so
+-- the charge of one that was answered that its entry stands alone
+abbrev pub stood_by : Call → Answer → ℕ
+stood_by (calls.Pin register key charge priority value) answers.Standalone = charge
+stood_by call answer = 0
+
+-- how many lines were answered that their entries were placed
 abbrev pub placed_in : List RunLine → List Answer → ℕ
 placed_in [] told = 0
 placed_in (line ∷ lines) [] = 0

@@ -24,7 +24,9 @@ use crate::run::registers::Registers;
 use crate::run::tag::TraceTag;
 use crate::script::next_line;
 use crate::sums::sums_of;
-use hcc_cache::laws::{law_erasures, law_kept_shown, law_lookups, law_room, law_totals};
+use hcc_cache::laws::{
+    law_erasures, law_kept_shown, law_lookups, law_matches, law_room, law_totals,
+};
 use hcc_cache::{Cache, Client, Closed, Config, Tag};
 use std::alloc::{AllocError, Global};
 use std::io::Write;
@@ -48,6 +50,7 @@ pub(crate) fn play_text<W: Write>(
     law_lookups::<TraceTag<'_>>();
     law_erasures::<TraceTag<'_>>();
     law_totals::<TraceTag<'_>>();
+    law_matches::<TraceTag<'_>>();
     law_room::<TraceTag<'_>>();
     law_kept_shown::<TraceTag<'_>>();
     let Ok((cache, clients)) = Cache::new(alloc, config, TraceTag { config, text }) else {

@@ -1,5 +1,7 @@
-use Rattle.std.proofs.Common.{[], ap, ◌∙◌, string_bytes}
+use Rattle.std.proofs.Common.{[], Ok, ap, ◌∙◌, string_bytes}
 use Rattle.hcc_rule.specs.declared.geometry.Geometry.{Geometry}
+use Rattle.hcc_shard.specs.declared.inserting.Inserted.TheVariants as stored
+use Rattle.hcc_shard.specs.declared.inserting.Pinned.TheVariants as pinned
 use Rattle.hcc_player.specs.declared.run.tag.TraceTag.{TraceTag}
 use Rattle.hcc_player.specs.TraceTag.{fits_trace, run_trace, said}
 use Rattle.hcc_player.proofs.AloneLemmas.{exact_all}
@@ -70,11 +72,22 @@ returns-clause-ok g c =
     (ap (λ (g : Geometry). g.clients) is_of.geometry ∙ one) lines told first last empty kept
     makes in (
       exact,
-      told_new fits_trace c.args.config tag cache is_of one
-          (c.law_room.ensures.stores c.args.config tag cache is_of one)
-          (c.law_room.ensures.pins c.args.config tag cache is_of one)
-          (c.law_kept_shown.ensures.usage cache) (c.law_kept_shown.ensures.occupancy cache) lines
-          told first last empty kept makes (c.in-Ok.ensures.made.dealt.count ∙ one) exact,
+      told_new fits_trace c.args.config tag cache is_of one (record {
+        keeps = c.law_room.ensures.stores c.args.config tag cache is_of one;
+        keeps_pinned = c.law_room.ensures.pins c.args.config tag cache is_of one;
+        room = c.law_room.ensures.fits c.args.config tag cache is_of one;
+        room_pinned = c.law_room.ensures.fits_pinned c.args.config tag cache is_of one;
+        met = λ key charge priority old new h idle.
+            c.law_matches.ensures.met c.args.config tag cache is_of one c.in-Ok.ensures.began key
+            charge priority old new h (c.law_room.ensures.stores c.args.config tag cache is_of one
+            key charge priority (Ok stored.Dropped) old new h idle).0;
+        met_pinned = λ key charge priority old new h idle.
+            c.law_matches.ensures.met_pinned c.args.config tag cache is_of one
+            c.in-Ok.ensures.began key charge priority old new h (c.law_room.ensures.pins
+            c.args.config tag cache is_of one key charge priority (Ok pinned.Standalone) old new h
+            idle).0;
+      }) (c.law_kept_shown.ensures.usage cache) (c.law_kept_shown.ensures.occupancy cache) lines
+          told first last empty kept makes c.in-Ok.ensures.made exact,
     ))) c.finish.ensures.ok
 
 pub returns-clause-part : goal.returns-clause-part
