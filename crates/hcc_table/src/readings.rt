@@ -202,12 +202,8 @@ pub fn copy_bytes<T: Tag, A: Allocator>(
     ensures steps { MakesAtMost (words_for count) seat.old seat.new }
 {
     let whole = count / 8;
-    let blocks = whole / 32;
-    for block in 0..blocks {
-        copy_lines(table, seat, pin, first, 32 * block, buffer);
-    }
     let fours = whole / 4;
-    for four in 8 * blocks..fours {
+    for four in 0..fours {
         // These are unrolled; of more the compiler reckons each address anew.
         for part in 0..4 {
             copy_word(table, seat, pin, first, 4 * four + part, 8, buffer);
@@ -219,41 +215,6 @@ pub fn copy_bytes<T: Tag, A: Allocator>(
     let rest = count % 8;
     if rest > 0 {
         copy_word(table, seat, pin, first, whole, rest, buffer);
-    }
-}
-
-/// Copies 32 words of the value, from the word of an index on, to their place in a buffer: of each
-/// of four lines of eight words the first, then of each the second, and so on. So cache lines are
-/// fetched at once, and not one after the other.
-#[inline(always)]
-fn copy_lines<T: Tag, A: Allocator>(
-    table: &RuleTable<T, A>,
-    seat: &mut RuleSeat<T>,
-    pin: Pin,
-    first: usize,
-    from: usize,
-    buffer: &mut [u8],
-)
-    requires seat { IsSeatAt table.now seat.old }
-    requires slot { IsSlotOf table.now pin.slot }
-    requires first { first ≡ field_at (room_of table.now) pin.slot DATA }
-    requires within { from + 32 ≤ room_of table.now }
-    requires space { 8 * from + 256 ≤ length buffer.old }
-    requires holds { IsSomeAnd (record_in pin.name (view seat.old).records)
-        (λ r. (r.slot ≡ pin.slot) × IsReadable (room_of table.now) r
-        × (8 * from + 256 ≤ length r.entry.value)) }
-    ensures seat { IsSameSeat seat.old seat.new }
-    ensures view { view seat.new ≡ view seat.old }
-    ensures bytes { IfSome (record_in pin.name (view seat.old).records)
-        (λ r. buffer.new ≡ take (8 * from) buffer.old
-        ++ (take 256 (drop (8 * from) r.entry.value) ++ drop (8 * from + 256) buffer.old)) }
-    ensures seeks { Seeks table.now seat.old seat.new }
-    ensures steps { MakesAtMost 32 seat.old seat.new }
-{
-    for part in 0..8 {
-        for line in 0..4 {
-            copy_word(table, seat, pin, first, from + 8 * line + part, 8, buffer);
-        }
     }
 }
 
