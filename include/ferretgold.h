@@ -250,7 +250,7 @@ typedef struct ferretgold_client ferretgold_client;
 
 /*
  * How many bytes a cache of this configuration allocates:
- *     shards * (145 + slots * 8 * (7 + room)) + clients * (480 + 72 * shards + 104 * handles)
+ *     shards * (145 + slots * 8 * (7 + room)) + clients * (488 + 72 * shards + 104 * handles)
  *     + 64 * (clients / 64, rounded up) + 304
  * ferretgold_open needs one shard's table more for a while. 0 if `config` is null.
  */
