@@ -87,6 +87,12 @@ pub if_ok_so : {A E : Type 0} (result : Result A E) (P Q : A → Type 0)
 if_ok_so (Ok value) P Q goes holds = goes value holds
 if_ok_so (Err error) P Q goes holds = tt
 
+-- of two facts of it
+pub if_ok_both : {A E : Type 0} (result : Result A E) (P Q R : A → Type 0)
+    → ((value : A) → P value → Q value → R value) → IfOk result P → IfOk result Q → IfOk result R
+if_ok_both (Ok value) P Q R goes holds too = goes value holds too
+if_ok_both (Err error) P Q R goes holds too = tt
+
 -- bytes that were read to the front of a buffer, and are its front
 pub read_back : (told buffer value old items : List ℕ) (len : ℕ)
     → told ≡ take len (buffer ++ drop (length buffer) items)

@@ -63,7 +63,7 @@ AgreesIn rs =
     (n m : ℕ) (r q : Record) → record_in n rs ≡ Some r → record_in m rs ≡ Some q
     → r.slot ≡ q.slot → r.entry ≡ q.entry
 
-entry_by : (client name : ℕ) (slot : Slot) (e : Entry) → entry_held client name slot ≡ Some e
+pub entry_by : (client name : ℕ) (slot : Slot) (e : Entry) → entry_held client name slot ≡ Some e
     → entry_of slot ≡ Some e
 entry_by client name slot e held = by (has_reference client name slot) held
   where

@@ -41,6 +41,7 @@ pub mod ToldWorlds
 pub mod ToldShows
 pub mod ToldBounds
 pub mod ToldInserts
+pub mod ToldRegisters
 pub mod ToldLemmas
 pub mod PlayRunLemmas
 pub mod Fine

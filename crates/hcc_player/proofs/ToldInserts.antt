@@ -228,7 +228,7 @@ module _ {T : Type 0} (fits : T → Key → List ℕ → Type 0) (config : Confi
         → InsertsAt cache fits key charge priority did old new
         → IsOfWords key → (did ≡ Ok inserted.Placed → KnowsShown cache key new)
         → Tells cache (keys_after (calls.Insert key charge priority value) (insert_answer did)
-        told.keys) new
+        told.held told.keys) new
     entered value (Ok inserted.Placed) at words shown =
         placed_tells _ at.did.0 at
         (laws.keeps key charge priority (Ok stored.Placed) old new at

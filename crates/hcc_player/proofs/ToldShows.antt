@@ -1,17 +1,20 @@
 -- Which keys are shown by the worlds that a client knows, as it is told, and what leaves that so.
-use Rattle.std.proofs.Common.{◌≡◌, inl, inr, ℕ, ◌<◌, ◌≤◌, Bool, true, false, List, Option, Some, None, length, sym, refl, ap, ◌∙◌, subst, arith}
+use Rattle.std.proofs.Common.{◌≡◌, inl, inr, ℕ, ◌&&◌, ◌<◌, ◌≤◌, Bool, true, false, List, Option, Some, None, length, sym, refl, ap, ◌∙◌, subst, arith}
 use Rattle.std.specs.Prelude.{IsSomeAnd, slice_get}
 use Rattle.std.proofs.lemmas.Bool.{cases_eq}
 use Rattle.std.proofs.lemmas.Option.{same_Some}
 use Rattle.std.specs.declared.alloc.Global.{Global}
+use Rattle.hcc_core.specs.Runs.{held_at}
 use Rattle.hcc_rule.specs.declared.geometry.Geometry.{Geometry}
 use Rattle.hcc_rule.specs.declared.key.Key.{Key}
 use Rattle.hcc_rule.specs.Callers.{clients_of, slots_of}
 use Rattle.hcc_rule.specs.Probes.{probe_slot}
+use Rattle.hcc_rule.specs.Records.{record_in}
+use Rattle.hcc_rule.specs.Seats.{view}
 use Rattle.hcc_rule.specs.Words.{key_of}
 use Rattle.hcc_rule.proofs.Basics.Lists.{there}
 use Rattle.hcc_rule.proofs.Probes.ProbeLaws.{probe_inside, some_slots}
-use Rattle.hcc_table.specs.Standing.{shown_at, world_at}
+use Rattle.hcc_table.specs.Standing.{ShowsKey, shown_at, world_at}
 use Rattle.hcc_table.proofs.HidesAlone.{nothing_shown}
 use Rattle.hcc_table.proofs.Releases.{still_shows}
 use Rattle.hcc_shard.specs.declared.seat.ShardSeat.{ShardSeat}
@@ -25,17 +28,21 @@ use Rattle.hcc_cache.specs.declared.holding.Kept.{Kept}
 use Rattle.hcc_cache.specs.declared.holding.Kept.TheVariants.{Pinned as AtSlot, Standing}
 use Rattle.hcc_cache.specs.declared.seeded.Seeded.{Seeded}
 use Rattle.hcc_cache.specs.Calls.{AtShard, OnlyAt, shard_in}
-use Rattle.hcc_cache.specs.Clients.{held_as, hold_of}
-use Rattle.hcc_cache.specs.Known.{Knows}
+use Rattle.hcc_cache.specs.Clients.{Held, held_as, held_entry, held_of, hold_of, view_by}
+use Rattle.hcc_cache.specs.Known.{IsKeptAs, IsPin, Knows}
+use Rattle.hcc_cache.specs.Keys.{key_from}
 use Rattle.hcc_cache.specs.Moments.{KnowsShown}
 use Rattle.hcc_cache.specs.Opened.{IsCacheOf, KnowsNoneShown}
 use Rattle.hcc_cache.specs.Sharding.{key_to}
-use Rattle.hcc_cache.specs.Stays.{Stays}
+use Rattle.hcc_cache.specs.Stays.{ReleasesPin, Stays}
+use Rattle.hcc_cache.proofs.Readings.{key_back}
 use Rattle.hcc_player.specs.RunAlone.{HidesAll, InWorld, ShowsFirst}
 use Rattle.hcc_player.specs.RunCalls.{IsOfWords, GivesBack}
-use Rattle.hcc_player.specs.RunTold.{Keys, only_gone, with_told}
-use Rattle.hcc_player.proofs.ToldWorlds.{ShowsSome, by_hides, by_less, by_same, gone_only}
-use Rattle.hcc_player.proofs.ToldWorlds.{release_less, same_key, shown_some, shows_by, told_cases}
+use Rattle.hcc_player.specs.RunTold.{Keys, with_freed, with_told}
+use Rattle.hcc_player.proofs.StandingNames.{hold_there, stands_pinned}
+use Rattle.hcc_player.proofs.ToldWorlds.{ShowsSome, by_hides, by_less, by_same, held_shown, key_by}
+use Rattle.hcc_player.proofs.ToldWorlds.{release_less, release_others, same_key, shown_some, shows_by}
+use Rattle.hcc_player.proofs.ToldWorlds.{shows_too, told_cases, told_freed}
 
 module _ {T : Type 0} (cache : Cache T) where
   -- the world that a client knows of a key's shard shows it, or doesn't
@@ -216,35 +223,83 @@ module _ {T : Type 0} (config : Config) (tag : T) (cache : Cache T)
       (by_same b cache.geometry.slots (key_to cache.seed key) (world_at h.shard.table h.was.seat)
       (world_at h.shard.table h.is.seat) (λ s less. same s)) (tells key b words is)
 
-  -- A release that freed an entry.
-  pub freed_tells : (fits : T → Key → List ℕ → Type 0) (keys : Keys) (useful erase : Bool)
+  -- A release that freed an entry: of a key that its handle is on, or one that stands alone.
+  module _ (fits : T → Key → List ℕ → Type 0) (keys : Keys) (useful erase : Bool)
       (was now : Option Handle) (old new : Client T)
-      → GivesBack fits cache useful erase true was now old new → Tells cache keys old
-      → Tells cache (λ key. only_gone (keys key)) new
-  freed_tells fits keys useful erase was now old new did tells key b words is =
-      let gone = gone_only (keys key) b is in
-      subst (λ z. Shows cache key z new) gone.0
-      (by (hold_of old did.handle) refl (tells key false words gone.1))
-    where
-      by_kept : (hold : Hold) → hold_of old did.handle ≡ Some hold → (kept : Kept)
-          → hold.kept ≡ kept → Shows cache key false old → Shows cache key false new
-      by_kept hold here (AtSlot slot counting) kept w =
-          let pin = did.by hold slot counting here kept in
-          shows_at _ hold.shard key false old new pin.0 pin.1
-          (by_less cache.geometry.slots (key_to cache.seed key)
-          (world_at pin.0.shard.table pin.0.was.seat) (world_at pin.0.shard.table pin.0.is.seat)
-          (release_less pin.0.shard slot hold.serial _ erase true pin.0.was pin.0.is pin.0.did
-          (alone _ pin.0.shard pin.0.shard_is))) w
-      by_kept hold here (Standing index) kept w =
-          shows_stays key false old new (did.standing hold index here kept) w
+      (did : GivesBack fits cache useful erase true was now old new) (held : Option Key)
+      (known : Knows cache old) (is : (stands : Held) → held_of cache old did.handle ≡ Some stands
+      → held ≡ key_by stands) (tells : Tells cache keys old) where
+    -- the slot of its reference showed no other key
+    other_slot : (hold : Hold) (slot : ℕ) (counting : Bool)
+        → hold_of old did.handle ≡ Some hold → hold.kept ≡ AtSlot slot counting
+        → (pin : ReleasesPin cache hold slot (useful && counting) erase true old new)
+        → (other : Key) → IsOfWords other → ¬ (held ≡ Some other)
+        → ¬ ShowsKey (world_at pin.0.shard.table pin.0.was.seat) (key_to cache.seed other) slot
+    other_slot hold slot counting here kept pin other words apart shows =
+        let at = known.holds.each did.handle.index hold (hold_there old.number did.handle _ hold
+        here) in
+        let stands : IsPin cache.seed old.seats.items old.alone hold slot counting =
+        subst (IsKeptAs cache.seed old.seats.items old.alone hold) kept at.0.stands in
+        let entry = stands.handled.entry in
+        let there : record_in hold.serial (view pin.0.was.seat).records ≡ Some stands.handled =
+        subst (λ o. record_in hold.serial (view_by o).records ≡ Some stands.handled)
+        pin.0.seat_was stands.there in
+        let stood = pin.0.did.releases.gives.2.0.stood (alone _ pin.0.shard pin.0.shard_is)
+        hold.serial stands.handled there in
+        let on : held_at (world_at pin.0.shard.table pin.0.was.seat)
+        (view pin.0.was.seat).client hold.serial slot ≡ Some entry =
+        subst (λ n. held_at (world_at pin.0.shard.table pin.0.was.seat)
+        (view pin.0.was.seat).client hold.serial n ≡ Some entry) stands.of.0 stood in
+        let key : key_of entry ≡ key_to cache.seed other =
+        held_shown (view pin.0.was.seat).client hold.serial (key_to cache.seed other) entry
+        (slice_get (world_at pin.0.shard.table pin.0.was.seat).slots slot) on shows in
+        let told = is (held_entry cache.seed entry)
+        (stands_pinned cache old did.handle hold slot counting stands.handled here kept
+        stands.there) in
+        apart (told ∙ ap Some (ap (key_from cache.seed) key
+        ∙ key_back cache.seed other words.0 words.1))
 
-      by : (o : Option Hold) → hold_of old did.handle ≡ o → Shows cache key false old
-          → Shows cache key false new
-      by None here w =
-          let none = subst (λ o. held_as cache.seed old.seats.items old.alone o
-          ≡ Some did.releases.held) here did.releases.was in
-          cc
-      by (Some hold) here w = by_kept hold here hold.kept refl w
+    freed_at : (hold : Hold) → hold_of old did.handle ≡ Some hold → (kept : Kept)
+        → hold.kept ≡ kept → (b : Bool) (other : Key) → IsOfWords other
+        → (b ≡ true → ¬ (held ≡ Some other)) → Shows cache other b old → Shows cache other b new
+    freed_at hold here (AtSlot slot counting) kept false other words apart w =
+        let pin = did.by hold slot counting here kept in
+        shows_at _ hold.shard other false old new pin.0 pin.1
+        (by_less cache.geometry.slots (key_to cache.seed other)
+        (world_at pin.0.shard.table pin.0.was.seat) (world_at pin.0.shard.table pin.0.is.seat)
+        (release_less pin.0.shard slot hold.serial _ erase true pin.0.was pin.0.is pin.0.did
+        (alone _ pin.0.shard pin.0.shard_is))) w
+    freed_at hold here (AtSlot slot counting) kept true other words apart w =
+        let pin = did.by hold slot counting here kept in
+        shows_at _ hold.shard other true old new pin.0 pin.1
+        (λ some.
+        let off = λ (same : some.0 ≡ slot).
+        other_slot hold slot counting here kept pin other words (apart refl)
+        (subst (ShowsKey (world_at pin.0.shard.table pin.0.was.seat) (key_to cache.seed other))
+        same some.2) in (
+          some.0,
+          some.1,
+          shows_too (key_to cache.seed other) some.0
+              (world_at pin.0.shard.table pin.0.was.seat)
+              (world_at pin.0.shard.table pin.0.is.seat)
+              (release_others pin.0.shard slot hold.serial _ erase true pin.0.was pin.0.is
+              pin.0.did (alone _ pin.0.shard pin.0.shard_is) some.0 off) some.2,
+        )) w
+    freed_at hold here (Standing index) kept b other words apart w =
+        shows_stays other b old new (did.standing hold index here kept) w
+
+    pub freed_tells : Tells cache (with_freed held keys) new
+    freed_tells other b words h =
+        let told = told_freed held other b keys h in
+        by (hold_of old did.handle) refl (tells other b words told.0) told.1
+      where
+        by : (o : Option Hold) → hold_of old did.handle ≡ o → Shows cache other b old
+            → (b ≡ true → ¬ (held ≡ Some other)) → Shows cache other b new
+        by None here w apart =
+            let none = subst (λ o. held_as cache.seed old.seats.items old.alone o
+            ≡ Some did.releases.held) here did.releases.was in
+            cc
+        by (Some hold) here w apart = freed_at hold here hold.kept refl b other words apart w
 
   -- An erasure.
   pub erased_tells : (keys : Keys) (key : Key) (count : ℕ) (old new : Client T) → IsOfWords key

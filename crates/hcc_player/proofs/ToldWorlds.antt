@@ -1,9 +1,12 @@
 -- Keys that a world shows or doesn't, and what leaves that so.
 use Rattle.std.proofs.Common.{◌≡◌, inl, inr, ℕ, zero, suc, ◌&&◌, ◌<◌, ◌≤◌, Bool, true, false, Option, Some, None, sym, refl, ap, ◌∙◌, subst, arith, ◌⊎◌}
-use Rattle.std.specs.Prelude.{IsSomeAnd, if◌then◌else◌}
+use Rattle.std.specs.Prelude.{IsSomeAnd, is_some, option_and_then, if◌then◌else◌}
 use Rattle.std.proofs.lemmas.Bool.{cases_eq, eq-eqb, true≢false}
 use Rattle.std.proofs.lemmas.Option.{same_Some}
 use Rattle.hcc_core.specs.declared.slot.Entry.{Entry}
+use Rattle.hcc_core.specs.declared.slot.Slot.{Slot}
+use Rattle.hcc_core.specs.declared.slot.Slot.TheVariants as slots
+use Rattle.hcc_core.specs.Runs.{entry_held}
 use Rattle.hcc_core.specs.Sums.{when}
 use Rattle.hcc_core.specs.World.{State}
 use Rattle.hcc_rule.specs.declared.key.Key.{Key}
@@ -11,7 +14,7 @@ use Rattle.hcc_rule.specs.Callers.{clients_of}
 use Rattle.hcc_rule.specs.Words.{key_of}
 use Rattle.hcc_table.specs.Searched.{is_key}
 use Rattle.hcc_table.specs.Standing.{HidesShown, InsertsShown, ShowsKey, ShowsMore, ShowsSame}
-use Rattle.hcc_table.specs.Standing.{counts_shown, shown_at, shown_of, world_at}
+use Rattle.hcc_table.specs.Standing.{counts_shown, entry_shown, shown_at, shown_of, world_at}
 use Rattle.hcc_table.specs.Still.{ShowsBut}
 use Rattle.hcc_table.proofs.HidesAlone.{key_equal, settled_keeps}
 use Rattle.hcc_table.proofs.Releases.{releases_show}
@@ -19,12 +22,14 @@ use Rattle.hcc_shard.specs.declared.seat.ShardSeat.{ShardSeat}
 use Rattle.hcc_shard.specs.declared.shard.Shard.{Shard}
 use Rattle.hcc_shard.specs.Reserving.{left_out}
 use Rattle.hcc_shard.specs.Stays.{ReleasesAt}
+use Rattle.hcc_cache.specs.Clients.{Held}
 use Rattle.hcc_cache.specs.Keys.{key_from}
 use Rattle.hcc_cache.specs.Sharding.{key_to}
 use Rattle.hcc_cache.proofs.Readings.{key_back}
 use Rattle.hcc_player.specs.RunAlone.{ShowsNone}
 use Rattle.hcc_player.specs.RunCalls.{IsOfWords}
-use Rattle.hcc_player.specs.RunTold.{Keys, only_gone, with_told}
+use Rattle.hcc_player.specs.RunTold.{Keys, only_gone, with_freed, with_told}
+use Rattle.hcc_player.proofs.HeldCharges.{entry_by}
 
 -- Keys.
 
@@ -54,11 +59,30 @@ told_cases key other is b keys h = by (is_key key other) refl h
     by true same h = inl (sym (key_equal key other same), same_Some _ _ h)
     by false apart h = inr (off_key key other apart, h)
 
-pub gone_only : (o : Option Bool) (b : Bool) → only_gone o ≡ Some b
-    → (false ≡ b) × (o ≡ Some false)
+gone_only : (o : Option Bool) (b : Bool) → only_gone o ≡ Some b
+    → (b ≡ false) × (o ≡ Some b)
 gone_only None b is = cc
 gone_only (Some true) b is = cc
-gone_only (Some false) b is = (same_Some _ _ is, refl)
+gone_only (Some false) b is = (sym (same_Some _ _ is), is)
+
+-- the key of an entry of the table for which a handle stands, if it is one
+abbrev pub key_by : Held → Option Key
+key_by held = if is_some held.standing then None else Some held.insertion.key
+
+-- where an entry of a key was freed, no more is told than was, and of the key not that it's there
+pub told_freed : (held : Option Key) (other : Key) (b : Bool) (keys : Keys)
+    → with_freed held keys other ≡ Some b
+    → (keys other ≡ Some b) × (b ≡ true → ¬ (held ≡ Some other))
+told_freed None other b keys h = (h, λ there same. cc)
+told_freed (Some key) other b keys h = by (is_key key other) refl h
+  where
+    by : (t : Bool) → is_key key other ≡ t
+        → (if t then only_gone (keys other) else keys other) ≡ Some b
+        → (keys other ≡ Some b) × (b ≡ true → ¬ (Some key ≡ Some other))
+    by true same h =
+        let gone = gone_only (keys other) b h in
+        (gone.1, λ there is. true≢false (sym there ∙ gone.0))
+    by false apart h = (h, λ there is. off_key key other apart (same_Some _ _ is))
 
 -- Worlds.
 
@@ -71,7 +95,7 @@ abbrev pub shows_by : Bool → (slots : ℕ) → Key → State → Type 0
 shows_by true slots key world = ShowsSome slots key world
 shows_by false slots key world = ShowsNone slots key world
 
-shows_too : (key : Key) (slot : ℕ) (w v : State) → shown_at v slot ≡ shown_at w slot
+pub shows_too : (key : Key) (slot : ℕ) (w v : State) → shown_at v slot ≡ shown_at w slot
     → ShowsKey w key slot → ShowsKey v key slot
 shows_too key slot w v same shows = subst (λ o. IsSomeAnd o (λ e. key_of e ≡ key)) (sym same) shows
 
@@ -180,6 +204,32 @@ but_less slot (Some charge) w v h s = elim (cases_eq s slot) [
   | inr other ↦ inl (h.others s other)
 ]
 
+-- what a release leaves of the other slots
+pub release_others : {T A : Type 0} (shard : Shard T A) (slot name : ℕ) (used erase freed : Bool)
+    (old new : ShardSeat T) → ReleasesAt shard slot name used erase freed old new
+    → clients_of shard.table ≡ 1 → (s : ℕ) → ¬ (s ≡ slot)
+    → shown_at (world_at shard.table new.seat) s ≡ shown_at (world_at shard.table old.seat) s
+release_others shard slot name used erase freed old new h one s other =
+    settled_keeps shard.table one h.mid new.seat h.settles s
+    ∙ (releases_show shard.table one slot name used erase h.charge old.seat h.mid
+    h.releases).others s other
+
+-- what a slot shows on which a client holds an entry is that entry
+pub held_shown : (client name : ℕ) (key : Key) (e : Entry) (o : Option Slot)
+    → option_and_then (entry_held client name) o ≡ Some e
+    → IsSomeAnd (option_and_then entry_shown o) (λ f. key_of f ≡ key) → key_of e ≡ key
+held_shown client name key e None held shows = cc
+held_shown client name key e (Some (slots.Empty strays)) held shows = absurd shows
+held_shown client name key e (Some (slots.Building owner strays)) held shows = absurd shows
+held_shown client name key e (Some (slots.Shareable r)) held shows =
+    by r.shown shows (same_Some _ _ (entry_by client name (slots.Shareable r) e held))
+  where
+    by : (b : Bool) → IsSomeAnd (if b then Some r.entry else None) (λ f. key_of f ≡ key)
+        → r.entry ≡ e → key_of e ≡ key
+    by true shows same = ap key_of (sym same) ∙ shows
+    by false shows same = absurd shows
+
+-- where slots show what they showed, or nothing, as a release leaves them
 pub release_less : {T A : Type 0} (shard : Shard T A) (slot name : ℕ) (used erase freed : Bool)
     (old new : ShardSeat T) → ReleasesAt shard slot name used erase freed old new
     → clients_of shard.table ≡ 1 → (s : ℕ)

@@ -23,7 +23,7 @@ use Rattle.hcc_player.specs.declared.run.call.Call.TheVariants as calls
 use Rattle.hcc_player.specs.declared.run.call.RunLine.{RunLine}
 use Rattle.hcc_player.specs.declared.run.registers.Registers.{Registers}
 use Rattle.hcc_player.specs.Runs.{MakesAll, placed_by, stood_by}
-use Rattle.hcc_player.specs.RunStates.{charge_of}
+use Rattle.hcc_player.specs.RunStates.{charge_of, with_register}
 
 -- What is told of each key: that an entry of it is shown, that none is, or neither.
 abbrev pub Keys : Type 0
@@ -38,32 +38,66 @@ abbrev pub only_gone : Option Bool → Option Bool
 only_gone (Some false) = Some false
 only_gone other = None
 
--- What is told of them once a call was answered so. Each key that was placed or hit is there; each
--- that was erased or missed isn't. Where an entry was freed it isn't told any more that any are.
-abbrev pub keys_after : Call → Answer → Keys → Keys
-keys_after (calls.Insert key charge priority value) answers.Placed keys = with_told key true keys
-keys_after (calls.Pin register key charge priority value) answers.Placed keys =
-    with_told key true keys
-keys_after (calls.Get register key) answers.Hit keys = with_told key true keys
-keys_after (calls.Get register key) answers.Miss keys = with_told key false keys
-keys_after (calls.Erase key) (answers.Erased count) keys = with_told key false keys
-keys_after (calls.Release register useful erase) answers.Freed keys = λ key. only_gone (keys key)
-keys_after call answer keys = keys
+-- An entry of this key was freed, if there is a key: it isn't told any more that one is there.
+abbrev pub with_freed : Option Key → Keys → Keys
+with_freed None keys = keys
+with_freed (Some key) keys =
+    λ other. if is_key key other then only_gone (keys other) else keys other
 
--- What lines and answers tell so far: of each key, how many entries were placed, and what was
--- charged for these and for those that stand alone.
+-- What is told of registers: the key of the table's entry that each one holds. None is told of a
+-- register that is empty, or whose entry stands alone.
+abbrev pub Holding : Type 0
+Holding = ℕ → Option Key
+
+-- What is told of keys once a call was answered so. Each that was placed or hit is there; each that
+-- was erased or missed isn't. Where a release freed an entry, that was the one of its register.
+abbrev pub keys_after : Call → Answer → Holding → Keys → Keys
+keys_after (calls.Insert key charge priority value) answers.Placed held keys =
+    with_told key true keys
+keys_after (calls.Pin register key charge priority value) answers.Placed held keys =
+    with_told key true keys
+keys_after (calls.Get register key) answers.Hit held keys = with_told key true keys
+keys_after (calls.Get register key) answers.Miss held keys = with_told key false keys
+keys_after (calls.Erase key) (answers.Erased count) held keys = with_told key false keys
+keys_after (calls.Release register useful erase) answers.Freed held keys =
+    with_freed (held register) keys
+keys_after call answer held keys = keys
+
+-- what is told of registers
+abbrev pub held_after : Call → Answer → Holding → Holding
+held_after (calls.Pin register key charge priority value) answers.Placed held =
+    with_register held register (Some key)
+held_after (calls.Pin register key charge priority value) answers.Standalone held =
+    with_register held register None
+held_after (calls.Get register key) answers.Hit held = with_register held register (Some key)
+held_after (calls.Fork register from) answers.Held held = with_register held register (held from)
+held_after (calls.Release register useful erase) answers.Freed held =
+    with_register held register None
+held_after (calls.Release register useful erase) answers.Kept held =
+    with_register held register None
+held_after call answer held = held
+
+-- What lines and answers tell so far: of each key and of registers, how many entries were placed,
+-- and what was charged for these and for those that stand alone.
 pub record Told : Type 0 where
   pub keys : Keys
+  pub held : Holding
   pub placed : ℕ
   pub charged : ℕ
 
--- of a new cache: nothing is there, and nothing was placed
+-- of a new cache: nothing is there, nothing is held, and nothing was placed
 abbrev pub new_told : Told
-new_told = record { keys = λ key. Some false; placed = 0; charged = 0 }
+new_told = record {
+  keys = λ key. Some false;
+  held = λ register. None;
+  placed = 0;
+  charged = 0;
+}
 
 abbrev pub told_after : Call → Answer → Told → Told
 told_after call answer told = record {
-  keys = keys_after call answer told.keys;
+  keys = keys_after call answer told.held told.keys;
+  held = held_after call answer told.held;
   placed = told.placed + when (is_some (placed_by call answer)) 1;
   charged = told.charged + charge_of (placed_by call answer) + stood_by call answer;
 }

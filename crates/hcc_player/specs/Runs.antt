@@ -16,6 +16,7 @@ use Rattle.hcc_player.specs.declared.run.call.RunLine.{RunLine}
 use Rattle.hcc_player.specs.declared.run.registers.Filled.{Filled}
 use Rattle.hcc_player.specs.declared.run.registers.Registers.{Registers}
 use Rattle.hcc_player.specs.declared.sums.Sums.{Sums}
+use Rattle.hcc_player.specs.Registers.{Goes}
 use Rattle.hcc_player.specs.RunCalls.{Does, GivesBack}
 use Rattle.hcc_player.specs.RunStates.{charge_of}
 
@@ -66,8 +67,8 @@ abbrev pub AreEmpty : List Registers → Type 0
 AreEmpty all = (c : ℕ) (held : Registers) → slice_get all c ≡ Some held → held.filled.items ≡ []
 
 module _ {T : Type 0} (fits : T → Key → List ℕ → Type 0) (cache : Cache T) where
-  -- A line's client made its call with its registers, which was answered so. No other client did
-  -- anything.
+  -- A line's client made its call with its registers, which was answered so, as is right. No other
+  -- client did anything.
   pub record Makes (line : RunLine) (answer : Answer) (old new : List (Client T))
       (was now : List Registers) : Type 0 where
     pub before : Client T
@@ -78,6 +79,8 @@ module _ {T : Type 0} (fits : T → Key → List ℕ → Type 0) (cache : Cache 
     pub registers_were : slice_get was line.client ≡ Some held
     pub clients_are : new ≡ slice_set old line.client after
     pub registers_are : now ≡ slice_set was line.client holds
+    pub goes : Goes fits cache line.call answer before after held.filled.items
+        holds.filled.items
     pub did : Does fits cache line.call answer before after held.filled.items
         holds.filled.items
 

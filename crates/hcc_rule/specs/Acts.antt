@@ -151,13 +151,14 @@ module _ {T : Type 0} where
 
   -- The seat did this, after what others did since its last event: none of these is a step of a
   -- client that it names, and there are none where the shard has one client. What its client holds
-  -- stands in the world after it.
+  -- stands in the world after it; what it held stood in the world before, where no other client is.
   pub record IsNext (p : Plan T) (clients : ℕ) (done : Done) (old new : Logged T) : Type 0 where
     pub others : List Done
     pub past : new.past ≡ old.past ++ (others ++ done ∷ [])
     pub apart : (c : ℕ) → 1 ≤ names c old.known → Each (IsNoStepOf c) others
     pub alone : clients ≡ 1 → others ≡ []
     pub stand : RecordsStand p new
+    pub stood : clients ≡ 1 → RecordsStand p old
 
   -- it did this, or nothing that the machine knows
   abbrev pub Follows : Plan T → ℕ → Option Done → Logged T → Logged T → Type 0

@@ -293,12 +293,15 @@ module _ {T : Type 0} where
       (old new : Logged T)
       → is_seated old.known ≡ true → new.past ≡ past_after history done old
       → (new.past ≡ with_done history done → RecordsStand p new)
+      → (old.past ≡ history → RecordsStand p old)
       → IsFront clients history old → Follows p clients done old new
-  follows_is p clients history None old new seated past stand f = past
-  follows_is p clients history (Some done) old new seated past stand f = record {
+  follows_is p clients history None old new seated past stand stood f = past
+  follows_is p clients history (Some done) old new seated past stand stood f = record {
     others = f.later;
     past = past ∙ (ap (λ h. h ++ done ∷ []) f.is ∙ append_assoc old.past f.later (done ∷ []));
     apart = f.apart;
     alone = λ one. f.alone one seated;
     stand = stand past;
+    stood = λ one.
+        stood (sym (f.is ∙ ap (λ ds. old.past ++ ds) (f.alone one seated) ∙ append-nil old.past));
   }

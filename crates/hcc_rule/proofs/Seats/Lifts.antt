@@ -235,7 +235,8 @@ module _ {T : Type 0} (fits : T → Key → List ℕ → Type 0) (p : Plan T) wh
           follows = follows_is p p.geometry.clients holds.history given.3 me.0 w seated refl
               (λ all. records_stand _ after id w there
               (sits w.known w.known.tag refl (λ none. let never = after.spent id w there none in
-              omega arith)) all) (holds.fronts id me.0 here);
+              omega arith)) all) (records_stand s holds id me.0 here seated)
+              (holds.fronts id me.0 here);
           allowed = known_allowed _ after id w there;
           logged_is = refl;
           one = push;

@@ -1,6 +1,6 @@
 use Rattle.std.proofs.Common.{length, refl, arith}
 use Rattle.std.proofs.lemmas.Option.{slice_get_read}
-use Rattle.hcc_player.proofs.ByteLemmas.{if_ok_so}
+use Rattle.hcc_player.proofs.ByteLemmas.{if_ok_both, if_ok_so}
 use Rattle.hcc_player.proofs.RunningLemmas.{steps_by}
 use Rattle.hcc_player.proofs.run.playing.answer_to.Goals as goal
 
@@ -43,7 +43,7 @@ returns-clause-did g c =
     let registers = c.args.registers.now.items in
     let within = c.requires.client in
     let count = c.requires.manned.2.count in
-    if_ok_so c.answer.result _ _ (λ answer did. record {
+    if_ok_both c.answer.result _ _ _ (λ answer goes did. record {
       before = c.index_mut.result.now;
       after = c.answer.new.client;
       held = c.index_mut-2.result.now;
@@ -54,5 +54,6 @@ returns-clause-did g c =
           refl (omega arith) c.index_mut-2.ensures.value;
       clients_are = refl;
       registers_are = refl;
+      goes = goes;
       did = did;
-    }) c.answer.ensures.did
+    }) c.answer.ensures.goes c.answer.ensures.did

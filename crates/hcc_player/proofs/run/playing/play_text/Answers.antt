@@ -87,7 +87,10 @@ returns-clause-ok g c =
             c.args.config tag cache is_of one key charge priority (Ok pinned.Standalone) old new h
             idle).0;
       }) (c.law_kept_shown.ensures.usage cache) (c.law_kept_shown.ensures.occupancy cache) lines
-          told first last empty kept makes c.in-Ok.ensures.made exact,
+          told first last empty kept makes c.in-Ok.ensures.made
+          (manned_new fits_trace c.args.config tag cache first empty c.in-Ok.ensures.made
+          c.in_ok-registers.ensures.empty
+          (c.in_ok-registers.ensures.count ∙ c.len.ensures ∙ c.in-Ok.clients.ok.0)) exact,
     ))) c.finish.ensures.ok
 
 pub returns-clause-part : goal.returns-clause-part
