@@ -1,8 +1,10 @@
 //! Values that are read by their keys, with no handle.
-ghost use Rattle.std.specs.Prelude.{◌≡◌, ◌+◌};
+ghost use Rattle.std.specs.Prelude.{◌≡◌, ◌+◌, ◌<◌, length};
 ghost use Rattle.hcc_cache.specs.Calls.{CountsAt, KeepsAll, TakesFor, shard_in};
 ghost use Rattle.hcc_cache.specs.Gets.{GetsAt, GetsFor, SeeksAt};
+ghost use Rattle.hcc_cache.specs.Keys.{key_from};
 ghost use Rattle.hcc_cache.specs.Known.{Knows};
+ghost use Rattle.hcc_cache.specs.Sharding.{key_to};
 ghost use Rattle.hcc_cache.specs.Stays.{Stays};
 
 use crate::cache::Cache;
@@ -41,7 +43,42 @@ impl<T: Tag> Cache<T> {
             (shard_in self.now key) client.old client.new }
     {
         let under = self.key_to(client, key);
+        if self.shards.len() == 1 {
+            // The only shard's place doesn't wait for the seeded key.
+            return self.get_at(client, key, under, 0, buffer, useful);
+        }
         let shard = self.shard_number(under);
+        self.get_at(client, key, under, shard, buffer, useful)
+    }
+
+    /// The same, once it is known which shard the key is in, and how it is seeded.
+    #[inline(always)]
+    fn get_at(
+        &self,
+        client: &mut Client<T>,
+        key: Key,
+        under: Key,
+        shard: usize,
+        buffer: &mut [u8],
+        useful: bool,
+    ) -> Got
+        requires known { Knows self.now client.old }
+        requires words { under ≡ key_to self.now.seed key }
+        requires undone { key_from self.now.seed under ≡ key }
+        requires there { shard ≡ shard_in self.now key }
+        requires inside { shard < length self.now.shards.items }
+        ensures known { Knows self.now client.new }
+        ensures keeps { KeepsAll self.now client.old client.new }
+        ensures seeks { SeeksAt (shard_in self.now key) client.old client.new }
+        ensures got { GetsFor self.now T.fits key result buffer.old buffer.new
+            client.old client.new }
+        ensures gets { GetsAt self.now T.fits key useful result buffer.old buffer.new
+            client.old client.new }
+        ensures stays { Stays self.now client.old client.new }
+        ensures counts { CountsAt (shard_in self.now key) client.old client.new }
+        ensures steps { TakesFor self.now 7 (λ v w. self.now.geometry.room + 2)
+            (shard_in self.now key) client.old client.new }
+    {
         let seat = &mut client.seats[shard];
         self.shards[shard].get(seat, under, buffer, Use::of(useful))
     }

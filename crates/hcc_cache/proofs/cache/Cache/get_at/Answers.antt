@@ -1,39 +1,38 @@
-use Rattle.std.proofs.Common.{◌+◌, ◌∙◌, refl, ap, length, arith}
+use Rattle.std.proofs.Common.{◌+◌, refl, ap, arith}
 use Rattle.std.specs.Vec.{with_item}
 use Rattle.hcc_shard.specs.Counted.{SameEvictions}
 use Rattle.hcc_shard.specs.Gets.{Gets}
 use Rattle.hcc_cache.specs.Calls.{shard_in}
 use Rattle.hcc_cache.specs.Keys.{fits_seeded}
-use Rattle.hcc_cache.specs.Sharding.{key_to, shard_of}
+use Rattle.hcc_cache.specs.Sharding.{key_to}
 use Rattle.hcc_cache.proofs.At.{did_at, does_at, is_at, seated_at, takes_for}
 use Rattle.hcc_cache.proofs.Found.{keeps_left, knows_sought}
 use Rattle.hcc_cache.proofs.Gotten.{gets_for, seeks_at}
 use Rattle.hcc_cache.proofs.Staying.{stays_at}
-use Rattle.hcc_cache.proofs.cache.Cache.get.Goals as goal
+use Rattle.hcc_cache.proofs.cache.Cache.get_at.Goals as goal
 
 pub get-requires : goal.get-requires
 get-requires g c =
     let cache = c.args.self.now in
     let old = c.args.client.now in
-    let i = c.shard_number-shard.result in
+    let i = c.args.shard in
     let was = c.index_mut-seat.result.now in
-    let at = is_at cache old i c.index.result.now was c.requires
-    c.shard_number-shard.ensures.inside c.index.ensures c.index_mut-seat.ensures.value in
+    let at = is_at cache old i c.index.result.now was c.requires.known
+    c.requires.inside c.index.ensures c.index_mut-seat.ensures.value in
     record { seat = (seated_at cache old old i c.index.result.now was was at).rests }
 
 pub returns : goal.returns
 returns g c =
     let cache = c.args.self.now in
     let old = c.args.client.now in
-    let i = c.shard_number-shard.result in
+    let i = c.args.shard in
     let shard = c.index.result.now in
     let was = c.index_mut-seat.result.now in
     let is = c.get.new.seat in
-    let at = is_at cache old i shard was c.requires c.shard_number-shard.ensures.inside
+    let at = is_at cache old i shard was c.requires.known c.requires.inside
     c.index.ensures c.index_mut-seat.ensures.value in
-    let words = c.key_to-under.ensures.words in
-    let there = c.shard_number-shard.ensures.value
-    ∙ ap (λ k. shard_of k (length cache.shards.items)) words in
+    let words = c.requires.words in
+    let there = c.requires.there in
     let alike = at.knows.alike.plans i shard at.shard_is in
     let got : Gets (fits_seeded g.T.Tag.fits) shard (key_to cache.seed c.args.key) c.args.useful
     c.get.result c.args.buffer.now c.get.new.buffer was is =
@@ -71,7 +70,7 @@ returns g c =
             seed = refl;
             capacity = (refl, refl);
           })
-          g.T.Tag.fits c.args.key there (rw words at c.key_to-under.ensures.undone)
+          g.T.Tag.fits c.args.key there (rw words at c.requires.undone)
           c.args.useful c.args.buffer.now c.get.new.buffer sought;
       got =
           gets_for cache old (record old { seats = with_item old.seats i is }) i shard was is at
@@ -82,7 +81,7 @@ returns g c =
             seed = refl;
             capacity = (refl, refl);
           })
-          g.T.Tag.fits c.args.key there (rw words at c.key_to-under.ensures.undone)
+          g.T.Tag.fits c.args.key there (rw words at c.requires.undone)
           c.args.useful c.args.buffer.now c.get.new.buffer c.get.result got;
       gets =
           did_at cache old _ i shard was is at
