@@ -26,6 +26,7 @@ pub mod Hidings
 pub mod HideSteps
 pub mod Bytes
 pub mod Values
+pub mod Turns
 pub mod InsertsWords
 pub mod Inserts
 pub mod InsertsTries

@@ -71,6 +71,12 @@ module _ {T A : Type 0} (table : RuleTable T A) where
     only = each_append (λ (done : Done). is_seeking done.event ≡ true) h.own g.own h.only g.only;
   }
 
+  -- four of them
+  pub seeks_four : (a b c d e : SeatOf T) → Seeks table a b → Seeks table b c → Seeks table c d
+      → Seeks table d e → Seeks table a e
+  seeks_four a b c d e first second third fourth =
+      seeks_then a c e (seeks_then a b c first second) (seeks_then c d e third fourth)
+
   -- a read of the entry that the record of a name is on
   pub seeks_read : (name : ℕ) (P : Record → Type 0) (a b : SeatOf T)
       → IsSomeAnd (record_in name (view a).records) P

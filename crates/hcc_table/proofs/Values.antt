@@ -114,22 +114,24 @@ module _ {T : Type 0} where
     pub front : IfSome (record_in name (view seat).records)
         (λ r. buffer ≡ take (8 * k) r.entry.value ++ drop (8 * k) old)
 
-  -- a word more
-  pub reads_next : (name len : ℕ) (seat : SeatOf T) (old : List ℕ)
+  -- Some words more are there, once these were put behind the first.
+  pub reads_words : (name len words : ℕ) (seat : SeatOf T) (old : List ℕ)
       → IfSome (record_in name (view seat).records) (λ r. len ≡ length r.entry.value)
-      → (k more : ℕ) (now next : SeatOf T) (buffer new : List ℕ) → more ≡ k + 1 → k < len / 8
+      → (k more : ℕ) (now next : SeatOf T) (buffer new : List ℕ) → more ≡ k + words
+      → more ≤ len / 8
       → IsReading name k seat now old buffer → IsSameSeat now next → view next ≡ view now
       → IfSome (record_in name (view now).records)
       (λ r. new ≡ take (8 * k) buffer
-      ++ (take 8 (drop (8 * k) r.entry.value) ++ drop (8 * k + 8) buffer))
+      ++ (take (8 * words) (drop (8 * k) r.entry.value) ++ drop (8 * k + 8 * words) buffer))
       → IsReading name more seat next old new
-  reads_next name len seat old exact k more now next buffer new is low s same kept put = record {
-    same = seat_then seat now next s.same same;
-    kept = kept ∙ s.kept;
-    front =
-        filled (record_in name (view seat).records) (8 * k) 8 (8 * more) len old buffer new
-        (omega arith) (omega arith) exact s.front (rw (← s.kept) put);
-  }
+  reads_words name len words seat old exact k more now next buffer new is low s same kept put =
+      record {
+        same = seat_then seat now next s.same same;
+        kept = kept ∙ s.kept;
+        front =
+            filled (record_in name (view seat).records) (8 * k) (8 * words) (8 * more) len old
+            buffer new (omega arith) (omega arith) exact s.front (rw (← s.kept) put);
+      }
 
   -- The rest of the value is less than a word.
   pub reads_rest : (name k len : ℕ) (seat now : SeatOf T) (old buffer new : List ℕ) → len / 8 ≤ k

@@ -18,7 +18,7 @@ ghost use Rattle.hcc_rule.specs.Views.{Each};
 ghost use Rattle.hcc_rule.specs.Records.{different, record_in};
 ghost use Rattle.hcc_rule.specs.Words.{field_at, key_of, payload_word, words_for};
 ghost use Rattle.hcc_table.specs.Pins.{IsPinned};
-ghost use Rattle.hcc_table.specs.Readings.{IsReadable};
+ghost use Rattle.hcc_table.specs.Readings.{put_in, put_turn, IsReadable};
 ghost use Rattle.hcc_table.specs.Seeking.{Seeks};
 ghost use Rattle.hcc_table.specs.Steps.{MakesAtMost};
 
@@ -202,8 +202,12 @@ pub fn copy_bytes<T: Tag, A: Allocator>(
     ensures steps { MakesAtMost (words_for count) seat.old seat.new }
 {
     let whole = count / 8;
+    let blocks = whole / 32;
+    for block in 0..blocks {
+        copy_lines(table, seat, pin, first, 32 * block, buffer);
+    }
     let fours = whole / 4;
-    for four in 0..fours {
+    for four in 8 * blocks..fours {
         // These are unrolled; of more the compiler reckons each address anew.
         for part in 0..4 {
             copy_word(table, seat, pin, first, 4 * four + part, 8, buffer);
@@ -218,7 +222,78 @@ pub fn copy_bytes<T: Tag, A: Allocator>(
     }
 }
 
+/// Copies 32 words of the value, from the word of an index on, to their place in a buffer: of each
+/// of four lines of eight words the first, then of each the second, and so on. So cache lines are
+/// fetched at once, and not one after the other.
+#[inline(always)]
+fn copy_lines<T: Tag, A: Allocator>(
+    table: &RuleTable<T, A>,
+    seat: &mut RuleSeat<T>,
+    pin: Pin,
+    first: usize,
+    from: usize,
+    buffer: &mut [u8],
+)
+    requires seat { IsSeatAt table.now seat.old }
+    requires slot { IsSlotOf table.now pin.slot }
+    requires first { first ≡ field_at (room_of table.now) pin.slot DATA }
+    requires within { from + 32 ≤ room_of table.now }
+    requires space { 8 * from + 256 ≤ length buffer.old }
+    requires holds { IsSomeAnd (record_in pin.name (view seat.old).records)
+        (λ r. (r.slot ≡ pin.slot) × IsReadable (room_of table.now) r
+        × (8 * from + 256 ≤ length r.entry.value)) }
+    ensures seat { IsSameSeat seat.old seat.new }
+    ensures view { view seat.new ≡ view seat.old }
+    ensures bytes { IfSome (record_in pin.name (view seat.old).records)
+        (λ r. buffer.new ≡ put_in (8 * from) 256 r.entry.value buffer.old) }
+    ensures seeks { Seeks table.now seat.old seat.new }
+    ensures steps { MakesAtMost 32 seat.old seat.new }
+{
+    // The compiler leaves a loop of this length as it is.
+    copy_turn(table, seat, pin, first, from, buffer);
+    copy_turn(table, seat, pin, first, from + 1, buffer);
+    copy_turn(table, seat, pin, first, from + 2, buffer);
+    copy_turn(table, seat, pin, first, from + 3, buffer);
+    copy_turn(table, seat, pin, first, from + 4, buffer);
+    copy_turn(table, seat, pin, first, from + 5, buffer);
+    copy_turn(table, seat, pin, first, from + 6, buffer);
+    copy_turn(table, seat, pin, first, from + 7, buffer);
+}
+
+/// Copies four words of the value, the first by its index and each eight words behind the one
+/// before, to their places in a buffer.
+#[inline(always)]
+fn copy_turn<T: Tag, A: Allocator>(
+    table: &RuleTable<T, A>,
+    seat: &mut RuleSeat<T>,
+    pin: Pin,
+    first: usize,
+    at: usize,
+    buffer: &mut [u8],
+)
+    requires seat { IsSeatAt table.now seat.old }
+    requires slot { IsSlotOf table.now pin.slot }
+    requires first { first ≡ field_at (room_of table.now) pin.slot DATA }
+    requires within { at + 24 < room_of table.now }
+    requires space { 8 * (at + 24) + 8 ≤ length buffer.old }
+    requires holds { IsSomeAnd (record_in pin.name (view seat.old).records)
+        (λ r. (r.slot ≡ pin.slot) × IsReadable (room_of table.now) r
+        × (8 * (at + 24) + 8 ≤ length r.entry.value)) }
+    ensures seat { IsSameSeat seat.old seat.new }
+    ensures view { view seat.new ≡ view seat.old }
+    ensures bytes { IfSome (record_in pin.name (view seat.old).records)
+        (λ r. buffer.new ≡ put_turn at r.entry.value buffer.old) }
+    ensures seeks { Seeks table.now seat.old seat.new }
+    ensures steps { MakesAtMost 4 seat.old seat.new }
+{
+    copy_word(table, seat, pin, first, at, 8, buffer);
+    copy_word(table, seat, pin, first, at + 8, 8, buffer);
+    copy_word(table, seat, pin, first, at + 16, 8, buffer);
+    copy_word(table, seat, pin, first, at + 24, 8, buffer);
+}
+
 /// Copies the first bytes of a word of the value, by its index, to their place in a buffer.
+#[inline(always)]
 fn copy_word<T: Tag, A: Allocator>(
     table: &RuleTable<T, A>,
     seat: &mut RuleSeat<T>,
@@ -241,8 +316,7 @@ fn copy_word<T: Tag, A: Allocator>(
     ensures seat { IsSameSeat seat.old seat.new }
     ensures view { view seat.new ≡ view seat.old }
     ensures bytes { IfSome (record_in pin.name (view seat.old).records)
-        (λ r. buffer.new ≡ take (8 * index) buffer.old
-        ++ (take count (drop (8 * index) r.entry.value) ++ drop (8 * index + count) buffer.old)) }
+        (λ r. buffer.new ≡ put_in (8 * index) count r.entry.value buffer.old) }
     ensures seeks { Seeks table.now seat.old seat.new }
     ensures steps { MakesAtMost 1 seat.old seat.new }
 {

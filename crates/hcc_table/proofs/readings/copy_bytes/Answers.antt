@@ -1,7 +1,22 @@
 use Rattle.std.proofs.Common.{ℕ, ◌+◌, ◌*◌, ◌/◌, ◌<◌, arith}
 use Rattle.hcc_table.proofs.Seeking.{seeks_then}
-use Rattle.hcc_table.proofs.Values.{reads_next, reads_rest}
+use Rattle.hcc_table.proofs.Values.{reads_words, reads_rest}
 use Rattle.hcc_table.proofs.readings.copy_bytes.Goals as goal
+
+pub loop-block-preserved : goal.loop-block-preserved
+loop-block-preserved g c =
+    let told = c.copy_lines.ensures in
+    let low : c.loop-block.block < c.args.count / 8 / 32 = c.loop-block-test.true in
+    let so_far = c.loop-block.invariant.1 in
+    let all = told.steps in (
+      reads_words c.args.pin.name c.args.count 32 c.args.seat.now c.args.buffer.now
+          c.requires.exact (32 * c.loop-block.block) (32 * (c.loop-block.block + 1))
+          c.loop-block.seat c.copy_lines.new.seat c.loop-block.buffer c.copy_lines.new.buffer
+          (omega arith) (omega arith) c.loop-block.invariant.0 told.seat told.view told.bytes,
+      omega arith,
+      seeks_then c.args.table.now c.args.seat.now c.loop-block.seat c.copy_lines.new.seat
+          c.loop-block.invariant.2 told.seeks,
+    )
 
 pub loop-part-preserved : goal.loop-part-preserved
 loop-part-preserved g c =
@@ -11,7 +26,7 @@ loop-part-preserved g c =
     let few : c.loop-part.part < 4 = c.loop-part-test.true in
     let so_far = c.loop-part.invariant.1 in
     let one = told.steps in (
-      reads_next c.args.pin.name c.args.count c.args.seat.now c.args.buffer.now
+      reads_words c.args.pin.name c.args.count 1 c.args.seat.now c.args.buffer.now
           c.requires.exact at (4 * c.loop-four.four + (c.loop-part.part + 1))
           c.loop-part.seat c.copy_word.new.seat c.loop-part.buffer c.copy_word.new.buffer
           (omega arith) (omega arith) c.loop-part.invariant.0 told.seat told.view told.bytes,
@@ -25,10 +40,10 @@ loop-index-preserved g c =
     let told = c.copy_word-in-loop-index.ensures in
     let so_far = c.loop-index.invariant.1 in
     let one = told.steps in (
-      reads_next c.args.pin.name c.args.count c.args.seat.now c.args.buffer.now
+      reads_words c.args.pin.name c.args.count 1 c.args.seat.now c.args.buffer.now
           c.requires.exact c.loop-index.index (c.loop-index.index + 1)
           c.loop-index.seat c.copy_word-in-loop-index.new.seat c.loop-index.buffer
-          c.copy_word-in-loop-index.new.buffer (omega arith) c.loop-index-test.true
+          c.copy_word-in-loop-index.new.buffer (omega arith) (omega arith)
           c.loop-index.invariant.0 told.seat told.view told.bytes,
       omega arith,
       seeks_then c.args.table.now c.args.seat.now c.loop-index.seat

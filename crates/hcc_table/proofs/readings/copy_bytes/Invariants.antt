@@ -4,6 +4,11 @@ use Rattle.hcc_table.specs.Seeking.{Seeks}
 use Rattle.hcc_table.proofs.Values.{IsReading}
 use Rattle.hcc_table.proofs.readings.copy_bytes.Given as goal
 
+abbrev pub invariant-loop-block : goal.invariant-loop-block
+invariant-loop-block g l =
+    IsReading l.pin.name (32 * l.block) l.fn.seat l.seat l.fn.buffer l.buffer
+    × (made l.seat ≤ made l.fn.seat + 32 * l.block) × Seeks l.table l.fn.seat l.seat
+
 abbrev pub invariant-loop-four : goal.invariant-loop-four
 invariant-loop-four g l =
     IsReading l.pin.name (4 * l.four) l.fn.seat l.seat l.fn.buffer l.buffer
