@@ -10,6 +10,7 @@
 #include <chrono>
 #include <cmath>
 #include <cstdint>
+#include <sched.h>
 #include <string>
 #include <thread>
 #include <vector>
@@ -102,6 +103,21 @@ constexpr std::uint64_t loaded_file = 1;
 constexpr std::uint64_t absent_file = 2;
 constexpr std::uint64_t first_new_file = 3;
 
+// Keeps this thread on one of the processors that it may use.
+inline void stay_on(std::uint64_t number) {
+    cpu_set_t all, one;
+    must(sched_getaffinity(0, sizeof all, &all) == 0, "asking for the processors");
+    std::vector<int> usable;
+    for (int processor = 0; processor < CPU_SETSIZE; ++processor) {
+        if (CPU_ISSET(processor, &all)) {
+            usable.push_back(processor);
+        }
+    }
+    CPU_ZERO(&one);
+    CPU_SET(usable[number % usable.size()], &one);
+    must(sched_setaffinity(0, sizeof one, &one) == 0, "keeping a processor");
+}
+
 // A cache under one case: filled once, and then played on for as many rounds as are asked for.
 template <class Cache> class bench {
   public:
@@ -116,14 +132,16 @@ template <class Cache> class bench {
         fill();
     }
 
-    // Each thread makes so many operations, all at once.
-    outcome play(std::uint64_t operations) {
+    // Each thread makes so many operations, all at once, and in a round each cache's on the same
+    // processors.
+    outcome play(std::uint64_t operations, std::uint64_t round) {
         std::vector<outcome> parts(sizes_.threads);
         std::atomic<std::uint32_t> waiting{sizes_.threads};
         std::vector<std::thread> threads;
         std::vector<clock::time_point> begun(sizes_.threads), ended(sizes_.threads);
         for (std::uint32_t thread = 0; thread < sizes_.threads; ++thread) {
             threads.emplace_back([&, thread] {
+                stay_on(thread + round);
                 std::vector<std::uint8_t> buffer(sizes_.value_size);
                 waiting.fetch_sub(1);
                 while (waiting.load() != 0) {
@@ -166,7 +184,7 @@ template <class Cache> class bench {
             break;
         case kind::mix:
         case kind::evict:
-            (void)play(2 * sizes_.slots / sizes_.threads);
+            (void)play(2 * sizes_.slots / sizes_.threads, 0);
             break;
         case kind::pinned:
             for (std::uint32_t number = 0; number < sizes_.capacity; ++number) {

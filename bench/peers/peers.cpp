@@ -5,7 +5,8 @@
 //         [--shards N] [--rounds N] [--operations N]
 //
 // Where a cache's memory lies makes it faster or slower, so all are made anew for every three rounds,
-// in another order; and each round begins with the next of them.
+// in another order; and each round begins with the next of them. What else a processor has to do makes
+// them slower, so each thread stays on one: in a round the same for all caches, in the next another.
 //
 // An option that is left out stands for all there are, but for the cache ferretgold-large, which plays
 // all but `pinned` by the calls for large values: then sizes go up to 65,536 bytes, and those above
@@ -111,13 +112,15 @@ template <class Word> bool is_asked(const std::vector<Word> &asked, const Word &
 // A cache under a case, whichever it is.
 struct player {
     virtual ~player() = default;
-    virtual outcome play(std::uint64_t operations) = 0;
+    virtual outcome play(std::uint64_t operations, std::uint64_t round) = 0;
     std::string name;
 };
 
 template <class Cache> struct player_of : player {
     player_of(kind is, const sizes &sizes) : bench_(is, sizes) { name = Cache::name(); }
-    outcome play(std::uint64_t operations) override { return bench_.play(operations); }
+    outcome play(std::uint64_t operations, std::uint64_t round) override {
+        return bench_.play(operations, round);
+    }
 
   private:
     bench<Cache> bench_;
@@ -161,7 +164,7 @@ std::vector<maker> makers_of(const options &asked, kind is, const sizes &sizes) 
 std::uint64_t operations_of(player &of) {
     std::uint64_t operations = first_guess;
     for (;;) {
-        double seconds = of.play(operations).seconds;
+        double seconds = of.play(operations, 0).seconds;
         if (seconds > round_seconds / 4) {
             return std::max<std::uint64_t>(
                 1, static_cast<std::uint64_t>(static_cast<double>(operations) * round_seconds /
@@ -218,7 +221,7 @@ void compare(const options &asked, const named_case &of, const sizes &sizes) {
         }
         for (std::size_t turn = 0; turn < all.size(); ++turn) {
             player &it = *all[(round + turn) % all.size()];
-            print(it, of.name, sizes, round, it.play(operations));
+            print(it, of.name, sizes, round, it.play(operations, round));
         }
     }
     std::fflush(stdout);
