@@ -250,8 +250,8 @@ typedef struct ferretgold_client ferretgold_client;
 
 /*
  * How many bytes a cache of this configuration allocates:
- *     shards * (145 + slots * 8 * (7 + room)) + clients * (488 + 72 * shards + 104 * handles)
- *     + 64 * (clients / 64, rounded up) + 304
+ *     shards * (272 + slots * 8 * (7 + room)) + clients * (744 + 72 * shards + 104 * handles)
+ *     + 64 * (clients / 64, rounded up) + 560
  * ferretgold_open needs one shard's table more for a while. 0 if `config` is null.
  */
 uint64_t ferretgold_memory(const ferretgold_config *config);

@@ -1,5 +1,5 @@
-/* The three functions by which the proved library asks for memory and gives it back, for a processor
- * for which the toolchain has none. What Rattle takes them for: its libc's src/heap.rt. */
+/* The three functions by which the proved library asks for memory and gives it back. What Rattle takes
+ * them for: its libc's src/heap.rt. */
 #include <stdbool.h>
 #include <stddef.h>
 #include <stdlib.h>
@@ -14,6 +14,10 @@ tried rattle_alloc(size_t bytes, size_t alignment);
 tried rattle_realloc(void *at, size_t kept, size_t bytes, size_t alignment);
 void rattle_dealloc(void *at);
 
+/* Behind each block is a cache line that nobody writes, so that no two clients, which different
+ * threads write, have a part on the same one. */
+enum { LINE = 64 };
+
 static char nothing;
 
 static tried tell(void *at) {
@@ -21,15 +25,16 @@ static tried tell(void *at) {
     return given;
 }
 
-/* The alignment divides 16, as that of malloc's blocks. No bytes are as many as the alignment, so that
- * a pointer comes. */
+/* The alignment divides 16, as that of malloc's blocks. There are less than 2^63 bytes, as in all that
+ * Rattle asks for. */
 tried rattle_alloc(size_t bytes, size_t alignment) {
-    return tell(malloc(bytes != 0 ? bytes : alignment));
+    (void)alignment;
+    return tell(malloc(bytes + LINE));
 }
 
 tried rattle_realloc(void *at, size_t kept, size_t bytes, size_t alignment) {
-    (void)kept;
-    return tell(realloc(at, bytes != 0 ? bytes : alignment));
+    (void)kept, (void)alignment;
+    return tell(realloc(at, bytes + LINE));
 }
 
 void rattle_dealloc(void *at) {

@@ -10,9 +10,9 @@ uint64_t ferretgold_memory(const ferretgold_config *config) {
     }
     const uint64_t shards = config->shards, clients = config->clients;
     const uint64_t slot = UINT64_C(8) * (7 + (uint64_t)config->room);
-    const uint64_t client = 488 + 72 * shards + 104 * (uint64_t)config->handles;
-    return shards * (145 + config->slots * slot) + clients * client +
-           (clients + 63) / 64 * 64 + 304;
+    const uint64_t client = 744 + 72 * shards + 104 * (uint64_t)config->handles;
+    return shards * (272 + config->slots * slot) + clients * client +
+           (clients + 63) / 64 * 64 + 560;
 }
 
 ferretgold_status ferretgold_config_for(uint64_t bytes, size_t value, uint32_t threads,

@@ -202,7 +202,7 @@ static void entries(void) {
     EXPECT(ferretgold_client_open(cache, &client), 0);
     EXPECT(ferretgold_client_close(cache, client), 0);
     EXPECT(ferretgold_close_keeping(cache, &closed), 0);
-    EXPECT(heap_bytes - was, 5712 + SHARDS * (33 + SLOTS * 8 * (7 + SMALL.room)));
+    EXPECT(heap_bytes - was, 5776 + SHARDS * (160 + SLOTS * 8 * (7 + SMALL.room)));
     slots(closed, before);
     sums(closed, &SMALL, usage, ROWS);
     refusals(closed);
