@@ -178,6 +178,7 @@ static void budgets(void) {
         {1 << 20, 15, 4, 2048, 2, 4, 5734 * 16},
         {1 << 20, 16, 1, 8192, 2, 1, 5734 * 16},
         {100000, 8, 7, 1024, 1, 1, 716 * 8},
+        {160000, 8, 8, 1024, 1, 2, 1433 * 8},
         {3888, 0, 1, 8, 1, 1, 5 * 8},
         {UINT64_MAX, 4096, 1, 65536, 512, 64, UINT64_C(2936012) * 4096}};
     ferretgold_config it = SMALL;
@@ -294,6 +295,23 @@ static void no_handle(ferretgold_client *it, ferretgold_handle handle) {
     EXPECT(ferretgold_value_len(it, handle, &length), 17);
     EXPECT(ferretgold_read_value(it, handle, &byte, 1, &length), 17);
     EXPECT(more.serial == 5 && key.w0 == 5 && length == 5 && freed && byte == 5, true);
+}
+
+/* The first handles of the first caches of a process: no call gives one of zeros, nor takes it. */
+static void first_handles(void) {
+    const ferretgold_handle zeros = {0, 0, 0, 0};
+    for (int k = 0; k < 3; k++) {
+        ferretgold_cache *cache = NULL;
+        ferretgold_client *it = NULL;
+        ferretgold_handle handle;
+        EXPECT(ferretgold_open(&SMALL, &cache), 0);
+        EXPECT(ferretgold_client_open(cache, &it), 0);
+        EXPECT(ferretgold_insert_pinned(it, &KEY, "", 0, 1, FERRETGOLD_LOW, NULL, &handle), 0);
+        EXPECT(handle.index + handle.serial + handle.client, 0);
+        no_handle(it, zeros);
+        EXPECT(ferretgold_client_close_releasing(cache, it), 0);
+        EXPECT(ferretgold_close(cache, NULL), 0);
+    }
 }
 
 /* What a client refuses of values, charges, priorities, slots; outputs that may be null. */
@@ -424,7 +442,8 @@ static void outlived(ferretgold_cache *cache, ferretgold_client *it, ferretgold_
     EXPECT(ferretgold_erase(it, &OTHER, NULL), 0);
 }
 
-/* More clients than a word has bits: each goes out once. Those that are spent go out last. */
+/* More clients than a word has bits: each goes out once. Those that are spent go out last, and the
+ * only one that is idle goes out wherever the last one was. */
 static void many_clients(void) {
     enum { MANY = 130 };
     ferretgold_config many = SMALL;
@@ -455,6 +474,12 @@ static void many_clients(void) {
     }
     EXPECT(ferretgold_client_open(cache, &more), 36);
     EXPECT(more == NULL, true);
+    for (int k = 0; k < MANY; k++) {
+        ferretgold_client *only = client[67 * k % MANY];
+        EXPECT(ferretgold_client_close(cache, only), 0);
+        EXPECT(ferretgold_client_open(cache, &more), 0);
+        EXPECT(more == only, true);
+    }
     for (int k = MANY - 1; k >= 0; k--) {
         EXPECT(ferretgold_close(cache, NULL), 39);
         EXPECT(ferretgold_client_close(cache, client[k]), 0);
@@ -538,6 +563,7 @@ void edges(void) {
     ferretgold_client *client[2] = {NULL, NULL};
     ferretgold_totals left = {1, 2, 3, 4};
     where = "edges";
+    first_handles();
     texts();
     configurations();
     opened();

@@ -162,7 +162,8 @@ static void refusals(void) {
         {false, 1000, 100, 5000, 2, 3, 21}, {false, 1000, 100, 16777217, 5000, 1, 19},
         {false, 1000, 100, SIZE_MAX, 5000, 1, 19}, {false, 1000, 100, 5000, 1, 1, 18},
         {false, 1000, 100, 0, 0, 1, 18}, {false, 1000, 4, 5000, 2, 1, 24},
-        {false, 1000, 5, 5000, 2, 1, 0}, {false, 1000, 999, 65 * FULL, 65, 1, 25},
+        {false, 1000, 5, 5000, 2, 1, 0}, {false, 1000, 6, 9000, 3, 1, 24},
+        {false, 1000, 7, 9000, 3, 1, 0}, {false, 1000, 999, 65 * FULL, 65, 1, 25},
         {true, 1000, 100, 5000, 1001, 1, 25}, {true, 1000, 100, 5000, 1000, 1, 0},
         {true, 1001, 100, 1, 1001, 1, 0}, {true, 1000, 100, 1, 1001, 1, 25},
         {false, UINT32_MAX, 100, 5000, UINT32_MAX, 1, 0}};
@@ -182,7 +183,8 @@ static void refusals(void) {
     }
 }
 
-/* Parts of a strict capacity: a piece's charge has to fit in a shard, and the whole one in all. */
+/* Parts of a strict capacity: a piece's charge has to fit in a shard, and the whole one in all; else
+ * what is there stays. */
 static void shards(void) {
     static const struct { uint64_t capacity; size_t length; uint32_t charge; int status; }
     rows[] = {{800, 1, 101, 25}, {800, 1, 100, 0}, {793, 1, 100, 0}, {800, 2 * FULL, 201, 25},
@@ -194,8 +196,10 @@ static void shards(void) {
         ferretgold_client *client;
         config.shards = 8;
         begin(&config, &cache, &client);
+        EXPECT(put(client, 11, 1, 9), FERRETGOLD_PLACED);
         EXPECT(ferretgold_put_large(client, &key, source, rows[k].length, rows[k].charge,
                                     FERRETGOLD_LOW, NULL), rows[k].status);
+        EXPECT(rows[k].status == 0 || got(client, 11) == 1, true);
         end(cache, client);
     }
 }
@@ -283,8 +287,8 @@ static void no_place(void) {
     static const struct { bool strict; uint32_t pinned, charge; size_t length; int status, came; }
     rows[] = {{false, 13, 1, 1, 0, 1}, {false, 12, 1, 1, 0, 0}, {false, 12, 1, 2 * FULL, 0, 1},
               {false, 10, 1, 3 * FULL, 0, 0}, {false, 10, 1, 4 * FULL, 0, 1},
-              {true, 13, 1, 1, 27, 2}, {true, 11, 1, 3 * FULL, 0, 1}, {true, 6, 150, 2, 26, 2},
-              {true, 6, 150, 1, 0, 0}};
+              {false, 0, 1, 16 * FULL, 0, 1}, {true, 13, 1, 1, 27, 2}, {true, 11, 1, 3 * FULL, 0, 1},
+              {true, 6, 150, 2, 26, 2}, {true, 6, 150, 1, 0, 0}};
     for (size_t k = 0; k < sizeof rows / sizeof *rows; k++) {
         const ferretgold_config config =
             sizes_of(16, ROOM, rows[k].strict, rows[k].strict ? 901 : 1 << 20);
@@ -353,6 +357,34 @@ static void second_try(void) {
     end(cache, client);
 }
 
+#ifndef FERRETGOLD_FEW_KEYS
+/* Pieces as a file may have them that an earlier library saved: with these keys and heads they are
+ * still their value. */
+static void saved(void) {
+    static const ferretgold_key places[] = {
+        {UINT64_C(0x456736498f65c4dc), UINT64_C(0xd0a7b7aa855c1112)},
+        {UINT64_C(0xff4c8dc83a21e3a1), UINT64_C(0xb510df8d02c6fd92)},
+        {UINT64_C(0x2b7eecb6740dca2a), UINT64_C(0xb01be10058d5dfb1)}};
+    struct { ferretgold_key key; uint64_t life, maker; uint32_t length, number; } head =
+        {{5, 0}, 1, UINT64_C(3) << 54 | 9, 9000, 0};
+    const ferretgold_config config = sizes_of(64, ROOM, false, 1 << 20);
+    ferretgold_cache *cache;
+    ferretgold_client *client;
+    begin(&config, &cache, &client);
+    make_value(5, head.length, 3, source);
+    for (; head.number < 3; head.number++) {
+        const size_t from = (size_t)head.number * FULL, rest = head.length - from;
+        const size_t length = rest < FULL ? rest : FULL;
+        memcpy(buffer, &head, sizeof head);
+        memcpy(buffer + sizeof head, source + from, length);
+        EXPECT(ferretgold_insert(client, &places[head.number], buffer, sizeof head + length, 1,
+                                 FERRETGOLD_LOW, NULL), 0);
+    }
+    EXPECT(got(client, 5), head.length);
+    end(cache, client);
+}
+#endif
+
 int main(int count, char **words) {
     make_pattern();
     all_lengths();
@@ -365,6 +397,9 @@ int main(int count, char **words) {
     no_place();
     gives_up();
     second_try();
+#ifndef FERRETGOLD_FEW_KEYS
+    saved();
+#endif
     few_keys();
     threads(count > 1 ? (unsigned)strtoul(words[1], NULL, 10) : 5);
     printf("large: %d faults\n", faults);
