@@ -280,7 +280,7 @@ ferretgold_status ferretgold_config_check(const ferretgold_config *config);
 /*
  * Opens a cache with no entries, and with all its clients. None is out yet.
  *
- * Allocates the table and all clients (ferretgold_memory). Costs a store for each word.
+ * Allocates the table and all clients (ferretgold_memory). Costs two stores for each word.
  *
  * Refuses BAD_SIZE, BAD_SLOTS, BAD_ROOM, BAD_CLIENTS, BAD_HANDLES, BAD_SHARDS, BAD_CAPACITY,
  * BAD_SERIALS, then OUT_OF_MEMORY. Nothing remains then.
@@ -468,8 +468,8 @@ FERRETGOLD_INLINE ferretgold_status ferretgold_value_len(ferretgold_client *clie
  * Copies the value to the front of a buffer of `capacity` bytes; `length` gets its length. The rest
  * of the buffer stays. `buffer` may be null if `capacity` is 0, and `length` may be null.
  *
- * Costs two loads for the length, and one for each eight bytes; of a standalone entry a copy.
- * Bound: W + 2.
+ * Costs a load for the length, and one for each eight bytes; of a standalone entry a copy.
+ * Bound: W + 1.
  *
  * Refuses NO_HANDLE; TOO_SHORT, and then `length` gets how many bytes the value has.
  */
