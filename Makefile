@@ -4,7 +4,7 @@
 #                                       and the Rust crate; DESTDIR= goes before all paths
 #   make dist                           out/ferretgold-VERSION-MACHINE.tar.gz: the same for whoever has
 #                                       no Rattle, with the verdict's line and each file's SHA-256
-# Each with TARGET=aarch64-unknown-linux-gnu for that processor, once `tests/gate-library TARGET` has run.
+# Each with TARGET=aarch64-unknown-linux-gnu for that processor, once `tests/c/library.sh TARGET` has run.
 PREFIX ?= /usr/local
 INCLUDEDIR ?= $(PREFIX)/include
 LIBDIR ?= $(PREFIX)/lib
@@ -13,7 +13,7 @@ DESTDIR ?=
 TARGET ?=
 OUT ?= src/out$(TARGET:%=/%)
 DIST ?= out
-# Of what `rt lib` prints the line that begins with logic=proved; tests/gate-library keeps it here.
+# Of what `rt lib` prints the line that begins with logic=proved; tests/c/library.sh keeps it here.
 VERDICT ?= crates/hcc_c/out$(TARGET:%=/%)/verdict
 SOURCE_DATE_EPOCH ?= $(shell git log -1 --format=%ct 2> /dev/null || echo 0)
 

@@ -1,5 +1,5 @@
 //! The functions of ferretgold.h, _closed.h, _image.h, _large.h and _file.h, as C has them.
-//! tests/wrappers compares the two.
+//! tests/static/check.py compares the two.
 
 use std::ffi::c_void;
 use std::os::raw::c_char;

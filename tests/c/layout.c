@@ -1,5 +1,5 @@
 /* The layout that programs are compiled against: it changes only with intent. That the library has
- * the same, tests/layout looks. */
+ * the same, tests/static/check.py looks. */
 #include "ferretgold_closed.h"
 #include "ferretgold_raw.h"
 

@@ -1,7 +1,7 @@
 /* Plays traces of calls through ferretgold.h alone, and compares each answer with the one recorded
  * beside its call; then tries what no trace shows (edges.c, closed.c, image.c). It is what
- * tests/plant-c tries planted bugs by.
- * Usage: play FILE.. where a file has cases as tests/calls has, and a letter more:
+ * tests/c/plant.py tries planted bugs by.
+ * Usage: play FILE.. where a file has cases as tests/program/calls has, and a letter more:
  *     c T k0 k1 U|N n     reads a key's value to a buffer of n bytes: value V, short LENGTH, miss
  */
 #include "expect.h"

@@ -1,7 +1,7 @@
 // Plays traces of calls through ferretgold.hpp, and compares each answer with the one recorded
-// beside its call; then moves the wrapper's objects about. It is what tests/plant-c tries planted
+// beside its call; then moves the wrapper's objects about. It is what tests/c/plant.py tries planted
 // bugs by.
-// Usage: play FILE.. where a file has cases as tests/calls has
+// Usage: play FILE.. where a file has cases as tests/program/calls has
 #include "ferretgold.hpp"
 #include "heap.h"
 

@@ -6,7 +6,7 @@ import shutil
 RATTLE = os.path.realpath(shutil.which("rattle") or "/usr/local/bin/rattle")
 KIT = os.path.dirname(os.path.dirname(RATTLE))
 PARTS = ("src", "specs", "proofs")
-FOLDERS = ("edits", "must-fail")  # tried by tests/try-edits; tried by rt ci
+FOLDERS = ("edits", "must-fail")  # tried by tests/edits/try.py; tried by rt ci
 
 
 class Crate:

@@ -7,7 +7,7 @@ An edit in must-fail/ has the words 'rt ci' in their place, which tries it."""
 import hashlib
 
 FILE = "edits.txt"
-HEAD = "# The verdicts of tests/try-edits, which writes this file: docs/HACKING.md says what they mean.\n"
+HEAD = "# The verdicts of tests/edits/try.py, which writes this file: docs/HACKING.md says what they mean.\n"
 OF_GATE = ("rt", "ci")
 
 

@@ -1,0 +1,103 @@
+#!/usr/bin/env bash
+# Tests caches that go to files and come from them: rows, damage, what fails, mutated files; from C++ and
+# from Rust, also where streams fail and functions throw or panic; large values after warm starts; C and
+# C++ also under AddressSanitizer and UndefinedBehaviorSanitizer; and a script that reads and writes the
+# format by its description alone. It wants crates/hcc_c/out/libhcc_c.a, as `rt lib` in crates/hcc_c makes
+# it, and skips where there is no xxhash.h.
+# Usage: tests/c/file.sh [FILES]     of mutated ones in each program: 100,000 by default
+set -u
+cd "$(dirname "$0")/../.." || exit 2
+[[ -f crates/hcc_c/out/libhcc_c.a ]] || { echo "file: no library: run 'rt lib' in crates/hcc_c"; exit 2; }
+
+files=${1:-100000}
+folder=$(mktemp -d)
+trap 'rm -rf "$folder"' EXIT
+failed=0
+program=("$folder/file")
+wrap=-Wl,--wrap=malloc,--wrap=realloc,--wrap=aligned_alloc,--wrap=free
+
+# Runs a check: tries NAME WORD..
+tries() {
+    local name=$1
+    shift
+    "$@" > "$folder/out" 2>&1 && return
+    echo "failed: $name"
+    head -n 20 "$folder/out"
+    failed=$((failed + 1))
+}
+
+# Builds a library of its own, with sanitizers if they are named: library SANITIZERS WORD..
+library() {
+    make -s -C src OUT="$folder/lib" SANITIZE="$1" CFLAGS="-O2 -g ${*:2}" "$folder"/lib/libferretgold{,_file}.a
+}
+
+# Builds a program with it: builds NAME WORD..
+builds() {
+    "${@:2}" -O2 -g -Wall -Wextra -Wpedantic -Werror "${checks[@]}" -Iinclude -pthread \
+        "$folder"/lib/libferretgold{_file,}.a -o "$folder/$1"
+}
+
+# The script reads what the library wrote, and the library loads what the script wrote.
+is_as_described() {
+    "${program[@]}" save "$folder/saved" && tests/c/file_format.py read "$folder/saved" > "$folder/read" || return
+    [[ $(wc -l < "$folder/read") == 19 ]] && tests/c/file_format.py write "$folder/written" < "$folder/read" || return
+    cmp "$folder/saved" "$folder/written" && "${program[@]}" load "$folder/written" | sort > "$folder/loaded" || return
+    sort "$folder/read" | cmp - "$folder/loaded" || return
+    tests/c/file_format.py write "$folder/newer" 2 < "$folder/read" && [[ $("${program[@]}" load "$folder/newer") == "refused: 5" ]]
+}
+
+# Whether the compiler can sanitize here.
+sanitizes() {
+    echo 'int main(void) { return 0; }' > "$folder/none.c"
+    cc -fsanitize=address,undefined "$folder/none.c" -o "$folder/none" 2> /dev/null && "$folder/none"
+}
+
+in_cpp() {
+    cc -std=c11 -c tests/c/heap.c -o "$folder/heap.o" \
+        && builds in_cpp c++ -std=c++17 "$@" tests/c/file.cpp "$folder/heap.o" "$wrap" && "$folder/in_cpp" "$folder/streamed"
+}
+
+# The crate with its feature; what memory it leaves AddressSanitizer says, where the C compiler has it.
+in_rust() {
+    local words=(--edition 2021 -O -D warnings) sanitizer
+    rustc "${words[@]}" --cfg 'feature="file"' --crate-type rlib --crate-name ferretgold rust/src/lib.rs \
+        --out-dir "$folder" || return
+    rustc "${words[@]}" --test rust/tests/file.rs --extern "ferretgold=$folder/libferretgold.rlib" \
+        -C "link-args=$folder/lib/libferretgold_file.a $folder/lib/libferretgold.a" -o "$folder/in_rust" || return
+    sanitizer=$(readlink -f "$(cc -print-file-name=libasan.so)")
+    "$folder/in_rust" && { [[ ! -f $sanitizer ]] || LD_PRELOAD=$sanitizer "$folder/in_rust"; }
+}
+
+# Large values after warm starts; with a library in which pieces have few keys they meet all the time.
+large_values() {
+    builds large_file cc -std=c11 "$@" tests/c/large_file.c tests/c/large_values.c && "$folder/large_file"
+}
+
+# All of it, with sanitizers if they are named.
+tries_all() {
+    checks=(${1:+-fsanitize="$1" -fno-sanitize-recover=all})
+    tries "the library, $1" library "$1"
+    tries "building, $1" builds file cc -std=c11 tests/c/file.c tests/c/heap.c "$wrap"
+    tries "rows, $1" "${program[@]}" rows
+    tries "mutated files, $1" "${program[@]}" fuzz "$files" 1
+    tries "the format, $1" is_as_described
+    tries "C++, $1" in_cpp
+    tries "C++ without exceptions, $1" in_cpp -fno-exceptions -fno-rtti
+    [[ $1 ]] || tries "Rust" in_rust
+    tries "large values, $1" large_values
+    rm -rf "$folder/lib"
+    tries "the library, of few keys, $1" library "$1" -DFERRETGOLD_FEW_KEYS=64
+    tries "large values, of few keys, $1" large_values -DFERRETGOLD_FEW_KEYS=64
+    rm -rf "$folder/lib"
+}
+
+echo '#include <xxhash.h>' | cc -E -x c - > "$folder/out" 2>&1 \
+    || { echo "file: SKIPPED: there is no xxhash.h: tests/needs.sh installs it"; exit 0; }
+tries_all ""
+if sanitizes; then
+    tries_all address,undefined
+else
+    echo "file: this C compiler has no sanitizers, so it ran without them"
+fi
+echo "file: $failed failed"
+[[ $failed == 0 ]]
