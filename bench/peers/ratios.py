@@ -2,10 +2,10 @@
 """Prints what a comparison came to: for each case, value size and number of threads the median of the
 rounds of each cache, in nanoseconds of a thread for an operation, and beside the other caches how many
 times as fast as they this project's is.
-Usage: ratios FILE..             with the JSON lines that peers prints
-       ratios --medians FILE..   prints the medians, as JSON lines that can be given in their place
-       ratios --front FILE..     prints the front page's table, of one thread
-       ratios --all FILE..       prints the guide's table, of one thread"""
+Usage: ratios.py FILE..             with the JSON lines that peers prints
+       ratios.py --medians FILE..   prints the medians, as JSON lines that can be given in their place
+       ratios.py --front FILE..     prints the front page's table, of one thread
+       ratios.py --all FILE..       prints the guide's table, of one thread"""
 import json
 import statistics
 import sys

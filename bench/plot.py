@@ -1,7 +1,7 @@
 #!/usr/bin/env python3
 """Draws what was measured: for each case an SVG of a panel for each value size, with the operations per
 second of each cache over the number of threads, the median of its rounds. It wants gnuplot.
-Usage: bench/plot FOLDER FILE..   with the JSON lines of bench/peers"""
+Usage: bench/plot.py FOLDER FILE..   with the JSON lines of bench/peers"""
 import json
 import os
 import statistics

@@ -1,7 +1,7 @@
 #!/usr/bin/env bash
 # Prints a script of 100,000 events, all of them allowed: 64 clients in turn place an entry in
 # one of 13 slots, read and use it, and another client looks it up and hides it before it is freed.
-# For measuring: tests/many-events > FILE; time crates/hcc_play/out/hcc_play core --slots 16 --clients 64 < FILE
+# For measuring: bench/many-events.sh > FILE; time crates/hcc_play/out/hcc_play core --slots 16 --clients 64 < FILE
 awk 'BEGIN {
     most = 100000
     for (client = 0; client < 64; client++) say("start " client)

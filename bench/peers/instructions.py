@@ -1,7 +1,7 @@
 #!/usr/bin/env python3
 """Counts the instructions of an operation, by valgrind: those of a run with more operations less those of
 one with fewer, over the difference. One thread.
-Usage: instructions PROGRAM [CASE]..   with a program that make built here; without cases, all of them"""
+Usage: instructions.py PROGRAM [CASE]..   with a program that make built here; without cases, all of them"""
 import re
 import subprocess
 import sys

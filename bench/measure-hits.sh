@@ -10,7 +10,7 @@
 # less. Threads that hit one key hinder one another: where they don't run all at once, their hits cost
 # less.
 # It wants the tests as `rt ci` or `rt test` builds them, and is no part of the gate.
-# Usage: tests/measure-hits [RUNS] [PROGRAM]
+# Usage: bench/measure-hits.sh [RUNS] [PROGRAM]
 set -uo pipefail
 export LC_ALL=C
 cd "$(dirname "$0")/.." || exit 2
