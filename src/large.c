@@ -303,8 +303,8 @@ static bool are_there(const large_value *it, size_t count) {
     return true;
 }
 
-/* Inserts all pieces, the first one last. What isn't whole then is erased, with whatever else is
- * under the first one's key: that one may be behind it. */
+/* Inserts all pieces, the first one last. What isn't whole then is erased, and nothing of a value that
+ * another thread put meanwhile. */
 static ferretgold_status place_all(const large_value *it, const uint8_t *value, uint32_t charge,
                                    ferretgold_priority priority) {
     const uint32_t count = (uint32_t)pieces(it, it->head.length);
@@ -317,7 +317,7 @@ static ferretgold_status place_all(const large_value *it, const uint8_t *value, 
         }
     }
     if (!are_there(it, count)) {
-        erase_pieces(it, 0, count);
+        erase_rest(it);
         return FERRETGOLD_MISS;
     }
     return FERRETGOLD_OK;

@@ -99,7 +99,7 @@ def speed_faults():
     """The tables of speed are those that the measured medians make."""
     found = []
     for page, table in zip(PAGES, ("--front", "--all")):
-        words = ["bench/peers/ratios", table, MEDIANS]
+        words = ["bench/peers/ratios.py", table, MEDIANS]
         ran = subprocess.run(words, capture_output=True, text=True, check=False)
         if ran.returncode or ran.stdout not in read(page):
             found.append(f"{page}: its table of speed isn't what `{' '.join(words)}` prints")

@@ -4,6 +4,7 @@
 #define PEERS_CACHES_HPP
 
 #include "ferretgold.hpp"
+#include "ferretgold_file.hpp"
 #include "ferretgold_large.h"
 
 #include <rocksdb/cache.h>
@@ -28,6 +29,7 @@ struct sizes {
     std::uint32_t value_size; // in bytes, a multiple of 8
     std::uint32_t threads;
     std::uint32_t handles; // that a thread holds at once, at most
+    std::uint64_t seed;    // of keys, where a cache takes one: 0 for none
 };
 
 // The most bytes of a single value, in this project's cache and in its twin.
@@ -52,7 +54,7 @@ inline ferretgold_config config_of(const sizes &sizes) {
     config.marks = false;
     config.capacity = sizes.capacity;
     config.serials = FERRETGOLD_MOST_SERIALS;
-    config.seed = 0x5eed;
+    config.seed = sizes.seed;
     return config;
 }
 
@@ -219,7 +221,7 @@ class twin {
         asked.handles = sizes.handles;
         asked.shards = sizes.shards;
         asked.capacity = sizes.capacity;
-        asked.seed = 0x5eed;
+        asked.seed = sizes.seed;
         cache_ = twin_open(&asked);
     }
     ~twin() { must(twin_close(cache_), "the twin's books"); }

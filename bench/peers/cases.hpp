@@ -1,5 +1,5 @@
 // cases.hpp - what is measured: each case fills a cache, and then each of its threads makes so many
-// operations on it.
+// operations on it; or it saves a cache, or begins with what was saved.
 #ifndef PEERS_CASES_HPP
 #define PEERS_CASES_HPP
 
@@ -17,7 +17,20 @@
 
 namespace peers {
 
-enum class kind { hits, get, misses, mix, evict, pinned, hot };
+enum class kind {
+    hits_uniform,
+    get,
+    misses,
+    mix,
+    evict,
+    pinned,
+    hot,
+    hits_zipf,
+    blocks_seeded,
+    blocks_unseeded,
+    save,
+    load
+};
 
 struct named_case {
     const char *name;
@@ -25,10 +38,22 @@ struct named_case {
 };
 
 constexpr named_case all_cases[] = {
-    {"hits-uniform", kind::hits}, {"get", kind::get},     {"misses", kind::misses},
-    {"mix", kind::mix},           {"evict", kind::evict}, {"pinned", kind::pinned},
+    {"hits-uniform", kind::hits_uniform},
+    {"get", kind::get},
+    {"misses", kind::misses},
+    {"mix", kind::mix},
+    {"evict", kind::evict},
+    {"pinned", kind::pinned},
     {"hot", kind::hot},
+    {"hits-zipf", kind::hits_zipf},
+    {"blocks-seeded", kind::blocks_seeded},
+    {"blocks-unseeded", kind::blocks_unseeded},
+    {"save", kind::save},
+    {"load", kind::load},
 };
+
+// Whether a case is of a warm start: on one thread, and of this project's cache alone.
+constexpr bool is_warm(kind is) { return is == kind::save || is == kind::load; }
 
 // What came of a round: all threads' operations, and the seconds from the first to the last.
 struct outcome {
@@ -57,6 +82,13 @@ class numbers {
 
 // The key of a block: which file, and which of its blocks.
 inline ferretgold_key key_of(std::uint64_t file, std::uint64_t block) { return {file, block}; }
+
+// The key that hcc_block gives a block, where all files have 1,024 blocks and the numbers go through
+// one file after another. Without a seed those of several files lie on top of one another.
+inline ferretgold_key block_key_of(std::uint64_t number) {
+    std::uint64_t file = number / 1024, index = number % 1024;
+    return {index << 32 | file, file << 32 | index};
+}
 
 // The key numbers that a thread asks for, drawn beforehand. They come round.
 class draws {
@@ -125,8 +157,7 @@ template <class Cache> class bench {
         : is_(is), sizes_(sizes), value_(sizes.value_size, 0x5a), cache_(sizes) {
         for (std::uint32_t thread = 0; thread < sizes.threads; ++thread) {
             readers_.emplace_back(cache_, sizes);
-            draws_.push_back(is == kind::mix ? draws::zipf(thread, 4 * sizes.capacity)
-                                             : draws::uniform(thread, loaded()));
+            draws_.push_back(drawn_for(thread));
         }
         next_.assign(sizes.threads, 0);
         fill();
@@ -172,14 +203,34 @@ template <class Cache> class bench {
     // How many entries are there to be hit: half of the capacity, so that all have a place.
     std::uint32_t loaded() const { return is_ == kind::hot ? 1 : sizes_.capacity / 2; }
 
+    draws drawn_for(std::uint32_t thread) const {
+        switch (is_) {
+        case kind::mix:
+            return draws::zipf(thread, 4 * sizes_.capacity);
+        case kind::hits_zipf:
+            return draws::zipf(thread, loaded());
+        default:
+            return draws::uniform(thread, loaded());
+        }
+    }
+
+    // The key of an entry that is there to be hit.
+    ferretgold_key loaded_key(std::uint64_t number) const {
+        bool is_block = is_ == kind::blocks_seeded || is_ == kind::blocks_unseeded;
+        return is_block ? block_key_of(number) : key_of(loaded_file, number);
+    }
+
     void fill() {
         switch (is_) {
-        case kind::hits:
+        case kind::hits_uniform:
         case kind::get:
         case kind::misses:
         case kind::hot:
+        case kind::hits_zipf:
+        case kind::blocks_seeded:
+        case kind::blocks_unseeded:
             for (std::uint32_t number = 0; number < loaded(); ++number) {
-                readers_[0].insert(key_of(loaded_file, number), value_.data());
+                readers_[0].insert(loaded_key(number), value_.data());
             }
             break;
         case kind::mix:
@@ -191,6 +242,9 @@ template <class Cache> class bench {
                 readers_[number % sizes_.threads].pin(key_of(loaded_file, number), value_.data());
             }
             break;
+        case kind::save:
+        case kind::load:
+            break; // a warm_start's
         }
     }
 
@@ -202,8 +256,9 @@ template <class Cache> class bench {
         made.operations = operations;
         for (std::uint64_t number = first; number < first + operations; ++number) {
             switch (is_) {
-            case kind::hits:
+            case kind::hits_uniform:
             case kind::hot:
+            case kind::hits_zipf:
                 made.hits += reader.read(key_of(loaded_file, drawn[number]), buffer);
                 break;
             case kind::get:
@@ -221,9 +276,22 @@ template <class Cache> class bench {
                 }
                 break;
             }
+            case kind::blocks_seeded:
+            case kind::blocks_unseeded: {
+                ferretgold_key key = block_key_of(drawn[number]);
+                if (reader.read(key, buffer)) {
+                    ++made.hits;
+                } else {
+                    reader.insert(key, value_.data());
+                }
+                break;
+            }
             case kind::evict:
             case kind::pinned:
                 reader.insert(key_of(first_new_file + thread, number), value_.data());
+                break;
+            case kind::save:
+            case kind::load:
                 break;
             }
         }
@@ -240,6 +308,80 @@ template <class Cache> class bench {
     std::vector<typename Cache::reader> readers_;
     std::vector<draws> draws_;
     std::vector<std::uint64_t> next_;
+};
+
+// This project's cache once it was full and was closed, or as it begins with what was saved of it.
+// The file is in memory, and an operation is one of its entries.
+class warm_start {
+  public:
+    warm_start(kind is, const sizes &sizes) : is_(is), config_(config_of(sizes)) {
+        ferretgold::cache cache(config_);
+        {
+            std::vector<std::uint8_t> value(sizes.value_size, 0x5a);
+            ferretgold::client client = cache.open_client();
+            for (std::uint32_t number = 0; number < 2 * sizes.slots; ++number) {
+                (void)client.insert(key_of(loaded_file, number), value.data(), value.size(), 1);
+            }
+        }
+        ferretgold::closed closed = cache.close_keeping();
+        entries_ = closed.totals().slot_count;
+        save(closed);
+    }
+
+    // Saves or loads all entries, until there were so many, on a thread of its own: what is left of a
+    // cache only the thread that closed it may read.
+    outcome play(std::uint64_t operations, std::uint64_t round) {
+        outcome made;
+        std::thread([&] {
+            stay_on(round);
+            ferretgold::cache cache = load();
+            ferretgold::closed closed = cache.close_keeping();
+            do {
+                clock::time_point begun = clock::now();
+                if (is_ == kind::save) {
+                    save(closed);
+                } else {
+                    cache = load();
+                }
+                made.seconds += std::chrono::duration<double>(clock::now() - begun).count();
+                made.operations += entries_;
+                cache = ferretgold::cache();
+            } while (made.operations < operations);
+        }).join();
+        return made;
+    }
+
+  private:
+    using clock = std::chrono::steady_clock;
+
+    void save(const ferretgold::closed &closed) {
+        file_.clear();
+        ferretgold::save(closed, [this](const void *bytes, std::size_t count) {
+            const auto *first = static_cast<const std::uint8_t *>(bytes);
+            file_.insert(file_.end(), first, first + count);
+            return true;
+        });
+    }
+
+    // A cache of the same sizes, which has all of the entries.
+    ferretgold::cache load() const {
+        std::size_t at = 0;
+        ferretgold_loaded loaded{};
+        auto read = [&](void *bytes, std::size_t count, bool &) {
+            std::size_t has = std::min(count, file_.size() - at);
+            std::memcpy(bytes, file_.data() + at, has);
+            at += has;
+            return has;
+        };
+        ferretgold::cache cache = ferretgold::load(config_, read, &loaded);
+        must(loaded.left == entries_, "beginning with all entries");
+        return cache;
+    }
+
+    kind is_;
+    ferretgold_config config_;
+    std::vector<std::uint8_t> file_;
+    std::uint64_t entries_ = 0;
 };
 
 } // namespace peers

@@ -10,8 +10,10 @@
 //
 // An option that is left out stands for all there are, but for the cache ferretgold-large, which plays
 // all but `pinned` by the calls for large values: then sizes go up to 65,536 bytes, and those above
-// 4,096 leave out ferretgold and its twin. Each thread makes as many operations a round
-// as --operations says; by 0, the default, as many as take the first cache 40 ms, or another 200 ms.
+// 4,096 leave out ferretgold and its twin. `blocks-unseeded` leaves out the caches that always spread
+// keys; `save` and `load` leave out all but ferretgold, and all numbers of threads but one. Each thread
+// makes as many operations a round as --operations says; by 0, the default, as many as take the first
+// cache 40 ms, or another 200 ms.
 #include "cases.hpp"
 
 #include <algorithm>
@@ -28,6 +30,7 @@ namespace {
 using namespace peers;
 
 constexpr std::uint32_t slots = 1 << 14;
+constexpr std::uint64_t seed = 0x5eed;
 constexpr double round_seconds = 0.04;
 // A slower cache may take so many times as long.
 constexpr std::uint64_t longest = 5;
@@ -69,6 +72,15 @@ std::uint64_t value_size_of(const std::string &word) {
     return bytes;
 }
 
+std::string cache_of(const std::string &word) {
+    const std::string all[] = {ferret::name(), twin::name(), ferret_large::name(),
+                               hyper_clock::name(), lru::name()};
+    if (std::find(std::begin(all), std::end(all), word) == std::end(all)) {
+        stop("there is no cache " + word);
+    }
+    return word;
+}
+
 std::uint64_t power_of_two(const std::string &word, std::uint64_t most) {
     std::uint64_t number = number_of(word, 1, most);
     if ((number & (number - 1)) != 0) {
@@ -84,7 +96,7 @@ options options_of(int count, char **words) {
         if (name == "--case") {
             asked.cases.push_back(word);
         } else if (name == "--cache") {
-            asked.caches.push_back(word);
+            asked.caches.push_back(cache_of(word));
         } else if (name == "--value-size") {
             asked.value_sizes.push_back(value_size_of(word));
         } else if (name == "--threads") {
@@ -116,14 +128,14 @@ struct player {
     std::string name;
 };
 
-template <class Cache> struct player_of : player {
+template <class Cache, class Bench = bench<Cache>> struct player_of : player {
     player_of(kind is, const sizes &sizes) : bench_(is, sizes) { name = Cache::name(); }
     outcome play(std::uint64_t operations, std::uint64_t round) override {
         return bench_.play(operations, round);
     }
 
   private:
-    bench<Cache> bench_;
+    Bench bench_;
 };
 
 using players = std::vector<std::unique_ptr<player>>;
@@ -134,28 +146,43 @@ struct maker {
     std::unique_ptr<player> (*make)(kind, const sizes &);
 };
 
-template <class Cache> maker maker_of() {
+template <class Cache, class Bench = bench<Cache>> maker maker_of() {
     return {Cache::name(), [](kind is, const sizes &sizes) -> std::unique_ptr<player> {
-                return std::make_unique<player_of<Cache>>(is, sizes);
+                return std::make_unique<player_of<Cache, Bench>>(is, sizes);
             }};
 }
 
-// Those of the caches that are asked for and can be played so.
-std::vector<maker> makers_of(const options &asked, kind is, const sizes &sizes) {
+// The caches that can be played so.
+std::vector<maker> makers_of(kind is, const sizes &sizes) {
+    bool is_single = sizes.value_size <= most_bytes;
     std::vector<maker> all;
-    if (sizes.value_size <= most_bytes) {
+    if (is_warm(is)) {
+        if (is_single && sizes.threads == 1) {
+            all.push_back(maker_of<ferret, warm_start>());
+        }
+        return all;
+    }
+    if (is_single) {
         all = {maker_of<ferret>(), maker_of<twin>()};
     }
-    if (!asked.caches.empty() && is != kind::pinned) {
-        all.push_back(maker_of<ferret_large>());
+    if (is != kind::blocks_unseeded) {
+        if (is != kind::pinned) {
+            all.push_back(maker_of<ferret_large>());
+        }
+        all.push_back(maker_of<hyper_clock>());
+        all.push_back(maker_of<lru>());
     }
-    all.push_back(maker_of<hyper_clock>());
-    all.push_back(maker_of<lru>());
+    return all;
+}
+
+// Those of them that are asked for.
+std::vector<maker> makers_of(const options &asked, kind is, const sizes &sizes) {
     std::vector<maker> some;
-    std::copy_if(all.begin(), all.end(), std::back_inserter(some),
-                 [&asked](const maker &it) { return is_asked(asked.caches, it.name); });
-    if (some.empty()) {
-        stop("there is no such cache");
+    for (maker &it : makers_of(is, sizes)) {
+        bool is_usual = it.name != ferret_large::name();
+        if (asked.caches.empty() ? is_usual : is_asked(asked.caches, it.name)) {
+            some.push_back(std::move(it));
+        }
     }
     return some;
 }
@@ -207,6 +234,9 @@ void print(const player &of, const char *case_name, const sizes &sizes, std::uin
 void compare(const options &asked, const named_case &of, const sizes &sizes) {
     std::vector<maker> makers = makers_of(asked, of.is, sizes);
     std::uint64_t operations = asked.operations;
+    if (makers.empty()) {
+        return;
+    }
     players all;
     for (std::uint64_t round = 0; round < asked.rounds; ++round) {
         if (round % rounds_together == 0) {
@@ -252,6 +282,7 @@ int main(int count, char **words) {
                 sizes.value_size = static_cast<std::uint32_t>(value_size);
                 sizes.threads = static_cast<std::uint32_t>(threads);
                 sizes.handles = slots;
+                sizes.seed = of.is == kind::blocks_unseeded ? 0 : seed;
                 compare(asked, of, sizes);
             }
         }

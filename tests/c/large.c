@@ -399,6 +399,7 @@ int main(int count, char **words) {
     second_try();
 #ifndef FERRETGOLD_FEW_KEYS
     saved();
+    meetings();
 #endif
     few_keys();
     threads(count > 1 ? (unsigned)strtoul(words[1], NULL, 10) : 5);

@@ -35,6 +35,7 @@ long long got(ferretgold_client *client, uint64_t key);
 ferretgold_inserted put(ferretgold_client *client, uint64_t key, size_t length, uint8_t variant);
 
 void few_keys(void);
+void meetings(void);
 void threads(unsigned seconds);
 
 #endif

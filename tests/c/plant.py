@@ -39,9 +39,10 @@ CHANCE = "by chance: "
 PLAYS = ["tests/c/play.c", "tests/c/edges.c", "tests/c/closed.c", "tests/c/image.c"]
 CPP = ["tests/c/play.cpp", "tests/c/closed.cpp"]
 STREAMS = ["tests/c/file.cpp"]
-LARGE = ["tests/c/large.c", "tests/c/large_keys.c", "tests/c/large_threads.c", "tests/c/large_values.c"]
+LARGE = [f"tests/c/large{it}.c" for it in ("", "_keys", "_meetings", "_threads", "_values")]
 PROVED = TOP / "crates/hcc_c/out/libhcc_c.a"
 WRAP = "-Wl,--wrap=malloc,--wrap=realloc,--wrap=aligned_alloc,--wrap=free"
+MEET = "-Wl," + ",".join(f"--wrap=ferretgold_raw_{it}" for it in ("get", "insert", "erase"))
 MET = "ferretgold: two threads use client 0 at once: ferretgold_usage and ferretgold_insert_pinned\n"
 TRACES = [TOP / "tests/program/calls", TOP / "tests/c/calls"]
 WARN = ["-Wall", "-Wextra", "-Wpedantic", "-Werror"]
@@ -414,7 +415,7 @@ class Trials:
             program = here / f"large{few}"
             if not program.exists():
                 subprocess.run([*words, *self.keys(few), "-o", program, *(self.test(few, it) for it in LARGE),
-                                here / "src/ferretgold.c", here / "src/large.c", *self.least], check=True)
+                                here / "src/ferretgold.c", here / "src/large.c", *self.least, MEET], check=True)
             if not self.ends(bug, 60, [program, seconds])[0]:
                 return False
         return True

@@ -10,7 +10,7 @@ from definitions import definitions_in
 # What users call first; what it stands on; then the programs and what they stand on.
 ORDER = (
     "hcc_cache hcc_block hcc_c hcc_shard hcc_charge hcc_table hcc_rule hcc_core hcc_word "
-    "hcc_player hcc_play hcc_bench"
+    "hcc_player hcc_play"
 ).split()
 MARK = re.compile(r"^\{\{(clause|spec) (\w+) (\S+) (.+)\}\}$")
 GENERATED = "<!-- tests/static/guarantees.py writes this page: change docs/guarantees.front.md, or the source. -->"

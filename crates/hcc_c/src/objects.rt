@@ -273,7 +273,7 @@ impl ImagePlace {
 
 fn crosses<T: Send>(_x: &T) {}
 
-/// A cache and a client may go to other threads. Nothing calls this: it is the compiler that judges.
+/// A cache and a client may go to other threads. Nothing calls this: the compiler judges it.
 pub fn objects_cross(cache: &CacheObject, client: &ClientObject) {
     crosses(cache);
     crosses(client);

@@ -1,5 +1,5 @@
 //! Hits to be measured: reads of values that are there, again and again, by one thread or by four
-//! at once. `tests/measure-hits` takes the time.
+//! at once. `bench/measure-hits.sh` takes the time.
 ghost use Rattle.std.specs.Prelude.{◌≡◌, ℕ, Some, IfOk, IsSome, length, slice_get};
 ghost use Rattle.std.specs.Thread.{IsSync};
 ghost use Rattle.hcc_cache.specs.Clients.{held_of};
@@ -15,8 +15,8 @@ use std::process::Abort;
 use std::test::Fail;
 use std::thread::{Threads, map_vec};
 
-/// How many hits each thread makes, and a tenth of that for long values. `tests/measure-hits` reads
-/// it here.
+/// How many hits each thread makes, and a tenth of that for long values. `bench/measure-hits.sh`
+/// reads it here.
 const HITS: u64 = 100_000;
 
 /// How many keys each client inserts, and how many bytes a value has at most.
