@@ -84,7 +84,7 @@ class Edit:
         self.key = f"{crate.name}/{self.name}"
         self.is_of_gate = os.path.basename(os.path.dirname(file)) == "must-fail"
         self.pairs, self.symbols, self.digest = pairs_of(file), [], ""
-        self.verdict, self.said = None, ""
+        self.verdict, self.said, self.goals = None, "", set()
         self.texts = {}
         for path in {it[0] for it in self.pairs}:
             if os.path.isfile(f"{crate.folder}/{path}"):

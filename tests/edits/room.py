@@ -16,6 +16,9 @@ GOAL = re.compile(r"note: (?:\./)?src/\S+: it is not proved that |note: (?:\./)?
 CALLEE = re.compile(r"it calls|it passes|a call of|wait for a callee")
 PROOF = re.compile(r"(?:\./)?(proofs/\S+?):\d+:\d+: error")
 FUNCTION = re.compile(r"fn (\S+): (.*)")
+NAMED = re.compile(r"\(`(\S+?)`\)")
+UNFOUND = re.compile(r"`search` did not prove (`.*)")
+IN_PROOF = re.compile(r"error: `(\S+?)`")
 CALLED = re.compile(r"`\w+?::(\S+)`")
 
 
@@ -103,6 +106,30 @@ def judged_alone(symbol, line, ended, notes, lines):
     if own or "`search` did not prove `" in ended:
         return "refused", (own or [line])[0]
     return ("names", errors[0]) if errors else ("doubt", line)
+
+
+def goals_in(said, symbols):
+    """The goals of these functions that a check left unproved: of each its function and its clause, or
+    what else had to hold there."""
+    found, notes = set(), []
+    for line in said.split("\n"):
+        notes += NAMED.findall(line) if GOAL.match(line) else []
+        at = FUNCTION.match(line)
+        if at:
+            unfound = UNFOUND.search(at[2])
+            notes += re.findall(r"`(\S+?)`", unfound[1]) if unfound else []
+            found |= {(it, clause_of(goal)) for it in symbols if at[1].endswith(f"::{it}") for goal in notes}
+            notes = []
+        elif at := PROOF.match(line):
+            goal = IN_PROOF.search(line)
+            found |= {(it, clause_of(goal[1])) for it in symbols if goal and f"/{it.replace('::', '/')}/" in f"/{at[1]}"}
+    return found
+
+
+def clause_of(goal):
+    """What a goal's name says that it is of: a clause by its name, else the goal without its path."""
+    clause = goal.rpartition("-clause-")
+    return f"clause {clause[2]}" if clause[1] else re.sub(r"-(?:then|else)-.*", "", goal)
 
 
 def judged_whole(status, said, changed):

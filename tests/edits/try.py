@@ -1,7 +1,7 @@
 #!/usr/bin/env python3
 """Tries the edits of crates/NAME/edits/, which the prover has to refuse, and fails where it doesn't.
 
-usage: tests/edits/try.py [--all] [--match WORD] [--lanes N] [--log FILE] [CRATE..]
+usage: tests/edits/try.py [--all] [--match WORD] [--lanes N] [--log FILE] [--goals FILE] [CRATE..]
        tests/edits/try.py --gate LOG [--all] [--lanes N] [--log FILE]
        tests/edits/try.py --list
 
@@ -14,8 +14,11 @@ edits are tried once the libraries below it are proved or kept, and once rt ci h
 lanes as there are processors. Then it also tries one of ten that the record has, drawn by the
 commit, and fails where an edit has no line there or a line no edit.
 
---list says how many edits each crate has, and of how many the verdict isn't in the record."""
+--list says how many edits each crate has, and of how many the verdict isn't in the record. --goals
+adds a line of JSON to a file for each edit that is tried in batches: its verdict, and which clauses
+of which functions weren't proved with it."""
 import argparse
+import json
 import os
 import shutil
 import subprocess
@@ -186,6 +189,7 @@ def arguments():
     parse.add_argument("--match", default="")
     parse.add_argument("--lanes", type=int, default=os.cpu_count())
     parse.add_argument("--log", default=os.devnull)
+    parse.add_argument("--goals", default=os.devnull)
     parse.add_argument("crates", nargs="*")
     return parse.parse_args()
 
@@ -206,8 +210,13 @@ def main():
             with printing:
                 print(text, file=to, flush=True)
 
+        def keep(part):
+            kept.keep(part)
+            with open(given.goals, "a", encoding="utf-8") as goals:
+                goals.writelines(json.dumps([it.key, it.verdict, sorted(it.goals)]) + "\n" for it in part)
+
         libraries, kept = Libraries(all_crates, folder, given.gate), Record(edits)
-        lanes = Lanes(rests, tried, libraries, kept.keep, say, lambda text: say(text, log))
+        lanes = Lanes(rests, tried, libraries, keep, say, lambda text: say(text, log))
         lanes.run(given.lanes)
     kept.keep([])
     failed = [f"{it.key}: {it.verdict}: {it.said[:300]}" for it in tried if it.verdict != "refused"]

@@ -12,7 +12,7 @@ import tempfile
 import time
 
 from edit import applied
-from room import CALLED, Room, judged, judged_whole
+from room import CALLED, Room, goals_in, judged, judged_whole
 
 MOST = 20  # edits in a round
 VERDICTS = ("refused", "names", "unread", "doubt", "proved")
@@ -113,6 +113,7 @@ class Trying:
             it.verdict, it.said = next(first[v] for v in VERDICTS if v in first)
             if it.verdict == "unread":
                 it.verdict = "doubt" if len(now) > 1 else "BAD EDIT"
+            it.goals = goals_in(said, it.symbols)
             self.rounds.learn(it)
         refused = sum(it.verdict == "refused" for it in now)
         self.say(f"{self.crate.name}: a round of {len(now)}, {refused} refused, {took:.0f} s")
