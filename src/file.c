@@ -4,13 +4,14 @@
  * begin says how many there are: what isn't refused is what was saved, as far as 64 bits tell. */
 #include "ferretgold_file.h"
 #include "ferretgold_image.h"
+#include "limits.h"
 
 #define XXH_INLINE_ALL
 #include <xxhash.h>
 
 #include <string.h>
 
-enum { BEGIN = 32, HEAD = 40, MOST_VALUE = 4096, FILE_VERSION = 1, SUM = 8 };
+enum { BEGIN = 32, HEAD = 40, FILE_VERSION = 1, SUM = 8 };
 
 static const char KIND[8] = {'F', 'E', 'R', 'R', 'E', 'T', 'G', '1'};
 

@@ -7,11 +7,12 @@
  * of a value that another thread is putting; and if one does, that value is missed. */
 #include "ferretgold_large.h"
 #include "large.h"
+#include "limits.h"
 
 #include <string.h>
 #include <time.h>
 
-enum { MOST_PIECE = 4096, TRIES = 2, SERIAL_BITS = 54 };
+enum { MOST_PIECE = MOST_VALUE, TRIES = 2 };
 
 /* The bit of a key's second word that pieces have. */
 static const uint64_t OF_PIECES = UINT64_C(1) << 63;

@@ -1,8 +1,9 @@
 /* How much memory a configuration takes, and configurations for so much memory. */
 #include "ferretgold.h"
+#include "limits.h"
 
-enum { FEWEST_SLOTS = 8, MOST_SLOTS = 65536, MOST_SHARDS = 64, MOST_CLIENTS = 1024 };
-enum { MOST_VALUE = 4096, SEVERAL = 1024 };
+/* The fewest slots of a shard that has others beside it. */
+enum { SEVERAL = 1024 };
 
 uint64_t ferretgold_memory(const ferretgold_config *config) {
     if (config == NULL) {

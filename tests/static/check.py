@@ -11,10 +11,12 @@ sys.path[:0] = [HERE, os.path.join(HERE, "../edits")]
 from calls import no_allocation, no_lock, plants, unused
 from guarantees import guarantees
 from header import layout, wrappers
+from limits import bounds, limits
 from names import edits
 from texts import columns, links, words
 
-CHECKS = [columns, words, links, edits, no_lock, no_allocation, plants, unused, guarantees, layout, wrappers]
+CHECKS = [columns, words, links, edits, no_lock, no_allocation, plants, unused, guarantees, layout, wrappers, limits,
+          bounds]
 
 
 def main():

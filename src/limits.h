@@ -1,0 +1,10 @@
+/* The limits that the proved library has, as far as the C around it asks for them. A check compares
+ * them with its constants. */
+#ifndef FERRETGOLD_LIMITS_H
+#define FERRETGOLD_LIMITS_H
+
+enum { FEWEST_SLOTS = 8, MOST_SLOTS = 65536, MOST_SHARDS = 64, MOST_CLIENTS = 1024 };
+/* Bytes of a value; bits of a client's number of serials. */
+enum { MOST_VALUE = 4096, SERIAL_BITS = 54 };
+
+#endif
