@@ -49,10 +49,11 @@ extern "C" {
  * 0, and `inserted` may be null.
  *
  * PLACED: all its pieces were placed, and there when the last was. DROPPED: one wasn't, in two
- * tries, or was evicted for another; then all are erased. Or these very bytes are there already:
- * they stay, with their charge. Otherwise what was there is erased, however the call ends, unless
- * it refuses before the first step. Of two threads that put under one key at once the one's value
- * is there then, or the other's. Uses a serial for each try of a piece.
+ * tries, or was evicted for another, or erased by a thread that put under this key at once; then all
+ * are erased, and none of another value. Or these very bytes are there already: they stay, with
+ * their charge. Otherwise what was there is erased, however the call ends, unless it refuses before
+ * the first step. Of two threads that put under one key at once the one's value is there then, or
+ * the other's. Uses a serial for each try of a piece.
  *
  * Costs for each piece an erasure that finds nothing, an insertion and a look-up, and for the first
  * one four look-ups and an erasure more; if a value was there, a reading of it as far as it is the
