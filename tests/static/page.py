@@ -1,4 +1,5 @@
-"""The parts of the page: the front with its quotes filled in, and each crate's public functions."""
+"""The parts of the page: the front with its quotes filled in, and the public functions of the crates that
+users call."""
 import glob
 import os
 import re
@@ -12,6 +13,8 @@ ORDER = (
     "hcc_cache hcc_block hcc_c hcc_shard hcc_charge hcc_table hcc_rule hcc_core hcc_word "
     "hcc_player hcc_play"
 ).split()
+# Of these each public function is on the page; definitions of the others are folded there.
+USED = ("hcc_cache", "hcc_block", "hcc_c")
 MARK = re.compile(r"^\{\{(clause|spec) (\w+) (\S+) (.+)\}\}$")
 GENERATED = "<!-- tests/static/guarantees.py writes this page: change docs/guarantees.front.md, or the source. -->"
 
@@ -48,6 +51,12 @@ def quote(links, lines):
     return f"{', '.join(links)}:\n\n{block(lines)}" if links else ""
 
 
+def folded(links, lines):
+    """The same, which a reader opens."""
+    begin = f"{', '.join(links)}:\n\n<details><summary>what they say</summary>\n"
+    return f"{begin}\n{block(lines)}\n\n</details>" if links else ""
+
+
 def clauses_quoted(source, crate, function, names):
     """Clauses of a function, under links to each; or what isn't found."""
     found = [it for it in source.functions.get(crate, []) if it.is_named(function)]
@@ -77,7 +86,7 @@ def specs_quoted(source, crate, file, names):
     for number, (_, it) in enumerate(found):
         lines += [""] * (number > 0) + [head for head in it.modules if head not in modules] + it.lines
         modules = it.modules
-    return quote(links, lines), faults
+    return (quote if crate in USED else folded)(links, lines), faults
 
 
 def quoted(source, front):
@@ -116,12 +125,16 @@ def entry(function):
 
 
 def listed(source):
-    """Each crate's public functions, file by file."""
+    """The public functions of the crates that users call, file by file, and how many the others have."""
     parts = [f"By crate: {', '.join(f'[{it}](#{it})' for it in ORDER)}.\n"]
     for name in ORDER:
         crate, path = source.crates[name], ""
         main = "src/main.rt" if crate.is_program else "src/lib.rt"
         parts.append(f"## {name}\n\n{head_of(crate, main)}\n")
+        if name not in USED:
+            many = len(source.public(name))
+            parts.append(f"The contracts of its {many} public functions stand in [its sources](../crates/{name}/src).\n")
+            continue
         for function in source.public(name):
             if function.path != path:
                 path = function.path
