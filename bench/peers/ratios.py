@@ -4,7 +4,7 @@ rounds of each cache, in nanoseconds of a thread for an operation, and beside th
 times as fast as they this project's is.
 Usage: ratios.py FILE..             with the JSON lines that peers prints
        ratios.py --medians FILE..   prints the medians, as JSON lines that can be given in their place
-       ratios.py --front FILE..     prints the front page's table, of one thread
+       ratios.py --front FILE..     prints the front page's table, of one thread and of four
        ratios.py --all FILE..       prints the guide's table, of one thread"""
 import json
 import statistics
@@ -64,16 +64,18 @@ def print_medians(medians, builds):
 
 
 def print_front(medians, _):
-    """A row for each case, a cell for each size: the three caches, the fastest of them bold."""
+    """A row for each case and number of threads, a cell for each size: the three caches, the fastest of
+    them bold."""
     sizes = sorted({size for _, size, threads in medians if threads == 1})
     print("|  | " + " | ".join(f"{size:,} bytes" for size in sizes) + " |")
     print("|---" * (len(sizes) + 1) + "|")
     for case, name in FRONT.items():
-        cells = []
-        for size in sizes:
-            of = [round(medians[case, size, 1][it]) for it in SHOWN]
-            cells.append(" / ".join(f"**{it:,}**" if it == min(of) else f"{it:,}" for it in of))
-        print(f"| {name} | " + " | ".join(cells) + " |")
+        for threads, many in ((1, "1 thread"), (4, "4 threads")):
+            cells = []
+            for size in sizes:
+                of = [round(medians[case, size, threads][it]) for it in SHOWN]
+                cells.append(" / ".join(f"**{it:,}**" if it == min(of) else f"{it:,}" for it in of))
+            print(f"| {name}, {many} | " + " | ".join(cells) + " |")
 
 
 def print_all(medians, _):
