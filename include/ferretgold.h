@@ -222,7 +222,7 @@ typedef struct ferretgold_stats {
     uint64_t lost;        /* compare-exchanges that lost to another thread's step */
 } ferretgold_stats;
 
-/* What look-ups and insertions came to, those that calls of ferretgold_large.h make for each piece
+/* Outcomes of look-ups and insertions, those that calls of ferretgold_large.h make for each piece
  * among them. */
 typedef struct ferretgold_counts {
     uint64_t hits;       /* ferretgold_lookup and ferretgold_get that returned OK */
@@ -336,7 +336,7 @@ ferretgold_status ferretgold_config_of(const ferretgold_cache *cache, ferretgold
 size_t ferretgold_room(const ferretgold_cache *cache);
 
 /*
- * What the calls of all clients came to, in sum: of each client until it was last given back, so not
+ * Outcomes of the calls of all clients, in sum: of each client until it was last given back, so not
  * what one that is out did since. No count falls. It is no picture of one moment.
  *
  * Costs six loads for each client.

@@ -497,7 +497,7 @@ class cache {
     // The most bytes of a value.
     std::size_t room() const noexcept { return ferretgold_room(get()); }
 
-    // What the calls of all clients came to, of each until it was last given back.
+    // Outcomes of the calls of all clients, of each until it was last given back.
     ferretgold_counts counts() const noexcept {
         ferretgold_counts counts{};
         (void)ferretgold_cache_counts(get(), &counts);

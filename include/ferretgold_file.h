@@ -16,7 +16,7 @@
  *   The pieces of ferretgold_large.h are saved and loaded as entries are. Their keys are made with the
  *   seed, and their lengths go by the room: under another seed no large value is found, and in slots of
  *   another room only those of one piece. What is found is the bytes of one insertion. Nothing finds or
- *   erases a value of another seed: once that one is back it is found again, unless the clock took it.
+ *   erases a value of another seed: once that seed is used again it is found, unless the clock took it.
  *   The format's version is also that of their keys and of what they begin with.
  *
  * THE FORMAT, version 1. All numbers have their lowest byte first.

@@ -141,7 +141,7 @@ pub struct Stats {
     pub lost: u64,
 }
 
-/// What look-ups and insertions came to.
+/// Outcomes of look-ups and insertions.
 #[repr(C)]
 #[derive(Clone, Copy, Debug, Default, PartialEq, Eq)]
 pub struct Counts {
@@ -209,7 +209,7 @@ impl Cache {
         unsafe { raw::ferretgold_room(self.at.as_ptr()) }
     }
 
-    /// What the calls of all clients came to, of each until it last went back.
+    /// Outcomes of the calls of all clients, of each until it last went back.
     pub fn counts(&self) -> Counts {
         let mut counts = Counts::default();
         let _ = unsafe { raw::ferretgold_cache_counts(self.at.as_ptr(), &mut counts) };

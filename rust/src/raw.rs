@@ -191,7 +191,7 @@ extern "C" {
     pub fn ferretgold_version() -> *const c_char;
 }
 
-/// The caller's functions that ferretgold_file.h's call.
+/// Callbacks that ferretgold_file.h takes.
 #[cfg(feature = "file")]
 pub type Write =
     unsafe extern "C" fn(context: *mut c_void, bytes: *const c_void, count: usize) -> bool;
