@@ -1,17 +1,13 @@
--- Entries that all come in, and those that are left out by a test.
-use Rattle.std.proofs.Common.{◌≡◌, ℕ, ◌+◌, ◌≤◌, ◌==◌, ◌||◌, cond, not, nat_le, if◌then◌else◌, Bool, true, false, List, [], ◌∷◌, ◌++◌, map, refl, sym, ap, ◌∙◌, append_assoc, arith}
+-- Entries that all come in.
+use Rattle.std.proofs.Common.{◌≡◌, ℕ, ◌+◌, ◌≤◌, ◌==◌, ◌||◌, not, nat_le, if◌then◌else◌, Bool, true, false, List, [], ◌∷◌, ◌++◌, refl, sym, ap, ◌∙◌, append_assoc, arith}
 use Rattle.std.proofs.lemmas.Bool.{le-leb, lt-ltb}
-use Rattle.std.proofs.lemmas.List.{map-append}
-use Rattle.std.specs.List.{filter}
 use Rattle.hcc_core.specs.Sums.{when}
 use Rattle.hcc_core.proofs.SumLemmas.{total-append}
-use Rattle.hcc_rule.specs.declared.key.Key.{Key}
 use Rattle.hcc_rule.specs.Views.{Each}
 use Rattle.hcc_cache.specs.declared.config.Config.{Config}
-use Rattle.hcc_cache.specs.declared.image.Saved.{Saved}
 use Rattle.hcc_cache.specs.Configs.{shard_capacity}
-use Rattle.hcc_cache.specs.Images.{AreRight, Visible, visible_of}
-use Rattle.hcc_cache.specs.Taken.{IsRoomyFor, fit_in, has_place, home_of, is_granted, is_sound, is_taken, places_of, split_of, sum_in, with_all}
+use Rattle.hcc_cache.specs.Images.{Visible}
+use Rattle.hcc_cache.specs.Taken.{IsRoomyFor, has_place, home_of, is_granted, is_sound, is_taken, places_of, split_of, sum_in, with_all}
 use Rattle.hcc_cache.proofs.DraftsFilled.{sum_here}
 
 module _ (c : Config) where
@@ -75,39 +71,3 @@ module _ (c : Config) where
   pub roomy_taken : (es : List Visible) → IsRoomyFor c es
       → split_of c es ≡ record { taken = es; left = [] }
   roomy_taken es roomy = all_taken [] es roomy
-
--- Some entries were judged by a test, and the rest is to come.
-abbrev pub IsJudging : (p : Visible → Bool) (all : List Visible) (now : List Saved)
-    (rest : List Visible) → Type 0
-IsJudging p all now rest = map visible_of now ++ filter p rest ≡ filter p all
-
--- One more passes,
-pub judging_more : (p : Visible → Bool) (all : List Visible) (now : List Saved)
-    (s : Saved) (rest : List Visible) → IsJudging p all now (visible_of s ∷ rest)
-    → p (visible_of s) ≡ true → IsJudging p all (now ++ s ∷ []) rest
-judging_more p all now s rest before passes =
-    ap (λ vs. vs ++ filter p rest) (map-append visible_of now (s ∷ []))
-    ∙ (append_assoc (map visible_of now) (visible_of s ∷ []) (filter p rest)
-    ∙ (ap (λ (b : Bool). map visible_of now
-    ++ cond b (visible_of s ∷ filter p rest) (filter p rest)) (sym passes) ∙ before))
-
--- or doesn't.
-pub judging_past : (p : Visible → Bool) (all : List Visible) (now : List Saved)
-    (s : Saved) (rest : List Visible) → IsJudging p all now (visible_of s ∷ rest)
-    → p (visible_of s) ≡ false → IsJudging p all now rest
-judging_past p all now s rest before fails =
-    ap (λ (b : Bool). map visible_of now
-    ++ cond b (visible_of s ∷ filter p rest) (filter p rest)) (sym fails) ∙ before
-
--- What passes a sound test is right.
-pub right_fit : {T : Type 0} (fits : T → Key → List ℕ → Type 0) (test : T → Key → List ℕ → Bool)
-    (tag : T) → ((tag : T) (key : Key) (value : List ℕ) → test tag key value ≡ true
-    → fits tag key value) → (es : List Visible) → AreRight fits tag (fit_in test tag es)
-right_fit fits test tag sound [] = tt
-right_fit fits test tag sound (e ∷ es) =
-    by (test tag e.key e.value) refl (right_fit fits test tag sound es)
-  where
-    by : (b : Bool) → test tag e.key e.value ≡ b → AreRight fits tag (fit_in test tag es)
-        → AreRight fits tag (cond b (e ∷ fit_in test tag es) (fit_in test tag es))
-    by true is rest = (sound tag e.key e.value is, rest)
-    by false is rest = rest
