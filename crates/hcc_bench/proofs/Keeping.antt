@@ -10,7 +10,7 @@ use Rattle.hcc_cache.specs.declared.holding.Hold.{Hold}
 use Rattle.hcc_cache.specs.Calls.{Gains, Loses}
 use Rattle.hcc_cache.specs.Clients.{Held, Holds, held_as, held_by, held_of, hold_of}
 use Rattle.hcc_cache.specs.Known.{Knows}
-use Rattle.hcc_cache.proofs.Lists.{get_push}
+use Rattle.hcc_cache.proofs.Basics.Lists.{get_push}
 use Rattle.hcc_bench.specs.declared.tag.OfSize.{OfSize}
 use Rattle.hcc_bench.specs.Keepers.{HoldsThese}
 use Rattle.hcc_bench.specs.Workers.{IsIdle}

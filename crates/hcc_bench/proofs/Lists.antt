@@ -2,7 +2,7 @@
 use Rattle.std.proofs.Common.{◌≡◌, ℕ, zero, suc, ◌*◌, ap, arith, map, List, [], ◌∷◌, ◌++◌, Some, length, slice_get, inl, inr, refl}
 use Rattle.std.specs.Prelude.{sum_by}
 use Rattle.std.proofs.lemmas.List.Sums.{sum_by-cons}
-use Rattle.hcc_cache.proofs.Lists.{get_push}
+use Rattle.hcc_cache.proofs.Basics.Lists.{get_push}
 use Rattle.hcc_bench.specs.Lists.{EachAt}
 
 module _ {A : Type 0} where

@@ -40,7 +40,7 @@ pub(crate) fn key_from(seed: u64, key: Key) -> Key
 
 /// The shard of a seeded key, of so many shards, a power of two: by the upper half of its first
 /// word, which no shard's slots depend on so much as on its lower half.
-#[tactic(auto, using(crate::proofs::Masks::masked_shards))]
+#[tactic(auto, using(crate::proofs::Basics::ShardMasks::masked_shards))]
 pub(crate) fn shard_of(key: Key, shards: u32) -> u32
     requires some { 1 ≤ shards }
     requires power { MOST_SHARDS % shards ≡ 0 }

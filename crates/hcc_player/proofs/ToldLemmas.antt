@@ -12,7 +12,7 @@ use Rattle.hcc_cache.specs.Clients.{Insertion}
 use Rattle.hcc_cache.specs.Opened.{IsCacheOf, IsOpened}
 use Rattle.hcc_cache.specs.Stays.{Stays}
 use Rattle.hcc_cache.specs.Totals.{LoadsEachOccupancy, LoadsEachUsage}
-use Rattle.hcc_cache.proofs.Staying.{stays_then}
+use Rattle.hcc_cache.proofs.Clients.ShownAfterwards.{stays_then}
 use Rattle.hcc_player.specs.declared.run.answer.Answer.{Answer}
 use Rattle.hcc_player.specs.declared.run.answer.Answer.TheVariants as answers
 use Rattle.hcc_player.specs.declared.run.call.Call.{Call}

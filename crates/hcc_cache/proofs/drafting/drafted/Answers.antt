@@ -6,7 +6,7 @@ use Rattle.hcc_cache.specs.Drafts.{takes}
 use Rattle.hcc_cache.specs.Images.{visible_of}
 use Rattle.hcc_cache.specs.Sharding.{shard_of}
 use Rattle.hcc_cache.specs.Taken.{home_of}
-use Rattle.hcc_cache.proofs.DraftsFilled.{drafting_more, drafting_none, drafting_past, has_free}
+use Rattle.hcc_cache.proofs.Beginnings.DraftsFilled.{drafting_more, drafting_none, drafting_past, has_free}
 use Rattle.hcc_cache.proofs.drafting.drafted.Goals as goal
 
 pub loop-saved-init : goal.loop-saved-init

@@ -1,7 +1,7 @@
 use Rattle.std.proofs.Common.{◌-◌, Some, bit_and, length, refl, ◌∙◌, ap, arith}
 use Rattle.std.proofs.lemmas.Option.{slice_get_read}
 use Rattle.hcc_rule.proofs.Probes.ProbeLaws.{probe_inside}
-use Rattle.hcc_cache.proofs.Placing.{none_if, some_if, seeking_ends, seeking_more, seeking_none}
+use Rattle.hcc_cache.proofs.Beginnings.DraftSlots.{none_if, some_if, seeking_ends, seeking_more, seeking_none}
 use Rattle.hcc_cache.proofs.drafting.free_slot.Goals as goal
 
 pub loop-init : goal.loop-init

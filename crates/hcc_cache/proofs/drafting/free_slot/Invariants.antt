@@ -1,4 +1,4 @@
-use Rattle.hcc_cache.proofs.Placing.{IsSeeking}
+use Rattle.hcc_cache.proofs.Beginnings.DraftSlots.{IsSeeking}
 use Rattle.hcc_cache.proofs.drafting.free_slot.Given as goal
 
 abbrev pub invariant-loop : goal.invariant-loop

@@ -10,10 +10,10 @@ use Rattle.hcc_cache.specs.declared.client.Client.{Client}
 use Rattle.hcc_cache.specs.Calls.{Works, shard_in}
 use Rattle.hcc_cache.specs.Keys.{fits_seeded}
 use Rattle.hcc_cache.specs.Sharding.{key_to, shard_of}
-use Rattle.hcc_cache.proofs.At.{did_at, does_at, is_at, seated_at, takes_for, works_at}
-use Rattle.hcc_cache.proofs.Dead.{all_held_dead}
-use Rattle.hcc_cache.proofs.Resting.{keeps_same, knows_same, same_erased}
-use Rattle.hcc_cache.proofs.Seats.{steps_set}
+use Rattle.hcc_cache.proofs.Clients.AtOneShard.{did_at, does_at, is_at, seated_at, takes_for, works_at}
+use Rattle.hcc_cache.proofs.Searches.MissedOrErasedKeys.{all_held_dead}
+use Rattle.hcc_cache.proofs.Clients.HoldsTheSame.{keeps_same, knows_same, same_erased}
+use Rattle.hcc_cache.proofs.Clients.Seats.{steps_set}
 use Rattle.hcc_cache.proofs.cache.Cache.erase.Goals as goal
 
 pub erase-requires : goal.erase-requires

@@ -5,13 +5,13 @@ use Rattle.hcc_cache.specs.declared.client.Client.{Client}
 use Rattle.hcc_cache.specs.declared.holding.Hold.{Hold}
 use Rattle.hcc_cache.specs.Calls.{shard_in}
 use Rattle.hcc_cache.specs.Sharding.{shard_of}
-use Rattle.hcc_cache.proofs.At.{ChangesAt, does_at, few_at, is_at, next_at, seated_at}
-use Rattle.hcc_cache.proofs.Found.{finds, knows_more, knows_sought, looks_at, misses, searched_at, visits_at}
-use Rattle.hcc_cache.proofs.Gained.{IsGiven}
+use Rattle.hcc_cache.proofs.Clients.AtOneShard.{ChangesAt, does_at, few_at, is_at, next_at, seated_at}
+use Rattle.hcc_cache.proofs.Searches.KnownAfterLookup.{finds, knows_more, knows_sought, looks_at, misses, searched_at, visits_at}
+use Rattle.hcc_cache.proofs.Handles.OneMore.{IsGiven}
 use Rattle.hcc_table.proofs.Lasting.{searches_seek}
 use Rattle.hcc_table.proofs.Still.{seeks_still}
 use Rattle.hcc_cache.specs.Keys.{fits_seeded}
-use Rattle.hcc_cache.proofs.Staying.{stays_at}
+use Rattle.hcc_cache.proofs.Clients.ShownAfterwards.{stays_at}
 use Rattle.hcc_cache.proofs.cache.Cache.search.Goals as goal
 
 pub lookup-requires-clause-seat : goal.lookup-requires-clause-seat

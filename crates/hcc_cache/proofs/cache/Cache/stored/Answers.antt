@@ -6,10 +6,10 @@ use Rattle.hcc_cache.specs.declared.client.Client.{Client}
 use Rattle.hcc_cache.specs.Calls.{shard_in}
 use Rattle.hcc_cache.specs.Inserts.{draft_of}
 use Rattle.hcc_cache.specs.Sharding.{shard_of}
-use Rattle.hcc_cache.proofs.At.{ChangesAt, is_at, only_at, seated_at}
-use Rattle.hcc_cache.proofs.Insertions.{IsAsked, frees_at, insertable_at, inserts_at, knows_asked, leaves_stored, stores_at, stores_did, told_as}
-use Rattle.hcc_cache.proofs.Refusals.{answers_small, answers_unspent, inserts_did, inserts_told}
-use Rattle.hcc_cache.proofs.Staying.{alone_at, knows_shown, was_placed}
+use Rattle.hcc_cache.proofs.Clients.AtOneShard.{ChangesAt, is_at, only_at, seated_at}
+use Rattle.hcc_cache.proofs.Insertions.KnownAfterInsertion.{IsAsked, frees_at, insertable_at, inserts_at, knows_asked, leaves_stored, stores_at, stores_did, told_as}
+use Rattle.hcc_cache.proofs.Insertions.AnswersTold.{answers_small, answers_unspent, inserts_did, inserts_told}
+use Rattle.hcc_cache.proofs.Clients.ShownAfterwards.{alone_at, knows_shown, was_placed}
 use Rattle.hcc_cache.proofs.cache.Cache.stored.Goals as goal
 
 pub insert-requires-clause-seat : goal.insert-requires-clause-seat

@@ -9,13 +9,13 @@ use Rattle.hcc_cache.specs.declared.holding.Kept.TheVariants.{Standing}
 use Rattle.hcc_cache.specs.Calls.{shard_in}
 use Rattle.hcc_cache.specs.Inserts.{pinned_draft}
 use Rattle.hcc_cache.specs.Sharding.{shard_of}
-use Rattle.hcc_cache.proofs.Alone.{IsJoined}
-use Rattle.hcc_cache.proofs.At.{ChangesAt, few_at, is_at, only_at, seated_at}
-use Rattle.hcc_cache.proofs.Gained.{IsGiven}
-use Rattle.hcc_cache.proofs.Handing.{few_alone, has_room, hold_with, knows_alone, knows_pins, pinned_told, pins_at, stands_at}
-use Rattle.hcc_cache.proofs.Insertions.{IsAsked, fails_at, frees_at, insertable_at, inserts_at, knows_asked, leaves_refused, leaves_unshown, pins_did, told_as}
-use Rattle.hcc_cache.proofs.Refusals.{not_full, not_large, not_spent, refuses_did, refuses_told}
-use Rattle.hcc_cache.proofs.Staying.{alone_at, knows_shown}
+use Rattle.hcc_cache.proofs.Insertions.StandaloneEntry.{IsJoined}
+use Rattle.hcc_cache.proofs.Clients.AtOneShard.{ChangesAt, few_at, is_at, only_at, seated_at}
+use Rattle.hcc_cache.proofs.Handles.OneMore.{IsGiven}
+use Rattle.hcc_cache.proofs.Insertions.HandleOnInserted.{few_alone, has_room, hold_with, knows_alone, knows_pins, pinned_told, pins_at, stands_at}
+use Rattle.hcc_cache.proofs.Insertions.KnownAfterInsertion.{IsAsked, fails_at, frees_at, insertable_at, inserts_at, knows_asked, leaves_refused, leaves_unshown, pins_did, told_as}
+use Rattle.hcc_cache.proofs.Insertions.AnswersTold.{not_full, not_large, not_spent, refuses_did, refuses_told}
+use Rattle.hcc_cache.proofs.Clients.ShownAfterwards.{alone_at, knows_shown}
 use Rattle.hcc_cache.proofs.cache.Cache.stored_pinned.Goals as goal
 
 pub insert_pinned-requires-clause-seat : goal.insert_pinned-requires-clause-seat
