@@ -111,9 +111,9 @@ module _ {T : Type 0} (cache : Cache T) where
         ∙ read_other old.seats.items i s is other) stays
 
     -- The client knows the shard to show a key.
-    pub knows_shown : (key under : Key) (slot : ℕ) → i ≡ shard_in cache key
-        → under ≡ key_to cache.seed key → ShowsIn shard under slot is → KnowsShown cache key new
-    knows_shown key under slot here same shows = record {
+    pub knows_shown : (key seeded : Key) (slot : ℕ) → i ≡ shard_in cache key
+        → seeded ≡ key_to cache.seed key → ShowsIn shard seeded slot is → KnowsShown cache key new
+    knows_shown key seeded slot here same shows = record {
       shard = shard;
       seat = is;
       shard_is = ap (slice_get cache.shards.items) (sym here) ∙ at.shard_is;
