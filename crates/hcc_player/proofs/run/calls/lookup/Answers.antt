@@ -3,10 +3,10 @@ use Rattle.std.specs.Prelude.{is_some}
 use Rattle.hcc_player.specs.Registers.{at}
 use Rattle.hcc_player.specs.RunAnswers.{IsRight}
 use Rattle.hcc_player.specs.RunCalls.{Does}
-use Rattle.hcc_player.proofs.CallLemmas.{busy_told, empty_told, get_goes, look_refused, may_look}
+use Rattle.hcc_player.proofs.CallLemmas.{busy_told, empty_told, lookup_goes, look_refused, may_look}
 use Rattle.hcc_player.proofs.CallLemmas.{no_handle, stays}
 use Rattle.hcc_player.proofs.RegisterLemmas.{at_filled, same_filled}
-use Rattle.hcc_player.proofs.run.calls.get.Goals as goal
+use Rattle.hcc_player.proofs.run.calls.lookup.Goals as goal
 
 pub returns-then-is_some-clause-goes : goal.returns-then-is_some-clause-goes
 unfolding IsRight
@@ -38,7 +38,7 @@ returns-in-Ok-Some-clause-goes g c config s filled =
     let may = may_look fits cache config s client (Ok c.in-Ok-Some.field-0) c.in-Ok-Some.field-0
     refl filled.known filled.limited told.full told.spent in
     rw (c.fill.ensures, c.in_ok-reserve.ensures.same)
-    (get_goes fits cache config s client c.lookup.new.client handles r c.args.key
+    (lookup_goes fits cache config s client c.lookup.new.client handles r c.args.key
     c.in-Ok-Some.handle told.known may found empty filled)
 
 pub returns-in-Ok-Some-clause-did : goal.returns-in-Ok-Some-clause-did

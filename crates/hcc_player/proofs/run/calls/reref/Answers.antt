@@ -3,10 +3,10 @@ use Rattle.std.specs.Prelude.{is_some}
 use Rattle.hcc_player.specs.Registers.{at}
 use Rattle.hcc_player.specs.RunAnswers.{IsRight}
 use Rattle.hcc_player.specs.RunCalls.{Does}
-use Rattle.hcc_player.proofs.CallLemmas.{busy_told, empty_told, fork_goes, full_told, look_refused}
+use Rattle.hcc_player.proofs.CallLemmas.{busy_told, empty_told, reref_goes, full_told, look_refused}
 use Rattle.hcc_player.proofs.CallLemmas.{may_look, no_handle, stays}
 use Rattle.hcc_player.proofs.RegisterLemmas.{at_filled}
-use Rattle.hcc_player.proofs.run.calls.fork.Goals as goal
+use Rattle.hcc_player.proofs.run.calls.reref.Goals as goal
 
 pub returns-then-is_some-clause-goes : goal.returns-then-is_some-clause-goes
 unfolding IsRight
@@ -63,7 +63,7 @@ returns-in-Ok-clause-goes g c config s filled =
     let may = may_look fits cache config s client (Ok c.in-Ok.handle) c.in-Ok.handle refl
     filled.known filled.limited told.full told.spent in
     rw (c.fill.ensures, c.in_ok-reserve.ensures.same)
-    (fork_goes fits cache config s client c.reref.new.client handles r from c.in-Some.held
+    (reref_goes fits cache config s client c.reref.new.client handles r from c.in-Some.held
     c.in-Ok.handle told.known may told.again full empty filled)
 
 pub returns-in-Ok-clause-did : goal.returns-in-Ok-clause-did
