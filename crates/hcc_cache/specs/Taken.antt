@@ -1,11 +1,9 @@
 -- Which entries of an image a cache begins with: in their order each for which its shard has a
 -- place, and room for its charge.
 use Rattle.std.specs.Prelude.{◌≡◌, ℕ, ◌+◌, ◌*◌, ◌/◌, ◌==◌, ◌&&◌, ◌||◌, ◌≤◌, min, not, nat_le, nat_lt, true, Bool, List, [], ◌∷◌, ◌++◌, Some, length, slice_get, if◌then◌else◌}
-use Rattle.std.specs.List.{filter}
 use Rattle.hcc_core.specs.declared.limits.TheConstants.{MOST_USES, OCCUPANCY_PERCENT}
 use Rattle.hcc_core.specs.Sums.{total, when}
 use Rattle.hcc_rule.specs.declared.image.ImageEntry.{ImageEntry}
-use Rattle.hcc_rule.specs.declared.key.Key.{Key}
 use Rattle.hcc_rule.specs.Views.{Each}
 use Rattle.hcc_cache.specs.declared.config.Config.{Config}
 use Rattle.hcc_cache.specs.Configs.{shard_capacity}
@@ -79,11 +77,3 @@ pub record IsRoomyFor (c : Config) (es : List Visible) : Type 0 where
   pub places : (shard : ℕ) → sum_in c shard (λ (e : Visible). 1) es ≤ places_of c
   pub charges : c.strict ≡ true → (shard : ℕ)
       → sum_in c shard (λ (e : Visible). e.charge) es ≤ shard_capacity c
-
-module _ {T : Type 0} (test : T → Key → List ℕ → Bool) (tag : T) where
-  -- the entries whose values pass the test of their keys, and those whose values don't
-  abbrev pub fit_in : List Visible → List Visible
-  fit_in = filter (λ (e : Visible). test tag e.key e.value)
-
-  abbrev pub unfit_in : List Visible → List Visible
-  unfit_in = filter (λ (e : Visible). not (test tag e.key e.value))

@@ -4,7 +4,7 @@ ghost use Rattle.hcc_rule.specs.declared.layout.TheConstants.{DISPLACEMENT, HAND
 ghost use Rattle.hcc_shard.specs.Left.{charges_left, slots_left};
 ghost use Rattle.hcc_cache.specs.Left.{AreWhole, HasRoomFor, InShard, TellsEntry, at_shard, field_of, ledger_of, length_of, over_shards, passed_over, slots_at, value_of};
 
-use crate::seeded::key_from;
+use crate::seeded::{SeededKey, key_from};
 use arrayvec::ArrayVec;
 use hcc_shard::{ClosedEntry, ClosedShard};
 use std::alloc::Global;
@@ -91,8 +91,11 @@ impl Closed {
         ensures { InShard self.now.shards.items shard (TellsEntry self.now.seed slot result) }
     {
         let entry = self.shard(shard).entry(slot)?;
+        let seeded = SeededKey {
+            in_shard: entry.key,
+        };
         Some(ClosedEntry {
-            key: key_from(self.seed, entry.key),
+            key: key_from(self.seed, seeded),
             charge: entry.charge,
             len: entry.len,
             word: entry.word,

@@ -9,9 +9,9 @@ ghost use Rattle.hcc_cache.specs.Taken.{split_of};
 
 use crate::config::Config;
 use crate::image::Saved;
-use crate::seeded::{key_to, shard_of};
+use crate::seeded::{SeededKey, key_to, shard_of};
 use hcc_core::limits::{MOST_USES, OCCUPANCY_PERCENT};
-use hcc_rule::{ImageEntry, Key};
+use hcc_rule::ImageEntry;
 use std::alloc::{AllocError, Global};
 
 /// What is to stand in the slots of a shard.
@@ -38,11 +38,11 @@ pub(crate) fn drafted(
     let mut drafts = blank(alloc, config)?;
     let mut left = Vec::new(alloc);
     for saved in image {
-        let key = key_to(config.seed, saved.key);
-        let shard = shard_of(key, config.shards) as usize;
+        let seeded = key_to(config.seed, saved.key);
+        let shard = shard_of(seeded, config.shards) as usize;
         let draft = &mut drafts[shard];
         if draft.takes(config, saved.charge, saved.value.len()) {
-            draft.put(key, saved);
+            draft.put(seeded, saved);
         } else {
             left.push(saved)?;
         }
@@ -95,19 +95,19 @@ impl Draft {
     }
 
     /// Puts an entry into the first slot of its probes that is free.
-    fn put(&mut self, key: Key, saved: Saved)
+    fn put(&mut self, seeded: SeededKey, saved: Saved)
         requires power { MOST_SLOTS % length self.old.places.items ≡ 0 }
         requires free { HasFree self.old.places.items }
         requires count { self.old.count < MOST_SLOTS }
         requires low { self.old.charge < 2 ^ 63 }
-        ensures { Puts key saved self.old self.new }
+        ensures { Puts seeded.in_shard saved self.old self.new }
     {
-        let slot = free_slot(self.places.as_slice(), key);
+        let slot = free_slot(self.places.as_slice(), seeded);
         self.count += 1;
         self.charge += saved.charge as u64;
         self.places[slot as usize] = Some(ImageEntry {
             slot,
-            key,
+            key: seeded.in_shard,
             value: saved.value,
             charge: saved.charge,
             uses: (saved.uses as u64).min(MOST_USES) as u32,
@@ -129,20 +129,20 @@ impl Draft {
 }
 
 /// The first slot of a key's probes that is free.
-fn free_slot(places: &[Option<ImageEntry>], key: Key) -> u32
+fn free_slot(places: &[Option<ImageEntry>], seeded: SeededKey) -> u32
     requires power { MOST_SLOTS % length places.now ≡ 0 }
     requires free { HasFree places.now }
     ensures free { slice_get places.now result ≡ Some None }
-    ensures reached { IsReached (length places.now) key (IsFilled places.now) result }
+    ensures reached { IsReached (length places.now) seeded.in_shard (IsFilled places.now) result }
 {
     let mask = places.len() as u64 - 1;
-    let mut probe = key.w1;
+    let mut probe = seeded.in_shard.w1;
     for _ in 0..places.len() {
         let slot = (probe & mask) as u32;
         if places[slot as usize].is_none() {
             return slot;
         }
-        probe = probe.wrapping_add(key.w0 | 1);
+        probe = probe.wrapping_add(seeded.in_shard.w0 | 1);
     }
     unreachable!()
 }

@@ -32,9 +32,9 @@ impl<T: Tag> Cache<T> {
             ((freeing self.now.geometry.slots + 9) * self.now.geometry.slots + 2)
             client.old client.new }
     {
-        let under = self.key_to(client, key);
-        let shard = self.shard_number(under);
+        let seeded = self.key_to(client, key);
+        let shard = self.shard_number(seeded);
         let seat = &mut client.seats[shard];
-        self.shards[shard].erase(seat, under)
+        self.shards[shard].erase(seat, seeded.in_shard)
     }
 }

@@ -9,6 +9,7 @@ ghost use Rattle.hcc_cache.specs.Stays.{Stays};
 
 use crate::cache::Cache;
 use crate::client::Client;
+use crate::seeded::SeededKey;
 use hcc_rule::{Key, Tag};
 use hcc_shard::Got;
 use hcc_table::Use;
@@ -42,13 +43,13 @@ impl<T: Tag> Cache<T> {
         ensures steps { TakesFor self.now 7 (λ v w. self.now.geometry.room + 2)
             (shard_in self.now key) client.old client.new }
     {
-        let under = self.key_to(client, key);
+        let seeded = self.key_to(client, key);
         if self.shards.len() == 1 {
             // The only shard's place doesn't wait for the seeded key.
-            return self.get_at(client, key, under, 0, buffer, useful);
+            return self.get_at(client, key, seeded, 0, buffer, useful);
         }
-        let shard = self.shard_number(under);
-        self.get_at(client, key, under, shard, buffer, useful)
+        let shard = self.shard_number(seeded);
+        self.get_at(client, key, seeded, shard, buffer, useful)
     }
 
     /// The same, once it is known which shard the key is in, and how it is seeded.
@@ -57,14 +58,14 @@ impl<T: Tag> Cache<T> {
         &self,
         client: &mut Client<T>,
         key: Key,
-        under: Key,
+        seeded: SeededKey,
         shard: usize,
         buffer: &mut [u8],
         useful: bool,
     ) -> Got
         requires known { Knows self.now client.old }
-        requires words { under ≡ key_to self.now.seed key }
-        requires undone { key_from self.now.seed under ≡ key }
+        requires words { seeded.in_shard ≡ key_to self.now.seed key }
+        requires undone { key_from self.now.seed seeded.in_shard ≡ key }
         requires there { shard ≡ shard_in self.now key }
         requires inside { shard < length self.now.shards.items }
         ensures known { Knows self.now client.new }
@@ -80,6 +81,6 @@ impl<T: Tag> Cache<T> {
             (shard_in self.now key) client.old client.new }
     {
         let seat = &mut client.seats[shard];
-        self.shards[shard].get(seat, under, buffer, Use::of(useful))
+        self.shards[shard].get(seat, seeded.in_shard, buffer, Use::of(useful))
     }
 }

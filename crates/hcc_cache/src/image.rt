@@ -12,7 +12,7 @@ ghost use Rattle.hcc_cache.specs.Reopened.{IsReopened};
 ghost use Rattle.hcc_cache.specs.Taken.{split_of};
 
 use crate::closed::Closed;
-use crate::seeded::key_from;
+use crate::seeded::{SeededKey, key_from};
 use hcc_rule::{ImageEntry, Key, Tag};
 use std::alloc::{AllocError, Global};
 
@@ -52,8 +52,11 @@ fn save(image: &mut Vec<Saved>, seed: u64, entries: Vec<ImageEntry>) -> Result<(
         ≡ map visible_of image.old.items ++ map (visible_from seed) entries.items) }
 {
     for entry in entries {
+        let seeded = SeededKey {
+            in_shard: entry.key,
+        };
         image.push(Saved {
-            key: key_from(seed, entry.key),
+            key: key_from(seed, seeded),
             value: entry.value,
             charge: entry.charge,
             uses: entry.uses,

@@ -136,10 +136,10 @@ impl<T: Tag> Cache<T> {
             (inserting self.now.geometry.slots self.now.geometry.room)
             client.old client.new }
     {
-        let under = self.key_to(client, key);
-        let shard = self.shard_number(under);
+        let seeded = self.key_to(client, key);
+        let shard = self.shard_number(seeded);
         let draft = Draft {
-            key: under,
+            key: seeded.in_shard,
             charge,
             serial: client.next_serial(),
             countdown: priority.countdown(),
@@ -295,10 +295,10 @@ impl<T: Tag> Cache<T> {
             (inserting self.now.geometry.slots self.now.geometry.room)
             client.old client.new }
     {
-        let under = self.key_to(client, key);
-        let shard = self.shard_number(under);
+        let seeded = self.key_to(client, key);
+        let shard = self.shard_number(seeded);
         let draft = Draft {
-            key: under,
+            key: seeded.in_shard,
             charge,
             serial: client.used,
             countdown: priority.countdown(),

@@ -24,7 +24,6 @@ mod releasing;
 mod reopening;
 mod seeded;
 mod tags;
-mod testing;
 mod totals;
 
 pub use cache::Cache;
@@ -40,4 +39,4 @@ pub use image::{Saved, law_again, law_images, law_whole};
 pub use inserting::Inserted;
 pub use priority::Priority;
 pub use reopening::law_all_taken;
-pub use tags::{AnyBytes, Tested};
+pub use tags::AnyBytes;

@@ -14,7 +14,7 @@ use crate::client::Client;
 use crate::errors::LookupError;
 use crate::handle::Handle;
 use crate::holding::{Hold, Kept};
-use crate::seeded::{key_to, shard_of};
+use crate::seeded::{SeededKey, key_to, shard_of};
 use hcc_rule::{Key, Tag};
 use hcc_table::Pin;
 
@@ -70,28 +70,28 @@ impl<T: Tag> Cache<T> {
             client.old client.new }
         ensures steps { TakesAtMost (7 * self.now.geometry.slots) client.old client.new }
     {
-        let under = self.key_to(client, key);
-        let shard = self.shard_number(under);
+        let seeded = self.key_to(client, key);
+        let shard = self.shard_number(seeded);
         let serial = client.used;
         let seat = &mut client.seats[shard];
-        let pin = self.shards[shard].lookup(seat, under, serial)?;
+        let pin = self.shards[shard].lookup(seat, seeded.in_shard, serial)?;
         Some(client.keep(key, shard, pinned(pin)))
     }
 
     /// A key under the cache's seed, which each call has from its client: the cache lies further.
     #[inline(always)]
-    pub(crate) fn key_to(&self, client: &Client<T>, key: Key) -> Key
+    pub(crate) fn key_to(&self, client: &Client<T>, key: Key) -> SeededKey
         requires { client.now.seed ≡ self.now.seed }
-        ensures words { result ≡ key_to self.now.seed key }
-        ensures undone { key_from self.now.seed result ≡ key }
+        ensures words { result.in_shard ≡ key_to self.now.seed key }
+        ensures undone { key_from self.now.seed result.in_shard ≡ key }
     {
         key_to(client.seed, key)
     }
 
     /// The number of the shard of a seeded key.
-    pub(crate) fn shard_number(&self, key: Key) -> usize
+    pub(crate) fn shard_number(&self, key: SeededKey) -> usize
         requires { AreAlike self.now }
-        ensures value { result ≡ shard_of key (length self.now.shards.items) }
+        ensures value { result ≡ shard_of key.in_shard (length self.now.shards.items) }
         ensures inside { result < length self.now.shards.items }
     {
         shard_of(key, self.shards.len() as u32) as usize

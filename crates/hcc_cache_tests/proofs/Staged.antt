@@ -7,7 +7,7 @@ use Rattle.hcc_cache.specs.declared.cache.Cache.{Cache}
 use Rattle.hcc_cache.specs.declared.client.Client.{Client}
 use Rattle.hcc_cache.specs.Known.{Knows}
 use Rattle.hcc_cache_tests.specs.Staged.{AllKnown}
-use Rattle.hcc_cache.proofs.Lists.{get_push}
+use Rattle.hcc_cache.proofs.Basics.Lists.{get_push}
 
 module _ {T : Type 0} (cache : Cache T) where
   -- clients by their places are clients one by one

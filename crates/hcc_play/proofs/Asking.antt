@@ -19,8 +19,8 @@ use Rattle.hcc_play.specs.Parsed.{Used, faults_of, used_by}
 use Rattle.hcc_play.specs.Requests.{AsksFor, Declines, EndsBy, IsAsked, IsAskedBy, IsOpen, request_of}
 use Rattle.hcc_play.specs.Settings.{CanPlay, Finds, GivesConfig, GivesOptions, GivesSetup}
 use Rattle.hcc_play.proofs.Settling.{opens}
-use Rattle.hcc_play.specs.declared.run.Request.{Request}
-use Rattle.hcc_play.specs.declared.run.Request.TheVariants as asks
+use Rattle.hcc_play.specs.declared.request.Request.{Request}
+use Rattle.hcc_play.specs.declared.request.Request.TheVariants as asks
 use Rattle.hcc_play.specs.declared.status.Status.{Status}
 use Rattle.hcc_play.specs.declared.status.Status.TheVariants.{Refused}
 

@@ -31,8 +31,8 @@ use Rattle.hcc_play.specs.Parsed.{Used, used_by}
 use Rattle.hcc_play.specs.Requests.{AsksFor, IsAsked, IsAskedBy}
 use Rattle.hcc_play.specs.Settings.{GivesConfig}
 use Rattle.hcc_play.specs.Values.{flag_in, number_in, number_of}
-use Rattle.hcc_play.specs.declared.run.Request.{Request}
-use Rattle.hcc_play.specs.declared.run.Request.TheVariants as asks
+use Rattle.hcc_play.specs.declared.request.Request.{Request}
+use Rattle.hcc_play.specs.declared.request.Request.TheVariants as asks
 use Rattle.hcc_play.proofs.Asking.{core_run, run_blocks}
 
 -- ---- texts

@@ -7,8 +7,8 @@ use Rattle.clap.specs.Words.{Row, Text, one_of}
 use Rattle.hcc_cache.specs.declared.config.Config.{Config}
 use Rattle.hcc_play.specs.Parsed.{Used}
 use Rattle.hcc_play.specs.Values.{number_of}
-use Rattle.hcc_play.specs.declared.run.Request.{Request}
-use Rattle.hcc_play.specs.declared.run.Request.TheVariants as asks
+use Rattle.hcc_play.specs.declared.request.Request.{Request}
+use Rattle.hcc_play.specs.declared.request.Request.TheVariants as asks
 
 -- what says the size of a cache: numbers, and two flags
 pub data Size : Type 0 where

@@ -12,8 +12,8 @@ use Rattle.hcc_player.specs.Options.{config_check, options_check}
 use Rattle.hcc_play.specs.Parsed.{Used, faults_of, used_by}
 use Rattle.hcc_play.specs.Settings.{CanPlay, GivesConfig, GivesOptions, GivesSetup}
 use Rattle.hcc_play.specs.Values.{texts_in}
-use Rattle.hcc_play.specs.declared.run.Request.{Request}
-use Rattle.hcc_play.specs.declared.run.Request.TheVariants as asks
+use Rattle.hcc_play.specs.declared.request.Request.{Request}
+use Rattle.hcc_play.specs.declared.request.Request.TheVariants as asks
 use Rattle.hcc_play.specs.declared.status.Status.{Status}
 use Rattle.hcc_play.specs.declared.status.Status.TheVariants.{Done, Refused, Failed, BadOptions, NoMemory}
 

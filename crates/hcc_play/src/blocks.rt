@@ -7,7 +7,7 @@ ghost use Rattle.hcc_play.specs.Plays.{EndsReads};
 ghost use Rattle.hcc_play.specs.Status.{status_of};
 
 use crate::progress::Progress;
-use crate::run::{Terminals, awaits, ended, told};
+use crate::request::{Terminals, awaits, ended, told};
 use crate::status::Status;
 use hcc_block::{BlockSource, MemorySource};
 use hcc_player::blocks::play_blocks;

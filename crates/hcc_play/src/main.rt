@@ -7,12 +7,12 @@ mod blocks_command;
 mod cache_options;
 mod cli;
 mod progress;
-mod run;
+mod request;
 mod run_command;
 mod status;
 mod values;
 
-use crate::run::{Terminals, run};
+use crate::request::{Terminals, run};
 use crate::status::Status;
 use std::io;
 use std::io::{ErrorKind, IsTerminal};

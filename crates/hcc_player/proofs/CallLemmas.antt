@@ -360,14 +360,14 @@ module _ {T : Type 0} (fits : T → Key → List ℕ → Type 0) (cache : Cache 
 
   -- Look-ups, and more handles.
 
-  pub get_goes : (s : State) (old new : Client T) (handles : List Filled) (r : ℕ)
+  pub lookup_goes : (s : State) (old new : Client T) (handles : List Filled) (r : ℕ)
       (key : Key) (handle : Handle) → Knows cache new → MayHold config s
       → Finds cache fits key handle old new
       → at handles r ≡ None → AreFilled fits cache config s old handles
-      → (next : State) × IsRight (fits cache.tag) config s (calls.Get r key) answers.Hit next
+      → (next : State) × IsRight (fits cache.tag) config s (calls.Lookup r key) answers.Hit next
       × AreFilled fits cache config next new (filled_with handles r handle)
   unfolding IsRight
-  get_goes s old new handles r key handle known may found empty filled =
+  lookup_goes s old new handles r key handle known may found empty filled =
       let held : Held = held_entry cache.seed found.found.entry in
       let right = subst (λ k. fits cache.tag k held.insertion.value) (sym found.asked)
       found.right in (
@@ -381,15 +381,15 @@ module _ {T : Type 0} (fits : T → Key → List ℕ → Type 0) (cache : Cache 
             found.gains right empty (λ q k b name at on is same. cc) filled,
       )
 
-  pub fork_goes : (s : State) (old new : Client T) (handles : List Filled) (r g : ℕ)
+  pub reref_goes : (s : State) (old new : Client T) (handles : List Filled) (r g : ℕ)
       (handle more : Handle) → Knows cache new → MayHold config s
       → Rerefs cache handle more old new
       → at handles g ≡ Some handle → at handles r ≡ None
       → AreFilled fits cache config s old handles
-      → (next : State) × IsRight (fits cache.tag) config s (calls.Fork r g) answers.Held next
+      → (next : State) × IsRight (fits cache.tag) config s (calls.Reref r g) answers.Held next
       × AreFilled fits cache config next new (filled_with handles r more)
   unfolding IsRight
-  fork_goes s old new handles r g handle more known may again full empty filled =
+  reref_goes s old new handles r g handle more known may again full empty filled =
       let on = on_register fits cache config s old handles g handle full filled in
       let told : Some on.held ≡ Some again.held = sym on.here ∙ again.was in
       let same : on.held ≡ again.held = cc in

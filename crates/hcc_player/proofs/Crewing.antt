@@ -2,7 +2,7 @@
 use Rattle.std.proofs.Common.{◌≡◌, ℕ, ◌+◌, List, [], ◌∷◌, ◌++◌, Some, length, slice_get, sym, ap, ◌∙◌, inl, inr, arith}
 use Rattle.std.proofs.lemmas.List.{length_push}
 use Rattle.hcc_cache.specs.declared.client.Client.{Client}
-use Rattle.hcc_cache.proofs.Lists.{get_push}
+use Rattle.hcc_cache.proofs.Basics.Lists.{get_push}
 use Rattle.hcc_player.specs.declared.blocks.line.BlockRead.{BlockRead}
 use Rattle.hcc_player.specs.declared.blocks.worker.Worker.{Worker}
 use Rattle.hcc_player.specs.Work.{EachAt, IsSetUp}

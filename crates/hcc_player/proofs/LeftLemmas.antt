@@ -14,7 +14,7 @@ use Rattle.hcc_rule.specs.declared.view.View.{View}
 use Rattle.hcc_rule.specs.Closing.{over_entries, words_of}
 use Rattle.hcc_shard.specs.declared.entries.ClosedShard.{ClosedShard}
 use Rattle.hcc_shard.specs.Left.{slots_left}
-use Rattle.hcc_cache.proofs.Dealing.{total_of_zeros}
+use Rattle.hcc_cache.proofs.Beginnings.NewClientsDealt.{total_of_zeros}
 use Rattle.hcc_cache.specs.declared.cache.Cache.{Cache}
 use Rattle.hcc_cache.specs.declared.client.Client.{Client}
 use Rattle.hcc_cache.specs.declared.closed.Closed.{Closed}

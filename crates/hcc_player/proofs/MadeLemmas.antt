@@ -288,21 +288,21 @@ module _ {T : Type 0} (fits : T → Key → List ℕ → Type 0) (cache : Cache 
       unpinned_none cache k x p w e old new did.refuses
   adds (calls.Pin r k x p w) answers.Busy old new was now did = none_same old new did.client
   adds (calls.Pin r k x p w) answers.Nothing old new was now did = none_same old new did.client
-  adds (calls.Get r k) (answers.Refused e) old new was now did = none_same old new did.client
-  adds (calls.Get r k) answers.Busy old new was now did = none_same old new did.client
-  adds (calls.Get r k) answers.Hit old new was now did =
+  adds (calls.Lookup r k) (answers.Refused e) old new was now did = none_same old new did.client
+  adds (calls.Lookup r k) answers.Busy old new was now did = none_same old new did.client
+  adds (calls.Lookup r k) answers.Hit old new was now did =
       none_works _ old new did.finds.v did.finds.w _ did.finds.works
       did.finds.finds.searched.same refl refl
-  adds (calls.Get r k) answers.Miss old new was now did =
+  adds (calls.Lookup r k) answers.Miss old new was now did =
       none_works _ old new did.misses.v did.misses.w _ did.misses.works
       did.misses.misses.sought.searched.same refl refl
-  adds (calls.Get r k) answers.Nothing old new was now did = none_same old new did.client
-  adds (calls.Fork r f) (answers.Refused e) old new was now did = none_same old new did.client
-  adds (calls.Fork r f) answers.Busy old new was now did = none_same old new did.client
-  adds (calls.Fork r f) answers.Held old new was now did =
+  adds (calls.Lookup r k) answers.Nothing old new was now did = none_same old new did.client
+  adds (calls.Reref r f) (answers.Refused e) old new was now did = none_same old new did.client
+  adds (calls.Reref r f) answers.Busy old new was now did = none_same old new did.client
+  adds (calls.Reref r f) answers.Held old new was now did =
       none_works _ old new did.again.v did.again.w _ did.again.works did.again.searched.same refl
       refl
-  adds (calls.Fork r f) answers.Nothing old new was now did = none_same old new did.client
+  adds (calls.Reref r f) answers.Nothing old new was now did = none_same old new did.client
   adds (calls.Release r y z) answers.Busy old new was now did = none_same old new did.client
   adds (calls.Release r y z) answers.Freed old new was now did =
       gives_none cache did.handle z true old new did.releases

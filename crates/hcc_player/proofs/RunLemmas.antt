@@ -136,12 +136,12 @@ module _ (Puts : Key → List ℕ → Type 0) (config : Config) where
         }
       ]
 
-  get_choice : (s : State) (b : IsBounded s) (r : ℕ) (k : Key) (x : Option Insertion)
-      → s.registers r ≡ x → Choice s (calls.Get r k)
+  lookup_choice : (s : State) (b : IsBounded s) (r : ℕ) (k : Key) (x : Option Insertion)
+      → s.registers r ≡ x → Choice s (calls.Lookup r k)
   unfolding IsRight
-  get_choice s b r k (Some held) e =
+  lookup_choice s b r k (Some held) e =
       record { answer = answers.Busy; next = s; right = (rw e refl, refl); bounded = b }
-  get_choice s b r k None e =
+  lookup_choice s b r k None e =
       elim (look_choice s) [
         | inl may ↦ record {
           answer = answers.Miss;
@@ -157,14 +157,14 @@ module _ (Puts : Key → List ℕ → Type 0) (config : Config) where
         }
       ]
 
-  fork_choice : (s : State) (b : IsBounded s) (r g : ℕ) (x y : Option Insertion) → s.registers r ≡ x
-      → s.registers g ≡ y → Choice s (calls.Fork r g)
+  reref_choice : (s : State) (b : IsBounded s) (r g : ℕ) (x y : Option Insertion) → s.registers r ≡ x
+      → s.registers g ≡ y → Choice s (calls.Reref r g)
   unfolding IsRight
-  fork_choice s b r g (Some held) y e f =
+  reref_choice s b r g (Some held) y e f =
       record { answer = answers.Busy; next = s; right = (rw e refl, refl); bounded = b }
-  fork_choice s b r g None None e f =
+  reref_choice s b r g None None e f =
       record { answer = answers.Nothing; next = s; right = (e, f, refl); bounded = b }
-  fork_choice s b r g None (Some held) e f =
+  reref_choice s b r g None (Some held) e f =
       elim (look_choice s) [
         | inl may ↦ record {
           answer = answers.Held;
@@ -229,8 +229,8 @@ module _ (Puts : Key → List ℕ → Type 0) (config : Config) where
   unfolding IsRight
   choice s b (calls.Insert k t q v) = put_choice s b k t q v
   choice s b (calls.Pin r k t q v) = pin_choice s b r k t q v (s.registers r) refl
-  choice s b (calls.Get r k) = get_choice s b r k (s.registers r) refl
-  choice s b (calls.Fork r g) = fork_choice s b r g (s.registers r) (s.registers g) refl refl
+  choice s b (calls.Lookup r k) = lookup_choice s b r k (s.registers r) refl
+  choice s b (calls.Reref r g) = reref_choice s b r g (s.registers r) (s.registers g) refl refl
   choice s b (calls.Release r u e) = release_choice s b r u e (s.registers r) refl
   choice s b (calls.Value r) = value_choice s b r (s.registers r) refl
   choice s b (calls.Erase k) = record {

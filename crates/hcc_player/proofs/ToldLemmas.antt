@@ -12,7 +12,7 @@ use Rattle.hcc_cache.specs.Clients.{Insertion}
 use Rattle.hcc_cache.specs.Opened.{IsCacheOf, IsOpened}
 use Rattle.hcc_cache.specs.Stays.{Stays}
 use Rattle.hcc_cache.specs.Totals.{LoadsEachOccupancy, LoadsEachUsage}
-use Rattle.hcc_cache.proofs.Staying.{stays_then}
+use Rattle.hcc_cache.proofs.Clients.ShownAfterwards.{stays_then}
 use Rattle.hcc_player.specs.declared.run.answer.Answer.{Answer}
 use Rattle.hcc_player.specs.declared.run.answer.Answer.TheVariants as answers
 use Rattle.hcc_player.specs.declared.run.call.Call.{Call}
@@ -78,28 +78,28 @@ module _ {T : Type 0} (fits : T → Key → List ℕ → Type 0) (config : Confi
       tells_same config tag cache is_of one t.keys old new did.client agrees.tells
   after l (calls.Pin r k x p v) answers.Nothing t old new was now is exact did cause agrees =
       tells_same config tag cache is_of one t.keys old new did.client agrees.tells
-  after l (calls.Get r k) (answers.Refused e) t old new was now is exact did cause agrees =
+  after l (calls.Lookup r k) (answers.Refused e) t old new was now is exact did cause agrees =
       tells_same config tag cache is_of one t.keys old new did.client agrees.tells
-  after l (calls.Get r k) answers.Busy t old new was now is exact did cause agrees =
+  after l (calls.Lookup r k) answers.Busy t old new was now is exact did cause agrees =
       tells_same config tag cache is_of one t.keys old new did.client agrees.tells
-  after l (calls.Get r k) answers.Hit t old new was now is exact did cause agrees =
+  after l (calls.Lookup r k) answers.Hit t old new was now is exact did cause agrees =
       tells_more config tag cache is_of one k true t.keys new
       (tells_stays config tag cache is_of one t.keys old new did.stays agrees.tells)
       (shows_stays config tag cache is_of one k true old new did.stays (first_some config tag cache
       is_of one k old (exact.hits r k is refl)))
-  after l (calls.Get r k) answers.Miss t old new was now is exact did cause agrees =
+  after l (calls.Lookup r k) answers.Miss t old new was now is exact did cause agrees =
       tells_more config tag cache is_of one k false t.keys new
       (tells_stays config tag cache is_of one t.keys old new did.stays agrees.tells)
       (shows_stays config tag cache is_of one k false old new did.stays (exact.misses r k is refl))
-  after l (calls.Get r k) answers.Nothing t old new was now is exact did cause agrees =
+  after l (calls.Lookup r k) answers.Nothing t old new was now is exact did cause agrees =
       tells_same config tag cache is_of one t.keys old new did.client agrees.tells
-  after l (calls.Fork r f) (answers.Refused e) t old new was now is exact did cause agrees =
+  after l (calls.Reref r f) (answers.Refused e) t old new was now is exact did cause agrees =
       tells_same config tag cache is_of one t.keys old new did.client agrees.tells
-  after l (calls.Fork r f) answers.Busy t old new was now is exact did cause agrees =
+  after l (calls.Reref r f) answers.Busy t old new was now is exact did cause agrees =
       tells_same config tag cache is_of one t.keys old new did.client agrees.tells
-  after l (calls.Fork r f) answers.Held t old new was now is exact did cause agrees =
+  after l (calls.Reref r f) answers.Held t old new was now is exact did cause agrees =
       tells_stays config tag cache is_of one t.keys old new did.stays agrees.tells
-  after l (calls.Fork r f) answers.Nothing t old new was now is exact did cause agrees =
+  after l (calls.Reref r f) answers.Nothing t old new was now is exact did cause agrees =
       tells_same config tag cache is_of one t.keys old new did.client agrees.tells
   after l (calls.Release r y z) answers.Busy t old new was now is exact did cause agrees =
       tells_same config tag cache is_of one t.keys old new did.client agrees.tells
@@ -153,12 +153,12 @@ module _ {T : Type 0} (fits : T → Key → List ℕ → Type 0) (config : Confi
 
   -- a look-up's key is of words
   hit_words : (register : ℕ) (key : Key) (old new : Client T) (was now : List Filled)
-      → Does fits cache (calls.Get register key) answers.Hit old new was now → IsOfWords key
+      → Does fits cache (calls.Lookup register key) answers.Hit old new was now → IsOfWords key
   unfolding Does
   hit_words register key old new was now did = did.words
 
   miss_words : (register : ℕ) (key : Key) (old new : Client T) (was now : List Filled)
-      → Does fits cache (calls.Get register key) answers.Miss old new was now → IsOfWords key
+      → Does fits cache (calls.Lookup register key) answers.Miss old new was now → IsOfWords key
   unfolding Does
   miss_words register key old new was now did = did.words
 

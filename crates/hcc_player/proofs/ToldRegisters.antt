@@ -98,19 +98,19 @@ module _ (Puts : Key → List ℕ → Type 0) (config : Config) where
       refl)
   held_right (calls.Pin r k x p v) (answers.Refused e) held s next h agrees =
       unpinned_as held x e s next h.1 agrees
-  held_right (calls.Get r k) answers.Busy held s next h agrees = same_as held s next h.1 agrees
-  held_right (calls.Get r k) answers.Hit held s next h agrees =
+  held_right (calls.Lookup r k) answers.Busy held s next h agrees = same_as held s next h.1 agrees
+  held_right (calls.Lookup r k) answers.Hit held s next h agrees =
       rw h.2.3 (filled_as held s r h.2.0 false (Some k) agrees (ap Some (sym h.2.1)))
-  held_right (calls.Get r k) answers.Miss held s next h agrees = same_as held s next h.2 agrees
-  held_right (calls.Get r k) (answers.Refused e) held s next h agrees =
+  held_right (calls.Lookup r k) answers.Miss held s next h agrees = same_as held s next h.2 agrees
+  held_right (calls.Lookup r k) (answers.Refused e) held s next h agrees =
       same_as held s next h.2 agrees
-  held_right (calls.Fork r f) answers.Busy held s next h agrees = same_as held s next h.1 agrees
-  held_right (calls.Fork r f) answers.Nothing held s next h agrees =
+  held_right (calls.Reref r f) answers.Busy held s next h agrees = same_as held s next h.1 agrees
+  held_right (calls.Reref r f) answers.Nothing held s next h agrees =
       same_as held s next h.2 agrees
-  held_right (calls.Fork r f) answers.Held held s next h agrees =
+  held_right (calls.Reref r f) answers.Held held s next h agrees =
       rw h.2.2 (filled_as held s r h.2.0 (s.alone f) (held f) agrees
       (agrees f ∙ ap (key_if (s.alone f)) h.2.1))
-  held_right (calls.Fork r f) (answers.Refused e) held s next h agrees =
+  held_right (calls.Reref r f) (answers.Refused e) held s next h agrees =
       same_as held s next h.3 agrees
   held_right (calls.Release r y z) answers.Freed held s next h agrees =
       rw h.1 (emptied_as held s r agrees)

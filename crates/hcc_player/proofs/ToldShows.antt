@@ -35,7 +35,7 @@ use Rattle.hcc_cache.specs.Moments.{KnowsShown}
 use Rattle.hcc_cache.specs.Opened.{IsCacheOf, KnowsNoneShown}
 use Rattle.hcc_cache.specs.Sharding.{key_to}
 use Rattle.hcc_cache.specs.Stays.{ReleasesPin, Stays}
-use Rattle.hcc_cache.proofs.Readings.{key_back}
+use Rattle.hcc_cache.proofs.Searches.ReadByHandle.{key_back}
 use Rattle.hcc_player.specs.RunAlone.{HidesAll, InWorld, ShowsFirst}
 use Rattle.hcc_player.specs.RunCalls.{IsOfWords, GivesBack}
 use Rattle.hcc_player.specs.RunTold.{Keys, with_freed, with_told}

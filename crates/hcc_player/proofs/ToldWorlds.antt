@@ -25,7 +25,7 @@ use Rattle.hcc_shard.specs.Stays.{ReleasesAt}
 use Rattle.hcc_cache.specs.Clients.{Held}
 use Rattle.hcc_cache.specs.Keys.{key_from}
 use Rattle.hcc_cache.specs.Sharding.{key_to}
-use Rattle.hcc_cache.proofs.Readings.{key_back}
+use Rattle.hcc_cache.proofs.Searches.ReadByHandle.{key_back}
 use Rattle.hcc_player.specs.RunAlone.{ShowsNone}
 use Rattle.hcc_player.specs.RunCalls.{IsOfWords}
 use Rattle.hcc_player.specs.RunTold.{Keys, only_gone, with_freed, with_told}

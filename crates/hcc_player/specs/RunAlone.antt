@@ -68,9 +68,9 @@ module _ {T : Type 0} (cache : Cache T) where
   -- What the answer of a line says of what the client knew before its call. A look-up hits exactly
   -- where the key is shown; an erasure hides all that is shown of the key.
   pub record IsExact (line : RunLine) (answer : Answer) (old new : Client T) : Type 0 where
-    pub hits : (register : ℕ) (key : Key) → line.call ≡ calls.Get register key
+    pub hits : (register : ℕ) (key : Key) → line.call ≡ calls.Lookup register key
         → answer ≡ answers.Hit → InWorld key ShowsFirst old
-    pub misses : (register : ℕ) (key : Key) → line.call ≡ calls.Get register key
+    pub misses : (register : ℕ) (key : Key) → line.call ≡ calls.Lookup register key
         → answer ≡ answers.Miss → InWorld key ShowsNone old
     pub erases : (key : Key) (count : ℕ) → line.call ≡ calls.Erase key
         → answer ≡ answers.Erased count → HidesAll key count old new

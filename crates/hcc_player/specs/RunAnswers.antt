@@ -55,23 +55,23 @@ module _ (Puts : Key → List ℕ → Type 0) (config : Config) where
       (record { key = key; value = value; charge = charge }) true new
   IsRight s (calls.Pin register key charge priority value) (answers.Refused error) new =
       IsEmpty s register × RefusesPin config charge error s new
-  IsRight s (calls.Get register key) answers.Busy new = IsFull s register × (new ≡ s)
-  IsRight s (calls.Get register key) answers.Hit new =
+  IsRight s (calls.Lookup register key) answers.Busy new = IsFull s register × (new ≡ s)
+  IsRight s (calls.Lookup register key) answers.Hit new =
       IsEmpty s register × MayHold config s
       × ((held : Insertion) × (held.key ≡ key) × Puts key held.value
       × (new ≡ with_filled s register held false))
-  IsRight s (calls.Get register key) answers.Miss new =
+  IsRight s (calls.Lookup register key) answers.Miss new =
       IsEmpty s register × MayHold config s × (new ≡ s)
-  IsRight s (calls.Get register key) (answers.Refused error) new =
+  IsRight s (calls.Lookup register key) (answers.Refused error) new =
       IsEmpty s register × IsRefused config error s × (new ≡ s)
-  IsRight s (calls.Fork register from) answers.Busy new = IsFull s register × (new ≡ s)
-  IsRight s (calls.Fork register from) answers.Nothing new =
+  IsRight s (calls.Reref register from) answers.Busy new = IsFull s register × (new ≡ s)
+  IsRight s (calls.Reref register from) answers.Nothing new =
       IsEmpty s register × IsEmpty s from × (new ≡ s)
-  IsRight s (calls.Fork register from) answers.Held new =
+  IsRight s (calls.Reref register from) answers.Held new =
       IsEmpty s register × MayHold config s
       × ((held : Insertion) × (s.registers from ≡ Some held)
       × (new ≡ with_filled s register held (s.alone from)))
-  IsRight s (calls.Fork register from) (answers.Refused error) new =
+  IsRight s (calls.Reref register from) (answers.Refused error) new =
       IsEmpty s register × IsFull s from × IsRefused config error s × (new ≡ s)
   IsRight s (calls.Release register useful erase) answers.Freed new =
       IsFull s register × (new ≡ with_emptied s register)

@@ -165,14 +165,14 @@ module _ {T : Type 0} (fits : T → Key → List ℕ → Type 0) (cache : Cache 
       MakesPinned key charge priority value inserted.Standalone (at now register) old new
   Does (calls.Pin register key charge priority value) (answers.Refused error) old new was now =
       MakesNone key charge priority value error old new
-  Does (calls.Get register key) answers.Hit old new was now =
+  Does (calls.Lookup register key) answers.Hit old new was now =
       FindsInto key (at now register) old new
-  Does (calls.Get register key) answers.Miss old new was now = FindsNone key old new
-  Does (calls.Get register key) (answers.Refused error) old new was now =
+  Does (calls.Lookup register key) answers.Miss old new was now = FindsNone key old new
+  Does (calls.Lookup register key) (answers.Refused error) old new was now =
       DoesNothing old new was now
-  Does (calls.Fork register from) answers.Held old new was now =
+  Does (calls.Reref register from) answers.Held old new was now =
       RefersAgain (at was from) (at now register) old new
-  Does (calls.Fork register from) (answers.Refused error) old new was now =
+  Does (calls.Reref register from) (answers.Refused error) old new was now =
       DoesNothing old new was now
   Does (calls.Release register useful erase) answers.Freed old new was now =
       GivesBack useful erase true (at was register) (at now register) old new

@@ -61,19 +61,19 @@ module _ (config : Config) where
     value ← value_of (8 * config.room) (word_at words 7)
     Ok (record { client = client; call = calls.Pin register key charge priority value }))
 
-  unfoldable pub get_line : List (List ℕ) → Result RunLine TextFault
-  get_line words = of_words 5 words (do
+  unfoldable pub lookup_line : List (List ℕ) → Result RunLine TextFault
+  lookup_line words = of_words 5 words (do
     client ← number_below config.clients (word_at words 0)
     register ← register_at words 2
     key ← key_at words 3
-    Ok (record { client = client; call = calls.Get register key }))
+    Ok (record { client = client; call = calls.Lookup register key }))
 
-  unfoldable pub fork_line : List (List ℕ) → Result RunLine TextFault
-  fork_line words = of_words 4 words (do
+  unfoldable pub reref_line : List (List ℕ) → Result RunLine TextFault
+  reref_line words = of_words 4 words (do
     client ← number_below config.clients (word_at words 0)
     register ← register_at words 2
     from ← register_at words 3
-    Ok (record { client = client; call = calls.Fork register from }))
+    Ok (record { client = client; call = calls.Reref register from }))
 
   unfoldable pub release_line : List (List ℕ) → Result RunLine TextFault
   release_line words = of_words 5 words (do
@@ -115,8 +115,8 @@ module _ (config : Config) where
   -- by the letter: of what registers hold
   unfoldable pub held_line : List ℕ → List (List ℕ) → Result RunLine TextFault
   held_line letter words =
-      if bytes_eq letter (codes "G") then get_line words
-      else if bytes_eq letter (codes "F") then fork_line words
+      if bytes_eq letter (codes "G") then lookup_line words
+      else if bytes_eq letter (codes "F") then reref_line words
       else if bytes_eq letter (codes "R") then release_line words
       else if bytes_eq letter (codes "V") then value_line words
       else Err BadWord

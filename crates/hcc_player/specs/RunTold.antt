@@ -56,8 +56,8 @@ keys_after (calls.Insert key charge priority value) answers.Placed held keys =
     with_told key true keys
 keys_after (calls.Pin register key charge priority value) answers.Placed held keys =
     with_told key true keys
-keys_after (calls.Get register key) answers.Hit held keys = with_told key true keys
-keys_after (calls.Get register key) answers.Miss held keys = with_told key false keys
+keys_after (calls.Lookup register key) answers.Hit held keys = with_told key true keys
+keys_after (calls.Lookup register key) answers.Miss held keys = with_told key false keys
 keys_after (calls.Erase key) (answers.Erased count) held keys = with_told key false keys
 keys_after (calls.Release register useful erase) answers.Freed held keys =
     with_freed (held register) keys
@@ -69,8 +69,8 @@ held_after (calls.Pin register key charge priority value) answers.Placed held =
     with_register held register (Some key)
 held_after (calls.Pin register key charge priority value) answers.Standalone held =
     with_register held register None
-held_after (calls.Get register key) answers.Hit held = with_register held register (Some key)
-held_after (calls.Fork register from) answers.Held held = with_register held register (held from)
+held_after (calls.Lookup register key) answers.Hit held = with_register held register (Some key)
+held_after (calls.Reref register from) answers.Held held = with_register held register (held from)
 held_after (calls.Release register useful erase) answers.Freed held =
     with_register held register None
 held_after (calls.Release register useful erase) answers.Kept held =
@@ -130,9 +130,9 @@ module _ (config : Config) where
   -- which there is room so isn't refused for want of it, and where its key isn't there its entry
   -- isn't left out of the table.
   pub record IsTold (told : Told) (line : RunLine) (answer : Answer) : Type 0 where
-    pub hits : (register : ℕ) (key : Key) → line.call ≡ calls.Get register key
+    pub hits : (register : ℕ) (key : Key) → line.call ≡ calls.Lookup register key
         → told.keys key ≡ Some true → ¬ (answer ≡ answers.Miss)
-    pub misses : (register : ℕ) (key : Key) → line.call ≡ calls.Get register key
+    pub misses : (register : ℕ) (key : Key) → line.call ≡ calls.Lookup register key
         → told.keys key ≡ Some false → ¬ (answer ≡ answers.Hit)
     pub erases : (key : Key) (count : ℕ) → line.call ≡ calls.Erase key
         → answer ≡ answers.Erased count → told.keys key ≡ Some true → 1 ≤ count

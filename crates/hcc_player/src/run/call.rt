@@ -22,12 +22,12 @@ pub(crate) enum Call {
         value: Bytes,
     },
     /// `c G h k0 k1`: a look-up into a register.
-    Get {
+    Lookup {
         register: u32,
         key: Key,
     },
     /// `c F h g`: one handle more on what another register holds.
-    Fork {
+    Reref {
         register: u32,
         from: u32,
     },

@@ -59,8 +59,8 @@ pub(crate) fn answer<T: Tag>(
             charge,
             priority,
         ),
-        Call::Get { register, key } => get(cache, client, registers, register as usize, key),
-        Call::Fork { register, from } => fork(
+        Call::Lookup { register, key } => lookup(cache, client, registers, register as usize, key),
+        Call::Reref { register, from } => reref(
             cache,
             client,
             registers,
@@ -151,7 +151,7 @@ fn pin<T: Tag>(
 }
 
 /// Looks a key up into a register.
-fn get<T: Tag>(
+fn lookup<T: Tag>(
     cache: &Cache<T>,
     client: &mut Client<T>,
     registers: &mut Registers,
@@ -159,9 +159,9 @@ fn get<T: Tag>(
     key: Key,
 ) -> Result<Answer, AllocError>
     requires { CanPlay T.fits cache.now client.old registers.old.filled.items }
-    ensures goes { IfOk result (λ answer. Goes T.fits cache.now (Call.Get register key) answer
+    ensures goes { IfOk result (λ answer. Goes T.fits cache.now (Call.Lookup register key) answer
         client.old client.new registers.old.filled.items registers.new.filled.items) }
-    ensures did { IfOk result (λ answer. Does T.fits cache.now (Call.Get register key) answer
+    ensures did { IfOk result (λ answer. Does T.fits cache.now (Call.Lookup register key) answer
         client.old client.new registers.old.filled.items registers.new.filled.items) }
 {
     if registers.get(register).is_some() {
@@ -179,7 +179,7 @@ fn get<T: Tag>(
 }
 
 /// Fills a register with one handle more on what another holds.
-fn fork<T: Tag>(
+fn reref<T: Tag>(
     cache: &Cache<T>,
     client: &mut Client<T>,
     registers: &mut Registers,
@@ -187,9 +187,9 @@ fn fork<T: Tag>(
     from: usize,
 ) -> Result<Answer, AllocError>
     requires { CanPlay T.fits cache.now client.old registers.old.filled.items }
-    ensures goes { IfOk result (λ answer. Goes T.fits cache.now (Call.Fork register from) answer
+    ensures goes { IfOk result (λ answer. Goes T.fits cache.now (Call.Reref register from) answer
         client.old client.new registers.old.filled.items registers.new.filled.items) }
-    ensures did { IfOk result (λ answer. Does T.fits cache.now (Call.Fork register from) answer
+    ensures did { IfOk result (λ answer. Does T.fits cache.now (Call.Reref register from) answer
         client.old client.new registers.old.filled.items registers.new.filled.items) }
 {
     if registers.get(register).is_some() {

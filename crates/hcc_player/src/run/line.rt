@@ -1,7 +1,7 @@
 //! The grammar of traces of calls.
 ghost use Rattle.std.specs.Prelude.{◌≡◌, ◌+◌, ◌<◌, map, true, false, length, IfOk};
 ghost use Rattle.hcc_player.specs.RunLine.{run_line, run_words, known_line, held_line};
-ghost use Rattle.hcc_player.specs.RunLine.{insert_line, pin_line, get_line, fork_line, release_line};
+ghost use Rattle.hcc_player.specs.RunLine.{insert_line, pin_line, lookup_line, reref_line, release_line};
 ghost use Rattle.hcc_player.specs.RunLine.{value_line, erase_line, totals_line, word_line, stats_line};
 ghost use Rattle.hcc_player.specs.RunLine.{register_at, key_at, priority_of, choice_of, IsSound};
 ghost use Rattle.hcc_player.specs.Value.{Gives};
@@ -94,10 +94,10 @@ fn held_line(config: &Config, letter: &[u8], words: &[&[u8]]) -> Result<RunLine,
     ensures sound { IfOk result (IsSound config.now) }
 {
     if letter == b"G".as_slice() {
-        return get_line(config, words);
+        return lookup_line(config, words);
     }
     if letter == b"F".as_slice() {
-        return fork_line(config, words);
+        return reref_line(config, words);
     }
     if letter == b"R".as_slice() {
         return release_line(config, words);
@@ -158,9 +158,9 @@ fn pin_line(alloc: Global, config: &Config, words: &[&[u8]]) -> Result<RunLine, 
     })
 }
 
-#[tactic(auto, unfolding(crate::specs::RunLine::get_line))]
-fn get_line(config: &Config, words: &[&[u8]]) -> Result<RunLine, TextFault>
-    ensures says { result ≡ get_line config.now (map (λ w. w.now) words.now) }
+#[tactic(auto, unfolding(crate::specs::RunLine::lookup_line))]
+fn lookup_line(config: &Config, words: &[&[u8]]) -> Result<RunLine, TextFault>
+    ensures says { result ≡ lookup_line config.now (map (λ w. w.now) words.now) }
     ensures sound { IfOk result (IsSound config.now) }
 {
     if words.len() != 5 {
@@ -171,13 +171,13 @@ fn get_line(config: &Config, words: &[&[u8]]) -> Result<RunLine, TextFault>
     let key = key_at(words, 3)?;
     Ok(RunLine {
         client,
-        call: Call::Get { register, key },
+        call: Call::Lookup { register, key },
     })
 }
 
-#[tactic(auto, unfolding(crate::specs::RunLine::fork_line))]
-fn fork_line(config: &Config, words: &[&[u8]]) -> Result<RunLine, TextFault>
-    ensures says { result ≡ fork_line config.now (map (λ w. w.now) words.now) }
+#[tactic(auto, unfolding(crate::specs::RunLine::reref_line))]
+fn reref_line(config: &Config, words: &[&[u8]]) -> Result<RunLine, TextFault>
+    ensures says { result ≡ reref_line config.now (map (λ w. w.now) words.now) }
     ensures sound { IfOk result (IsSound config.now) }
 {
     if words.len() != 4 {
@@ -188,7 +188,7 @@ fn fork_line(config: &Config, words: &[&[u8]]) -> Result<RunLine, TextFault>
     let from = register_at(words, 3)?;
     Ok(RunLine {
         client,
-        call: Call::Fork { register, from },
+        call: Call::Reref { register, from },
     })
 }
 

@@ -3,7 +3,7 @@ use Rattle.std.proofs.lemmas.Option.{slice_get_read}
 use Rattle.hcc_rule.proofs.Basics.Lists.{within}
 use Rattle.hcc_shard.specs.Ended.{past_of}
 use Rattle.hcc_cache.specs.Ended.{IsMostKnown}
-use Rattle.hcc_cache.proofs.Joining.{joins_first, joins_more, joins_all}
+use Rattle.hcc_cache.proofs.Endings.JoinedSeats.{joins_first, joins_more, joins_all}
 use Rattle.hcc_cache.proofs.closing.joined.Goals as goal
 
 pub loop-k-init : goal.loop-k-init

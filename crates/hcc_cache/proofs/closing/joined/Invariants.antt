@@ -1,4 +1,4 @@
-use Rattle.hcc_cache.proofs.Joining.{Joins}
+use Rattle.hcc_cache.proofs.Endings.JoinedSeats.{Joins}
 use Rattle.hcc_cache.proofs.closing.joined.Given as goal
 
 abbrev pub invariant-loop-k : goal.invariant-loop-k

@@ -2,7 +2,7 @@ use Rattle.hcc_rule.specs.Closing.{words_of}
 use Rattle.hcc_table.specs.Standing.{world_at}
 use Rattle.hcc_shard.specs.Callers.{view_of}
 use Rattle.hcc_cache.specs.Keys.{fits_seeded}
-use Rattle.hcc_cache.proofs.ClosedAlone.{closed_alone, shown_alone}
+use Rattle.hcc_cache.proofs.Endings.OneClientClosed.{closed_alone, shown_alone}
 use Rattle.hcc_cache.proofs.closing.law_closed.Goals as goal
 
 pub returns-clause-worlds : goal.returns-clause-worlds

@@ -1,8 +1,8 @@
 use Rattle.std.proofs.Common.{◌≡◌, ◌+◌, [], ◌∷◌, ◌++◌, Some, take, refl, length, slice_get, add-one, arith}
 use Rattle.std.proofs.lemmas.Option.{slice_get_read}
 use Rattle.hcc_cache.specs.Clients.{held_by}
-use Rattle.hcc_cache.proofs.Holders.{holder_more}
-use Rattle.hcc_cache.proofs.Lists.{take_snoc}
+use Rattle.hcc_cache.proofs.Endings.LeastHolder.{holder_more}
+use Rattle.hcc_cache.proofs.Basics.Lists.{take_snoc}
 use Rattle.hcc_cache.proofs.closing.least_holder.Goals as goal
 
 pub loop-client-preserved : goal.loop-client-preserved

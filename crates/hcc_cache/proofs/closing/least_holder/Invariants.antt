@@ -1,6 +1,6 @@
 use Rattle.std.proofs.Common.{take, IfSome, IfNone}
 use Rattle.hcc_cache.specs.Closings.{IsLeastHolder}
-use Rattle.hcc_cache.proofs.Holders.{NoneHolds}
+use Rattle.hcc_cache.proofs.Endings.LeastHolder.{NoneHolds}
 use Rattle.hcc_cache.proofs.closing.least_holder.Given as goal
 
 abbrev pub invariant-loop-client : goal.invariant-loop-client

@@ -6,7 +6,7 @@ use Rattle.hcc_cache.specs.Drafts.{takes}
 use Rattle.hcc_cache.specs.Images.{visible_of}
 use Rattle.hcc_cache.specs.Sharding.{shard_of}
 use Rattle.hcc_cache.specs.Taken.{home_of}
-use Rattle.hcc_cache.proofs.DraftsFilled.{drafting_more, drafting_none, drafting_past, has_free}
+use Rattle.hcc_cache.proofs.Beginnings.DraftsFilled.{drafting_more, drafting_none, drafting_past, has_free}
 use Rattle.hcc_cache.proofs.drafting.drafted.Goals as goal
 
 pub loop-saved-init : goal.loop-saved-init
@@ -91,13 +91,13 @@ loop-saved-preserved-then-takes c =
     slice_get_read drafts (length drafts) shard d refl (omega arith)
     c.index_mut-draft.ensures.value in
     let home : home_of config (visible_of saved) ≡ shard =
-    ap (λ k. shard_of k config.shards) (sym c.key_to-key.ensures.words)
+    ap (λ k. shard_of k config.shards) (sym c.key_to-seeded.ensures.words)
     ∙ sym c.shard_of-shard.ensures.exact in
     let room = ap (takes config d saved.charge) (sym (c.len.ensures ∙ saved.value.ok.0)) in
     let before = rw c.in-Some.ensures.steps.0 at c.loop-saved.invariant in
     drafting_more config _ drafts _ (map visible_of c.next.new.self.rest.items) saved shard d
-    before at home c.put.new.self c.key_to-key.result c.put.ensures c.key_to-key.ensures.words
-    c.key_to-key.ensures.undone
+    before at home c.put.new.self c.key_to-seeded.result.in_shard c.put.ensures
+    c.key_to-seeded.ensures.words c.key_to-seeded.ensures.undone
     c.takes.ensures.small (room ∙ (sym c.takes.ensures.exact ∙ c.if-takes.true))
 
 pub loop-saved-preserved : goal.loop-saved-preserved
@@ -114,7 +114,7 @@ loop-saved-preserved c =
     slice_get_read drafts (length drafts) shard d refl (omega arith)
     c.index_mut-draft.ensures.value in
     let home : home_of config (visible_of saved) ≡ shard =
-    ap (λ k. shard_of k config.shards) (sym c.key_to-key.ensures.words)
+    ap (λ k. shard_of k config.shards) (sym c.key_to-seeded.ensures.words)
     ∙ sym c.shard_of-shard.ensures.exact in
     let room = ap (takes config d saved.charge) (sym (c.len.ensures ∙ saved.value.ok.0)) in
     let before = rw c.in-Some.ensures.steps.0 at c.loop-saved.invariant in

@@ -1,6 +1,6 @@
 use Rattle.std.proofs.Common.{map}
 use Rattle.hcc_cache.specs.Images.{visible_of}
-use Rattle.hcc_cache.proofs.DraftsFilled.{IsDrafting}
+use Rattle.hcc_cache.proofs.Beginnings.DraftsFilled.{IsDrafting}
 use Rattle.hcc_cache.proofs.drafting.drafted.Given as goal
 
 abbrev pub invariant-loop-saved : goal.invariant-loop-saved

@@ -1,4 +1,4 @@
-use Rattle.hcc_cache.proofs.Returning.{same_entries}
+use Rattle.hcc_cache.proofs.Images.ClosedAgain.{same_entries}
 use Rattle.hcc_cache.proofs.image.law_again.Goals as goal
 
 pub returns : goal.returns

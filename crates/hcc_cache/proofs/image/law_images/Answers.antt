@@ -1,4 +1,4 @@
-use Rattle.hcc_cache.proofs.Imaging.{visible_right}
+use Rattle.hcc_cache.proofs.Images.ShardByShard.{visible_right}
 use Rattle.hcc_cache.proofs.image.law_images.Goals as goal
 
 pub returns : goal.returns

@@ -1,4 +1,4 @@
-use Rattle.hcc_cache.proofs.Whole.{whole_taken}
+use Rattle.hcc_cache.proofs.Images.AllComesBack.{whole_taken}
 use Rattle.hcc_cache.proofs.image.law_whole.Goals as goal
 
 pub returns : goal.returns

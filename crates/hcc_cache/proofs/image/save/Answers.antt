@@ -1,5 +1,5 @@
 use Rattle.std.proofs.Common.{refl}
-use Rattle.hcc_cache.proofs.Imaging.{saving_more}
+use Rattle.hcc_cache.proofs.Images.ShardByShard.{saving_more}
 use Rattle.hcc_cache.proofs.image.save.Goals as goal
 
 pub loop-entry-preserved : goal.loop-entry-preserved

@@ -1,4 +1,4 @@
-use Rattle.hcc_cache.proofs.Imaging.{IsSaving}
+use Rattle.hcc_cache.proofs.Images.ShardByShard.{IsSaving}
 use Rattle.hcc_cache.proofs.image.save.Given as goal
 
 abbrev pub invariant-loop-entry : goal.invariant-loop-entry

@@ -29,14 +29,14 @@ returns g c config tag cache is_of one key hidden old new h =
     ap (λ (x : Geometry). x.clients) made.geometry ∙ one in
     let few : slots_of h.shard.table ≡ config.slots =
     ap (λ (x : Geometry). x.slots) made.geometry in
-    let under = key_to cache.seed key in
+    let seeded = key_to cache.seed key in
     let was = world_at h.shard.table h.was.seat in
     let is = world_at h.shard.table h.is.seat in
-    let hides = c.law_hidden_alone.ensures.hides h.shard.table under IN_FLIGHT h.did.all
+    let hides = c.law_hidden_alone.ensures.hides h.shard.table seeded IN_FLIGHT h.did.all
     h.was.effort h.is.effort h.was.seat h.did.mid alone h.did.hides in
     let stays = c.law_hidden_alone.ensures.settles h.shard.table h.did.mid h.is.seat alone
     h.did.settles in
-    subst (λ n. HidesShown n under hidden was is) few
-    (subst (λ n. HidesShown (slots_of h.shard.table) under n was is) h.did.hidden_is
-    (hidden_still (slots_of h.shard.table) under h.did.all.hidden was
+    subst (λ n. HidesShown n seeded hidden was is) few
+    (subst (λ n. HidesShown (slots_of h.shard.table) seeded n was is) h.did.hidden_is
+    (hidden_still (slots_of h.shard.table) seeded h.did.all.hidden was
     (world_at h.shard.table h.did.mid) is hides stays))

@@ -3,7 +3,7 @@ use Rattle.slab.specs.Slab.{get}
 use Rattle.hcc_cache.specs.declared.handle.Handle.{Handle}
 use Rattle.hcc_cache.specs.declared.holding.Hold.{Hold}
 use Rattle.hcc_cache.specs.Clients.{hold_of}
-use Rattle.hcc_cache.proofs.Framing.{hold_there, own_parts}
+use Rattle.hcc_cache.proofs.Handles.SameHolds.{hold_there, own_parts}
 use Rattle.hcc_cache.proofs.laws.law_handles.Goals as goal
 
 pub returns-clause-held : goal.returns-clause-held

@@ -6,7 +6,7 @@ use Rattle.hcc_table.specs.Still.{is_still}
 use Rattle.hcc_table.proofs.Seeking.{goes_event}
 use Rattle.hcc_shard.specs.Callers.{LoadsOccupancy, view_of}
 use Rattle.hcc_shard.specs.Counted.{LoadsUsage}
-use Rattle.hcc_cache.proofs.Staying.{each_stays, knows_released, knows_still}
+use Rattle.hcc_cache.proofs.Clients.ShownAfterwards.{each_stays, knows_released, knows_still}
 use Rattle.hcc_cache.proofs.laws.law_kept_shown.Goals as goal
 
 pub returns-clause-stays : goal.returns-clause-stays

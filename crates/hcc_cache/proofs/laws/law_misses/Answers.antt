@@ -18,8 +18,8 @@ pub returns : goal.returns
 returns g c config tag s m key old new missed q slot low shows =
     by missed.did.0 missed.did.1 missed.did.2 q.quiet
   where
-    under : Key
-    under = key_to m.cache.seed key
+    seeded : Key
+    seeded = key_to m.cache.seed key
 
     same : m.shard ≡ missed.shard
     same = same_Some m.shard missed.shard
@@ -28,8 +28,8 @@ returns g c config tag s m key old new missed q slot low shows =
     holds : Holds (fits_seeded g.T.Tag.fits) (plan_of missed.shard) s
     holds = subst (λ x. Holds (fits_seeded g.T.Tag.fits) (plan_of x) s) same m.holds
 
-    there : ShowsKeyAt missed.shard.table under s slot
-    there = subst (λ x. ShowsKeyAt x.table under s slot) same shows
+    there : ShowsKeyAt missed.shard.table seeded s slot
+    there = subst (λ x. ShowsKeyAt x.table seeded s slot) same shows
 
     few : slot < slots_of missed.shard.table
     few =
@@ -38,10 +38,10 @@ returns g c config tag s m key old new missed q slot low shows =
         subst (λ x. slot < slots_of x.table) same (omega (arith, low, slots))
 
     by : (pin : Option Pin) → is_some pin ≡ false
-        → (found : SearchesAt (fits_seeded g.T.Tag.fits) missed.shard under old.used pin missed.was
+        → (found : SearchesAt (fits_seeded g.T.Tag.fits) missed.shard seeded old.used pin missed.was
         missed.is)
-        → IsQuietBy g.T.Tag.fits missed.shard under old.used s pin missed.was missed.is found → ⊥
+        → IsQuietBy g.T.Tag.fits missed.shard seeded old.used s pin missed.was missed.is found → ⊥
     by None none found quiet =
-        c.law_miss.ensures missed.shard.table under old.used missed.was.effort missed.is.effort
+        c.law_miss.ensures missed.shard.table seeded old.used missed.was.effort missed.is.effort
         missed.was.seat missed.is.seat found s holds quiet slot few there
     by (Some pin) some found quiet = absurd (true≢false some)

@@ -14,7 +14,7 @@ use Rattle.hcc_cache.specs.Calls.{shard_in}
 use Rattle.hcc_cache.specs.Inserts.{draft_of}
 use Rattle.hcc_cache.specs.Opened.{IsConfigured}
 use Rattle.hcc_cache.specs.Room.{HasRoom, HasRoomBeside}
-use Rattle.hcc_cache.proofs.Fitting.{found_beside, found_idles, found_idles_pinned, found_room, keeps_as, keeps_keys, keeps_pinned_as, keeps_pinned_keys, knows_over}
+use Rattle.hcc_cache.proofs.Insertions.WithoutEviction.{found_beside, found_idles, found_idles_pinned, found_room, keeps_as, keeps_keys, keeps_pinned_as, keeps_pinned_keys, knows_over}
 use Rattle.hcc_cache.proofs.laws.law_room.Goals as goal
 
 module _ {T : Type 0} (config : Config) (tag : T) (shard : Shard (Seeded T) Global)

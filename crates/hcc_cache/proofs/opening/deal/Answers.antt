@@ -5,7 +5,7 @@ use Rattle.hcc_core.proofs.ListLemmas.{read_last}
 use Rattle.hcc_cache.specs.declared.client.Client.{Client}
 use Rattle.hcc_cache.specs.Opened.{AreGiven, Gains}
 use Rattle.hcc_rule.proofs.Entries.ShowParts.{get_front}
-use Rattle.hcc_cache.proofs.Dealing.{given_more}
+use Rattle.hcc_cache.proofs.Beginnings.NewClientsDealt.{given_more}
 use Rattle.hcc_cache.proofs.opening.deal.Goals as goal
 
 pub loop-seat-preserved : goal.loop-seat-preserved

@@ -1,7 +1,7 @@
 use Rattle.std.proofs.Common.{◌+◌, [], ◌∷◌, ◌++◌, inl, inr, sym, refl, ap, ◌∙◌, length, slice_get}
 use Rattle.std.proofs.lemmas.List.{length_push}
 use Rattle.hcc_cache.specs.declared.client.Client.{Client}
-use Rattle.hcc_cache.proofs.Dealing.{get_push}
+use Rattle.hcc_cache.proofs.Beginnings.NewClientsDealt.{get_push}
 use Rattle.hcc_cache.proofs.opening.unseated.Goals as goal
 
 pub loop-number-preserved : goal.loop-number-preserved

@@ -1,4 +1,4 @@
-use Rattle.hcc_cache.proofs.Roomy.{roomy_taken}
+use Rattle.hcc_cache.proofs.Beginnings.AllComeIn.{roomy_taken}
 use Rattle.hcc_cache.proofs.reopening.law_all_taken.Goals as goal
 
 pub returns : goal.returns

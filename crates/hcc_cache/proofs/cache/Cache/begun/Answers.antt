@@ -2,10 +2,10 @@ use Rattle.std.proofs.Common.{◌≡◌, max, Some, length, length-set, map, sli
 use Rattle.std.proofs.lemmas.Option.{slice_get_read}
 use Rattle.hcc_cache.specs.Images.{visible_of}
 use Rattle.hcc_cache.specs.Taken.{split_of}
-use Rattle.hcc_cache.proofs.Beginning.{all_started, sharing_none}
-use Rattle.hcc_cache.proofs.Reopenings.{draft_accepted, draft_fitting, next_draft, reopened_all, reopening_more, reopening_none, right_taken}
+use Rattle.hcc_cache.proofs.Beginnings.ReopenedClientsDealt.{all_started, sharing_none}
+use Rattle.hcc_cache.proofs.Beginnings.ReopenedShards.{draft_accepted, draft_fitting, next_draft, reopened_all, reopening_more, reopening_none, right_taken}
 use Rattle.hcc_cache.specs.Reopened.{most_in}
-use Rattle.hcc_cache.proofs.Unknowing.{nothing_first, nothing_started}
+use Rattle.hcc_cache.proofs.Beginnings.KnowingNothing.{nothing_first, nothing_started}
 use Rattle.hcc_cache.proofs.cache.Cache.begun.Goals as goal
 
 pub loop-draft-init : goal.loop-draft-init

@@ -1,7 +1,7 @@
 use Rattle.std.proofs.Common.{map}
 use Rattle.hcc_cache.specs.Images.{visible_of}
 use Rattle.hcc_cache.specs.Taken.{split_of}
-use Rattle.hcc_cache.proofs.Reopenings.{IsReopening}
+use Rattle.hcc_cache.proofs.Beginnings.ReopenedShards.{IsReopening}
 use Rattle.hcc_cache.proofs.cache.Cache.begun.Given as goal
 
 abbrev pub invariant-loop-draft : goal.invariant-loop-draft

@@ -1,6 +1,6 @@
 use Rattle.std.proofs.Common.{◌≡◌, [], ◌∷◌, ◌++◌, option_to_list, refl, ap, ◌∙◌, length, reverse, arith}
 use Rattle.std.proofs.lemmas.List.{take_at}
-use Rattle.hcc_cache.proofs.Ended.{IsClosing, closed_all, closing_more, closing_none, has_last, names_enough, room_left, whole_all, worlds_all}
+use Rattle.hcc_cache.proofs.Endings.ClosedShards.{IsClosing, closed_all, closing_more, closing_none, has_last, names_enough, room_left, whole_all, worlds_all}
 use Rattle.hcc_cache.proofs.cache.Cache.closed.Goals as goal
 
 pub loop-shard-init : goal.loop-shard-init

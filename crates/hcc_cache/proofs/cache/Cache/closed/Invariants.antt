@@ -1,5 +1,5 @@
 use Rattle.std.proofs.Common.{vec_len}
-use Rattle.hcc_cache.proofs.Ended.{IsClosing}
+use Rattle.hcc_cache.proofs.Endings.ClosedShards.{IsClosing}
 use Rattle.hcc_cache.proofs.cache.Cache.closed.Given as goal
 
 abbrev pub invariant-loop-shard : goal.invariant-loop-shard

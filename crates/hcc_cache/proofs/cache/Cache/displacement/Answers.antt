@@ -3,13 +3,13 @@ use Rattle.std.specs.Vec.{with_item}
 use Rattle.hcc_shard.specs.Callers.{view_of, LoadsDisplacement}
 use Rattle.hcc_rule.specs.declared.geometry.Geometry.{Geometry}
 use Rattle.hcc_cache.specs.Clients.{view_by}
-use Rattle.hcc_cache.proofs.At.{counts_none, did_at, is_at, seated_at}
-use Rattle.hcc_cache.proofs.Resting.{keeps_same, knows_same, same_all}
-use Rattle.hcc_cache.proofs.Seats.{part_same, steps_set}
+use Rattle.hcc_cache.proofs.Clients.AtOneShard.{counts_none, did_at, is_at, seated_at}
+use Rattle.hcc_cache.proofs.Clients.HoldsTheSame.{keeps_same, knows_same, same_all}
+use Rattle.hcc_cache.proofs.Clients.Seats.{part_same, steps_set}
 use Rattle.hcc_rule.specs.Events.{count_done}
 use Rattle.hcc_table.specs.Still.{is_still}
 use Rattle.hcc_table.proofs.Seeking.{goes_event}
-use Rattle.hcc_cache.proofs.Staying.{stays_at}
+use Rattle.hcc_cache.proofs.Clients.ShownAfterwards.{stays_at}
 use Rattle.hcc_cache.proofs.cache.Cache.displacement.Goals as goal
 
 pub displacement-requires-clause-seat : goal.displacement-requires-clause-seat

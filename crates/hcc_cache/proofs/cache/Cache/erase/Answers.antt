@@ -10,10 +10,10 @@ use Rattle.hcc_cache.specs.declared.client.Client.{Client}
 use Rattle.hcc_cache.specs.Calls.{Works, shard_in}
 use Rattle.hcc_cache.specs.Keys.{fits_seeded}
 use Rattle.hcc_cache.specs.Sharding.{key_to, shard_of}
-use Rattle.hcc_cache.proofs.At.{did_at, does_at, is_at, seated_at, takes_for, works_at}
-use Rattle.hcc_cache.proofs.Dead.{all_held_dead}
-use Rattle.hcc_cache.proofs.Resting.{keeps_same, knows_same, same_erased}
-use Rattle.hcc_cache.proofs.Seats.{steps_set}
+use Rattle.hcc_cache.proofs.Clients.AtOneShard.{did_at, does_at, is_at, seated_at, takes_for, works_at}
+use Rattle.hcc_cache.proofs.Searches.MissedOrErasedKeys.{all_held_dead}
+use Rattle.hcc_cache.proofs.Clients.HoldsTheSame.{keeps_same, knows_same, same_erased}
+use Rattle.hcc_cache.proofs.Clients.Seats.{steps_set}
 use Rattle.hcc_cache.proofs.cache.Cache.erase.Goals as goal
 
 pub erase-requires : goal.erase-requires
@@ -35,8 +35,8 @@ returns-clause-known g c =
     let at = is_at cache old i c.index.result.now was c.requires
     c.shard_number-shard.ensures.inside c.index.ensures c.index_mut-seat.ensures.value in
     knows_same cache old _ i c.index.result.now was c.erase.new.seat at c.erase.ensures.seat
-    (same_erased (view_of was) (view_of c.erase.new.seat) c.key_to-under.result c.erase.result
-    c.erase.ensures.view) refl (record { rest = refl })
+    (same_erased (view_of was) (view_of c.erase.new.seat) c.key_to-seeded.result.in_shard
+    c.erase.result c.erase.ensures.view) refl (record { rest = refl })
 
 pub returns-clause-erased : goal.returns-clause-erased
 returns-clause-erased g c =
@@ -46,7 +46,7 @@ returns-clause-erased g c =
     let was = c.index_mut-seat.result.now in
     let at = is_at cache old i c.index.result.now was c.requires
     c.shard_number-shard.ensures.inside c.index.ensures c.index_mut-seat.ensures.value in
-    let words = c.key_to-under.ensures.words in
+    let words = c.key_to-seeded.ensures.words in
     let there = c.shard_number-shard.ensures.value
     ∙ ap (λ k. shard_of k (length cache.shards.items)) words in
     let is = c.erase.new.seat in
@@ -67,7 +67,7 @@ returns-clause-erased g c =
           all_held_dead cache old new c.args.key (view_of was) (view_of is) at.knows works dead;
       keeps =
           keeps_same cache old _ i c.index.result.now was c.erase.new.seat at c.erase.ensures.seat
-          (same_erased (view_of was) (view_of c.erase.new.seat) c.key_to-under.result
+          (same_erased (view_of was) (view_of c.erase.new.seat) c.key_to-seeded.result.in_shard
           c.erase.result c.erase.ensures.view) refl (record { rest = refl });
     }
 
@@ -79,7 +79,7 @@ returns-clause-searched g c =
     let was = c.index_mut-seat.result.now in
     let at = is_at cache old i c.index.result.now was c.requires
     c.shard_number-shard.ensures.inside c.index.ensures c.index_mut-seat.ensures.value in
-    let words = c.key_to-under.ensures.words in
+    let words = c.key_to-seeded.ensures.words in
     let there = c.shard_number-shard.ensures.value
     ∙ ap (λ k. shard_of k (length cache.shards.items)) words in
     did_at cache old _ i c.index.result.now was c.erase.new.seat at
@@ -99,7 +99,7 @@ returns-clause-counts g c =
     (record { seats = refl; number = refl; most = refl; seed = refl; capacity = (refl, refl) })
     SameEvictions c.erase.ensures.counts (shard_in cache c.args.key)
     (c.shard_number-shard.ensures.value
-    ∙ ap (λ k. shard_of k (length cache.shards.items)) c.key_to-under.ensures.words)
+    ∙ ap (λ k. shard_of k (length cache.shards.items)) c.key_to-seeded.ensures.words)
 
 pub returns-clause-frees : goal.returns-clause-frees
 returns-clause-frees g c =
@@ -123,7 +123,7 @@ returns-clause-frees g c =
     }) 9
     (more (view_of was) (view_of is)) more (shard_in cache c.args.key)
     (c.shard_number-shard.ensures.value
-    ∙ ap (λ k. shard_of k (length cache.shards.items)) c.key_to-under.ensures.words)
+    ∙ ap (λ k. shard_of k (length cache.shards.items)) c.key_to-seeded.ensures.words)
     (rw (← alike.0) c.erase.ensures.frees) (omega arith)
 
 pub returns-clause-steps : goal.returns-clause-steps

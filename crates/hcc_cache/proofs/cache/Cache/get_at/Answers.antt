@@ -5,10 +5,10 @@ use Rattle.hcc_shard.specs.Gets.{Gets}
 use Rattle.hcc_cache.specs.Calls.{shard_in}
 use Rattle.hcc_cache.specs.Keys.{fits_seeded}
 use Rattle.hcc_cache.specs.Sharding.{key_to}
-use Rattle.hcc_cache.proofs.At.{did_at, does_at, is_at, seated_at, takes_for}
-use Rattle.hcc_cache.proofs.Found.{keeps_left, knows_sought}
-use Rattle.hcc_cache.proofs.Gotten.{gets_for, seeks_at}
-use Rattle.hcc_cache.proofs.Staying.{stays_at}
+use Rattle.hcc_cache.proofs.Clients.AtOneShard.{did_at, does_at, is_at, seated_at, takes_for}
+use Rattle.hcc_cache.proofs.Searches.KnownAfterLookup.{keeps_left, knows_sought}
+use Rattle.hcc_cache.proofs.Searches.ReadByKey.{gets_for, seeks_at}
+use Rattle.hcc_cache.proofs.Clients.ShownAfterwards.{stays_at}
 use Rattle.hcc_cache.proofs.cache.Cache.get_at.Goals as goal
 
 pub get-requires : goal.get-requires

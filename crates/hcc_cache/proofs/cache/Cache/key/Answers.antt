@@ -1,5 +1,5 @@
 use Rattle.std.proofs.Common.{arith}
-use Rattle.hcc_cache.proofs.Readings.{key_kept}
+use Rattle.hcc_cache.proofs.Searches.ReadByHandle.{key_kept}
 use Rattle.hcc_cache.proofs.cache.Cache.key.Goals as goal
 
 pub returns-clause-exact : goal.returns-clause-exact

@@ -2,13 +2,13 @@ use Rattle.std.proofs.Common.{◌≡◌, List, ℕ, length, refl, arith}
 use Rattle.std.specs.Vec.{with_item}
 use Rattle.slab.specs.Slab.{get}
 use Rattle.hcc_cache.specs.declared.client.Client.{Client}
-use Rattle.hcc_cache.proofs.Again.{hold_within, pin_at, pinned_at, stand_there}
-use Rattle.hcc_cache.proofs.At.{ChangesAt, is_at, seated_at, takes_at}
-use Rattle.hcc_cache.proofs.Found.{IsLeft}
-use Rattle.hcc_cache.proofs.Framing.{hold_there}
-use Rattle.hcc_cache.proofs.Readings.{knows_read, reads_at, told_of}
+use Rattle.hcc_cache.proofs.Handles.OneMoreOnPinned.{hold_within, pin_at, pinned_at, stand_there}
+use Rattle.hcc_cache.proofs.Clients.AtOneShard.{ChangesAt, is_at, seated_at, takes_at}
+use Rattle.hcc_cache.proofs.Searches.KnownAfterLookup.{IsLeft}
+use Rattle.hcc_cache.proofs.Handles.SameHolds.{hold_there}
+use Rattle.hcc_cache.proofs.Searches.ReadByHandle.{knows_read, reads_at, told_of}
 use Rattle.hcc_table.proofs.Still.{seeks_still}
-use Rattle.hcc_cache.proofs.Staying.{stays_at, stays_same}
+use Rattle.hcc_cache.proofs.Clients.ShownAfterwards.{stays_at, stays_same}
 use Rattle.hcc_cache.proofs.cache.Cache.len_of.Goals as goal
 
 pub index_mut-seat-requires : goal.index_mut-seat-requires

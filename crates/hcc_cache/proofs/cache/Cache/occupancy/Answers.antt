@@ -4,8 +4,8 @@ use Rattle.hcc_core.proofs.SumLemmas.{total-append}
 use Rattle.hcc_rule.specs.Records.{different}
 use Rattle.hcc_shard.specs.Callers.{LoadsOccupancy}
 use Rattle.hcc_cache.specs.Clients.{view_at}
-use Rattle.hcc_cache.proofs.Each.{each_first, each_next}
-use Rattle.hcc_cache.proofs.Through.{goes_first, goes_on, sum_all, sum_next}
+use Rattle.hcc_cache.proofs.Clients.FoundAtEachShard.{each_first, each_next}
+use Rattle.hcc_cache.proofs.Clients.DoneAtAllShards.{goes_first, goes_on, sum_all, sum_next}
 use Rattle.hcc_cache.proofs.cache.Cache.occupancy.Goals as goal
 
 pub loop-shard-init : goal.loop-shard-init

@@ -6,9 +6,9 @@ use Rattle.hcc_core.proofs.ListLemmas.{read_other}
 use Rattle.hcc_rule.specs.declared.geometry.Geometry.{Geometry}
 use Rattle.hcc_shard.specs.Callers.{LoadsOccupancy, view_of}
 use Rattle.hcc_cache.specs.Clients.{view_by}
-use Rattle.hcc_cache.proofs.At.{counts_none, did_at, is_at, seated_at}
-use Rattle.hcc_cache.proofs.Resting.{keeps_same, knows_same, same_all}
-use Rattle.hcc_cache.proofs.Seats.{part_same, steps_set}
+use Rattle.hcc_cache.proofs.Clients.AtOneShard.{counts_none, did_at, is_at, seated_at}
+use Rattle.hcc_cache.proofs.Clients.HoldsTheSame.{keeps_same, knows_same, same_all}
+use Rattle.hcc_cache.proofs.Clients.Seats.{part_same, steps_set}
 use Rattle.hcc_cache.proofs.cache.Cache.occupancy_at.Goals as goal
 
 pub occupancy-requires : goal.occupancy-requires

@@ -5,8 +5,8 @@ use Rattle.hcc_shard.specs.Stays.{BeganWithinLimits}
 use Rattle.hcc_cache.specs.Keys.{fits_seeded}
 use Rattle.hcc_cache.specs.Opened.{IsConfigured}
 use Rattle.hcc_cache.specs.Reopened.{image_of}
-use Rattle.hcc_cache.proofs.Dealing.{dealt_more, dealt_none, opened}
-use Rattle.hcc_cache.proofs.Unknowing.{nothing_first, nothing_more}
+use Rattle.hcc_cache.proofs.Beginnings.NewClientsDealt.{dealt_more, dealt_none, opened}
+use Rattle.hcc_cache.proofs.Beginnings.KnowingNothing.{nothing_first, nothing_more}
 use Rattle.hcc_cache.proofs.cache.Cache.opened.Goals as goal
 
 pub loop-init : goal.loop-init

@@ -5,13 +5,13 @@ use Rattle.hcc_shard.specs.Callers.{AcquiresAt}
 use Rattle.hcc_shard.specs.Counted.{SameEvictions}
 use Rattle.hcc_cache.specs.declared.client.Client.{Client}
 use Rattle.hcc_cache.specs.declared.holding.Hold.{Hold}
-use Rattle.hcc_cache.proofs.Again.{entry_at, held_at, hold_within, pin_at, pinned_at, rerefs_pinned}
-use Rattle.hcc_cache.proofs.At.{ChangesAt, did_at, does_at, few_at, is_at, next_at, seated_at, takes_at}
-use Rattle.hcc_cache.proofs.Framing.{hold_there}
-use Rattle.hcc_cache.proofs.Found.{gains_pinned, knows_more}
-use Rattle.hcc_cache.proofs.Gained.{IsGiven}
+use Rattle.hcc_cache.proofs.Handles.OneMoreOnPinned.{entry_at, held_at, hold_within, pin_at, pinned_at, rerefs_pinned}
+use Rattle.hcc_cache.proofs.Clients.AtOneShard.{ChangesAt, did_at, does_at, few_at, is_at, next_at, seated_at, takes_at}
+use Rattle.hcc_cache.proofs.Handles.SameHolds.{hold_there}
+use Rattle.hcc_cache.proofs.Searches.KnownAfterLookup.{gains_pinned, knows_more}
+use Rattle.hcc_cache.proofs.Handles.OneMore.{IsGiven}
 use Rattle.hcc_table.proofs.Still.{reaches_seek, seeks_still}
-use Rattle.hcc_cache.proofs.Staying.{stays_at}
+use Rattle.hcc_cache.proofs.Clients.ShownAfterwards.{stays_at}
 use Rattle.hcc_cache.proofs.cache.Cache.pinned_again.Goals as goal
 
 pub index_mut-seat-requires : goal.index_mut-seat-requires

@@ -4,11 +4,11 @@ use Rattle.hcc_shard.specs.Callers.{view_of}
 use Rattle.hcc_rule.specs.declared.geometry.Geometry.{Geometry}
 use Rattle.hcc_cache.specs.Clients.{view_by}
 use Rattle.hcc_cache.specs.Totals.{CountsHeldAt}
-use Rattle.hcc_cache.proofs.At.{did_at, is_at, seated_at, works_at}
-use Rattle.hcc_cache.proofs.Resting.{keeps_same, knows_same, same_sought}
-use Rattle.hcc_cache.proofs.Seats.{steps_set, view_here}
+use Rattle.hcc_cache.proofs.Clients.AtOneShard.{did_at, is_at, seated_at, works_at}
+use Rattle.hcc_cache.proofs.Clients.HoldsTheSame.{keeps_same, knows_same, same_sought}
+use Rattle.hcc_cache.proofs.Clients.Seats.{steps_set, view_here}
 use Rattle.std.specs.Vec.{with_item}
-use Rattle.hcc_cache.proofs.Staying.{stays_at}
+use Rattle.hcc_cache.proofs.Clients.ShownAfterwards.{stays_at}
 use Rattle.hcc_cache.proofs.cache.Cache.pinned_at.Goals as goal
 
 pub pinned_usage-requires : goal.pinned_usage-requires

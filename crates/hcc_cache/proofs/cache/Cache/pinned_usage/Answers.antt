@@ -3,10 +3,10 @@ use Rattle.hcc_core.proofs.SumLemmas.{total-append}
 use Rattle.hcc_table.specs.Searched.{Sought}
 use Rattle.hcc_cache.specs.Clients.{view_at}
 use Rattle.hcc_cache.specs.Totals.{CountsHeldAt, charge_by, charge_in}
-use Rattle.hcc_cache.proofs.Charged.{charge_counts}
-use Rattle.hcc_cache.proofs.Each.{each_first, each_next}
-use Rattle.hcc_cache.proofs.Through.{goes_first, goes_on, most_counted, same_counted, sought_all, sum_all, sum_next, sum_to}
-use Rattle.hcc_cache.proofs.Staying.{stays_same, stays_then}
+use Rattle.hcc_cache.proofs.Clients.ChargesBounded.{charge_counts}
+use Rattle.hcc_cache.proofs.Clients.FoundAtEachShard.{each_first, each_next}
+use Rattle.hcc_cache.proofs.Clients.DoneAtAllShards.{goes_first, goes_on, most_counted, same_counted, sought_all, sum_all, sum_next, sum_to}
+use Rattle.hcc_cache.proofs.Clients.ShownAfterwards.{stays_same, stays_then}
 use Rattle.hcc_cache.proofs.cache.Cache.pinned_usage.Goals as goal
 
 pub loop-shard-init : goal.loop-shard-init

@@ -4,8 +4,8 @@ use Rattle.hcc_table.specs.Searched.{Sought}
 use Rattle.hcc_cache.specs.Clients.{view_at}
 use Rattle.hcc_cache.specs.Stays.{Stays}
 use Rattle.hcc_cache.specs.Totals.{CountsHeldAt, charge_in}
-use Rattle.hcc_cache.proofs.Each.{FindsEach}
-use Rattle.hcc_cache.proofs.Through.{GoesThrough, sum_to}
+use Rattle.hcc_cache.proofs.Clients.FoundAtEachShard.{FindsEach}
+use Rattle.hcc_cache.proofs.Clients.DoneAtAllShards.{GoesThrough, sum_to}
 use Rattle.hcc_cache.proofs.cache.Cache.pinned_usage.Given as goal
 
 abbrev pub invariant-loop-shard : goal.invariant-loop-shard

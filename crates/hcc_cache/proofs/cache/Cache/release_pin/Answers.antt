@@ -6,15 +6,15 @@ use Rattle.hcc_table.specs.Pins.{erases, is_useful}
 use Rattle.hcc_table.specs.Steps.{freeing}
 use Rattle.hcc_shard.specs.Counted.{SameEvictions}
 use Rattle.hcc_cache.specs.declared.client.Client.{Client}
-use Rattle.hcc_cache.proofs.Again.{hold_within, pin_at, pinned_at}
-use Rattle.hcc_cache.proofs.At.{ChangesAt, did_at, does_at, is_at, only_at, seated_at, takes_at}
-use Rattle.hcc_cache.proofs.Framing.{hold_there}
-use Rattle.hcc_cache.proofs.Less.{IsLess}
+use Rattle.hcc_cache.proofs.Handles.OneMoreOnPinned.{hold_within, pin_at, pinned_at}
+use Rattle.hcc_cache.proofs.Clients.AtOneShard.{ChangesAt, did_at, does_at, is_at, only_at, seated_at, takes_at}
+use Rattle.hcc_cache.proofs.Handles.SameHolds.{hold_there}
+use Rattle.hcc_cache.proofs.Handles.OneLessOnPinned.{IsLess}
 use Rattle.hcc_core.proofs.ListLemmas.{read_here}
-use Rattle.hcc_cache.proofs.Released.{knows_unpinned, lets_go, releases_unpinned}
+use Rattle.hcc_cache.proofs.Handles.KnownAfterRelease.{knows_unpinned, lets_go, releases_unpinned}
 use Rattle.hcc_shard.specs.Stays.{ReleasesAt}
 use Rattle.hcc_shard.proofs.Stayings.{release_stays}
-use Rattle.hcc_cache.proofs.Staying.{stays_at}
+use Rattle.hcc_cache.proofs.Clients.ShownAfterwards.{stays_at}
 use Rattle.hcc_cache.proofs.cache.Cache.release_pin.Goals.{then-erase_if_last, else-erase_if_last, then-useful, else-useful}
 use Rattle.hcc_cache.proofs.cache.Cache.release_pin.Goals as goal
 

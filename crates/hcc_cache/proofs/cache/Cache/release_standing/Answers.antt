@@ -4,14 +4,14 @@ use Rattle.slab.specs.Slab.{Updates, get, with_value}
 use Rattle.hcc_cache.specs.declared.client.Client.{Client}
 use Rattle.hcc_cache.specs.declared.holding.Alone.{Alone}
 use Rattle.hcc_cache.specs.Calls.{counts_by, steps_by}
-use Rattle.hcc_cache.proofs.Again.{hold_within, stand_there}
-use Rattle.hcc_cache.proofs.At.{ChangesAt, counts_none, is_at, seated_at, takes_at}
-use Rattle.hcc_cache.proofs.Framing.{IsSameAlone, hold_there}
-use Rattle.hcc_cache.proofs.Less.{IsLess}
-use Rattle.hcc_cache.proofs.Released.{knows_fallen, knows_fewer, lets_go, releases_fallen, releases_fewer}
-use Rattle.hcc_cache.proofs.Slots.{updates_set}
-use Rattle.hcc_cache.proofs.Standing.{known_there}
-use Rattle.hcc_cache.proofs.Staying.{stays_at, stays_same}
+use Rattle.hcc_cache.proofs.Handles.OneMoreOnPinned.{hold_within, stand_there}
+use Rattle.hcc_cache.proofs.Clients.AtOneShard.{ChangesAt, counts_none, is_at, seated_at, takes_at}
+use Rattle.hcc_cache.proofs.Handles.SameHolds.{IsSameAlone, hold_there}
+use Rattle.hcc_cache.proofs.Handles.OneLessOnPinned.{IsLess}
+use Rattle.hcc_cache.proofs.Handles.KnownAfterRelease.{knows_fallen, knows_fewer, lets_go, releases_fallen, releases_fewer}
+use Rattle.hcc_cache.proofs.Basics.SlabSums.{updates_set}
+use Rattle.hcc_cache.proofs.Handles.OneLessOnStandalone.{known_there}
+use Rattle.hcc_cache.proofs.Clients.ShownAfterwards.{stays_at, stays_same}
 use Rattle.hcc_cache.proofs.cache.Cache.release_standing.Goals as goal
 
 pub index-requires : goal.index-requires

@@ -3,7 +3,7 @@ use Rattle.std.proofs.lemmas.Option.{same_Some}
 use Rattle.hcc_shard.specs.Callers.{AcquiresAt}
 use Rattle.hcc_cache.specs.declared.holding.Hold.{Hold}
 use Rattle.hcc_cache.specs.Calls.{AtShard, CountsOf}
-use Rattle.hcc_cache.proofs.Staying.{stays_same}
+use Rattle.hcc_cache.proofs.Clients.ShownAfterwards.{stays_same}
 use Rattle.hcc_cache.proofs.cache.Cache.reref.Goals as goal
 
 pub returns-in-Pinned-clause-acquires : goal.returns-in-Pinned-clause-acquires

@@ -5,13 +5,13 @@ use Rattle.hcc_cache.specs.declared.client.Client.{Client}
 use Rattle.hcc_cache.specs.declared.holding.Hold.{Hold}
 use Rattle.hcc_cache.specs.Calls.{shard_in}
 use Rattle.hcc_cache.specs.Sharding.{shard_of}
-use Rattle.hcc_cache.proofs.At.{ChangesAt, does_at, few_at, is_at, next_at, seated_at}
-use Rattle.hcc_cache.proofs.Found.{finds, knows_more, knows_sought, looks_at, misses, searched_at, visits_at}
-use Rattle.hcc_cache.proofs.Gained.{IsGiven}
+use Rattle.hcc_cache.proofs.Clients.AtOneShard.{ChangesAt, does_at, few_at, is_at, next_at, seated_at}
+use Rattle.hcc_cache.proofs.Searches.KnownAfterLookup.{finds, knows_more, knows_sought, looks_at, misses, searched_at, visits_at}
+use Rattle.hcc_cache.proofs.Handles.OneMore.{IsGiven}
 use Rattle.hcc_table.proofs.Lasting.{searches_seek}
 use Rattle.hcc_table.proofs.Still.{seeks_still}
 use Rattle.hcc_cache.specs.Keys.{fits_seeded}
-use Rattle.hcc_cache.proofs.Staying.{stays_at}
+use Rattle.hcc_cache.proofs.Clients.ShownAfterwards.{stays_at}
 use Rattle.hcc_cache.proofs.cache.Cache.search.Goals as goal
 
 pub lookup-requires-clause-seat : goal.lookup-requires-clause-seat
@@ -72,7 +72,7 @@ returns-in_err-pin-clause-missed g c =
     let is = c.lookup.new.seat in
     let at = is_at cache old i shard was c.requires.known c.shard_number-shard.ensures.inside
     c.index.ensures c.index_mut-seat.ensures.value in
-    let words = c.key_to-under.ensures.words in
+    let words = c.key_to-seeded.ensures.words in
     let shards = length cache.shards.items in
     rw (c.from_residual.ensures)
     (misses cache old _ i shard was is at
@@ -92,7 +92,7 @@ returns-in_err-pin-clause-searched g c =
     let is = c.lookup.new.seat in
     let at = is_at cache old i shard was c.requires.known c.shard_number-shard.ensures.inside
     c.index.ensures c.index_mut-seat.ensures.value in
-    let words = c.key_to-under.ensures.words in
+    let words = c.key_to-seeded.ensures.words in
     let shards = length cache.shards.items in
     rw (c.from_residual.ensures)
     (searched_at cache old _ i shard was is at
@@ -113,7 +113,7 @@ returns-in_err-pin-clause-counts g c =
     (record { seats = refl; number = refl; most = refl; seed = refl; capacity = (refl, refl) })
     SameEvictions c.lookup.ensures.counts (shard_in cache c.args.key)
     (c.shard_number-shard.ensures.value
-    ∙ ap (λ k. shard_of k (length cache.shards.items)) c.key_to-under.ensures.words)
+    ∙ ap (λ k. shard_of k (length cache.shards.items)) c.key_to-seeded.ensures.words)
 
 pub returns-in_err-pin-clause-visits : goal.returns-in_err-pin-clause-visits
 returns-in_err-pin-clause-visits g c =
@@ -125,7 +125,7 @@ returns-in_err-pin-clause-visits g c =
     let is = c.lookup.new.seat in
     let at = is_at cache old i shard was c.requires.known c.shard_number-shard.ensures.inside
     c.index.ensures c.index_mut-seat.ensures.value in
-    let words = c.key_to-under.ensures.words in
+    let words = c.key_to-seeded.ensures.words in
     visits_at cache old (record old { seats = with_item old.seats i is }) i shard was is at
     (record {
       seats = refl;
@@ -168,7 +168,7 @@ returns g c =
     let is = c.lookup.new.seat in
     let at = is_at cache old i shard was c.requires.known c.shard_number-shard.ensures.inside
     c.index.ensures c.index_mut-seat.ensures.value in
-    let words = c.key_to-under.ensures.words in
+    let words = c.key_to-seeded.ensures.words in
     let shards = length cache.shards.items in
     let told = c.in_ok-pin.ensures.found in
     let pin = c.in_ok-pin.pin in
@@ -216,7 +216,7 @@ returns g c =
           told.0 given alone refl c.pinned.ensures told.1.searched told.1.records told.1.called
           told.2 (told.1.asked ∙ words) g.T.Tag.fits c.args.key
           (c.shard_number-shard.ensures.value ∙ ap (λ k. shard_of k shards) words)
-          (rw words at c.key_to-under.ensures.undone) (rw words at told.1);
+          (rw words at c.key_to-seeded.ensures.undone) (rw words at told.1);
       missed = tt;
       searched =
           searched_at cache old new i shard was is at change g.T.Tag.fits c.args.key
@@ -226,8 +226,8 @@ returns g c =
       stays =
           stays_at cache old new i shard was is at change
           (seeks_still shard.table was.seat is.seat
-          (searches_seek (fits_seeded g.T.Tag.fits) shard.table c.key_to-under.result old.used
-          shard.marks c.lookup.result was.effort is.effort was.seat is.seat
+          (searches_seek (fits_seeded g.T.Tag.fits) shard.table c.key_to-seeded.result.in_shard
+          old.used shard.marks c.lookup.result was.effort is.effort was.seat is.seat
           c.lookup.ensures.searches));
       counts =
           does_at cache old new i shard was is at change SameEvictions c.lookup.ensures.counts
@@ -255,5 +255,5 @@ returns-in_err-pin-clause-stays g c =
     stays_at cache old (record old { seats = with_item old.seats i is }) i shard was is at
     (record { seats = refl; number = refl; most = refl; seed = refl; capacity = (refl, refl) })
     (seeks_still shard.table was.seat is.seat
-    (searches_seek (fits_seeded g.T.Tag.fits) shard.table c.key_to-under.result old.used shard.marks
-    c.lookup.result was.effort is.effort was.seat is.seat c.lookup.ensures.searches))
+    (searches_seek (fits_seeded g.T.Tag.fits) shard.table c.key_to-seeded.result.in_shard old.used
+    shard.marks c.lookup.result was.effort is.effort was.seat is.seat c.lookup.ensures.searches))

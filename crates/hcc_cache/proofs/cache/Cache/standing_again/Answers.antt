@@ -4,12 +4,12 @@ use Rattle.hcc_cache.specs.declared.client.Client.{Client}
 use Rattle.hcc_cache.specs.declared.holding.Alone.{Alone}
 use Rattle.hcc_cache.specs.declared.holding.Hold.{Hold}
 use Rattle.hcc_cache.specs.Calls.{counts_by}
-use Rattle.hcc_cache.proofs.Again.{stand_there}
-use Rattle.hcc_cache.proofs.Framing.{hold_there, IsSameAlone}
-use Rattle.hcc_cache.proofs.Gained.{IsGiven}
-use Rattle.hcc_cache.proofs.Slots.{updates_set}
-use Rattle.hcc_cache.proofs.StandingAgain.{few_references, knows_standing, rerefs_standing, takes_standing}
-use Rattle.hcc_cache.proofs.Staying.{stays_same}
+use Rattle.hcc_cache.proofs.Handles.OneMoreOnPinned.{stand_there}
+use Rattle.hcc_cache.proofs.Handles.SameHolds.{hold_there, IsSameAlone}
+use Rattle.hcc_cache.proofs.Handles.OneMore.{IsGiven}
+use Rattle.hcc_cache.proofs.Basics.SlabSums.{updates_set}
+use Rattle.hcc_cache.proofs.Handles.KnownAfterStandaloneReref.{few_references, knows_standing, rerefs_standing, takes_standing}
+use Rattle.hcc_cache.proofs.Clients.ShownAfterwards.{stays_same}
 use Rattle.hcc_cache.proofs.cache.Cache.standing_again.Goals as goal
 
 pub index_mut-requires : goal.index_mut-requires

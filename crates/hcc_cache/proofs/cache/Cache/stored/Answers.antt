@@ -6,10 +6,10 @@ use Rattle.hcc_cache.specs.declared.client.Client.{Client}
 use Rattle.hcc_cache.specs.Calls.{shard_in}
 use Rattle.hcc_cache.specs.Inserts.{draft_of}
 use Rattle.hcc_cache.specs.Sharding.{shard_of}
-use Rattle.hcc_cache.proofs.At.{ChangesAt, is_at, only_at, seated_at}
-use Rattle.hcc_cache.proofs.Insertions.{IsAsked, frees_at, insertable_at, inserts_at, knows_asked, leaves_stored, stores_at, stores_did, told_as}
-use Rattle.hcc_cache.proofs.Refusals.{answers_small, answers_unspent, inserts_did, inserts_told}
-use Rattle.hcc_cache.proofs.Staying.{alone_at, knows_shown, was_placed}
+use Rattle.hcc_cache.proofs.Clients.AtOneShard.{ChangesAt, is_at, only_at, seated_at}
+use Rattle.hcc_cache.proofs.Insertions.KnownAfterInsertion.{IsAsked, frees_at, insertable_at, inserts_at, knows_asked, leaves_stored, stores_at, stores_did, told_as}
+use Rattle.hcc_cache.proofs.Insertions.AnswersTold.{answers_small, answers_unspent, inserts_did, inserts_told}
+use Rattle.hcc_cache.proofs.Clients.ShownAfterwards.{alone_at, knows_shown, was_placed}
 use Rattle.hcc_cache.proofs.cache.Cache.stored.Goals as goal
 
 pub insert-requires-clause-seat : goal.insert-requires-clause-seat
@@ -41,7 +41,7 @@ insert-requires-clause-may g c =
     insertable_at cache old old i shard was was at g.T.Tag.fits c.args.key c.args.value.now _
     c.requires.fits c.requires.short (λ k inside. omega (arith, c.type_inv.value k))
     (c.requires.paid, c.ranges.charge.fits) c.countdown.ensures.within
-    c.next_serial.ensures.serial c.key_to-under.ensures.undone c.requires.some
+    c.next_serial.ensures.serial c.key_to-seeded.ensures.undone c.requires.some
 
 pub returns : goal.returns
 returns g c =
@@ -57,12 +57,12 @@ returns g c =
     c.index.ensures
     (c.index_mut-seat.ensures.value
     ∙ ap (λ (x : Client g.row.T.Denot). get_or x.seats.items i was) rest) in
-    let words = c.key_to-under.ensures.words in
+    let words = c.key_to-seeded.ensures.words in
     let shards = length cache.shards.items in
     let here = c.shard_number-shard.ensures.value ∙ ap (λ k. shard_of k shards) words in
     let asked = draft_of cache c.args.key c.args.charge c.args.priority (λ x. None) old in
     let draft : Draft = record {
-      key = c.key_to-under.result;
+      key = c.key_to-seeded.result.in_shard;
       charge = c.args.charge;
       serial = c.next_serial.result;
       countdown = c.countdown.result;
@@ -121,8 +121,8 @@ returns g c =
           let shown = c.insert.ensures.shown
           (alone_at cache old _ i shard was is at change one)
           (was_placed answer (sym c.answered.ensures ∙ placed)) in
-          knows_shown cache old _ i shard was is at change c.args.key c.key_to-under.result
-          shown.0 here words shown.1;
+          knows_shown cache old _ i shard was is at change c.args.key
+          c.key_to-seeded.result.in_shard shown.0 here words shown.1;
       no_spent = rw c.answered.ensures (answers_unspent answer);
       no_large = rw c.answered.ensures small;
       others = only_at cache old _ i shard was is at change (shard_in cache c.args.key) here;

@@ -9,13 +9,13 @@ use Rattle.hcc_cache.specs.declared.holding.Kept.TheVariants.{Standing}
 use Rattle.hcc_cache.specs.Calls.{shard_in}
 use Rattle.hcc_cache.specs.Inserts.{pinned_draft}
 use Rattle.hcc_cache.specs.Sharding.{shard_of}
-use Rattle.hcc_cache.proofs.Alone.{IsJoined}
-use Rattle.hcc_cache.proofs.At.{ChangesAt, few_at, is_at, only_at, seated_at}
-use Rattle.hcc_cache.proofs.Gained.{IsGiven}
-use Rattle.hcc_cache.proofs.Handing.{few_alone, has_room, hold_with, knows_alone, knows_pins, pinned_told, pins_at, stands_at}
-use Rattle.hcc_cache.proofs.Insertions.{IsAsked, fails_at, frees_at, insertable_at, inserts_at, knows_asked, leaves_refused, leaves_unshown, pins_did, told_as}
-use Rattle.hcc_cache.proofs.Refusals.{not_full, not_large, not_spent, refuses_did, refuses_told}
-use Rattle.hcc_cache.proofs.Staying.{alone_at, knows_shown}
+use Rattle.hcc_cache.proofs.Insertions.StandaloneEntry.{IsJoined}
+use Rattle.hcc_cache.proofs.Clients.AtOneShard.{ChangesAt, few_at, is_at, only_at, seated_at}
+use Rattle.hcc_cache.proofs.Handles.OneMore.{IsGiven}
+use Rattle.hcc_cache.proofs.Insertions.HandleOnInserted.{few_alone, has_room, hold_with, knows_alone, knows_pins, pinned_told, pins_at, stands_at}
+use Rattle.hcc_cache.proofs.Insertions.KnownAfterInsertion.{IsAsked, fails_at, frees_at, insertable_at, inserts_at, knows_asked, leaves_refused, leaves_unshown, pins_did, told_as}
+use Rattle.hcc_cache.proofs.Insertions.AnswersTold.{not_full, not_large, not_spent, refuses_did, refuses_told}
+use Rattle.hcc_cache.proofs.Clients.ShownAfterwards.{alone_at, knows_shown}
 use Rattle.hcc_cache.proofs.cache.Cache.stored_pinned.Goals as goal
 
 pub insert_pinned-requires-clause-seat : goal.insert_pinned-requires-clause-seat
@@ -43,7 +43,7 @@ insert_pinned-requires-clause-may g c =
     c.deref-bytes.result.now _ (rw read c.requires.fits) (rw read c.requires.short)
     (λ k inside. omega (arith, c.type_inv.bytes k))
     (c.requires.paid, c.ranges.charge.fits) c.countdown.ensures.within refl
-    c.key_to-under.ensures.undone c.requires.free.1
+    c.key_to-seeded.ensures.undone c.requires.free.1
 
 pub insert_pinned-requires-clause-few : goal.insert_pinned-requires-clause-few
 insert_pinned-requires-clause-few g c =
@@ -81,13 +81,13 @@ returns-in-Ok-Placed g c =
     let at = is_at cache old i shard was c.requires.known c.shard_number-shard.ensures.inside
     c.index.ensures c.index_mut-seat.ensures.value in
     let is = c.insert_pinned.new.seat in
-    let words = c.key_to-under.ensures.words in
+    let words = c.key_to-seeded.ensures.words in
     let shards = length cache.shards.items in
     let here = c.shard_number-shard.ensures.value ∙ ap (λ k. shard_of k shards) words in
     let value = c.args.value.items in
     let asked = pinned_draft cache c.args.key c.args.charge c.args.priority value old in
     let draft : Draft = record {
-      key = c.key_to-under.result;
+      key = c.key_to-seeded.result.in_shard;
       charge = c.args.charge;
       serial = old.used;
       countdown = c.countdown.result;
@@ -128,7 +128,7 @@ returns-in-Ok-Placed g c =
       held = ap (λ (x : Client g.row.T.Denot). x.held) rest;
       uses = (ap (λ (x : Client g.row.T.Denot). x.used) rest, omega arith);
     } in
-    let undone = rw words at c.key_to-under.ensures.undone in
+    let undone = rw words at c.key_to-seeded.ensures.undone in
     record {
       known =
           knows_pins cache old new i shard was is at change c.insert_pinned.ensures.seat
@@ -148,8 +148,8 @@ returns-in-Ok-Placed g c =
             (ap Ok c.in-Ok-Placed.field-0-is) c.in-Ok-Placed.ensures.evicts,
       );
       shown = λ one placed.
-          knows_shown cache old new i shard was is at change c.args.key c.key_to-under.result
-          pin.slot here words
+          knows_shown cache old new i shard was is at change c.args.key
+          c.key_to-seeded.result.in_shard pin.slot here words
           (c.in-Ok-Placed.ensures.shown (alone_at cache old new i shard was is at change one) pin
           (ap Ok c.in-Ok-Placed.field-0-is));
       others = only_at cache old new i shard was is at change (shard_in cache c.args.key) here;
@@ -169,13 +169,13 @@ returns-in-Ok-Standalone g c =
     let at = is_at cache old i shard was c.requires.known c.shard_number-shard.ensures.inside
     c.index.ensures c.index_mut-seat.ensures.value in
     let is = c.insert_pinned.new.seat in
-    let words = c.key_to-under.ensures.words in
+    let words = c.key_to-seeded.ensures.words in
     let shards = length cache.shards.items in
     let here = c.shard_number-shard.ensures.value ∙ ap (λ k. shard_of k shards) words in
     let value = c.args.value.items in
     let asked = pinned_draft cache c.args.key c.args.charge c.args.priority value old in
     let draft : Draft = record {
-      key = c.key_to-under.result;
+      key = c.key_to-seeded.result.in_shard;
       charge = c.args.charge;
       serial = old.used;
       countdown = c.countdown.result;
@@ -266,13 +266,13 @@ returns-in-Err g c =
     let at = is_at cache old i shard was c.requires.known c.shard_number-shard.ensures.inside
     c.index.ensures c.index_mut-seat.ensures.value in
     let is = c.insert_pinned.new.seat in
-    let words = c.key_to-under.ensures.words in
+    let words = c.key_to-seeded.ensures.words in
     let shards = length cache.shards.items in
     let here = c.shard_number-shard.ensures.value ∙ ap (λ k. shard_of k shards) words in
     let value = c.args.value.items in
     let asked = pinned_draft cache c.args.key c.args.charge c.args.priority value old in
     let draft : Draft = record {
-      key = c.key_to-under.result;
+      key = c.key_to-seeded.result.in_shard;
       charge = c.args.charge;
       serial = old.used;
       countdown = c.countdown.result;

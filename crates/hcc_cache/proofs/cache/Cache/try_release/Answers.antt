@@ -1,5 +1,5 @@
 use Rattle.std.proofs.Common.{refl}
-use Rattle.hcc_cache.proofs.Staying.{stays_same}
+use Rattle.hcc_cache.proofs.Clients.ShownAfterwards.{stays_same}
 use Rattle.hcc_cache.proofs.cache.Cache.try_release.Goals as goal
 
 pub returns-clause-gives : goal.returns-clause-gives

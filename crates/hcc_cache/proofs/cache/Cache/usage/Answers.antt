@@ -4,9 +4,9 @@ use Rattle.hcc_rule.specs.ToldLedgers.{after_usage}
 use Rattle.hcc_shard.specs.Counted.{LoadsUsage}
 use Rattle.hcc_cache.specs.Clients.{view_at}
 use Rattle.hcc_cache.specs.Totals.{charge_by, charge_in}
-use Rattle.hcc_cache.proofs.Charged.{charge_counts}
-use Rattle.hcc_cache.proofs.Each.{each_first, each_next}
-use Rattle.hcc_cache.proofs.Through.{goes_first, goes_on, most_counted, sum_all, sum_next, sum_to}
+use Rattle.hcc_cache.proofs.Clients.ChargesBounded.{charge_counts}
+use Rattle.hcc_cache.proofs.Clients.FoundAtEachShard.{each_first, each_next}
+use Rattle.hcc_cache.proofs.Clients.DoneAtAllShards.{goes_first, goes_on, most_counted, sum_all, sum_next, sum_to}
 use Rattle.hcc_cache.proofs.cache.Cache.usage.Goals as goal
 
 pub loop-shard-init : goal.loop-shard-init

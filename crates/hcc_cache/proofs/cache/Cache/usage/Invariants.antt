@@ -5,8 +5,8 @@ use Rattle.hcc_shard.specs.Counted.{LoadsUsage}
 use Rattle.hcc_cache.specs.Calls.{CountsNone}
 use Rattle.hcc_cache.specs.Clients.{view_at}
 use Rattle.hcc_cache.specs.Totals.{charge_in}
-use Rattle.hcc_cache.proofs.Each.{FindsEach}
-use Rattle.hcc_cache.proofs.Through.{GoesThrough, sum_to}
+use Rattle.hcc_cache.proofs.Clients.FoundAtEachShard.{FindsEach}
+use Rattle.hcc_cache.proofs.Clients.DoneAtAllShards.{GoesThrough, sum_to}
 use Rattle.hcc_cache.proofs.cache.Cache.usage.Given as goal
 
 abbrev pub invariant-loop-shard : goal.invariant-loop-shard

@@ -4,9 +4,9 @@ use Rattle.hcc_core.proofs.ListLemmas.{read_other}
 use Rattle.hcc_shard.specs.Callers.{view_of}
 use Rattle.hcc_shard.specs.Counted.{LoadsUsage}
 use Rattle.hcc_cache.specs.Clients.{view_by}
-use Rattle.hcc_cache.proofs.At.{counts_none, did_at, is_at, seated_at, works_at}
-use Rattle.hcc_cache.proofs.Resting.{keeps_same, knows_same, same_usage}
-use Rattle.hcc_cache.proofs.Seats.{steps_set}
+use Rattle.hcc_cache.proofs.Clients.AtOneShard.{counts_none, did_at, is_at, seated_at, works_at}
+use Rattle.hcc_cache.proofs.Clients.HoldsTheSame.{keeps_same, knows_same, same_usage}
+use Rattle.hcc_cache.proofs.Clients.Seats.{steps_set}
 use Rattle.hcc_cache.proofs.cache.Cache.usage_at.Goals as goal
 
 pub usage-requires : goal.usage-requires

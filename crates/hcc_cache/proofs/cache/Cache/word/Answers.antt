@@ -2,13 +2,13 @@ use Rattle.std.proofs.Common.{refl, ap}
 use Rattle.std.specs.Vec.{with_item}
 use Rattle.hcc_shard.specs.Callers.{view_of, LoadsWord}
 use Rattle.hcc_cache.specs.Clients.{view_by}
-use Rattle.hcc_cache.proofs.At.{counts_none, did_at, is_at, seated_at, works_at}
-use Rattle.hcc_cache.proofs.Resting.{keeps_same, knows_same, same_look}
-use Rattle.hcc_cache.proofs.Seats.{steps_set}
+use Rattle.hcc_cache.proofs.Clients.AtOneShard.{counts_none, did_at, is_at, seated_at, works_at}
+use Rattle.hcc_cache.proofs.Clients.HoldsTheSame.{keeps_same, knows_same, same_look}
+use Rattle.hcc_cache.proofs.Clients.Seats.{steps_set}
 use Rattle.hcc_rule.specs.Events.{look_done}
 use Rattle.hcc_table.specs.Still.{is_still}
 use Rattle.hcc_table.proofs.Seeking.{goes_event}
-use Rattle.hcc_cache.proofs.Staying.{stays_at}
+use Rattle.hcc_cache.proofs.Clients.ShownAfterwards.{stays_at}
 use Rattle.hcc_cache.proofs.cache.Cache.word.Goals as goal
 
 pub word-requires-clause-seat : goal.word-requires-clause-seat

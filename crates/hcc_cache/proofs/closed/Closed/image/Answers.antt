@@ -1,6 +1,6 @@
 use Rattle.std.proofs.Common.{take_all, sym, ◌∙◌, ap, arith}
 use Rattle.hcc_cache.specs.Images.{visible_entries}
-use Rattle.hcc_cache.proofs.Imaging.{shown_visible, visible_more}
+use Rattle.hcc_cache.proofs.Images.ShardByShard.{shown_visible, visible_more}
 use Rattle.hcc_cache.proofs.closed.Closed.image.Goals as goal
 
 pub loop-shard-preserved : goal.loop-shard-preserved

@@ -2,7 +2,7 @@ use Rattle.std.proofs.Common.{◌≤◌, ◌^◌, arith}
 use Rattle.hcc_rule.specs.declared.layout.TheConstants.{OCCUPANCY}
 use Rattle.hcc_shard.specs.Left.{slots_left}
 use Rattle.hcc_cache.specs.Left.{ledger_of}
-use Rattle.hcc_cache.proofs.Lefts.{few_slots, sum_fits, sum_more}
+use Rattle.hcc_cache.proofs.Endings.SumsOverShards.{few_slots, sum_fits, sum_more}
 use Rattle.hcc_cache.proofs.closed.Closed.occupied.Goals as goal
 
 pub overflow_add-sum : goal.overflow_add-sum

@@ -1,7 +1,7 @@
 use Rattle.hcc_rule.specs.declared.layout.TheConstants.{OCCUPANCY}
 use Rattle.hcc_shard.specs.Left.{slots_left}
 use Rattle.hcc_cache.specs.Left.{ledger_of}
-use Rattle.hcc_cache.proofs.Lefts.{IsSumOf}
+use Rattle.hcc_cache.proofs.Endings.SumsOverShards.{IsSumOf}
 use Rattle.hcc_cache.proofs.closed.Closed.occupied.Given as goal
 
 abbrev pub invariant-loop-shard : goal.invariant-loop-shard

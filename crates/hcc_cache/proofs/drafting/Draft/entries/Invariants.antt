@@ -1,4 +1,4 @@
-use Rattle.hcc_cache.proofs.Placing.{IsGathering}
+use Rattle.hcc_cache.proofs.Beginnings.DraftSlots.{IsGathering}
 use Rattle.hcc_cache.proofs.drafting.Draft.entries.Given as goal
 
 abbrev pub invariant-loop-place : goal.invariant-loop-place

@@ -1,5 +1,5 @@
 use Rattle.std.proofs.Common.{◌-◌, vec_len}
-use Rattle.hcc_cache.proofs.Lists.{get_take}
+use Rattle.hcc_cache.proofs.Basics.Lists.{get_take}
 use Rattle.hcc_cache_tests.proofs.cache.shared.without_last.Goals as goal
 
 pub refused-stage-requires : goal.refused-stage-requires

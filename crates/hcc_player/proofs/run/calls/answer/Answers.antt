@@ -20,17 +20,17 @@ returns-in-Pin-clause-goes g c = rw c.in-Pin.is c.pin.ensures.goes
 pub returns-in-Pin-clause-did : goal.returns-in-Pin-clause-did
 returns-in-Pin-clause-did g c = rw c.in-Pin.is c.pin.ensures.did
 
-pub returns-in-Get-clause-goes : goal.returns-in-Get-clause-goes
-returns-in-Get-clause-goes g c = rw c.in-Get.is c.get.ensures.goes
+pub returns-in-Lookup-clause-goes : goal.returns-in-Lookup-clause-goes
+returns-in-Lookup-clause-goes g c = rw c.in-Lookup.is c.lookup.ensures.goes
 
-pub returns-in-Get-clause-did : goal.returns-in-Get-clause-did
-returns-in-Get-clause-did g c = rw c.in-Get.is c.get.ensures.did
+pub returns-in-Lookup-clause-did : goal.returns-in-Lookup-clause-did
+returns-in-Lookup-clause-did g c = rw c.in-Lookup.is c.lookup.ensures.did
 
-pub returns-in-Fork-clause-goes : goal.returns-in-Fork-clause-goes
-returns-in-Fork-clause-goes g c = rw c.in-Fork.is c.fork.ensures.goes
+pub returns-in-Reref-clause-goes : goal.returns-in-Reref-clause-goes
+returns-in-Reref-clause-goes g c = rw c.in-Reref.is c.reref.ensures.goes
 
-pub returns-in-Fork-clause-did : goal.returns-in-Fork-clause-did
-returns-in-Fork-clause-did g c = rw c.in-Fork.is c.fork.ensures.did
+pub returns-in-Reref-clause-did : goal.returns-in-Reref-clause-did
+returns-in-Reref-clause-did g c = rw c.in-Reref.is c.reref.ensures.did
 
 pub returns-in-Release-clause-goes : goal.returns-in-Release-clause-goes
 returns-in-Release-clause-goes g c = rw c.in-Release.is c.release.ensures.goes

@@ -1,0 +1,7 @@
+pub mod Seats
+pub mod AtOneShard
+pub mod HoldsTheSame
+pub mod DoneAtAllShards
+pub mod ChargesBounded
+pub mod FoundAtEachShard
+pub mod ShownAfterwards

@@ -1,0 +1,10 @@
+pub mod SameHolds
+pub mod StandAsBefore
+pub mod OneLessOnPinned
+pub mod OneMoreReference
+pub mod OneMore
+pub mod OneMoreOnPinned
+pub mod OneMoreOnStandalone
+pub mod KnownAfterStandaloneReref
+pub mod OneLessOnStandalone
+pub mod KnownAfterRelease

@@ -1,0 +1,124 @@
+-- One handle more on an entry of the table that is held.
+use Rattle.std.proofs.Common.{◌≡◌, ℕ, ◌^◌, ◌<◌, Bool, [], ◌∷◌, ◌++◌, Some, IfSome, IsSome, IsSomeAnd, length, option_map, sym, refl, ap, subst, ◌∙◌, arith}
+use Rattle.slab.specs.Slab.{get}
+use Rattle.hcc_rule.specs.declared.view.Record.{Record}
+use Rattle.hcc_rule.specs.Views.{is_called}
+use Rattle.hcc_rule.specs.Records.{record_in}
+use Rattle.hcc_rule.specs.Words.{key_of}
+use Rattle.hcc_rule.proofs.Basics.Findings.{find_each}
+use Rattle.hcc_table.specs.Pins.{IsOf}
+use Rattle.hcc_table.specs.Searched.{Searched}
+use Rattle.hcc_shard.specs.declared.seat.ShardSeat.{ShardSeat}
+use Rattle.hcc_shard.specs.declared.shard.Shard.{Shard}
+use Rattle.hcc_shard.specs.Callers.{geometry_of, view_of}
+use Rattle.hcc_shard.specs.Seated.{IsKept as IsKeptIn}
+use Rattle.hcc_cache.specs.declared.cache.Cache.{Cache}
+use Rattle.hcc_cache.specs.declared.client.Client.{Client}
+use Rattle.hcc_cache.specs.declared.handle.Handle.{Handle}
+use Rattle.hcc_cache.specs.declared.holding.Hold.{Hold}
+use Rattle.hcc_cache.specs.declared.holding.Kept.TheVariants.{Pinned, Standing}
+use Rattle.hcc_cache.specs.declared.seeded.Seeded.{Seeded}
+use Rattle.hcc_cache.specs.Calls.{Gains, Rerefs}
+use Rattle.hcc_cache.specs.Clients.{held_entry, held_of, hold_of, pin_of, records_in, view_by}
+use Rattle.hcc_cache.specs.Sharding.{key_to}
+use Rattle.hcc_cache.specs.Known.{IsKeptAs, IsPin, IsStand, Knows}
+use Rattle.hcc_cache.proofs.Clients.AtOneShard.{ChangesAt, IsAt, works_at}
+
+module _ {T : Type 0} (cache : Cache T) (client : Client T) (hold : Hold) where
+  -- what is kept of a handle is at one of the shards
+  pub hold_within : (index : ℕ) → Knows cache client → get client.handles index ≡ Some hold
+      → (hold.shard < length client.seats.items) × (hold.shard < length cache.shards.items)
+  hold_within index knows there =
+      let within = (knows.holds.each index hold there).0.within in
+      let count = knows.seated.count in
+      (within, omega arith)
+
+  -- the standalone entry that a handle is on is there
+  pub stand_there : (index at : ℕ) → Knows cache client → get client.handles at ≡ Some hold
+      → hold.kept ≡ Standing index → IsSome (get client.alone index)
+  stand_there index at knows there kept =
+      let stand : IsStand cache.seed client.seats.items client.alone hold index =
+      subst (λ k. IsKeptAs cache.seed client.seats.items client.alone hold k) kept
+      (knows.holds.each at hold there).0.stands in
+      rw (stand.there) refl
+
+  -- the record that a handle on an entry of the table stands for, in the view of its shard
+  pub record IsPinAt (slot : ℕ) (counting : Bool) (slots : ℕ) (was : ShardSeat (Seeded T))
+      : Type 0 where
+    pub handled : Record
+    pub there : record_in hold.serial (view_of was).records ≡ Some handled
+    pub known : record_in hold.serial (records_in client.seats.items hold.shard) ≡ Some handled
+    pub of : IsOf (pin_of hold.serial slot counting) handled
+    pub key : key_of handled.entry ≡ key_to cache.seed hold.key
+    pub small : handled.entry.charge < 2 ^ 32
+    pub within : slot < slots
+
+  module _ (slot : ℕ) (counting : Bool) (index : ℕ) (shard : Shard (Seeded T) _)
+      (was : ShardSeat (Seeded T)) (at : IsAt cache client hold.shard shard was)
+      (held : get client.handles index ≡ Some hold) (kept : hold.kept ≡ Pinned slot counting) where
+    pub pin_at : IsPinAt slot counting (geometry_of shard).slots was
+    pin_at =
+        let pin : IsPin cache.seed client.seats.items client.alone hold slot counting =
+        subst (λ k. IsKeptAs cache.seed client.seats.items client.alone hold k) kept
+        (at.knows.holds.each index hold held).0.stands in
+        let here : record_in hold.serial (view_of was).records ≡ Some pin.handled =
+        ap (λ o. record_in hold.serial (view_by o).records) (sym at.seat_is) ∙ pin.there in
+        let seated = at.knows.seated.each hold.shard shard was at.shard_is at.seat_is in
+        let good = find_each (is_called hold.serial) (IsKeptIn (geometry_of shard))
+        (view_of was).records pin.handled seated.rests.quiet.kept here in
+        let on = good.on in
+        let slot_is = pin.of.0 in
+        record {
+          handled = pin.handled;
+          there = here;
+          known = pin.there;
+          of = pin.of;
+          key = pin.key;
+          small =
+              find_each (is_called hold.serial) (λ (r : Record). r.entry.charge < 2 ^ 32)
+              (view_of was).records pin.handled seated.charged.records here;
+          within = omega arith;
+        }
+
+    -- as a shard asks for it
+    pub pinned_at : IsSomeAnd (record_in hold.serial (view_of was).records)
+        (IsOf (pin_of hold.serial slot counting))
+    pinned_at = rw (pin_at.there) pin_at.of
+
+    -- another record on the entry of it
+    pub entry_at : (r : Record)
+        → IfSome (record_in hold.serial (view_of was).records) (λ q. r.entry ≡ q.entry)
+        → r.entry ≡ pin_at.handled.entry
+    entry_at r told = rw (pin_at.there) at told
+
+    -- what the handle stands for, by that record
+    pub held_at : (r : Record) (handle : Handle) → hold_of client handle ≡ Some hold
+        → r.entry ≡ pin_at.handled.entry
+        → held_of cache client handle ≡ Some (held_entry cache.seed r.entry)
+    held_at r handle holds same =
+        rw (holds, kept)
+        (ap (option_map (λ (q : Record). held_entry cache.seed q.entry)) pin_at.known
+        ∙ ap (λ e. Some (held_entry cache.seed e)) (sym same))
+
+module _ {T : Type 0} (cache : Cache T) (old new : Client T) (i : ℕ) (shard : Shard (Seeded T) _)
+    (was is : ShardSeat (Seeded T)) (at : IsAt cache old i shard was)
+    (change : ChangesAt old new i is) where
+  -- One handle more on an entry of the table.
+  pub rerefs_pinned : (handle more : Handle) (r : Record) → Searched (view_of was) (view_of is)
+      → (view_of is).records ≡ (view_of was).records ++ r ∷ [] → r.name ≡ more.serial
+      → r.weight ≡ 1 → held_of cache old handle ≡ Some (held_entry cache.seed r.entry)
+      → Gains cache more (held_entry cache.seed r.entry) old new
+      → Rerefs cache handle more old new
+  rerefs_pinned handle more r searched joins called weight held gains = record {
+    held = held_entry cache.seed r.entry;
+    was = held;
+    shard = i;
+    v = view_of was;
+    w = view_of is;
+    works = works_at cache old new i shard was is at change;
+    searched = searched;
+    added = r ∷ [];
+    adds = (r, refl, refl, called, weight);
+    records = joins;
+    gains = gains;
+  }

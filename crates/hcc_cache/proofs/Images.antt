@@ -1,0 +1,3 @@
+pub mod ShardByShard
+pub mod AllComesBack
+pub mod ClosedAgain

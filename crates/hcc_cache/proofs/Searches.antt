@@ -1,0 +1,4 @@
+pub mod MissedOrErasedKeys
+pub mod KnownAfterLookup
+pub mod ReadByHandle
+pub mod ReadByKey

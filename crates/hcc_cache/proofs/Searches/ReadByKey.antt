@@ -1,0 +1,69 @@
+-- A client that read the value of a key.
+use Rattle.std.proofs.Common.{◌≡◌, ℕ, Bool, List, Some, refl, ap, ◌∙◌}
+use Rattle.hcc_rule.specs.declared.key.Key.{Key}
+use Rattle.hcc_table.specs.Searched.{Sought}
+use Rattle.hcc_shard.specs.declared.getting.Got.{Got}
+use Rattle.hcc_shard.specs.declared.getting.Got.TheVariants.{Hit, Miss, Short}
+use Rattle.hcc_shard.specs.declared.seat.ShardSeat.{ShardSeat}
+use Rattle.hcc_shard.specs.declared.shard.Shard.{Shard}
+use Rattle.hcc_shard.specs.Callers.{view_of}
+use Rattle.hcc_shard.specs.Gets.{Gets, ReadsOut}
+use Rattle.hcc_cache.specs.declared.cache.Cache.{Cache}
+use Rattle.hcc_cache.specs.declared.client.Client.{Client}
+use Rattle.hcc_cache.specs.declared.seeded.Seeded.{Seeded}
+use Rattle.hcc_cache.specs.Calls.{Works, shard_in}
+use Rattle.hcc_cache.specs.Gets.{GetsFor, ReadsOne, SeeksAt}
+use Rattle.hcc_cache.specs.Keys.{fits_seeded, key_from}
+use Rattle.hcc_cache.specs.Sharding.{key_to}
+use Rattle.hcc_cache.proofs.Clients.AtOneShard.{ChangesAt, IsAt, seated_at, works_at}
+use Rattle.hcc_cache.proofs.Searches.MissedOrErasedKeys.{all_held_dead}
+
+module _ {T : Type 0} (cache : Cache T) (old new : Client T) (i : ℕ) (shard : Shard (Seeded T) _)
+    (was is : ShardSeat (Seeded T)) (at : IsAt cache old i shard was)
+    (change : ChangesAt old new i is) (fits : T → Key → List ℕ → Type 0) (key : Key)
+    (there : i ≡ shard_in cache key)
+    (undone : key_from cache.seed (key_to cache.seed key) ≡ key) (useful : Bool)
+    (before after : List ℕ) where
+  works : Works (shard_in cache key) old new (view_of was) (view_of is)
+  works = rw (← there) (works_at cache old new i shard was is at change)
+
+  -- it searched there
+  pub seeks_at : Sought (view_of was) (view_of is) → SeeksAt (shard_in cache key) old new
+  seeks_at sought = record {
+    works = record {
+      before = refl;
+      after = refl;
+      others = works.others;
+      self = works.self;
+    };
+    sought = rw (works.before, works.after) sought;
+  }
+
+  -- what a reading in the shard found is an entry of the caller's key
+  reads_one : (got : Got)
+      → ReadsOut (fits_seeded fits) shard (key_to cache.seed key) useful got before after was is
+      → ReadsOne cache fits key got before after old
+  reads_one got r =
+      let alike = at.knows.alike.plans i shard at.shard_is in
+      let tag : (view_of was).tag ≡ Some (record { tag = cache.tag; seed = cache.seed }) =
+      (seated_at cache old old i shard was was at).rests.at.tagged ∙ ap Some alike.3 in
+      let right : fits cache.tag (key_from cache.seed (key_to cache.seed key))
+      r.found.entry.value = rw tag at r.finds.right in
+      record {
+        entry = r.found.entry;
+        asked = ap (key_from cache.seed) r.finds.asked ∙ undone;
+        right = rw undone at right;
+        alive = rw works.before r.finds.alive;
+        copies = r.copies;
+      }
+
+  -- So it is by its answer.
+  pub gets_for : (got : Got)
+      → Gets (fits_seeded fits) shard (key_to cache.seed key) useful got before after was is
+      → GetsFor cache fits key got before after old new
+  gets_for Miss g = (
+    g.0,
+    all_held_dead cache old new key (view_of was) (view_of is) at.knows works g.1.dead,
+  )
+  gets_for (Hit count) g = reads_one (Hit count) g
+  gets_for (Short count) g = reads_one (Short count) g
