@@ -143,12 +143,14 @@ module _ {T : Type 0} (fits : T → Key → List ℕ → Type 0) (config : Confi
       (subst (λ a. Did call a old new was now) told did)
 
   hit : (register : ℕ) (key : Key) (old new : Client T) (was now : List Filled)
-      → Did (calls.Lookup register key) answers.Hit old new was now → InWorld cache key ShowsFirst old
+      → Did (calls.Lookup register key) answers.Hit old new was now
+      → InWorld cache key ShowsFirst old
   unfolding Does
   hit register key old new was now did = found_first key did.handle old new did.searched
 
   miss : (register : ℕ) (key : Key) (old new : Client T) (was now : List Filled)
-      → Did (calls.Lookup register key) answers.Miss old new was now → InWorld cache key ShowsNone old
+      → Did (calls.Lookup register key) answers.Miss old new was now
+      → InWorld cache key ShowsNone old
   unfolding Does
   miss register key old new was now did = found_none key old new did.searched
 

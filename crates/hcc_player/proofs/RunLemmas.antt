@@ -157,8 +157,8 @@ module _ (Puts : Key → List ℕ → Type 0) (config : Config) where
         }
       ]
 
-  reref_choice : (s : State) (b : IsBounded s) (r g : ℕ) (x y : Option Insertion) → s.registers r ≡ x
-      → s.registers g ≡ y → Choice s (calls.Reref r g)
+  reref_choice : (s : State) (b : IsBounded s) (r g : ℕ) (x y : Option Insertion)
+      → s.registers r ≡ x → s.registers g ≡ y → Choice s (calls.Reref r g)
   unfolding IsRight
   reref_choice s b r g (Some held) y e f =
       record { answer = answers.Busy; next = s; right = (rw e refl, refl); bounded = b }
