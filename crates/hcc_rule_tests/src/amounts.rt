@@ -21,10 +21,11 @@ impl Worker<'_> {
         let occupancy = self.table.enter(&mut self.seat);
         assert!(rt; occupancy < LIMIT, "the table is full");
         let usage = self.table.charge(&mut self.seat, charge);
-        self.table.pass(&mut self.seat, slot);
-        let passed = self.table.count(&mut self.seat, slot);
+        let first = self.table.data_of(slot);
+        self.table.pass_at(&mut self.seat, slot, first);
+        let passed = self.table.count_at(&mut self.seat, slot, first);
         self.table.unpass(&mut self.seat, slot);
-        let left = self.table.count(&mut self.seat, slot);
+        let left = self.table.count_at(&mut self.seat, slot, first);
         let charged = self.table.usage(&mut self.seat);
         let entered = self.table.occupancy(&mut self.seat);
         self.table.waive(&mut self.seat, charge as u64);

@@ -36,7 +36,8 @@ impl Worker<'_> {
         ensures ready { IsReady (view self.new.seat) }
     {
         self.reach(rt, slot, 3);
-        self.table.spend(&mut self.seat, slot, 3, NAME);
+        let first = self.table.data_of(slot);
+        self.table.spend_at(&mut self.seat, slot, first, 3, NAME);
     }
 
     /// A look-up near the end of the counters, which takes them back. The words are those that the
@@ -49,17 +50,23 @@ impl Worker<'_> {
             × ((view self.new.seat).others ≡ (view self.old.seat).others) }
         ensures ready { IsReady (view self.new.seat) }
     {
-        let seen = self.table.look(&mut self.seat, slot);
+        let first = self.table.data_of(slot);
+        let seen = self.table.look_at(&mut self.seat, slot, first);
         assert!(rt; state(seen) >= INVISIBLE, "slot {slot} has no entry");
-        let found = self.table.acquire(&mut self.seat, slot, 1, NAME);
+        let found = self.table.acquire_at(&mut self.seat, slot, first, 1, NAME);
         assert!(rt; state(found) >= INVISIBLE, "slot {slot} lost its entry");
         assert!(rt; releases(found) >= NEAR, "slot {slot} is not near its end");
         let old = found.wrapping_add(1);
         let new = corrected(old).expect(rt, "the counters can't be taken back");
         let met = self.table.correct(&mut self.seat, slot, NAME, old, new);
-        let left = self.table.look(&mut self.seat, slot);
-        self.table.give(&mut self.seat, slot, 1, NAME);
-        [found, met, left, self.table.look(&mut self.seat, slot)]
+        let left = self.table.look_at(&mut self.seat, slot, first);
+        self.table.give_at(&mut self.seat, slot, first, 1, NAME);
+        [
+            found,
+            met,
+            left,
+            self.table.look_at(&mut self.seat, slot, first),
+        ]
     }
 }
 

@@ -59,9 +59,10 @@ impl Worker<'_> {
         }) [] (view self.new.seat) }
         ensures some { 0 < result }
     {
-        let key0 = self.table.read_own(&mut self.seat, slot, KEY0);
-        let key1 = self.table.read_own(&mut self.seat, slot, KEY1);
-        let charge = self.table.read_own(&mut self.seat, slot, CHARGE);
+        let first = self.table.data_of(slot);
+        let key0 = self.table.read_own_at(&mut self.seat, slot, first, KEY0);
+        let key1 = self.table.read_own_at(&mut self.seat, slot, first, KEY1);
+        let charge = self.table.read_own_at(&mut self.seat, slot, first, CHARGE);
         assert!(rt;
             key0 == key.w0 && key1 == key.w1,
             "slot {slot} has another key"
@@ -88,7 +89,8 @@ impl Worker<'_> {
         ensures ready { IsReady (view self.new.seat) }
     {
         self.take_trail(passed);
-        self.table.empty(&mut self.seat, slot);
+        let first = self.table.data_of(slot);
+        self.table.empty_at(&mut self.seat, slot, first);
         self.table.return_slots(&mut self.seat, 1);
         self.table.settle(&mut self.seat, charge);
     }
@@ -111,15 +113,21 @@ impl Worker<'_> {
             × ((view self.new.seat).others ≡ (view self.old.seat).others) }
         ensures ready { IsReady (view self.new.seat) }
     {
-        let seen = self.table.look(&mut self.seat, slot);
+        let first = self.table.data_of(slot);
+        let seen = self.table.look_at(&mut self.seat, slot, first);
         assert!(rt; state(seen) >= INVISIBLE, "slot {slot} has no entry");
         assert!(rt; refs(seen) == 0, "slot {slot} is held");
-        let found = self.table.free(&mut self.seat, slot, seen, None);
+        let found = self.table.free_at(&mut self.seat, slot, first, seen, None);
         assert!(rt; found == seen, "slot {slot} was not taken");
         let charge = self.taken_charge(rt, slot, key);
-        let taken = self.table.look(&mut self.seat, slot);
+        let taken = self.table.look_at(&mut self.seat, slot, first);
         self.take_back(slot, passed, charge);
-        [seen, taken, self.table.look(&mut self.seat, slot), charge]
+        [
+            seen,
+            taken,
+            self.table.look_at(&mut self.seat, slot, first),
+            charge,
+        ]
     }
 
     /// Frees the entry of a slot without references, while an acquire goes astray there. The words
@@ -133,17 +141,22 @@ impl Worker<'_> {
             × ((view self.new.seat).others ≡ (view self.old.seat).others) }
         ensures ready { IsReady (view self.new.seat) }
     {
-        let seen = self.table.look(&mut self.seat, slot);
+        let first = self.table.data_of(slot);
+        let seen = self.table.look_at(&mut self.seat, slot, first);
         assert!(rt; state(seen) >= INVISIBLE, "slot {slot} has no entry");
         assert!(rt; refs(seen) == 0, "slot {slot} is held");
-        let found = self.table.free(&mut self.seat, slot, seen, None);
+        let found = self.table.free_at(&mut self.seat, slot, first, seen, None);
         assert!(rt; found == seen, "slot {slot} was not taken");
-        let stray = self.table.acquire(&mut self.seat, slot, 1, NAME);
+        let stray = self.table.acquire_at(&mut self.seat, slot, first, 1, NAME);
         assert!(rt; state(stray) < INVISIBLE, "slot {slot} has an entry");
         let charge = self.taken_charge(rt, slot, key);
-        let strayed = self.table.look(&mut self.seat, slot);
+        let strayed = self.table.look_at(&mut self.seat, slot, first);
         self.take_back(slot, None, charge);
-        [stray, strayed, self.table.look(&mut self.seat, slot)]
+        [
+            stray,
+            strayed,
+            self.table.look_at(&mut self.seat, slot, first),
+        ]
     }
 
     /// Hides the entry of a slot, and frees it with the last reference. The words are those that
@@ -166,10 +179,13 @@ impl Worker<'_> {
     {
         let (seen, _) = self.reach(rt, slot, 1);
         let shown = self.table.hide(&mut self.seat, slot, NAME);
-        let hidden = self.table.look(&mut self.seat, slot);
+        let first = self.table.data_of(slot);
+        let hidden = self.table.look_at(&mut self.seat, slot, first);
         assert!(rt; state(hidden) >= INVISIBLE, "slot {slot} lost its entry");
         assert!(rt; refs(hidden) == 1, "slot {slot} is held by others");
-        let found = self.table.free(&mut self.seat, slot, hidden, Some(NAME));
+        let found = self
+            .table
+            .free_at(&mut self.seat, slot, first, hidden, Some(NAME));
         assert!(rt; found == hidden, "slot {slot} was not taken");
         let charge = self.taken_charge(rt, slot, key);
         self.take_back(slot, passed, charge);
@@ -177,7 +193,7 @@ impl Worker<'_> {
             seen,
             shown,
             hidden,
-            self.table.look(&mut self.seat, slot),
+            self.table.look_at(&mut self.seat, slot, first),
             charge,
         ]
     }

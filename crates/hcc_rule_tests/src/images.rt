@@ -186,9 +186,10 @@ impl Worker<'_> {
             (record_of 1 1 NAME result entry ∷ []) (view self.new.seat) }
         ensures late { is_counting result ≡ false }
     {
-        let seen = self.table.look(&mut self.seat, 1);
+        let first = self.table.data_of(1);
+        let seen = self.table.look_at(&mut self.seat, 1, first);
         assert!(rt; state(seen) >= INVISIBLE, "slot 1 has no entry");
-        let found = self.table.acquire(&mut self.seat, 1, 1, NAME);
+        let found = self.table.acquire_at(&mut self.seat, 1, first, 1, NAME);
         assert!(rt; state(found) >= INVISIBLE, "slot 1 lost its entry");
         assert!(rt; releases(found) >= NEAR, "slot 1 is not near its end");
         found
@@ -208,7 +209,8 @@ impl Worker<'_> {
         let old = found.wrapping_add(1);
         let new = corrected(old).expect(rt, "the counters can't be taken back");
         let met = self.table.correct(&mut self.seat, 1, NAME, old, new);
-        [met, self.table.give(&mut self.seat, 1, 1, NAME)]
+        let first = self.table.data_of(1);
+        [met, self.table.give_at(&mut self.seat, 1, first, 1, NAME)]
     }
 }
 

@@ -78,7 +78,8 @@ impl Worker<'_> {
         let occupancy = self.table.enter(&mut self.seat);
         assert!(rt; occupancy < LIMIT, "the table is full");
         let usage = self.table.charge(&mut self.seat, charge);
-        let found = self.table.occupy(&mut self.seat, slot);
+        let first = self.table.data_of(slot);
+        let found = self.table.occupy_at(&mut self.seat, slot, first);
         assert!(rt; state(found) == EMPTY, "slot {slot} is not empty");
         [occupancy, usage, found]
     }
@@ -95,7 +96,8 @@ impl Worker<'_> {
             { work = record (view self.old.seat).work { trail = option_to_list passed } } }
     {
         if let Some(place) = passed {
-            self.table.pass(&mut self.seat, place);
+            let first = self.table.data_of(place);
+            self.table.pass_at(&mut self.seat, place, first);
         }
     }
 
@@ -129,7 +131,9 @@ impl Worker<'_> {
             × ((view self.new.seat).others ≡ (view self.old.seat).others) }
         ensures view { view self.new.seat ≡ after_write word (view self.old.seat) }
     {
-        self.table.write(&mut self.seat, slot, index, word);
+        let first = self.table.data_of(slot);
+        self.table
+            .write_at(&mut self.seat, slot, first, index, word);
     }
 
     /// Shows an entry in an empty slot, once the slot of its trail was passed.
@@ -159,7 +163,9 @@ impl Worker<'_> {
         self.pass_over(passed);
         let words = self.words(draft);
         self.write_all(slot, words);
-        self.table.show(&mut self.seat, slot, draft, &VALUE);
+        let first = self.table.data_of(slot);
+        self.table
+            .show_at(&mut self.seat, slot, first, draft, &VALUE);
         self.shown += 1;
         found
     }
@@ -214,8 +220,9 @@ impl Worker<'_> {
         ensures ready { IsReady (view self.new.seat) }
     {
         self.show_all(rt, slot, draft, passed);
-        let shown = self.table.spend(&mut self.seat, slot, 1, NAME);
-        [shown, self.table.look(&mut self.seat, slot)]
+        let first = self.table.data_of(slot);
+        let shown = self.table.spend_at(&mut self.seat, slot, first, 1, NAME);
+        [shown, self.table.look_at(&mut self.seat, slot, first)]
     }
 
     /// Shows an entry, hides it by the reference that is kept, and releases this as a use. The
@@ -243,8 +250,13 @@ impl Worker<'_> {
     {
         self.show_all(rt, slot, draft, passed);
         let shown = self.table.hide(&mut self.seat, slot, NAME);
-        let hidden = self.table.spend(&mut self.seat, slot, 1, NAME);
-        [shown, hidden, self.table.look(&mut self.seat, slot)]
+        let first = self.table.data_of(slot);
+        let hidden = self.table.spend_at(&mut self.seat, slot, first, 1, NAME);
+        [
+            shown,
+            hidden,
+            self.table.look_at(&mut self.seat, slot, first),
+        ]
     }
 
     /// Asks for a place and a charge, and takes slot 1 or, where that is another's, passes it and
@@ -267,11 +279,13 @@ impl Worker<'_> {
         let occupancy = self.table.enter(&mut self.seat);
         assert!(rt; occupancy < LIMIT, "the table is full");
         self.table.charge(&mut self.seat, charge);
-        if state(self.table.occupy(&mut self.seat, 1)) == EMPTY {
+        let first = self.table.data_of(1);
+        if state(self.table.occupy_at(&mut self.seat, 1, first)) == EMPTY {
             return 1;
         }
-        self.table.pass(&mut self.seat, 1);
-        let found = self.table.occupy(&mut self.seat, 2);
+        self.table.pass_at(&mut self.seat, 1, first);
+        let first = self.table.data_of(2);
+        let found = self.table.occupy_at(&mut self.seat, 2, first);
         assert!(rt; state(found) == EMPTY, "slot 2 is not empty");
         2
     }
@@ -295,7 +309,9 @@ impl Worker<'_> {
         let slot = self.reserve_either(rt, draft.charge);
         let words = self.words(draft);
         self.write_all(slot, words);
-        self.table.show(&mut self.seat, slot, draft, &VALUE);
+        let first = self.table.data_of(slot);
+        self.table
+            .show_at(&mut self.seat, slot, first, draft, &VALUE);
         self.shown += 1;
         slot
     }

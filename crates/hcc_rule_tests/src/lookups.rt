@@ -30,9 +30,12 @@ impl Worker<'_> {
             (record_of slot weight NAME result.1 entry ∷ []) (view self.new.seat) }
         ensures counting { is_counting result.1 ≡ true }
     {
-        let seen = self.table.look(&mut self.seat, slot);
+        let first = self.table.data_of(slot);
+        let seen = self.table.look_at(&mut self.seat, slot, first);
         assert!(rt; state(seen) >= INVISIBLE, "slot {slot} has no entry");
-        let found = self.table.acquire(&mut self.seat, slot, weight, NAME);
+        let found = self
+            .table
+            .acquire_at(&mut self.seat, slot, first, weight, NAME);
         assert!(rt; state(found) >= INVISIBLE, "slot {slot} lost its entry");
         assert!(rt; releases(found) < NEAR, "slot {slot} is near its end");
         (seen, found)
@@ -49,14 +52,23 @@ impl Worker<'_> {
         ensures view { view self.new.seat
             ≡ record (view self.old.seat) { met = (view self.new.seat).met } }
     {
-        let key0 = self.table.read(&mut self.seat, slot, KEY0, NAME);
-        let key1 = self.table.read(&mut self.seat, slot, KEY1, NAME);
-        let charge = self.table.read(&mut self.seat, slot, CHARGE, NAME);
-        let stamp = self.table.read(&mut self.seat, slot, STAMP, NAME);
-        let length = self.table.read(&mut self.seat, slot, LENGTH, NAME);
-        let first = self.table.read(&mut self.seat, slot, PAYLOAD, NAME);
-        let second = self.table.read(&mut self.seat, slot, PAYLOAD + 1, NAME);
-        [key0, key1, charge, stamp, length, first, second]
+        let first = self.table.data_of(slot);
+        let key0 = self.table.read_at(&mut self.seat, slot, first, KEY0, NAME);
+        let key1 = self.table.read_at(&mut self.seat, slot, first, KEY1, NAME);
+        let charge = self
+            .table
+            .read_at(&mut self.seat, slot, first, CHARGE, NAME);
+        let stamp = self.table.read_at(&mut self.seat, slot, first, STAMP, NAME);
+        let length = self
+            .table
+            .read_at(&mut self.seat, slot, first, LENGTH, NAME);
+        let payload0 = self
+            .table
+            .read_at(&mut self.seat, slot, first, PAYLOAD, NAME);
+        let payload1 = self
+            .table
+            .read_at(&mut self.seat, slot, first, PAYLOAD + 1, NAME);
+        [key0, key1, charge, stamp, length, payload0, payload1]
     }
 
     /// A look-up that is a use, and that marks the entry. The words are those that the look, the
@@ -72,8 +84,9 @@ impl Worker<'_> {
         let (seen, found) = self.reach(rt, slot, 1);
         let data = self.read_all(slot);
         let marked = self.table.mark(&mut self.seat, slot, NAME);
-        let released = self.table.spend(&mut self.seat, slot, 1, NAME);
-        let left = self.table.look(&mut self.seat, slot);
+        let first = self.table.data_of(slot);
+        let released = self.table.spend_at(&mut self.seat, slot, first, 1, NAME);
+        let left = self.table.look_at(&mut self.seat, slot, first);
         ([seen, found, marked, released, left], data)
     }
 
@@ -89,8 +102,11 @@ impl Worker<'_> {
         ensures ready { IsReady (view self.new.seat) }
     {
         let (seen, found) = self.reach(rt, slot, weight);
-        let given = self.table.give(&mut self.seat, slot, weight, NAME);
-        let left = self.table.look(&mut self.seat, slot);
+        let first = self.table.data_of(slot);
+        let given = self
+            .table
+            .give_at(&mut self.seat, slot, first, weight, NAME);
+        let left = self.table.look_at(&mut self.seat, slot, first);
         [seen, found, given, left]
     }
 
@@ -105,13 +121,18 @@ impl Worker<'_> {
             × ((view self.new.seat).others ≡ (view self.old.seat).others) }
         ensures ready { IsReady (view self.new.seat) }
     {
-        let tried = self.table.occupy(&mut self.seat, slot);
+        let first = self.table.data_of(slot);
+        let tried = self.table.occupy_at(&mut self.seat, slot, first);
         assert!(rt; state(tried) >= INVISIBLE, "slot {slot} has no entry");
-        let found = self.table.acquire(&mut self.seat, slot, weight, NAME);
+        let found = self
+            .table
+            .acquire_at(&mut self.seat, slot, first, weight, NAME);
         assert!(rt; state(found) >= INVISIBLE, "slot {slot} lost its entry");
         assert!(rt; releases(found) < NEAR, "slot {slot} is near its end");
-        let released = self.table.spend(&mut self.seat, slot, weight, NAME);
-        let left = self.table.look(&mut self.seat, slot);
+        let released = self
+            .table
+            .spend_at(&mut self.seat, slot, first, weight, NAME);
+        let left = self.table.look_at(&mut self.seat, slot, first);
         [tried, found, released, left]
     }
 
@@ -124,13 +145,14 @@ impl Worker<'_> {
             × ((view self.new.seat).others ≡ (view self.old.seat).others) }
         ensures ready { IsReady (view self.new.seat) }
     {
-        if state(self.table.look(&mut self.seat, slot)) < INVISIBLE {
+        let first = self.table.data_of(slot);
+        if state(self.table.look_at(&mut self.seat, slot, first)) < INVISIBLE {
             return;
         }
-        if state(self.table.acquire(&mut self.seat, slot, 1, NAME)) < INVISIBLE {
+        if state(self.table.acquire_at(&mut self.seat, slot, first, 1, NAME)) < INVISIBLE {
             return;
         }
-        self.table.give(&mut self.seat, slot, 1, NAME);
+        self.table.give_at(&mut self.seat, slot, first, 1, NAME);
     }
 
     /// A visit of the clock: the word that it finds, and the one after it.
@@ -142,11 +164,12 @@ impl Worker<'_> {
             × ((view self.new.seat).others ≡ (view self.old.seat).others) }
         ensures ready { IsReady (view self.new.seat) }
     {
-        let seen = self.table.look(&mut self.seat, slot);
+        let first = self.table.data_of(slot);
+        let seen = self.table.look_at(&mut self.seat, slot, first);
         if let Some(next) = clocked(seen) {
-            self.table.clock(&mut self.seat, slot, seen, next);
+            self.table.clock_at(&mut self.seat, slot, first, seen, next);
         }
-        [seen, self.table.look(&mut self.seat, slot)]
+        [seen, self.table.look_at(&mut self.seat, slot, first)]
     }
 
     /// Exchanges of the clock and of a free that come too late. The words are the slot's before,
@@ -164,9 +187,15 @@ impl Worker<'_> {
         assert!(rt; refs(seen) == 0, "slot {slot} is held");
         let next = clocked(seen).expect(rt, "the clock passes over the slot");
         self.matched(rt, slot, 1);
-        let counted = self.table.clock(&mut self.seat, slot, seen, next);
-        let freed = self.table.free(&mut self.seat, slot, seen, None);
+        let first = self.table.data_of(slot);
+        let counted = self.table.clock_at(&mut self.seat, slot, first, seen, next);
+        let freed = self.table.free_at(&mut self.seat, slot, first, seen, None);
         assert!(rt; freed != seen, "slot {slot} was taken");
-        [seen, counted, freed, self.table.look(&mut self.seat, slot)]
+        [
+            seen,
+            counted,
+            freed,
+            self.table.look_at(&mut self.seat, slot, first),
+        ]
     }
 }

@@ -48,7 +48,8 @@ impl Worker<'_> {
             × ((view self.new.seat).others ≡ (view self.old.seat).others) }
         ensures ready { IsReady (view self.new.seat) }
     {
-        self.table.look(&mut self.seat, slot)
+        let first = self.table.data_of(slot);
+        self.table.look_at(&mut self.seat, slot, first)
     }
 
     /// How often a slot stands in trails.
@@ -60,7 +61,8 @@ impl Worker<'_> {
             × ((view self.new.seat).others ≡ (view self.old.seat).others) }
         ensures ready { IsReady (view self.new.seat) }
     {
-        self.table.count(&mut self.seat, slot)
+        let first = self.table.data_of(slot);
+        self.table.count_at(&mut self.seat, slot, first)
     }
 
     /// The usage, the occupancy and what stands.

@@ -113,7 +113,7 @@ pub fn hide<T: Tag, A: Allocator>(
         effort.probes(1);
         let here = hide_at(table, seat, slot, key, name, effort);
         all = all.with(here);
-        if table.count(seat, slot) == 0 {
+        if table.count_at(seat, slot, table.data_of(slot)) == 0 {
             return all;
         }
         walk = walk.next();
@@ -191,7 +191,7 @@ fn hide_held<T: Tag, A: Allocator>(
             charge,
         },
         None => {
-            table.give(seat, slot, 1, name);
+            table.give_at(seat, slot, table.data_of(slot), 1, name);
             Erased {
                 hidden,
                 slots: 0,

@@ -52,16 +52,17 @@ pub fn pinned_charge<T: Tag, A: Allocator>(
     ensures seeks { Seeks table.now seat.old seat.new }
     ensures steps { MakesAtMost 5 seat.old seat.new }
 {
-    let word = table.look(seat, slot);
+    let first = table.data_of(slot);
+    let word = table.look_at(seat, slot, first);
     if !has_entry(word) || refs(word) == 0 {
         return 0;
     }
-    let found = reach(table, seat, slot, table.data_of(slot), 1, name, effort);
+    let found = reach(table, seat, slot, first, 1, name, effort);
     if !has_entry(found) {
         return 0;
     }
-    let charge = table.read(seat, slot, CHARGE, name);
-    table.give(seat, slot, 1, name);
+    let charge = table.read_at(seat, slot, first, CHARGE, name);
+    table.give_at(seat, slot, first, 1, name);
     if refs(found) == 0 {
         return 0;
     }

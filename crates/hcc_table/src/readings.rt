@@ -45,7 +45,7 @@ pub fn word<T: Tag, A: Allocator>(table: &RuleTable<T, A>, seat: &mut RuleSeat<T
     ensures event { IsEvent table.now (look_done slot result (view seat.old)) seat.old seat.new }
     ensures steps { MakesAtMost 1 seat.old seat.new }
 {
-    table.look(seat, slot)
+    table.look_at(seat, slot, table.data_of(slot))
 }
 
 /// How often a slot stands in the trails of entries and of clients, as a load of its displacement
@@ -86,7 +86,7 @@ pub fn displacement<T: Tag, A: Allocator>(
     ensures event { IsEvent table.now (count_done slot result (view seat.old)) seat.old seat.new }
     ensures steps { MakesAtMost 1 seat.old seat.new }
 {
-    table.count(seat, slot)
+    table.count_at(seat, slot, table.data_of(slot))
 }
 
 /// How many bytes the value has of the entry of a pin, for a caller that has the address of its
@@ -135,9 +135,10 @@ pub fn read_key<T: Tag, A: Allocator>(
     ensures seeks { Seeks table.now seat.old seat.new }
     ensures steps { MakesAtMost 2 seat.old seat.new }
 {
+    let first = table.data_of(pin.slot);
     Key {
-        w0: table.read(seat, pin.slot, KEY0, pin.name),
-        w1: table.read(seat, pin.slot, KEY1, pin.name),
+        w0: table.read_at(seat, pin.slot, first, KEY0, pin.name),
+        w1: table.read_at(seat, pin.slot, first, KEY1, pin.name),
     }
 }
 

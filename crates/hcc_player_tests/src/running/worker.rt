@@ -76,8 +76,9 @@ impl Worker<'_> {
     pub(super) fn finds(&mut self, slot: u32) -> (u64, u64)
         requires slot { slot < 8 }
     {
-        let word = self.table.look(&mut self.seat, slot);
-        (word, self.table.count(&mut self.seat, slot))
+        let first = self.table.data_of(slot);
+        let word = self.table.look_at(&mut self.seat, slot, first);
+        (word, self.table.count_at(&mut self.seat, slot, first))
     }
 
     /// The usage, the occupancy and the standalone charges.
@@ -103,10 +104,13 @@ impl Worker<'_> {
         ensures counting { IfOk result (λ found. is_counting found ≡ true) }
     {
         let client = self.client;
-        let seen = self.table.look(&mut self.seat, slot);
+        let first = self.table.data_of(slot);
+        let seen = self.table.look_at(&mut self.seat, slot, first);
         assert!(rt; state(seen) >= INVISIBLE, "slot {slot} has no entry");
         tape.add(&format!(in tape.alloc; "look {client} {slot}")?)?;
-        let found = self.table.acquire(&mut self.seat, slot, weight, HELD);
+        let found = self
+            .table
+            .acquire_at(&mut self.seat, slot, first, weight, HELD);
         assert!(rt; state(found) >= INVISIBLE, "slot {slot} lost its entry");
         assert!(rt; releases(found) < NEAR, "slot {slot} is near its end");
         tape.add(&format!(in tape.alloc; "acquire {client} {slot} {weight} {HELD}")?)?;
@@ -170,7 +174,9 @@ impl Worker<'_> {
         ensures holds { (entry : Entry)
             × Carries new_client (first_records slot draft.name entry) (view self.new.seat) }
     {
-        self.table.show(&mut self.seat, slot, draft, &VALUE);
+        let first = self.table.data_of(slot);
+        self.table
+            .show_at(&mut self.seat, slot, first, draft, &VALUE);
         self.shown += 1;
     }
 
@@ -197,7 +203,8 @@ impl Worker<'_> {
         tape.add(&format!(in tape.alloc; "enter {client}")?)?;
         self.table.charge(&mut self.seat, charge);
         tape.add(&format!(in tape.alloc; "charge {client} {charge}")?)?;
-        let found = self.table.occupy(&mut self.seat, slot);
+        let first = self.table.data_of(slot);
+        let found = self.table.occupy_at(&mut self.seat, slot, first);
         assert!(rt; state(found) == EMPTY, "slot {slot} is not empty");
         tape.add(&format!(in tape.alloc; "occupy {client} {slot}")?)
     }
@@ -209,7 +216,8 @@ impl Worker<'_> {
         ensures ready { OnOk result (IsReady (view self.new.seat)) }
     {
         let client = self.client;
-        let found = self.table.occupy(&mut self.seat, slot);
+        let first = self.table.data_of(slot);
+        let found = self.table.occupy_at(&mut self.seat, slot, first);
         assert!(rt; state(found) == CONSTRUCTION, "nobody builds slot {slot}");
         tape.add(&format!(in tape.alloc; "occupy {client} {slot}")?)
     }
@@ -226,7 +234,8 @@ impl Worker<'_> {
     {
         let client = self.client;
         if let Some(place) = passed {
-            self.table.pass(&mut self.seat, place);
+            let first = self.table.data_of(place);
+            self.table.pass_at(&mut self.seat, place, first);
             tape.add(&format!(in tape.alloc; "pass {client} {place}")?)?;
         }
         Ok(())
@@ -285,7 +294,9 @@ impl Worker<'_> {
         ensures view { OnOk result (view self.new.seat ≡ after_write word (view self.old.seat)) }
     {
         let client = self.client;
-        self.table.write(&mut self.seat, slot, index, word);
+        let first = self.table.data_of(slot);
+        self.table
+            .write_at(&mut self.seat, slot, first, index, word);
         tape.add(&format!(in tape.alloc; "write {client}")?)
     }
 }

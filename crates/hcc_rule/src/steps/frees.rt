@@ -27,27 +27,6 @@ impl<T: Tag, A: Allocator> RuleTable<T, A> {
     ///
     /// The client owns no slot, has an empty trail, and has freed at most `2^49 - 2^32` that isn't
     /// settled. It allocates nothing. It costs one compare-exchange.
-    pub fn free(&self, seat: &mut RuleSeat<T>, slot: u32, old: u64, name: Option<u64>) -> u64
-        requires seat { IsSeatAt self.now seat.old }
-        requires slot { slot < self.now.geometry.slots }
-        requires entry { is_shareable old ≡ true }
-        requires last { IsLast slot old name (view seat.old) }
-        requires idle { (owns_nothing (view seat.old).work.owned ≡ true)
-            × ((view seat.old).work.trail ≡ []) }
-        requires space { (view seat.old).work.freed + 2 ^ 32 ≤ 2 ^ 49 }
-        ensures seat { IsSameSeat seat.old seat.new }
-        ensures view { Freed T.fits self.now.geometry.slots self.now.geometry.room slot old result
-            name (view seat.old) (view seat.new) }
-        ensures step { Makes (address_of_meta self.now slot) old CONSTRUCTION_WORD result
-            seat.old seat.new }
-        ensures event { IsEvent self.now (free_done slot name old result
-            ((view seat.new).work.freed - (view seat.old).work.freed) (view seat.old))
-            seat.old seat.new }
-    {
-        self.free_at(seat, slot, self.data_of(slot), old, name)
-    }
-
-    /// The same as `free`, for a caller that has the address of the slot's first data word.
     pub fn free_at(
         &self,
         seat: &mut RuleSeat<T>,

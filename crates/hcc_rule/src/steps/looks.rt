@@ -23,21 +23,6 @@ impl<T: Tag, A: Allocator> RuleTable<T, A> {
     /// one client, with just these.
     ///
     /// It allocates nothing. It costs one load.
-    pub fn look(&self, seat: &mut RuleSeat<T>, slot: u32) -> u64
-        requires seat { IsSeatAt self.now seat.old }
-        requires slot { slot < self.now.geometry.slots }
-        ensures seat { IsSameSeat seat.old seat.new }
-        ensures view { view seat.new ≡ after_look slot result (view seat.old) }
-        ensures backs { Backs slot result (view seat.old) }
-        ensures alone { HoldsAll (setup_of (plan_of self.now)) slot result (view seat.old) }
-        ensures step { Makes (address_of_meta self.now slot) 0 0 result seat.old seat.new }
-        ensures event { IsEvent self.now (look_done slot result (view seat.old))
-            seat.old seat.new }
-    {
-        self.look_at(seat, slot, self.data_of(slot))
-    }
-
-    /// The same as `look`, for a caller that has the address of the slot's first data word.
     pub fn look_at(&self, seat: &mut RuleSeat<T>, slot: u32, first: usize) -> u64
         requires seat { IsSeatAt self.now seat.old }
         requires slot { slot < self.now.geometry.slots }

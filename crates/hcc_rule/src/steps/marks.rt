@@ -67,21 +67,6 @@ impl<T: Tag, A: Allocator> RuleTable<T, A> {
     /// compare-exchange was made, and the client knows what it knew. Else the step was a look.
     ///
     /// It allocates nothing. It costs one compare-exchange.
-    pub fn clock(&self, seat: &mut RuleSeat<T>, slot: u32, old: u64, new: u64) -> u64
-        requires seat { IsSeatAt self.now seat.old }
-        requires slot { slot < self.now.geometry.slots }
-        requires clockable { IsClockable old }
-        requires clocked { new ≡ clocked_word old }
-        ensures seat { IsSameSeat seat.old seat.new }
-        ensures view { view seat.new ≡ after_clock slot old result (view seat.old) }
-        ensures step { Makes (address_of_meta self.now slot) old new result seat.old seat.new }
-        ensures event { IsEvent self.now (clock_done slot old new result (view seat.old))
-            seat.old seat.new }
-    {
-        self.clock_at(seat, slot, self.data_of(slot), old, new)
-    }
-
-    /// The same as `clock`, for a caller that has the address of the slot's first data word.
     pub fn clock_at(
         &self,
         seat: &mut RuleSeat<T>,

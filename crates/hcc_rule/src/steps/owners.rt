@@ -45,22 +45,6 @@ impl<T: Tag, A: Allocator> RuleTable<T, A> {
     ///
     /// The client owns no slot. Where it holds references on the slot, the word is that of an entry
     /// with at least these. It allocates nothing. It costs one atomic or.
-    pub fn occupy(&self, seat: &mut RuleSeat<T>, slot: u32) -> u64
-        requires seat { IsSeatAt self.now seat.old }
-        requires slot { slot < self.now.geometry.slots }
-        requires idle { owns_nothing (view seat.old).work.owned ≡ true }
-        ensures seat { IsSameSeat seat.old seat.new }
-        ensures view { view seat.new ≡ after_occupy slot result (view seat.old) }
-        ensures backs { Backs slot result (view seat.old) }
-        ensures step { Makes (address_of_meta self.now slot) OCCUPIED_BIT 0 result
-            seat.old seat.new }
-        ensures event { IsEvent self.now (occupy_done slot result (view seat.old))
-            seat.old seat.new }
-    {
-        self.occupy_at(seat, slot, self.data_of(slot))
-    }
-
-    /// The same as `occupy`, for a caller that has the address of the slot's first data word.
     pub fn occupy_at(&self, seat: &mut RuleSeat<T>, slot: u32, first: usize) -> u64
         requires seat { IsSeatAt self.now seat.old }
         requires slot { slot < self.now.geometry.slots }
@@ -83,22 +67,6 @@ impl<T: Tag, A: Allocator> RuleTable<T, A> {
     ///
     /// `index` is how many it wrote, below the five words before the payload and the payload words
     /// of a slot. It allocates nothing. It costs one atomic store.
-    pub fn write(&self, seat: &mut RuleSeat<T>, slot: u32, index: usize, word: u64)
-        requires seat { IsSeatAt self.now seat.old }
-        requires slot { slot < self.now.geometry.slots }
-        requires owned { (view seat.old).work.owned ≡ ForBuilding slot }
-        requires next { (index ≡ length (view seat.old).written)
-            × (index < PAYLOAD + self.now.geometry.room) }
-        ensures seat { IsSameSeat seat.old seat.new }
-        ensures view { view seat.new ≡ after_write word (view seat.old) }
-        ensures step { Makes (address_of_data self.now slot index) word 0 word seat.old seat.new }
-        ensures event { IsEvent self.now (write_done (view seat.old))
-            seat.old seat.new }
-    {
-        self.write_at(seat, slot, self.data_of(slot), index, word);
-    }
-
-    /// The same as `write`, for a caller that has the address of the slot's first data word.
     pub fn write_at(&self, seat: &mut RuleSeat<T>, slot: u32, first: usize, index: usize, word: u64)
         requires seat { IsSeatAt self.now seat.old }
         requires slot { slot < self.now.geometry.slots }
@@ -118,22 +86,6 @@ impl<T: Tag, A: Allocator> RuleTable<T, A> {
     /// Empties the slot that the client took to free, once its trail was taken back.
     ///
     /// It allocates nothing. It costs one atomic store.
-    pub fn empty(&self, seat: &mut RuleSeat<T>, slot: u32)
-        requires seat { IsSeatAt self.now seat.old }
-        requires slot { slot < self.now.geometry.slots }
-        requires owned { (view seat.old).work.owned ≡ ForFreeing slot }
-        requires back { (view seat.old).work.trail ≡ [] }
-        ensures seat { IsSameSeat seat.old seat.new }
-        ensures view { view seat.new ≡ after_empty (view seat.old) }
-        ensures step { Makes (address_of_meta self.now slot) EMPTY_WORD 0 EMPTY_WORD
-            seat.old seat.new }
-        ensures event { IsEvent self.now (empty_done (view seat.old))
-            seat.old seat.new }
-    {
-        self.empty_at(seat, slot, self.data_of(slot));
-    }
-
-    /// The same as `empty`, for a caller that has the address of the slot's first data word.
     pub fn empty_at(&self, seat: &mut RuleSeat<T>, slot: u32, first: usize)
         requires seat { IsSeatAt self.now seat.old }
         requires slot { slot < self.now.geometry.slots }

@@ -22,23 +22,6 @@ impl<T: Tag, A: Allocator> RuleTable<T, A> {
     ///
     /// The record is of that slot. Once the second key word of an entry was read that was got as
     /// Shown, its key joins the met keys. It allocates nothing. It costs one load.
-    pub fn read(&self, seat: &mut RuleSeat<T>, slot: u32, index: usize, name: u64) -> u64
-        requires seat { IsSeatAt self.now seat.old }
-        requires slot { slot < self.now.geometry.slots }
-        requires within { index < PAYLOAD + self.now.geometry.room }
-        requires holds { IsSomeAnd (record_in name (view seat.old).records) (λ r. r.slot ≡ slot) }
-        ensures seat { IsSameSeat seat.old seat.new }
-        ensures view { view seat.new ≡ after_read name index (view seat.old) }
-        ensures word { IfSome (record_in name (view seat.old).records)
-            (λ r. IsDataWord r.entry index result) }
-        ensures step { Makes (address_of_data self.now slot index) 0 0 result seat.old seat.new }
-        ensures event { IfSome (record_in name (view seat.old).records)
-            (λ r. IsEvent self.now (read_done name r.entry (view seat.old)) seat.old seat.new) }
-    {
-        self.read_at(seat, slot, self.data_of(slot), index, name)
-    }
-
-    /// The same as `read`, for a caller that has the address of the slot's first data word.
     pub fn read_at(
         &self,
         seat: &mut RuleSeat<T>,
@@ -67,22 +50,6 @@ impl<T: Tag, A: Allocator> RuleTable<T, A> {
     /// that it took to free.
     ///
     /// It allocates nothing. It costs one load.
-    pub fn read_own(&self, seat: &mut RuleSeat<T>, slot: u32, index: usize) -> u64
-        requires seat { IsSeatAt self.now seat.old }
-        requires slot { slot < self.now.geometry.slots }
-        requires within { index < PAYLOAD + self.now.geometry.room }
-        requires owned { owned_slot (view seat.old).work.owned ≡ Some slot }
-        ensures seat { IsSameSeat seat.old seat.new }
-        ensures view { view seat.new ≡ view seat.old }
-        ensures word { index < length (view seat.old).written
-            → result ≡ slice_index (view seat.old).written index }
-        ensures step { Makes (address_of_data self.now slot index) 0 0 result seat.old seat.new }
-        ensures event { IsNoEvent seat.old seat.new }
-    {
-        self.read_own_at(seat, slot, self.data_of(slot), index)
-    }
-
-    /// The same as `read_own`, for a caller that has the address of the slot's first data word.
     pub fn read_own_at(&self, seat: &mut RuleSeat<T>, slot: u32, first: usize, index: usize) -> u64
         requires seat { IsSeatAt self.now seat.old }
         requires slot { slot < self.now.geometry.slots }

@@ -34,24 +34,6 @@ impl<T: Tag, A: Allocator> RuleTable<T, A> {
     /// then.
     ///
     /// It allocates nothing. It costs one atomic add.
-    pub fn acquire(&self, seat: &mut RuleSeat<T>, slot: u32, weight: u32, name: u64) -> u64
-        requires seat { IsSeatAt self.now seat.old }
-        requires slot { slot < self.now.geometry.slots }
-        requires weight { (0 < weight) × (weight ≤ MOST_WEIGHT) }
-        requires fresh { record_in name (view seat.old).records ≡ None }
-        requires reach { may_reach slot (view seat.old) ≡ true }
-        requires load { load_of (view seat.old).records + weight ≤ REFERENCES_PER_CLIENT }
-        ensures seat { IsSameSeat seat.old seat.new }
-        ensures view { Acquired T.fits self.now.geometry.room slot weight name result
-            (view seat.old) (view seat.new) }
-        ensures step { Makes (address_of_meta self.now slot) weight 0 result seat.old seat.new }
-        ensures event { IsEvent self.now (acquire_done slot weight name result (view seat.old))
-            seat.old seat.new }
-    {
-        self.acquire_at(seat, slot, self.data_of(slot), weight, name)
-    }
-
-    /// The same as `acquire`, for a caller that has the address of the slot's first data word.
     pub fn acquire_at(
         &self,
         seat: &mut RuleSeat<T>,
@@ -85,23 +67,6 @@ impl<T: Tag, A: Allocator> RuleTable<T, A> {
     ///
     /// The word that is found is that of an entry, with at least these references. It allocates
     /// nothing. It costs one atomic subtraction.
-    pub fn give(&self, seat: &mut RuleSeat<T>, slot: u32, weight: u32, name: u64) -> u64
-        requires seat { IsSeatAt self.now seat.old }
-        requires slot { slot < self.now.geometry.slots }
-        requires holds { IsSomeAnd (record_in name (view seat.old).records)
-            (λ r. (r.slot ≡ slot) × (r.weight ≡ weight)) }
-        ensures seat { IsSameSeat seat.old seat.new }
-        ensures view { view seat.new ≡ after_give slot name result (view seat.old) }
-        ensures entry { is_shareable result ≡ true }
-        ensures references { weight ≤ refs_of result }
-        ensures step { Makes (address_of_meta self.now slot) weight 0 result seat.old seat.new }
-        ensures event { IsEvent self.now (give_done weight name result (view seat.old))
-            seat.old seat.new }
-    {
-        self.give_at(seat, slot, self.data_of(slot), weight, name)
-    }
-
-    /// The same as `give`, for a caller that has the address of the slot's first data word.
     pub fn give_at(
         &self,
         seat: &mut RuleSeat<T>,
@@ -134,24 +99,6 @@ impl<T: Tag, A: Allocator> RuleTable<T, A> {
     ///
     /// The word that is found is that of an entry, with at least these references. It allocates
     /// nothing. It costs one atomic add.
-    pub fn spend(&self, seat: &mut RuleSeat<T>, slot: u32, weight: u32, name: u64) -> u64
-        requires seat { IsSeatAt self.now seat.old }
-        requires slot { slot < self.now.geometry.slots }
-        requires holds { IsSomeAnd (record_in name (view seat.old).records)
-            (λ r. (r.slot ≡ slot) × (r.weight ≡ weight) × (r.counting ≡ true)) }
-        ensures seat { IsSameSeat seat.old seat.new }
-        ensures view { view seat.new ≡ after_give slot name result (view seat.old) }
-        ensures entry { is_shareable result ≡ true }
-        ensures references { weight ≤ refs_of result }
-        ensures step { Makes (address_of_meta self.now slot) (weight * ONE_RELEASE) 0 result
-            seat.old seat.new }
-        ensures event { IsEvent self.now (spend_done weight name result (view seat.old))
-            seat.old seat.new }
-    {
-        self.spend_at(seat, slot, self.data_of(slot), weight, name)
-    }
-
-    /// The same as `spend`, for a caller that has the address of the slot's first data word.
     pub fn spend_at(
         &self,
         seat: &mut RuleSeat<T>,

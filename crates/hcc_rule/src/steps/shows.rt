@@ -36,24 +36,6 @@ impl<T: Tag, A: Allocator> RuleTable<T, A> {
     /// The draft and the value say which entry it is; its words were all written. Its place and its
     /// charge were granted, and nothing is needed. The client's trail is the probes of the key
     /// before the slot, and becomes the entry's. It allocates nothing. It costs one atomic store.
-    pub fn show(&self, seat: &mut RuleSeat<T>, slot: u32, draft: Draft, value: &[u8])
-        requires seat { IsSeatAt self.now seat.old }
-        requires slot { slot < self.now.geometry.slots }
-        requires may { MayShow T.fits (plan_of self.now) slot draft.countdown draft.name
-            (made_of draft value.now) (view seat.old) }
-        ensures seat { IsSameSeat seat.old seat.new }
-        ensures view { view seat.new ≡ after_show slot draft.name (made_of draft value.now)
-            (view seat.old) }
-        ensures step { Makes (address_of_meta self.now slot) (first_word draft) 0 (first_word draft)
-            seat.old seat.new }
-        ensures event { IsEvent self.now (show_done draft.countdown draft.name
-            (made_of draft value.now) (view seat.old))
-            seat.old seat.new }
-    {
-        self.show_at(seat, slot, self.data_of(slot), draft, value);
-    }
-
-    /// The same as `show`, for a caller that has the address of the slot's first data word.
     pub fn show_at(
         &self,
         seat: &mut RuleSeat<T>,

@@ -31,37 +31,6 @@ impl<T: Tag, A: Allocator> RuleTable<T, A> {
     /// take, so the answer is exact where it holds all of these.
     ///
     /// It allocates nothing. It costs one load.
-    pub fn count(&self, seat: &mut RuleSeat<T>, slot: u32) -> u64
-        requires seat { IsSeatAt self.now seat.old }
-        requires slot { slot < self.now.geometry.slots }
-        ensures seat { IsSameSeat seat.old seat.new }
-        ensures view { view seat.new ≡ view seat.old }
-        ensures own { times slot (view seat.old).work.trail ≤ result }
-        ensures entries { times slot (view seat.old).work.trail
-            + passed_held (slots_of self.now) slot (view seat.old).records ≤ result }
-        ensures most { result + length (different (view seat.old).records)
-            ≤ times slot (view seat.old).work.trail
-            + passed_held (slots_of self.now) slot (view seat.old).records
-            + limit_of (setup_of (plan_of self.now))
-            + slots_of self.now * (clients_of self.now - 1) }
-        ensures alone { clients_of self.now ≡ 1
-            → result + (view seat.old).takings + length (different (view seat.old).records)
-            ≤ times slot (view seat.old).work.trail
-            + passed_held (slots_of self.now) slot (view seat.old).records
-            + length (view seat.old).made }
-        ensures held { Each (λ (r : Record). times slot
-            (trail_to self.now.geometry.slots (key_of r.entry) r.slot) ≤ result)
-            (view seat.old).records }
-        ensures within { Each (λ (r : Record). r.slot < self.now.geometry.slots)
-            (view seat.old).records }
-        ensures step { Makes (address_of_displacement self.now slot) 0 0 result seat.old seat.new }
-        ensures event { IsEvent self.now (count_done slot result (view seat.old))
-            seat.old seat.new }
-    {
-        self.count_at(seat, slot, self.data_of(slot))
-    }
-
-    /// The same as `count`, for a caller that has the address of the slot's first data word.
     pub fn count_at(&self, seat: &mut RuleSeat<T>, slot: u32, first: usize) -> u64
         requires seat { IsSeatAt self.now seat.old }
         requires slot { slot < self.now.geometry.slots }
@@ -97,20 +66,6 @@ impl<T: Tag, A: Allocator> RuleTable<T, A> {
     /// members than the shard has slots.
     ///
     /// It allocates nothing. It costs one atomic add.
-    pub fn pass(&self, seat: &mut RuleSeat<T>, slot: u32)
-        requires seat { IsSeatAt self.now seat.old }
-        requires slot { slot < self.now.geometry.slots }
-        requires room { length (view seat.old).work.trail < self.now.geometry.slots }
-        ensures seat { IsSameSeat seat.old seat.new }
-        ensures view { view seat.new ≡ after_pass slot (view seat.old) }
-        ensures step { MakesSome (address_of_displacement self.now slot) 1 0 seat.old seat.new }
-        ensures event { IsEvent self.now (pass_done slot (view seat.old))
-            seat.old seat.new }
-    {
-        self.pass_at(seat, slot, self.data_of(slot));
-    }
-
-    /// The same as `pass`, for a caller that has the address of the slot's first data word.
     pub fn pass_at(&self, seat: &mut RuleSeat<T>, slot: u32, first: usize)
         requires seat { IsSeatAt self.now seat.old }
         requires slot { slot < self.now.geometry.slots }

@@ -144,7 +144,8 @@ impl Caller<'_> {
         let seen = word(self.table, &mut self.seat, slot);
         assert!(rt; state(seen) >= INVISIBLE, "slot {slot} has no entry");
         assert!(rt; refs(seen) == 0, "slot {slot} is held");
-        let found = self.table.free(&mut self.seat, slot, seen, None);
+        let first = self.table.data_of(slot);
+        let found = self.table.free_at(&mut self.seat, slot, first, seen, None);
         assert!(rt; found == seen, "slot {slot} was not taken");
         let charge = free_taken(self.table, &mut self.seat, slot);
         self.settle(1, charge);

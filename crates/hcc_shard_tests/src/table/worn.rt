@@ -28,11 +28,12 @@ impl Caller<'_> {
         ensures same { self.new.table ≡ self.old.table }
         ensures ready { IsReady (view self.new.seat) }
     {
-        let seen = self.table.look(&mut self.seat, slot);
+        let first = self.table.data_of(slot);
+        let seen = self.table.look_at(&mut self.seat, slot, first);
         assert!(rt; state(seen) >= INVISIBLE, "slot {slot} has no entry");
-        let found = self.table.acquire(&mut self.seat, slot, 3, NAME);
+        let found = self.table.acquire_at(&mut self.seat, slot, first, 3, NAME);
         assert!(rt; state(found) >= INVISIBLE, "slot {slot} lost its entry");
         assert!(rt; releases(found) < NEAR, "slot {slot} is near its end");
-        self.table.spend(&mut self.seat, slot, 3, NAME);
+        self.table.spend_at(&mut self.seat, slot, first, 3, NAME);
     }
 }

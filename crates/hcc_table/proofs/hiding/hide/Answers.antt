@@ -22,40 +22,42 @@ loop-init g c =
       hid_none g.T.Tag.fits table c.args.key c.args.name c.args.effort.now c.args.seat.now,
     )
 
-pub returns-then-count-eq0-clause-view : goal.returns-then-count-eq0-clause-view
-returns-then-count-eq0-clause-view g c =
+pub returns-then-count_at-eq0-clause-view : goal.returns-then-count_at-eq0-clause-view
+returns-then-count_at-eq0-clause-view g c =
     let here = c.hide_at-here.ensures in
     let all = c.with-all.ensures in
-    let told = c.count.ensures in
+    let told = c.count_at.ensures in
     both c.args.table.now.geometry.slots c.args.key c.args.table.now.limits.power c.loop.counter
-    c.count.result c.slot-slot.result c.loop.walk c.loop.all c.hide_at-here.result c.with-all.result
+    c.count_at.result c.slot-slot.result c.loop.walk c.loop.all c.hide_at-here.result
+    c.with-all.result
     c.args.seat.now c.loop.seat c.loop.invariant.0 c.slot-slot.ensures
-    c.hide_at-here.new.seat c.count.new.seat here.seat told.seat here.view here.dead here.few
+    c.hide_at-here.new.seat c.count_at.new.seat here.seat told.seat here.view here.dead here.few
     (all.hidden, all.slots, all.charge) told.view told.held told.within
 
-pub returns-then-count-eq0-clause-dead : goal.returns-then-count-eq0-clause-dead
-returns-then-count-eq0-clause-dead g c =
+pub returns-then-count_at-eq0-clause-dead : goal.returns-then-count_at-eq0-clause-dead
+returns-then-count_at-eq0-clause-dead g c =
     let here = c.hide_at-here.ensures in
     let all = c.with-all.ensures in
-    let told = c.count.ensures in
+    let told = c.count_at.ensures in
     hides_last c.args.table.now.geometry.slots c.args.key c.args.table.now.limits.power
-    c.loop.counter c.count.result c.slot-slot.result c.loop.walk c.loop.all c.hide_at-here.result
+    c.loop.counter c.count_at.result c.slot-slot.result c.loop.walk c.loop.all c.hide_at-here.result
     c.with-all.result c.args.seat.now c.loop.seat c.loop.invariant.0 c.slot-slot.ensures
-    c.hide_at-here.new.seat c.count.new.seat here.seat told.seat here.view here.dead here.few
+    c.hide_at-here.new.seat c.count_at.new.seat here.seat told.seat here.view here.dead here.few
     (all.hidden, all.slots, all.charge) told.view told.held told.within
-    c.if-count-eq0.true
+    c.if-count_at-eq0.true
 
 pub loop-preserved : goal.loop-preserved
 loop-preserved g c =
     let here = c.hide_at-here.ensures in
     let all = c.with-all.ensures in
-    let told = c.count.ensures in
+    let told = c.count_at.ensures in
     let next = c.next-walk.ensures in (
       hides_on c.args.table.now.geometry.slots c.args.key c.args.table.now.limits.power
           c.loop.counter
-          c.count.result c.slot-slot.result c.loop.walk c.loop.all c.hide_at-here.result
+          c.count_at.result c.slot-slot.result c.loop.walk c.loop.all c.hide_at-here.result
           c.with-all.result c.args.seat.now c.loop.seat c.loop.invariant.0 c.slot-slot.ensures
-          c.hide_at-here.new.seat c.count.new.seat here.seat told.seat here.view here.dead here.few
+          c.hide_at-here.new.seat c.count_at.new.seat here.seat told.seat here.view here.dead
+          here.few
           (all.hidden, all.slots, all.charge) told.view told.held told.within c.next-walk.result
           next.probe next.stride next.mask,
       visited,
@@ -65,13 +67,13 @@ loop-preserved g c =
           c.hide_at-here.result.slots c.with-all.result.slots all.slots in
           omega arith),
       hid_then g.T.Tag.fits c.args.table.now c.args.key c.args.name c.loop.counter
-          c.slot-slot.result here.does.0 c.count.result c.loop.all c.hide_at-here.result
+          c.slot-slot.result here.does.0 c.count_at.result c.loop.all c.hide_at-here.result
           c.with-all.result c.args.effort.now c.probes.new.self c.loop.effort c.args.seat.now
-          c.loop.seat c.hide_at-here.new.seat c.count.new.seat c.loop.invariant.3
+          c.loop.seat c.hide_at-here.new.seat c.count_at.new.seat c.loop.invariant.3
           (c.slot-slot.ensures ∙ c.loop.invariant.0.walking.probe) c.hide_at-here.new.effort
           (c.probes.ensures.probes, c.probes.ensures.corrections, c.probes.ensures.lost)
           here.does.1 (all.hidden, all.slots, all.charge) told.step told.event told.view
-          c.if-count-eq0.false,
+          c.if-count_at-eq0.false,
     )
   where
     visited : Took (c.loop.counter + 1) (c.loop.counter + 1) (2 * (c.loop.counter + 1))
@@ -90,8 +92,8 @@ returns-clause-dead g c =
     c.loop.all c.args.seat.now c.loop.seat (some_slots table.geometry.slots table.limits.power)
     (rw (← size) c.loop-test.false) (rw (← size) c.loop.auto.counter-end) c.loop.invariant.0
 
-pub returns-then-count-eq0-clause-effort : goal.returns-then-count-eq0-clause-effort
-returns-then-count-eq0-clause-effort g c =
+pub returns-then-count_at-eq0-clause-effort : goal.returns-then-count_at-eq0-clause-effort
+returns-then-count_at-eq0-clause-effort g c =
     let probe = c.probes.ensures in
     let size = c.geometry-slots.ensures in
     let low : c.loop.counter < c.args.table.now.geometry.slots = rw (← size) c.loop-test.true in
@@ -112,19 +114,19 @@ returns-clause-effort g c =
     took_within c.loop.counter (2 * c.loop.counter) 1 slots (2 * slots) c.args.effort.now
     c.loop.effort (omega arith) (omega arith) (omega arith) c.loop.invariant.1
 
-pub returns-then-count-eq0-clause-hides : goal.returns-then-count-eq0-clause-hides
-returns-then-count-eq0-clause-hides g c =
+pub returns-then-count_at-eq0-clause-hides : goal.returns-then-count_at-eq0-clause-hides
+returns-then-count_at-eq0-clause-hides g c =
     let here = c.hide_at-here.ensures in
     let all = c.with-all.ensures in
-    let told = c.count.ensures in
+    let told = c.count_at.ensures in
     hides_here g.T.Tag.fits c.args.table.now c.args.key c.args.name c.loop.counter
-    c.slot-slot.result here.does.0 c.count.result c.loop.all c.hide_at-here.result
+    c.slot-slot.result here.does.0 c.count_at.result c.loop.all c.hide_at-here.result
     c.with-all.result c.args.effort.now c.probes.new.self c.loop.effort c.args.seat.now
-    c.loop.seat c.hide_at-here.new.seat c.count.new.seat c.loop.invariant.3
+    c.loop.seat c.hide_at-here.new.seat c.count_at.new.seat c.loop.invariant.3
     (c.slot-slot.ensures ∙ c.loop.invariant.0.walking.probe) c.hide_at-here.new.effort
     (c.probes.ensures.probes, c.probes.ensures.corrections, c.probes.ensures.lost)
     here.does.1 (all.hidden, all.slots, all.charge) told.step told.event told.view
-    c.if-count-eq0.true
+    c.if-count_at-eq0.true
 
 pub returns-clause-hides : goal.returns-clause-hides
 returns-clause-hides g c =
@@ -137,15 +139,15 @@ returns-clause-hides g c =
     c.args.effort.now c.loop.effort c.args.seat.now c.loop.seat c.loop.invariant.3 (omega arith)
     (omega arith)
 
-pub returns-then-count-eq0-clause-frees : goal.returns-then-count-eq0-clause-frees
-returns-then-count-eq0-clause-frees g c =
+pub returns-then-count_at-eq0-clause-frees : goal.returns-then-count_at-eq0-clause-frees
+returns-then-count_at-eq0-clause-frees g c =
     let probe = c.probes.ensures in
     let size = c.geometry-slots.ensures in
     let slots = c.args.table.now.geometry.slots in
     let low : c.loop.counter < slots = rw (← size) c.loop-test.true in
     let so_far = c.loop.invariant.2 in
     let hid = c.hide_at-here.ensures.steps in
-    let one = c.count.ensures.step.one in
+    let one = c.count_at.ensures.step.one in
     let both = sum_of (slots + 4) c.loop.all.slots c.hide_at-here.result.slots
     c.with-all.result.slots c.with-all.ensures.slots in
     record {
@@ -170,15 +172,15 @@ returns-clause-frees g c =
       steps = c.loop.invariant.2;
     }
 
-pub returns-then-count-eq0-clause-steps : goal.returns-then-count-eq0-clause-steps
-returns-then-count-eq0-clause-steps g c =
+pub returns-then-count_at-eq0-clause-steps : goal.returns-then-count_at-eq0-clause-steps
+returns-then-count_at-eq0-clause-steps g c =
     let probe = c.probes.ensures in
     let size = c.geometry-slots.ensures in
     let slots = c.args.table.now.geometry.slots in
     let low : c.loop.counter < slots = rw (← size) c.loop-test.true in
     let so_far = c.loop.invariant.2 in
     let hid = c.hide_at-here.ensures.steps in
-    let one = c.count.ensures.step.one in
+    let one = c.count_at.ensures.step.one in
     let both = sum_of (slots + 4) c.loop.all.slots c.hide_at-here.result.slots
     c.with-all.result.slots c.with-all.ensures.slots in
     let few : c.with-all.result.slots ≤ c.loop.counter + 1 =

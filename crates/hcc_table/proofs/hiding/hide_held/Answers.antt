@@ -35,19 +35,20 @@ returns-in-None-clause-hides g c = record {
   tries = c.in-None.ensures.tried;
   takes = c.in-None.ensures.by;
   won = tt;
-  given = (c.give.result, c.give.ensures.step, refl, refl, c.give.ensures.event);
+  given = (c.give_at.result, c.give_at.ensures.step, refl, refl, c.give_at.ensures.event);
 }
 
 pub returns-in-None-clause-view : goal.returns-in-None-clause-view
 returns-in-None-clause-view g c =
     let u = (view c.free_last.new.seat) in
     hidden_then c.args.slot c.args.name c.hide-found.result c.from-hidden.result
-    (view c.args.seat.now) (view c.hide-found.new.seat) (view c.give.new.seat)
+    (view c.args.seat.now) (view c.hide-found.new.seat) (view c.give_at.new.seat)
     c.requires.idle (c.from-hidden.ensures ∙ ap from_bool c.is_shown.ensures) c.requires.holds
     c.hide-found.ensures.view
-    (searched_then (view c.hide-found.new.seat) u (view c.give.new.seat)
+    (searched_then (view c.hide-found.new.seat) u (view c.give_at.new.seat)
     c.in-None.ensures.lost.searched
-    (given_at c.args.slot c.args.name c.give.result u (view c.give.new.seat) c.give.ensures.view))
+    (given_at c.args.slot c.args.name c.give_at.result u (view c.give_at.new.seat)
+      c.give_at.ensures.view))
 
 pub returns-in-Some-clause-view : goal.returns-in-Some-clause-view
 returns-in-Some-clause-view g c =

@@ -13,78 +13,79 @@ use Rattle.hcc_table.proofs.Seeking.{seeks_one, seeks_then}
 use Rattle.hcc_table.proofs.Still.{looks_reach, reads_give}
 use Rattle.hcc_table.proofs.pinning.pinned_charge.Goals as goal
 
-pub read-charge-requires-clause-holds : goal.read-charge-requires-clause-holds
-read-charge-requires-clause-holds g c =
+pub read_at-charge-requires-clause-holds : goal.read_at-charge-requires-clause-holds
+read_at-charge-requires-clause-holds g c =
     holds_slot g.T.Tag.fits c.args.table.now.geometry.room c.args.slot 1 c.args.name
-    c.reach-found.result no_key (view c.args.seat.now) (view c.look-word.new.seat)
+    c.reach-found.result no_key (view c.args.seat.now) (view c.look_at-word.new.seat)
     (view c.reach-found.new.seat)
-    (looked_at c.args.slot c.look-word.result _ _ c.look-word.ensures.view)
+    (looked_at c.args.slot c.look_at-word.result _ _ c.look_at-word.ensures.view)
     c.reach-found.ensures.view (sym c.if-not-has_entry-2.ensures) c.requires.fresh
     (view c.reach-found.new.seat) (searched_refl (view c.reach-found.new.seat))
 
-pub give-requires-clause-holds : goal.give-requires-clause-holds
-give-requires-clause-holds g c =
+pub give_at-requires-clause-holds : goal.give_at-requires-clause-holds
+give_at-requires-clause-holds g c =
     holds g.T.Tag.fits c.args.table.now.geometry.room c.args.slot 1 c.args.name c.reach-found.result
-    no_key (view c.args.seat.now) (view c.look-word.new.seat) (view c.reach-found.new.seat)
-    (looked_at c.args.slot c.look-word.result _ _ c.look-word.ensures.view)
+    no_key (view c.args.seat.now) (view c.look_at-word.new.seat) (view c.reach-found.new.seat)
+    (looked_at c.args.slot c.look_at-word.result _ _ c.look_at-word.ensures.view)
     c.reach-found.ensures.view (sym c.if-not-has_entry-2.ensures) c.requires.fresh
-    (view c.read-charge.new.seat) (read_there c.args.name CHARGE _ _ c.read-charge.ensures.view)
+    (view c.read_at-charge.new.seat) (read_there c.args.name CHARGE _ _
+      c.read_at-charge.ensures.view)
 
 pub returns-then-refs-eq0-2-clause-view : goal.returns-then-refs-eq0-2-clause-view
 returns-then-refs-eq0-2-clause-view g c =
     given_back g.T.Tag.fits c.args.table.now.geometry.room c.args.slot 1 c.args.name
-    c.reach-found.result no_key (view c.args.seat.now) (view c.look-word.new.seat)
+    c.reach-found.result no_key (view c.args.seat.now) (view c.look_at-word.new.seat)
     (view c.reach-found.new.seat)
-    (looked_at c.args.slot c.look-word.result _ _ c.look-word.ensures.view)
+    (looked_at c.args.slot c.look_at-word.result _ _ c.look_at-word.ensures.view)
     c.reach-found.ensures.view (sym c.if-not-has_entry-2.ensures) c.requires.fresh
-    c.give.result (view c.read-charge.new.seat) (view c.give.new.seat)
-    (read_there c.args.name CHARGE _ _ c.read-charge.ensures.view) c.give.ensures.view
+    c.give_at.result (view c.read_at-charge.new.seat) (view c.give_at.new.seat)
+    (read_there c.args.name CHARGE _ _ c.read_at-charge.ensures.view) c.give_at.ensures.view
 
 pub returns-clause-view : goal.returns-clause-view
 returns-clause-view g c =
     given_back g.T.Tag.fits c.args.table.now.geometry.room c.args.slot 1 c.args.name
-    c.reach-found.result no_key (view c.args.seat.now) (view c.look-word.new.seat)
+    c.reach-found.result no_key (view c.args.seat.now) (view c.look_at-word.new.seat)
     (view c.reach-found.new.seat)
-    (looked_at c.args.slot c.look-word.result _ _ c.look-word.ensures.view)
+    (looked_at c.args.slot c.look_at-word.result _ _ c.look_at-word.ensures.view)
     c.reach-found.ensures.view (sym c.if-not-has_entry-2.ensures) c.requires.fresh
-    c.give.result (view c.read-charge.new.seat) (view c.give.new.seat)
-    (read_there c.args.name CHARGE _ _ c.read-charge.ensures.view) c.give.ensures.view
+    c.give_at.result (view c.read_at-charge.new.seat) (view c.give_at.new.seat)
+    (read_there c.args.name CHARGE _ _ c.read_at-charge.ensures.view) c.give_at.ensures.view
 
 pub returns-clause-held : goal.returns-clause-held
 returns-clause-held g c some =
     let entry = (c.reach-found.ensures.view.got (sym c.if-not-has_entry-2.ensures)).0 in
-    charged_each c.args.slot c.read-charge.result entry (view c.args.seat.now).records
-    (charge_is entry c.read-charge.result
+    charged_each c.args.slot c.read_at-charge.result entry (view c.args.seat.now).records
+    (charge_is entry c.read_at-charge.result
     (told_key g.T.Tag.fits c.args.table.now.geometry.room c.args.slot 1 c.args.name
-    c.reach-found.result no_key (view c.args.seat.now) (view c.look-word.new.seat)
+    c.reach-found.result no_key (view c.args.seat.now) (view c.look_at-word.new.seat)
     (view c.reach-found.new.seat)
-    (looked_at c.args.slot c.look-word.result _ _ c.look-word.ensures.view)
+    (looked_at c.args.slot c.look_at-word.result _ _ c.look_at-word.ensures.view)
     c.reach-found.ensures.view (sym c.if-not-has_entry-2.ensures) c.requires.fresh
-    (λ e. IsDataWord e CHARGE c.read-charge.result) c.read-charge.ensures.word))
+    (λ e. IsDataWord e CHARGE c.read_at-charge.result) c.read_at-charge.ensures.word))
     (one_entry g.T.Tag.fits c.args.table.now.geometry.room c.args.slot 1 c.args.name
-    c.reach-found.result no_key (view c.args.seat.now) (view c.look-word.new.seat)
+    c.reach-found.result no_key (view c.args.seat.now) (view c.look_at-word.new.seat)
     (view c.reach-found.new.seat)
-    (looked_at c.args.slot c.look-word.result _ _ c.look-word.ensures.view)
+    (looked_at c.args.slot c.look_at-word.result _ _ c.look_at-word.ensures.view)
     c.reach-found.ensures.view (sym c.if-not-has_entry-2.ensures) c.requires.fresh)
 
 pub returns-clause-small : goal.returns-clause-small
 returns-clause-small g c =
     let got = c.reach-found.ensures.view.got (sym c.if-not-has_entry-2.ensures) in
-    rw (charge_is got.0 c.read-charge.result
+    rw (charge_is got.0 c.read_at-charge.result
     (told_key g.T.Tag.fits c.args.table.now.geometry.room c.args.slot 1 c.args.name
-    c.reach-found.result no_key (view c.args.seat.now) (view c.look-word.new.seat)
+    c.reach-found.result no_key (view c.args.seat.now) (view c.look_at-word.new.seat)
     (view c.reach-found.new.seat)
-    (looked_at c.args.slot c.look-word.result _ _ c.look-word.ensures.view)
+    (looked_at c.args.slot c.look_at-word.result _ _ c.look_at-word.ensures.view)
     c.reach-found.ensures.view (sym c.if-not-has_entry-2.ensures) c.requires.fresh
-    (λ e. IsDataWord e CHARGE c.read-charge.result) c.read-charge.ensures.word))
+    (λ e. IsDataWord e CHARGE c.read_at-charge.result) c.read_at-charge.ensures.word))
     got.1.small
 
 pub returns-then-not-has_entry-2-clause-counts : goal.returns-then-not-has_entry-2-clause-counts
 returns-then-not-has_entry-2-clause-counts g c = record {
-  seen = c.look-word.result;
-  mid = c.look-word.new.seat;
-  looks = (c.look-word.ensures.step, c.look-word.ensures.view, c.look-word.ensures.event);
-  unheld = λ none. neither (is_held c.look-word.result) held none;
+  seen = c.look_at-word.result;
+  mid = c.look_at-word.new.seat;
+  looks = (c.look_at-word.ensures.step, c.look_at-word.ensures.view, c.look_at-word.ensures.event);
+  unheld = λ none. neither (is_held c.look_at-word.result) held none;
   held = λ _. record {
     word = c.reach-found.result;
     mid = c.reach-found.new.seat;
@@ -101,16 +102,16 @@ returns-then-not-has_entry-2-clause-counts g c = record {
   };
 }
   where
-    held : is_held c.look-word.result ≡ true
-    held = held_word c.look-word.result (sym c.if-not-has_entry.ensures)
+    held : is_held c.look_at-word.result ≡ true
+    held = held_word c.look_at-word.result (sym c.if-not-has_entry.ensures)
         (λ none. c.if-refs-eq0.false (c.refs.ensures.field ∙ none))
 
 pub returns-then-refs-eq0-2-clause-counts : goal.returns-then-refs-eq0-2-clause-counts
 returns-then-refs-eq0-2-clause-counts g c = record {
-  seen = c.look-word.result;
-  mid = c.look-word.new.seat;
-  looks = (c.look-word.ensures.step, c.look-word.ensures.view, c.look-word.ensures.event);
-  unheld = λ none. neither (is_held c.look-word.result) held none;
+  seen = c.look_at-word.result;
+  mid = c.look_at-word.new.seat;
+  looks = (c.look_at-word.ensures.step, c.look_at-word.ensures.view, c.look_at-word.ensures.event);
+  unheld = λ none. neither (is_held c.look_at-word.result) held none;
   held = λ _. record {
     word = c.reach-found.result;
     mid = c.reach-found.new.seat;
@@ -123,22 +124,23 @@ returns-then-refs-eq0-2-clause-counts g c = record {
     counted = λ some. neither (is_held c.reach-found.result) some
         (no_references c.reach-found.result (sym c.refs-2.ensures.field ∙ c.if-refs-eq0-2.true));
     uncounted = λ _. refl;
-    adds = adds_then c.reach-found.new.seat c.read-charge.new.seat c.give.new.seat
-        (adds_one _ c.reach-found.new.seat c.read-charge.new.seat c.read-charge.ensures.step.step)
-        (adds_one _ c.read-charge.new.seat c.give.new.seat c.give.ensures.step.step);
+    adds = adds_then c.reach-found.new.seat c.read_at-charge.new.seat c.give_at.new.seat
+        (adds_one _ c.reach-found.new.seat c.read_at-charge.new.seat
+          c.read_at-charge.ensures.step.step)
+        (adds_one _ c.read_at-charge.new.seat c.give_at.new.seat c.give_at.ensures.step.step);
   };
 }
   where
-    held : is_held c.look-word.result ≡ true
-    held = held_word c.look-word.result (sym c.if-not-has_entry.ensures)
+    held : is_held c.look_at-word.result ≡ true
+    held = held_word c.look_at-word.result (sym c.if-not-has_entry.ensures)
         (λ none. c.if-refs-eq0.false (c.refs.ensures.field ∙ none))
 
 pub returns-clause-counts : goal.returns-clause-counts
 returns-clause-counts g c = record {
-  seen = c.look-word.result;
-  mid = c.look-word.new.seat;
-  looks = (c.look-word.ensures.step, c.look-word.ensures.view, c.look-word.ensures.event);
-  unheld = λ none. neither (is_held c.look-word.result) held none;
+  seen = c.look_at-word.result;
+  mid = c.look_at-word.new.seat;
+  looks = (c.look_at-word.ensures.step, c.look_at-word.ensures.view, c.look_at-word.ensures.event);
+  unheld = λ none. neither (is_held c.look_at-word.result) held none;
   held = λ _. record {
     word = c.reach-found.result;
     mid = c.reach-found.new.seat;
@@ -149,71 +151,72 @@ returns-clause-counts g c = record {
       by = c.reach-found.ensures.by;
     };
     counted = λ _. on_entry g.T.Tag.fits c.args.table.now.geometry.room c.args.slot 1 c.args.name
-        c.reach-found.result no_key (view c.args.seat.now) (view c.look-word.new.seat)
+        c.reach-found.result no_key (view c.args.seat.now) (view c.look_at-word.new.seat)
         (view c.reach-found.new.seat)
-        (looked_at c.args.slot c.look-word.result _ _ c.look-word.ensures.view)
+        (looked_at c.args.slot c.look_at-word.result _ _ c.look_at-word.ensures.view)
         c.reach-found.ensures.view (sym c.if-not-has_entry-2.ensures) c.requires.fresh
-        (λ e. c.read-charge.result ≡ e.charge)
+        (λ e. c.read_at-charge.result ≡ e.charge)
         (charge_is (c.reach-found.ensures.view.got (sym c.if-not-has_entry-2.ensures)).0
-        c.read-charge.result
+        c.read_at-charge.result
         (told_key g.T.Tag.fits c.args.table.now.geometry.room c.args.slot 1 c.args.name
-        c.reach-found.result no_key (view c.args.seat.now) (view c.look-word.new.seat)
+        c.reach-found.result no_key (view c.args.seat.now) (view c.look_at-word.new.seat)
         (view c.reach-found.new.seat)
-        (looked_at c.args.slot c.look-word.result _ _ c.look-word.ensures.view)
+        (looked_at c.args.slot c.look_at-word.result _ _ c.look_at-word.ensures.view)
         c.reach-found.ensures.view (sym c.if-not-has_entry-2.ensures) c.requires.fresh
-        (λ e. IsDataWord e CHARGE c.read-charge.result) c.read-charge.ensures.word));
+        (λ e. IsDataWord e CHARGE c.read_at-charge.result) c.read_at-charge.ensures.word));
     uncounted = λ none. neither (is_held c.reach-found.result)
         (held_word c.reach-found.result (sym c.if-not-has_entry-2.ensures)
         (λ none. c.if-refs-eq0-2.false (c.refs-2.ensures.field ∙ none))) none;
-    adds = adds_then c.reach-found.new.seat c.read-charge.new.seat c.give.new.seat
-        (adds_one _ c.reach-found.new.seat c.read-charge.new.seat c.read-charge.ensures.step.step)
-        (adds_one _ c.read-charge.new.seat c.give.new.seat c.give.ensures.step.step);
+    adds = adds_then c.reach-found.new.seat c.read_at-charge.new.seat c.give_at.new.seat
+        (adds_one _ c.reach-found.new.seat c.read_at-charge.new.seat
+          c.read_at-charge.ensures.step.step)
+        (adds_one _ c.read_at-charge.new.seat c.give_at.new.seat c.give_at.ensures.step.step);
   };
 }
   where
-    held : is_held c.look-word.result ≡ true
-    held = held_word c.look-word.result (sym c.if-not-has_entry.ensures)
+    held : is_held c.look_at-word.result ≡ true
+    held = held_word c.look_at-word.result (sym c.if-not-has_entry.ensures)
         (λ none. c.if-refs-eq0.false (c.refs.ensures.field ∙ none))
 
 pub returns-then-not-has_entry-2-clause-seeks : goal.returns-then-not-has_entry-2-clause-seeks
 returns-then-not-has_entry-2-clause-seeks g c =
-    looks_reach c.args.table.now c.args.slot 1 c.args.name c.look-word.result
-    c.reach-found.result c.args.seat.now c.look-word.new.seat c.reach-found.new.seat
-    c.look-word.ensures.event c.reach-found.ensures.by
+    looks_reach c.args.table.now c.args.slot 1 c.args.name c.look_at-word.result
+    c.reach-found.result c.args.seat.now c.look_at-word.new.seat c.reach-found.new.seat
+    c.look_at-word.ensures.event c.reach-found.ensures.by
 
 pub returns-then-refs-eq0-2-clause-seeks : goal.returns-then-refs-eq0-2-clause-seeks
 returns-then-refs-eq0-2-clause-seeks g c =
-    seeks_then c.args.table.now c.args.seat.now c.reach-found.new.seat c.give.new.seat
-    (looks_reach c.args.table.now c.args.slot 1 c.args.name c.look-word.result
-    c.reach-found.result c.args.seat.now c.look-word.new.seat c.reach-found.new.seat
-    c.look-word.ensures.event c.reach-found.ensures.by)
-    (reads_give c.args.table.now c.args.slot 1 c.args.name c.give.result c.reach-found.new.seat
-    c.read-charge.new.seat c.give.new.seat
+    seeks_then c.args.table.now c.args.seat.now c.reach-found.new.seat c.give_at.new.seat
+    (looks_reach c.args.table.now c.args.slot 1 c.args.name c.look_at-word.result
+    c.reach-found.result c.args.seat.now c.look_at-word.new.seat c.reach-found.new.seat
+    c.look_at-word.ensures.event c.reach-found.ensures.by)
+    (reads_give c.args.table.now c.args.slot 1 c.args.name c.give_at.result c.reach-found.new.seat
+    c.read_at-charge.new.seat c.give_at.new.seat
     (holds_slot g.T.Tag.fits c.args.table.now.geometry.room c.args.slot 1 c.args.name
-    c.reach-found.result no_key (view c.args.seat.now) (view c.look-word.new.seat)
+    c.reach-found.result no_key (view c.args.seat.now) (view c.look_at-word.new.seat)
     (view c.reach-found.new.seat)
-    (looked_at c.args.slot c.look-word.result _ _ c.look-word.ensures.view)
+    (looked_at c.args.slot c.look_at-word.result _ _ c.look_at-word.ensures.view)
     c.reach-found.ensures.view (sym c.if-not-has_entry-2.ensures) c.requires.fresh
     (view c.reach-found.new.seat) (searched_refl (view c.reach-found.new.seat)))
-    c.read-charge.ensures.event c.give.ensures.event)
+    c.read_at-charge.ensures.event c.give_at.ensures.event)
 
 pub returns-clause-seeks : goal.returns-clause-seeks
 returns-clause-seeks g c =
-    seeks_then c.args.table.now c.args.seat.now c.reach-found.new.seat c.give.new.seat
-    (looks_reach c.args.table.now c.args.slot 1 c.args.name c.look-word.result
-    c.reach-found.result c.args.seat.now c.look-word.new.seat c.reach-found.new.seat
-    c.look-word.ensures.event c.reach-found.ensures.by)
-    (reads_give c.args.table.now c.args.slot 1 c.args.name c.give.result c.reach-found.new.seat
-    c.read-charge.new.seat c.give.new.seat
+    seeks_then c.args.table.now c.args.seat.now c.reach-found.new.seat c.give_at.new.seat
+    (looks_reach c.args.table.now c.args.slot 1 c.args.name c.look_at-word.result
+    c.reach-found.result c.args.seat.now c.look_at-word.new.seat c.reach-found.new.seat
+    c.look_at-word.ensures.event c.reach-found.ensures.by)
+    (reads_give c.args.table.now c.args.slot 1 c.args.name c.give_at.result c.reach-found.new.seat
+    c.read_at-charge.new.seat c.give_at.new.seat
     (holds_slot g.T.Tag.fits c.args.table.now.geometry.room c.args.slot 1 c.args.name
-    c.reach-found.result no_key (view c.args.seat.now) (view c.look-word.new.seat)
+    c.reach-found.result no_key (view c.args.seat.now) (view c.look_at-word.new.seat)
     (view c.reach-found.new.seat)
-    (looked_at c.args.slot c.look-word.result _ _ c.look-word.ensures.view)
+    (looked_at c.args.slot c.look_at-word.result _ _ c.look_at-word.ensures.view)
     c.reach-found.ensures.view (sym c.if-not-has_entry-2.ensures) c.requires.fresh
     (view c.reach-found.new.seat) (searched_refl (view c.reach-found.new.seat)))
-    c.read-charge.ensures.event c.give.ensures.event)
+    c.read_at-charge.ensures.event c.give_at.ensures.event)
 
 pub returns-then-not-has_entry-clause-seeks : goal.returns-then-not-has_entry-clause-seeks
 returns-then-not-has_entry-clause-seeks g c =
-    seeks_one c.args.table.now (look_done c.args.slot c.look-word.result (view c.args.seat.now))
-    c.args.seat.now c.look-word.new.seat c.look-word.ensures.event refl
+    seeks_one c.args.table.now (look_done c.args.slot c.look_at-word.result (view c.args.seat.now))
+    c.args.seat.now c.look_at-word.new.seat c.look_at-word.ensures.event refl

@@ -7,5 +7,5 @@ pub taken_charge-charge-requires-clause-took : goal.taken_charge-charge-requires
 taken_charge-charge-requires-clause-took g c =
     let reached = c.in_ok-word in
     let record_is = record_of 3 1 4 reached.word reached.ensures.holds.0 in
-    taken_by c.free-found.ensures.view 8 (record_is ∷ []) (search rules) (search rules) refl
+    taken_by c.free_at-found.ensures.view 8 (record_is ∷ []) (search rules) (search rules) refl
     (search rules)

@@ -5,5 +5,5 @@ use Rattle.hcc_player_tests.proofs.running.acts.frees.Goals as goal
 pub taken_charge-charge-requires-clause-took : goal.taken_charge-charge-requires-clause-took
 taken_charge-charge-requires-clause-took g c =
     let sized : c.args.zero.now.table.now.geometry.slots ≡ 8 = search rules in
-    taken _ _ _ 8 2 _ _ None [] _ _ sized (search rules) refl c.free-found.ensures.view
+    taken _ _ _ 8 2 _ _ None [] _ _ sized (search rules) refl c.free_at-found.ensures.view
     (search rules)

@@ -9,4 +9,4 @@ taken_charge-charge-requires-clause-took g c =
     let record_is = record_of c.args.slot 1 7 reached.result.1 reached.ensures.holds.0 in
     let sized : reached.new.self.table.now.geometry.slots ≡ 8 = search rules in
     taken _ _ _ 8 c.args.slot _ _ (Some 7) (record_is ∷ []) _ _ sized (search rules) refl
-    c.free-found.ensures.view (search rules)
+    c.free_at-found.ensures.view (search rules)

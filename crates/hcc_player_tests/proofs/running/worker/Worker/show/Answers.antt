@@ -3,5 +3,5 @@ use Rattle.hcc_player_tests.proofs.running.worker.Worker.show.Goals as goal
 
 pub returns : goal.returns
 returns c = record {
-  holds = shown c.args.slot _ c.args.draft.name _ _ _ c.requires.builds c.show.ensures.view;
+  holds = shown c.args.slot _ c.args.draft.name _ _ _ c.requires.builds c.show_at.ensures.view;
 }
