@@ -1,8 +1,10 @@
-"""An edit that the prover has to refuse: its file, what it changes, and in which functions.
+"""An edit that the prover has to refuse: its name, what it changes, and in which functions.
 
-A file has lines 'file: PATH', and pairs of lines 'old: TEXT' and 'new: TEXT', each text in its file
-once. The crate's files are in rt fmt's layout: the first line of an item and its last have one
-indent."""
+It has lines 'file: PATH', and pairs of lines 'old: TEXT' and 'new: TEXT', each text in its file once.
+must-fail/ has a file for each, as rt reads them, named FILE.FUNCTION.WHAT.edit. edits/ has a file for
+each file of code: a line 'file: PATH', and behind it the edits, each under a line 'edit:
+FUNCTION.WHAT'. The crate's files are in rt fmt's layout: the first line of an item and its last have
+one indent."""
 import glob
 import os
 import re
@@ -15,19 +17,39 @@ ADDED = re.compile(r"(?:use [^;]*; )?fn \w+\(")
 GHOST = re.compile(r"\s+ghost \w+ = ")
 
 
-def pairs_of(file):
-    """The edit's changes: path, old text and new text."""
-    path, old, found = "", None, []
+def read_edits(file):
+    """The edits of a file by their names, each with its changes: path, old text and new text."""
+    folder, stem = os.path.split(file.removesuffix(".edit"))
+    name, first, old, found = "", "", None, {}
+    if os.path.basename(folder) == "must-fail":
+        name = stem
+        found[name] = []
     with open(file, encoding="utf-8") as it:
         for line in it.read().split("\n"):
-            if line.startswith("file: "):
+            if line.startswith("edit: "):
+                path, name = first, f"{os.path.basename(first).partition('.')[0]}.{line[6:].strip()}"
+                if name in found:
+                    raise ValueError(f"{file}: {name} stands twice")
+                found[name] = []
+            elif line.startswith("file: "):
                 path = line[6:].strip()
+                first = first or path
             elif line.startswith("old: "):
                 old = line[5:]
             elif line.startswith("new:") and old is not None:
-                found.append((path, old, line[4:].removeprefix(" ")))
+                found[name].append((path, old, line[4:].removeprefix(" ")))
                 old = None
     return found
+
+
+def written(pairs):
+    """An edit's changes as lines."""
+    lines, last = [], ""
+    for path, old, new in pairs:
+        lines += [f"file: {path}"] if path != last else []
+        lines += [f"old: {old}", f"new: {new}"]
+        last = path
+    return "".join(f"{it}\n" for it in lines)
 
 
 def applied(pairs, texts):
@@ -78,12 +100,10 @@ class Edit:
     """An edit, the functions whose bodies alone it changes (none: it changes more than bodies), and
     what came of it."""
 
-    def __init__(self, file, crate):
-        self.file, self.crate = file, crate.name
-        self.name = os.path.basename(file).removesuffix(".edit")
+    def __init__(self, crate, name, pairs, is_of_gate):
+        self.crate, self.name, self.pairs, self.is_of_gate = crate.name, name, pairs, is_of_gate
         self.key = f"{crate.name}/{self.name}"
-        self.is_of_gate = os.path.basename(os.path.dirname(file)) == "must-fail"
-        self.pairs, self.symbols, self.digest = pairs_of(file), [], ""
+        self.symbols, self.digest = [], ""
         self.verdict, self.said, self.goals = None, "", set()
         self.texts = {}
         for path in {it[0] for it in self.pairs}:
@@ -123,5 +143,9 @@ class Edit:
 
 def edits_of(crate):
     """The crate's edits, in the order of their names."""
-    files = [it for folder in FOLDERS for it in glob.glob(f"{crate.folder}/{folder}/*.edit")]
-    return [Edit(it, crate) for it in sorted(files, key=os.path.basename)]
+    found = []
+    for folder in FOLDERS:
+        for file in glob.glob(f"{crate.folder}/{folder}/*.edit"):
+            edits = read_edits(file).items()
+            found += [Edit(crate, name, pairs, folder == "must-fail") for name, pairs in edits]
+    return sorted(found, key=lambda it: it.name)

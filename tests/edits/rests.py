@@ -13,6 +13,7 @@ import hashlib
 import re
 
 from crates import FUNCTION, logic, owner_in, symbol_of
+from edit import written
 
 WORDS = re.compile(r"[^\s(){}\[\],;.⟦⟧`]+")
 IMPORT = re.compile(r"(?:pub |unfoldable |ghost )*use ([\w.+#-]+?)(?:\.\{(.*)\})?(?: as ([^\s;]+))?;?$")
@@ -255,8 +256,7 @@ class Rests:
         found = self.closed(begin)
         texts = [(it.file.crate.name, it.name, it.text) for it in found]
         texts += [(crate.name, it.name, it.body) for it in bodies]
-        with open(edit.file, encoding="utf-8") as it:
-            return [(self.logic, edit.key, it.read())] + sorted(texts)
+        return [(self.logic, edit.key, written(edit.pairs))] + sorted(texts)
 
     def digest(self, edit):
         whole = "\0".join(part for text in self.texts(edit) for part in text)

@@ -40,7 +40,7 @@ def judge(name, ok, said=""):
 
 def put(name, file, old, new):
     with open(f"crates/hcc_word/edits/{name}.edit", "w", encoding="utf-8") as it:
-        it.write(f"file: src/{file}.rt\nold: {old}\nnew: {new}\n")
+        it.write(f"file: src/{file}.rt\n\nedit: {name.partition('.')[2]}\nold: {old}\nnew: {new}\n")
 
 
 def drop(name):
