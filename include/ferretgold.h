@@ -333,7 +333,7 @@ ferretgold_status ferretgold_close(ferretgold_cache *cache, ferretgold_totals *t
 ferretgold_status ferretgold_config_of(const ferretgold_cache *cache, ferretgold_config *config);
 
 /* The most bytes of a value: 8 * room. 0 if `cache` is null. */
-size_t ferretgold_room(const ferretgold_cache *cache);
+size_t ferretgold_value_limit(const ferretgold_cache *cache);
 
 /*
  * Outcomes of the calls of all clients, in sum: of each client until it was last given back, so not

@@ -195,7 +195,7 @@ class handle {
     }
 
     // One handle more on the same entry.
-    handle again(ferretgold_status &why) const noexcept {
+    handle reref(ferretgold_status &why) const noexcept {
         ferretgold_handle more{};
         why = ferretgold_reref(raw(), held_, &more);
         return why == FERRETGOLD_OK ? handle(client_, more) : handle();
@@ -211,8 +211,8 @@ class handle {
     std::size_t read(void *buffer, std::size_t capacity) const {
         return must([&](auto &why) { return read(buffer, capacity, why); });
     }
-    handle again() const {
-        return must([&](auto &why) { return again(why); });
+    handle reref() const {
+        return must([&](auto &why) { return reref(why); });
     }
 #endif
 
@@ -266,8 +266,8 @@ class client {
     }
 
     // Copies the value of an entry of the key to a buffer, with no handle: OK, MISS or TOO_SHORT.
-    ferretgold_status read(const ferretgold_key &key, void *buffer, std::size_t capacity,
-                           std::size_t *length, bool useful = true) noexcept {
+    ferretgold_status get(const ferretgold_key &key, void *buffer, std::size_t capacity,
+                          std::size_t *length, bool useful = true) noexcept {
         return ferretgold_get(get(), &key, buffer, capacity, useful, length);
     }
 
@@ -495,7 +495,7 @@ class cache {
     }
 
     // The most bytes of a value.
-    std::size_t room() const noexcept { return ferretgold_room(get()); }
+    std::size_t value_limit() const noexcept { return ferretgold_value_limit(get()); }
 
     // Outcomes of the calls of all clients, of each until it was last given back.
     ferretgold_counts counts() const noexcept {

@@ -176,7 +176,7 @@ FERRETGOLD_INLINE ferretgold_status ferretgold_read_value(ferretgold_client *cli
                                                           ferretgold_handle handle, void *buffer,
                                                           size_t capacity, size_t *length) {
     size_t ignored = 0;
-    void *room = buffer != NULL ? buffer : &ignored;
+    void *bytes = buffer != NULL ? buffer : &ignored;
     if (client == NULL || (buffer == NULL && capacity != 0)) {
         return FERRETGOLD_NULL;
     }
@@ -185,7 +185,7 @@ FERRETGOLD_INLINE ferretgold_status ferretgold_read_value(ferretgold_client *cli
     }
     return ferretgold_leave(
         client, ferretgold_raw_read_value(&client->session, &handle,
-                                          FERRETGOLD_AS(uint8_t *, room), capacity,
+                                          FERRETGOLD_AS(uint8_t *, bytes), capacity,
                                           length != NULL ? length : &ignored));
 }
 
@@ -193,7 +193,7 @@ FERRETGOLD_INLINE ferretgold_status ferretgold_get(ferretgold_client *client,
                                                    const ferretgold_key *key, void *buffer,
                                                    size_t capacity, bool useful, size_t *length) {
     size_t ignored = 0;
-    void *room = buffer != NULL ? buffer : &ignored;
+    void *bytes = buffer != NULL ? buffer : &ignored;
     if (client == NULL || key == NULL || (buffer == NULL && capacity != 0)) {
         return FERRETGOLD_NULL;
     }
@@ -201,7 +201,7 @@ FERRETGOLD_INLINE ferretgold_status ferretgold_get(ferretgold_client *client,
         return FERRETGOLD_NO_CLIENT;
     }
     return ferretgold_leave(
-        client, ferretgold_raw_get(&client->session, key, FERRETGOLD_AS(uint8_t *, room), capacity,
+        client, ferretgold_raw_get(&client->session, key, FERRETGOLD_AS(uint8_t *, bytes), capacity,
                                    useful, length != NULL ? length : &ignored));
 }
 

@@ -68,12 +68,12 @@ ferretgold_status ferretgold_closed_entry(ferretgold_closed *closed, uint32_t sh
 ferretgold_status ferretgold_closed_value(ferretgold_closed *closed, uint32_t shard, uint32_t slot,
                                           void *buffer, size_t capacity, size_t *length) {
     size_t ignored = 0;
-    void *room = buffer != NULL ? buffer : &ignored;
+    void *bytes = buffer != NULL ? buffer : &ignored;
     if (closed == NULL || (buffer == NULL && capacity != 0)) {
         return FERRETGOLD_NULL;
     }
     return (ferretgold_status)ferretgold_raw_closed_value(
-        &closed->left, shard, slot, room, capacity, length != NULL ? length : &ignored);
+        &closed->left, shard, slot, bytes, capacity, length != NULL ? length : &ignored);
 }
 
 ferretgold_status ferretgold_closed_word(ferretgold_closed *closed, uint32_t shard, uint32_t slot,

@@ -253,7 +253,7 @@ ferretgold_status ferretgold_config_of(const ferretgold_cache *cache, ferretgold
     return FERRETGOLD_OK;
 }
 
-size_t ferretgold_room(const ferretgold_cache *cache) {
+size_t ferretgold_value_limit(const ferretgold_cache *cache) {
     return cache != NULL ? sizeof(uint64_t) * cache->config.room : 0;
 }
 

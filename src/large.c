@@ -61,7 +61,7 @@ static ferretgold_key piece_key(const large_value *it, uint32_t number) {
 
 /* How many bytes of a value a piece has room for. */
 static size_t full(const large_value *it) {
-    return it->setup->room - HEAD;
+    return it->setup->slot_bytes - HEAD;
 }
 
 static size_t pieces(const large_value *it, size_t length) {
@@ -124,7 +124,7 @@ large_setup large_setup_of(const ferretgold_config *config) {
                              : UINT64_MAX / config->shards;
     it.shards = config->shards;
     it.slots = config->slots * config->shards;
-    it.room = config->room * 8;
+    it.slot_bytes = config->room * 8;
     return it;
 }
 
@@ -144,7 +144,7 @@ static ferretgold_status begin(ferretgold_client *client, const ferretgold_key *
 
 /* Whether a slot has room for a head, and for one more among the bytes before it. */
 static bool has_room(const large_value *it) {
-    return it->setup->room >= 2 * HEAD;
+    return it->setup->slot_bytes >= 2 * HEAD;
 }
 
 /* ---- Erasing --------------------------------------------------------------------------------- */

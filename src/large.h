@@ -10,7 +10,7 @@ typedef struct large_setup {
     uint64_t part; /* the most charge of a shard: no limit, if it isn't strict */
     uint32_t shards;
     uint32_t slots; /* of all shards */
-    uint32_t room;  /* of a slot, in bytes */
+    uint32_t slot_bytes;
 } large_setup;
 
 large_setup large_setup_of(const ferretgold_config *config);

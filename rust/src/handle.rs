@@ -29,12 +29,12 @@ impl<'c> Handle<'c> {
     /// # let client = cache.client().unwrap();
     /// # let key = Key { w0: 7, w1: 1 };
     /// let (_, one) = client.insert_pinned(key, b"a block", 7, Priority::Low).unwrap();
-    /// let other = one.again().unwrap();
+    /// let other = one.reref().unwrap();
     /// drop(one);
     /// assert_eq!((other.key(), other.to_vec()), (key, b"a block".to_vec()));
     /// assert_eq!(client.held(), 1);
     /// ```
-    pub fn again(&self) -> Result<Handle<'c>, Refused> {
+    pub fn reref(&self) -> Result<Handle<'c>, Refused> {
         let mut more = raw::Handle::default();
         judged(unsafe { raw::ferretgold_reref(self.client.raw(), self.held, &mut more) })?;
         Ok(Handle::of(self.client, more))

@@ -205,8 +205,8 @@ impl Cache {
     }
 
     /// The most bytes of a value.
-    pub fn room(&self) -> usize {
-        unsafe { raw::ferretgold_room(self.at.as_ptr()) }
+    pub fn value_limit(&self) -> usize {
+        unsafe { raw::ferretgold_value_limit(self.at.as_ptr()) }
     }
 
     /// Outcomes of the calls of all clients, of each until it last went back.

@@ -54,7 +54,7 @@ extern "C" {
     ) -> u32;
     pub fn ferretgold_config_check(config: *const Config) -> u32;
     pub fn ferretgold_config_of(cache: *const Cache, config: *mut Config) -> u32;
-    pub fn ferretgold_room(cache: *const Cache) -> usize;
+    pub fn ferretgold_value_limit(cache: *const Cache) -> usize;
     pub fn ferretgold_cache_counts(cache: *const Cache, counts: *mut Counts) -> u32;
     pub fn ferretgold_open(config: *const Config, cache: *mut *mut Cache) -> u32;
     pub fn ferretgold_client_open(cache: *mut Cache, client: *mut *mut Client) -> u32;

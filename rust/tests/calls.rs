@@ -27,7 +27,7 @@ fn inserts(client: &Client, key: Key, value: &[u8]) -> Result<Inserted, Refused>
 #[test]
 fn a_value_is_read_by_its_key() {
     let cache = Cache::open(&small()).unwrap();
-    assert_eq!((cache.config(), cache.room()), (small(), 16));
+    assert_eq!((cache.config(), cache.value_limit()), (small(), 16));
     let client = cache.client().unwrap();
     let mut block = [9; 6];
     assert_eq!(client.get(KEY, &mut block, true), Got::Miss);
@@ -76,7 +76,7 @@ fn a_handle_keeps_its_entry() {
     assert!(yours.holds(&again) && !mine.holds(&again) && mine.holds(&first));
     assert_eq!(again.read(&mut [0]), Err(Refused::TOO_SHORT));
     assert!(!first.release(false, true));
-    let more = again.again().unwrap();
+    let more = again.reref().unwrap();
     assert_eq!((mine.held(), yours.held()), (0, 2));
     assert!(!again.release(false, true));
     assert!(more.release(false, true));
@@ -98,7 +98,7 @@ fn refusals_have_a_status_and_a_text() {
         why.to_string(),
         "the client holds as many handles as it may"
     );
-    assert_eq!(held[0].as_ref().unwrap().again().unwrap_err(), why);
+    assert_eq!(held[0].as_ref().unwrap().reref().unwrap_err(), why);
     let why = client
         .insert_pinned(OTHER, b"", 0, Priority::Low)
         .unwrap_err();

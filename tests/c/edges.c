@@ -73,7 +73,7 @@ static void opened(void) {
     EXPECT(is.slots == 8 && is.room == 2 && is.clients == 2 && is.handles == 8, true);
     EXPECT(is.shards == 2 && is.strict && is.marks && is.capacity == 600, true);
     EXPECT(is.serials == FERRETGOLD_MOST_SERIALS && is.seed == 77, true);
-    EXPECT(ferretgold_room(cache), 16);
+    EXPECT(ferretgold_value_limit(cache), 16);
     EXPECT(ferretgold_close(cache, NULL), 0);
 }
 
@@ -219,7 +219,7 @@ static void nulls_of_cache(ferretgold_cache *cache, ferretgold_client *client) {
     EXPECT(ferretgold_config_check(NULL), 16);
     EXPECT(ferretgold_config_of(NULL, &config), 16);
     EXPECT(ferretgold_config_of(cache, NULL), 16);
-    EXPECT(ferretgold_room(NULL), 0);
+    EXPECT(ferretgold_value_limit(NULL), 0);
     EXPECT(ferretgold_open(NULL, &other), 16);
     EXPECT(ferretgold_open(&SMALL, NULL), 16);
     EXPECT(ferretgold_client_open(NULL, &client), 16);

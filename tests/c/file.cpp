@@ -70,7 +70,7 @@ std::uint64_t whole(const cache &it) {
     for (std::uint64_t number = 0; number < ENTRIES; number++) {
         char bytes[64];
         std::size_t length = 0;
-        if (client.read({number, 1}, bytes, sizeof bytes, &length) == FERRETGOLD_OK) {
+        if (client.get({number, 1}, bytes, sizeof bytes, &length) == FERRETGOLD_OK) {
             EXPECT(std::string(bytes, length) == value_of(number) && number != 3);
             found++;
         }

@@ -188,7 +188,7 @@ struct stage {
         case 'G': return look(c, w, at);
         case 'F':
             try {
-                registers[c].emplace(at, registers[c].at(from).again());
+                registers[c].emplace(at, registers[c].at(from).reref());
             } catch (const ferretgold::refused &why) {
                 return refusal(why.status);
             }
@@ -214,7 +214,7 @@ struct stage {
     std::string get(std::size_t c, const words &w) {
         unsigned char bytes[64];
         std::size_t length = 0;
-        const int status = clients[c].read({number(w[2]), number(w[3])}, bytes, number(w[5]),
+        const int status = clients[c].get({number(w[2]), number(w[3])}, bytes, number(w[5]),
                                            &length, w[4] == "U");
         return status == 0    ? value_text(bytes, length)
                : status == 20 ? "short " + std::to_string(length)
@@ -334,7 +334,7 @@ void moved_handles() {
     EXPECT(!one.lookup(KEY));
     handle first = one.insert_pinned(KEY, "ab", 2, 1);
     EXPECT(first && held() == 1);
-    handle second = first.again();
+    handle second = first.reref();
     handle third(std::move(first));
     EXPECT(!first && third && held() == 2);
     EXPECT(one.holds(third) && !one.holds(first) && !it.open_client().holds(third));
@@ -371,7 +371,7 @@ void defaults() {
     EXPECT(uses() == 2);
     char bytes[8];
     std::size_t length = 0;
-    EXPECT(one.read(KEY, bytes, sizeof bytes, &length) == 0 && length == 2);
+    EXPECT(one.get(KEY, bytes, sizeof bytes, &length) == 0 && length == 2);
     EXPECT(uses() == 3);
     one.lookup(KEY).release();
     EXPECT(uses() == 4);
@@ -389,7 +389,7 @@ void moved_caches() {
     cache first(small());
     cache it(std::move(first));
     EXPECT(first.get() == nullptr && it.get() != nullptr);
-    EXPECT(first.room() == 0 && first.config().slots == 0 && it.room() == 8 * small().room);
+    EXPECT(first.value_limit() == 0 && first.config().slots == 0 && it.value_limit() == 8 * small().room);
     EXPECT(it.config().clients == 2 && it.config().handles == 3);
     client one = it.open_client();
     client two(std::move(one));
@@ -477,9 +477,9 @@ void nobody() {
     is_null([&] { return it.key(why); }, [&] { return it.key(); });
     is_null([&] { return it.size(why); }, [&] { return it.size(); });
     is_null([&] { return it.read(nullptr, 0, why); }, [&] { return it.read(nullptr, 0); });
-    is_null([&] { return it.again(why); }, [&] { return it.again(); });
+    is_null([&] { return it.reref(why); }, [&] { return it.reref(); });
     EXPECT(one.number() == 0 && one.held() == 0 && one.serials_left() == 0 && !one.holds(it));
-    EXPECT(one.read(KEY, nullptr, 0, nullptr) == FERRETGOLD_NULL);
+    EXPECT(one.get(KEY, nullptr, 0, nullptr) == FERRETGOLD_NULL);
 }
 
 // What calls say by `why`, and return.
@@ -500,8 +500,8 @@ void told() {
     EXPECT(held.key(why).w1 == KEY.w1 && held.size(why) == 2 && why == FERRETGOLD_OK);
     EXPECT(held.read(bytes, 1, why) == 2 && why == FERRETGOLD_TOO_SHORT);
     EXPECT(held.read(bytes, 4, why) == 2 && why == FERRETGOLD_OK && bytes[1] == 'b');
-    handle more = held.again(why), most = held.again(why);
-    EXPECT(most && why == FERRETGOLD_OK && !held.again(why) && why == FERRETGOLD_HANDLES_FULL);
+    handle more = held.reref(why), most = held.reref(why);
+    EXPECT(most && why == FERRETGOLD_OK && !held.reref(why) && why == FERRETGOLD_HANDLES_FULL);
     EXPECT(first.serials_left() == small().serials - 4);
     EXPECT(second.insert(OTHER, "", 0, 4) == 0);
     EXPECT(first.usage(why) == 7 && first.pinned_usage(why) == 3 && first.occupancy(why) == 2);
@@ -564,7 +564,7 @@ void outlived() {
         client two = it.open_client();
         EXPECT(refuses([&] { (void)it.open_client(); }, 36));
         EXPECT(refuses([&] { (void)it.close(); }, 39));
-        handle more = last.again();
+        handle more = last.reref();
         last = std::move(more);
         EXPECT(two.held() == 0);
         last.release();
