@@ -1,2 +1,3 @@
 pub mod Backs
 pub mod Copies
+pub mod Holders
