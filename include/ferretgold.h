@@ -146,7 +146,7 @@ typedef enum ferretgold_status {
     /* The client holds handles. */
     FERRETGOLD_HANDLES_OUT = 38,
     /* Clients of the cache are out. */
-    FERRETGOLD_MISSING = 39,
+    FERRETGOLD_CLIENTS_OUT = 39,
     /* The configuration has a size that this library doesn't know. */
     FERRETGOLD_BAD_SIZE = 40
 } ferretgold_status;
@@ -325,7 +325,7 @@ ferretgold_status ferretgold_client_close_releasing(ferretgold_cache *cache,
  * Costs at each shard a load for each client and two more, two for each slot, and one for each
  * entry that is left.
  *
- * Refuses MISSING: a client is out. After a refusal the cache works on.
+ * Refuses CLIENTS_OUT. After a refusal the cache works on.
  */
 ferretgold_status ferretgold_close(ferretgold_cache *cache, ferretgold_totals *totals);
 

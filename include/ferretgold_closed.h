@@ -54,7 +54,7 @@ typedef struct ferretgold_closed ferretgold_closed;
  * Allocates 5,712 bytes, and frees all but the shards' tables. Costs at each shard a load for each
  * client.
  *
- * Refuses MISSING: a client is out; OUT_OF_MEMORY. After a refusal the cache works on.
+ * Refuses CLIENTS_OUT; OUT_OF_MEMORY. After a refusal the cache works on.
  */
 ferretgold_status ferretgold_close_keeping(ferretgold_cache *cache, ferretgold_closed **closed);
 

@@ -45,7 +45,7 @@ uint32_t ferretgold_raw_client_close(ferretgold_object *cache, ferretgold_object
 uint32_t ferretgold_raw_close(ferretgold_object cache, ferretgold_totals *totals,
                               ferretgold_object *kept);
 /* A closed cache: first the place for one, which allocates it, then what is left of a cache. Until
- * then reading it is refused by MISSING. */
+ * then reading it is refused by CLIENTS_OUT. */
 uint32_t ferretgold_raw_closed_open(ferretgold_object *closed);
 uint32_t ferretgold_raw_close_keeping(ferretgold_object cache, ferretgold_object *closed,
                                       ferretgold_object *kept);

@@ -31,7 +31,7 @@ ferretgold_status ferretgold_close_keeping(ferretgold_cache *cache, ferretgold_c
         return FERRETGOLD_NULL;
     }
     if (!cache_is_idle(cache)) {
-        return FERRETGOLD_MISSING;
+        return FERRETGOLD_CLIENTS_OUT;
     }
     ferretgold_closed *it = made(cache);
     if (it == NULL) {

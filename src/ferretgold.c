@@ -281,7 +281,7 @@ ferretgold_status ferretgold_close(ferretgold_cache *cache, ferretgold_totals *t
         return FERRETGOLD_NULL;
     }
     if (!cache_is_idle(cache)) {
-        return FERRETGOLD_MISSING;
+        return FERRETGOLD_CLIENTS_OUT;
     }
     return end(cache, 0, totals != NULL ? totals : &left, NULL);
 }
@@ -497,7 +497,7 @@ const char *ferretgold_status_text(ferretgold_status status) {
     case FERRETGOLD_NO_CLIENT: return "all clients of the cache are out, or this one was given back";
     case FERRETGOLD_OTHER_CACHE: return "the client is one of another cache";
     case FERRETGOLD_HANDLES_OUT: return "the client holds handles";
-    case FERRETGOLD_MISSING: return "clients of the cache are out";
+    case FERRETGOLD_CLIENTS_OUT: return "clients of the cache are out";
     case FERRETGOLD_BAD_SIZE: return "the library doesn't know this size of configuration";
     }
     return "unknown";

@@ -324,7 +324,7 @@ static void closings(void) {
     EXPECT(ferretgold_client_close(one, a), FERRETGOLD_OK);
     EXPECT(ferretgold_client_close(one, a), FERRETGOLD_NO_CLIENT);
     EXPECT(ferretgold_lookup(a, &KEY, &handle), FERRETGOLD_NO_CLIENT);
-    EXPECT(ferretgold_close(one, &totals), FERRETGOLD_MISSING);
+    EXPECT(ferretgold_close(one, &totals), FERRETGOLD_CLIENTS_OUT);
     EXPECT(totals.usage, 5);
     EXPECT(ferretgold_lookup(b, &KEY, &handle), FERRETGOLD_OK);
     EXPECT(ferretgold_release(b, handle, true, false, NULL), FERRETGOLD_OK);
@@ -336,7 +336,7 @@ static void closings(void) {
     EXPECT(totals.slot_charges, 5);
     EXPECT(totals.occupied, 1);
     EXPECT(totals.slot_count, 1);
-    EXPECT(ferretgold_close(two, NULL), FERRETGOLD_MISSING);
+    EXPECT(ferretgold_close(two, NULL), FERRETGOLD_CLIENTS_OUT);
     EXPECT(ferretgold_client_close(two, foreign), FERRETGOLD_OK);
     EXPECT(ferretgold_close(two, NULL), FERRETGOLD_OK);
 }

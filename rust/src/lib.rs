@@ -225,7 +225,7 @@ impl Cache {
             .ok_or(Refused::NULL)
     }
 
-    /// Ends the cache. A client that was forgotten makes it [`Refused::MISSING`]; the cache is given
+    /// Ends the cache. A client that was forgotten makes it [`Refused::CLIENTS_OUT`]; the cache is given
     /// back then.
     pub fn close(self) -> Result<Totals, (Refused, Cache)> {
         let mut totals = Totals::default();

@@ -40,7 +40,7 @@ statuses! {
     NO_CLIENT = 36: "No client of the cache is idle.";
     OTHER_CACHE = 37: "The client is another cache's; no call of this crate is refused so.";
     HANDLES_OUT = 38: "The client holds handles that were forgotten.";
-    MISSING = 39: "Clients of the cache were forgotten.";
+    CLIENTS_OUT = 39: "Clients of the cache were forgotten.";
     BAD_SIZE = 40: "The library is older than this crate.";
 }
 

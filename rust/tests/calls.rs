@@ -155,7 +155,7 @@ fn a_cache_with_a_forgotten_client_stays() {
     let cache = Cache::open(&small()).unwrap();
     forget(cache.client());
     let (why, cache) = cache.close().unwrap_err();
-    assert_eq!(why, Refused::MISSING);
+    assert_eq!(why, Refused::CLIENTS_OUT);
     assert_eq!(
         inserts(&cache.client().unwrap(), KEY, b""),
         Ok(Inserted::Placed)
@@ -200,7 +200,7 @@ fn what_is_left_is_read() {
     let cache = Cache::open(&config).unwrap();
     forget(cache.client());
     let (why, cache) = cache.close_keeping().unwrap_err();
-    assert_eq!(why, Refused::MISSING);
+    assert_eq!(why, Refused::CLIENTS_OUT);
     forget(cache);
     let cache = Cache::open(&config).unwrap();
     let client = cache.client().unwrap();

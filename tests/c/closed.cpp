@@ -153,7 +153,7 @@ int closed_caches() {
     {
         ferretgold::client client = it.open_client();
         EXPECT(client.insert(KEY, "kept", 4, 5, FERRETGOLD_HIGH) == 0);
-        EXPECT(!it.close_keeping(why) && why == FERRETGOLD_MISSING && it.get() != nullptr);
+        EXPECT(!it.close_keeping(why) && why == FERRETGOLD_CLIENTS_OUT && it.get() != nullptr);
         EXPECT(it.counts().placed == 0 && none.counts().placed == 0);
     }
     EXPECT(it.counts().placed == 1 && it.counts().hits == 0);

@@ -510,7 +510,7 @@ void told() {
     EXPECT(second.stats(why).probes > 1 && why == FERRETGOLD_OK);
     EXPECT(second.erase(KEY, why) == 1 && why == FERRETGOLD_OK);
     (void)it.close(why);
-    EXPECT(why == FERRETGOLD_MISSING && it.get() != nullptr);
+    EXPECT(why == FERRETGOLD_CLIENTS_OUT && it.get() != nullptr);
     for (handle *one : {&held, &more, &most}) {
         *one = handle();
     }

@@ -236,7 +236,7 @@ class Cache:
         client.registers[register] = (shard, entry)
         return "hit"
 
-    def fork(self, client, register, held):
+    def reref(self, client, register, held):
         if register in client.registers:
             return "busy"
         if held not in client.registers:
@@ -273,7 +273,7 @@ class Cache:
         if letter == "G":
             return self.get(client, *words)
         if letter == "F":
-            return self.fork(client, *words)
+            return self.reref(client, *words)
         if letter == "R":
             return self.release(client, words[0], words[1] == "U", words[2] == "E")
         if letter == "V":

@@ -7,7 +7,7 @@ from pathlib import Path
 TOP = Path(__file__).resolve().parent.parent.parent
 CRATE = TOP / "crates/hcc_c/src"
 # The structs that cross, as the library and as C call them.
-STRUCTS = {"Key": "key", "Number": "handle", "Setup": "config", "Stats": "stats", "Totals": "totals",
+STRUCTS = {"Key": "key", "CHandle": "handle", "CConfig": "config", "Stats": "stats", "Totals": "totals",
            "Counts": "counts", "Entry": "entry"}
 SIZES = {"bool": 1, "u32": 4, "u64": 8, "usize": 8, "Key": 16}
 RUST = TOP / "rust/src"

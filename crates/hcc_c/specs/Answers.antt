@@ -14,7 +14,7 @@ use Rattle.hcc_c.specs.declared.refusal.Refusal.TheVariants.{NoHandle, TooShort}
 use Rattle.hcc_c.specs.declared.shapes.Entry.{Entry}
 use Rattle.hcc_c.specs.declared.shapes.Key.{Key}
 use Rattle.hcc_c.specs.declared.session.Session.{Session}
-use Rattle.hcc_c.specs.declared.shapes.Number.{Number}
+use Rattle.hcc_c.specs.declared.shapes.CHandle.{CHandle}
 use Rattle.hcc_c.specs.Refusals.{code_of, inserted_code, inserting_of, looking_of, opening_of, unfit_of}
 use Rattle.hcc_c.specs.Shapes.{words_of}
 
@@ -38,23 +38,23 @@ status_of_checked (Ok allowed) = 0
 status_of_checked (Err why) = code_of (opening_of why)
 
 -- a look-up
-abbrev pub status_of_look : Result (Option Number) LookupError → ℕ
+abbrev pub status_of_look : Result (Option CHandle) LookupError → ℕ
 status_of_look (Ok None) = 1
 status_of_look (Ok (Some number)) = 0
 status_of_look (Err why) = code_of (looking_of why)
 
-abbrev pub number_of : Result (Option Number) LookupError → Number → Number
+abbrev pub number_of : Result (Option CHandle) LookupError → CHandle → CHandle
 number_of (Ok None) old = old
 number_of (Ok (Some number)) old = number
 number_of (Err why) old = old
 
 -- one handle more
-abbrev pub status_of_reref : Option (Result Number LookupError) → ℕ
+abbrev pub status_of_reref : Option (Result CHandle LookupError) → ℕ
 status_of_reref None = code_of NoHandle
 status_of_reref (Some (Ok number)) = 0
 status_of_reref (Some (Err why)) = code_of (looking_of why)
 
-abbrev pub more_of : Option (Result Number LookupError) → Number → Number
+abbrev pub more_of : Option (Result CHandle LookupError) → CHandle → CHandle
 more_of None old = old
 more_of (Some (Ok number)) old = number
 more_of (Some (Err why)) old = old
@@ -71,18 +71,18 @@ inserted_of (Ok (Err why)) old = old
 inserted_of (Err why) old = old
 
 -- an insertion with a handle
-abbrev pub status_of_pinned : Result (Result (Number × Inserted) InsertError) Unfit → ℕ
+abbrev pub status_of_pinned : Result (Result (CHandle × Inserted) InsertError) Unfit → ℕ
 status_of_pinned (Ok (Ok made)) = 0
 status_of_pinned (Ok (Err why)) = code_of (inserting_of why)
 status_of_pinned (Err why) = code_of (unfit_of why)
 
-abbrev pub inserted_of_pinned : Result (Result (Number × Inserted) InsertError) Unfit → ℕ → ℕ
+abbrev pub inserted_of_pinned : Result (Result (CHandle × Inserted) InsertError) Unfit → ℕ → ℕ
 inserted_of_pinned (Ok (Ok made)) old = inserted_code made.1
 inserted_of_pinned (Ok (Err why)) old = old
 inserted_of_pinned (Err why) old = old
 
-abbrev pub handle_of_pinned : Result (Result (Number × Inserted) InsertError) Unfit
-    → Number → Number
+abbrev pub handle_of_pinned : Result (Result (CHandle × Inserted) InsertError) Unfit
+    → CHandle → CHandle
 handle_of_pinned (Ok (Ok made)) old = made.0
 handle_of_pinned (Ok (Err why)) old = old
 handle_of_pinned (Err why) old = old

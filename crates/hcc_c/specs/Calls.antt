@@ -26,7 +26,7 @@ use Rattle.hcc_c.specs.declared.inserting.Unfit.{Unfit}
 use Rattle.hcc_c.specs.declared.inserting.Unfit.TheVariants as reason
 use Rattle.hcc_c.specs.declared.session.Session.{Session}
 use Rattle.hcc_c.specs.declared.shapes.Counts.{Counts}
-use Rattle.hcc_c.specs.declared.shapes.Number.{Number}
+use Rattle.hcc_c.specs.declared.shapes.CHandle.{CHandle}
 use Rattle.hcc_c.specs.Counts.{counted_get, counted_insert, counted_look, counted_pinned}
 use Rattle.hcc_c.specs.Sessions.{IsHandle, IsNone, any, handle_in, judged}
 use Rattle.hcc_c.specs.Shapes.{number_of}
@@ -40,7 +40,7 @@ abbrev pub KeepsCounting : Counts → (old new : Session) → Type 0
 KeepsCounting counts old new = new ≡ record old { client = new.client; counts = counts }
 
 -- A look-up for a key.
-pub record LooksUp (key : Key) (answer : Result (Option Number) LookupError) (old new : Session)
+pub record LooksUp (key : Key) (answer : Result (Option CHandle) LookupError) (old new : Session)
     : Type 0 where
   pub full : IsErrOf answer look.HandlesFull ↔ (held_by old.client ≡ old.client.most)
   pub spent : IsErrOf answer look.Spent
@@ -61,7 +61,7 @@ pub record LooksUp (key : Key) (answer : Result (Option Number) LookupError) (ol
   pub steps : TakesAtMost (7 * (arc_value old.cache).geometry.slots) old.client new.client
 
 -- One handle more on the entry of the handle of this number; none where it is that of none.
-pub record RefersAgain (number : Number) (answer : Option (Result Number LookupError))
+pub record RefersAgain (number : CHandle) (answer : Option (Result CHandle LookupError))
     (old new : Session) : Type 0 where
   pub none : IfNone answer (IsNone old number × (new ≡ old))
   pub some : IfSome answer (λ _. (handle : Handle) × IsHandle old number handle)
@@ -82,7 +82,7 @@ pub record RefersAgain (number : Number) (answer : Option (Result Number LookupE
   pub steps : TakesAtMost 2 old.client new.client
 
 -- The handle of this number is given back; none where it is that of none.
-pub record GivesBack (number : Number) (useful erase : Bool) (answer : Option Bool)
+pub record GivesBack (number : CHandle) (useful erase : Bool) (answer : Option Bool)
     (old new : Session) : Type 0 where
   pub none : IfNone answer (IsNone old number × (new ≡ old))
   pub released : IfSome answer (λ freed. (handle : Handle) × IsHandle old number handle
@@ -94,7 +94,7 @@ pub record GivesBack (number : Number) (useful erase : Bool) (answer : Option Bo
       old.client new.client
 
 -- The handle at an index is told, by its numbers; none where the client holds none there.
-pub record TellsHandle (index : ℕ) (answer : Option Number) (session : Session) : Type 0 where
+pub record TellsHandle (index : ℕ) (answer : Option CHandle) (session : Session) : Type 0 where
   pub some : IfSome answer (λ number. (number.index ≡ index)
       × (handle : Handle) × IsHandle session number handle)
   pub none : IfNone answer
@@ -152,7 +152,7 @@ module _ (key : Key) (charge : ℕ) (priority : Priority) (value : List ℕ) whe
     pub steps : InsertsWithin old new
 
   -- An insertion with a handle.
-  pub record PutsPinned (answer : Result (Result (Number × Inserted) InsertError) Unfit)
+  pub record PutsPinned (answer : Result (Result (CHandle × Inserted) InsertError) Unfit)
       (old new : Session) : Type 0 where
     pub unfit : IfErr (judged_by old) (λ why. (answer ≡ Err why) × (new ≡ old))
     pub memory : OnOk (judged_by old) (IsOkUnless answer reason.OutOfMemory)
@@ -184,7 +184,7 @@ module _ (key : Key) (charge : ℕ) (priority : Priority) (value : List ℕ) whe
     pub steps : InsertsWithin old new
 
 -- The key of the handle of this number is told; none where it is that of none.
-pub record TellsKey (number : Number) (answer : Option Key) (old new : Session) : Type 0 where
+pub record TellsKey (number : CHandle) (answer : Option Key) (old new : Session) : Type 0 where
   pub none : IfNone answer (IsNone old number)
   pub exact : IfSome answer (λ key. (handle : Handle) × IsHandle old number handle
       × IfSome (held_of (arc_value old.cache) old.client handle) (λ held.
@@ -192,7 +192,7 @@ pub record TellsKey (number : Number) (answer : Option Key) (old new : Session) 
   pub same : new ≡ old
 
 -- And the length of its value.
-pub record TellsLength (number : Number) (answer : Option ℕ) (old new : Session) : Type 0 where
+pub record TellsLength (number : CHandle) (answer : Option ℕ) (old new : Session) : Type 0 where
   pub none : IfNone answer (IsNone old number × (new ≡ old))
   pub exact : IfSome answer (λ len. (handle : Handle) × IsHandle old number handle
       × IfSome (held_of (arc_value old.cache) old.client handle) (λ held.
@@ -202,7 +202,7 @@ pub record TellsLength (number : Number) (answer : Option ℕ) (old new : Sessio
   pub steps : TakesAtMost 1 old.client new.client
 
 -- The value itself is copied to the front of a buffer, if it isn't longer.
-pub record ReadsValue (number : Number) (answer : Option (Result ℕ ℕ)) (before after : List ℕ)
+pub record ReadsValue (number : CHandle) (answer : Option (Result ℕ ℕ)) (before after : List ℕ)
     (old new : Session) : Type 0 where
   pub none : IfNone answer (IsNone old number × (new ≡ old) × (after ≡ before))
   pub read : IfSome answer (λ a. IfOk a (λ len. (handle : Handle) × IsHandle old number handle

@@ -9,7 +9,7 @@ use Rattle.hcc_cache.specs.declared.inserting.Inserted.TheVariants.{Placed, Drop
 use Rattle.hcc_cache.specs.Totals.{with_count}
 use Rattle.hcc_c.specs.declared.inserting.Unfit.{Unfit}
 use Rattle.hcc_c.specs.declared.shapes.Counts.{Counts}
-use Rattle.hcc_c.specs.declared.shapes.Number.{Number}
+use Rattle.hcc_c.specs.declared.shapes.CHandle.{CHandle}
 
 abbrev pub no_counts : Counts
 no_counts = record {
@@ -37,7 +37,7 @@ one_inserted Dropped counts = record counts { dropped = with_count counts.droppe
 one_inserted Standalone counts = record counts { standalone = with_count counts.standalone 1 }
 
 -- a look-up, and a reading by a key; one that is refused isn't counted
-abbrev pub counted_look : Result (Option Number) LookupError → Counts → Counts
+abbrev pub counted_look : Result (Option CHandle) LookupError → Counts → Counts
 counted_look (Ok None) counts = one_miss counts
 counted_look (Ok (Some number)) counts = one_hit counts
 counted_look (Err why) counts = counts
@@ -53,7 +53,7 @@ counted_insert (Ok (Ok what)) counts = one_inserted what counts
 counted_insert (Ok (Err why)) counts = one_refused counts
 counted_insert (Err why) counts = counts
 
-abbrev pub counted_pinned : Result (Result (Number × Inserted) InsertError) Unfit
+abbrev pub counted_pinned : Result (Result (CHandle × Inserted) InsertError) Unfit
     → Counts → Counts
 counted_pinned (Ok (Ok made)) counts = one_inserted made.1 counts
 counted_pinned (Ok (Err why)) counts = one_refused counts

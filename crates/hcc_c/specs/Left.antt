@@ -11,7 +11,7 @@ use Rattle.hcc_shard.specs.Left.{charges_left, slots_left}
 use Rattle.hcc_cache.specs.declared.closed.Closed.{Closed}
 use Rattle.hcc_cache.specs.Left.{InShard, TellsEntry, at_shard, field_of, ledger_of, length_of, over_shards, slots_at, value_of}
 use Rattle.hcc_c.specs.declared.refusal.Refusal.{Refusal}
-use Rattle.hcc_c.specs.declared.refusal.Refusal.TheVariants.{Missing, OutOfRange}
+use Rattle.hcc_c.specs.declared.refusal.Refusal.TheVariants.{ClientsOut, OutOfRange}
 use Rattle.hcc_c.specs.declared.shapes.Entry.{Entry}
 use Rattle.hcc_c.specs.declared.shapes.Totals.{Totals}
 use Rattle.hcc_c.specs.Shapes.{entry_of}
@@ -27,25 +27,25 @@ totals_of closed = record {
 
 -- what it tells in sum; no cache may be closed yet
 abbrev pub totals_left : Option Closed → Result Totals Refusal
-totals_left None = Err Missing
+totals_left None = Err ClientsOut
 totals_left (Some closed) = Ok (totals_of closed)
 
 -- why nothing is read of a slot: none was closed yet, or it has no such slot
 abbrev pub judged_slot : (shard slot : ℕ) → Option Closed → Result (Unit {0}) Refusal
-judged_slot shard slot None = Err Missing
+judged_slot shard slot None = Err ClientsOut
 judged_slot shard slot (Some closed) =
     if nat_lt slot (slots_at closed.shards.items shard) then Ok tt else Err OutOfRange
 
 -- a word of a slot, or why it isn't read
 abbrev pub field_left : (shard slot field : ℕ) → Option Closed → Result ℕ Refusal
-field_left shard slot field None = Err Missing
+field_left shard slot field None = Err ClientsOut
 field_left shard slot field (Some closed) =
     if nat_lt slot (slots_at closed.shards.items shard)
     then Ok (at_shard closed.shards.items shard (field_of slot field)) else Err OutOfRange
 
 -- where the hand of a shard's clock stands, or why that isn't read
 abbrev pub hand_left : (shard : ℕ) → Option Closed → Result ℕ Refusal
-hand_left shard None = Err Missing
+hand_left shard None = Err ClientsOut
 hand_left shard (Some closed) =
     if nat_lt shard (length closed.shards.items)
     then Ok (at_shard closed.shards.items shard (ledger_of HAND)) else Err OutOfRange

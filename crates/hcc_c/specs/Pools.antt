@@ -15,7 +15,7 @@ use Rattle.hcc_cache.specs.Closings.{AreBack, IsClosed}
 use Rattle.hcc_cache.specs.Opened.{IsOpened}
 use Rattle.hcc_c.specs.declared.closed.Left.{Left}
 use Rattle.hcc_c.specs.declared.refusal.Refusal.{Refusal}
-use Rattle.hcc_c.specs.declared.refusal.Refusal.TheVariants.{HandlesOut, Missing, NoClient, OtherCache, OutOfMemory}
+use Rattle.hcc_c.specs.declared.refusal.Refusal.TheVariants.{HandlesOut, ClientsOut, NoClient, OtherCache, OutOfMemory}
 use Rattle.hcc_c.specs.declared.shapes.Totals.{Totals}
 use Rattle.hcc_c.specs.declared.pool.Pool.{Pool}
 use Rattle.hcc_c.specs.declared.pool.Rack.{Rack}
@@ -167,8 +167,8 @@ pub record TakesIn (session : Box Session Global)
 -- A cache ends, which gives this of what is left of it; one that is refused stays.
 pub record Ends {A : Type 0} (IsOf : A → Closed → Type 0) (answer : Result A Refusal)
     (old new : Rack) : Type 0 where
-  pub out : AreOut old.pool → answer ≡ Err Missing
-  pub missing : IfErr answer (λ e. (e ≡ Missing) × (new ≡ old))
+  pub out : AreOut old.pool → answer ≡ Err ClientsOut
+  pub missing : IfErr answer (λ e. (e ≡ ClientsOut) × (new ≡ old))
   pub closed : IfOk answer (λ given. (left : Closed) × IfOpen old.pool (Closes left)
       × IsOf given left)
   pub gone : OnOk answer (new.pool ≡ None)

@@ -13,7 +13,7 @@ use Rattle.hcc_cache.specs.declared.priority.Priority.TheVariants.{High, Low, Bo
 use Rattle.hcc_c.specs.declared.inserting.Unfit.{Unfit}
 use Rattle.hcc_c.specs.declared.inserting.Unfit.TheVariants as unfit
 use Rattle.hcc_c.specs.declared.refusal.Refusal.{Refusal}
-use Rattle.hcc_c.specs.declared.refusal.Refusal.TheVariants.{NoHandle, NoCharge, TooLong, TooShort, BadPriority, OutOfRange, HandlesFull, Spent, TooLarge, CapacityFull, OccupancyFull, OutOfMemory, BadSlots, BadRoom, BadClients, BadHandles, BadShards, BadCapacity, BadSerials, NoClient, OtherCache, HandlesOut, Missing}
+use Rattle.hcc_c.specs.declared.refusal.Refusal.TheVariants.{NoHandle, NoCharge, TooLong, TooShort, BadPriority, OutOfRange, HandlesFull, Spent, TooLarge, CapacityFull, OccupancyFull, OutOfMemory, BadSlots, BadRoom, BadClients, BadHandles, BadShards, BadCapacity, BadSerials, NoClient, OtherCache, HandlesOut, ClientsOut}
 
 -- the numbers that the header gives
 abbrev pub code_of : Refusal → ℕ
@@ -39,7 +39,7 @@ code_of BadSerials = 35
 code_of NoClient = 36
 code_of OtherCache = 37
 code_of HandlesOut = 38
-code_of Missing = 39
+code_of ClientsOut = 39
 
 -- why a cache isn't made
 abbrev pub opening_of : NewError → Refusal

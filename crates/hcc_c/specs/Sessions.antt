@@ -7,7 +7,7 @@ use Rattle.hcc_cache.specs.declared.tags.AnyBytes.{AnyBytes}
 use Rattle.hcc_cache.specs.Clients.{Holds}
 use Rattle.hcc_cache.specs.Handles.{HoldsNone, handle_of}
 use Rattle.hcc_cache.specs.Known.{Knows}
-use Rattle.hcc_c.specs.declared.shapes.Number.{Number}
+use Rattle.hcc_c.specs.declared.shapes.CHandle.{CHandle}
 use Rattle.hcc_c.specs.declared.session.Session.{Session}
 use Rattle.hcc_c.specs.declared.inserting.Unfit.{Unfit}
 use Rattle.hcc_c.specs.declared.inserting.Unfit.TheVariants.{NoCharge, TooLong}
@@ -25,16 +25,16 @@ abbrev pub any : AnyBytes → Key → List ℕ → Type 0
 any tag key value = Unit {0}
 
 -- the handle of these numbers, which nobody may hold
-abbrev pub handle_in : Number → Handle
+abbrev pub handle_in : CHandle → Handle
 handle_in number = handle_of (numbers_in number)
 
 -- The numbers are those of a handle that the client holds: its cache's, its own, and the serial.
-abbrev pub IsHandle : Session → Number → Handle → Type 0
+abbrev pub IsHandle : Session → CHandle → Handle → Type 0
 IsHandle session number handle = (number.cache ≡ session.home)
     × (handle ≡ handle_in number) × Holds session.client handle
 
 -- They are those of none.
-abbrev pub IsNone : Session → Number → Type 0
+abbrev pub IsNone : Session → CHandle → Type 0
 IsNone session number = number.cache ≡ session.home → HoldsNone session.client (numbers_in number)
 
 -- why a value isn't inserted, before the cache is asked

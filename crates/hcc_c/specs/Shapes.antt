@@ -9,8 +9,8 @@ use Rattle.hcc_cache.specs.declared.handle.Handle.{Handle}
 use Rattle.hcc_cache.specs.declared.handle.Numbers.{Numbers}
 use Rattle.hcc_c.specs.declared.shapes.Entry.{Entry}
 use Rattle.hcc_c.specs.declared.shapes.Key.{Key}
-use Rattle.hcc_c.specs.declared.shapes.Number.{Number}
-use Rattle.hcc_c.specs.declared.shapes.Setup.{Setup}
+use Rattle.hcc_c.specs.declared.shapes.CHandle.{CHandle}
+use Rattle.hcc_c.specs.declared.shapes.CConfig.{CConfig}
 use Rattle.hcc_c.specs.declared.shapes.Stats.{Stats}
 
 abbrev pub key_of : Key → CacheKey
@@ -19,7 +19,7 @@ key_of key = record { w0 = key.w0; w1 = key.w1 }
 abbrev pub words_of : CacheKey → Key
 words_of key = record { w0 = key.w0; w1 = key.w1 }
 
-abbrev pub number_of : (cache : ℕ) → Handle → Number
+abbrev pub number_of : (cache : ℕ) → Handle → CHandle
 number_of cache handle = record {
   index = handle.index;
   serial = handle.serial;
@@ -27,11 +27,11 @@ number_of cache handle = record {
   cache = cache;
 }
 
-abbrev pub numbers_in : Number → Numbers
+abbrev pub numbers_in : CHandle → Numbers
 numbers_in number =
     record { client = number.client; index = number.index; serial = number.serial }
 
-abbrev pub config_of : Setup → Config
+abbrev pub config_of : CConfig → Config
 config_of setup = record {
   slots = setup.slots;
   room = setup.room;

@@ -9,7 +9,7 @@ use crate::objects::{CachePlace, ClientPlace, ClosedPlace, ImagePlace, Loose};
 use crate::pool::Rack;
 use crate::refusal::{Refusal, inserted_code};
 use crate::session::Session;
-use crate::shapes::{Entry, Key, Number};
+use crate::shapes::{CHandle, Entry, Key};
 use hcc_cache::{Got, InsertError, Inserted, LookupError};
 
 /// The answers that are no refusals.
@@ -46,7 +46,7 @@ pub(crate) fn told_key(answer: Option<hcc_cache::Key>, key: &mut Key) -> u32
 }
 
 /// Gives C what a look-up returned.
-pub(crate) fn told_look(answer: Result<Option<Number>, LookupError>, handle: &mut Number) -> u32
+pub(crate) fn told_look(answer: Result<Option<CHandle>, LookupError>, handle: &mut CHandle) -> u32
     ensures status { result ≡ status_of_look answer }
     ensures handle { handle.new ≡ number_of answer handle.old }
 {
@@ -61,7 +61,7 @@ pub(crate) fn told_look(answer: Result<Option<Number>, LookupError>, handle: &mu
 }
 
 /// Gives C one handle more, or why there is none.
-pub(crate) fn told_reref(answer: Option<Result<Number, LookupError>>, more: &mut Number) -> u32
+pub(crate) fn told_reref(answer: Option<Result<CHandle, LookupError>>, more: &mut CHandle) -> u32
     ensures status { result ≡ status_of_reref answer }
     ensures more { more.new ≡ more_of answer more.old }
 {
@@ -113,9 +113,9 @@ pub(crate) fn told_insert(
 
 /// Gives C what came of an insertion with a handle.
 pub(crate) fn told_pinned(
-    answer: Result<Result<(Number, Inserted), InsertError>, Unfit>,
+    answer: Result<Result<(CHandle, Inserted), InsertError>, Unfit>,
     inserted: &mut u32,
-    handle: &mut Number,
+    handle: &mut CHandle,
 ) -> u32
     ensures status { result ≡ status_of_pinned answer }
     ensures inserted { inserted.new ≡ inserted_of_pinned answer inserted.old }

@@ -12,12 +12,12 @@ use crate::answers::{DONE, told_back, told_cache, told_client, told_given};
 use crate::objects::{CacheObject, CachePlace, ClientObject, ClientPlace, Loose};
 use crate::pool::Rack;
 use crate::refusal::Refusal;
-use crate::shapes::{Setup, Totals};
+use crate::shapes::{CConfig, Totals};
 use std::alloc::Global;
 
 /// What `ferretgold_raw_open` refuses of these sizes, whatever memory there is.
 #[unsafe(no_mangle)]
-pub extern "C" fn ferretgold_raw_config_check(setup: &Setup) -> u32
+pub extern "C" fn ferretgold_raw_config_check(setup: &CConfig) -> u32
     ensures { result ≡ status_of_checked (checked (config_of setup.now)) }
 {
     match setup.config().check() {
@@ -29,7 +29,7 @@ pub extern "C" fn ferretgold_raw_config_check(setup: &Setup) -> u32
 #[unsafe(no_mangle)]
 pub extern "C" fn ferretgold_raw_open(
     alloc: Global,
-    setup: &Setup,
+    setup: &CConfig,
     number: u32,
     cache: &mut CachePlace,
 ) -> u32

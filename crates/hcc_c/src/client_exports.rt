@@ -15,14 +15,14 @@ use crate::answers::{
 };
 use crate::objects::ClientObject;
 use crate::refusal::{Refusal, priority_of};
-use crate::shapes::{Counts, Key, Number, Stats};
+use crate::shapes::{CHandle, Counts, Key, Stats};
 use std::alloc::Global;
 
 #[unsafe(no_mangle)]
 pub extern "C" fn ferretgold_raw_lookup(
     client: &mut ClientObject,
     key: &Key,
-    handle: &mut Number,
+    handle: &mut CHandle,
 ) -> u32
     requires { IsWhole client.old.value }
     ensures there { IsThere client.old client.new }
@@ -57,8 +57,8 @@ pub extern "C" fn ferretgold_raw_get(
 #[unsafe(no_mangle)]
 pub extern "C" fn ferretgold_raw_reref(
     client: &mut ClientObject,
-    handle: &Number,
-    more: &mut Number,
+    handle: &CHandle,
+    more: &mut CHandle,
 ) -> u32
     requires { IsWhole client.old.value }
     ensures there { IsThere client.old client.new }
@@ -74,7 +74,7 @@ pub extern "C" fn ferretgold_raw_reref(
 #[unsafe(no_mangle)]
 pub extern "C" fn ferretgold_raw_release(
     client: &mut ClientObject,
-    handle: &Number,
+    handle: &CHandle,
     useful: bool,
     erase_if_last: bool,
     freed: &mut bool,
@@ -124,7 +124,7 @@ pub extern "C" fn ferretgold_raw_insert_pinned(
     charge: u32,
     priority: u32,
     inserted: &mut u32,
-    handle: &mut Number,
+    handle: &mut CHandle,
 ) -> u32
     requires { IsWhole client.old.value }
     ensures there { IsThere client.old client.new }
@@ -166,7 +166,7 @@ pub extern "C" fn ferretgold_raw_erase(
 #[unsafe(no_mangle)]
 pub extern "C" fn ferretgold_raw_key(
     client: &mut ClientObject,
-    handle: &Number,
+    handle: &CHandle,
     key: &mut Key,
 ) -> u32
     requires { IsWhole client.old.value }
@@ -181,7 +181,7 @@ pub extern "C" fn ferretgold_raw_key(
 #[unsafe(no_mangle)]
 pub extern "C" fn ferretgold_raw_value_len(
     client: &mut ClientObject,
-    handle: &Number,
+    handle: &CHandle,
     length: &mut usize,
 ) -> u32
     requires { IsWhole client.old.value }
@@ -198,7 +198,7 @@ pub extern "C" fn ferretgold_raw_value_len(
 #[unsafe(no_mangle)]
 pub extern "C" fn ferretgold_raw_read_value(
     client: &mut ClientObject,
-    handle: &Number,
+    handle: &CHandle,
     buffer: &mut [u8],
     length: &mut usize,
 ) -> u32
@@ -283,7 +283,7 @@ pub extern "C" fn ferretgold_raw_displacement(
 pub extern "C" fn ferretgold_raw_handle_at(
     client: &mut ClientObject,
     index: usize,
-    handle: &mut Number,
+    handle: &mut CHandle,
 ) -> u32
     ensures there { IsThere client.old client.new }
     ensures same { client.new.value ≡ client.old.value }
@@ -322,7 +322,7 @@ pub extern "C" fn ferretgold_raw_serials_left(client: &mut ClientObject) -> u64
 }
 
 #[unsafe(no_mangle)]
-pub extern "C" fn ferretgold_raw_holds(client: &mut ClientObject, handle: &Number) -> bool
+pub extern "C" fn ferretgold_raw_holds(client: &mut ClientObject, handle: &CHandle) -> bool
     ensures there { IsThere client.old client.new }
     ensures same { client.new.value ≡ client.old.value }
     ensures held { result ≡ true → (it : _) × IsHandle client.old.value handle.now it }

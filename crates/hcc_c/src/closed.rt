@@ -35,7 +35,7 @@ impl Left {
     {
         match &self.closed {
             Some(closed) => Ok(totals(closed)),
-            None => Err(Refusal::Missing),
+            None => Err(Refusal::ClientsOut),
         }
     }
 
@@ -88,7 +88,7 @@ impl Left {
         ensures { result ≡ hand_left shard self.now.closed }
     {
         let Some(closed) = &self.closed else {
-            return Err(Refusal::Missing);
+            return Err(Refusal::ClientsOut);
         };
         if (shard as usize) < closed.shards() {
             Ok(closed.hand(shard as usize))
@@ -106,7 +106,7 @@ impl Left {
             × (slot < slots_at closed.now.shards.items shard)) }
     {
         let Some(closed) = &self.closed else {
-            return Err(Refusal::Missing);
+            return Err(Refusal::ClientsOut);
         };
         if (shard as usize) < closed.shards() && slot < closed.slots(shard as usize) {
             Ok(closed)

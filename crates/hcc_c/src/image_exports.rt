@@ -10,7 +10,7 @@ use crate::image::Image;
 use crate::objects::{CachePlace, ImageObject, ImagePlace};
 use crate::pool::Rack;
 use crate::refusal::Refusal;
-use crate::shapes::{Key, Setup};
+use crate::shapes::{CConfig, Key};
 use std::alloc::Global;
 
 /// Gives an image with no entries.
@@ -55,7 +55,7 @@ pub extern "C" fn ferretgold_raw_image_free(alloc: Global, image: ImageObject) {
 #[unsafe(no_mangle)]
 pub extern "C" fn ferretgold_raw_reopen(
     alloc: Global,
-    setup: &Setup,
+    setup: &CConfig,
     number: u32,
     image: ImageObject,
     cache: &mut CachePlace,

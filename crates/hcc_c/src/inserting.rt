@@ -4,7 +4,7 @@ ghost use Rattle.hcc_c.specs.Calls.{Puts, PutsPinned};
 ghost use Rattle.hcc_c.specs.Sessions.{IsWhole, judged};
 
 use crate::session::Session;
-use crate::shapes::Number;
+use crate::shapes::CHandle;
 use hcc_cache::{InsertError, Inserted, Key, Priority};
 use std::alloc::Global;
 
@@ -50,7 +50,7 @@ impl Session {
         value: &[u8],
         charge: u32,
         priority: Priority,
-    ) -> Result<Result<(Number, Inserted), InsertError>, Unfit>
+    ) -> Result<Result<(CHandle, Inserted), InsertError>, Unfit>
         requires { IsWhole self.old }
         ensures whole { IsWhole self.new }
         ensures puts { PutsPinned key charge priority value.now result self.old self.new }
@@ -63,7 +63,7 @@ impl Session {
             .cache
             .insert_pinned(&mut self.client, key, copy, charge, priority);
         let told = match answer {
-            Ok((handle, inserted)) => Ok((Number::of(self.home, handle), inserted)),
+            Ok((handle, inserted)) => Ok((CHandle::of(self.home, handle), inserted)),
             Err((why, _)) => Err(why),
         };
         self.counts.insert_pinned(told);

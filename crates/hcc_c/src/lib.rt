@@ -28,4 +28,4 @@ pub use objects::{
     ImagePlace, objects_cross,
 };
 pub use refusal::Refusal;
-pub use shapes::{Counts, Entry, Key, Number, Setup, Stats, Totals};
+pub use shapes::{CConfig, CHandle, Counts, Entry, Key, Stats, Totals};

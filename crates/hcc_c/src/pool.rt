@@ -226,19 +226,19 @@ impl Rack {
     fn end(&mut self) -> Result<Closed, Refusal>
         requires { IsWholeRack self.old }
         ensures whole { IsWholeRack self.new }
-        ensures out { AreOut self.old.pool → result ≡ Err Refusal.Missing }
-        ensures missing { IfErr result (λ e. (e ≡ Refusal.Missing) × (self.new ≡ self.old)) }
+        ensures out { AreOut self.old.pool → result ≡ Err Refusal.ClientsOut }
+        ensures missing { IfErr result (λ e. (e ≡ Refusal.ClientsOut) × (self.new ≡ self.old)) }
         ensures closed { IfOk result (λ left. IfOpen self.old.pool (Closes left)) }
         ensures gone { OnOk result (self.new.pool ≡ None) }
     {
         let Some(pool) = self.pool.take() else {
-            return Err(Refusal::Missing);
+            return Err(Refusal::ClientsOut);
         };
         match pool.close() {
             Ok(closed) => Ok(closed),
             Err(pool) => {
                 self.pool = Some(pool);
-                Err(Refusal::Missing)
+                Err(Refusal::ClientsOut)
             }
         }
     }

@@ -3,13 +3,13 @@ ghost use Rattle.hcc_c.specs.Calls.{GetsValue, ReadsValue, TellsKey, TellsLength
 ghost use Rattle.hcc_c.specs.Sessions.{IsWhole};
 
 use crate::session::Session;
-use crate::shapes::Number;
+use crate::shapes::CHandle;
 use hcc_cache::{Got, Key};
 
 impl Session {
     /// The key of the entry that a handle is on; none where the client holds no handle of these
     /// numbers.
-    pub fn key(&mut self, number: Number) -> Option<Key>
+    pub fn key(&mut self, number: CHandle) -> Option<Key>
         requires { IsWhole self.old }
         ensures whole { IsWhole self.new }
         ensures tells { TellsKey number result self.old self.new }
@@ -20,7 +20,7 @@ impl Session {
     }
 
     /// How many bytes the value has; none where the client holds no handle of these numbers.
-    pub fn value_len(&mut self, number: Number) -> Option<usize>
+    pub fn value_len(&mut self, number: CHandle) -> Option<usize>
         requires { IsWhole self.old }
         ensures whole { IsWhole self.new }
         ensures tells { TellsLength number result self.old self.new }
@@ -33,7 +33,7 @@ impl Session {
     /// Copies the value to the front of the buffer: how many bytes it has. Where the buffer has
     /// fewer, the same number is returned as an error, and the buffer stays. None where the client
     /// holds no handle of these numbers.
-    pub fn read_value(&mut self, number: Number, buffer: &mut [u8]) -> Option<Result<usize, usize>>
+    pub fn read_value(&mut self, number: CHandle, buffer: &mut [u8]) -> Option<Result<usize, usize>>
         requires { IsWhole self.old }
         ensures whole { IsWhole self.new }
         ensures reads { ReadsValue number result buffer.old buffer.new self.old self.new }

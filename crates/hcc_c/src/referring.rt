@@ -3,13 +3,13 @@ ghost use Rattle.hcc_c.specs.Calls.{GivesBack, Hides, LooksUp, RefersAgain, Tell
 ghost use Rattle.hcc_c.specs.Sessions.{IsWhole};
 
 use crate::session::Session;
-use crate::shapes::Number;
+use crate::shapes::CHandle;
 use hcc_cache::{Key, LookupError};
 
 impl Session {
     /// Looks for a visible entry of the key, as the cache does. The handle that it gives is named
     /// by its numbers.
-    pub fn lookup(&mut self, key: Key) -> Result<Option<Number>, LookupError>
+    pub fn lookup(&mut self, key: Key) -> Result<Option<CHandle>, LookupError>
         requires { IsWhole self.old }
         ensures whole { IsWhole self.new }
         ensures looks { LooksUp key result self.old self.new }
@@ -17,7 +17,7 @@ impl Session {
         match self.cache.lookup(&mut self.client, key)? {
             Some(handle) => {
                 self.counts.hit();
-                Ok(Some(Number::of(self.home, handle)))
+                Ok(Some(CHandle::of(self.home, handle)))
             }
             None => {
                 self.counts.miss();
@@ -28,7 +28,7 @@ impl Session {
 
     /// One handle more on the very entry that a handle is on; none where the client holds no
     /// handle of these numbers.
-    pub fn reref(&mut self, number: Number) -> Option<Result<Number, LookupError>>
+    pub fn reref(&mut self, number: CHandle) -> Option<Result<CHandle, LookupError>>
         requires { IsWhole self.old }
         ensures whole { IsWhole self.new }
         ensures again { RefersAgain number result self.old self.new }
@@ -36,14 +36,14 @@ impl Session {
         let numbers = self.numbers(number)?;
         let handle = self.client.handle(numbers)?;
         match self.cache.reref(&mut self.client, handle) {
-            Ok(more) => Some(Ok(Number::of(self.home, more))),
+            Ok(more) => Some(Ok(CHandle::of(self.home, more))),
             Err(why) => Some(Err(why)),
         }
     }
 
     /// Gives a handle back, as the cache does: whether an entry was freed. None where the client
     /// holds no handle of these numbers.
-    pub fn release(&mut self, number: Number, useful: bool, erase_if_last: bool) -> Option<bool>
+    pub fn release(&mut self, number: CHandle, useful: bool, erase_if_last: bool) -> Option<bool>
         requires { IsWhole self.old }
         ensures whole { IsWhole self.new }
         ensures released { GivesBack number useful erase_if_last result self.old self.new }
@@ -54,11 +54,11 @@ impl Session {
     }
 
     /// The handle at an index, by its numbers, if the client holds one there.
-    pub fn handle_at(&self, index: usize) -> Option<Number>
+    pub fn handle_at(&self, index: usize) -> Option<CHandle>
         ensures { TellsHandle index result self.now }
     {
         let handle = self.client.handle_at(index)?;
-        Some(Number::of(self.home, handle))
+        Some(CHandle::of(self.home, handle))
     }
 
     /// Hides each visible entry of the key, as the cache does: how many it hid.

@@ -40,7 +40,7 @@ pub enum Refusal {
     /// The client holds handles.
     HandlesOut,
     /// Clients of the cache are out.
-    Missing,
+    ClientsOut,
 }
 
 impl Refusal {
@@ -71,7 +71,7 @@ impl Refusal {
             Refusal::NoClient => 36,
             Refusal::OtherCache => 37,
             Refusal::HandlesOut => 38,
-            Refusal::Missing => 39,
+            Refusal::ClientsOut => 39,
         }
     }
 

@@ -12,9 +12,9 @@ use std::mem::size_of;
 // The sizes that C has.
 const _: () = prove!(size_of::<Key>() == 16);
 
-const _: () = prove!(size_of::<Number>() == 24);
+const _: () = prove!(size_of::<CHandle>() == 24);
 
-const _: () = prove!(size_of::<Setup>() == 48);
+const _: () = prove!(size_of::<CConfig>() == 48);
 
 const _: () = prove!(size_of::<Stats>() == 64);
 
@@ -57,7 +57,7 @@ impl Key {
 /// A handle's numbers, as C keeps them.
 #[derive(Clone, Copy, Debug, PartialEq, Eq)]
 #[repr(C)]
-pub struct Number {
+pub struct CHandle {
     pub index: usize,
     pub serial: u64,
     pub client: u32,
@@ -65,9 +65,9 @@ pub struct Number {
     pub cache: u32,
 }
 
-impl Number {
+impl CHandle {
     /// Those of a handle of the cache of this number.
-    pub(crate) fn of(cache: u32, handle: Handle) -> Number
+    pub(crate) fn of(cache: u32, handle: Handle) -> CHandle
         ensures { result ≡ number_of cache handle }
     {
         let Numbers {
@@ -75,7 +75,7 @@ impl Number {
             index,
             serial,
         } = handle.numbers();
-        Number {
+        CHandle {
             index,
             serial,
             client,
@@ -98,7 +98,7 @@ impl Number {
 /// How large a cache is, and how it behaves: the fields of the cache's configuration.
 #[derive(Clone, Copy, Debug, PartialEq, Eq)]
 #[repr(C)]
-pub struct Setup {
+pub struct CConfig {
     pub slots: u32,
     pub room: u32,
     pub clients: u32,
@@ -111,7 +111,7 @@ pub struct Setup {
     pub seed: u64,
 }
 
-impl Setup {
+impl CConfig {
     /// The cache's configuration of these numbers.
     pub(crate) fn config(&self) -> Config
         ensures { result ≡ config_of self.now }
@@ -235,7 +235,7 @@ impl Counts {
         }
     }
 
-    pub(crate) fn insert_pinned(&mut self, answer: Result<(Number, Inserted), InsertError>)
+    pub(crate) fn insert_pinned(&mut self, answer: Result<(CHandle, Inserted), InsertError>)
         ensures { self.new ≡ counted_pinned (Ok answer) self.old }
     {
         match answer {

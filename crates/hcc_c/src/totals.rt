@@ -7,7 +7,7 @@ ghost use Rattle.hcc_c.specs.Sessions.{IsHandle, IsNone, IsWhole};
 ghost use Rattle.hcc_c.specs.Shapes.{stats_of};
 
 use crate::session::Session;
-use crate::shapes::{Counts, Number, Stats};
+use crate::shapes::{CHandle, Counts, Stats};
 
 impl Session {
     /// What is charged in all shards.
@@ -85,7 +85,7 @@ impl Session {
     }
 
     /// Whether these are the numbers of a handle that it holds.
-    pub fn holds(&self, number: Number) -> bool
+    pub fn holds(&self, number: CHandle) -> bool
         ensures held { result ≡ true → (handle : _) × IsHandle self.now number handle }
         ensures yes { (handle : _) → IsHandle self.now number handle → result ≡ true }
         ensures no { IsNone self.now number → result ≡ false }

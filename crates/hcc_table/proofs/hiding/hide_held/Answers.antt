@@ -48,7 +48,7 @@ returns-in-None-clause-view g c =
     (searched_then (view c.hide-found.new.seat) u (view c.give_at.new.seat)
     c.in-None.ensures.lost.searched
     (given_at c.args.slot c.args.name c.give_at.result u (view c.give_at.new.seat)
-      c.give_at.ensures.view))
+    c.give_at.ensures.view))
 
 pub returns-in-Some-clause-view : goal.returns-in-Some-clause-view
 returns-in-Some-clause-view g c =

@@ -29,7 +29,7 @@ give_at-requires-clause-holds g c =
     (looked_at c.args.slot c.look_at-word.result _ _ c.look_at-word.ensures.view)
     c.reach-found.ensures.view (sym c.if-not-has_entry-2.ensures) c.requires.fresh
     (view c.read_at-charge.new.seat) (read_there c.args.name CHARGE _ _
-      c.read_at-charge.ensures.view)
+    c.read_at-charge.ensures.view)
 
 pub returns-then-refs-eq0-2-clause-view : goal.returns-then-refs-eq0-2-clause-view
 returns-then-refs-eq0-2-clause-view g c =
@@ -126,7 +126,7 @@ returns-then-refs-eq0-2-clause-counts g c = record {
     uncounted = λ _. refl;
     adds = adds_then c.reach-found.new.seat c.read_at-charge.new.seat c.give_at.new.seat
         (adds_one _ c.reach-found.new.seat c.read_at-charge.new.seat
-          c.read_at-charge.ensures.step.step)
+        c.read_at-charge.ensures.step.step)
         (adds_one _ c.read_at-charge.new.seat c.give_at.new.seat c.give_at.ensures.step.step);
   };
 }
@@ -169,7 +169,7 @@ returns-clause-counts g c = record {
         (λ none. c.if-refs-eq0-2.false (c.refs-2.ensures.field ∙ none))) none;
     adds = adds_then c.reach-found.new.seat c.read_at-charge.new.seat c.give_at.new.seat
         (adds_one _ c.reach-found.new.seat c.read_at-charge.new.seat
-          c.read_at-charge.ensures.step.step)
+        c.read_at-charge.ensures.step.step)
         (adds_one _ c.read_at-charge.new.seat c.give_at.new.seat c.give_at.ensures.step.step);
   };
 }

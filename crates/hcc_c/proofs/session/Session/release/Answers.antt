@@ -5,13 +5,13 @@ use Rattle.hcc_cache.specs.Calls.{GivesUp, Releases}
 use Rattle.hcc_cache.specs.Clients.{Holds}
 use Rattle.hcc_cache.specs.Handles.{handle_of}
 use Rattle.hcc_c.specs.declared.session.Session.{Session}
-use Rattle.hcc_c.specs.declared.shapes.Number.{Number}
+use Rattle.hcc_c.specs.declared.shapes.CHandle.{CHandle}
 use Rattle.hcc_c.specs.Sessions.{IsHandle}
 use Rattle.hcc_c.specs.Shapes.{numbers_in}
 use Rattle.hcc_c.proofs.session.Session.release.Goals as goal
 
 -- What the cache says of a release by numbers, it says of the handle that they are.
-given : (old new : Session) (number : Number) (useful erase : Bool) (answer : Option Bool)
+given : (old new : Session) (number : CHandle) (useful erase : Bool) (answer : Option Bool)
     → number.cache ≡ old.home
     → IfSome answer (λ _. Holds old.client (handle_of (numbers_in number)))
     → IfSome answer (λ freed. Releases (arc_value old.cache) (handle_of (numbers_in number)) erase
