@@ -1,9 +1,10 @@
 """The record of verdicts, edits.txt: a line for each edit, in the order of their names.
 
-    CRATE/EDIT DIGEST COMMIT
+    CRATE/EDIT DIGEST COMMIT FUNCTION:CLAUSE..
 
-says that the prover refused the edit at that commit, where what its verdict rests on had this digest.
-An edit in must-fail/ has the words 'rt ci' in their place, which tries it."""
+says that the prover refused the edit at that commit, where what its verdict rests on had this digest,
+and which clauses of which functions weren't proved with it (of a goal that is of no clause, its name).
+An edit in must-fail/ has the words 'rt ci' in place of digest and commit, which tries it."""
 import hashlib
 
 FILE = "edits.txt"
@@ -12,7 +13,7 @@ OF_GATE = ("rt", "ci")
 
 
 def read():
-    """The record's lines: edit to digest and commit; and its head's line on the last run of all."""
+    """The record's lines: edit to the words behind it; and its head's line on the last run of all."""
     found, last = {}, ""
     try:
         with open(FILE, encoding="utf-8") as it:
@@ -43,6 +44,12 @@ def faults(found, edits):
 def is_believed(found, edit):
     """Whether the record has the edit's verdict, for all that it rests on now."""
     return found.get(edit.key, ("",))[0] == edit.digest
+
+
+def line_of(edit, commit):
+    """The words behind an edit that was tried and refused."""
+    first = OF_GATE if edit.is_of_gate else (edit.digest, commit)
+    return (*first, *sorted(f"{of}:{goal}" for of, goal in edit.goals))
 
 
 def is_drawn(edit, commit):

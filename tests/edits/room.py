@@ -108,10 +108,11 @@ def judged_alone(symbol, line, ended, notes, lines):
     return ("names", errors[0]) if errors else ("doubt", line)
 
 
-def goals_in(said, symbols):
-    """The goals of these functions that a check left unproved: of each its function and its clause, or
-    what else had to hold there."""
+def goals_in(said, symbols=None):
+    """The goals of these functions, or of all, that a check left unproved: of each its function and its
+    clause, or what else had to hold there."""
     found, notes = set(), []
+    symbols = symbols or [it.partition("::")[2] for it in re.findall(r"^fn (\S+): ", said, re.M)]
     for line in said.split("\n"):
         notes += NAMED.findall(line) if GOAL.match(line) else []
         at = FUNCTION.match(line)
@@ -129,7 +130,7 @@ def goals_in(said, symbols):
 def clause_of(goal):
     """What a goal's name says that it is of: a clause by its name, else the goal without its path."""
     clause = goal.rpartition("-clause-")
-    return f"clause {clause[2]}" if clause[1] else re.sub(r"-(?:then|else)-.*", "", goal)
+    return clause[2] if clause[1] else re.sub(r"-(?:then|else)-.*", "", goal)
 
 
 def judged_whole(status, said, changed):

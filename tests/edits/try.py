@@ -1,7 +1,7 @@
 #!/usr/bin/env python3
 """Tries the edits of crates/NAME/edits/, which the prover has to refuse, and fails where it doesn't.
 
-usage: tests/edits/try.py [--all] [--match WORD] [--lanes N] [--log FILE] [--goals FILE] [CRATE..]
+usage: tests/edits/try.py [--all] [--match WORD] [--lanes N] [--log FILE] [CRATE..]
        tests/edits/try.py --gate LOG [--all] [--lanes N] [--log FILE]
        tests/edits/try.py --list
 
@@ -14,11 +14,8 @@ edits are tried once the libraries below it are proved or kept, and once rt ci h
 lanes as there are processors. Then it also tries one of ten that the record has, drawn by the
 commit, and fails where an edit has no line there or a line no edit.
 
---list says how many edits each crate has, and of how many the verdict isn't in the record. --goals
-adds a line of JSON to a file for each edit that is tried in batches: its verdict, and which clauses
-of which functions weren't proved with it."""
+--list says how many edits each crate has, and of how many the verdict isn't in the record."""
 import argparse
-import json
 import os
 import shutil
 import subprocess
@@ -159,8 +156,10 @@ class Record:
     def keep(self, tried):
         """Writes the record with what was refused of these edits, and without what wasn't."""
         for it in tried:
-            self.found[it.key] = (it.digest, self.at) if it.verdict == "refused" else None
-        self.found.update({it.key: record.OF_GATE for it in self.edits if it.is_of_gate})
+            self.found[it.key] = record.line_of(it, self.at) if it.verdict == "refused" else None
+        for it in self.edits:
+            if it.is_of_gate and self.found.get(it.key, ())[:2] != record.OF_GATE:
+                self.found[it.key] = record.OF_GATE
         keys = {it.key for it in self.edits}
         lines = {it: line for it, line in self.found.items() if line and it in keys}
         record.write(lines, self.last)
@@ -189,7 +188,6 @@ def arguments():
     parse.add_argument("--match", default="")
     parse.add_argument("--lanes", type=int, default=os.cpu_count())
     parse.add_argument("--log", default=os.devnull)
-    parse.add_argument("--goals", default=os.devnull)
     parse.add_argument("crates", nargs="*")
     return parse.parse_args()
 
@@ -210,13 +208,8 @@ def main():
             with printing:
                 print(text, file=to, flush=True)
 
-        def keep(part):
-            kept.keep(part)
-            with open(given.goals, "a", encoding="utf-8") as goals:
-                goals.writelines(json.dumps([it.key, it.verdict, sorted(it.goals)]) + "\n" for it in part)
-
         libraries, kept = Libraries(all_crates, folder, given.gate), Record(edits)
-        lanes = Lanes(rests, tried, libraries, keep, say, lambda text: say(text, log))
+        lanes = Lanes(rests, tried, libraries, kept.keep, say, lambda text: say(text, log))
         lanes.run(given.lanes)
     kept.keep([])
     failed = [f"{it.key}: {it.verdict}: {it.said[:300]}" for it in tried if it.verdict != "refused"]

@@ -81,6 +81,7 @@ class Trying:
         for it in self.wholes:
             status, said, took = self.room.check(it.made(), log=self.log)
             it.verdict, it.said = judged_whole(status, said, it.texts)
+            it.goals = goals_in(said)
             self.say(f"{it.key}: by a check of the whole crate: {it.verdict}, {took:.0f} s")
         self.control(many)
         for it in self.edits:
