@@ -30,17 +30,14 @@ typedef struct worker {
 /* Reads a block: from the cache where it has it, and else from where blocks come from. */
 static void read_block(worker *it, uint64_t number, unsigned char *block) {
     ferretgold_key key = {0, number};
-    ferretgold_handle handle;
     size_t length = 0;
-    ferretgold_status status = ferretgold_lookup(it->client, &key, &handle);
+    ferretgold_status status = ferretgold_get(it->client, &key, block, BLOCK, true, &length);
     if (status == FERRETGOLD_OK) {
-        must(ferretgold_read_value(it->client, handle, block, BLOCK, &length), "read");
-        must(ferretgold_release(it->client, handle, true, false, NULL), "release");
         it->hits += 1;
         return;
     }
     if (status != FERRETGOLD_MISS) {
-        must(status, "look-up");
+        must(status, "get");
     }
     load(number, block);
     /* A block that is refused or dropped is loaded again next time. */
