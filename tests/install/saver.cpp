@@ -15,7 +15,7 @@ int main() {
     char value[4];
     std::size_t length = 0;
     const ferretgold::cache warm = ferretgold::load(config, file);
-    if (warm.open_client().read({7, 1}, value, sizeof value, &length) != FERRETGOLD_OK) {
+    if (warm.open_client().get({7, 1}, value, sizeof value, &length) != FERRETGOLD_OK) {
         return 2;
     }
     std::printf("%.*s\n", static_cast<int>(length), value);
