@@ -49,8 +49,8 @@ extern "C" {
  * 0, and `inserted` may be null.
  *
  * PLACED: all its pieces were placed, and there when the last was. DROPPED: one wasn't, in two
- * tries, or was evicted for another, or erased by a thread that put under this key at once; then all
- * are erased, and none of another value. Or these very bytes are there already: they stay, with
+ * tries, or was evicted for another, or erased by a thread that put under this key at once; then
+ * nobody finds this value any more, and none of another value is erased. Or these very bytes are there already: they stay, with
  * their charge. Otherwise what was there is erased, however the call ends, unless it refuses before
  * the first step. Of two threads that put under one key at once the one's value is there then, or
  * the other's. Uses a serial for each try of a piece.
@@ -74,8 +74,8 @@ ferretgold_status ferretgold_put_large(ferretgold_client *client, const ferretgo
  * length, and the rest of the buffer stays. `buffer` may be null if `capacity` is 0, and `length`
  * may be null. With `useful` it is a use of each piece.
  *
- * Costs what ferretgold_get does for each piece, and a copy of the first. If a piece is lost, also
- * the first one's reading again, and an erasure for each.
+ * Costs what ferretgold_get does for each piece, also if it refuses, and a copy of the first. If a
+ * piece is lost, also the first one's reading again, and an erasure for each.
  *
  * MISS: there is no such value, or a piece of it is lost, or it was just replaced. Then the
  * buffer's front, as long as the value was, may have any bytes. Refuses TOO_SHORT: `length` gets

@@ -305,7 +305,8 @@ static bool are_there(const large_value *it, size_t count) {
 }
 
 /* Inserts all pieces, the first one last. What isn't whole then is erased, and nothing of a value that
- * another thread put meanwhile. */
+ * another thread put meanwhile: its first piece stays if another's is found in its place, and isn't
+ * found without the others. */
 static ferretgold_status place_all(const large_value *it, const uint8_t *value, uint32_t charge,
                                    ferretgold_priority priority) {
     const uint32_t count = (uint32_t)pieces(it, it->head.length);
@@ -353,10 +354,13 @@ ferretgold_status ferretgold_put_large(ferretgold_client *client, const ferretgo
 /* ---- Getting --------------------------------------------------------------------------------- */
 
 /* Reads all pieces but the first to their places, the last one first: a piece's head lies on bytes
- * of the one before it, which come next. Whether all are of one insertion. */
-static bool read_others(const large_value *it, bool useful, uint8_t *buffer) {
+ * of the one before it, which come next. Without a buffer each goes to `piece`. Whether all are of one
+ * insertion. */
+static bool read_others(const large_value *it, bool useful, uint8_t *buffer,
+                        uint8_t piece[MOST_PIECE]) {
     for (uint32_t number = (uint32_t)pieces(it, it->head.length); number-- > 1;) {
-        if (!read_other(it, number, useful, buffer + number * full(it) - HEAD)) {
+        uint8_t *at = buffer != NULL ? buffer + number * full(it) - HEAD : piece;
+        if (!read_other(it, number, useful, at)) {
             return false;
         }
     }
@@ -371,14 +375,16 @@ static ferretgold_status get(large_value *it, uint8_t *buffer, size_t capacity, 
     if (status != FERRETGOLD_OK) {
         return status;
     }
-    if (it->head.length <= capacity && !read_others(it, useful, buffer)) {
+    /* A first piece alone is no value: it may be what is left of one that couldn't be put. */
+    const bool fits = it->head.length <= capacity;
+    if (!read_others(it, useful && fits, fits ? buffer : NULL, piece)) {
         erase_rest(it);
         return FERRETGOLD_MISS;
     }
     if (length != NULL) {
         *length = it->head.length;
     }
-    if (it->head.length > capacity) {
+    if (!fits) {
         return FERRETGOLD_TOO_SHORT;
     }
     if (it->head.length != 0) {
