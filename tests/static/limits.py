@@ -34,9 +34,10 @@ PLACES = ("include/*.h", "include/*.hpp", "src/*.c", "rust/src/*.rs", "crates/hc
 
 
 def value_of(text):
-    """A number as code or a text has it."""
-    text = re.sub(r"(?<=\d)[_,]|(?<=\d)(?:u|U|L)+\d*\b|UINT64_C|as \w+", "", text.strip())
-    return eval(text.replace("^", "**"), {})  # digits and operators of the repository's own
+    """A number as code or a text has it: 65_536, 65,536, 0x40, 1 << 29 or 2^54."""
+    words = re.findall(r"0x[\da-f]+|\d[\d_,]*|<<|\^", text.replace("UINT64_C", ""))
+    first, *rest = (int(re.sub("[_,]", "", it), 0) for it in words if it[0].isdigit())
+    return first << rest[0] if "<<" in words else first ** rest[0] if "^" in words else first
 
 
 def limits_of_crates():
@@ -58,7 +59,7 @@ def limits():
         for name, of in names.items():
             found = re.search(rf"\b{name}\b(?:: \w+)?(?: =)? *([\w ()<]*\d[\w ()<]*)", text)
             if not found or value_of(found[1]) != has[of]:
-                yield f"{file}: {name} is {found and found[1]}, and the crates have {has[of]}"
+                yield f"{file}: {name} is {found and found[1].strip()}, and the crates have {has[of]}"
     seen = set()
     for file in tracked(*PLACES):
         text = re.sub(r"\n *(?:\*|///?)? *", " ", read(file))
