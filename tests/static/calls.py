@@ -1,5 +1,6 @@
 """Checks of who calls what: no call of a running cache waits or allocates, and no public function is
-there for nobody. They go by names, so they find too much rather than too little.
+there for nobody. They go by names, so a call stands for all that it may mean; a function that is handed
+on by its name, and not called there, they don't see.
 
 A function of Rattle that may wait has to be given that right by its caller, through a bound `Wait` of
 its own signature, its impl, its type or a trait: so where no code names it, no public signature does.
@@ -10,8 +11,9 @@ import re
 import shutil
 import tempfile
 
-from functions import Code, code_of
 from crates import crates
+from functions import Code, code_of
+from texts import read
 
 # What users call: these crates and all below them are looked at.
 TOPS = ("hcc_cache", "hcc_block", "hcc_c")
@@ -80,11 +82,6 @@ def below(listed, tops=TOPS):
 def sources(listed):
     """The files of code of the crates that users call and of those below, without their tests."""
     return [f"crates/{name}/{path}" for name in below(listed) for path in listed[name].files(".rt")]
-
-
-def read(path):
-    with open(path, encoding="utf-8") as it:
-        return it.read()
 
 
 def no_lock():

@@ -62,6 +62,6 @@ def is_meant(function, owner, dot, _):
         return bool(function.owner)
     if not owner:
         return not function.owner
-    if owner == "Self":
+    if owner == "Self" or len(owner) == 1:  # a type parameter
         return bool(function.owner)
     return owner == function.owner if owner[0].isupper() else not function.owner

@@ -24,14 +24,10 @@ sys.path[:0] = [HERE, os.path.join(HERE, "../edits")]
 from crates import crates
 from page import Source, listed, quoted
 from rows import faults_of
+from texts import read
 
 FRONT, PAGE, README = "docs/guarantees.front.md", "docs/GUARANTEES.md", "README.md"
 SHOWN = 40  # lines of a difference
-
-
-def read(path):
-    with open(path, encoding="utf-8") as it:
-        return it.read()
 
 
 def differences(page):
