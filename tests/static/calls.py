@@ -108,7 +108,7 @@ def no_allocation():
                 ways.append(at.label)
                 at = way[at]
             yield f"crates/{caller.crate}/{caller.path}: {found[0]} by {' < '.join(ways)}"
-        for it in code.called_by(caller, listed):
+        for it in code.called_by(caller):
             if it not in way:
                 way[it] = caller
                 due.append(it)

@@ -1,7 +1,7 @@
 """Checks of numbers that the crates have and texts repeat: limits, and bounds on atomic steps."""
 import re
 
-from contracts import functions_of
+from functions import functions_of
 from crates import crates
 from texts import read, tracked
 

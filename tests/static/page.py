@@ -5,7 +5,7 @@ import os
 import re
 import textwrap
 
-from contracts import Exports, functions_of
+from functions import Exports, functions_of
 from definitions import definitions_in
 
 # What users call first; what it stands on; then the programs and what they stand on.
