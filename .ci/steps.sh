@@ -1,13 +1,12 @@
 # What .ci/run calls: steps in turn, steps beside others, rt ci with a watch, and the table at the end.
 # Sourced at the top of the repository, with the words of .ci/run.
-all= anew=
-for word in "$@"; do
-    case $word in
-        --anew) anew=--anew ;;
-        --all) all=--all anew=--anew ;;
-        *) echo "usage: .ci/run [--anew] [--all]"; exit 2 ;;
-    esac
-done
+anew=
+if [[ $* == --anew ]]; then
+    anew=--anew
+elif [[ $# -gt 0 ]]; then
+    echo "usage: .ci/run [--anew]"
+    exit 2
+fi
 began=$SECONDS
 table=()
 failed=()
@@ -47,13 +46,13 @@ lanes() {
     echo $((processors < memory ? processors : memory > 1 ? memory : 1))
 }
 
-# Edits are tried beside rt ci and give way to it: in half as many lanes, or where all are tried in as
-# many.
-jobs=$(lanes)
-few=$(((jobs + 1) / 2))
-if [[ $all ]]; then
-    jobs=$((few + 1))
-    few=$jobs
+# Edits are tried beside rt ci and give way to it: each in half of the lanes and one more.
+jobs=$(($(lanes) / 2 + 1))
+
+# On a small machine the edits have 165 minutes, and those that began ten minutes before end in time.
+small=
+if [[ $(nproc) -lt 4 || $(awk '/^MemAvailable:/ { print int($2 / 1000000) }' /proc/meminfo) -lt 16 ]]; then
+    small="--until 9300"
 fi
 
 # Begins a step that goes on beside others and gives way to them, once rt ci has said these words of a

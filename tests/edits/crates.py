@@ -67,13 +67,6 @@ def crates():
     return {it.name: it for it in sorted(found, key=lambda it: len(it.below))}
 
 
-def logic():
-    """The logic by which the kit proves, which rt version prints behind the kit's name. Kits of one
-    logic prove the same; a kit's name is that of its programs as well."""
-    with open(f"{KIT}/KIT-ID", encoding="utf-8") as it:
-        return it.read().strip().partition(" ")[2]
-
-
 FUNCTION = re.compile(
     r"^(\s*)(?:pub(?:\([^)]*\))? )?(?:final |const |unsafe |extern \"C\" )*fn (\w+)"
 )

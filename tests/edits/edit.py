@@ -9,9 +9,9 @@ import glob
 import os
 import re
 
-from crates import FOLDERS, FUNCTION, owner_in, symbol_of
+from crates import FOLDERS, symbol_of
+from functions import BLOCK, body_at
 
-BLOCK = re.compile(r"(unsafe )?impl\b|(pub )?trait ")
 IMPORT = re.compile(r"\s*(?:pub )?(?:ghost )?use ")
 ADDED = re.compile(r"(?:use [^;]*; )?fn \w+\(")
 GHOST = re.compile(r"\s+ghost \w+ = ")
@@ -42,16 +42,6 @@ def read_edits(file):
     return found
 
 
-def written(pairs):
-    """An edit's changes as lines."""
-    lines, last = [], ""
-    for path, old, new in pairs:
-        lines += [f"file: {path}"] if path != last else []
-        lines += [f"old: {old}", f"new: {new}"]
-        last = path
-    return "".join(f"{it}\n" for it in lines)
-
-
 def applied(pairs, texts):
     """The texts with these changes, or None where an old text isn't in its file once."""
     texts = dict(texts)
@@ -60,32 +50,6 @@ def applied(pairs, texts):
             return None
         texts[path] = texts[path].replace(old, new)
     return texts
-
-
-def body_at(text, at):
-    """The function in whose body this place is, as its type and its name, or None."""
-    lines = text.split("\n")
-    row = text.count("\n", 0, at)
-    for top in range(row, -1, -1):
-        found = FUNCTION.match(lines[top])
-        if not found:
-            continue
-        indent = found[1]
-        end = next((n for n in range(top, len(lines)) if lines[n] == f"{indent}}}"), None)
-        if end is None or end < row:
-            continue
-        # The body opens behind the clauses: on the function's line, or on one of its own.
-        opens = top
-        if not lines[top].endswith("{"):
-            opens = next((n for n in range(top, end) if lines[n] == f"{indent}{{"), end)
-        if row <= opens:
-            return None
-        if not indent:
-            return "", found[2]
-        head = next((lines[n] for n in range(top, -1, -1) if BLOCK.match(lines[n])), "")
-        owner = owner_in(head)
-        return (owner, found[2]) if owner else None
-    return None
 
 
 def helpers_at(text, at):
@@ -103,7 +67,7 @@ class Edit:
     def __init__(self, crate, name, pairs, is_of_gate):
         self.crate, self.name, self.pairs, self.is_of_gate = crate.name, name, pairs, is_of_gate
         self.key = f"{crate.name}/{self.name}"
-        self.symbols, self.digest = [], ""
+        self.symbols = []
         self.verdict, self.said, self.goals = None, "", set()
         self.texts = {}
         for path in {it[0] for it in self.pairs}:

@@ -2,7 +2,6 @@
 import os
 import re
 
-import record
 from crates import crates
 from edit import edits_of
 
@@ -19,9 +18,9 @@ def fault_of(edit, crate):
 
 def edits():
     """Edits that aren't named so, that change no code or have a name that another one has; whose old text
-    isn't in its file once; and what the record of verdicts lacks, or has too much. rt ci tries a crate's
-    edits in the order of their names, each over what is proved by then: so edits of one function stand
-    side by side, and it is proved again once for all of them."""
+    isn't in its file once. rt ci tries a crate's edits in the order of their names, each over what is
+    proved by then: so edits of one function stand side by side, and it is proved again once for all of
+    them."""
     found = [(it, crate) for crate in crates().values() for it in edits_of(crate)]
     keys = [it.key for it, _ in found]
     for it, crate in found:
@@ -30,4 +29,3 @@ def edits():
             yield f"{it.key}: {fault}"
         if keys.count(it.key) > 1:
             yield f"{it.key}: stands in must-fail/ and in edits/"
-    yield from record.faults(record.read()[0], [it for it, _ in found])

@@ -1,6 +1,6 @@
 #!/usr/bin/env python3
-"""Tests tests/edits/try.py on the lowest crate: which edits it refuses, what it says of those that show
-nothing, and what the record is believed for. Fails where it says anything else."""
+"""Tests tests/edits/try.py on the lowest crate: which edits it refuses, and what it says of those that
+show nothing. Fails where it says anything else."""
 import os
 import re
 import shutil
@@ -10,12 +10,6 @@ import tempfile
 
 sys.dont_write_bytecode = True
 HERE = os.path.dirname(os.path.realpath(__file__))
-sys.path.insert(0, HERE)
-import record
-from crates import crates
-from edit import edits_of
-from rests import Rests
-
 LEFT = "let left = (countdown - 1).min(GREATEST_CLOCKED);"
 # Name, file, old text, new text, verdict.
 EDITS = [
@@ -53,69 +47,37 @@ def tried(*words):
     return ran.returncode, ran.stdout + ran.stderr
 
 
-def gate():
-    """The script as the gate runs it, behind a log in which nothing is proved: nothing stands below."""
-    return tried("--gate", "log")
-
-
 def verdicts():
     for name, file, old, new, _ in EDITS:
         put(name, file, old, new)
     status, said = tried()
     judge("a bad edit fails it", status == 1, said)
     for name, _, _, _, verdict in EDITS:
-        found = re.search(rf"^hcc_word/{name}: ((?:BAD|NOT) \w+)", said, re.M)
-        judge(f"{name}: {verdict}", (found[1] if found else "refused") == verdict, said)
+        found = re.search(rf"^hcc_word/{name}: (refused|BAD EDIT|NOT REFUSED)", said, re.M)
+        judge(f"{name}: {verdict}", found and found[1] == verdict, said)
     judge("names alone are told", "only a proof file names what it took away" in said, said)
-    judge("what is refused has a line, and nothing else", [*record.read()[0]] == [f"hcc_word/{EDITS[0][0]}"])
-    os.remove(record.FILE)
+    judge("what an edit breaks is told", f"{EDITS[0][0]}: refused: changes::clocked:returns\n" in said, said)
     for name, *_ in EDITS[1:]:
         drop(name)
 
 
-def lines():
-    status, said = gate()
-    judge("an edit without a line fails the gate", status == 1 and "no line in" in said, said)
-    judge("and has one then", len(record.read()[0]) == 1, said)
-    status, said = tried()
-    judge("and believed", status == 0 and "edits: 0 tried" in said, said)
-    with open(record.FILE, "a", encoding="utf-8") as it:
-        it.write("hcc_word/changes.clocked.went 0 0\n")
-    status, said = gate()
-    judge("a line without an edit fails the gate", status == 1 and "and no edit" in said, said)
-    tried()
-    judge("and goes", len(record.read()[0]) == 1)
-
-
-def forged():
-    """A line that says what isn't so fails the gate once it is drawn: with no commit here, by its
-    name."""
-    class Named:
-        def __init__(self, number):
-            self.key = f"hcc_word/changes.clocked.same_{number}"
-
-    number = next(it for it in range(1000) if record.is_drawn(Named(it), ""))
-    name = Named(number).key.partition("/")[2]
-    put(name, "changes", "countdown == 0 {", "countdown < 1 {")
-    all_crates, (found, last) = crates(), record.read()
-    rests = Rests(all_crates)
-    for it in edits_of(all_crates["hcc_word"]):
-        found[it.key] = (rests.digest(it), "forged")
-    record.write(found, last)
-    status, said = gate()
-    judge("a forged line fails the gate", status == 1 and f"{name}: NOT REFUSED" in said, said)
-    drop(name)
+def gate():
+    """As the gate runs it, behind a log in which nothing is proved: nothing stands below."""
+    status, said = tried("--gate", "log")
+    judge("what is refused passes the gate", status == 0 and "edits: 1 of 1 tried" in said, said)
+    status, said = tried("--gate", "log", "--until", "-1")
+    judge("what there is no time for is told", status == 0 and f"{EDITS[0][0]}: not tried\n" in said, said)
 
 
 def changed():
-    """A function whose contract says less now: its edit is tried again."""
+    """A function whose contract says less: its edit is proved."""
     path = "crates/hcc_word/src/changes.rt"
     with open(path, encoding="utf-8") as it:
         text = it.read()
     with open(path, "w", encoding="utf-8") as it:
         it.write(text.replace(ENSURES, ""))
-    status, said = gate()
-    judge("a changed function's edit is tried", status == 1 and "drops_one: NOT REFUSED" in said, said)
+    status, said = tried("--gate", "log")
+    judge("a weak contract fails the gate", status == 1 and "drops_one: NOT REFUSED" in said, said)
 
 
 def main():
@@ -128,7 +90,7 @@ def main():
         for name, text in (("crates.txt", "hcc_word:\n"), ("log", "")):
             with open(name, "w", encoding="utf-8") as it:
                 it.write(text)
-        for part in (verdicts, lines, forged, changed):
+        for part in (verdicts, gate, changed):
             part()
     print(f"edits, tried: {failed} failed")
     return 1 if failed else 0

@@ -1,21 +1,18 @@
 #!/usr/bin/env python3
 """Tries the edits of crates/NAME/edits/, which the prover has to refuse, and fails where it doesn't.
 
-usage: tests/edits/try.py [--all] [--match WORD] [--lanes N] [--log FILE] [CRATE..]
-       tests/edits/try.py --gate LOG [--all] [--lanes N] [--log FILE]
-       tests/edits/try.py --list
+usage: tests/edits/try.py [--match WORD] [--lanes N] [--log FILE] [CRATE..]
+       tests/edits/try.py --gate LOG [--until SECONDS] [--lanes N] [--log FILE]
 
-It tries each edit whose verdict isn't in the record, edits.txt, for all that it rests on now, and
-with --all every one, and writes the record, part by part, of those that were refused. It wants the
-libraries below as rt check, rt lib or rt ci left them in out/.
+It wants the libraries below as rt check, rt lib or rt ci left them in out/, and prints of each edit
+what it breaks: functions, each with a clause or what else had to hold there.
 
 With --gate it runs beside rt ci, of which LOG has the output, and 'rt ci ended' behind it: a crate's
 edits are tried once the libraries below it are proved or kept, and once rt ci has ended in as many
-lanes as there are processors. Then it also tries one of ten that the record has, drawn by the
-commit, and fails where an edit has no line there or a line no edit.
-
---list says how many edits each crate has, and of how many the verdict isn't in the record."""
+lanes as there are processors. With --until they are tried in an order that the commit draws, and none
+are begun once so many seconds have passed; it prints which weren't tried."""
 import argparse
+import hashlib
 import os
 import shutil
 import subprocess
@@ -25,27 +22,29 @@ import threading
 import time
 
 sys.dont_write_bytecode = True
-sys.path.insert(0, os.path.dirname(os.path.realpath(__file__)))
-import record
+HERE = os.path.dirname(os.path.realpath(__file__))
+sys.path[:0] = [HERE, os.path.join(HERE, "../static")]
 from crates import crates
 from edit import edits_of
-from rests import Rests
+from functions import Code
 from trying import try_edits
 
 PAUSE = 2  # seconds between two looks at a log
 PART = 60  # the most edits of a crate that a lane takes at once
+DRAWN_PART = 20  # the same where not all may be tried
 
 
-def parts(edits):
+def parts(edits, most):
     """A crate's edits in equal parts, each with some of each function's: they come in its order."""
-    many = -(-len(edits) // PART)
+    many = -(-len(edits) // most)
     return [edits[at::many] for at in range(many)]
 
 
-def commit():
-    """The commit that is checked out."""
+def draw():
+    """Gives edits numbers that the commit draws."""
     how = {"capture_output": True, "text": True, "check": False}
-    return subprocess.run(["git", "rev-parse", "--short=10", "HEAD"], **how).stdout.strip()
+    commit = subprocess.run(["git", "rev-parse", "HEAD"], **how).stdout
+    return lambda key: hashlib.sha256(f"{commit}{key}".encode()).digest()
 
 
 class Libraries:
@@ -86,19 +85,25 @@ class Libraries:
 
 class Lanes:
     """Parts of crates' edits that are tried side by side, first those that take longest: an edit takes
-    the longer the more libraries its crate stands on."""
+    the longer the more libraries its crate stands on. With an end they come as drawn, and no part
+    begins behind it."""
 
-    def __init__(self, rests, edits, libraries, keep, say, log):
-        self.rests, self.libraries, self.keep, self.say, self.log = rests, libraries, keep, say, log
-        self.crates = rests.crates
-        of = [[it for it in edits if it.crate == name] for name in self.crates]
-        weight = lambda part: len(part) * (1 + len(self.crates[part[0].crate].below))
-        self.left = sorted((part for it in of for part in parts(it)), key=weight, reverse=True)
+    def __init__(self, crates, edits, libraries, end, say, log):
+        self.crates, self.libraries, self.end, self.say, self.log = crates, libraries, end, say, log
+        self.code, drawn = Code(crates, crates), draw()
+        of = [[it for it in edits if it.crate == name] for name in crates]
+        if end:
+            of = [sorted(it, key=lambda edit: drawn(edit.key)) for it in of]
+        self.left = [part for it in of for part in parts(it, DRAWN_PART if end else PART)]
+        weight = lambda part: -len(part) * (1 + len(crates[part[0].crate].below))
+        self.left.sort(key=lambda part: drawn(part[0].key) if end else weight(part))
         self.taking = threading.Lock()
 
     def take(self):
         """The next part whose crate is ready; 'later' while there may be one; None at the end."""
         with self.taking:
+            if self.end and time.monotonic() > self.end:
+                return None
             for part in list(self.left):
                 lacking = self.libraries.lacking(self.crates[part[0].crate])
                 if lacking == "later":
@@ -119,10 +124,8 @@ class Lanes:
                 time.sleep(PAUSE)
                 continue
             crate, folder = self.crates[part[0].crate], self.libraries.folder
-            reach, is_proved = self.rests.reach(crate.name), bool(self.libraries.log)
+            reach, is_proved = self.code.reach(crate.name), bool(self.libraries.log)
             try_edits(crate, part, reach, folder, is_proved, self.say, self.log)
-            with self.taking:
-                self.keep(part)
 
     def run(self, lanes):
         many = range(max(lanes, os.cpu_count() if self.libraries.log else 0))
@@ -133,58 +136,10 @@ class Lanes:
             it.join()
 
 
-def chosen(given, found, edits):
-    """The edits that are to be tried."""
-    at = commit()
-    wanted = []
-    for it in edits:
-        is_asked = not given.crates or it.crate in given.crates
-        is_new = given.all or not record.is_believed(found, it)
-        is_drawn = given.gate and record.is_drawn(it, at)
-        if is_asked and given.match in it.name and not it.is_of_gate and (is_new or is_drawn):
-            wanted.append(it)
-    return wanted
-
-
-class Record:
-    """The record as it stands after what was tried so far."""
-
-    def __init__(self, edits):
-        self.edits, self.at = edits, commit()
-        self.found, self.last = record.read()
-
-    def keep(self, tried):
-        """Writes the record with what was refused of these edits, and without what wasn't."""
-        for it in tried:
-            self.found[it.key] = record.line_of(it, self.at) if it.verdict == "refused" else None
-        for it in self.edits:
-            if it.is_of_gate and self.found.get(it.key, ())[:2] != record.OF_GATE:
-                self.found[it.key] = record.OF_GATE
-        keys = {it.key for it in self.edits}
-        lines = {it: line for it, line in self.found.items() if line and it in keys}
-        record.write(lines, self.last)
-
-    def keep_all(self, minutes):
-        """Says at the record's head that all were tried."""
-        self.last = f"# All were tried at {self.at}, in {minutes} minutes on {os.cpu_count()} processors.\n"
-        self.keep([])
-
-
-def listed(crates, found, edits):
-    """Says how many edits each crate has."""
-    for name in crates:
-        of = [it for it in edits if it.crate == name]
-        by_gate = sum(it.is_of_gate for it in of)
-        new = sum(not it.is_of_gate and not record.is_believed(found, it) for it in of)
-        print(f"{name}: {len(of)} edits, {by_gate} tried by rt ci, {new} not in {record.FILE}")
-    print(f"all: {len(edits)} edits")
-
-
 def arguments():
     parse = argparse.ArgumentParser(usage=__doc__)
-    parse.add_argument("--all", action="store_true")
     parse.add_argument("--gate", default="")
-    parse.add_argument("--list", action="store_true")
+    parse.add_argument("--until", type=int, default=0)
     parse.add_argument("--match", default="")
     parse.add_argument("--lanes", type=int, default=os.cpu_count())
     parse.add_argument("--log", default=os.devnull)
@@ -194,32 +149,25 @@ def arguments():
 
 def main():
     given, all_crates, began = arguments(), crates(), time.monotonic()
-    edits = [it for crate in all_crates.values() for it in edits_of(crate)]
-    rests = Rests(all_crates)
-    for it in edits:
-        it.digest = rests.digest(it)
-    found, _ = record.read()
-    if given.list:
-        return listed(all_crates, found, edits)
-    tried = chosen(given, found, edits)
+    named = [it for it in all_crates.values() if not given.crates or it.name in given.crates]
+    edits = [it for crate in named for it in edits_of(crate) if given.match in it.name and not it.is_of_gate]
     printing = threading.Lock()
     with tempfile.TemporaryDirectory(prefix="try-edits-") as folder, open(given.log, "w", encoding="utf-8") as log:
         def say(text, to=sys.stdout):
             with printing:
                 print(text, file=to, flush=True)
 
-        libraries, kept = Libraries(all_crates, folder, given.gate), Record(edits)
-        lanes = Lanes(rests, tried, libraries, kept.keep, say, lambda text: say(text, log))
-        lanes.run(given.lanes)
-    kept.keep([])
-    failed = [f"{it.key}: {it.verdict}: {it.said[:300]}" for it in tried if it.verdict != "refused"]
-    failed += record.faults(found, edits) if given.gate else []
-    print("".join(f"{it}\n" for it in failed), end="")
-    minutes = round((time.monotonic() - began) / 60)
-    if not failed and given.all and len(tried) == sum(not it.is_of_gate for it in edits):
-        kept.keep_all(minutes)
-    believed = sum(not it.is_of_gate for it in edits) - len(tried)
-    print(f"edits: {len(tried)} tried in {minutes} minutes, {len(failed)} failed, {believed} not tried")
+        libraries = Libraries(all_crates, folder, given.gate)
+        end = given.until and began + given.until
+        Lanes(all_crates, edits, libraries, end, say, lambda text: say(text, log)).run(given.lanes)
+    for it in edits:
+        if not it.verdict or it.verdict == "refused" and not given.gate:
+            broken = " ".join(sorted(f"{of}:{goal}" for of, goal in it.goals))
+            print(f"{it.key}: {f'refused: {broken}' if it.verdict else 'not tried'}")
+    failed = [it for it in edits if it.verdict and it.verdict != "refused"]
+    print("".join(f"{it.key}: {it.verdict}: {it.said[:300]}\n" for it in failed), end="")
+    tried, minutes = sum(bool(it.verdict) for it in edits), round((time.monotonic() - began) / 60)
+    print(f"edits: {tried} of {len(edits)} tried in {minutes} minutes, {len(failed)} failed")
     return 1 if failed else 0
 
 
