@@ -120,10 +120,12 @@ class Trying:
         self.say(f"{self.crate.name}: a round of {len(now)}, {refused} refused, {took:.0f} s")
 
     def alone(self, edit):
-        """Tries one edit alone, and leaves it to a check of the whole crate where that tells no more."""
+        """Tries one edit alone: what is in doubt then is left to a check of the whole crate."""
         if frozenset([edit.key]) not in self.tried:
             self.judge([edit], edit.made())
-        if edit.verdict in OPEN:
+        if edit.verdict == "proved":
+            edit.verdict, edit.said = "NOT REFUSED", "its function is proved with it"
+        elif edit.verdict == "doubt":
             self.wholes.append(edit)
 
     def control(self, many):
