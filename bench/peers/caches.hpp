@@ -378,10 +378,32 @@ class lru : public rocks {
   public:
     static std::string name() { return "rocksdb-lru"; }
 
-    explicit lru(const sizes &sizes)
-        : rocks(rocksdb::NewLRUCache(sizes.capacity, bits(sizes.shards), false, 0.5, nullptr,
+    explicit lru(const sizes &sizes) : lru(sizes, bits(sizes.shards)) {}
+
+  protected:
+    lru(const sizes &sizes, int bits)
+        : rocks(rocksdb::NewLRUCache(sizes.capacity, bits, false, 0.5, nullptr,
                                      rocksdb::kDefaultToAdaptiveMutex,
                                      rocksdb::kDontChargeCacheMetadata)) {}
+};
+
+// LRUCache in as many shards as RocksDB chooses for a cache of so many bytes: one for each 512 KiB, as
+// a power of two, 64 at most.
+class lru_sharded : public lru {
+  public:
+    static std::string name() { return "rocksdb-lru-sharded"; }
+
+    explicit lru_sharded(const sizes &sizes) : lru(sizes, chosen_bits(sizes)) {}
+
+  private:
+    static int chosen_bits(const sizes &sizes) {
+        std::uint64_t shards = std::uint64_t{sizes.capacity} * sizes.value_size / (512 << 10);
+        int bits = 0;
+        while (bits < 6 && (shards >>= 1) != 0) {
+            ++bits;
+        }
+        return bits;
+    }
 };
 
 } // namespace peers

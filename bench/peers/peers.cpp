@@ -74,7 +74,7 @@ std::uint64_t value_size_of(const std::string &word) {
 
 std::string cache_of(const std::string &word) {
     const std::string all[] = {ferret::name(), twin::name(), ferret_large::name(),
-                               hyper_clock::name(), lru::name()};
+                               hyper_clock::name(), lru::name(), lru_sharded::name()};
     if (std::find(std::begin(all), std::end(all), word) == std::end(all)) {
         stop("there is no cache " + word);
     }
@@ -171,6 +171,7 @@ std::vector<maker> makers_of(kind is, const sizes &sizes) {
         }
         all.push_back(maker_of<hyper_clock>());
         all.push_back(maker_of<lru>());
+        all.push_back(maker_of<lru_sharded>());
     }
     return all;
 }
