@@ -7,24 +7,12 @@
 # Usage: tests/c/file.sh [FILES]     of mutated ones in each program: 100,000 by default
 set -u
 cd "$(dirname "$0")/../.." || exit 2
-[[ -f crates/hcc_c/out/libhcc_c.a ]] || { echo "file: no library: run 'rt lib' in crates/hcc_c"; exit 2; }
+. tests/shared.sh
+wants_library file
 
 files=${1:-100000}
-folder=$(mktemp -d)
-trap 'rm -rf "$folder"' EXIT
-failed=0
 program=("$folder/file")
 wrap=-Wl,--wrap=malloc,--wrap=realloc,--wrap=aligned_alloc,--wrap=free
-
-# Runs a check: tries NAME WORD..
-tries() {
-    local name=$1
-    shift
-    "$@" > "$folder/out" 2>&1 && return
-    echo "failed: $name"
-    head -n 20 "$folder/out"
-    failed=$((failed + 1))
-}
 
 # Builds a library of its own, with sanitizers if they are named: library SANITIZERS WORD..
 library() {
@@ -44,12 +32,6 @@ is_as_described() {
     cmp "$folder/saved" "$folder/written" && "${program[@]}" load "$folder/written" | sort > "$folder/loaded" || return
     sort "$folder/read" | cmp - "$folder/loaded" || return
     tests/c/file_format.py write "$folder/newer" 2 < "$folder/read" && [[ $("${program[@]}" load "$folder/newer") == "refused: 5" ]]
-}
-
-# Whether the compiler can sanitize here.
-sanitizes() {
-    echo 'int main(void) { return 0; }' > "$folder/none.c"
-    cc -fsanitize=address,undefined "$folder/none.c" -o "$folder/none" 2> /dev/null && "$folder/none"
 }
 
 in_cpp() {
@@ -91,13 +73,7 @@ tries_all() {
     rm -rf "$folder/lib"
 }
 
-echo '#include <xxhash.h>' | cc -E -x c - > "$folder/out" 2>&1 \
-    || { echo "file: SKIPPED: there is no xxhash.h: tests/needs.sh installs it"; exit 0; }
+has_xxhash file || exit 0
 tries_all ""
-if sanitizes; then
-    tries_all address,undefined
-else
-    echo "file: this C compiler has no sanitizers, so it ran without them"
-fi
-echo "file: $failed failed"
-[[ $failed == 0 ]]
+sanitizes file cc && tries_all address,undefined
+counted file

@@ -5,16 +5,14 @@
 # Usage: tests/program/blocks.sh [PROGRAM]
 set -u
 cd "$(dirname "$0")/../.." || exit 2
-. tests/judging.sh
+. tests/shared.sh
+wants_program "${1-}"
 
 # Plays the trace `input`, and looks at the status, the text on standard error and the output:
 # expect NAME STATUS ERRORS OUTPUT WORD..   Where ERRORS is `*`, any text but none will do.
 expect() {
-    local name=$1 status=$2 errors=$3 output=$4 ok=yes
-    shift 4
-    ends "$status" "$errors" blocks "$@" || ok=no
-    [[ $(cat "$folder/out"; echo .) == "$output"${output:+$'\n'}. ]] || ok=no
-    judge "$name" "$ok"
+    ends "$2" "$3" blocks "${@:5}" && [[ $(cat "$folder/out"; echo .) == "$4"${4:+$'\n'}. ]]
+    judge "$1"
 }
 
 # Lines of a trace.
@@ -51,8 +49,8 @@ orders() {
     for run in 1 2 3 4 5; do
         timeout 60 "$program" blocks "$@" < "$folder/input" 2> "$folder/err" \
             | parts "$slots" "$charge" > "$folder/parts"
-        [[ ! -s $folder/err ]] && cmp -s "$wanted" "$folder/parts" && ok=yes || ok=no
-        judge "$name, run $run" "$ok"
+        [[ ! -s $folder/err ]] && cmp -s "$wanted" "$folder/parts"
+        judge "$name, run $run"
     done
 }
 
@@ -163,14 +161,14 @@ sys.stdout.buffer.write(b"0 0 " + b"1" * (rest - 5) + b"\n")' > "$folder/input"
 reads=$(wc -l < "$folder/input")
 before=$SECONDS
 timeout 60 "$program" blocks --clients 1024 --handles 1 < "$folder/input" > "$folder/out"
-[[ $? == 0 && $(stat -c %s "$folder/input") == 67108864 ]] && ok=yes || ok=no
-judge "2^26 bytes for 1024 clients" "$ok"
+[[ $? == 0 && $(stat -c %s "$folder/input") == 67108864 ]]
+judge "2^26 bytes for 1024 clients"
 took=$((SECONDS - before))
 [[ $(python3 -c 'import json, sys; print(sum(c["missing"] for c in json.load(sys.stdin)["clients"]))' \
-    < "$folder/out") == "$reads" ]] && ok=yes || ok=no
-judge "each line was played" "$ok"
-((took <= 30)) && ok=yes || ok=no
-judge "in $took seconds" "$ok"
+    < "$folder/out") == "$reads" ]]
+judge "each line was played"
+((took <= 30))
+judge "in $took seconds"
 echo >> "$folder/input"
 expect "2^26 bytes and one" 2 "input too large" "" --clients 1024 --handles 1
 
@@ -188,33 +186,23 @@ while not told.endswith(b"."):
 print(repr(told))' "$1"
 }
 yes "0 0 0" | head -n 1048577 > "$folder/long"
-[[ $(terminal "$folder/long") == "b'\\r1048576 reads\\r\\n.'" ]] && ok=yes || ok=no
-judge "a long play on a terminal" "$ok"
+[[ $(terminal "$folder/long") == "b'\\r1048576 reads\\r\\n.'" ]]
+judge "a long play on a terminal"
 trace "$first"
-[[ $(terminal "$folder/input") == "b'.'" ]] && ok=yes || ok=no
-judge "a short play on a terminal" "$ok"
-timeout 60 "$program" blocks < "$folder/long" > /dev/null 2> "$folder/err"
-[[ $? == 0 && ! -s $folder/err ]] && ok=yes || ok=no
-judge "a long play elsewhere" "$ok"
+[[ $(terminal "$folder/input") == "b'.'" ]]
+judge "a short play on a terminal"
+from=$folder/long ends 0 "" blocks
+judge "a long play elsewhere"
 
 # Devices that fail, and too little memory.
 trace "$first"
-timeout 60 "$program" blocks "$forty" < "$folder" > "$folder/out" 2> "$folder/err"
-[[ $? == 3 && $(cat "$folder/err") == "read failed" && ! -s $folder/out ]] && ok=yes || ok=no
-judge "a folder as input" "$ok"
-if [[ -c /dev/full ]]; then
-    timeout 60 "$program" blocks "$forty" < "$folder/input" > /dev/full 2> "$folder/err"
-    [[ $? == 3 && $(cat "$folder/err") == "write failed" ]] && ok=yes || ok=no
-    judge "a full device" "$ok"
-fi
-timeout 60 cat "$folder/input" | "$program" blocks "$forty" | cmp -s - <(echo "$told") \
-    && ok=yes || ok=no
-judge "pipes at both ends" "$ok"
+devices blocks "$forty"
+timeout 60 cat "$folder/input" | "$program" blocks "$forty" | cmp -s - <(echo "$told")
+judge "pipes at both ends"
 head -c 16777216 /dev/zero > "$folder/large"
 (ulimit -v 12288; exec timeout 60 "$program" blocks "$folder/large") < "$folder/input" \
     > "$folder/out" 2> "$folder/err"
-[[ $? == 5 && $(cat "$folder/err") == "out of memory" && ! -s $folder/out ]] && ok=yes || ok=no
-judge "too little memory for a file" "$ok"
+[[ $? == 5 && ! -s $folder/out ]] && said "out of memory"
+judge "too little memory for a file"
 
-echo "blocks: $passed passed, $failed failed"
-[[ $failed == 0 ]]
+counted blocks

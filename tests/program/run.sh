@@ -3,20 +3,22 @@
 # Usage: tests/program/run.sh [PROGRAM]
 set -u
 cd "$(dirname "$0")/../.." || exit 2
-. tests/judging.sh
+. tests/shared.sh
+wants_program "${1-}"
 
 # Runs the program on the file `input`: expect NAME STATUS ERRORS OUTPUT-FILE WORD..
 # Where ERRORS is `*`, any text but none will do; where OUTPUT-FILE is `*`, any output but none.
 expect() {
-    local name=$1 status=$2 errors=$3 output=$4 ok=yes
-    shift 4
-    ends "$status" "$errors" "$@" || ok=no
-    if [[ $output == "*" ]]; then
-        [[ -s $folder/out ]] || ok=no
+    ends "$2" "$3" "${@:5}" && printed "$4"
+    judge "$1"
+}
+
+printed() {
+    if [[ $1 == "*" ]]; then
+        [[ -s $folder/out ]]
     else
-        cmp -s "$output" "$folder/out" || ok=no
+        cmp -s "$1" "$folder/out"
     fi
-    judge "$name" "$ok"
 }
 
 nothing=/dev/null
@@ -44,8 +46,8 @@ for words in "--help" "-h" "help" "core --help" "help core" "run --help"; do
     expect "help: $words" 0 "" "*" "${list[@]}"
 done
 
-"$program" --help < /dev/null | grep -qxF "Usage: hcc_play [COMMAND]" && ok=yes || ok=no
-judge "the usage has its command as optional" "$ok"
+"$program" --help < /dev/null | grep -qxF "Usage: hcc_play [COMMAND]"
+judge "the usage has its command as optional"
 
 echo "hcc_play $(sed -nE 's/^## ([0-9.]+),.*/\1/p' CHANGELOG.md | head -n 1)" > "$folder/want"
 for word in --version -V; do
@@ -54,7 +56,7 @@ done
 
 # What is read from a terminal is told on standard error, once the options are judged.
 typed() {
-    local name=$1 want=$2 ok
+    local name=$1 want=$2
     shift 2
     [[ $(PROGRAM=$program python3 -c '
 import os, pty, subprocess, sys
@@ -62,8 +64,8 @@ ours, theirs = pty.openpty()
 os.write(ours, b"\x04")  # the end of file
 ran = subprocess.run([os.environ["PROGRAM"], *sys.argv[1:]], stdin=theirs, stderr=subprocess.PIPE,
                      stdout=subprocess.DEVNULL, timeout=60)
-print(ran.returncode, ran.stderr.decode(), end="")' "$@") == "$want" ]] && ok=yes || ok=no
-    judge "on a terminal: $name" "$ok"
+print(ran.returncode, ran.stderr.decode(), end="")' "$@") == "$want" ]]
+    judge "on a terminal: $name"
 }
 behind="from the terminal, up to the end of file (Ctrl-D)"
 typed "no arguments" "0 reads a script $behind"
@@ -94,9 +96,8 @@ play 'start 0\ncharge 0 601\n' "ok$empty 0 0 0 0\nsplit 7 594$empty 601 0 0 0\n"
 for verb in start end look acquire give use occupy show hide free empty clock mark correct write \
     read count pass unpass charge settle waive usage enter slots quit occupancy stand fall standing \
     turn; do
-    ok=yes
-    "$program" core --help < /dev/null | grep -qE "(^|   *)$verb [c0-9]" || ok=no
-    judge "help tells of $verb" "$ok"
+    "$program" core --help < /dev/null | grep -qE "(^|   *)$verb [c0-9]"
+    judge "help tells of $verb"
 done
 
 # Texts at fault: nothing is written, and the first fault is told.
@@ -127,8 +128,8 @@ for client in {0..1023}; do echo "$client P 16383 1 $client 1 L -"; done >> "$fo
 for client in {0..1023}; do echo "$client P 16383 0 1 1 L -"; done >> "$folder/input"
 [[ $(ulimit -v 65536; "$program" run --clients 1024 --handles 1 < "$folder/input" \
     | sed -E 's/^(placed|standalone)$/filled/' | sort | uniq -c | awk '{ print $1, $2 }') == \
-    "1024 busy"$'\n'"1024 filled"$'\n'"1024 miss"$'\n'"1 {"* ]] && ok=yes || ok=no
-judge "1,024 clients whose last register is named and filled, in 64 MiB" "$ok"
+    "1024 busy"$'\n'"1024 filled"$'\n'"1024 miss"$'\n'"1 {"* ]]
+judge "1,024 clients whose last register is named and filled, in 64 MiB"
 
 # Traces of calls with their answers, and examples.
 for trace in examples/*.trace; do
@@ -160,11 +161,8 @@ done < tests/program/calls
 
 # Options of traces: what is refused before anything is read, and what is no option.
 refuse() {
-    local want=$1 ok=yes
-    shift
-    "$program" run "$@" < "$folder" > "$folder/out" 2> "$folder/err"
-    [[ $? == 4 && $(cat "$folder/err") == "refused $want" && ! -s $folder/out ]] || ok=no
-    judge "refused: $*" "$ok"
+    from=$folder ends 4 "refused $1" run "${@:2}" && [[ ! -s $folder/out ]]
+    judge "refused: ${*:2}"
 }
 for slots in 0 4 12 131072; do refuse BadSlots --slots $slots; done
 refuse BadSlots --slots 12 --room 0
@@ -229,64 +227,46 @@ trace_fault '0\tU\n' "line 1: NotAscii"
 trace_fault '0 U\n0 W 0 8\n0 V -\n' "line 2: OutOfRange"
 trace_fault "$(printf '0%.0s' {1..8401})" "line 1: TooLong"
 for letter in I P G F R V E U W S; do
-    ok=yes
-    "$program" run --help < /dev/null | grep -q "^  0 $letter" || ok=no
-    judge "help tells of $letter" "$ok"
+    "$program" run --help < /dev/null | grep -q "^  0 $letter"
+    judge "help tells of $letter"
 done
 for word in HandlesFull Spent TooLarge CapacityFull OccupancyFull TooLong Unended NotAscii BadWord \
     BadNumber OutOfRange BadChoice BadValue ValueTooLong; do
-    ok=yes
-    "$program" run --help < /dev/null | grep -q "^  $word  " || ok=no
-    judge "help tells of $word" "$ok"
+    "$program" run --help < /dev/null | grep -q "^  $word  "
+    judge "help tells of $word"
 done
 for word in blocks faults hits misses missing sum; do
-    ok=yes
-    "$program" blocks --help < /dev/null | grep -q "^  $word  " || ok=no
-    judge "help tells of the member $word" "$ok"
+    "$program" blocks --help < /dev/null | grep -q "^  $word  "
+    judge "help tells of the member $word"
 done
 
 # Readers and writers that fail.
 cp examples/first.script "$folder/input"
-timeout 60 "$program" core < "$folder" > "$folder/out" 2> "$folder/err"
-[[ $? == 3 && $(cat "$folder/err") == "read failed" && ! -s $folder/out ]] && ok=yes || ok=no
-judge "a folder as input" "$ok"
+devices core
 if [[ -c /dev/full ]]; then
-    timeout 60 "$program" core < "$folder/input" > /dev/full 2> "$folder/err"
-    [[ $? == 3 && $(cat "$folder/err") == "write failed" ]] && ok=yes || ok=no
-    judge "a full device" "$ok"
-    timeout 60 "$program" core < /dev/null > /dev/full 2> "$folder/err"
-    [[ $? == 0 && ! -s $folder/err ]] && ok=yes || ok=no
-    judge "nothing on a full device" "$ok"
-    timeout 60 "$program" --help > /dev/full 2> "$folder/err"
-    [[ $? == 3 && $(cat "$folder/err") == "write failed" ]] && ok=yes || ok=no
-    judge "help on a full device" "$ok"
+    from=/dev/null to=/dev/full ends 0 "" core
+    judge "nothing on a full device"
+    to=/dev/full ends 3 "write failed" --help
+    judge "help on a full device"
 fi
-for _ in {1..64}; do echo "$block"; done > "$folder/input"
-timeout 60 "$program" core < "$folder/input" 2> "$folder/err" | head -n 1 > "$folder/out"
-[[ ${PIPESTATUS[0]} == 3 && $(cat "$folder/err") == "write failed" ]] && ok=yes || ok=no
-judge "a closed pipe" "$ok"
-timeout 60 cat examples/first.script | "$program" | cmp -s - examples/first.out && ok=yes || ok=no
-judge "pipes at both ends" "$ok"
-
-timeout 60 "$program" run < "$folder" > "$folder/out" 2> "$folder/err"
-[[ $? == 3 && $(cat "$folder/err") == "read failed" && ! -s $folder/out ]] && ok=yes || ok=no
-judge "a folder as a trace" "$ok"
 cp examples/first.trace "$folder/input"
-if [[ -c /dev/full ]]; then
-    timeout 60 "$program" run < "$folder/input" > /dev/full 2> "$folder/err"
-    [[ $? == 3 && $(cat "$folder/err") == "write failed" ]] && ok=yes || ok=no
-    judge "answers on a full device" "$ok"
-fi
+devices run
+timeout 60 cat examples/first.script | "$program" | cmp -s - examples/first.out
+judge "pipes at both ends"
+closed_pipe() {
+    timeout 60 "$program" "$1" < "$folder/input" 2> "$folder/err" | head -n 1 > "$folder/out"
+    [[ ${PIPESTATUS[0]} == 3 ]] && said "write failed"
+    judge "a closed pipe: $1"
+}
+for _ in {1..64}; do echo "$block"; done > "$folder/input"
+closed_pipe core
 for _ in {1..40000}; do echo "0 U"; done > "$folder/input"
-timeout 60 "$program" run < "$folder/input" 2> "$folder/err" | head -n 1 > "$folder/out"
-[[ ${PIPESTATUS[0]} == 3 && $(cat "$folder/err") == "write failed" ]] && ok=yes || ok=no
-judge "answers to a closed pipe" "$ok"
+closed_pipe run
 
 # So little memory that the input finds no room.
 { for _ in {1..2048}; do echo "$block"; done; } > "$folder/input"
 (ulimit -v 12288; exec timeout 60 "$program" core) < "$folder/input" > "$folder/out" 2> "$folder/err"
-[[ $? == 5 && $(cat "$folder/err") == "out of memory" && ! -s $folder/out ]] && ok=yes || ok=no
-judge "too little memory" "$ok"
+[[ $? == 5 && ! -s $folder/out ]] && said "out of memory"
+judge "too little memory"
 
-echo "program: $passed passed, $failed failed"
-[[ $failed == 0 ]]
+counted program
