@@ -1,10 +1,10 @@
 #!/usr/bin/env bash
 # Builds and runs the examples for LevelDB: 100,000 keys that four threads read through a cache of a
-# tenth of the data; a warm start of a larger one; and a program whose files change between the saving
-# of a cache and its loading. And those for RocksDB: three threads that read a database while it
-# compacts, for three sizes of blocks; a warm start; then, with fewer reads, the first under
-# AddressSanitizer and UndefinedBehaviorSanitizer. It fails where a read is wrong, no block was kept or
-# none was found, or a warm start finds little. Without xxhash.h, or without RocksDB 7.8, which
+# tenth of the data; a warm start of a larger one; and a program whose files change between the
+# saving of a cache and its loading. And those for RocksDB: three threads that read a database while
+# it compacts, for three sizes of blocks; a warm start; then, with fewer reads, the first under
+# AddressSanitizer and UndefinedBehaviorSanitizer. It fails where a read is wrong, no block was kept
+# or none was found, or a warm start finds little. Without xxhash.h, or without RocksDB 7.8, which
 # tests/needs.sh installs where it may, it says what it skipped.
 # Usage: tests/engines.sh
 set -u
@@ -18,8 +18,8 @@ makes() {
     make -s -C "examples/$1" CXX=c++ BUILD="$folder/$1" "${@:2}"
 }
 
-# An example that runs twice: it begins cold at first and then warm, with at least twice the hits among
-# the first thousand reads.
+# An example that runs twice: it begins cold at first and then warm, with at least twice the hits
+# among the first thousand reads.
 warms_up() {
     makes "$1" CXXFLAGS=-O1 run-warm > "$folder/warm" || return
     cat "$folder/warm"

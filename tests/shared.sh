@@ -1,9 +1,10 @@
-# What the scripts of these folders share: sourced at the top of the repository, it gives them a folder
-# that goes when they end, counts of what passed and failed, and words for what they need.
+# What the scripts of these folders share: sourced at the top of the repository, it gives them a
+# folder that goes when they end, counts of what passed and failed, and words for what they need.
 folder=$(mktemp -d) || exit 2
 trap 'rm -rf "$folder"' EXIT
 passed=0
 failed=0
+nothing=/dev/null
 ulimit -c 0
 
 # Ends the script where a command isn't there: wants NAME COMMAND..
@@ -16,7 +17,9 @@ wants() {
 
 # Ends it where the library for C isn't there: wants_library NAME
 wants_library() {
-    [[ -f crates/hcc_c/out/libhcc_c.a ]] || { echo "$1: no library: run 'rt lib' in crates/hcc_c"; exit 2; }
+    [[ -f crates/hcc_c/out/libhcc_c.a ]] && return
+    echo "$1: no library: run 'rt lib' in crates/hcc_c"
+    exit 2
 }
 
 # Ends it where the program isn't there, which `rt ci` builds, and `rt run` in crates/hcc_play:
@@ -59,9 +62,9 @@ tries() {
     judge "$1" || head -n 50 "$folder/out"
 }
 
-# Runs the program on the file `input`, or on what `from` names, and leaves its output in `out`, or in
-# what `to` names. It fails where the status or the text on standard error is another; where ERRORS is
-# `*`, any text but none will do: ends STATUS ERRORS WORD..
+# Runs the program on the file `input`, or on what `from` names, and leaves its output in `out`, or
+# in what `to` names. It fails where the status or the text on standard error is another; where
+# ERRORS is `*`, any text but none will do: ends STATUS ERRORS WORD..
 ends() {
     local status=$1 errors=$2 ended
     shift 2
@@ -79,10 +82,41 @@ said() {
     fi
 }
 
-# Plays a command whose input is a folder, and the file `input` to a device that is full: devices WORD..
+# Runs the program on the file `input`, and compares what it printed: with this file, or anything
+# but nothing where that is `*`: expect NAME STATUS ERRORS FILE WORD..
+expect() {
+    ends "$2" "$3" "${@:5}" && if [[ $4 == "*" ]]; then
+        [[ -s $folder/out ]]
+    else
+        cmp -s "$4" "$folder/out"
+    fi
+    judge "$1"
+}
+
+# The same for each of these lines of words: expect_each NAME STATUS ERRORS FILE LINE..
+expect_each() {
+    local line words
+    for line in "${@:5}"; do
+        read -ra words <<< "$line"
+        expect "$1: $line" "${@:2:3}" "${words[@]}"
+    done
+}
+
+# Options that are refused before anything is read: refuse REFUSAL WORD..
+refuse() {
+    from=$folder expect "refused: ${*:2}" 4 "refused $1" $nothing "${@:2}"
+}
+
+# A text in which the command `faulty` finds this fault first, and writes nothing: fault TEXT ERRORS
+fault() {
+    printf '%b' "$1" > "$folder/input"
+    expect "a text at fault: $2, $1" 2 "$2" $nothing "${faulty[@]}"
+}
+
+# Plays a command whose input is a folder, and the file `input` to a device that is full: devices
+# WORD..
 devices() {
-    from=$folder ends 3 "read failed" "$@" && [[ ! -s $folder/out ]]
-    judge "a folder as input of $1"
+    from=$folder expect "a folder as input of $1" 3 "read failed" $nothing "$@"
     [[ -c /dev/full ]] || return
     to=/dev/full ends 3 "write failed" "$@"
     judge "$1 on a full device"

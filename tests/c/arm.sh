@@ -1,8 +1,8 @@
 #!/usr/bin/env bash
-# Proves and builds the library for aarch64, and runs it on that processor as qemu shows it: the examples
-# in C, the traces of calls, threads that borrow clients, and what the checking library ends. It wants what
-# `rt ci` or `rt lib` in crates/hcc_c proved. Without a compiler for that processor or qemu, which
-# tests/needs.sh installs where it may, it says that it skipped.
+# Proves and builds the library for aarch64, and runs it on that processor as qemu shows it: the
+# examples in C, the traces of calls, threads that borrow clients, and what the checking library
+# ends. It wants what `rt ci` or `rt lib` in crates/hcc_c proved. Without a compiler for that
+# processor or qemu, which tests/needs.sh installs where it may, it says that it skipped.
 # Usage: tests/c/arm.sh [--built]   with --built the library is taken as it stands
 set -u
 cd "$(dirname "$0")/../.." || exit 2
@@ -22,8 +22,8 @@ builds() {
     $compiler -std=c11 -O2 -Wall -Wextra -Wpedantic -Werror -Iinclude -pthread "$@" -o "$folder/built"
 }
 
-# Runs it, in so much memory at most as qemu itself is held to: a limit that a program sets itself it
-# ignores.
+# Runs it, in so much memory at most as qemu itself is held to: a limit that a program sets itself
+# it ignores.
 runs() {
     (ulimit -v 8000000; timeout 600 "${emulator[@]}" "$folder/built" "$@")
 }

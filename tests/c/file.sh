@@ -1,9 +1,9 @@
 #!/usr/bin/env bash
-# Tests caches that go to files and come from them: rows, damage, what fails, mutated files; from C++ and
-# from Rust, also where streams fail and functions throw or panic; large values after warm starts; C and
-# C++ also under AddressSanitizer and UndefinedBehaviorSanitizer; and a script that reads and writes the
-# format by its description alone. It wants crates/hcc_c/out/libhcc_c.a, as `rt lib` in crates/hcc_c makes
-# it, and skips where there is no xxhash.h.
+# Tests caches that go to files and come from them: rows, damage, what fails, mutated files; from
+# C++ and from Rust, also where streams fail and functions throw or panic; large values after warm
+# starts; C and C++ also under AddressSanitizer and UndefinedBehaviorSanitizer; and a script that
+# reads and writes the format by its description alone. It wants crates/hcc_c/out/libhcc_c.a, as `rt
+# lib` in crates/hcc_c makes it, and skips where there is no xxhash.h.
 # Usage: tests/c/file.sh [FILES]     of mutated ones in each program: 100,000 by default
 set -u
 cd "$(dirname "$0")/../.." || exit 2
@@ -39,7 +39,8 @@ in_cpp() {
         && builds in_cpp c++ -std=c++17 "$@" tests/c/file.cpp "$folder/heap.o" "$wrap" && "$folder/in_cpp" "$folder/streamed"
 }
 
-# The crate with its feature; what memory it leaves AddressSanitizer says, where the C compiler has it.
+# The crate with its feature; what memory it leaves AddressSanitizer says, where the C compiler has
+# it.
 in_rust() {
     local words=(--edition 2021 -O -D warnings) sanitizer
     rustc "${words[@]}" --cfg 'feature="file"' --crate-type rlib --crate-name ferretgold rust/src/lib.rs \
@@ -50,7 +51,8 @@ in_rust() {
     "$folder/in_rust" && { [[ ! -f $sanitizer ]] || LD_PRELOAD=$sanitizer "$folder/in_rust"; }
 }
 
-# Large values after warm starts; with a library in which pieces have few keys they meet all the time.
+# Large values after warm starts; with a library in which pieces have few keys they meet all the
+# time.
 large_values() {
     builds large_file cc -std=c11 "$@" tests/c/large_file.c tests/c/large_values.c && "$folder/large_file"
 }

@@ -1,9 +1,9 @@
 #!/usr/bin/env bash
-# Tests large values: rows; two to four threads that put under one key, in orders of their calls that are
-# drawn; and threads that put, get and erase values of 1 to 200,000 bytes under few keys, each byte looked
-# at; the same with a library in which pieces have only 64 keys, so that they meet all the time; both with
-# the C files under AddressSanitizer and UndefinedBehaviorSanitizer, and under ThreadSanitizer. It wants
-# crates/hcc_c/out/libhcc_c.a, as `rt lib` in crates/hcc_c makes it.
+# Tests large values: rows; two to four threads that put under one key, in orders of their calls
+# that are drawn; and threads that put, get and erase values of 1 to 200,000 bytes under few keys,
+# each byte looked at; the same with a library in which pieces have only 64 keys, so that they meet
+# all the time; both with the C files under AddressSanitizer and UndefinedBehaviorSanitizer, and
+# under ThreadSanitizer. It wants crates/hcc_c/out/libhcc_c.a, as `rt lib` in crates/hcc_c makes it.
 # Usage: tests/c/large.sh [SECONDS]     of threads in each program: 4 by default
 set -u
 cd "$(dirname "$0")/../.." || exit 2

@@ -1,11 +1,11 @@
 #!/usr/bin/env bash
-# Refuses each memory request of the built program, or of a crate's tests, in turn, alone and with all
-# later ones, until nothing is left to refuse; of a test, past the first hundred every second one, past
-# the next every third, and so on. The program then ends with status 5 and its text, and what it wrote
-# is a front of the output; a test tells that memory was refused. Where less memory does too, all of the
-# output is there, and the test passes. Any other answer fails, as that of a test that is stopped by an
-# assertion because a world changed; and so it does where too little was refused.
-# It wants a C compiler, and the tests as `rt ci` or `rt test` builds them.
+# Refuses each memory request of the built program, or of a crate's tests, in turn, alone and with
+# all later ones, until nothing is left to refuse; of a test, past the first hundred every second
+# one, past the next every third, and so on. The program then ends with status 5 and its text, and
+# what it wrote is a front of the output; a test tells that memory was refused. Where less memory
+# does too, all of the output is there, and the test passes. Any other answer fails, as that of a
+# test that is stopped by an assertion because a world changed; and so it does where too little was
+# refused. It wants a C compiler, and the tests as `rt ci` or `rt test` builds them.
 # Usage: tests/memory/run.sh [CRATE]    with none, the program
 set -u
 cd "$(dirname "$0")/../.." || exit 2
@@ -27,11 +27,13 @@ if [[ -z $crate ]]; then
 else
     wants_program "crates/$crate/out/${crate}_tests"
     is_done() { [[ $1 == 0 && $(tail -n 1 "$folder/out") == "test result: ok" ]]; }
-    is_told() { [[ $1 == 101 && $(head -n 1 "$folder/err") =~ ^[Ee]rror:\ (AllocError|OutOfMemory)$ ]]; }
+    is_told() {
+        [[ $1 == 101 && $(head -n 1 "$folder/err") =~ ^[Ee]rror:\ (AllocError|OutOfMemory)$ ]]
+    }
 fi
 
-# Runs the program with requests refused from this number on: alone, or with the rest. It fails where
-# all was done: try NUMBER REST WORD..
+# Runs the program with requests refused from this number on: alone, or with the rest. It fails
+# where all was done: try NUMBER REST WORD..
 try() {
     local number=$1 rest=$2 ended
     shift 2
@@ -82,7 +84,8 @@ else
     printf 'twenty-four bytes in all' > "$folder/file"
     none='{"blocks":0,"faults":0,"hits":0,"misses":0,"missing":0,"sum":0}'
     two='{"blocks":2,"faults":0,"hits":0,"misses":2,"missing":2,"sum":2347}'
-    echo "{\"charges\":24,\"clients\":[$none,$two],\"occupied\":2,\"slots\":2,\"usage\":24}" > "$folder/report"
+    echo "{\"charges\":24,\"clients\":[$none,$two],\"occupied\":2,\"slots\":2,\"usage\":24}" \
+        > "$folder/report"
     plays "$folder/trace" "$folder/report" blocks --clients 2 "$folder/file"
 fi
 ((refusals >= least)) || { echo "failed: too little was refused"; failed=$((failed + 1)); }

@@ -8,13 +8,6 @@ cd "$(dirname "$0")/../.." || exit 2
 . tests/shared.sh
 wants_program "${1-}"
 
-# Plays the trace `input`, and looks at the status, the text on standard error and the output:
-# expect NAME STATUS ERRORS OUTPUT WORD..   Where ERRORS is `*`, any text but none will do.
-expect() {
-    ends "$2" "$3" blocks "${@:5}" && [[ $(cat "$folder/out"; echo .) == "$4"${4:+$'\n'}. ]]
-    judge "$1"
-}
-
 # Lines of a trace.
 trace() { printf '%b' "$1" > "$folder/input"; }
 
@@ -60,24 +53,24 @@ forty=$folder/forty
 first='0 0 0\n0 0 0\n0 0 2\n0 0 3\n0 1 0\n'
 trace "$first"
 told=$(report 3 1 2 2 524 24 2)
-expect "a file of 40 bytes" 0 "" "$told" "$forty"
+expect "a file of 40 bytes" 0 "" <(echo "$told") blocks "$forty"
 for words in "--block 16" "--seed 0" "--room 512" "--shards 64" "--strict" "--marks" "--handles 1" \
     "--slots 65536" "--serials 3" "--capacity 1099511627776" "--handles 16384" "--seed 1"; do
     read -ra list <<< "$words"
-    expect "the same by $words" 0 "" "$told" "${list[@]}" "$forty"
+    expect "the same by $words" 0 "" <(echo "$told") blocks "${list[@]}" "$forty"
 done
-expect "one serial" 0 "" "$(report 3 0 3 2 524 16 1)" --serials 1 "$forty"
-expect "no capacity" 0 "" "$(report 3 0 3 2 524 0 0)" --strict --capacity 0 "$forty"
-expect "larger blocks" 0 "" "$(report 2 1 1 3 1560 40 1)" --block=40 --room 5 "$forty"
-expect "single bytes" 0 "" "$(report 4 1 3 1 5 3 3)" --block 1 "$forty"
-expect "no file" 0 "" "$(report 0 0 0 5 0 0 0)"
+expect "one serial" 0 "" <(report 3 0 3 2 524 16 1) blocks --serials 1 "$forty"
+expect "no capacity" 0 "" <(report 3 0 3 2 524 0 0) blocks --strict --capacity 0 "$forty"
+expect "larger blocks" 0 "" <(report 2 1 1 3 1560 40 1) blocks --block=40 --room 5 "$forty"
+expect "single bytes" 0 "" <(report 4 1 3 1 5 3 3) blocks --block 1 "$forty"
+expect "no file" 0 "" <(report 0 0 0 5 0 0 0) blocks
 : > "$folder/empty"
-expect "an empty file" 0 "" "$(report 0 0 0 5 0 0 0)" "$folder/empty"
-expect "a file twice" 0 "" "$(report 4 1 3 1 644 40 3)" "$forty" "$forty"
+expect "an empty file" 0 "" <(report 0 0 0 5 0 0 0) blocks "$folder/empty"
+expect "a file twice" 0 "" <(report 4 1 3 1 644 40 3) blocks "$forty" "$forty"
 trace ""
-expect "an empty trace" 0 "" "$(report 0 0 0 0 0 0 0)" "$forty"
+expect "an empty trace" 0 "" <(report 0 0 0 0 0 0 0) blocks "$forty"
 trace '0 4294967295 4294967295\n0 0 4294967295\n'
-expect "the greatest numbers" 0 "" "$(report 0 0 0 2 0 0 0)" "$forty"
+expect "the greatest numbers" 0 "" <(report 0 0 0 2 0 0 0) blocks "$forty"
 
 # Two clients read the 40 blocks of a file in turn, 2,000 reads each.
 python3 -c '
@@ -100,41 +93,33 @@ cp examples/blocks.reads "$folder/input"
 orders "the example" examples/blocks.part 53 600 --clients 4 --seed 7 --slots 64 --room 8 \
     --block 64 examples/first.script examples/first.out
 
-# Refusals, in order: nothing is read then, and nothing is written.
+# Refusals, in order.
+refuse BadSlots blocks --slots 12 "$folder/none"
+refuse BadSlots blocks --slots 4 --room 0 --block 17 "$folder/none"
+refuse BadRoom blocks --room 0 --clients 0 "$folder/none"
+refuse BadRoom blocks --room 513 "$folder/none"
+refuse BadClients blocks --clients 0 --handles 0 "$folder/none"
+refuse BadClients blocks --clients 1025 "$folder/none"
+refuse BadHandles blocks --handles 0 --shards 3 "$folder/none"
+refuse BadHandles blocks --handles 16385 "$folder/none"
+refuse BadShards blocks --shards 3 --capacity 1099511627777 "$folder/none"
+refuse BadShards blocks --shards 128 "$folder/none"
+refuse BadCapacity blocks --capacity 1099511627777 --serials 0 "$folder/none"
+refuse BadSerials blocks --serials 0 --block 0 "$folder/none"
+refuse BadSerials blocks --serials 18014398509481985 "$folder/none"
+refuse BadBlock blocks --block 0 "$folder/none"
+refuse BadBlock blocks --block 17 "$folder/none"
 trace 'x\n'
-refuse() {
-    local text=$1
-    shift
-    expect "refused: $*" 4 "refused $text" "" "$@" "$folder/none"
-}
-refuse BadSlots --slots 12
-refuse BadSlots --slots 4 --room 0 --block 17
-refuse BadRoom --room 0 --clients 0
-refuse BadRoom --room 513
-refuse BadClients --clients 0 --handles 0
-refuse BadClients --clients 1025
-refuse BadHandles --handles 0 --shards 3
-refuse BadHandles --handles 16385
-refuse BadShards --shards 3 --capacity 1099511627777
-refuse BadShards --shards 128
-refuse BadCapacity --capacity 1099511627777 --serials 0
-refuse BadSerials --serials 0 --block 0
-refuse BadSerials --serials 18014398509481985
-refuse BadBlock --block 0
-refuse BadBlock --block 17
 for words in "--block x" "--block -1" "--block 4294967296" "--slots 4294967296" "--seed" \
     "--strict --strict" "--slots 8 --slots 8" "--unknown"; do
     read -ra list <<< "$words"
-    expect "arguments: $words" 2 "*" "" "${list[@]}" "$folder/none"
+    expect "arguments: $words" 2 "*" $nothing blocks "${list[@]}" "$folder/none"
 done
-expect "a file that isn't there" 3 "file 0: unreadable" "" "$folder/none" "$forty"
-expect "a folder" 3 "file 1: unreadable" "" "$forty" "$folder" "$folder/none"
+expect "a file that isn't there" 3 "file 0: unreadable" $nothing blocks "$folder/none" "$forty"
+expect "a folder" 3 "file 1: unreadable" $nothing blocks "$forty" "$folder" "$folder/none"
 
 # Texts at fault.
-fault() {
-    trace "$1"
-    expect "a text at fault: $2" 2 "$2" "" --clients 2 "$forty"
-}
+faulty=(blocks --clients 2 "$forty")
 fault '0 0 0\n1 0 0' "line 2: Unended"
 fault '0\t0 0\n' "line 1: NotAscii"
 for text in '\n' '0 0\n' '0 0 0 0\n' '0  0 0\n' ' 0 0 0\n' 'x\n'; do
@@ -170,7 +155,7 @@ judge "each line was played"
 ((took <= 30))
 judge "in $took seconds"
 echo >> "$folder/input"
-expect "2^26 bytes and one" 2 "input too large" "" --clients 1024 --handles 1
+expect "2^26 bytes and one" 2 "input too large" $nothing blocks --clients 1024 --handles 1
 
 # How far a long play is, told on a terminal alone: 2^20 reads and one more, and a short play.
 terminal() {
