@@ -1,26 +1,15 @@
 #!/usr/bin/env bash
 # Installs what the tests want beside the kit, as Debian's packages, or names what is missing and
-# fails: a C and a C++ compiler, make, a Rust compiler, LevelDB. RocksDB, Chromium, by which a page is
-# tried, xxhash.h, a compiler for aarch64 with qemu, CMake and pkg-config may be missing: then that is
-# said, and tests/engines/rocksdb.sh, tests/page/replay.py, tests/c/file.sh, tests/c/arm.sh or parts of tests/install/run.sh and
-# of tests/c/plant.py skip.
+# fails. Some may be missing: then it says what will be skipped.
 # Usage: tests/needs.sh
 set -u
-missing=()
 
-# Notes a package where a command isn't there: want COMMAND PACKAGE
-want() {
-    command -v "$1" > /dev/null || missing+=("$2")
-}
-
-# All that is missing now.
-look() {
-    missing=()
-    want cc gcc
-    want c++ g++
-    want make make
-    want rustc rustc
-    [[ -f /usr/include/leveldb/db.h ]] || missing+=(libleveldb-dev)
+# Prints those of these that aren't there: commands, and files by their paths.
+lacking() {
+    local it
+    for it in "$@"; do
+        [[ $it == /* && -e $it ]] || command -v "$it" > /dev/null || echo "$it"
+    done
 }
 
 # Installs packages, where that can be: install PACKAGE..
@@ -34,18 +23,25 @@ install() {
     return 1
 }
 
-look
-[[ ${#missing[@]} == 0 ]] || install "${missing[@]}"
-command -v chromium > /dev/null || install --no-install-recommends chromium \
-    || echo "needs: no chromium: tests/page/replay.py will be skipped"
-[[ -f /usr/include/rocksdb/secondary_cache.h ]] || install librocksdb-dev \
-    || echo "needs: no RocksDB: tests/engines/rocksdb.sh will be skipped"
-[[ -f /usr/include/xxhash.h ]] || install libxxhash-dev \
-    || echo "needs: no xxhash.h: tests/c/file.sh will be skipped, and parts of tests/install/run.sh and tests/c/plant.py"
-command -v aarch64-linux-gnu-gcc > /dev/null && command -v qemu-aarch64 > /dev/null \
-    || install --no-install-recommends qemu-user gcc-aarch64-linux-gnu libc6-dev-arm64-cross \
-    || echo "needs: no compiler for aarch64, or no qemu: tests/c/arm.sh will be skipped"
-command -v cmake > /dev/null && command -v pkg-config > /dev/null || install --no-install-recommends cmake pkg-config \
-    || echo "needs: no CMake or no pkg-config: tests/install/run.sh skips what wants them"
-look
-[[ ${#missing[@]} == 0 ]] || { echo "needs: missing: ${missing[*]}: apt-get install ${missing[*]}"; exit 1; }
+# What may be missing: may WHAT-IS-SKIPPED PACKAGES THING..
+may() {
+    local skipped=$1 packages
+    read -ra packages <<< "$2"
+    [[ -z $(lacking "${@:3}") ]] || install "${packages[@]}" || echo "needs: no ${*:3}: $skipped"
+}
+
+must=(cc c++ make rustc /usr/include/leveldb/db.h)
+packages=(gcc g++ make rustc libleveldb-dev)
+[[ -z $(lacking "${must[@]}") ]] || install "${packages[@]}"
+may "tests/page/replay.py will be skipped" "--no-install-recommends chromium" chromium
+may "a part of tests/engines.sh will be skipped" librocksdb-dev /usr/include/rocksdb/secondary_cache.h
+may "tests/c/file.sh will be skipped, and parts of other scripts" libxxhash-dev /usr/include/xxhash.h
+may "tests/c/arm.sh will be skipped" \
+    "--no-install-recommends qemu-user gcc-aarch64-linux-gnu libc6-dev-arm64-cross" \
+    aarch64-linux-gnu-gcc qemu-aarch64
+may "parts of tests/install/run.sh will be skipped" "--no-install-recommends cmake pkg-config" \
+    cmake pkg-config
+mapfile -t missing < <(lacking "${must[@]}")
+[[ ${#missing[@]} == 0 ]] && exit
+echo "needs: missing: ${missing[*]}: apt-get install ${packages[*]}"
+exit 1

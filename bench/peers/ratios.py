@@ -5,9 +5,12 @@ times as fast as they this project's is.
 Usage: ratios.py FILE..             with the JSON lines that peers prints
        ratios.py --medians FILE..   prints the medians, as JSON lines that can be given in their place
        ratios.py --front FILE..     prints the front page's table, of one thread and of four
-       ratios.py --all FILE..       prints the guide's table, of one thread"""
+       ratios.py --all FILE..       prints the guide's table, of one thread
+       ratios.py --plots FOLDER FILE..   draws the guide's pictures, by gnuplot: an SVG for each case"""
 import json
+import os
 import statistics
+import subprocess
 import sys
 from collections import defaultdict
 
@@ -15,6 +18,8 @@ OURS = "ferretgold"
 SHOWN = (OURS, "rocksdb-hyperclock", "rocksdb-lru")
 # The guide's table has the twin as well.
 ALL = (OURS, "twin", "rocksdb-hyperclock", "rocksdb-lru")
+COLOURS = {OURS: "#b8860b", "twin": "#2e8b57", "rocksdb-hyperclock": "#1f5fa8", "rocksdb-lru": "#7a7a7a"}
+PANEL = 300, 260
 # The cases that the front page shows, by the names that it has for them.
 FRONT = {"get": "hit", "misses": "miss", "mix": "mix", "evict": "evict"}
 
@@ -90,16 +95,70 @@ def print_all(medians, _):
             print(f"| {case} | {size:,} | {ours:,.0f} | {cells} |")
 
 
+def panel(size, caches):
+    """gnuplot's words for one panel: the points of each cache, and its curve."""
+    words, curves = [f'set title "{size:,} bytes"'], []
+    for cache, points in caches.items():
+        name = f"$of_{size}_{len(curves)}"
+        words += [f"{name} << END", *points, "END"]
+        colour = COLOURS.get(cache, "#444444")
+        curves.append(f'{name} using 1:2 with linespoints pt 7 ps 0.5 lw 2 lc "{colour}" title "{cache}"')
+    return [*words, "plot " + ", ".join(curves), "unset key", "unset ylabel"]
+
+
+def plot(case, of, file):
+    """Draws a case: a panel for each size, with the operations a second of all threads over their number."""
+    panels = defaultdict(lambda: defaultdict(list))
+    for (size, threads), medians in sorted(of.items()):
+        for cache, median in medians.items():
+            panels[size][cache].append(f"{threads} {1000 * threads / median:.4f}")
+    threads = sorted({it for _, it in of})
+    words = [
+        f"set terminal svg size {PANEL[0] * len(panels)},{PANEL[1]} font 'sans,11' background 'white'",
+        f"set output '{file}'",
+        f"set multiplot layout 1,{len(panels)} title \"{case}\"",
+        "set key top left samplen 1 font ',9'",
+        "set yrange [0:*]",
+        "set offsets 0, 0, graph 0.3, 0",
+        f"set xrange [{threads[0] - 0.2}:{threads[-1] + 0.2}]",
+        f"set xtics ({', '.join(map(str, threads))})",
+        "set grid ytics lc '#dddddd'",
+        "set xlabel 'threads'",
+        "set ylabel 'million operations a second'",
+    ]
+    for it in panels.items():
+        words += panel(*it)
+    text = "\n".join([*words, "unset multiplot", ""])
+    subprocess.run(["gnuplot"], input=text, text=True, check=True)
+    print(file)
+
+
+def plots(medians, folder):
+    """The pictures of cases that were measured at several numbers of threads: a warm start isn't."""
+    os.makedirs(folder, exist_ok=True)
+    cases = defaultdict(dict)
+    for (case, size, threads), of in medians.items():
+        cases[case][size, threads] = of
+    for case, of in cases.items():
+        if len({threads for _, threads in of}) > 1:
+            plot(case, of, f"{folder}/{case}.svg")
+
+
 PRINTERS = {"--medians": print_medians, "--front": print_front, "--all": print_all}
 
 
 def main():
     words = sys.argv[1:]
-    printer = PRINTERS.get(words[0] if words else "", print_ratios)
-    rounds, builds = read([it for it in words if it not in PRINTERS])
+    first = words.pop(0) if words[:1] and words[0] in (*PRINTERS, "--plots") else ""
+    folder = words.pop(0) if first == "--plots" and words else ""
+    rounds, builds = read(words)
     if not rounds:
         sys.exit(__doc__)
-    printer(medians_of(rounds), builds)
+    medians = medians_of(rounds)
+    if first == "--plots":
+        plots(medians, folder)
+    else:
+        PRINTERS.get(first, print_ratios)(medians, builds)
 
 
 main()

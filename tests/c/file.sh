@@ -1,30 +1,18 @@
 #!/usr/bin/env bash
-# Tests caches that go to files and come from them: rows, damage, what fails, mutated files; from C++ and
-# from Rust, also where streams fail and functions throw or panic; large values after warm starts; C and
-# C++ also under AddressSanitizer and UndefinedBehaviorSanitizer; and a script that reads and writes the
-# format by its description alone. It wants crates/hcc_c/out/libhcc_c.a, as `rt lib` in crates/hcc_c makes
-# it, and skips where there is no xxhash.h.
+# Tests caches that go to files and come from them: rows, damage, what fails, mutated files; from
+# C++ and from Rust, also where streams fail and functions throw or panic; large values after warm
+# starts; C and C++ also under AddressSanitizer and UndefinedBehaviorSanitizer; and a script that
+# reads and writes the format by its description alone. It wants crates/hcc_c/out/libhcc_c.a, as `rt
+# lib` in crates/hcc_c makes it, and skips where there is no xxhash.h.
 # Usage: tests/c/file.sh [FILES]     of mutated ones in each program: 100,000 by default
 set -u
 cd "$(dirname "$0")/../.." || exit 2
-[[ -f crates/hcc_c/out/libhcc_c.a ]] || { echo "file: no library: run 'rt lib' in crates/hcc_c"; exit 2; }
+. tests/shared.sh
+wants_library file
 
 files=${1:-100000}
-folder=$(mktemp -d)
-trap 'rm -rf "$folder"' EXIT
-failed=0
 program=("$folder/file")
 wrap=-Wl,--wrap=malloc,--wrap=realloc,--wrap=aligned_alloc,--wrap=free
-
-# Runs a check: tries NAME WORD..
-tries() {
-    local name=$1
-    shift
-    "$@" > "$folder/out" 2>&1 && return
-    echo "failed: $name"
-    head -n 20 "$folder/out"
-    failed=$((failed + 1))
-}
 
 # Builds a library of its own, with sanitizers if they are named: library SANITIZERS WORD..
 library() {
@@ -46,18 +34,13 @@ is_as_described() {
     tests/c/file_format.py write "$folder/newer" 2 < "$folder/read" && [[ $("${program[@]}" load "$folder/newer") == "refused: 5" ]]
 }
 
-# Whether the compiler can sanitize here.
-sanitizes() {
-    echo 'int main(void) { return 0; }' > "$folder/none.c"
-    cc -fsanitize=address,undefined "$folder/none.c" -o "$folder/none" 2> /dev/null && "$folder/none"
-}
-
 in_cpp() {
     cc -std=c11 -c tests/c/heap.c -o "$folder/heap.o" \
         && builds in_cpp c++ -std=c++17 "$@" tests/c/file.cpp "$folder/heap.o" "$wrap" && "$folder/in_cpp" "$folder/streamed"
 }
 
-# The crate with its feature; what memory it leaves AddressSanitizer says, where the C compiler has it.
+# The crate with its feature; what memory it leaves AddressSanitizer says, where the C compiler has
+# it.
 in_rust() {
     local words=(--edition 2021 -O -D warnings) sanitizer
     rustc "${words[@]}" --cfg 'feature="file"' --crate-type rlib --crate-name ferretgold rust/src/lib.rs \
@@ -68,7 +51,8 @@ in_rust() {
     "$folder/in_rust" && { [[ ! -f $sanitizer ]] || LD_PRELOAD=$sanitizer "$folder/in_rust"; }
 }
 
-# Large values after warm starts; with a library in which pieces have few keys they meet all the time.
+# Large values after warm starts; with a library in which pieces have few keys they meet all the
+# time.
 large_values() {
     builds large_file cc -std=c11 "$@" tests/c/large_file.c tests/c/large_values.c && "$folder/large_file"
 }
@@ -91,13 +75,7 @@ tries_all() {
     rm -rf "$folder/lib"
 }
 
-echo '#include <xxhash.h>' | cc -E -x c - > "$folder/out" 2>&1 \
-    || { echo "file: SKIPPED: there is no xxhash.h: tests/needs.sh installs it"; exit 0; }
+has_xxhash file || exit 0
 tries_all ""
-if sanitizes; then
-    tries_all address,undefined
-else
-    echo "file: this C compiler has no sanitizers, so it ran without them"
-fi
-echo "file: $failed failed"
-[[ $failed == 0 ]]
+sanitizes file cc && tries_all address,undefined
+counted file

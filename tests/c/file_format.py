@@ -1,53 +1,22 @@
 #!/usr/bin/env python3
 """Reads or writes a file of a cache that was saved, by the format's description in
-include/ferretgold_file.h alone, checksums too.
+include/ferretgold_file.h alone; checksums are those of xxHash's own library.
 
 Usage: file-format read FILE     prints its entries, a line each: KEY KEY CHARGE USES VALUE, as
                                  numbers and hexadecimal bytes; fails where the file isn't well
        file-format write FILE [VERSION]   writes the entries of such lines, read from standard input"""
+import ctypes
 import struct
 import sys
 
-MASK = (1 << 64) - 1
-P1, P2, P3, P4, P5 = (
-    0x9E3779B185EBCA87, 0xC2B2AE3D27D4EB4F, 0x165667B19E3779F9, 0x85EBCA77C2B2AE63, 0x27D4EB2F165667C5,
-)
+SUMS = ctypes.CDLL("libxxhash.so")
+SUMS.XXH64.argtypes = [ctypes.c_char_p, ctypes.c_size_t, ctypes.c_uint64]
+SUMS.XXH64.restype = ctypes.c_uint64
 BEGIN, HEAD = struct.Struct("<8sIIQ"), struct.Struct("<QQIIII")
 
 
-def turned(word, by):
-    return (word << by | word >> (64 - by)) & MASK
-
-
-def mixed(sum, word):
-    return turned((sum + word * P2) & MASK, 31) * P1 & MASK
-
-
 def xxh64(data, seed):
-    """XXH64, as its specification has it."""
-    at = 0
-    if len(data) >= 32:
-        sums = [(seed + P1 + P2) & MASK, (seed + P2) & MASK, seed, (seed - P1) & MASK]
-        for at in range(0, len(data) - 31, 32):
-            sums = [mixed(sum, word) for sum, word in zip(sums, struct.unpack_from("<4Q", data, at))]
-        at = len(data) // 32 * 32
-        hash = sum(turned(it, by) for it, by in zip(sums, (1, 7, 12, 18))) & MASK
-        for it in sums:
-            hash = ((hash ^ mixed(0, it)) * P1 + P4) & MASK
-    else:
-        hash = (seed + P5) & MASK
-    hash = (hash + len(data)) & MASK
-    while at + 8 <= len(data):
-        hash = (turned(hash ^ mixed(0, struct.unpack_from("<Q", data, at)[0]), 27) * P1 + P4) & MASK
-        at += 8
-    if at + 4 <= len(data):
-        hash = (turned(hash ^ struct.unpack_from("<I", data, at)[0] * P1 & MASK, 23) * P2 + P3) & MASK
-        at += 4
-    for it in data[at:]:
-        hash = turned(hash ^ it * P5 & MASK, 11) * P1 & MASK
-    for by, factor in ((33, P2), (29, P3), (32, 1)):
-        hash = (hash ^ hash >> by) * factor & MASK
-    return hash
+    return SUMS.XXH64(data, len(data), seed)
 
 
 def must(is_so, what):

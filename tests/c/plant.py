@@ -78,6 +78,12 @@ def closing(code, at):
     raise ValueError(f"a bracket at {at} has no end")
 
 
+def opening(code, at):
+    """Where the parenthesis begins that ends here."""
+    turned = code[at::-1].translate(str.maketrans("()[]{}", ")(][}{"))
+    return at - closing(turned, 0)
+
+
 def split(code, begin, end, marks):
     """The parts of a stretch between such marks that stand in no bracket: begins and ends."""
     parts, at, place = [], begin, begin
@@ -194,15 +200,12 @@ class Planter:
             self.exchange(function, one, other)
 
     def conditions(self, function, begin, end):
-        for it in re.finditer(r"\b(?:if|while)\s*\(", self.code[begin:end]):
-            at = begin + it.end() - 1
-            inner = at + 1
-            for part in split(self.code, inner, closing(self.code, at), (";",))[-1:]:
-                self.negate(function, *part)
-        for it in re.finditer(r"\bfor\s*\(", self.code[begin:end]):
+        for it in re.finditer(r"\b(if|while|for)\s*\(", self.code[begin:end]):
             at = begin + it.end() - 1
             parts = split(self.code, at + 1, closing(self.code, at), (";",))
-            if len(parts) == 3:
+            if it[1] != "for":
+                self.negate(function, *parts[-1])
+            elif len(parts) == 3:
                 self.negate(function, *parts[1])
         for it in re.finditer(r"\breturn\b", self.code[begin:end]):
             at = begin + it.end()
@@ -214,17 +217,9 @@ class Planter:
             at = stop - 1
             while at > begin and self.code[at] not in ",;({}" \
                     and not re.match(r"[^=!<>]=[^=]", self.code[at - 1:at + 2]):
-                at = self.opening(at) - 1 if self.code[at] == ")" else at - 1
+                at = opening(self.code, at) - 1 if self.code[at] == ")" else at - 1
             at += len(re.match(r"\s*(?:return\b)?", self.code[at + 1:stop])[0])
             self.negate(function, at + 1, stop)
-
-    def opening(self, at):
-        depth = 0
-        for place in range(at, 0, -1):
-            depth += (self.code[place] == ")") - (self.code[place] == "(")
-            if depth == 0:
-                return place
-        raise ValueError("no opening bracket")
 
     def operators(self, function, begin, end):
         """Operators that are other ones, and what isn't added or subtracted."""
@@ -344,6 +339,14 @@ class Trials:
         library = [here / it if it == bug.file or bug.file.endswith(".h") else self.object(it) for it in OBJECTS]
         return ["cc", "-std=c11", *checks, *words, *plays, *library, *self.libraries]
 
+    def tests_of(self, bug):
+        """The tests that may see a bug, the quickest first."""
+        yield from [self.passes] * (bug.file not in APART)
+        yield from [self.meets] * (bug.file not in APART and bug.checks)
+        yield from [self.saves] * (bug.file in SAVES)
+        yield from [self.lends] * (bug.file in CALLS and not bug.checks)
+        yield from [self.holds] * (bug.file in ("src/ferretgold.c", "src/large.c"))
+
     def try_it(self, number, bug):
         """What becomes of a bug, or of a file as it is: refused by the compiler, seen, or not."""
         here = self.folder / str(number)
@@ -351,19 +354,9 @@ class Trials:
             (here / file).parent.mkdir(parents=True, exist_ok=True)
             shutil.copy(TOP / file, here / file)
         (here / bug.file).write_text(bug.text, encoding="utf-8")
-        words = self.built(here, bug)
-        if subprocess.run(words, capture_output=True, check=False).returncode != 0:
-            ended = "refused"
-        elif bug.file not in APART and (not self.passes(here, bug) or (bug.checks and not self.meets(here, bug))):
-            ended = "seen"
-        elif bug.file in SAVES and not self.saves(here, bug):
-            ended = "seen"
-        elif bug.file in CALLS and not bug.checks and not self.lends(here, bug):
-            ended = "seen"
-        elif bug.file in ("src/ferretgold.c", "src/large.c") and not self.holds(here, bug):
-            ended = "seen"
-        else:
-            ended = "not seen"
+        ran = subprocess.run(self.built(here, bug), capture_output=True, check=False)
+        is_missed = ran.returncode == 0 and all(it(here, bug) for it in self.tests_of(bug))
+        ended = "refused" if ran.returncode else "not seen" if is_missed else "seen"
         shutil.rmtree(here)
         if ended == "not seen" and bug.file in CALLS and not bug.checks:
             return self.try_it(number, bug._replace(checks=True))

@@ -7,16 +7,13 @@
 # Usage: tests/install/run.sh
 set -u
 cd "$(dirname "$0")/../.." || exit 2
-[[ -f crates/hcc_c/out/libhcc_c.a ]] || { echo "install: no library: run 'rt lib' in crates/hcc_c"; exit 2; }
+. tests/shared.sh
+wants_library install
 make -s -C src || exit 1
 
-folder=$(mktemp -d)
-trap 'rm -rf "$folder"' EXIT
 prefix=$folder/prefix
 proved=$PWD/crates/hcc_c/out/libhcc_c.a
 version=$(sed -nE 's/^#define FERRETGOLD_VERSION "(.*)"/\1/p' include/ferretgold.h)
-passed=0
-failed=0
 skipped=0
 
 # The PATH without the folders that have Rattle.
@@ -28,20 +25,7 @@ without_rattle() {
     echo "$path"
 }
 
-# Runs a check: tries NAME WORD..
-tries() {
-    local name=$1
-    shift
-    if "$@" > "$folder/out" 2>&1; then
-        passed=$((passed + 1))
-    else
-        echo "failed: $name"
-        cat "$folder/out"
-        failed=$((failed + 1))
-    fi
-}
-
-# The same where a command is there: tries_with COMMAND NAME WORD..
+# Runs a check where a command is there: tries_with COMMAND NAME WORD..
 tries_with() {
     if command -v "$1" > /dev/null; then
         tries "${@:2}"
@@ -147,5 +131,4 @@ tries_with python3 "the shared library's functions" python3 tests/install/shared
 tries "make dist, twice" is_packed_alike
 tries "the archive" is_unpacked
 tries_with pkg-config "C, by the archive" by_pkg_config "$folder/unpacked"
-echo "install: $passed passed, $skipped skipped, $failed failed"
-[[ $failed == 0 ]]
+counted "install: $skipped skipped"

@@ -4,10 +4,7 @@ end and back by keys and by clicks, and compares what stands there after each ev
 line; looks at both colour schemes, a narrow window and the focus; and sees that a page with one wrong
 number fails. Without Debian's chromium, which tests/needs.sh installs, it says that it skipped.
 
-Usage: tests/page/replay.py [PROGRAM]                what rt ci built, if none is named
-       tests/page/replay.py --picture FILE [PROGRAM]      draws the picture of docs/DESIGN.md"""
-import argparse
-import base64
+Usage: tests/page/replay.py [PROGRAM]    what rt ci built, if none is named"""
 import glob
 import json
 import os
@@ -143,9 +140,6 @@ class Browser:
     def scheme(self, name):
         self.ask("Emulation.setEmulatedMedia", features=[{"name": "prefers-color-scheme", "value": name}])
 
-    def picture(self):
-        return base64.b64decode(self.ask("Page.captureScreenshot", format="png")["data"])
-
     def end(self):
         """Ends it: it goes with its pipe, and else by `timeout`, which passes the signal on."""
         os.close(self.to)
@@ -211,10 +205,15 @@ def walk(browser, script, lines):
     return ""
 
 
+def made(program, script, *options):
+    """What tools/page.py makes of a script."""
+    words = [f"{TOP}/tools/page.py", script, "--program", program, *options]
+    return subprocess.run(words, capture_output=True, text=True, timeout=SECONDS, check=False)
+
+
 def page_of(program, script, folder, *options):
     """The page of a script, in a file."""
-    words = [f"{TOP}/tools/page.py", script, "--program", program, *options]
-    ran = subprocess.run(words, capture_output=True, text=True, timeout=SECONDS, check=False)
+    ran = made(program, script, *options)
     judge(f"a page of {script}", ran.returncode == 0, ran.stderr)
     return written(folder, ran.stdout)
 
@@ -304,30 +303,14 @@ def refused(program, folder):
     bad = f"{folder}/bad.script"
     with open(bad, "w", encoding="utf-8") as it:
         it.write("start x\n")
-    ran = subprocess.run([f"{TOP}/tools/page.py", bad, "--program", program], capture_output=True, text=True, check=False)
+    ran = made(program, bad)
     judge("a script at fault", (ran.returncode, ran.stdout, ran.stderr) == (2, "", "line 1: BadNumber\n"), ran.stderr)
-    ran = subprocess.run([f"{TOP}/tools/page.py", bad, "--program", f"{folder}/none"], capture_output=True, text=True, check=False)
+    ran = made(f"{folder}/none", bad)
     judge("no program", ran.returncode == 1 and "no program" in ran.stderr, ran.stderr)
 
 
-def draw(browser, program, folder, file):
-    """The picture of the design page: an entry that is counted down, in the middle of its life."""
-    browser.size(960, 710)
-    browser.scheme("light")
-    browser.open(page_of(program, "examples/clock.script", folder))
-    browser.press("Home")
-    for _ in range(16):
-        browser.press("ArrowRight")
-    with open(file, "wb") as it:
-        it.write(browser.picture())
-
-
 def main():
-    told = argparse.ArgumentParser(description="Tries the pages of tools/page.py in a browser.")
-    told.add_argument("program", nargs="?", default=f"{TOP}/{BUILT}")
-    told.add_argument("--picture")
-    of = told.parse_args()
-    program, picture = os.path.abspath(of.program), of.picture and os.path.abspath(of.picture)
+    program = os.path.abspath(sys.argv[1] if len(sys.argv) > 1 else f"{TOP}/{BUILT}")
     os.chdir(TOP)
     if not os.access(program, os.X_OK):
         print(f"no program at {program}")
@@ -340,9 +323,6 @@ def main():
         browser = Browser(command, folder)
         try:
             browser.size(1200, 860)
-            if picture:
-                draw(browser, program, folder, picture)
-                return 0
             replays(browser, program, folder)
             looks(browser, program, folder)
             judge("no fault in the page, and no request beside it", not browser.faults, "; ".join(browser.faults))

@@ -5,17 +5,8 @@
 # Usage: tests/program/blocks.sh [PROGRAM]
 set -u
 cd "$(dirname "$0")/../.." || exit 2
-. tests/judging.sh
-
-# Plays the trace `input`, and looks at the status, the text on standard error and the output:
-# expect NAME STATUS ERRORS OUTPUT WORD..   Where ERRORS is `*`, any text but none will do.
-expect() {
-    local name=$1 status=$2 errors=$3 output=$4 ok=yes
-    shift 4
-    ends "$status" "$errors" blocks "$@" || ok=no
-    [[ $(cat "$folder/out"; echo .) == "$output"${output:+$'\n'}. ]] || ok=no
-    judge "$name" "$ok"
-}
+. tests/shared.sh
+wants_program "${1-}"
 
 # Lines of a trace.
 trace() { printf '%b' "$1" > "$folder/input"; }
@@ -51,8 +42,8 @@ orders() {
     for run in 1 2 3 4 5; do
         timeout 60 "$program" blocks "$@" < "$folder/input" 2> "$folder/err" \
             | parts "$slots" "$charge" > "$folder/parts"
-        [[ ! -s $folder/err ]] && cmp -s "$wanted" "$folder/parts" && ok=yes || ok=no
-        judge "$name, run $run" "$ok"
+        [[ ! -s $folder/err ]] && cmp -s "$wanted" "$folder/parts"
+        judge "$name, run $run"
     done
 }
 
@@ -62,24 +53,24 @@ forty=$folder/forty
 first='0 0 0\n0 0 0\n0 0 2\n0 0 3\n0 1 0\n'
 trace "$first"
 told=$(report 3 1 2 2 524 24 2)
-expect "a file of 40 bytes" 0 "" "$told" "$forty"
+expect "a file of 40 bytes" 0 "" <(echo "$told") blocks "$forty"
 for words in "--block 16" "--seed 0" "--room 512" "--shards 64" "--strict" "--marks" "--handles 1" \
     "--slots 65536" "--serials 3" "--capacity 1099511627776" "--handles 16384" "--seed 1"; do
     read -ra list <<< "$words"
-    expect "the same by $words" 0 "" "$told" "${list[@]}" "$forty"
+    expect "the same by $words" 0 "" <(echo "$told") blocks "${list[@]}" "$forty"
 done
-expect "one serial" 0 "" "$(report 3 0 3 2 524 16 1)" --serials 1 "$forty"
-expect "no capacity" 0 "" "$(report 3 0 3 2 524 0 0)" --strict --capacity 0 "$forty"
-expect "larger blocks" 0 "" "$(report 2 1 1 3 1560 40 1)" --block=40 --room 5 "$forty"
-expect "single bytes" 0 "" "$(report 4 1 3 1 5 3 3)" --block 1 "$forty"
-expect "no file" 0 "" "$(report 0 0 0 5 0 0 0)"
+expect "one serial" 0 "" <(report 3 0 3 2 524 16 1) blocks --serials 1 "$forty"
+expect "no capacity" 0 "" <(report 3 0 3 2 524 0 0) blocks --strict --capacity 0 "$forty"
+expect "larger blocks" 0 "" <(report 2 1 1 3 1560 40 1) blocks --block=40 --room 5 "$forty"
+expect "single bytes" 0 "" <(report 4 1 3 1 5 3 3) blocks --block 1 "$forty"
+expect "no file" 0 "" <(report 0 0 0 5 0 0 0) blocks
 : > "$folder/empty"
-expect "an empty file" 0 "" "$(report 0 0 0 5 0 0 0)" "$folder/empty"
-expect "a file twice" 0 "" "$(report 4 1 3 1 644 40 3)" "$forty" "$forty"
+expect "an empty file" 0 "" <(report 0 0 0 5 0 0 0) blocks "$folder/empty"
+expect "a file twice" 0 "" <(report 4 1 3 1 644 40 3) blocks "$forty" "$forty"
 trace ""
-expect "an empty trace" 0 "" "$(report 0 0 0 0 0 0 0)" "$forty"
+expect "an empty trace" 0 "" <(report 0 0 0 0 0 0 0) blocks "$forty"
 trace '0 4294967295 4294967295\n0 0 4294967295\n'
-expect "the greatest numbers" 0 "" "$(report 0 0 0 2 0 0 0)" "$forty"
+expect "the greatest numbers" 0 "" <(report 0 0 0 2 0 0 0) blocks "$forty"
 
 # Two clients read the 40 blocks of a file in turn, 2,000 reads each.
 python3 -c '
@@ -102,41 +93,33 @@ cp examples/blocks.reads "$folder/input"
 orders "the example" examples/blocks.part 53 600 --clients 4 --seed 7 --slots 64 --room 8 \
     --block 64 examples/first.script examples/first.out
 
-# Refusals, in order: nothing is read then, and nothing is written.
+# Refusals, in order.
+refuse BadSlots blocks --slots 12 "$folder/none"
+refuse BadSlots blocks --slots 4 --room 0 --block 17 "$folder/none"
+refuse BadRoom blocks --room 0 --clients 0 "$folder/none"
+refuse BadRoom blocks --room 513 "$folder/none"
+refuse BadClients blocks --clients 0 --handles 0 "$folder/none"
+refuse BadClients blocks --clients 1025 "$folder/none"
+refuse BadHandles blocks --handles 0 --shards 3 "$folder/none"
+refuse BadHandles blocks --handles 16385 "$folder/none"
+refuse BadShards blocks --shards 3 --capacity 1099511627777 "$folder/none"
+refuse BadShards blocks --shards 128 "$folder/none"
+refuse BadCapacity blocks --capacity 1099511627777 --serials 0 "$folder/none"
+refuse BadSerials blocks --serials 0 --block 0 "$folder/none"
+refuse BadSerials blocks --serials 18014398509481985 "$folder/none"
+refuse BadBlock blocks --block 0 "$folder/none"
+refuse BadBlock blocks --block 17 "$folder/none"
 trace 'x\n'
-refuse() {
-    local text=$1
-    shift
-    expect "refused: $*" 4 "refused $text" "" "$@" "$folder/none"
-}
-refuse BadSlots --slots 12
-refuse BadSlots --slots 4 --room 0 --block 17
-refuse BadRoom --room 0 --clients 0
-refuse BadRoom --room 513
-refuse BadClients --clients 0 --handles 0
-refuse BadClients --clients 1025
-refuse BadHandles --handles 0 --shards 3
-refuse BadHandles --handles 16385
-refuse BadShards --shards 3 --capacity 1099511627777
-refuse BadShards --shards 128
-refuse BadCapacity --capacity 1099511627777 --serials 0
-refuse BadSerials --serials 0 --block 0
-refuse BadSerials --serials 18014398509481985
-refuse BadBlock --block 0
-refuse BadBlock --block 17
 for words in "--block x" "--block -1" "--block 4294967296" "--slots 4294967296" "--seed" \
     "--strict --strict" "--slots 8 --slots 8" "--unknown"; do
     read -ra list <<< "$words"
-    expect "arguments: $words" 2 "*" "" "${list[@]}" "$folder/none"
+    expect "arguments: $words" 2 "*" $nothing blocks "${list[@]}" "$folder/none"
 done
-expect "a file that isn't there" 3 "file 0: unreadable" "" "$folder/none" "$forty"
-expect "a folder" 3 "file 1: unreadable" "" "$forty" "$folder" "$folder/none"
+expect "a file that isn't there" 3 "file 0: unreadable" $nothing blocks "$folder/none" "$forty"
+expect "a folder" 3 "file 1: unreadable" $nothing blocks "$forty" "$folder" "$folder/none"
 
 # Texts at fault.
-fault() {
-    trace "$1"
-    expect "a text at fault: $2" 2 "$2" "" --clients 2 "$forty"
-}
+faulty=(blocks --clients 2 "$forty")
 fault '0 0 0\n1 0 0' "line 2: Unended"
 fault '0\t0 0\n' "line 1: NotAscii"
 for text in '\n' '0 0\n' '0 0 0 0\n' '0  0 0\n' ' 0 0 0\n' 'x\n'; do
@@ -163,16 +146,16 @@ sys.stdout.buffer.write(b"0 0 " + b"1" * (rest - 5) + b"\n")' > "$folder/input"
 reads=$(wc -l < "$folder/input")
 before=$SECONDS
 timeout 60 "$program" blocks --clients 1024 --handles 1 < "$folder/input" > "$folder/out"
-[[ $? == 0 && $(stat -c %s "$folder/input") == 67108864 ]] && ok=yes || ok=no
-judge "2^26 bytes for 1024 clients" "$ok"
+[[ $? == 0 && $(stat -c %s "$folder/input") == 67108864 ]]
+judge "2^26 bytes for 1024 clients"
 took=$((SECONDS - before))
 [[ $(python3 -c 'import json, sys; print(sum(c["missing"] for c in json.load(sys.stdin)["clients"]))' \
-    < "$folder/out") == "$reads" ]] && ok=yes || ok=no
-judge "each line was played" "$ok"
-((took <= 30)) && ok=yes || ok=no
-judge "in $took seconds" "$ok"
+    < "$folder/out") == "$reads" ]]
+judge "each line was played"
+((took <= 30))
+judge "in $took seconds"
 echo >> "$folder/input"
-expect "2^26 bytes and one" 2 "input too large" "" --clients 1024 --handles 1
+expect "2^26 bytes and one" 2 "input too large" $nothing blocks --clients 1024 --handles 1
 
 # How far a long play is, told on a terminal alone: 2^20 reads and one more, and a short play.
 terminal() {
@@ -188,33 +171,23 @@ while not told.endswith(b"."):
 print(repr(told))' "$1"
 }
 yes "0 0 0" | head -n 1048577 > "$folder/long"
-[[ $(terminal "$folder/long") == "b'\\r1048576 reads\\r\\n.'" ]] && ok=yes || ok=no
-judge "a long play on a terminal" "$ok"
+[[ $(terminal "$folder/long") == "b'\\r1048576 reads\\r\\n.'" ]]
+judge "a long play on a terminal"
 trace "$first"
-[[ $(terminal "$folder/input") == "b'.'" ]] && ok=yes || ok=no
-judge "a short play on a terminal" "$ok"
-timeout 60 "$program" blocks < "$folder/long" > /dev/null 2> "$folder/err"
-[[ $? == 0 && ! -s $folder/err ]] && ok=yes || ok=no
-judge "a long play elsewhere" "$ok"
+[[ $(terminal "$folder/input") == "b'.'" ]]
+judge "a short play on a terminal"
+from=$folder/long ends 0 "" blocks
+judge "a long play elsewhere"
 
 # Devices that fail, and too little memory.
 trace "$first"
-timeout 60 "$program" blocks "$forty" < "$folder" > "$folder/out" 2> "$folder/err"
-[[ $? == 3 && $(cat "$folder/err") == "read failed" && ! -s $folder/out ]] && ok=yes || ok=no
-judge "a folder as input" "$ok"
-if [[ -c /dev/full ]]; then
-    timeout 60 "$program" blocks "$forty" < "$folder/input" > /dev/full 2> "$folder/err"
-    [[ $? == 3 && $(cat "$folder/err") == "write failed" ]] && ok=yes || ok=no
-    judge "a full device" "$ok"
-fi
-timeout 60 cat "$folder/input" | "$program" blocks "$forty" | cmp -s - <(echo "$told") \
-    && ok=yes || ok=no
-judge "pipes at both ends" "$ok"
+devices blocks "$forty"
+timeout 60 cat "$folder/input" | "$program" blocks "$forty" | cmp -s - <(echo "$told")
+judge "pipes at both ends"
 head -c 16777216 /dev/zero > "$folder/large"
 (ulimit -v 12288; exec timeout 60 "$program" blocks "$folder/large") < "$folder/input" \
     > "$folder/out" 2> "$folder/err"
-[[ $? == 5 && $(cat "$folder/err") == "out of memory" && ! -s $folder/out ]] && ok=yes || ok=no
-judge "too little memory for a file" "$ok"
+[[ $? == 5 && ! -s $folder/out ]] && said "out of memory"
+judge "too little memory for a file"
 
-echo "blocks: $passed passed, $failed failed"
-[[ $failed == 0 ]]
+counted blocks

@@ -8,6 +8,7 @@ Usage: tests/program/many.py [PROGRAM]      by default what rt ci built
        tests/program/many.py --print N      trace N from 0 on; its options go to standard error"""
 import collections
 import os
+import random
 import re
 import subprocess
 import sys
@@ -30,32 +31,15 @@ AT_END = "handles held at the end"
 OTHER_SHARD = "displaced above 0 in another shard than the first"
 
 
-class Draws:
-    """Numbers that look random, the same at each run."""
-
-    def __init__(self, seed):
-        self.state = seed
-        for _ in range(8):
-            self.below(2)
-
-    def below(self, end):
-        """The next number below this one."""
-        self.state = (self.state * 6364136223846793005 + 1442695040888963407) % 2**64
-        return (self.state >> 33) % end
-
-    def one_of(self, them):
-        return them[self.below(len(them))]
-
-
 def options(number, draws):
     """The options of a trace, and the most that a charge commonly is. The capacity is some twenty
     charges, of all shards together or of each."""
-    slots, shards, most = draws.one_of((8, 16, 32, 64)), draws.one_of((1, 2, 4)), draws.one_of((1, 10, 40, 2000))
-    capacity = (10 + draws.below(21)) * (most + 1) // 2 * draws.one_of((1, shards))
+    slots, shards, most = draws.choice((8, 16, 32, 64)), draws.choice((1, 2, 4)), draws.choice((1, 10, 40, 2000))
+    capacity = (10 + draws.randrange(21)) * (most + 1) // 2 * draws.choice((1, shards))
     told = {
-        "slots": slots, "shards": shards, "room": 1 + draws.below(4), "clients": 1 + draws.below(4),
-        "handles": draws.one_of((2, 8, slots, 2 * slots)), "capacity": capacity,
-        "serials": draws.one_of((2**54, 2**54, 400 + draws.below(400))), "seed": draws.one_of((0, draws.below(2**31))),
+        "slots": slots, "shards": shards, "room": 1 + draws.randrange(4), "clients": 1 + draws.randrange(4),
+        "handles": draws.choice((2, 8, slots, 2 * slots)), "capacity": capacity,
+        "serials": draws.choice((2**54, 2**54, 400 + draws.randrange(400))), "seed": draws.choice((0, draws.randrange(2**31))),
         "strict": number % 2 == 1, "marks": number // 2 % 2 == 1,
     }
     return told, most
@@ -65,13 +49,13 @@ class Drawer:
     """Draws the lines of one trace, with the model playing along."""
 
     def __init__(self, model, number):
-        self.draws = Draws(number + 1)
+        self.draws = random.Random(number)
         self.options, self.most = options(number, self.draws)
         self.cache = model.Cache(self.options)
-        self.keys = 1 + self.draws.below(3 * self.options["slots"] * self.options["shards"])
+        self.keys = 1 + self.draws.randrange(3 * self.options["slots"] * self.options["shards"])
         # Releases come seldom in some traces, so that much is held, and often in others.
         letters = {"I": 10, "P": 6, "G": 12, "F": 2, "V": 3, "E": 2, "U": 2, "W": 4, "S": 1}
-        letters["R"] = self.draws.one_of((6, 16, 24))
+        letters["R"] = self.draws.choice((6, 16, 24))
         self.letters = "".join(letter * often for letter, often in letters.items())
 
     def words(self):
@@ -84,46 +68,46 @@ class Drawer:
 
     def key(self):
         """One of the trace's keys. The upper half of the first word is another shard's."""
-        number = self.draws.below(self.keys)
+        number = self.draws.randrange(self.keys)
         return f"{number % 5 + (number // 5 % 4 << 32)} {number // 20}"
 
     def charge(self):
         """At most the trace's most; now and then more than a shard may hold."""
-        if self.draws.below(40):
-            return 1 + self.draws.below(self.most)
-        return 1 + self.draws.below(2 * self.options["capacity"])
+        if self.draws.randrange(40):
+            return 1 + self.draws.randrange(self.most)
+        return 1 + self.draws.randrange(2 * self.options["capacity"])
 
     def entry(self):
-        size = self.draws.below(8 * self.options["room"] + 1)
-        value = "".join(f"{self.draws.below(256):02x}" for _ in range(size)) or "-"
-        return f"{self.key()} {self.charge()} {self.draws.one_of('HLB')} {value}"
+        size = self.draws.randrange(8 * self.options["room"] + 1)
+        value = "".join(f"{self.draws.randrange(256):02x}" for _ in range(size)) or "-"
+        return f"{self.key()} {self.charge()} {self.draws.choice('HLB')} {value}"
 
     def register(self, client, is_full):
         """A register that is full, or empty, as the call needs; now and then any."""
         held = self.cache.clients[client].registers
         several = [str(it) for it in range(self.options["handles"] + 4)]
         fit = [it for it in several if (it in held) == is_full]
-        return self.draws.one_of(fit if fit and self.draws.below(16) else several)
+        return self.draws.choice(fit if fit and self.draws.randrange(16) else several)
 
     def slot(self):
-        return f"{self.draws.below(self.options['shards'])} {self.draws.below(self.options['slots'])}"
+        return f"{self.draws.randrange(self.options['shards'])} {self.draws.randrange(self.options['slots'])}"
 
     def letter(self, client):
         """A letter; seldom one that reads a register where all are empty."""
-        letter = self.draws.one_of(self.letters)
-        while letter in "RVF" and not self.cache.clients[client].registers and self.draws.below(16):
-            letter = self.draws.one_of(self.letters)
+        letter = self.draws.choice(self.letters)
+        while letter in "RVF" and not self.cache.clients[client].registers and self.draws.randrange(16):
+            letter = self.draws.choice(self.letters)
         return letter
 
     def line(self):
-        client = self.draws.below(self.options["clients"])
+        client = self.draws.randrange(self.options["clients"])
         letter = self.letter(client)
         rest = {
             "I": self.entry,
             "P": lambda: f"{self.register(client, False)} {self.entry()}",
             "G": lambda: f"{self.register(client, False)} {self.key()}",
             "F": lambda: f"{self.register(client, False)} {self.register(client, True)}",
-            "R": lambda: f"{self.register(client, True)} {self.draws.one_of('UN')} {self.draws.one_of('KKKE')}",
+            "R": lambda: f"{self.register(client, True)} {self.draws.choice('UN')} {self.draws.choice('KKKE')}",
             "V": lambda: self.register(client, True),
             "E": self.key,
             "W": self.slot,

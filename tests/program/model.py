@@ -1,11 +1,5 @@
-#!/usr/bin/env python3
 """Answers a trace of calls by the rules of docs/, in one thread and with no words packed: a second
-opinion on what `hcc_play run` prints. It knows no faults of texts.
-
-Usage: tests/program/model.py [--slots N] .. [--strict] [--marks] < TRACE
-"""
-
-import sys
+opinion on what `hcc_play run` prints, which many.py asks. It knows no faults of texts."""
 
 WORD = 2**64
 FIRST = {"H": 3, "L": 2, "B": 1}
@@ -299,24 +293,3 @@ class Cache:
         charges = sum(e.charge for e in left)
         counts = f'"charges":{charges},"occupied":{occupied},"slots":{len(left)},"usage":{usage}'
         return "{" + counts + "}"
-
-
-def options(words):
-    told = {"slots": 8, "room": 2, "clients": 1, "handles": 8, "shards": 1, "capacity": 600,
-            "serials": 2**54, "seed": 0, "strict": False, "marks": False}
-    words = iter(words)
-    for word in words:
-        name = word[2:]
-        told[name] = True if isinstance(told[name], bool) else int(next(words))
-    return told
-
-
-def main():
-    cache = Cache(options(sys.argv[1:]))
-    for line in sys.stdin:
-        print(cache.answer(line.rstrip("\n")))
-    print(cache.report())
-
-
-if __name__ == "__main__":
-    main()

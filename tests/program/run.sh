@@ -3,23 +3,8 @@
 # Usage: tests/program/run.sh [PROGRAM]
 set -u
 cd "$(dirname "$0")/../.." || exit 2
-. tests/judging.sh
-
-# Runs the program on the file `input`: expect NAME STATUS ERRORS OUTPUT-FILE WORD..
-# Where ERRORS is `*`, any text but none will do; where OUTPUT-FILE is `*`, any output but none.
-expect() {
-    local name=$1 status=$2 errors=$3 output=$4 ok=yes
-    shift 4
-    ends "$status" "$errors" "$@" || ok=no
-    if [[ $output == "*" ]]; then
-        [[ -s $folder/out ]] || ok=no
-    else
-        cmp -s "$output" "$folder/out" || ok=no
-    fi
-    judge "$name" "$ok"
-}
-
-nothing=/dev/null
+. tests/shared.sh
+wants_program "${1-}"
 
 # Scripts with their output.
 for script in examples/*.script; do
@@ -29,23 +14,17 @@ done
 cp examples/first.script "$folder/input"
 expect "no arguments" 0 "" examples/first.out
 : > "$folder/input"
-expect "an empty script" 0 "" "$nothing" core
+expect "an empty script" 0 "" $nothing core
 
 # Arguments, and help.
-for words in "--slots 2" "core --slots 0" "core --slots 17" "core --clients 0" \
-    "core --clients 1025" "core --capacity 1099511627777" "core --capacity many" "core --slots x" \
-    "core file" "core --strict --strict" "core --unknown" "--strict"; do
-    read -ra list <<< "$words"
-    expect "arguments: $words" 2 "*" "$nothing" "${list[@]}"
-done
-expect "arguments that are no text" 2 "*" "$nothing" core $'\xff'
-for words in "--help" "-h" "help" "core --help" "help core" "run --help"; do
-    read -ra list <<< "$words"
-    expect "help: $words" 0 "" "*" "${list[@]}"
-done
+expect_each "arguments" 2 "*" $nothing "--slots 2" "core --slots 0" "core --slots 17" \
+    "core --clients 0" "core --clients 1025" "core --capacity 1099511627777" \
+    "core --capacity many" "core --slots x" "core file" "core --strict --strict" "core --unknown" "--strict"
+expect "arguments that are no text" 2 "*" $nothing core $'\xff'
+expect_each "help" 0 "" "*" "--help" "-h" "help" "core --help" "help core" "run --help"
 
-"$program" --help < /dev/null | grep -qxF "Usage: hcc_play [COMMAND]" && ok=yes || ok=no
-judge "the usage has its command as optional" "$ok"
+"$program" --help < /dev/null | grep -qxF "Usage: hcc_play [COMMAND]"
+judge "the usage has its command as optional"
 
 echo "hcc_play $(sed -nE 's/^## ([0-9.]+),.*/\1/p' CHANGELOG.md | head -n 1)" > "$folder/want"
 for word in --version -V; do
@@ -54,7 +33,7 @@ done
 
 # What is read from a terminal is told on standard error, once the options are judged.
 typed() {
-    local name=$1 want=$2 ok
+    local name=$1 want=$2
     shift 2
     [[ $(PROGRAM=$program python3 -c '
 import os, pty, subprocess, sys
@@ -62,8 +41,8 @@ ours, theirs = pty.openpty()
 os.write(ours, b"\x04")  # the end of file
 ran = subprocess.run([os.environ["PROGRAM"], *sys.argv[1:]], stdin=theirs, stderr=subprocess.PIPE,
                      stdout=subprocess.DEVNULL, timeout=60)
-print(ran.returncode, ran.stderr.decode(), end="")' "$@") == "$want" ]] && ok=yes || ok=no
-    judge "on a terminal: $name" "$ok"
+print(ran.returncode, ran.stderr.decode(), end="")' "$@") == "$want" ]]
+    judge "on a terminal: $name"
 }
 behind="from the terminal, up to the end of file (Ctrl-D)"
 typed "no arguments" "0 reads a script $behind"
@@ -72,6 +51,15 @@ typed "a trace" "0 reads a trace of calls $behind" run
 typed "block reads" "0 reads a trace of block reads $behind" blocks
 typed "a trace, refused" "4 refused BadSlots" run --slots 12
 typed "block reads, refused" "4 refused BadBlock" blocks --block 0
+
+# Sees that a command's help has a line for each word, in place of @: helps COMMAND PATTERN WORD..
+helps() {
+    local word
+    for word in "${@:3}"; do
+        "$program" "$1" --help < /dev/null | grep -qE "${2//@/$word}"
+        judge "help of $1 tells of $word"
+    done
+}
 
 # What the options and the defaults mean.
 play() {
@@ -91,19 +79,12 @@ play 'start 0\nstart 1\ncharge 0 60\ncharge 1 60\n' \
     core --strict --capacity 100
 play 'start 0\ncharge 0 601\n' "ok$empty 0 0 0 0\nsplit 600 1$empty 601 0 0 0\n" core --strict
 play 'start 0\ncharge 0 601\n' "ok$empty 0 0 0 0\nsplit 7 594$empty 601 0 0 0\n" core --strict --capacity 7
-for verb in start end look acquire give use occupy show hide free empty clock mark correct write \
-    read count pass unpass charge settle waive usage enter slots quit occupancy stand fall standing \
-    turn; do
-    ok=yes
-    "$program" core --help < /dev/null | grep -qE "(^|   *)$verb [c0-9]" || ok=no
-    judge "help tells of $verb" "$ok"
-done
+helps core '(^|   *)@ [c0-9]' start end look acquire give use occupy show hide free empty clock \
+    mark correct write read count pass unpass charge settle waive usage enter slots quit occupancy \
+    stand fall standing turn
 
-# Texts at fault: nothing is written, and the first fault is told.
-fault() {
-    printf '%b' "$1" > "$folder/input"
-    expect "a text at fault: $2" 2 "$2" "$nothing" core
-}
+# Texts at fault.
+faulty=(core)
 fault 'start 0\nlook 0 0' "line 2: Unended"
 fault 'start\t0\n' "line 1: NotAscii"
 fault 'start 0\n\n' "line 2: BadWord"
@@ -117,9 +98,9 @@ fault "start $(printf '0%.0s' {1..8395})\n" "line 1: TooLong"
 # As many bytes as may be, all judged, and one more.
 block=$(printf 'start 0\n%.0s' {1..1024})
 { for _ in {1..8191}; do echo "$block"; done; echo "${block%0}x"; } > "$folder/input"
-expect "2^26 bytes" 2 "line 8388608: BadNumber" "$nothing" core
+expect "2^26 bytes" 2 "line 8388608: BadNumber" $nothing core
 echo >> "$folder/input"
-expect "2^26 bytes and one" 2 "input too large" "$nothing" core
+expect "2^26 bytes and one" 2 "input too large" $nothing core
 
 # Registers take memory as they are filled: 1,024 clients name their last one and fill it, in 64 MiB.
 for client in {0..1023}; do echo "$client G 16383 0 1"; done > "$folder/input"
@@ -127,8 +108,8 @@ for client in {0..1023}; do echo "$client P 16383 1 $client 1 L -"; done >> "$fo
 for client in {0..1023}; do echo "$client P 16383 0 1 1 L -"; done >> "$folder/input"
 [[ $(ulimit -v 65536; "$program" run --clients 1024 --handles 1 < "$folder/input" \
     | sed -E 's/^(placed|standalone)$/filled/' | sort | uniq -c | awk '{ print $1, $2 }') == \
-    "1024 busy"$'\n'"1024 filled"$'\n'"1024 miss"$'\n'"1 {"* ]] && ok=yes || ok=no
-judge "1,024 clients whose last register is named and filled, in 64 MiB" "$ok"
+    "1024 busy"$'\n'"1024 filled"$'\n'"1024 miss"$'\n'"1 {"* ]]
+judge "1,024 clients whose last register is named and filled, in 64 MiB"
 
 # Traces of calls with their answers, and examples.
 for trace in examples/*.trace; do
@@ -159,134 +140,93 @@ while IFS= read -r line; do
 done < tests/program/calls
 
 # Options of traces: what is refused before anything is read, and what is no option.
-refuse() {
-    local want=$1 ok=yes
-    shift
-    "$program" run "$@" < "$folder" > "$folder/out" 2> "$folder/err"
-    [[ $? == 4 && $(cat "$folder/err") == "refused $want" && ! -s $folder/out ]] || ok=no
-    judge "refused: $*" "$ok"
-}
-for slots in 0 4 12 131072; do refuse BadSlots --slots $slots; done
-refuse BadSlots --slots 12 --room 0
-for room in 0 513; do refuse BadRoom --slots 8 --room $room; done
-for clients in 0 1025; do refuse BadClients --clients $clients; done
-for handles in 0 16385; do refuse BadHandles --handles $handles; done
-for shards in 0 3 128; do refuse BadShards --shards $shards; done
-refuse BadCapacity --capacity 1099511627777
-for serials in 0 18014398509481985; do refuse BadSerials --serials $serials; done
+for slots in 0 4 12 131072; do refuse BadSlots run --slots $slots; done
+refuse BadSlots run --slots 12 --room 0
+for room in 0 513; do refuse BadRoom run --slots 8 --room $room; done
+for clients in 0 1025; do refuse BadClients run --clients $clients; done
+for handles in 0 16385; do refuse BadHandles run --handles $handles; done
+for shards in 0 3 128; do refuse BadShards run --shards $shards; done
+refuse BadCapacity run --capacity 1099511627777
+for serials in 0 18014398509481985; do refuse BadSerials run --serials $serials; done
 : > "$folder/input"
 printf '{"charges":0,"occupied":0,"slots":0,"usage":0}\n' > "$folder/want"
-for words in "--slots 65536" "--room 512" "--clients 1024 --handles 1" "--handles 16384" "--shards 64" \
-    "--capacity 1099511627776" "--capacity 0" "--serials 1" "--serials 18014398509481984" \
-    "--seed 18446744073709551615" "--strict --marks"; do
-    read -ra list <<< "$words"
-    expect "taken: $words" 0 "" "$folder/want" run "${list[@]}"
-done
-for words in "run --slots 4294967296" "run --slots x" "run --slots -1" "run --serials 18446744073709551616" \
-    "run --seed -1" "run file" "run --block 16" "run --strict --strict" "run --slots 8 --slots 8"; do
-    read -ra list <<< "$words"
-    expect "arguments: $words" 2 "*" "$nothing" "${list[@]}"
-done
+expect_each "taken" 0 "" "$folder/want" "run --slots 65536" "run --room 512" \
+    "run --clients 1024 --handles 1" "run --handles 16384" "run --shards 64" \
+    "run --capacity 1099511627776" "run --capacity 0" "run --serials 1" \
+    "run --serials 18014398509481984" "run --seed 18446744073709551615" "run --strict --marks"
+expect_each "arguments" 2 "*" $nothing "run --slots 4294967296" "run --slots x" "run --slots -1" \
+    "run --serials 18446744073709551616" "run --seed -1" "run file" "run --block 16" \
+    "run --strict --strict" "run --slots 8 --slots 8"
 
-# Traces at fault: nothing is written, and the first fault is told.
-trace_fault() {
-    printf '%b' "$1" > "$folder/input"
-    expect "a trace at fault: $2, $1" 2 "$2" "$nothing" run
-}
-trace_fault '0 G 0 0 1' "line 1: Unended"
-trace_fault '0 X 1\n' "line 1: BadWord"
-trace_fault '0 I 0 1 200 L aa\n0 E 18446744073709551616 0\n' "line 2: BadNumber"
-trace_fault '0 R 0 U\n' "line 1: BadWord"
-trace_fault '0  U\n' "line 1: BadWord"
-trace_fault '0\n' "line 1: BadWord"
-trace_fault '\n' "line 1: BadWord"
-trace_fault '0 u\n' "line 1: BadWord"
-trace_fault '0 UU\n' "line 1: BadWord"
-trace_fault '0 U 0\n' "line 1: BadWord"
-trace_fault '01 U\n' "line 1: BadNumber"
-trace_fault '1 U\n' "line 1: OutOfRange"
-trace_fault '18446744073709551616 U\n' "line 1: BadNumber"
-trace_fault '1 I 0 x 1 L -\n' "line 1: OutOfRange"
-trace_fault '0 I 0 1 0 L -\n' "line 1: OutOfRange"
-trace_fault '0 I 0 1 4294967296 L -\n' "line 1: OutOfRange"
-trace_fault '0 I 0 1 1 X -\n' "line 1: BadChoice"
-trace_fault '0 I 0 1 1 LL abc\n' "line 1: BadChoice"
-trace_fault '0 I 0 1 1 L abc\n' "line 1: BadValue"
-trace_fault '0 I 0 1 1 L AA\n' "line 1: BadValue"
-trace_fault "0 I 0 1 1 L $(printf '0%.0s' {1..34})\n" "line 1: ValueTooLong"
-trace_fault "0 I 0 1 1 L $(printf '0%.0s' {1..33})\n" "line 1: BadValue"
-trace_fault "0 P 0 0 1 1 L $(printf '0%.0s' {1..34})\n" "line 1: ValueTooLong"
-trace_fault '0 P 16384 0 1 1 L -\n' "line 1: OutOfRange"
-trace_fault '0 G 16384 0 x\n' "line 1: OutOfRange"
-trace_fault '0 F 0 16384\n' "line 1: OutOfRange"
-trace_fault '0 R 0 X X\n' "line 1: BadChoice"
-trace_fault '0 R 0 U X\n' "line 1: BadChoice"
-trace_fault '0 R x U X\n' "line 1: BadNumber"
-trace_fault '0 V -\n' "line 1: BadNumber"
-trace_fault '0 W 1 0\n' "line 1: OutOfRange"
-trace_fault '0 W 0 8\n' "line 1: OutOfRange"
-trace_fault '0\tU\n' "line 1: NotAscii"
-trace_fault '0 U\n0 W 0 8\n0 V -\n' "line 2: OutOfRange"
-trace_fault "$(printf '0%.0s' {1..8401})" "line 1: TooLong"
-for letter in I P G F R V E U W S; do
-    ok=yes
-    "$program" run --help < /dev/null | grep -q "^  0 $letter" || ok=no
-    judge "help tells of $letter" "$ok"
-done
-for word in HandlesFull Spent TooLarge CapacityFull OccupancyFull TooLong Unended NotAscii BadWord \
-    BadNumber OutOfRange BadChoice BadValue ValueTooLong; do
-    ok=yes
-    "$program" run --help < /dev/null | grep -q "^  $word  " || ok=no
-    judge "help tells of $word" "$ok"
-done
-for word in blocks faults hits misses missing sum; do
-    ok=yes
-    "$program" blocks --help < /dev/null | grep -q "^  $word  " || ok=no
-    judge "help tells of the member $word" "$ok"
-done
+# Traces at fault.
+faulty=(run)
+fault '0 G 0 0 1' "line 1: Unended"
+fault '0 X 1\n' "line 1: BadWord"
+fault '0 I 0 1 200 L aa\n0 E 18446744073709551616 0\n' "line 2: BadNumber"
+fault '0 R 0 U\n' "line 1: BadWord"
+fault '0  U\n' "line 1: BadWord"
+fault '0\n' "line 1: BadWord"
+fault '\n' "line 1: BadWord"
+fault '0 u\n' "line 1: BadWord"
+fault '0 UU\n' "line 1: BadWord"
+fault '0 U 0\n' "line 1: BadWord"
+fault '01 U\n' "line 1: BadNumber"
+fault '1 U\n' "line 1: OutOfRange"
+fault '18446744073709551616 U\n' "line 1: BadNumber"
+fault '1 I 0 x 1 L -\n' "line 1: OutOfRange"
+fault '0 I 0 1 0 L -\n' "line 1: OutOfRange"
+fault '0 I 0 1 4294967296 L -\n' "line 1: OutOfRange"
+fault '0 I 0 1 1 X -\n' "line 1: BadChoice"
+fault '0 I 0 1 1 LL abc\n' "line 1: BadChoice"
+fault '0 I 0 1 1 L abc\n' "line 1: BadValue"
+fault '0 I 0 1 1 L AA\n' "line 1: BadValue"
+fault "0 I 0 1 1 L $(printf '0%.0s' {1..34})\n" "line 1: ValueTooLong"
+fault "0 I 0 1 1 L $(printf '0%.0s' {1..33})\n" "line 1: BadValue"
+fault "0 P 0 0 1 1 L $(printf '0%.0s' {1..34})\n" "line 1: ValueTooLong"
+fault '0 P 16384 0 1 1 L -\n' "line 1: OutOfRange"
+fault '0 G 16384 0 x\n' "line 1: OutOfRange"
+fault '0 F 0 16384\n' "line 1: OutOfRange"
+fault '0 R 0 X X\n' "line 1: BadChoice"
+fault '0 R 0 U X\n' "line 1: BadChoice"
+fault '0 R x U X\n' "line 1: BadNumber"
+fault '0 V -\n' "line 1: BadNumber"
+fault '0 W 1 0\n' "line 1: OutOfRange"
+fault '0 W 0 8\n' "line 1: OutOfRange"
+fault '0\tU\n' "line 1: NotAscii"
+fault '0 U\n0 W 0 8\n0 V -\n' "line 2: OutOfRange"
+fault "$(printf '0%.0s' {1..8401})" "line 1: TooLong"
+helps run '^  0 @' I P G F R V E U W S
+helps run '^  @  ' HandlesFull Spent TooLarge CapacityFull OccupancyFull TooLong Unended NotAscii \
+    BadWord BadNumber OutOfRange BadChoice BadValue ValueTooLong
+helps blocks '^  @  ' blocks faults hits misses missing sum
 
 # Readers and writers that fail.
 cp examples/first.script "$folder/input"
-timeout 60 "$program" core < "$folder" > "$folder/out" 2> "$folder/err"
-[[ $? == 3 && $(cat "$folder/err") == "read failed" && ! -s $folder/out ]] && ok=yes || ok=no
-judge "a folder as input" "$ok"
+devices core
 if [[ -c /dev/full ]]; then
-    timeout 60 "$program" core < "$folder/input" > /dev/full 2> "$folder/err"
-    [[ $? == 3 && $(cat "$folder/err") == "write failed" ]] && ok=yes || ok=no
-    judge "a full device" "$ok"
-    timeout 60 "$program" core < /dev/null > /dev/full 2> "$folder/err"
-    [[ $? == 0 && ! -s $folder/err ]] && ok=yes || ok=no
-    judge "nothing on a full device" "$ok"
-    timeout 60 "$program" --help > /dev/full 2> "$folder/err"
-    [[ $? == 3 && $(cat "$folder/err") == "write failed" ]] && ok=yes || ok=no
-    judge "help on a full device" "$ok"
+    from=/dev/null to=/dev/full ends 0 "" core
+    judge "nothing on a full device"
+    to=/dev/full ends 3 "write failed" --help
+    judge "help on a full device"
 fi
-for _ in {1..64}; do echo "$block"; done > "$folder/input"
-timeout 60 "$program" core < "$folder/input" 2> "$folder/err" | head -n 1 > "$folder/out"
-[[ ${PIPESTATUS[0]} == 3 && $(cat "$folder/err") == "write failed" ]] && ok=yes || ok=no
-judge "a closed pipe" "$ok"
-timeout 60 cat examples/first.script | "$program" | cmp -s - examples/first.out && ok=yes || ok=no
-judge "pipes at both ends" "$ok"
-
-timeout 60 "$program" run < "$folder" > "$folder/out" 2> "$folder/err"
-[[ $? == 3 && $(cat "$folder/err") == "read failed" && ! -s $folder/out ]] && ok=yes || ok=no
-judge "a folder as a trace" "$ok"
 cp examples/first.trace "$folder/input"
-if [[ -c /dev/full ]]; then
-    timeout 60 "$program" run < "$folder/input" > /dev/full 2> "$folder/err"
-    [[ $? == 3 && $(cat "$folder/err") == "write failed" ]] && ok=yes || ok=no
-    judge "answers on a full device" "$ok"
-fi
+devices run
+timeout 60 cat examples/first.script | "$program" | cmp -s - examples/first.out
+judge "pipes at both ends"
+closed_pipe() {
+    timeout 60 "$program" "$1" < "$folder/input" 2> "$folder/err" | head -n 1 > "$folder/out"
+    [[ ${PIPESTATUS[0]} == 3 ]] && said "write failed"
+    judge "a closed pipe: $1"
+}
+for _ in {1..64}; do echo "$block"; done > "$folder/input"
+closed_pipe core
 for _ in {1..40000}; do echo "0 U"; done > "$folder/input"
-timeout 60 "$program" run < "$folder/input" 2> "$folder/err" | head -n 1 > "$folder/out"
-[[ ${PIPESTATUS[0]} == 3 && $(cat "$folder/err") == "write failed" ]] && ok=yes || ok=no
-judge "answers to a closed pipe" "$ok"
+closed_pipe run
 
 # So little memory that the input finds no room.
 { for _ in {1..2048}; do echo "$block"; done; } > "$folder/input"
 (ulimit -v 12288; exec timeout 60 "$program" core) < "$folder/input" > "$folder/out" 2> "$folder/err"
-[[ $? == 5 && $(cat "$folder/err") == "out of memory" && ! -s $folder/out ]] && ok=yes || ok=no
-judge "too little memory" "$ok"
+[[ $? == 5 && ! -s $folder/out ]] && said "out of memory"
+judge "too little memory"
 
-echo "program: $passed passed, $failed failed"
-[[ $failed == 0 ]]
+counted program
