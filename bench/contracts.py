@@ -3,7 +3,7 @@
 contract: those of specs/ that it names, and those that these name. A name stands for what its file
 imports or has under it, so each number is an upper bound.
 
-usage: bench/definitions.py CRATE FUNCTION..    as: bench/definitions.py hcc_cache Cache::get"""
+usage: bench/contracts.py CRATE FUNCTION..    as: bench/contracts.py hcc_cache Cache::get"""
 import os
 import re
 import sys
@@ -12,7 +12,7 @@ sys.dont_write_bytecode = True
 TOP = os.path.join(os.path.dirname(os.path.realpath(__file__)), "..")
 sys.path[:0] = [f"{TOP}/tests/edits", f"{TOP}/tests/static"]
 from crates import crates
-from definitions import definitions_in
+from page import definitions_in
 from functions import functions_of
 
 WORD = re.compile(r"[^\s(){}\[\],;.⟦⟧`]+")
