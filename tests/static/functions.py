@@ -165,7 +165,8 @@ def rows_of_body(lines, row, indent):
         if not line.startswith(indent) or line[len(indent) :].startswith((" ", "#")):
             continue
         if line.endswith("{"):
-            return opens, next(n for n in range(opens, len(lines)) if lines[n] == f"{indent}}}")
+            rest = range(opens, len(lines))
+            return opens, next((n for n in rest if lines[n] == f"{indent}}}"), opens)
         if line.endswith(("}", ";")):
             return opens, opens
     return row, row
