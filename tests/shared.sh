@@ -107,10 +107,13 @@ refuse() {
     from=$folder expect "refused: ${*:2}" 4 "refused $1" $nothing "${@:2}"
 }
 
-# A text in which the command `faulty` finds this fault first, and writes nothing: fault TEXT ERRORS
-fault() {
-    printf '%b' "$1" > "$folder/input"
-    expect "a text at fault: $2, $1" 2 "$2" $nothing "${faulty[@]}"
+# Texts in which the command `faulty` finds this fault first, and writes nothing: faults FAULT TEXT..
+faults() {
+    local text
+    for text in "${@:2}"; do
+        printf '%b' "$text" > "$folder/input"
+        expect "a text at fault: $1, $text" 2 "$1" $nothing "${faulty[@]}"
+    done
 }
 
 # Plays a command whose input is a folder, and the file `input` to a device that is full: devices

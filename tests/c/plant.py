@@ -306,11 +306,14 @@ class Trials:
             subprocess.run(["c++", "-std=c++17", *WARN, "-x", "c++-header", self.folder / "std.hpp"], check=True)
         saving = ["tests/c/file.c", "src/file.c"] if files & set(SAVES) else []
         for file in (*PLAYS, "tests/c/heap.c", *OBJECTS, *saving):
-            subprocess.run(["cc", "-std=c11", *WARN, f"-I{TOP}/include", "-c", TOP / file, "-o",
-                            self.object(file)], check=True)
+            self.compiled(TOP, *WARN, "-c", TOP / file, "-o", self.object(file))
         for few, file in itertools.product(("", "64"), LARGE):
-            subprocess.run(["cc", "-std=c11", "-O1", *self.keys(few), f"-I{TOP}/include", "-c", TOP / file,
-                            "-o", self.test(few, file)], check=True)
+            self.compiled(TOP, "-O1", *self.keys(few), "-c", TOP / file, "-o", self.test(few, file))
+
+    @staticmethod
+    def compiled(top, *words):
+        """Compiles C with the headers of this folder."""
+        subprocess.run(["cc", "-std=c11", f"-I{top}/include", *words], check=True)
 
     def object(self, file):
         return self.folder / (file.replace("/", "-") + ".o")
@@ -384,32 +387,31 @@ class Trials:
         words = [here / "play", here / "streamed"]
         if bug.file.endswith(".c"):
             words = [here / "file", "rows"]
-            subprocess.run(["cc", "-o", here / "file", self.object("tests/c/file.c"), self.object("tests/c/heap.c"),
-                            here / "apart.o", *map(self.object, OBJECTS), *self.libraries], check=True)
+            parts = map(self.object, ("tests/c/file.c", "tests/c/heap.c", *OBJECTS))
+            self.compiled(here, "-o", here / "file", *parts, here / "apart.o", *self.libraries)
         return self.ends(bug, 10, words)[0]
 
     def meets(self, here, bug):
         """Whether two calls in one client end the program as they should."""
-        subprocess.run(["cc", "-std=c11", "-DFERRETGOLD_CHECK", f"-I{here}/include", "-o", here / "meets",
-                        TOP / "tests/c/entered.c", here / "src/ferretgold.c", self.object("src/large.c"),
-                        *self.least, "-Wl,--wrap=malloc"], check=True)
+        parts = TOP / "tests/c/entered.c", here / "src/ferretgold.c", self.object("src/large.c"), *self.least
+        self.compiled(here, "-DFERRETGOLD_CHECK", "-o", here / "meets", *parts, "-Wl,--wrap=malloc")
         return self.ends(bug, 20, [here / "meets"], -signal.SIGABRT) == (True, MET)
 
     def lends(self, here, bug):
         """Whether threads that borrow clients find no fault."""
-        subprocess.run(["cc", "-std=c11", f"-I{here}/include", "-o", here / "pool", TOP / "tests/c/pool.c",
-                        here / "src/ferretgold.c", self.object("src/large.c"), *self.least], check=True)
+        parts = TOP / "tests/c/pool.c", here / "src/ferretgold.c", self.object("src/large.c"), *self.least
+        self.compiled(here, "-o", here / "pool", *parts)
         return self.ends(bug, 20, [here / "pool", "3", "400000"])[0]
 
     def holds(self, here, bug):
         """Whether large values are right, where pieces have few keys and where they have all: first the
         rows, then a second of threads."""
-        words = ["cc", "-std=c11", *(["-DFERRETGOLD_CHECK"] if bug.checks else []), f"-I{here}/include"]
+        checks = ["-DFERRETGOLD_CHECK"] if bug.checks else []
         for seconds, few in itertools.product("01", ("64", "")):
             program = here / f"large{few}"
             if not program.exists():
-                subprocess.run([*words, *self.keys(few), "-o", program, *(self.test(few, it) for it in LARGE),
-                                here / "src/ferretgold.c", here / "src/large.c", *self.least, MEET], check=True)
+                parts = *(self.test(few, it) for it in LARGE), here / "src/ferretgold.c", here / "src/large.c"
+                self.compiled(here, *checks, *self.keys(few), "-o", program, *parts, *self.least, MEET)
             if not self.ends(bug, 60, [program, seconds])[0]:
                 return False
         return True

@@ -12,6 +12,7 @@ import shutil
 import subprocess
 import sys
 import tempfile
+from pathlib import Path
 
 sys.dont_write_bytecode = True
 TOP = os.path.realpath(os.path.join(os.path.dirname(__file__), "../.."))
@@ -218,16 +219,13 @@ def page_of(program, script, folder, *options):
     return written(folder, ran.stdout)
 
 
-def written(folder, text):
-    file = f"{folder}/page.html"
-    with open(file, "w", encoding="utf-8") as it:
-        it.write(text)
-    return file
+def written(folder, text, name="page.html"):
+    (folder / name).write_text(text, encoding="utf-8")
+    return folder / name
 
 
 def lines_of(program, script, *options):
-    with open(script, encoding="utf-8") as it:
-        text = it.read()
+    text = Path(script).read_text(encoding="utf-8")
     ran = subprocess.run([program, "core", *options], input=text, capture_output=True, text=True, timeout=SECONDS, check=True)
     return text.splitlines(), ran.stdout.splitlines()
 
@@ -250,10 +248,7 @@ read 0 7|correct 0 7|give 0 7|hide 1 18446744073709551615|use 1 1844674407370955
 acquire 2 4 3 1|unpass 1 1|empty 1|slots 1|settle 1|waive 1|enter 1|quit 1|occupancy 1|charge 1 4|stand 1 4 9|standing 1
 fall 1 9|turn 1|turn 2|waive 1|clock 0 2|charge 0 3|enter 0|occupy 0 2|show 0 1 2 3 1 - -|clock 0 2|look 2 2|acquire 2 2 1 5
 acquire 2 2 2 6|end 0|end 1|look 7 0|look 0 9"""
-    file = f"{folder}/every.script"
-    with open(file, "w", encoding="utf-8") as it:
-        it.write(events.replace("|", "\n") + "\n")
-    return file
+    return written(folder, events.replace("|", "\n") + "\n", "every.script")
 
 
 def looks(browser, program, folder):
@@ -288,8 +283,7 @@ def looks(browser, program, folder):
 def forged(browser, program, folder):
     """Pages that show something else than the program says, each of which has to fail."""
     script, lines = lines_of(program, "examples/first.script")
-    with open(page_of(program, "examples/first.script", folder), encoding="utf-8") as it:
-        text = it.read()
+    text = page_of(program, "examples/first.script", folder).read_text(encoding="utf-8")
     for name, old, new in (("a use more", "u3,r-", "u4,r-"), ("another reply", '"freed 5 ', '"freed 6 '),
                            ("a ledger", "| 5 0 0 0", "| 5 1 0 0"), ("another line", '"hide 1 4"', '"hide 1 5"'),
                            ("a step too few", "show(at - 1)", "show(at)")):
@@ -300,9 +294,7 @@ def forged(browser, program, folder):
 
 def refused(program, folder):
     """What can't be played makes no page."""
-    bad = f"{folder}/bad.script"
-    with open(bad, "w", encoding="utf-8") as it:
-        it.write("start x\n")
+    bad = written(folder, "start x\n", "bad.script")
     ran = made(program, bad)
     judge("a script at fault", (ran.returncode, ran.stdout, ran.stderr) == (2, "", "line 1: BadNumber\n"), ran.stderr)
     ran = made(f"{folder}/none", bad)
@@ -320,7 +312,7 @@ def main():
         print("page: SKIPPED: there is no chromium, and tests/needs.sh could install none")
         return 0
     with tempfile.TemporaryDirectory(ignore_cleanup_errors=True) as folder:
-        browser = Browser(command, folder)
+        browser, folder = Browser(command, folder), Path(folder)
         try:
             browser.size(1200, 860)
             replays(browser, program, folder)

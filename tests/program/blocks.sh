@@ -120,18 +120,12 @@ expect "a folder" 3 "file 1: unreadable" $nothing blocks "$forty" "$folder" "$fo
 
 # Texts at fault.
 faulty=(blocks --clients 2 "$forty")
-fault '0 0 0\n1 0 0' "line 2: Unended"
-fault '0\t0 0\n' "line 1: NotAscii"
-for text in '\n' '0 0\n' '0 0 0 0\n' '0  0 0\n' ' 0 0 0\n' 'x\n'; do
-    fault "$text" "line 1: BadWord"
-done
-for text in 'x 0 0\n' '0 00 0\n' '1 0 -\n' '0 18446744073709551616 x\n'; do
-    fault "$text" "line 1: BadNumber"
-done
-for text in '2 x 0\n' '0 4294967296 x\n' '0 0 4294967296\n'; do
-    fault "0 0 0\n$text" "line 2: OutOfRange"
-done
-fault "0 0 $(printf '0%.0s' {1..8397})\n" "line 1: TooLong"
+faults "line 2: Unended" '0 0 0\n1 0 0'
+faults "line 1: NotAscii" '0\t0 0\n'
+faults "line 1: BadWord" '\n' '0 0\n' '0 0 0 0\n' '0  0 0\n' ' 0 0 0\n' 'x\n'
+faults "line 1: BadNumber" 'x 0 0\n' '0 00 0\n' '1 0 -\n' '0 18446744073709551616 x\n'
+faults "line 2: OutOfRange" '0 0 0\n2 x 0\n' '0 0 0\n0 4294967296 x\n' '0 0 0\n0 0 4294967296\n'
+faults "line 1: TooLong" "0 0 $(printf '0%.0s' {1..8397})\n"
 
 # As many bytes as may be, for as many clients as may be, and one more byte.
 python3 -c '

@@ -85,15 +85,14 @@ helps core '(^|   *)@ [c0-9]' start end look acquire give use occupy show hide f
 
 # Texts at fault.
 faulty=(core)
-fault 'start 0\nlook 0 0' "line 2: Unended"
-fault 'start\t0\n' "line 1: NotAscii"
-fault 'start 0\n\n' "line 2: BadWord"
-fault 'start 0\nstart 01\n' "line 2: BadNumber"
-fault 'start 0\nstart 00\nstart\n' "line 2: BadNumber"
-fault 'start 4294967296\n' "line 1: OutOfRange"
-fault 'show 0 1 2 3 1 - abc\n' "line 1: BadValue"
-fault "show 0 1 2 3 1 - $(printf '00%.0s' {1..65})\n" "line 1: ValueTooLong"
-fault "start $(printf '0%.0s' {1..8395})\n" "line 1: TooLong"
+faults "line 2: Unended" 'start 0\nlook 0 0'
+faults "line 1: NotAscii" 'start\t0\n'
+faults "line 2: BadWord" 'start 0\n\n'
+faults "line 2: BadNumber" 'start 0\nstart 01\n' 'start 0\nstart 00\nstart\n'
+faults "line 1: OutOfRange" 'start 4294967296\n'
+faults "line 1: BadValue" 'show 0 1 2 3 1 - abc\n'
+faults "line 1: ValueTooLong" "show 0 1 2 3 1 - $(printf '00%.0s' {1..65})\n"
+faults "line 1: TooLong" "start $(printf '0%.0s' {1..8395})\n"
 
 # As many bytes as may be, all judged, and one more.
 block=$(printf 'start 0\n%.0s' {1..1024})
@@ -160,41 +159,20 @@ expect_each "arguments" 2 "*" $nothing "run --slots 4294967296" "run --slots x" 
 
 # Traces at fault.
 faulty=(run)
-fault '0 G 0 0 1' "line 1: Unended"
-fault '0 X 1\n' "line 1: BadWord"
-fault '0 I 0 1 200 L aa\n0 E 18446744073709551616 0\n' "line 2: BadNumber"
-fault '0 R 0 U\n' "line 1: BadWord"
-fault '0  U\n' "line 1: BadWord"
-fault '0\n' "line 1: BadWord"
-fault '\n' "line 1: BadWord"
-fault '0 u\n' "line 1: BadWord"
-fault '0 UU\n' "line 1: BadWord"
-fault '0 U 0\n' "line 1: BadWord"
-fault '01 U\n' "line 1: BadNumber"
-fault '1 U\n' "line 1: OutOfRange"
-fault '18446744073709551616 U\n' "line 1: BadNumber"
-fault '1 I 0 x 1 L -\n' "line 1: OutOfRange"
-fault '0 I 0 1 0 L -\n' "line 1: OutOfRange"
-fault '0 I 0 1 4294967296 L -\n' "line 1: OutOfRange"
-fault '0 I 0 1 1 X -\n' "line 1: BadChoice"
-fault '0 I 0 1 1 LL abc\n' "line 1: BadChoice"
-fault '0 I 0 1 1 L abc\n' "line 1: BadValue"
-fault '0 I 0 1 1 L AA\n' "line 1: BadValue"
-fault "0 I 0 1 1 L $(printf '0%.0s' {1..34})\n" "line 1: ValueTooLong"
-fault "0 I 0 1 1 L $(printf '0%.0s' {1..33})\n" "line 1: BadValue"
-fault "0 P 0 0 1 1 L $(printf '0%.0s' {1..34})\n" "line 1: ValueTooLong"
-fault '0 P 16384 0 1 1 L -\n' "line 1: OutOfRange"
-fault '0 G 16384 0 x\n' "line 1: OutOfRange"
-fault '0 F 0 16384\n' "line 1: OutOfRange"
-fault '0 R 0 X X\n' "line 1: BadChoice"
-fault '0 R 0 U X\n' "line 1: BadChoice"
-fault '0 R x U X\n' "line 1: BadNumber"
-fault '0 V -\n' "line 1: BadNumber"
-fault '0 W 1 0\n' "line 1: OutOfRange"
-fault '0 W 0 8\n' "line 1: OutOfRange"
-fault '0\tU\n' "line 1: NotAscii"
-fault '0 U\n0 W 0 8\n0 V -\n' "line 2: OutOfRange"
-fault "$(printf '0%.0s' {1..8401})" "line 1: TooLong"
+faults "line 1: Unended" '0 G 0 0 1'
+faults "line 1: BadWord" '0 X 1\n' '0 R 0 U\n' '0  U\n' '0\n' '\n' '0 u\n' '0 UU\n' '0 U 0\n'
+faults "line 2: BadNumber" '0 I 0 1 200 L aa\n0 E 18446744073709551616 0\n'
+faults "line 1: BadNumber" '01 U\n' '18446744073709551616 U\n' '0 R x U X\n' '0 V -\n'
+faults "line 1: OutOfRange" '1 U\n' '1 I 0 x 1 L -\n' '0 I 0 1 0 L -\n' '0 I 0 1 4294967296 L -\n' \
+    '0 P 16384 0 1 1 L -\n' '0 G 16384 0 x\n' '0 F 0 16384\n' '0 W 1 0\n' '0 W 0 8\n'
+faults "line 1: BadChoice" '0 I 0 1 1 X -\n' '0 I 0 1 1 LL abc\n' '0 R 0 X X\n' '0 R 0 U X\n'
+faults "line 1: BadValue" '0 I 0 1 1 L abc\n' '0 I 0 1 1 L AA\n' \
+    "0 I 0 1 1 L $(printf '0%.0s' {1..33})\n"
+faults "line 1: ValueTooLong" "0 I 0 1 1 L $(printf '0%.0s' {1..34})\n" \
+    "0 P 0 0 1 1 L $(printf '0%.0s' {1..34})\n"
+faults "line 1: NotAscii" '0\tU\n'
+faults "line 2: OutOfRange" '0 U\n0 W 0 8\n0 V -\n'
+faults "line 1: TooLong" "$(printf '0%.0s' {1..8401})"
 helps run '^  0 @' I P G F R V E U W S
 helps run '^  @  ' HandlesFull Spent TooLarge CapacityFull OccupancyFull TooLong Unended NotAscii \
     BadWord BadNumber OutOfRange BadChoice BadValue ValueTooLong

@@ -102,7 +102,7 @@ def no_allocation():
     due = list(way)
     while due:
         caller = due.pop()
-        if found := ALLOCATES.search(code.bodies[caller]):
+        if found := ALLOCATES.search(caller.body):
             at, ways = caller, []
             while at:
                 ways.append(at.label)

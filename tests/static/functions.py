@@ -43,9 +43,9 @@ class Clause:
 
 
 class Function:
-    """A function: where it is, its doc comment, its signature and its clauses."""
+    """A function: where it is, its doc comment, its signature, its clauses, and its body's code."""
 
-    def __init__(self, crate, path, lines, row, block):
+    def __init__(self, crate, path, lines, code, row, block):
         found = FUNCTION.match(lines[row])
         self.crate, self.path, self.row, self.indent = crate.name, path, row, found[1]
         trait = TRAIT.match(block) if found[1] else None
@@ -61,6 +61,8 @@ class Function:
         self.is_export = row > 0 and "no_mangle" in lines[row - 1]
         self.docs = docs_above(lines, row)
         self.signature, self.clauses = contract_at(lines, row, found[1])
+        opens, end = rows_of_body(code, row, found[1])
+        self.body = "\n".join(code[opens + 1 : end]) if opens < end else code[opens]
 
     def place(self, row=None):
         """The link to a line of its file, from docs/."""
@@ -113,12 +115,12 @@ def functions_of(crate):
     """All functions of a crate but those of its tests, in the order of its files."""
     found = []
     for path in crate.files(".rt"):
-        lines, block = crate.text(path).split("\n"), ""
+        lines, code, block = crate.text(path).split("\n"), code_of(crate.text(path)).split("\n"), ""
         for row, line in enumerate(lines):
             if BLOCK.match(line):
                 block = line
             if FUNCTION.match(line):
-                found.append(Function(crate, path, lines, row, block))
+                found.append(Function(crate, path, lines, code, row, block))
     return found
 
 
@@ -163,16 +165,11 @@ def rows_of_body(lines, row, indent):
         if not line.startswith(indent) or line[len(indent) :].startswith((" ", "#")):
             continue
         if line.endswith("{"):
-            return opens, next(n for n in range(opens, len(lines)) if lines[n] == f"{indent}}}")
+            rest = range(opens, len(lines))
+            return opens, next((n for n in rest if lines[n] == f"{indent}}}"), opens)
         if line.endswith(("}", ";")):
             return opens, opens
     return row, row
-
-
-def body_of(function, lines):
-    """A function's body, also one that stands on the signature's row."""
-    opens, end = rows_of_body(lines, function.row, function.indent)
-    return "\n".join(lines[opens + 1 : end]) if opens < end else lines[opens]
 
 
 def body_at(text, at):
@@ -203,24 +200,17 @@ def closed_over(calls, name):
 
 
 class Code:
-    """The functions of some crates with their bodies."""
+    """The functions of some crates with their calls."""
 
     def __init__(self, crates, names):
-        self.crates, self.functions, self.named, self.public = crates, [], {}, set()
-        self.bodies, self.calls = {}, {}
+        self.crates, self.functions, self.public, self.named = crates, [], set(), {}
         for name in names:
-            crate = crates[name]
-            exports = Exports(crate)
-            texts = {}
-            for it in functions_of(crate):
-                if it.path not in texts:
-                    texts[it.path] = code_of(crate.text(it.path)).split("\n")
-                self.functions.append(it)
-                self.bodies[it] = body_of(it, texts[it.path])
-                self.calls[it] = set(CALL.findall(self.bodies[it]))
-                self.named.setdefault(it.name, []).append(it)
-                if exports.has(it):
-                    self.public.add(it)
+            found, exports = functions_of(crates[name]), Exports(crates[name])
+            self.functions += found
+            self.public.update(it for it in found if exports.has(it))
+        self.calls = {it: set(CALL.findall(it.body)) for it in self.functions}
+        for it in self.functions:
+            self.named.setdefault(it.name, []).append(it)
 
     def is_called(self, function, caller):
         """Whether one function's body may call another: by its name, and by its type's where it says one."""
@@ -242,7 +232,7 @@ class Code:
         calls = {}
         for it in own:
             called = {of.symbol for of in self.called_by(it) if of.crate == crate}
-            calls.setdefault(it.symbol, set()).update(called, errors if "?" in self.bodies[it] else ())
+            calls.setdefault(it.symbol, set()).update(called, errors if "?" in it.body else ())
         return {it: closed_over(calls, it) for it in calls}
 
 

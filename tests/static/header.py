@@ -4,6 +4,8 @@ import re
 import subprocess
 from pathlib import Path
 
+from texts import read
+
 TOP = Path(__file__).resolve().parent.parent.parent
 CRATE = TOP / "crates/hcc_c/src"
 # The structs that cross, as the library and as C call them.
@@ -22,7 +24,7 @@ GIVEN = ("ferretgold_write", "ferretgold_read")  # functions of the caller's, wh
 
 def source(name):
     """A file of the crate without its comments."""
-    return re.sub(r"//.*", "", (CRATE / name).read_text(encoding="utf-8"))
+    return re.sub(r"//.*", "", read(CRATE / name))
 
 
 def structs():
@@ -71,10 +73,6 @@ def layout():
         yield from (it for it in ran.stderr.split("\n") if "error" in it)
         if ran.returncode and "error" not in ran.stderr:
             yield ran.stderr
-
-
-def read(path):
-    return path.read_text(encoding="utf-8")
 
 
 def code_of(path):

@@ -1,4 +1,5 @@
 """Checks of numbers that the crates have and texts repeat: limits, and bounds on atomic steps."""
+import operator
 import re
 
 from functions import functions_of
@@ -79,6 +80,7 @@ SIZES = [(8, 1, 1), (64, 3, 2), (8192, 512, 64), (65536, 100, 7)]
 DEFINED = {"hcc_table": "Steps", "hcc_charge": "Evicted", "hcc_shard": "Inserted"}
 VARIABLES = {"self.now.geometry.slots": "L", "self.now.geometry.room": "W", "length self.now.shards.items": "S",
              "words_for result": "W", "words_for len": "W", "(v w.": "("}
+OPERATORS = {"+": operator.add, "-": operator.sub, "*": operator.mul, "/": operator.floordiv}
 TERM = re.compile(r"\s*([A-Za-z_]\w*|\d+|[-+*/()])")
 DEFINITION = r"^(%s)((?: \w+)*) = ([^\n]+)$"
 
@@ -97,29 +99,25 @@ class Terms:
         words = TERM.findall(text)
         if "".join(words) != re.sub(r"\s", "", text):
             raise ValueError(text)
-        value, rest = self.sum(words, names)
+        value, rest = self.joined(words, names)
         if rest:
             raise ValueError(text)
         return value
 
-    def sum(self, words, names):
-        left, words = self.product(words, names)
-        while words and words[0] in "+-":
-            sign, (right, words) = words[0], self.product(words[1:], names)
-            left = left + right if sign == "+" else left - right
-        return left, words
-
-    def product(self, words, names):
-        left, words = self.applied(words, names)
-        while words and words[0] in "*/":
-            sign, (right, words) = words[0], self.applied(words[1:], names)
-            left = left * right if sign == "*" else left // right
+    def joined(self, words, names, signs=("+-", "*/")):
+        """The value of a sum, or of a product, and the words behind it."""
+        if not signs:
+            return self.applied(words, names)
+        left, words = self.joined(words, names, signs[1:])
+        while words and words[0] in signs[0]:
+            sign, (right, words) = words[0], self.joined(words[1:], names, signs[1:])
+            left = OPERATORS[sign](left, right)
         return left, words
 
     def applied(self, words, names):
         head, words = words[0], words[1:]
         if head == "(":
-            value, words = self.sum(words, names)
+            value, words = self.joined(words, names)
             return value, words[1:]
         if head.isdigit():
             return int(head), words
