@@ -9,7 +9,7 @@ import glob
 import os
 import re
 
-from crates import FOLDERS, symbol_of
+from crates import FOLDERS, crates, symbol_of
 from functions import BLOCK, body_at
 
 IMPORT = re.compile(r"\s*(?:pub )?(?:ghost )?use ")
@@ -113,3 +113,28 @@ def edits_of(crate):
             edits = read_edits(file).items()
             found += [Edit(crate, name, pairs, folder == "must-fail") for name, pairs in edits]
     return sorted(found, key=lambda it: it.name)
+
+
+def fault_of(edit, crate):
+    """What is wrong with an edit's text or name, or nothing. Its name is FILE.FUNCTION.WHAT, with any item
+    in the function's place."""
+    words, path = edit.name.split("."), edit.pairs[0][0] if edit.pairs else ""
+    file = os.path.basename(path).partition(".")[0]
+    if edit.verdict:
+        return edit.said
+    if not path.startswith("src/") or words[0] != file or len(words) != 3:
+        return f"name it {file}.FUNCTION.WHAT"
+    item = rf"\b(fn|const|struct|enum|trait|type) {re.escape(words[1])}\b"
+    return "" if re.search(item, crate.text(path)) else f"there is no {words[1]} in {path}"
+
+
+def edits():
+    """Edits that change no code, whose old text isn't in its file once, that aren't named by what they
+    change, or have a name that another one has."""
+    found = [(it, crate) for crate in crates().values() for it in edits_of(crate)]
+    keys = [it.key for it, _ in found]
+    for it, crate in found:
+        if fault := fault_of(it, crate):
+            yield f"{it.key}: {fault}"
+        if keys.count(it.key) > 1:
+            yield f"{it.key}: stands in must-fail/ and in edits/"
