@@ -143,14 +143,14 @@ impl<T: Tag> Cache<T> {
         ensures steps { TakesAtMost (freeing self.now.geometry.slots + 3) client.old client.new }
     {
         client.let_go(handle);
-        let usage = if useful { Use::Useful } else { Use::NotUseful };
+        let as_use = if useful { Use::Useful } else { Use::NotUseful };
         let last = if erase_if_last {
             IfLast::Erase
         } else {
             IfLast::Keep
         };
         let seat = &mut client.seats[hold.shard];
-        self.shards[hold.shard].release(seat, pin, usage, last)
+        self.shards[hold.shard].release(seat, pin, as_use, last)
     }
 
     /// The same, of a standalone entry.

@@ -113,16 +113,16 @@ impl<T: Tag, A: Allocator> Shard<T, A> {
     /// atomic add or subtraction; where nobody holds the entry and it may go a compare-exchange,
     /// and where that wins what freeing the slot costs and two subtractions.
     #[inline(always)]
-    pub fn release(&self, seat: &mut ShardSeat<T>, pin: Pin, usage: Use, last: IfLast) -> bool
+    pub fn release(&self, seat: &mut ShardSeat<T>, pin: Pin, as_use: Use, last: IfLast) -> bool
         requires seat { Rests self.now seat.old }
         requires slot { IsSlotOf self.now.table pin.slot }
         requires holds { IsPinned pin (view seat.old.seat) }
         ensures seat { Rests self.now seat.new }
         ensures view { IsReleased pin.name (erases last) result
             (view seat.old.seat) (view seat.new.seat) }
-        ensures gives { GivesBackAt self.now pin.slot (is_useful usage && pin.counting)
+        ensures gives { GivesBackAt self.now pin.slot (is_useful as_use && pin.counting)
             (erases last) result seat.old seat.new }
-        ensures by { ReleasesAt self.now pin.slot pin.name (is_useful usage && pin.counting)
+        ensures by { ReleasesAt self.now pin.slot pin.name (is_useful as_use && pin.counting)
             (erases last) result seat.old seat.new }
         ensures effort { Lost 0 1 seat.old.effort seat.new.effort }
         ensures counts { SameEvictions seat.old seat.new }
@@ -133,7 +133,7 @@ impl<T: Tag, A: Allocator> Shard<T, A> {
             &self.table,
             &mut seat.seat,
             pin,
-            usage,
+            as_use,
             last,
             &mut seat.effort,
         ) {
