@@ -1,4 +1,5 @@
 //! One function for each kind of step, and what it shows its seat.
+mod atomics;
 mod frees;
 mod hand;
 mod ledgers;
@@ -8,7 +9,6 @@ mod occupancy;
 mod owners;
 mod reads;
 mod references;
-mod said;
 mod seats;
 mod shows;
 mod standing;
