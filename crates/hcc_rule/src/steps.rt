@@ -1,10 +1,11 @@
 //! One function for each kind of step, and what it shows its seat.
 mod atomics;
+mod bits;
+mod counters;
 mod frees;
 mod hand;
 mod ledgers;
 mod looks;
-mod marks;
 mod occupancy;
 mod owners;
 mod reads;
