@@ -6,7 +6,7 @@ use Rattle.hcc_shard.specs.declared.entries.ClosedEntry.{ClosedEntry}
 use Rattle.hcc_shard.specs.declared.seat.Stats.{Stats as CacheStats}
 use Rattle.hcc_cache.specs.declared.config.Config.{Config}
 use Rattle.hcc_cache.specs.declared.handle.Handle.{Handle}
-use Rattle.hcc_cache.specs.declared.handle.Numbers.{Numbers}
+use Rattle.hcc_cache.specs.declared.handle.HandleParts.{HandleParts}
 use Rattle.hcc_c.specs.declared.shapes.Entry.{Entry}
 use Rattle.hcc_c.specs.declared.shapes.Key.{Key}
 use Rattle.hcc_c.specs.declared.shapes.CHandle.{CHandle}
@@ -27,7 +27,7 @@ number_of cache handle = record {
   cache = cache;
 }
 
-abbrev pub numbers_in : CHandle → Numbers
+abbrev pub numbers_in : CHandle → HandleParts
 numbers_in number =
     record { client = number.client; index = number.index; serial = number.serial }
 

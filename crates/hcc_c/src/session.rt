@@ -3,7 +3,7 @@ ghost use Rattle.std.specs.Prelude.{◌≡◌, IfNone, IfSome};
 ghost use Rattle.hcc_c.specs.Shapes.{numbers_in};
 
 use crate::shapes::{CHandle, Counts};
-use hcc_cache::{AnyBytes, Cache, Client, Numbers};
+use hcc_cache::{AnyBytes, Cache, Client, HandleParts};
 use std::alloc::Global;
 use std::sync::Arc;
 
@@ -23,7 +23,7 @@ pub struct Session {
 
 impl Session {
     /// The cache's numbers of a handle; none where it is another cache's.
-    pub(crate) fn numbers(&self, number: CHandle) -> Option<Numbers>
+    pub(crate) fn numbers(&self, number: CHandle) -> Option<HandleParts>
         ensures some { IfSome result (λ numbers. (numbers ≡ numbers_in number)
             × (number.cache ≡ self.now.home)) }
         ensures none { IfNone result (¬ (number.cache ≡ self.now.home)) }

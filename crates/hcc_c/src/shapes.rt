@@ -4,7 +4,7 @@ ghost use Rattle.hcc_cache.specs.Totals.{with_count};
 ghost use Rattle.hcc_c.specs.Counts.{counted_get, counted_insert, counted_pinned, no_counts, one_hit, one_miss};
 ghost use Rattle.hcc_c.specs.Shapes.{config_of, entry_of, key_of, number_of, numbers_in, stats_of, words_of};
 
-use hcc_cache::{ClosedEntry, Config, Got, Handle, InsertError, Inserted, Numbers};
+use hcc_cache::{ClosedEntry, Config, Got, Handle, HandleParts, InsertError, Inserted};
 use hcc_word::layout::VISIBLE;
 use hcc_word::{hit, releases, state};
 use std::mem::size_of;
@@ -70,11 +70,11 @@ impl CHandle {
     pub(crate) fn of(cache: u32, handle: Handle) -> CHandle
         ensures { result ≡ number_of cache handle }
     {
-        let Numbers {
+        let HandleParts {
             client,
             index,
             serial,
-        } = handle.numbers();
+        } = handle.parts();
         CHandle {
             index,
             serial,
@@ -84,10 +84,10 @@ impl CHandle {
     }
 
     /// The cache's numbers of a handle.
-    pub(crate) fn numbers(&self) -> Numbers
+    pub(crate) fn numbers(&self) -> HandleParts
         ensures { result ≡ numbers_in self.now }
     {
-        Numbers {
+        HandleParts {
             client: self.client,
             index: self.index,
             serial: self.serial,

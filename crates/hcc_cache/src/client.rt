@@ -3,7 +3,7 @@ ghost use Rattle.std.specs.Prelude.{◌≡◌, ◌↔◌, IfNone, IfSome, IsTrue
 ghost use Rattle.hcc_cache.specs.Clients.{Holds, held_by, hold_of};
 ghost use Rattle.hcc_cache.specs.Handles.{handle_of, HoldsNone};
 
-use crate::handle::{Handle, Numbers};
+use crate::handle::{Handle, HandleParts};
 use crate::holding::{Alone, Hold};
 use crate::seeded::Seeded;
 use hcc_shard::ShardSeat;
@@ -58,13 +58,13 @@ impl<T> Client<T> {
         self.find(handle).is_some()
     }
 
-    /// The handle of these numbers, if it holds that. It costs a look at the handle's index.
-    pub fn handle(&self, numbers: Numbers) -> Option<Handle>
-        ensures some { IfSome result (λ handle. (handle ≡ handle_of numbers)
+    /// The handle of these parts, if it holds that. It costs a look at the handle's index.
+    pub fn handle(&self, parts: HandleParts) -> Option<Handle>
+        ensures some { IfSome result (λ handle. (handle ≡ handle_of parts)
             × Holds self.now handle) }
-        ensures none { IfNone result (HoldsNone self.now numbers) }
+        ensures none { IfNone result (HoldsNone self.now parts) }
     {
-        let handle = numbers.handle();
+        let handle = parts.handle();
         self.find(handle)?;
         Some(handle)
     }

@@ -1,6 +1,6 @@
-//! Handles, and their numbers.
+//! Handles, and their parts.
 ghost use Rattle.std.specs.Prelude.{◌≡◌};
-ghost use Rattle.hcc_cache.specs.Handles.{handle_of, numbers_of};
+ghost use Rattle.hcc_cache.specs.Handles.{handle_of, parts_of};
 
 /// A reference that a client holds on an entry: the entry stays as it is until the handle is
 /// released.
@@ -20,12 +20,12 @@ pub struct Handle {
     pub(crate) serial: u64,
 }
 
-/// The numbers of a handle, as they go through an interface that can't carry handles.
+/// The parts of a handle, as they go through an interface that can't carry handles.
 ///
 /// They may be any: a call that takes them judges whether they are those of a handle that the
 /// client holds, which costs the look at the handle's index that the call makes in any case.
 #[derive(Clone, Copy, Debug, PartialEq, Eq)]
-pub struct Numbers {
+pub struct HandleParts {
     /// The number of the handle's client.
     pub client: u32,
     /// Its index among what the client keeps of its handles.
@@ -35,11 +35,11 @@ pub struct Numbers {
 }
 
 impl Handle {
-    /// Its numbers. It costs a copy.
-    pub fn numbers(self) -> Numbers
-        ensures { result ≡ numbers_of self }
+    /// Its parts. It costs a copy.
+    pub fn parts(self) -> HandleParts
+        ensures { result ≡ parts_of self }
     {
-        Numbers {
+        HandleParts {
             client: self.client,
             index: self.index,
             serial: self.serial,
@@ -47,12 +47,12 @@ impl Handle {
     }
 }
 
-impl Numbers {
-    /// The handle of these numbers, which nobody may hold.
+impl HandleParts {
+    /// The handle of these parts, which nobody may hold.
     pub(crate) fn handle(self) -> Handle
         ensures { result ≡ handle_of self }
     {
-        let Numbers {
+        let HandleParts {
             client,
             index,
             serial,

@@ -32,7 +32,7 @@ pub use closed::Closed;
 pub use closing::law_closed;
 pub use config::Config;
 pub use errors::{CloseError, InsertError, LookupError, NewError};
-pub use handle::{Handle, Numbers};
+pub use handle::{Handle, HandleParts};
 pub use hcc_rule::{Key, Tag};
 pub use hcc_shard::{ClosedEntry, Got, Stats};
 pub use image::{Saved, law_again, law_images, law_whole};

@@ -10,7 +10,7 @@ ghost use Rattle.hcc_cache.specs.Stays.{Stays};
 
 use crate::cache::Cache;
 use crate::client::Client;
-use crate::handle::{Handle, Numbers};
+use crate::handle::{Handle, HandleParts};
 use crate::holding::{Hold, Kept};
 use hcc_rule::{Key, Tag};
 use hcc_table::Pin;
@@ -71,8 +71,8 @@ impl<T: Tag> Cache<T> {
         self.copy_of(client, handle, hold, buffer)
     }
 
-    /// The same by a handle's numbers, into any buffer: none where the client holds no handle of
-    /// these numbers. It returns how many bytes the value has, as an error where the buffer has
+    /// The same by a handle's parts, into any buffer: none where the client holds no handle of
+    /// these parts. It returns how many bytes the value has, as an error where the buffer has
     /// fewer; then nothing is copied.
     ///
     /// It allocates nothing. It costs what `read_value` costs; where it copies nothing, one load.
@@ -80,22 +80,22 @@ impl<T: Tag> Cache<T> {
     pub fn try_read(
         &self,
         client: &mut Client<T>,
-        numbers: Numbers,
+        parts: HandleParts,
         buffer: &mut [u8],
     ) -> Option<Result<usize, usize>>
         requires { Knows self.now client.old }
         ensures known { Knows self.now client.new }
-        ensures none { IfNone result (HoldsNone client.old numbers × (client.new ≡ client.old)
+        ensures none { IfNone result (HoldsNone client.old parts × (client.new ≡ client.old)
             × (buffer.new ≡ buffer.old)) }
-        ensures some { IfSome result (λ _. Holds client.old (handle_of numbers)) }
+        ensures some { IfSome result (λ _. Holds client.old (handle_of parts)) }
         ensures reads { Reads self.now client.old client.new }
         ensures stays { Stays self.now client.old client.new }
         ensures read { IfSome result (λ a. IfOk a (λ len.
-            IfSome (held_of self.now client.old (handle_of numbers)) (λ held.
+            IfSome (held_of self.now client.old (handle_of parts)) (λ held.
             (len ≡ length held.insertion.value)
             × (buffer.new ≡ held.insertion.value ++ drop len buffer.old)))) }
         ensures short { IfSome result (λ a. IfErr a (λ len.
-            IfSome (held_of self.now client.old (handle_of numbers)) (λ held.
+            IfSome (held_of self.now client.old (handle_of parts)) (λ held.
             len ≡ length held.insertion.value)
             × (length buffer.old < len) × (buffer.new ≡ buffer.old))) }
         ensures steps { IfSome result (λ a. IfOk a (λ len.
@@ -103,7 +103,7 @@ impl<T: Tag> Cache<T> {
         ensures few { IfSome result (λ a. IfErr a (λ len.
             TakesAtMost 1 client.old client.new)) }
     {
-        let handle = numbers.handle();
+        let handle = parts.handle();
         let hold = client.find(handle)?;
         Some(self.try_copy(client, handle, hold, buffer))
     }

@@ -10,7 +10,7 @@ ghost use Rattle.hcc_table.specs.Steps.{freeing};
 
 use crate::cache::Cache;
 use crate::client::Client;
-use crate::handle::{Handle, Numbers};
+use crate::handle::{Handle, HandleParts};
 use crate::holding::{Hold, Kept};
 use hcc_rule::Tag;
 use hcc_table::{IfLast, Pin, Use};
@@ -49,7 +49,7 @@ impl<T: Tag> Cache<T> {
         self.release_hold(client, handle, hold, useful, erase_if_last)
     }
 
-    /// The same by a handle's numbers: none where the client holds no handle of these numbers, and
+    /// The same by a handle's parts: none where the client holds no handle of these parts, and
     /// nothing is changed then.
     ///
     /// It allocates nothing. It costs a look at the handle's index, and what `release` costs.
@@ -57,28 +57,28 @@ impl<T: Tag> Cache<T> {
     pub fn try_release(
         &self,
         client: &mut Client<T>,
-        numbers: Numbers,
+        parts: HandleParts,
         useful: bool,
         erase_if_last: bool,
     ) -> Option<bool>
         requires { Knows self.now client.old }
         ensures known { Knows self.now client.new }
-        ensures none { IfNone result (HoldsNone client.old numbers × (client.new ≡ client.old)) }
-        ensures some { IfSome result (λ _. Holds client.old (handle_of numbers)) }
-        ensures released { IfSome result (λ freed. Releases self.now (handle_of numbers)
+        ensures none { IfNone result (HoldsNone client.old parts × (client.new ≡ client.old)) }
+        ensures some { IfSome result (λ _. Holds client.old (handle_of parts)) }
+        ensures released { IfSome result (λ freed. Releases self.now (handle_of parts)
             erase_if_last freed client.old client.new) }
-        ensures gives { IfSome result (λ freed. GivesUp self.now (handle_of numbers) useful
+        ensures gives { IfSome result (λ freed. GivesUp self.now (handle_of parts) useful
             erase_if_last freed client.old client.new) }
-        ensures by { IfSome result (λ freed. ReleasesIn self.now (handle_of numbers) useful
+        ensures by { IfSome result (λ freed. ReleasesIn self.now (handle_of parts) useful
             erase_if_last freed client.old client.new) }
         ensures stays { ¬ (result ≡ Some true) → Stays self.now client.old client.new }
-        ensures standing { StaysWhereStanding self.now (handle_of numbers)
+        ensures standing { StaysWhereStanding self.now (handle_of parts)
             client.old client.new }
-        ensures counts { IfSome result (λ _. CountsBy (handle_of numbers)
+        ensures counts { IfSome result (λ _. CountsBy (handle_of parts)
             client.old client.new) }
         ensures steps { TakesAtMost (freeing self.now.geometry.slots + 3) client.old client.new }
     {
-        let handle = numbers.handle();
+        let handle = parts.handle();
         let hold = client.find(handle)?;
         Some(self.release_hold(client, handle, hold, useful, erase_if_last))
     }
@@ -143,14 +143,14 @@ impl<T: Tag> Cache<T> {
         ensures steps { TakesAtMost (freeing self.now.geometry.slots + 3) client.old client.new }
     {
         client.let_go(handle);
-        let usage = if useful { Use::Useful } else { Use::NotUseful };
+        let as_use = if useful { Use::Useful } else { Use::NotUseful };
         let last = if erase_if_last {
             IfLast::Erase
         } else {
             IfLast::Keep
         };
         let seat = &mut client.seats[hold.shard];
-        self.shards[hold.shard].release(seat, pin, usage, last)
+        self.shards[hold.shard].release(seat, pin, as_use, last)
     }
 
     /// The same, of a standalone entry.

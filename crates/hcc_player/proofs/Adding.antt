@@ -4,7 +4,7 @@ use Rattle.std.proofs.lemmas.List.{drop_more, drop_all}
 use Rattle.hcc_block.specs.Blocks.{block_of}
 use Rattle.hcc_player.specs.declared.blocks.line.BlockRead.{BlockRead}
 use Rattle.hcc_player.specs.declared.blocks.tally.ClientReport.{ClientReport}
-use Rattle.hcc_player.specs.declared.blocks.tally.Tally.{Tally}
+use Rattle.hcc_player.specs.declared.blocks.tally.BlockTally.{BlockTally}
 use Rattle.hcc_player.specs.Tally.{found_by, nothing, Adds, AddsAll, IsTally, count_there, count_missing, sum_found}
 
 -- the next line, and those behind it
@@ -21,15 +21,16 @@ pub rest_none : (files : List (List ℕ)) (size : ℕ) (lines : List BlockRead) 
 rest_none files size lines k past = ap (found_by files size) (drop_all k lines past)
 
 -- a read of a source that is steady at least as often
-pub adds_for : (steady now : Type 0) (found : Option (List ℕ)) (old new : Tally) → (steady → now)
-    → Adds now found old new → Adds steady found old new
+pub adds_for : (steady now : Type 0) (found : Option (List ℕ)) (old new : BlockTally)
+    → (steady → now) → Adds now found old new → Adds steady found old new
 adds_for steady now None old new keeps adds = adds
 adds_for steady now (Some bytes) old new keeps (inl block) = inl block
 adds_for steady now (Some bytes) old new keeps (inr fault) =
     inr (fault.0, λ s. fault.1 (keeps s))
 
 -- What reads come to, from a tally on.
-record Comes (steady : Type 0) (found : List (Option (List ℕ))) (old new : Tally) : Type 0 where
+record Comes (steady : Type 0) (found : List (Option (List ℕ))) (old new : BlockTally)
+    : Type 0 where
   there : new.blocks + new.faults ≡ old.blocks + old.faults + count_there found
   gone : new.missing ≡ old.missing + count_missing found
   exact : steady → (new.faults ≡ old.faults)
@@ -37,7 +38,7 @@ record Comes (steady : Type 0) (found : List (Option (List ℕ))) (old new : Tal
   small : old.sum < 2 ^ 64 → new.sum < 2 ^ 64
 
 one_comes : (steady : Type 0) (one : Option (List ℕ)) (found : List (Option (List ℕ)))
-    (old between new : Tally) → Adds steady one old between → Comes steady found between new
+    (old between new : BlockTally) → Adds steady one old between → Comes steady found between new
     → Comes steady (one ∷ found) old new
 one_comes steady None found old between new adds rest =
     let there = rw adds at rest.there in
@@ -68,7 +69,7 @@ one_comes steady (Some bytes) found old between new (inr fault) rest =
       small = rw fault.0 at rest.small;
     }
 
-comes : (steady : Type 0) (found : List (Option (List ℕ))) (old new : Tally)
+comes : (steady : Type 0) (found : List (Option (List ℕ))) (old new : BlockTally)
     → AddsAll steady found old new → Comes steady found old new
 comes steady [] old new adds =
     rw adds (record {
@@ -105,7 +106,7 @@ is_tally steady found r adds counted failed =
     }
 
 -- reads of a source that is steady at least as often
-pub all_for : (steady now : Type 0) (found : List (Option (List ℕ))) (old new : Tally)
+pub all_for : (steady now : Type 0) (found : List (Option (List ℕ))) (old new : BlockTally)
     → (steady → now) → AddsAll now found old new → AddsAll steady found old new
 all_for steady now [] old new keeps adds = adds
 all_for steady now (one ∷ found) old new keeps adds = (

@@ -26,7 +26,7 @@ use Rattle.hcc_cache.specs.Totals.{taken_by}
 use Rattle.hcc_block.specs.Reads.{Copies, Hands, Lacks}
 use Rattle.hcc_player.specs.declared.blocks.line.BlockRead.{BlockRead}
 use Rattle.hcc_player.specs.declared.blocks.tally.ClientReport.{ClientReport}
-use Rattle.hcc_player.specs.Reading.{Counts, ReadsLine, ReadsLines, counts_of, no_counts}
+use Rattle.hcc_player.specs.Reading.{HitCounts, ReadsLine, ReadsLines, counts_of, no_counts}
 use Rattle.hcc_player.proofs.CountLemmas.{range_same}
 use Rattle.hcc_player.proofs.LeftLemmas.{closed_left, opened_none}
 use Rattle.hcc_player.proofs.MadeLemmas.{MadeNone, listed, made_in, none_same, none_then}
@@ -127,7 +127,7 @@ module _ {T : Type 0} (fits : T → Key → List ℕ → Type 0) (cache : Cache 
 
   module _ (files : List (List ℕ)) (size : ℕ) where
     -- what a read makes is within the misses that aren't faults
-    line_made : (line : BlockRead) (old new : Counts) (was is : Client T)
+    line_made : (line : BlockRead) (old new : HitCounts) (was is : Client T)
         → ReadsLine fits cache files size line old new was is
         → made_by_one count is + new.faults + old.misses
         ≤ made_by_one count was + new.misses + old.faults
@@ -148,7 +148,7 @@ module _ {T : Type 0} (fits : T → Key → List ℕ → Type 0) (cache : Cache 
           rw none.2 (omega arith)
     ]
 
-    lines_made : (lines : List BlockRead) (old new : Counts) (was is : Client T)
+    lines_made : (lines : List BlockRead) (old new : HitCounts) (was is : Client T)
         → ReadsLines fits cache files size lines old new was is
         → made_by_one count is + new.faults + old.misses
         ≤ made_by_one count was + new.misses + old.faults

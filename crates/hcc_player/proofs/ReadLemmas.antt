@@ -15,14 +15,14 @@ use Rattle.hcc_block.specs.declared.reader.ReadError.TheVariants.{NoSuchBlock, S
 use Rattle.hcc_block.specs.Blocks.{block_of, key_of}
 use Rattle.hcc_block.specs.Reads.{CountsHit, CountsMiss, CountsRead, GoesThrough, one_more}
 use Rattle.hcc_player.specs.declared.blocks.line.BlockRead.{BlockRead}
-use Rattle.hcc_player.specs.declared.blocks.tally.Tally.{Tally}
-use Rattle.hcc_player.specs.Reading.{Counts, ReadsLine, ReadsLines, counts_in}
+use Rattle.hcc_player.specs.declared.blocks.tally.BlockTally.{BlockTally}
+use Rattle.hcc_player.specs.Reading.{HitCounts, ReadsLine, ReadsLines, counts_in}
 
 -- a count that isn't the greatest
 more_is : (n : ℕ) → n < 2 ^ 63 → one_more n ≡ n + 1
 more_is n small = min-eq_left (omega arith)
 
-module _ {S : Type 0} (old new : BlockReader S) (was is : Tally) where
+module _ {S : Type 0} (old new : BlockReader S) (was is : BlockTally) where
   hit_counts : old.hits < 2 ^ 63 → CountsHit old new → is.faults ≡ was.faults
       → counts_in new is ≡ record (counts_in old was) { hits = old.hits + 1 }
   hit_counts small counts same = rw (counts, same, more_is old.hits small) refl
@@ -45,7 +45,7 @@ module _ {S : Type 0} (old new : BlockReader S) (was is : Tally) where
       rw (hits, misses, more) refl
 
 -- what a read adds to the count of faults, by its answer
-abbrev pub FaultsAs : Result ℕ ReadError → (old new : Tally) → Type 0
+abbrev pub FaultsAs : Result ℕ ReadError → (old new : BlockTally) → Type 0
 FaultsAs (Ok count) old new = new.faults ≡ old.faults
 FaultsAs (Err NoSuchBlock) old new = new.faults ≡ old.faults
 FaultsAs (Err SourceFault) old new = new.faults ≡ old.faults + 1
@@ -54,7 +54,7 @@ module _ {T S : Type 0} (fits : T → Key → List ℕ → Type 0) (cache : Cach
     (files : List (List ℕ)) (size : ℕ) where
   -- a read that was answered so
   pub reads_line : (line : BlockRead) (answer : Result ℕ ReadError) (old new : BlockReader S)
-      (was is : Tally) (client after : Client T) → old.hits < 2 ^ 63 → old.misses < 2 ^ 63
+      (was is : BlockTally) (client after : Client T) → old.hits < 2 ^ 63 → old.misses < 2 ^ 63
       → CountsRead answer old new
       → (answer ≡ Err NoSuchBlock → block_of files size line.file line.index ≡ None)
       → FaultsAs answer was is
@@ -75,15 +75,15 @@ module _ {T S : Type 0} (fits : T → Key → List ℕ → Type 0) (cache : Cach
 module _ {T : Type 0} (fits : T → Key → List ℕ → Type 0) (cache : Cache T)
     (files : List (List ℕ)) (size : ℕ) where
   -- what the lines from a place on add to what those before it did
-  abbrev pub ReadsOn : (lines : List BlockRead) → (place : ℕ) → (first now : Counts)
+  abbrev pub ReadsOn : (lines : List BlockRead) → (place : ℕ) → (first now : HitCounts)
       → (client here : Client T) → Type 0
   ReadsOn lines place first now client here =
-      (last : Counts) (after : Client T)
+      (last : HitCounts) (after : Client T)
       → ReadsLines fits cache files size (drop place lines) now last here after
       → ReadsLines fits cache files size lines first last client after
 
   -- one line more
-  pub reads_on : (lines : List BlockRead) (place : ℕ) (d : BlockRead) (first now next : Counts)
+  pub reads_on : (lines : List BlockRead) (place : ℕ) (d : BlockRead) (first now next : HitCounts)
       (client here there : Client T) → place < length lines
       → ReadsOn lines place first now client here
       → ReadsLine fits cache files size (get_or lines place d) now next here there
@@ -94,7 +94,7 @@ module _ {T : Type 0} (fits : T → Key → List ℕ → Type 0) (cache : Cache 
       (sym (drop_more lines place d within)) (next, there, one, rest))
 
   -- no line is left
-  pub reads_all : (lines : List BlockRead) (place : ℕ) (first now : Counts)
+  pub reads_all : (lines : List BlockRead) (place : ℕ) (first now : HitCounts)
       (client here : Client T) → length lines ≤ place
       → ReadsOn lines place first now client here
       → ReadsLines fits cache files size lines first now client here

@@ -32,7 +32,7 @@ use Rattle.hcc_player.specs.declared.run.call.Call.TheVariants as calls
 use Rattle.hcc_player.specs.declared.run.call.RunLine.{RunLine}
 use Rattle.hcc_player.specs.declared.sums.Sums.{Sums}
 use Rattle.hcc_player.specs.BlocksLeft.{LeavesBlocks, block_at, length_of, reads_by}
-use Rattle.hcc_player.specs.Reading.{Counts, ReadsLine, ReadsLines, counts_of, no_counts}
+use Rattle.hcc_player.specs.Reading.{HitCounts, ReadsLine, ReadsLines, counts_of, no_counts}
 use Rattle.hcc_player.specs.RunAnswers.{insert_answer}
 use Rattle.hcc_player.specs.Runs.{placed_at, placed_by}
 use Rattle.hcc_player.specs.RunStates.{charge_of}
@@ -210,7 +210,7 @@ module _ {T : Type 0} (fits : T → Key → List ℕ → Type 0) (cache : Cache 
             (hands_adds line load.value load.looked is hands);
       }
 
-  as_line : (k : ℕ) (line : BlockRead) (old new : Counts) (was is : Client T)
+  as_line : (k : ℕ) (line : BlockRead) (old new : HitCounts) (was is : Client T)
       → ReadsLine fits cache files size line old new was is → AsLine k line was is
   as_line k line old new was is read = elim read [
     | inl hit ↦
@@ -242,7 +242,7 @@ module _ {T : Type 0} (fits : T → Key → List ℕ → Type 0) (cache : Cache 
       (adds_here cache k s 0 placed was mid one.added)
       (numbers cache k s 0 placed was mid one.added) rest)
 
-  as_lines : (k : ℕ) (lines : List BlockRead) (old new : Counts) (was is : Client T)
+  as_lines : (k : ℕ) (lines : List BlockRead) (old new : HitCounts) (was is : Client T)
       → ReadsLines fits cache files size lines old new was is → AsLines k lines was is
   as_lines k [] old new was is read = record {
     reads = [];

@@ -16,7 +16,7 @@ use Rattle.hcc_block.specs.Reads.{Copies, Lacks, Loads}
 use Rattle.hcc_block.specs.Tags.{files_of, fits_files}
 use Rattle.hcc_player.specs.declared.blocks.line.BlockRead.{BlockRead}
 use Rattle.hcc_player.specs.declared.blocks.tally.ClientReport.{ClientReport}
-use Rattle.hcc_player.specs.declared.blocks.tally.Tally.{Tally}
+use Rattle.hcc_player.specs.declared.blocks.tally.BlockTally.{BlockTally}
 use Rattle.hcc_player.specs.declared.options.Options.{Options}
 use Rattle.hcc_player.specs.declared.sums.Sums.{Sums}
 use Rattle.hcc_player.specs.BlocksLeft.{LeavesBlocks, reads_by}
@@ -24,19 +24,19 @@ use Rattle.hcc_player.specs.Sums.{AreSumsOf}
 use Rattle.hcc_player.specs.Tally.{found_by}
 
 -- how often a client's reads were hits, misses and faults
-pub record Counts : Type 0 where
+pub record HitCounts : Type 0 where
   pub hits : ℕ
   pub misses : ℕ
   pub faults : ℕ
 
-abbrev pub no_counts : Counts
+abbrev pub no_counts : HitCounts
 no_counts = record { hits = 0; misses = 0; faults = 0 }
 
-abbrev pub counts_of : ClientReport → Counts
+abbrev pub counts_of : ClientReport → HitCounts
 counts_of r = record { hits = r.hits; misses = r.misses; faults = r.tally.faults }
 
 -- so far, as a reader and a tally count them
-abbrev pub counts_in : {S : Type 0} → BlockReader S → Tally → Counts
+abbrev pub counts_in : {S : Type 0} → BlockReader S → BlockTally → HitCounts
 counts_in reader tally =
     record { hits = reader.hits; misses = reader.misses; faults = tally.faults }
 
@@ -45,7 +45,7 @@ module _ {T : Type 0} (fits : T → Key → List ℕ → Type 0) (cache : Cache 
   -- A read of a line's block, and how it counts: a hit copied the entry that was found; a miss
   -- found none, and the block was inserted, or the source failed; where there is no such block,
   -- nothing was done.
-  abbrev pub ReadsLine : BlockRead → (old new : Counts) → (was is : Client T) → Type 0
+  abbrev pub ReadsLine : BlockRead → (old new : HitCounts) → (was is : Client T) → Type 0
   ReadsLine line old new was is =
       (Copies cache (key_of line.file line.index) fits was is
       × (new ≡ record old { hits = old.hits + 1 }))
@@ -56,10 +56,10 @@ module _ {T : Type 0} (fits : T → Key → List ℕ → Type 0) (cache : Cache 
       ⊎ ((block_of files size line.file line.index ≡ None) × (is ≡ was) × (new ≡ old))
 
   -- such reads, one after another
-  abbrev pub ReadsLines : List BlockRead → (old new : Counts) → (was is : Client T) → Type 0
+  abbrev pub ReadsLines : List BlockRead → (old new : HitCounts) → (was is : Client T) → Type 0
   ReadsLines [] old new was is = (new ≡ old) × (is ≡ was)
   ReadsLines (line ∷ lines) old new was is =
-      (between : Counts) × (client : Client T) × ReadsLine line old between was client
+      (between : HitCounts) × (client : Client T) × ReadsLine line old between was client
       × ReadsLines lines between new client is
 
 -- Clients played their reads on one new cache of these options, over these files, and report how

@@ -4,7 +4,7 @@ use Rattle.std.specs.Prelude.{map, if◌then◌else◌, sum}
 use Rattle.hcc_block.specs.Blocks.{block_of}
 use Rattle.hcc_player.specs.declared.blocks.line.BlockRead.{BlockRead}
 use Rattle.hcc_player.specs.declared.blocks.tally.ClientReport.{ClientReport}
-use Rattle.hcc_player.specs.declared.blocks.tally.Tally.{Tally}
+use Rattle.hcc_player.specs.declared.blocks.tally.BlockTally.{BlockTally}
 
 -- Of a trace: no cache is named.
 
@@ -40,26 +40,26 @@ sum_found (None ∷ found) = sum_found found
 -- Of reads.
 
 -- what no reads come to
-abbrev pub nothing : Tally
+abbrev pub nothing : BlockTally
 nothing = record { blocks = 0; faults = 0; missing = 0; sum = 0 }
 
 -- how many lines were played
-abbrev pub lines_of_tally : Tally → ℕ
+abbrev pub lines_of_tally : BlockTally → ℕ
 lines_of_tally t = t.blocks + t.faults + t.missing
 
 -- What a read adds where this block, or none, is there: one that is missing; or a block, with its
 -- bytes; or a fault, but never where the source is steady.
-abbrev pub Adds : (steady : Type 0) → (found : Option (List ℕ)) → (old new : Tally) → Type 0
+abbrev pub Adds : (steady : Type 0) → (found : Option (List ℕ)) → (old new : BlockTally) → Type 0
 Adds steady None old new = new ≡ record old { missing = old.missing + 1 }
 Adds steady (Some bytes) old new =
     (new ≡ record old { blocks = old.blocks + 1; sum = (old.sum + sum bytes) % 2 ^ 64 })
     ⊎ ((new ≡ record old { faults = old.faults + 1 }) × (steady → ⊥))
 
 -- what reads add, one after another
-abbrev pub AddsAll : (steady : Type 0) → List (Option (List ℕ)) → (old new : Tally) → Type 0
+abbrev pub AddsAll : (steady : Type 0) → List (Option (List ℕ)) → (old new : BlockTally) → Type 0
 AddsAll steady [] old new = new ≡ old
 AddsAll steady (one ∷ found) old new =
-    (between : Tally) × Adds steady one old between × AddsAll steady found between new
+    (between : BlockTally) × Adds steady one old between × AddsAll steady found between new
 
 -- What a client reports of blocks that were found so. Each line is a block, a fault or missing;
 -- each that is there is a hit or a miss, and a fault is a miss, so that hits are blocks. Where the

@@ -1,7 +1,7 @@
 pub mod Looks
 pub mod Gives
 pub mod Spends
-pub mod Marks
+pub mod Bits
 pub mod Exchanges
 pub mod Reaches
 pub mod Acquires

@@ -46,11 +46,11 @@ impl<T: Tag, A: Allocator> Shard<T, A> {
     /// costs a look-up, a load for the length, one for each eight bytes that are copied, and an add
     /// or a subtraction.
     #[inline(always)]
-    pub fn get(&self, seat: &mut ShardSeat<T>, key: Key, buffer: &mut [u8], usage: Use) -> Got
+    pub fn get(&self, seat: &mut ShardSeat<T>, key: Key, buffer: &mut [u8], as_use: Use) -> Got
         requires seat { Rests self.now seat.old }
         ensures seat { Rests self.now seat.new }
         ensures view { Sought (view seat.old.seat) (view seat.new.seat) }
-        ensures gets { Gets T.fits self.now key (is_useful usage) result buffer.old buffer.new
+        ensures gets { Gets T.fits self.now key (is_useful as_use) result buffer.old buffer.new
             seat.old seat.new }
         ensures stays { StaysAt self.now seat.old seat.new }
         ensures effort { Took 1 (slots_of self.now.table) (slots_of self.now.table)
@@ -71,7 +71,7 @@ impl<T: Tag, A: Allocator> Shard<T, A> {
                 let pin = found.pin;
                 let first = found.first;
                 let got = copy_out(&self.table, &mut seat.seat, pin, first, buffer);
-                give_back(&self.table, &mut seat.seat, pin, first, usage);
+                give_back(&self.table, &mut seat.seat, pin, first, as_use);
                 got
             }
             None => Got::Miss,

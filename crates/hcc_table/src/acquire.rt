@@ -21,7 +21,7 @@ ghost use Rattle.hcc_table.specs.Steps.{Acquires, AddsUnmarked, Corrects, MakesA
 
 use crate::efforts::Effort;
 use crate::pins::Pin;
-use crate::words::{counts, has_entry};
+use crate::words::{has_entry, is_counting};
 use hcc_rule::{RuleSeat, RuleTable, Tag};
 use hcc_word::corrected;
 use std::alloc::Allocator;
@@ -63,7 +63,7 @@ pub fn again<T: Tag, A: Allocator>(
     Pin {
         slot: pin.slot,
         name,
-        counting: counts(found),
+        counting: is_counting(found),
     }
 }
 
@@ -98,7 +98,7 @@ pub(crate) fn reach<T: Tag, A: Allocator>(
     ensures steps { MakesAtMost 2 seat.old seat.new }
 {
     let found = table.acquire_at(seat, slot, first, weight, name);
-    if has_entry(found) && !counts(found) {
+    if has_entry(found) && !is_counting(found) {
         relieve(
             table,
             seat,

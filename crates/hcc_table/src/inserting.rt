@@ -28,7 +28,7 @@ use crate::freeing::take_back;
 use crate::releasing::let_go;
 use crate::search::matches;
 use crate::walk::Walk;
-use crate::words::{counts, has_entry, is_shown};
+use crate::words::{has_entry, is_counting, is_shown};
 use hcc_rule::{Draft, Key, RuleSeat, RuleTable, Tag};
 use hcc_word::layout::EMPTY;
 use hcc_word::state;
@@ -212,7 +212,7 @@ fn meet<T: Tag, A: Allocator>(
         return false;
     }
     if matches(table, seat, slot, first, key, name, found) {
-        let_go(table, seat, slot, first, weight, name, counts(found));
+        let_go(table, seat, slot, first, weight, name, is_counting(found));
         return true;
     }
     table.give_at(seat, slot, first, weight, name);

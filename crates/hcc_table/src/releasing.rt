@@ -40,7 +40,7 @@ pub fn release<T: Tag, A: Allocator>(
     table: &RuleTable<T, A>,
     seat: &mut RuleSeat<T>,
     pin: Pin,
-    usage: Use,
+    as_use: Use,
     last: IfLast,
     effort: &mut Effort,
 ) -> Option<u64>
@@ -62,15 +62,15 @@ pub fn release<T: Tag, A: Allocator>(
         × ((view seat.new).work.looked ≡ (view seat.old).work.looked)) }
     ensures tried { (left : ℕ) × (between : SeatOf T)
         × IsLeft (address_of_meta table.now pin.slot) pin.slot 1 pin.name
-        (is_useful usage && pin.counting) left seat.old between
+        (is_useful as_use && pin.counting) left seat.old between
         × TriedWhereDue (address_of_meta table.now pin.slot) left (is_due (erases last) left) result
         effort.old effort.new between seat.new
-        × IsLeftBy table.now 1 pin.name (is_useful usage && pin.counting) left seat.old between
+        × IsLeftBy table.now 1 pin.name (is_useful as_use && pin.counting) left seat.old between
         × TakesByWhereDue table.now pin.slot left None (is_due (erases last) left) result
         between seat.new }
     ensures steps { MakesAtMost (freeing (slots_of table.now) + 1) seat.old seat.new }
 {
-    let used = usage.is_use(pin.counting);
+    let used = as_use.is_use(pin.counting);
     let first = table.data_of(pin.slot);
     let left = let_go(table, seat, pin.slot, first, 1, pin.name, used);
     if is_free_to_go(left, last.erases()) {
@@ -92,17 +92,17 @@ pub fn give_back<T: Tag, A: Allocator>(
     seat: &mut RuleSeat<T>,
     pin: Pin,
     first: usize,
-    usage: Use,
+    as_use: Use,
 )
     requires seat { IsSeatAt table.now seat.old }
     requires slot { IsSlotOf table.now pin.slot }
     requires first { first ≡ field_at (room_of table.now) pin.slot DATA }
     requires holds { IsPinned pin (view seat.old) }
     ensures seat { IsSameSeat seat.old seat.new }
-    ensures gives { GivesOnce table.now pin (is_useful usage) seat.old seat.new }
+    ensures gives { GivesOnce table.now pin (is_useful as_use) seat.old seat.new }
     ensures steps { MakesAtMost 1 seat.old seat.new }
 {
-    let used = usage.is_use(pin.counting);
+    let used = as_use.is_use(pin.counting);
     let_go(table, seat, pin.slot, first, 1, pin.name, used);
 }
 

@@ -24,7 +24,7 @@ use crate::acquire::reach;
 use crate::efforts::Effort;
 use crate::pins::Pin;
 use crate::walk::Walk;
-use crate::words::{counts, has_entry, is_shown};
+use crate::words::{has_entry, is_counting, is_shown};
 use hcc_rule::layout::{KEY0, KEY1};
 use hcc_rule::{Key, RuleSeat, RuleTable, Tag};
 use hcc_word::hit;
@@ -102,7 +102,7 @@ pub fn find<T: Tag, A: Allocator>(
         let pin = Pin {
             slot: home,
             name,
-            counting: counts(found),
+            counting: is_counting(found),
         };
         return Some(Found { pin, first });
     }
@@ -120,7 +120,7 @@ pub fn find<T: Tag, A: Allocator>(
             let pin = Pin {
                 slot,
                 name,
-                counting: counts(found),
+                counting: is_counting(found),
             };
             return Some(Found { pin, first });
         }

@@ -20,7 +20,7 @@ pub(crate) fn is_shown(word: u64) -> bool
 }
 
 /// Whether references that an acquire got there count, so that a release may be a use.
-pub(crate) fn counts(word: u64) -> bool
+pub(crate) fn is_counting(word: u64) -> bool
     ensures { result ≡ is_counting word }
 {
     releases(word) < NEAR

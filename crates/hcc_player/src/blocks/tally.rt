@@ -4,7 +4,7 @@ ghost use Rattle.hcc_player.specs.Tally.{nothing};
 
 /// What reads came to, whatever the cache kept.
 #[derive(Clone, Copy, Debug, PartialEq, Eq)]
-pub struct Tally {
+pub struct BlockTally {
     /// How many reads were answered with a block.
     pub blocks: u64,
     /// How many reads the source failed.
@@ -15,12 +15,12 @@ pub struct Tally {
     pub sum: u64,
 }
 
-impl Tally {
+impl BlockTally {
     /// What no reads come to.
-    pub fn new() -> Tally
+    pub fn new() -> BlockTally
         ensures { result ≡ nothing }
     {
-        Tally {
+        BlockTally {
             blocks: 0,
             faults: 0,
             missing: 0,
@@ -43,7 +43,7 @@ pub fn with_bytes(start: u64, bytes: &[u8]) -> u64
 /// What a client's reads came to, with what its reader counted.
 #[derive(Clone, Copy, Debug, PartialEq, Eq)]
 pub struct ClientReport {
-    pub tally: Tally,
+    pub tally: BlockTally,
     /// How many blocks the cache had.
     pub hits: u64,
     /// How many it didn't have, or couldn't look for.

@@ -11,7 +11,7 @@ ghost use Rattle.hcc_player.specs.Work.{AllWith, Ends, IsIdle, IsReady};
 
 use super::gate::Gate;
 use super::line::BlockRead;
-use super::tally::{ClientReport, Tally, with_bytes};
+use super::tally::{BlockTally, ClientReport, with_bytes};
 use hcc_block::{BlockReader, BlockSource, ReadError};
 use hcc_cache::{Cache, Client, Tag};
 use std::alloc::AllocError;
@@ -104,7 +104,7 @@ fn play_lines<T: Tag + Copy + Drop, S: BlockSource, G: Gate>(
         lines.now no_counts (counts_of result) client.old client.new }
 {
     let number = client.number();
-    let mut tally = Tally::new();
+    let mut tally = BlockTally::new();
     let mut call = 0;
     for line in lines {
         gate.before(number, call);
@@ -126,7 +126,7 @@ fn play_line<T: Tag + Copy + Drop, S: BlockSource>(
     reader: &mut BlockReader<S>,
     buffer: &mut [u8],
     line: BlockRead,
-    tally: &mut Tally,
+    tally: &mut BlockTally,
 )
     requires known { Knows cache.now client.old }
     requires tag { FitsBlocks (T.fits cache.now.tag) (S.content reader.old.source)

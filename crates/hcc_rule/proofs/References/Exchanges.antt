@@ -45,7 +45,7 @@ use Rattle.hcc_rule.specs.Rule.{IsRecorded, Holds}
 use Rattle.hcc_rule.proofs.Basics.Lists.{within, read_at}
 use Rattle.hcc_rule.proofs.Parts.Codes.{few_strays, is_near}
 use Rattle.hcc_rule.proofs.References.Looks.{client_fits, slot_fits, slot_there, looks_on, look_told}
-use Rattle.hcc_rule.proofs.References.Marks.{rested}
+use Rattle.hcc_rule.proofs.References.Bits.{rested}
 use Rattle.hcc_rule.proofs.Parts.OnEntries.{OnEntry, on_some, name_held, reference_there, code_there, dead_there}
 use Rattle.hcc_rule.proofs.Parts.SlotSteps.{Shard}
 use Rattle.hcc_rule.proofs.Parts.Touches.{by_client, goes, client_is, live_is}

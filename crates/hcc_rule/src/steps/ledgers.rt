@@ -16,7 +16,7 @@ ghost use Rattle.hcc_rule.specs.Words.{ledger_at};
 
 use crate::key::Tag;
 use crate::layout::USAGE;
-use crate::steps::said::Does;
+use crate::steps::atomics::Does;
 use crate::table::{RuleSeat, RuleTable};
 use crate::view::View;
 use std::alloc::Allocator;

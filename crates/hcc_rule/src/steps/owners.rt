@@ -14,7 +14,7 @@ ghost use Rattle.hcc_rule.specs.Words.{field_at};
 
 use crate::key::Tag;
 use crate::layout::META;
-use crate::steps::said::Does;
+use crate::steps::atomics::Does;
 use crate::table::{RuleSeat, RuleTable};
 use crate::view::View;
 use hcc_word::layout::{EMPTY_WORD, OCCUPIED_BIT};

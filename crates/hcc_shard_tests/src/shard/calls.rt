@@ -114,7 +114,7 @@ fn answers(rt: &impl Abort, me: &mut Guest, call: Call) -> Result<Answer, AllocE
             None => Answer::Missing,
         },
         Call::Again(name) => Answer::At(me.again(rt, name)?.slot),
-        Call::Release(name, usage, last) => Answer::Freed(me.release(rt, name, usage, last)),
+        Call::Release(name, as_use, last) => Answer::Freed(me.release(rt, name, as_use, last)),
         Call::Read(name) => {
             let (key, length, bytes) = me.read(rt, name);
             Answer::Entry(key.w0, key.w1, length, bytes)

@@ -148,7 +148,7 @@ impl Guest<'_> {
     }
 
     /// Gives a reference back, by its name.
-    pub(super) fn release(&mut self, rt: &impl Abort, name: u64, usage: Use, last: IfLast) -> bool
+    pub(super) fn release(&mut self, rt: &impl Abort, name: u64, as_use: Use, last: IfLast) -> bool
         requires keeps { IsGuest self.old.shard.now self.old.seat self.old.pins.items
             self.old.standing.items self.old.next }
         ensures same { self.new.shard ≡ self.old.shard }
@@ -158,7 +158,7 @@ impl Guest<'_> {
         let pin = self.pin(rt, name);
         let place = place_of(&self.pins, name).expect(rt, "no such pin");
         self.pins.remove(place);
-        self.shard.release(&mut self.seat, pin, usage, last)
+        self.shard.release(&mut self.seat, pin, as_use, last)
     }
 
     /// Lets a standalone entry go, by its name.

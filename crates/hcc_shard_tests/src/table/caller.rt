@@ -180,7 +180,7 @@ impl Caller<'_> {
     }
 
     /// Releases a handle.
-    pub(super) fn release(&mut self, found: Pin, usage: Use, last: IfLast) -> Option<u64>
+    pub(super) fn release(&mut self, found: Pin, as_use: Use, last: IfLast) -> Option<u64>
         requires pin { IsPin (slots_of self.old.table.now) NAME found }
         requires holds { HoldsOne found (view self.old.seat) }
         ensures same { self.new.table ≡ self.old.table }
@@ -190,7 +190,7 @@ impl Caller<'_> {
             self.table,
             &mut self.seat,
             found,
-            usage,
+            as_use,
             last,
             &mut self.effort,
         );

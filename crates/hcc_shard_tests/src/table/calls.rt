@@ -223,8 +223,8 @@ fn holding(rt: &impl Abort, me: &mut Caller, pin: Pin, call: Call) -> Done
                 two: Some(other),
             }
         }
-        Call::Release(usage, last) => Done {
-            answer: Answer::Freed(me.release(pin, usage, last)),
+        Call::Release(as_use, last) => Done {
+            answer: Answer::Freed(me.release(pin, as_use, last)),
             one: None,
             two: None,
         },
@@ -296,8 +296,8 @@ fn both(rt: &impl Abort, me: &mut Caller, pin: Pin, other: Pin, call: Call) -> D
                 two: Some(other),
             }
         }
-        Call::Release(usage, last) => {
-            me.release_other(rt, pin, other, usage, last);
+        Call::Release(as_use, last) => {
+            me.release_other(rt, pin, other, as_use, last);
             Done {
                 answer: Answer::Freed(None),
                 one: Some(pin),

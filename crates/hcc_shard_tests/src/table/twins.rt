@@ -233,7 +233,7 @@ impl Caller<'_> {
         rt: &impl Abort,
         one: Pin,
         two: Pin,
-        usage: Use,
+        as_use: Use,
         last: IfLast,
     )
         requires pins { IsPin (slots_of self.old.table.now) NAME one
@@ -247,7 +247,7 @@ impl Caller<'_> {
             self.table,
             &mut self.seat,
             two,
-            usage,
+            as_use,
             last,
             &mut self.effort,
         );

@@ -14,7 +14,7 @@ returns-clause-record g c =
     one_more g.T.Tag.fits c.args.table.now.geometry.room c.args.pin.slot c.args.pin.name c.args.name
     c.reach-found.result (view c.args.seat.now) (view c.reach-found.new.seat)
     (pinned_on c.args.pin (view c.args.seat.now) c.requires.holds) c.reach-found.ensures.view in
-    (more.0, more.1, (more.2, more.4, more.5 ∙ sym c.counts.ensures), more.3, more.6)
+    (more.0, more.1, (more.2, more.4, more.5 ∙ sym c.is_counting.ensures), more.3, more.6)
 
 pub returns-clause-by : goal.returns-clause-by
-returns-clause-by g c = (c.reach-found.result, c.counts.ensures, c.reach-found.ensures.by)
+returns-clause-by g c = (c.reach-found.result, c.is_counting.ensures, c.reach-found.ensures.by)

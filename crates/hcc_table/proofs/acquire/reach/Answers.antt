@@ -10,23 +10,23 @@ pub relieve-requires-clause-holds : goal.relieve-requires-clause-holds
 relieve-requires-clause-holds g c =
     relieves g.T.Tag.fits _ c.args.slot c.args.weight c.args.name _ _ _
     c.acquire_at-found.ensures.view
-    (sym c.if-has_entry.ensures) c.requires.fresh (sym c.if-not-counts.ensures)
+    (sym c.if-has_entry.ensures) c.requires.fresh (sym c.if-not-is_counting.ensures)
 
-pub returns-then-not-counts-clause-view : goal.returns-then-not-counts-clause-view
-returns-then-not-counts-clause-view g c =
+pub returns-then-not-is_counting-clause-view : goal.returns-then-not-is_counting-clause-view
+returns-then-not-is_counting-clause-view g c =
     reached_of g.T.Tag.fits c.args.table.now.geometry.room c.args.slot c.args.weight c.args.name
     c.acquire_at-found.result (view c.args.seat.now) (view c.acquire_at-found.new.seat)
     c.acquire_at-found.ensures.view (view c.relieve.new.seat) c.relieve.ensures.view
 
-pub returns-then-not-counts-clause-acquires : goal.returns-then-not-counts-clause-acquires
-returns-then-not-counts-clause-acquires g c = record {
+pub returns-then-not-is_counting-clause-acquires : goal.returns-then-not-is_counting-clause-acquires
+returns-then-not-is_counting-clause-acquires g c = record {
   first = begins_then got c.args.seat.now c.acquire_at-found.new.seat c.relieve.new.seat
       added.step (unmarked_adds c.acquire_at-found.new.seat c.relieve.new.seat
       c.relieve.ensures.adds);
   once = λ fresh.
       let none = c.relieve.ensures.passes (λ worn. fresh (
         sym c.if-has_entry.ensures,
-        sym c.if-not-counts.ensures,
+        sym c.if-not-is_counting.ensures,
         worn,
       )) in
       record { step = none.0 ∙ added.step; one = ap length none.0 ∙ added.one };
@@ -47,11 +47,11 @@ returns-then-not-counts-clause-acquires g c = record {
         c.acquire_at-found.result c.args.seat.now c.acquire_at-found.new.seat
     added = c.acquire_at-found.ensures.step
 
-pub returns-then-not-counts-clause-corrects : goal.returns-then-not-counts-clause-corrects
-returns-then-not-counts-clause-corrects g c = record {
+pub returns-then-not-is_counting-clause-corrects : goal.returns-then-not-is_counting-clause-corrects
+returns-then-not-is_counting-clause-corrects g c = record {
   none = λ fresh. (c.relieve.ensures.passes (λ worn. fresh (
     sym c.if-has_entry.ensures,
-    sym c.if-not-counts.ensures,
+    sym c.if-not-is_counting.ensures,
     worn,
   ))).1;
   tried = λ worn.
@@ -64,8 +64,8 @@ returns-then-not-counts-clause-corrects g c = record {
       );
 }
 
-pub returns-then-not-counts-clause-adds : goal.returns-then-not-counts-clause-adds
-returns-then-not-counts-clause-adds g c =
+pub returns-then-not-is_counting-clause-adds : goal.returns-then-not-is_counting-clause-adds
+returns-then-not-is_counting-clause-adds g c =
     unmarked_then c.args.seat.now c.acquire_at-found.new.seat c.relieve.new.seat
     (unmarked_one _ c.args.seat.now c.acquire_at-found.new.seat c.acquire_at-found.ensures.step.step
     (light c.args.weight c.requires.weight.1)) c.relieve.ensures.adds

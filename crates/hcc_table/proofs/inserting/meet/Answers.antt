@@ -43,8 +43,8 @@ let_go-requires-clause-holds g c =
     g.T.Tag.fits c.args.table.now.geometry.room c.args.slot c.args.weight c.args.name
     c.reach-found.result c.args.key (view c.args.seat.now) (view c.args.seat.now)
     (view c.reach-found.new.seat) (searched_refl (view c.args.seat.now)) c.reach-found.ensures.view
-    (sym c.if-not-has_entry.ensures) c.requires.fresh (view c.matches.new.seat) c.counts.result
-    c.matches.ensures.view c.counts.ensures
+    (sym c.if-not-has_entry.ensures) c.requires.fresh (view c.matches.new.seat) c.is_counting.result
+    c.matches.ensures.view c.is_counting.ensures
 
 pub returns-then-matches-clause-view : goal.returns-then-matches-clause-view
 returns-then-matches-clause-view g c =
@@ -114,7 +114,7 @@ returns-then-matches-clause-matched g c _ = (
       (among_first got c.args.seat.now c.reach-found.new.seat c.reach-found.ensures.acquires.first)
       (unmarked_adds c.reach-found.new.seat c.matches.new.seat c.matches.ensures.adds))
       (adds_one _ c.matches.new.seat c.let_go.new.seat c.let_go.ensures.left.step.step),
-  rw (← c.counts.ensures) (among_at _ c.args.seat.now c.matches.new.seat c.let_go.new.seat
+  rw (← c.is_counting.ensures) (among_at _ c.args.seat.now c.matches.new.seat c.let_go.new.seat
       c.let_go.new.seat before c.let_go.ensures.left.step.step
       (adds_none c.let_go.new.seat c.let_go.new.seat refl)),
 )
@@ -150,9 +150,9 @@ returns-then-matches-clause-uses g c _ = (
     held = c.matches.new.seat;
     loads = c.matches.ensures.loads c.if-matches.true;
     left = c.let_go.ensures.left.found;
-    gives = rw (← c.counts.ensures) c.let_go.ensures.left.step;
+    gives = rw (← c.is_counting.ensures) c.let_go.ensures.left.step;
     seeks = c.matches.ensures.seeks;
-    by = (c.let_go.ensures.by.0, rw (← c.counts.ensures) c.let_go.ensures.by.2);
+    by = (c.let_go.ensures.by.0, rw (← c.is_counting.ensures) c.let_go.ensures.by.2);
   },
 )
 

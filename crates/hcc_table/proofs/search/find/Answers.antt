@@ -29,7 +29,7 @@ returns-in-Some-clause-found g c =
           c.args.key (view c.args.seat.now) (view c.args.seat.now) (view c.acquire_at.new.seat)
           (view c.mark_if.new.seat) found.0 (searched_refl (view c.args.seat.now)) found.1
           c.mark_if.ensures.view,
-      found.2 ∙ sym c.counts.ensures,
+      found.2 ∙ sym c.is_counting.ensures,
     )
 
 pub returns-in-Some-clause-searches : goal.returns-in-Some-clause-searches
@@ -50,14 +50,14 @@ returns-in-Some-clause-searches g c =
           c.in-Some.ensures.catches
           (counted.probes, counted.corrections, counted.lost) c.mark_if.ensures.marked
           c.mark_if.ensures.unmarked c.mark_if.ensures.unasked c.mark_if.ensures.by,
-      c.counts.ensures,
+      c.is_counting.ensures,
     )
 
 pub returns-in-Some-clause-acquired : goal.returns-in-Some-clause-acquired
 returns-in-Some-clause-acquired g c = (
   c.in-Some.found,
   c.in-Some.ensures.catches.visible,
-  c.counts.ensures,
+  c.is_counting.ensures,
   among_then (atomic (address_of_meta c.args.table.now c.slot-home.result) 1 0 c.in-Some.found)
       c.args.seat.now c.acquire_at.new.seat c.mark_if.new.seat c.in-Some.ensures.acquired
       (marks_add (address_of_meta c.args.table.now c.slot-home.result) c.acquire_at.new.seat
@@ -241,7 +241,7 @@ returns-in-Some-acquire_at-clause-found g c =
           (view c.args.seat.now) (view c.loop-probe.seat) (view c.acquire_at-in-loop-probe.new.seat)
           (view c.mark_if-in-Some-acquire_at.new.seat)
           found.0 c.loop-probe.invariant.0.sought found.1 c.mark_if-in-Some-acquire_at.ensures.view,
-      found.2 ∙ sym c.counts-in-Some-acquire_at.ensures,
+      found.2 ∙ sym c.is_counting-in-Some-acquire_at.ensures,
     )
 
 pub returns-in-Some-acquire_at-clause-effort : goal.returns-in-Some-acquire_at-clause-effort
@@ -377,7 +377,7 @@ pub returns-in-Some-acquire_at-clause-acquired : goal.returns-in-Some-acquire_at
 returns-in-Some-acquire_at-clause-acquired g c = (
   c.in-Some-acquire_at.found,
   c.in-Some-acquire_at.ensures.catches.visible,
-  c.counts-in-Some-acquire_at.ensures,
+  c.is_counting-in-Some-acquire_at.ensures,
   among_then got c.args.seat.now c.acquire_at-in-loop-probe.new.seat
       c.mark_if-in-Some-acquire_at.new.seat
       (among_after got c.args.seat.now c.loop-probe.seat c.acquire_at-in-loop-probe.new.seat
@@ -434,7 +434,7 @@ returns-in-Some-acquire_at-clause-searches g c =
           c.mark_if-in-Some-acquire_at.ensures.marked
           c.mark_if-in-Some-acquire_at.ensures.unmarked c.mark_if-in-Some-acquire_at.ensures.unasked
           c.mark_if-in-Some-acquire_at.ensures.by,
-      c.counts-in-Some-acquire_at.ensures,
+      c.is_counting-in-Some-acquire_at.ensures,
     )
 
 pub returns-then-count_at-eq0-2-clause-searches : goal.returns-then-count_at-eq0-2-clause-searches

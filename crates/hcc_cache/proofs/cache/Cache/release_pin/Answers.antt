@@ -108,10 +108,10 @@ returns g c =
     let slots = ap (λ (y : Geometry). y.slots)
     (at.knows.alike.plans hold.shard shard at.shard_is).0 in
     let steps = c.release.ensures.steps in
-    let useful : is_useful c.if-useful.usage ≡ c.args.useful =
+    let useful : is_useful c.if-useful.as_use ≡ c.args.useful =
     elim c.if-useful.branch [
-      | then-useful w ↦ ap is_useful w.usage-is ∙ sym w.if-useful.true
-      | else-useful w ↦ ap is_useful w.usage-is ∙ sym w.if-useful.false
+      | then-useful w ↦ ap is_useful w.as_use-is ∙ sym w.if-useful.true
+      | else-useful w ↦ ap is_useful w.as_use-is ∙ sym w.if-useful.false
     ] in
     let released : ReleasesAt shard c.args.pin.slot hold.serial
     (c.args.useful && c.args.pin.counting) c.args.erase_if_last c.release.result was is =

@@ -1,5 +1,5 @@
 use Rattle.std.proofs.Common.{◌≡◌, ◌+◌, ◌≤◌, drop, length}
-use Rattle.hcc_player.specs.declared.blocks.tally.Tally.{Tally}
+use Rattle.hcc_player.specs.declared.blocks.tally.BlockTally.{BlockTally}
 use Rattle.hcc_player.specs.Tally.{found_by, lines_of_tally, nothing, AddsAll}
 use Rattle.hcc_player.specs.Reading.{counts_in, no_counts}
 use Rattle.hcc_player.specs.Work.{IsIdle}
@@ -24,7 +24,7 @@ invariant-loop-line g l =
       steady : reliable l.initial.reader.source → reliable l.reader.source;
       reads : ReadsOn g.T.Tag.fits l.fn.cache files size l.lines l.line-index no_counts
           (counts_in l.reader l.tally) l.initial.client l.client;
-      adds : (new : Tally)
+      adds : (new : BlockTally)
           → AddsAll (reliable l.initial.reader.source)
           (found_by files size (drop l.line-index l.lines)) l.tally new
           → AddsAll (reliable l.initial.reader.source) (found_by files size l.lines) nothing new;

@@ -1,5 +1,5 @@
 use Rattle.std.proofs.Common.{ap, is_some}
-use Rattle.hcc_rule.proofs.References.Marks.{hide_step}
+use Rattle.hcc_rule.proofs.References.Bits.{hide_step}
 use Rattle.hcc_rule.proofs.table.RuleTable.hide.Goals as goal
 
 pub fetch_and-requires : goal.fetch_and-requires

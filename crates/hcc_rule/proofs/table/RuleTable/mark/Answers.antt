@@ -1,5 +1,5 @@
 use Rattle.std.proofs.Common.{ap, is_some}
-use Rattle.hcc_rule.proofs.References.Marks.{mark_step}
+use Rattle.hcc_rule.proofs.References.Bits.{mark_step}
 use Rattle.hcc_rule.proofs.table.RuleTable.mark.Goals as goal
 
 pub fetch_or-requires : goal.fetch_or-requires

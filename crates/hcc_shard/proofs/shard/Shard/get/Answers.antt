@@ -96,7 +96,7 @@ returns-in-Some g c =
           back);
       view = back;
       gets =
-          gets_out g.T.Tag.fits c.args.self.now c.args.key (is_useful c.args.usage)
+          gets_out g.T.Tag.fits c.args.self.now c.args.key (is_useful c.args.as_use)
           c.copy_out-got.result c.args.buffer.now c.copy_out-got.new.buffer old _
           (record {
             pin = pin;
@@ -122,7 +122,7 @@ returns-in-Some g c =
           old.effort c.find.new.effort old.seat c.find.new.seat told.searches))
           (goes_then table is_still c.find.new.seat c.copy_out-got.new.seat c.give_back.new.seat
           (seeks_still table c.find.new.seat c.copy_out-got.new.seat c.copy_out-got.ensures.seeks)
-          (gives_still table (is_useful c.args.usage && pin.counting) 1 pin.name gives.0
+          (gives_still table (is_useful c.args.as_use && pin.counting) 1 pin.name gives.0
           c.copy_out-got.new.seat c.give_back.new.seat gives.2));
       effort = told.effort;
       counts = (refl, refl);

@@ -44,7 +44,7 @@ pub returns-in-Some-clause-gives : goal.returns-in-Some-clause-gives
 returns-in-Some-clause-gives g c =
     let told = c.in-Some.ensures in
     gives_back_and_frees (address_of_meta c.args.self.now.table c.args.pin.slot) c.args.pin.slot
-    c.args.pin.name (is_useful c.args.usage && c.args.pin.counting) (erases c.args.last)
+    c.args.pin.name (is_useful c.args.as_use && c.args.pin.counting) (erases c.args.last)
     told.tried.0 c.in-Some.charge c.args.seat.now.effort _ c.args.seat.now.seat told.tried.1
     c.release.new.seat c.settle.new.seat told.tried.2 told.tried.3 c.settle.ensures.adds
 
@@ -52,7 +52,7 @@ pub returns-in-None-clause-gives : goal.returns-in-None-clause-gives
 returns-in-None-clause-gives g c =
     let told = c.in-None.ensures in
     gives_back (address_of_meta c.args.self.now.table c.args.pin.slot) c.args.pin.slot
-    c.args.pin.name (is_useful c.args.usage && c.args.pin.counting) (erases c.args.last)
+    c.args.pin.name (is_useful c.args.as_use && c.args.pin.counting) (erases c.args.last)
     told.tried.0 c.args.seat.now.effort _ c.args.seat.now.seat told.tried.1
     c.release.new.seat told.tried.2 told.tried.3
 

@@ -1,4 +1,4 @@
--- Steps that leave the references of an entry: it is hidden, marked, clocked or corrected.
+-- Steps on the bits of a meta word: an entry is hidden, and marked as hit.
 use Rattle.std.proofs.Common.{◌≡◌, ℕ, ◌^◌, ◌<◌, true, false, List, Option, Some, None, Ok, IsSomeAnd, bit_and, bit_or, slice_get, slice_index, refl, ap, ◌∙◌, cond, sym}
 use Rattle.std.proofs.lemmas.Bool.{lt-ltb}
 use mathlib.Core.Option.{none}

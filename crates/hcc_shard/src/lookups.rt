@@ -1,29 +1,24 @@
-//! Look-ups, and references that are given back.
-ghost use Rattle.std.specs.Prelude.{◌≡◌, ◌+◌, ◌<◌, ◌++◌, ◌∷◌, ◌&&◌, [], true, Some, IfSome, IfNone, length};
-ghost use Rattle.std.specs.List.{find};
+//! Look-ups, and one reference more on what is held.
+ghost use Rattle.std.specs.Prelude.{◌≡◌, ◌+◌, ◌<◌, ◌++◌, ◌∷◌, [], true, Some, IfSome, IfNone, length};
 ghost use Rattle.hcc_core.specs.declared.limits.TheConstants.{MOST_HANDLES};
-ghost use Rattle.hcc_core.specs.Ledgers.{is_standing};
 ghost use Rattle.hcc_rule.specs.declared.view.Record.{Record};
 ghost use Rattle.hcc_rule.specs.Callers.{room_of, slots_of, IsSlotOf};
 ghost use Rattle.hcc_rule.specs.Addresses.{address_of_meta};
 ghost use Rattle.hcc_rule.specs.Seats.{view};
 ghost use Rattle.hcc_rule.specs.Records.{record_in};
-ghost use Rattle.hcc_table.specs.Efforts.{Lost, Took};
-ghost use Rattle.hcc_table.specs.Pins.{IsOf, IsPinned, erases, is_useful};
+ghost use Rattle.hcc_table.specs.Efforts.{Took};
+ghost use Rattle.hcc_table.specs.Pins.{IsOf, IsPinned};
 ghost use Rattle.hcc_table.specs.Searched.{IsFound, IsMissed, Searched};
-ghost use Rattle.hcc_table.specs.Steps.{MakesAtMost, MakesFor, Marks, freeing};
-ghost use Rattle.hcc_charge.specs.Settled.{fallen};
-ghost use Rattle.hcc_shard.specs.Callers.{AcquiresAt, GivesBackAt, SearchesAt};
-ghost use Rattle.hcc_shard.specs.Counted.{SameCounts, SameEvictions};
-ghost use Rattle.hcc_shard.specs.Referred.{IsReleased};
+ghost use Rattle.hcc_table.specs.Steps.{MakesAtMost, MakesFor, Marks};
+ghost use Rattle.hcc_shard.specs.Callers.{AcquiresAt, SearchesAt};
+ghost use Rattle.hcc_shard.specs.Counted.{SameEvictions};
 ghost use Rattle.hcc_shard.specs.Seated.{IsNext, Rests};
-ghost use Rattle.hcc_shard.specs.Stays.{AcquiresBy, ReleasesAt, StaysAt};
+ghost use Rattle.hcc_shard.specs.Stays.{AcquiresBy};
 
 use crate::seat::ShardSeat;
 use crate::shard::Shard;
-use hcc_charge::{settle, standalone_out};
 use hcc_rule::{Key, Tag};
-use hcc_table::{IfLast, Pin, Use, again, find, release};
+use hcc_table::{Pin, again, find};
 use std::alloc::Allocator;
 
 impl<T: Tag, A: Allocator> Shard<T, A> {
@@ -102,63 +97,5 @@ impl<T: Tag, A: Allocator> Shard<T, A> {
         ensures steps { MakesAtMost 2 seat.old.seat seat.new.seat }
     {
         again(&self.table, &mut seat.seat, pin, serial, &mut seat.effort)
-    }
-
-    /// Gives the reference of a pin that the client holds back: as a use, where it is useful and
-    /// counts. Where no reference is left then, and the entry is hidden or `last` asks for it,
-    /// taking the entry is tried once, and it is freed. It returns whether this call freed an
-    /// entry.
-    ///
-    /// The record of the pin is gone afterwards, and no other. It allocates nothing. It costs one
-    /// atomic add or subtraction; where nobody holds the entry and it may go a compare-exchange,
-    /// and where that wins what freeing the slot costs and two subtractions.
-    #[inline(always)]
-    pub fn release(&self, seat: &mut ShardSeat<T>, pin: Pin, usage: Use, last: IfLast) -> bool
-        requires seat { Rests self.now seat.old }
-        requires slot { IsSlotOf self.now.table pin.slot }
-        requires holds { IsPinned pin (view seat.old.seat) }
-        ensures seat { Rests self.now seat.new }
-        ensures view { IsReleased pin.name (erases last) result
-            (view seat.old.seat) (view seat.new.seat) }
-        ensures gives { GivesBackAt self.now pin.slot (is_useful usage && pin.counting)
-            (erases last) result seat.old seat.new }
-        ensures by { ReleasesAt self.now pin.slot pin.name (is_useful usage && pin.counting)
-            (erases last) result seat.old seat.new }
-        ensures effort { Lost 0 1 seat.old.effort seat.new.effort }
-        ensures counts { SameEvictions seat.old seat.new }
-        ensures steps { MakesAtMost (freeing (slots_of self.now.table) + 3)
-            seat.old.seat seat.new.seat }
-    {
-        match release(
-            &self.table,
-            &mut seat.seat,
-            pin,
-            usage,
-            last,
-            &mut seat.effort,
-        ) {
-            Some(charge) => {
-                settle(&self.table, &mut seat.seat, 1, charge);
-                true
-            }
-            None => false,
-        }
-    }
-
-    /// Lets go of a standalone entry of the client, whose charge this is: its last reference is
-    /// gone.
-    ///
-    /// It allocates nothing. It costs two atomic subtractions.
-    pub fn release_standalone(&self, seat: &mut ShardSeat<T>, name: u64, charge: u32)
-        requires seat { Rests self.now seat.old }
-        requires stands { find (is_standing name) (view seat.old.seat).work.standalones
-            ≡ Some (record { name = name; charge = charge }) }
-        ensures seat { Rests self.now seat.new }
-        ensures view { view seat.new.seat ≡ fallen name (view seat.old.seat) }
-        ensures stays { StaysAt self.now seat.old seat.new }
-        ensures counts { SameCounts seat.old seat.new }
-        ensures steps { MakesAtMost 2 seat.old.seat seat.new.seat }
-    {
-        standalone_out(&self.table, &mut seat.seat, name, charge);
     }
 }
