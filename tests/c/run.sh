@@ -1,62 +1,44 @@
 #!/usr/bin/env bash
-# Builds the library and the examples for C, C++ and Rust, and runs them: the misuses that the header
-# names among them, C with each request for memory refused; plays traces of calls through the headers;
-# lets threads borrow clients; and C and C++ again with the C file under AddressSanitizer and
-# UndefinedBehaviorSanitizer, the threads under ThreadSanitizer. It wants crates/hcc_c/out/libhcc_c.a, as
-# `rt lib` in crates/hcc_c makes it, and fails where a compiler is missing.
+# Builds the library and the examples for C, C++ and Rust, and runs them: the misuses that the
+# header names among them, C with each request for memory refused; plays traces of calls through the
+# headers; lets threads borrow clients; and C and C++ again with the C file under AddressSanitizer
+# and UndefinedBehaviorSanitizer, the threads under ThreadSanitizer. It wants
+# crates/hcc_c/out/libhcc_c.a, as `rt lib` in crates/hcc_c makes it, and fails where a compiler is
+# missing.
 # Usage: tests/c/run.sh
 set -u
 cd "$(dirname "$0")/../.." || exit 2
-[[ -f crates/hcc_c/out/libhcc_c.a ]] || { echo "c: no library: run 'rt lib' in crates/hcc_c"; exit 2; }
+. tests/shared.sh
+wants_library c
 
-folder=$(mktemp -d)
-trap 'rm -rf "$folder"' EXIT
-passed=0
-failed=0
-ulimit -c 0
-
-# Builds and runs some examples, and looks at what they print: expect NAME TARGET TEXT WORD..
-expect() {
-    local name=$1 target=$2 text=$3
-    shift 3
-    if ! make -s -C examples "$@" BUILD="$folder/$((passed + failed))" "$target" > "$folder/out" 2>&1; then
-        echo "failed: $name"
-        cat "$folder/out"
-        failed=$((failed + 1))
-    elif [[ $(cat "$folder/out") != "$text" ]]; then
-        echo "failed: $name printed"
-        cat "$folder/out"
-        failed=$((failed + 1))
-    else
-        passed=$((passed + 1))
-    fi
+# Builds and runs some examples, which have to print this: prints TEXT TARGET WORD..
+prints() {
+    make -s -C examples "${@:3}" BUILD="$folder/$((passed + failed))" "$2" > "$folder/printed" 2>&1
+    local ended=$?
+    cat "$folder/printed"
+    [[ $ended == 0 && $(cat "$folder/printed") == "$1" ]]
 }
 
-# Builds a program of tests/c with the library and runs it: tries NAME WORD.. -- ARGUMENT..
-tries() {
-    local name=$1 words=()
-    shift
-    while [[ $1 != -- ]]; do
-        words+=("$1")
-        shift
-    done
-    shift
-    if "${words[@]}" -g -Wall -Wextra -Wpedantic -Werror -Iinclude -pthread -o "$folder/tried" > "$folder/out" 2>&1 \
-        && "$folder/tried" "$@" > "$folder/out" 2>&1; then
-        passed=$((passed + 1))
-    else
-        echo "failed: $name"
-        cat "$folder/out"
-        failed=$((failed + 1))
-    fi
+# Builds a program of tests/c with the library: builds WORD..
+builds() {
+    "$@" -g -Wall -Wextra -Wpedantic -Werror -Iinclude -pthread -o "$folder/built"
 }
 
-# Plays traces of calls through a header, with what the library allocates counted: plays NAME LIBRARY WORD..
+# Plays traces of calls through a header, with what the library allocates counted: plays LIBRARY
+# WORD..
 plays() {
-    local name=$1 library=$2
-    shift 2
-    cc -std=c11 -c tests/c/heap.c -o "$folder/heap.o" || return
-    tries "$name" "$@" "$folder/heap.o" "$library" "$wrap" -- tests/program/calls tests/c/calls
+    cc -std=c11 -c tests/c/heap.c -o "$folder/heap.o" \
+        && builds "${@:2}" "$folder/heap.o" "$1" "$wrap" && "$folder/built" tests/program/calls tests/c/calls
+}
+
+# Has threads borrow clients: lends CLIENTS TIMES LIBRARY WORD..
+lends() {
+    builds cc -std=c11 "${@:4}" tests/c/pool.c "$3" && "$folder/built" "$1" "$2"
+}
+
+# Builds a program and runs it: runs WORD..
+runs() {
+    builds "$@" && "$folder/built"
 }
 
 # The checking library ends a program in which two calls or two threads meet in one client, and says
@@ -65,17 +47,17 @@ meets() {
     local words=(-std=c11 -O2 -Iinclude tests/c/two_in_one.c src/out/libferretgold_check.a -pthread -o "$folder/meets")
     cc -std=c11 -O2 -DFERRETGOLD_CHECK -Iinclude tests/c/entered.c src/out/libferretgold_check.a -Wl,--wrap=malloc \
         -o "$folder/meets" \
-        && ! "$folder/meets" > "$folder/out" 2>&1 \
-        && [[ $(cat "$folder/out") == "$met" ]] || return
-    ! cc "${words[@]}" > "$folder/out" 2>&1 && grep -q 'undefined.*ferretgold_raw_get' "$folder/out" || return
-    cc -DFERRETGOLD_CHECK "${words[@]}" && ends "$folder/meets" && ends "$folder/meets" large
+        && ! "$folder/meets" > "$folder/met" 2>&1 \
+        && [[ $(cat "$folder/met") == "$met" ]] || return
+    ! cc "${words[@]}" > "$folder/met" 2>&1 && grep -q 'undefined.*ferretgold_raw_get' "$folder/met" || return
+    cc -DFERRETGOLD_CHECK "${words[@]}" && is_ended "$folder/meets" && is_ended "$folder/meets" large
 }
 
 # A program in which two threads meet ends by the one line that says where.
-ends() {
-    ! "$@" > "$folder/out" 2>&1 \
-        && grep -qE '^ferretgold: two threads use client 0 at once: [a-z_ ]+ and [a-z_ ]+$' "$folder/out" \
-        && [[ $(wc -l < "$folder/out") == 1 ]]
+is_ended() {
+    ! "$@" > "$folder/met" 2>&1 \
+        && grep -qE '^ferretgold: two threads use client 0 at once: [a-z_ ]+ and [a-z_ ]+$' "$folder/met" \
+        && [[ $(wc -l < "$folder/met") == 1 ]]
 }
 
 # Both libraries have each function of the header as a symbol, for a binding of another language.
@@ -94,22 +76,16 @@ lacks() {
     failed=$((failed + 1))
 }
 
-# Whether a compiler can sanitize here.
-sanitizes() {
-    echo 'int main(void) { return 0; }' > "$folder/none.$2"
-    "$1" -fsanitize=address,undefined "$folder/none.$2" -o "$folder/none" 2> "$folder/why" && "$folder/none"
-}
-
 # Refuses each memory request of the C example in turn, alone and with all later ones: it tells that
 # an allocation failed, or passes where it does without.
-refuse() {
+bears_refusals() {
     local number rest ended told=0
     cc -shared -fPIC -O1 -o "$folder/refuse.so" tests/memory/refuse.c -ldl || return 1
     make -s -C examples BUILD="$folder/plain" c || return 1
     for ((number = 1; number <= 60; number++)); do
         for rest in "" 1; do
             timeout 60 env ${rest:+REST=1} REFUSE="$number" LD_PRELOAD="$folder/refuse.so" \
-                "$folder/plain/two_threads" > "$folder/out" 2> "$folder/err"
+                "$folder/plain/two_threads" > /dev/null 2> "$folder/err"
             ended=$?
             if [[ $ended == 1 && $(cat "$folder/err") == *": an allocation failed" ]]; then
                 told=$((told + 1))
@@ -139,69 +115,50 @@ met='ferretgold: two threads use client 0 at once: ferretgold_usage and ferretgo
 
 if command -v cc > /dev/null; then
     make -s -C src || exit 1
-    expect "C" run-c "$in_c"
-    expect "C, as make -C examples CFLAGS=-O1 compiles it" run-c "$in_c" CFLAGS=-O1
-    plays "traces in C" "$library" cc -std=c11 -O2 "${traces[@]}"
-    plays "traces in C, no call inline" "$library" cc -std=c11 -O0 "${traces[@]}"
-    plays "traces in C, checked" src/out/libferretgold_check.a cc -std=c11 -O2 -DFERRETGOLD_CHECK \
-        "${traces[@]}"
-    tries "threads borrow 3 clients" cc -std=c11 -O2 tests/c/pool.c "$library" -- 3 10000000
-    tries "threads borrow 70 clients" cc -std=c11 -O2 tests/c/pool.c "$library" -- 70 10000000
-    if meets 2> /dev/null; then
-        passed=$((passed + 1))
-    else
-        echo "failed: two threads in one client, checked"
-        failed=$((failed + 1))
-    fi
-    if exports; then
-        passed=$((passed + 1))
-    else
-        echo "failed: a function of the header is no symbol of the library"
-        failed=$((failed + 1))
-    fi
-    if refuse; then
-        passed=$((passed + 1))
-    else
-        echo "failed: C with memory refused"
-        failed=$((failed + 1))
-    fi
-    if sanitizes cc c; then
+    tries "C" prints "$in_c" run-c
+    tries "C, as make -C examples CFLAGS=-O1 compiles it" prints "$in_c" run-c CFLAGS=-O1
+    tries "traces in C" plays "$library" cc -std=c11 -O2 "${traces[@]}"
+    tries "traces in C, no call inline" plays "$library" cc -std=c11 -O0 "${traces[@]}"
+    tries "traces in C, checked" plays src/out/libferretgold_check.a \
+        cc -std=c11 -O2 -DFERRETGOLD_CHECK "${traces[@]}"
+    for clients in 3 70; do
+        tries "threads borrow $clients clients" lends $clients 10000000 "$library" -O2
+    done
+    tries "two threads in one client, checked" meets
+    tries "each function of the header is a symbol of the library" exports
+    tries "C with memory refused" bears_refusals
+    if sanitizes c cc; then
         make -s -C src OUT="$folder/sanitized" SANITIZE=address,undefined || exit 1
         make -s -C src OUT="$folder/threads" SANITIZE=thread || exit 1
         library=$folder/sanitized/libferretgold.a
-        expect "C, sanitized" run-c "$in_c" SANITIZE=address,undefined LIBRARY="$library"
-        plays "traces in C, sanitized" "$library" cc -std=c11 "${sanitize[@]}" "${traces[@]}"
+        tries "C, sanitized" prints "$in_c" run-c SANITIZE=address,undefined LIBRARY="$library"
+        tries "traces in C, sanitized" plays "$library" cc -std=c11 "${sanitize[@]}" "${traces[@]}"
         for clients in 3 70; do
-            tries "threads borrow $clients clients, sanitized" cc -std=c11 -O1 -fsanitize=thread tests/c/pool.c \
-                "$folder/threads/libferretgold.a" -- "$clients" 400000
+            tries "threads borrow $clients clients, sanitized" lends $clients 400000 \
+                "$folder/threads/libferretgold.a" -O1 -fsanitize=thread
         done
-    else
-        echo "c: this C compiler has no sanitizers, so C was run without them"
     fi
 else
     lacks "C compiler"
 fi
 if command -v c++ > /dev/null; then
-    expect "C++" run-cpp "$in_cpp" CXX=c++
-    plays "traces in C++" src/out/libferretgold.a c++ -std=c++17 -O2 tests/c/play.cpp \
-        tests/c/closed.cpp
+    traces=(c++ -std=c++17 tests/c/play.cpp tests/c/closed.cpp)
     bare=(c++ -std=c++17 -fno-exceptions -fno-rtti tests/c/without_exceptions.cpp)
-    tries "C++ without exceptions" "${bare[@]}" src/out/libferretgold.a --
-    if sanitizes c++ cpp; then
-        expect "C++, sanitized" run-cpp "$in_cpp" CXX=c++ SANITIZE=address,undefined LIBRARY="$library"
-        plays "traces in C++, sanitized" "$library" c++ -std=c++17 "${sanitize[@]}" tests/c/play.cpp \
-            tests/c/closed.cpp
-        tries "C++ without exceptions, sanitized" "${bare[@]}" "${sanitize[@]}" "$library" --
-    else
-        echo "c: this C++ compiler has no sanitizers, so C++ was run without them"
+    tries "C++" prints "$in_cpp" run-cpp CXX=c++
+    tries "traces in C++" plays src/out/libferretgold.a "${traces[@]}" -O2
+    tries "C++ without exceptions" runs "${bare[@]}" src/out/libferretgold.a
+    if sanitizes c c++; then
+        tries "C++, sanitized" prints "$in_cpp" run-cpp CXX=c++ SANITIZE=address,undefined \
+            LIBRARY="$library"
+        tries "traces in C++, sanitized" plays "$library" "${traces[@]}" "${sanitize[@]}"
+        tries "C++ without exceptions, sanitized" runs "${bare[@]}" "${sanitize[@]}" "$library"
     fi
 else
     lacks "C++ compiler"
 fi
 if command -v rustc > /dev/null; then
-    expect "Rust" run-rust "$in_rust"
+    tries "Rust" prints "$in_rust" run-rust
 else
     lacks "Rust compiler"
 fi
-echo "c: $passed passed, $failed failed"
-[[ $failed == 0 ]]
+counted c

@@ -12,43 +12,28 @@ import os
 import signal
 import sys
 import time
+from collections import defaultdict
 
 # The kinds of check, and how far each gives way.
 KINDS = {"proof": 0, "tests": 5, "must-fail": 8, "edits": 10}
 
 
-def words_of(process):
-    """The words that a process was started with; none once it has ended."""
+def text_of(process, name):
+    """A file that the system has of a process; nothing once that has ended."""
     try:
-        with open(f"/proc/{process}/cmdline", "rb") as it:
-            return it.read().decode(errors="replace").split("\0")
-    except OSError:
-        return []
-
-
-def folder_of(process):
-    """The folder that a process runs in; none once it has ended."""
-    try:
-        return os.readlink(f"/proc/{process}/cwd")
+        with open(f"/proc/{process}/{name}", encoding="utf-8", errors="replace") as it:
+            return it.read()
     except OSError:
         return ""
 
 
-def begun(process):
-    """The process that started this one, and when this one began; none once it has ended. Numbers
-    of processes come again, so the time tells them apart."""
+def kind_of(process, words):
+    """What a check is of, that was begun with these words."""
     try:
-        with open(f"/proc/{process}/stat", encoding="utf-8") as it:
-            words = it.read().rsplit(")", 1)[1].split()
-            return int(words[1]), int(words[19])
+        if "/rt-edit-" in os.readlink(f"/proc/{process}/cwd"):
+            return "must-fail"
     except OSError:
-        return None, None
-
-
-def kind_of(words, folder):
-    """What a check is of, that was begun with these words in this folder."""
-    if "/rt-edit-" in folder:
-        return "must-fail"
+        pass  # It has ended.
     if any("/try-edits-" in it for it in words):
         return "edits"
     return "tests" if "--test" in words else "proof"
@@ -66,50 +51,40 @@ def give_way(process, nice):
 
 
 def running(top):
-    """The checks that run now below a process: number and time of beginning, crate and kind. A check's
-    own helpers are left out."""
-    begins = {int(os.path.basename(path)): begun(os.path.basename(path)) for path in glob.glob("/proc/[0-9]*")}
+    """Crate and kind of each check that runs now below a process, but for a check's own helpers."""
+    processes = [os.path.basename(it) for it in glob.glob("/proc/[0-9]*")]
+    parents = {it: (text_of(it, "stat").rpartition(")")[2].split() + ["", ""])[1] for it in processes}
     checks = {}
-    for process, (parent, at) in begins.items():
-        words = words_of(process)
-        if os.path.basename((words or [""])[0]) != "rattle" or "--crate-name" not in words or not is_below(top, process, begins):
+    for process in processes:
+        words = text_of(process, "cmdline").split("\0")
+        if os.path.basename(words[0]) != "rattle" or "--crate-name" not in words or not is_below(top, process, parents):
             continue
-        crate, kind = words[words.index("--crate-name") + 1], kind_of(words, folder_of(process))
+        kind = kind_of(process, words)
         give_way(process, KINDS[kind])
-        checks[process] = ((process, at), parent, (crate, kind))
-    return {key: of for key, parent, of in checks.values() if parent not in checks}
+        checks[process] = words[words.index("--crate-name") + 1], kind
+    return [of for process, of in checks.items() if parents[process] not in checks]
 
 
-def is_below(top, process, begins):
+def is_below(top, process, parents):
     """Whether a process was begun by another one, or by one of those that it began."""
     while process and process != top:
-        process = begins.get(process, (None, None))[0]
+        process = parents.get(process)
     return process == top
 
 
-def table(seen):
-    """The lines of the table, from the first and the last look at each check."""
-    lines, sums = [], dict.fromkeys(KINDS, 0)
-    for crate in sorted({crate for _, _, (crate, _) in seen}):
-        took = {}
-        for kind in KINDS:
-            took[kind] = sum(last - first for first, last, of in seen if of == (crate, kind))
-            sums[kind] += took[kind]
-        lines.append(f"{crate}: " + ", ".join(f"{kind} {s:.0f} s" for kind, s in took.items()))
-    lines.append("all: " + ", ".join(f"{kind} {s / 60:.0f} min" for kind, s in sums.items()))
-    return lines
-
-
 def main():
-    looks, done, top = {}, [], int(sys.argv[1])
+    seconds, done, last = defaultdict(float), [], time.monotonic()
     signal.signal(signal.SIGTERM, lambda *_: done.append(True))
     while not done:
         now = time.monotonic()
-        for check, of in running(top).items():
-            first, _, _ = looks.get(check, (now, now, of))
-            looks[check] = (first, now, of)
+        for of in running(sys.argv[1]):
+            seconds[of] += now - last
+        last = now
         time.sleep(1)
-    print("\n".join(table(list(looks.values()))))
+    for crate in sorted({crate for crate, _ in seconds}):
+        print(f"{crate}: " + ", ".join(f"{kind} {seconds[crate, kind]:.0f} s" for kind in KINDS))
+    sums = {kind: sum(took for (_, of), took in seconds.items() if of == kind) for kind in KINDS}
+    print("all: " + ", ".join(f"{kind} {took / 60:.0f} min" for kind, took in sums.items()))
 
 
 main()

@@ -7,7 +7,6 @@ mod configs;
 mod errors;
 mod example;
 mod full;
-mod hits;
 mod keys;
 mod opening;
 mod rows;
