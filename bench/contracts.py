@@ -27,17 +27,15 @@ class Specs:
 
     def read(self, crate, path):
         """A file's definitions, and its imports: name, to crate, file and name there."""
-        if (crate, path) not in self.files:
-            of = self.crates[crate]
-            has = path.endswith(".antt") and os.path.isfile(f"{of.folder}/{path}")
+        of = self.crates[crate]
+        if (crate, path) not in self.files and os.path.isfile(f"{of.folder}/{path}"):
             imports = {}
-            if has or path.endswith(".rt"):
-                for library, module, names in IMPORT.findall(of.text(path)):
-                    for it in names.split(",") if names else []:
-                        name, _, other = it.strip().partition(" as ")
-                        imports[other or name] = library, f"{module.replace('.', '/')}.antt", name
-            self.files[crate, path] = definitions_in(of, path) if has else {}, imports
-        return self.files[crate, path]
+            for library, module, names in IMPORT.findall(of.text(path)):
+                for it in names.split(","):
+                    name, _, other = it.strip().partition(" as ")
+                    imports[other or name] = library, f"{module.replace('.', '/')}.antt", name
+            self.files[crate, path] = definitions_in(of, path), imports
+        return self.files.get((crate, path), ({}, {}))
 
     def named(self, crate, path, text):
         """The definitions that a file's text names."""

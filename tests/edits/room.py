@@ -3,7 +3,6 @@ import os
 import re
 import shutil
 import subprocess
-import tempfile
 import time
 
 from crates import PARTS, RATTLE
@@ -31,7 +30,7 @@ class Room:
         for part in PARTS:
             if os.path.isdir(f"{crate.folder}/{part}"):
                 shutil.copytree(f"{crate.folder}/{part}", f"{self.folder}/{part}")
-        self.changed, self.checks, self.processor = {}, 0, 0.0
+        self.changed, self.checks = {}, 0
 
     def check(self, texts, only=(), log=None):
         """Checks the crate with these texts in place of its own: the functions that are named, or all.
@@ -45,18 +44,12 @@ class Room:
         words = [RATTLE, "check", *self.words, "--short-goals", "--incremental", self.kept]
         words += [it for name in only for it in ("--only", name)]
         began = time.monotonic()
-        with tempfile.TemporaryFile("w+", errors="replace") as out:
-            how = {"stdin": subprocess.DEVNULL, "stdout": out, "stderr": subprocess.STDOUT}
-            ran = subprocess.Popen(words, cwd=self.folder, **how)
-            _, status, used = os.wait4(ran.pid, 0)
-            ran.returncode = os.waitstatus_to_exitcode(status)
-            out.seek(0)
-            said = out.read()
-        took = time.monotonic() - began
-        self.checks, self.processor = self.checks + 1, self.processor + used.ru_utime + used.ru_stime
+        how = {"stdin": subprocess.DEVNULL, "stdout": subprocess.PIPE, "stderr": subprocess.STDOUT}
+        ran = subprocess.run(words, cwd=self.folder, errors="replace", check=False, **how)
+        took, self.checks = time.monotonic() - began, self.checks + 1
         if log:
-            log(f"== {self.crate.name}, {took:.0f} s, status {ran.returncode}: {' '.join(only)}\n{said}")
-        return ran.returncode, said, took
+            log(f"== {self.crate.name}, {took:.0f} s, status {ran.returncode}: {' '.join(only)}\n{ran.stdout}")
+        return ran.returncode, ran.stdout, took
 
 
 def is_unread(line, changed):

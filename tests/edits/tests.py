@@ -37,10 +37,6 @@ def put(name, file, old, new):
         it.write(f"file: src/{file}.rt\n\nedit: {name.partition('.')[2]}\nold: {old}\nnew: {new}\n")
 
 
-def drop(name):
-    os.remove(f"crates/hcc_word/edits/{name}.edit")
-
-
 def tried(*words):
     """The status of the script, and what it said."""
     ran = subprocess.run([f"{HERE}/try.py", *words], capture_output=True, text=True, check=False)
@@ -58,7 +54,7 @@ def verdicts():
     judge("names alone are told", "only a proof file names what it took away" in said, said)
     judge("what an edit breaks is told", f"{EDITS[0][0]}: refused: changes::clocked:returns\n" in said, said)
     for name, *_ in EDITS[1:]:
-        drop(name)
+        os.remove(f"crates/hcc_word/edits/{name}.edit")
 
 
 def gate():

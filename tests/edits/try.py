@@ -20,6 +20,7 @@ import sys
 import tempfile
 import threading
 import time
+from concurrent.futures import ThreadPoolExecutor
 
 sys.dont_write_bytecode = True
 HERE = os.path.dirname(os.path.realpath(__file__))
@@ -42,8 +43,7 @@ def parts(edits, most):
 
 def draw():
     """Gives edits numbers that the commit draws."""
-    how = {"capture_output": True, "text": True, "check": False}
-    commit = subprocess.run(["git", "rev-parse", "HEAD"], **how).stdout
+    commit = subprocess.getoutput("git rev-parse HEAD")
     return lambda key: hashlib.sha256(f"{commit}{key}".encode()).digest()
 
 
@@ -53,7 +53,6 @@ class Libraries:
 
     def __init__(self, crates, folder, log):
         self.crates, self.folder, self.log = crates, folder, log
-        self.taking = threading.Lock()
 
     def said(self):
         """The lines of the log; none where there is no log."""
@@ -74,12 +73,11 @@ class Libraries:
             is_there = any(it.startswith((f"rt: {name} proved", f"rt: {name} is kept")) for it in said)
             if self.log and not is_there:
                 return name if "rt ci ended" in said or f"rt: {name} NOT PROVED" in said else "later"
-            with self.taking:
-                if os.path.isdir(f"{self.folder}/{name}.rlib"):
-                    continue
-                if not os.path.isdir(made):
-                    return name
-                shutil.copytree(made, f"{self.folder}/{name}.rlib", copy_function=os.link)
+            if os.path.isdir(f"{self.folder}/{name}.rlib"):
+                continue
+            if not os.path.isdir(made):
+                return name
+            shutil.copytree(made, f"{self.folder}/{name}.rlib", copy_function=os.link)
         return None
 
 
@@ -128,12 +126,9 @@ class Lanes:
             try_edits(crate, part, reach, folder, is_proved, self.say, self.log)
 
     def run(self, lanes):
-        many = range(max(lanes, os.cpu_count() if self.libraries.log else 0))
-        threads = [threading.Thread(target=self.work, args=(it >= lanes,)) for it in many]
-        for it in threads:
-            it.start()
-        for it in threads:
-            it.join()
+        many = max(lanes, os.cpu_count() if self.libraries.log else 0)
+        with ThreadPoolExecutor(many) as threads:
+            list(threads.map(self.work, (it >= lanes for it in range(many))))
 
 
 def arguments():

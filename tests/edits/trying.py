@@ -88,10 +88,8 @@ class Trying:
             if it.verdict == "names":
                 it.verdict = "BAD EDIT"
                 it.said = f"only a proof file names what it took away: {it.said}"
-        self.say(
-            f"{self.crate.name}: {len(self.edits)} edits in {self.room.checks} checks,"
-            f" {time.monotonic() - began:.0f} s, {self.room.processor:.0f} of a processor"
-        )
+        took = time.monotonic() - began
+        self.say(f"{self.crate.name}: {len(self.edits)} edits in {self.room.checks} checks, {took:.0f} s")
 
     def in_rounds(self, edits):
         """Tries edits in rounds, but for a round that was tried before."""
