@@ -156,7 +156,7 @@ def main():
         end = given.until and began + given.until
         Lanes(all_crates, edits, libraries, end, say, lambda text: say(text, log)).run(given.lanes)
     for it in edits:
-        if not it.verdict or it.verdict == "refused" and not given.gate:
+        if it.verdict in (None, "refused"):
             broken = " ".join(sorted(f"{of}:{goal}" for of, goal in it.goals))
             print(f"{it.key}: {f'refused: {broken}' if it.verdict else 'not tried'}")
     failed = [it for it in edits if it.verdict and it.verdict != "refused"]
