@@ -10,8 +10,12 @@ ferretgold_status cache_judge(const ferretgold_config *config, ferretgold_cache 
 /* A number that no cache had, of 2^32. */
 uint32_t cache_number(void);
 
-/* Makes a cache of what the proved library opened, which is closed again if memory is refused. */
-ferretgold_status cache_begin(ferretgold_object rack, const ferretgold_config *config,
-                              ferretgold_cache **cache);
+/* A cache of this file, with places for what the proved library opens: NULL if memory is refused. */
+ferretgold_cache *cache_made(const ferretgold_config *config);
+ferretgold_object *cache_object(ferretgold_cache *cache);
+ferretgold_object *cache_sessions(ferretgold_cache *cache);
+
+/* Makes it one that programs may use, by what the proved library answered; frees it if that refused. */
+ferretgold_status cache_begin(ferretgold_cache *it, uint32_t status, ferretgold_cache **cache);
 
 #endif

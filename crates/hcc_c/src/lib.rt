@@ -10,6 +10,7 @@ mod cache_exports;
 mod client_exports;
 mod closed;
 mod closed_exports;
+mod handing;
 mod image;
 mod image_exports;
 mod inserting;
