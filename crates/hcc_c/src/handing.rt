@@ -92,7 +92,7 @@ pub(crate) fn judge_each(
     ensures same { held_in places.new ≡ held_in places.old }
 {
     for k in 0..places.len() {
-        match judge(alloc, &mut places[k], number) {
+        match judge_in_place(alloc, &mut places[k], number) {
             Ok(()) => {}
             Err(why) => return Err(why),
         }
@@ -101,7 +101,7 @@ pub(crate) fn judge_each(
 }
 
 /// Judges one that stays in its place.
-fn judge(alloc: Global, place: &mut ClientPlace, number: u32) -> Result<(), Refusal>
+fn judge_in_place(alloc: Global, place: &mut ClientPlace, number: u32) -> Result<(), Refusal>
     requires { IsSome place.old.value }
     ensures judged { IsSomeAnd place.old.value (λ session. result ≡ judged_back number session) }
     ensures same { place.new.value ≡ place.old.value }
