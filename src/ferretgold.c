@@ -46,8 +46,7 @@ struct ferretgold_cache {
     ferretgold_object cache; /* the proved library's */
     ferretgold_config config;
     ferretgold_client *client;
-    ferretgold_back *back;      /* of each client */
-    ferretgold_object *session; /* of each client, as the proved library gives and takes them */
+    ferretgold_back *back; /* of each client */
     large_setup large;
     _Alignas(LINE) ferretgold_row row[];
 };
@@ -156,22 +155,23 @@ bool cache_is_idle(ferretgold_cache *cache) {
 static ferretgold_status end(ferretgold_cache *cache, ferretgold_totals *totals,
                              ferretgold_object *left) {
     ferretgold_object kept = {NULL};
+    ferretgold_object session[MOST_CLIENTS];
     const uint32_t count = cache->config.clients;
+    for (uint32_t number = 0; number < count; number++) {
+        session[number] = cache->client[number].session;
+    }
     const uint32_t status =
-        left != NULL
-            ? ferretgold_raw_close_keeping(cache->cache, cache->session, count, left, &kept)
-            : ferretgold_raw_close(cache->cache, cache->session, count, totals, &kept);
+        left != NULL ? ferretgold_raw_close_keeping(cache->cache, session, count, left, &kept)
+                     : ferretgold_raw_close(cache->cache, session, count, totals, &kept);
     free(cache);
     return (ferretgold_status)status;
 }
 
 ferretgold_cache *cache_made(const ferretgold_config *config) {
     const uint32_t rows = rows_for(config->clients);
-    const size_t of_client =
-        sizeof(ferretgold_client) + sizeof(ferretgold_back) + sizeof(ferretgold_object);
-    const size_t size =
-        sizeof(ferretgold_cache) + rows * sizeof(ferretgold_row) + config->clients * of_client;
-    ferretgold_cache *cache = aligned_alloc(LINE, (size + LINE - 1) / LINE * LINE);
+    const size_t size = sizeof(ferretgold_cache) + rows * sizeof(ferretgold_row) +
+                        config->clients * (sizeof(ferretgold_client) + sizeof(ferretgold_back));
+    ferretgold_cache *cache = aligned_alloc(LINE, size);
     if (cache == NULL) {
         return NULL;
     }
@@ -179,26 +179,19 @@ ferretgold_cache *cache_made(const ferretgold_config *config) {
     cache->config = *config;
     cache->client = (ferretgold_client *)(void *)&cache->row[rows];
     cache->back = (ferretgold_back *)(void *)&cache->client[config->clients];
-    cache->session = (ferretgold_object *)(void *)&cache->back[config->clients];
     cache->large = large_setup_of(config);
     return cache;
 }
 
-ferretgold_object *cache_object(ferretgold_cache *cache) {
-    return &cache->cache;
-}
-
-ferretgold_object *cache_sessions(ferretgold_cache *cache) {
-    return cache->session;
-}
-
-ferretgold_status cache_begin(ferretgold_cache *it, uint32_t status, ferretgold_cache **cache) {
+ferretgold_status cache_begin(ferretgold_cache *it, uint32_t status, const opened_cache *opened,
+                              ferretgold_cache **cache) {
     if (status != FERRETGOLD_OK) {
         free(it);
         return (ferretgold_status)status;
     }
+    it->cache = opened->cache;
     for (uint32_t number = it->config.clients; number-- > 0;) {
-        it->client[number].session = it->session[number];
+        it->client[number].session = opened->client[number];
         it->client[number].cache = it;
         put_back(&it->client[number]);
     }
@@ -233,14 +226,15 @@ ferretgold_status ferretgold_open(const ferretgold_config *config, ferretgold_ca
     if (status != FERRETGOLD_OK) {
         return status;
     }
+    opened_cache opened = {{NULL}, {{NULL}}};
     ferretgold_cache *it = cache_made(config);
     if (it == NULL) {
         return FERRETGOLD_OUT_OF_MEMORY;
     }
     return cache_begin(it,
-                       ferretgold_raw_open(config, cache_number(), it->session, config->clients,
-                                           &it->cache),
-                       cache);
+                       ferretgold_raw_open(config, cache_number(), opened.client, config->clients,
+                                           &opened.cache),
+                       &opened, cache);
 }
 
 ferretgold_status ferretgold_config_of(const ferretgold_cache *cache, ferretgold_config *config) {

@@ -39,6 +39,7 @@ void ferretgold_image_free(ferretgold_image *image) {
 
 ferretgold_status ferretgold_reopen(const ferretgold_config *config, ferretgold_image *image,
                                     ferretgold_cache **cache, size_t *left_out) {
+    opened_cache opened = {{NULL}, {{NULL}}};
     size_t count = 0;
     if (image == NULL) {
         return FERRETGOLD_NULL;
@@ -51,9 +52,9 @@ ferretgold_status ferretgold_reopen(const ferretgold_config *config, ferretgold_
     }
     status = cache_begin(it,
                          ferretgold_raw_reopen(config, cache_number(), list_of(image),
-                                               cache_sessions(it), config->clients,
-                                               cache_object(it), &count),
-                         cache);
+                                               opened.client, config->clients, &opened.cache,
+                                               &count),
+                         &opened, cache);
     if (status == FERRETGOLD_OK && left_out != NULL) {
         *left_out = count;
     }
