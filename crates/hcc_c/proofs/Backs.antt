@@ -74,7 +74,8 @@ first_ok (Ok fit) b ok = (refl, ok)
 first_ok (Err why) b ok = cc
 
 two_tests : (a b : Bool) (x y : Refusal)
-    → ◌≡◌ {A = Result (Unit {0}) Refusal} (if a then (if b then Ok tt else Err x) else Err y) (Ok tt)
+    → ◌≡◌ {A = Result (Unit {0}) Refusal} (if a then (if b then Ok tt else Err x) else Err y)
+    (Ok tt)
     → (a ≡ true) × (b ≡ true)
 two_tests true true x y ok = (refl, refl)
 two_tests true false x y ok = cc

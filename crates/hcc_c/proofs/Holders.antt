@@ -194,7 +194,8 @@ module _ (X : RattleType) {M : Type 1} (𝓤 : Ura M) (𝓛 : Logic 𝓤) (𝓜 
   𝓣 = tables 𝓤 𝓛.H 𝓜 𝓡 𝓡.env
 
   -- What a pointer owns is that of the struct that is made of it.
-  built : {V : Type 0} (owned : Global → Ptr → V → Fml) (S : Holder V) (p : Ptr) (a : Global) (v : V)
+  built : {V : Type 0} (owned : Global → Ptr → V → Fml) (S : Holder V) (p : Ptr) (a : Global)
+      (v : V)
       → ent 𝓤 (sem 𝓛 (owned a p v)) (sem 𝓛 ((row (holding owned S)).own_val (S.make p a v)
       (vstruct (vcons (ptr_val p) vnil) ∷ [])))
   built {V} owned S p a v =
@@ -511,7 +512,10 @@ module _ (X : RattleType) {M : Type 1} (𝓤 : Ura M) (𝓛 : Logic 𝓤) (𝓜 
         qed 𝓛 ((‵ ftrue ⊛ ‵ (owns [] z.0.3 z.0.4)) ∷ raw (emp 𝓤) ∷ []) ∵
         split ! $ drop ! $ keep ! [] $
         enter ! 𝓣.C 𝓣.Λ fn [] Post $ alloc_all ! (λ l. pass_all ! refl tt $
-        sets ! (agg ! (and_then ! (lit ! tt) (no_more !))) refl (tt, (record { fits = lit< tt }, tt)) $
+        sets ! (agg ! (and_then ! (lit ! tt) (no_more !))) refl (
+          tt,
+          (record { fits = lit< tt }, tt),
+        ) $
         returns ! (look_at ! 0 refl) $ free_all ! refl $ keep ! [] $
         nothing ! $ use1 𝓛 (‵ ((row I).own_val r (pv ∷ []))) (built maybe S null_ptr a None) $
         use0 𝓛 (raw (fact 𝓤 (S.value r ≡ None)))
@@ -564,12 +568,21 @@ module _ (X : RattleType) {M : Type 1} (𝓤 : Ura M) (𝓛 : Logic 𝓤) (𝓜 
           let r : T.type.D = T.make (block_ptr b o) (S.alloc h) x in
           suffices ! (Run (w ∷ [])) (subst (λ (xs : List Val). ent 𝓤 (Run (w ∷ [])) (Run xs))
           (sym (λ i. word i ++ [])) (id⊢ 𝓤 (Run (w ∷ [])))) $
-          enter ! 𝓣.C 𝓣.Λ fn (w ∷ []) Post $ alloc_all ! (λ l. pass_all ! refl ((tt, (tt, tt)), tt) $
-          sets ! (of_opd ! (get_in ! (fld ! refl (stop !)) (sub ! 0 refl (whole !)))) refl (tt, tt) $
+          enter ! 𝓣.C 𝓣.Λ fn (w ∷ []) Post $ alloc_all ! (λ l. pass_all ! refl (
+            (
+              tt,
+              (tt, tt),
+            ),
+            tt,
+          ) $
+          sets ! (of_opd ! (get_in ! (fld ! refl (stop !)) (sub ! 0 refl (whole !)))) refl
+          (tt, tt) $
           sets ! (agg ! (and_then ! (get ! refl) (no_more !))) refl (tt, (tt, tt)) $
           returns ! (look_at ! 0 refl) $ free_all ! refl $ keep ! (0 ∷ []) $
-          use1 𝓛 (‵ ((row J).own_val r (w ∷ []))) (built (boxed X) T (block_ptr b o) (S.alloc h) x) $
-          use0 𝓛 (raw (fact 𝓤 (S.value h ≡ Some (T.value r)))) (fact_i 𝓤 (S.value h ≡ Some (T.value r))
+          use1 𝓛 (‵ ((row J).own_val r (w ∷ []))) (built (boxed X) T (block_ptr b o)
+          (S.alloc h) x) $
+          use0 𝓛 (raw (fact 𝓤 (S.value h ≡ Some (T.value r)))) (fact_i 𝓤 (S.value h ≡ Some
+          (T.value r))
           (emp 𝓤) (it ∙ sym (λ i. Some (T.made (block_ptr b o) (S.alloc h) x i).1.1))) $
           move ! (1 ∷ 0 ∷ []) $ nothing ! $ nothing ! $ fjoin ! $ nothing ! $
           by ! (leaves 𝓛 shown stayed_shown c z w r (tt, tt) (tt, tt)))))))

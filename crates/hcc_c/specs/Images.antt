@@ -49,8 +49,8 @@ pub record Reopens (config : Config) (number : ℕ) (entries : List Visible) (po
 abbrev pub left_out_of : Config → List Visible → ℕ
 left_out_of config entries = length (split_of config entries).left
 
--- A cache is opened that begins with these entries, all its clients are given out, and it is counted
--- how many entries are left out.
+-- A cache is opened that begins with these entries, all its clients are given out, and it is
+-- counted how many entries are left out.
 pub record ReopensAs (config : Config) (number : ℕ) (entries : List Visible)
     (answer : Result (Box Pool Global × ℕ) Refusal) (old new : List ClientPlace) : Type 0 where
   pub refused : IfErr (checked config) (λ e. answer ≡ Err (opening_of e))

@@ -35,7 +35,8 @@ IsHandle session number handle = (number.cache ≡ session.cache_number)
 
 -- They are those of none.
 abbrev pub IsNone : Session → CHandle → Type 0
-IsNone session number = number.cache ≡ session.cache_number → HoldsNone session.client (numbers_in number)
+IsNone session number = number.cache ≡ session.cache_number → HoldsNone session.client
+    (numbers_in number)
 
 -- why a value isn't inserted, before the cache is asked
 abbrev pub judged : (room len charge : ℕ) → Result (Unit {0}) Unfit

@@ -26,7 +26,8 @@ pub loop-k-preserved : goal.loop-k-preserved
 loop-k-preserved c =
     let count = c.loop-k.auto.places in let below = c.loop-k-test.true in
     let inside : c.loop-k.k < length c.loop-k.places = omega arith in
-    let same = held_set c.loop-k.places c.loop-k.k c.index-places-k.result c.judge_in_place.new.place c.judge_in_place.ensures.same in
+    let same = held_set c.loop-k.places c.loop-k.k c.index-places-k.result
+    c.judge_in_place.new.place c.judge_in_place.ensures.same in
     let up : c.loop-k.k + 1 ≡ suc c.loop-k.k = omega arith in
     let rest = rest_at c.loop-k.places c.loop-k.k c.index-places-k.result inside in
     let next = judged_next c.args.number c.loop-k.places c.loop-k.k c.index-places-k.result

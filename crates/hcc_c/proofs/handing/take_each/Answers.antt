@@ -23,14 +23,17 @@ loop-k-preserved c =
     let front = front_set c.loop-k.places c.loop-k.k place inside in
     let next = clients_next c.loop-k.places c.loop-k.k c.index-places-k.result c.take-client.result
     inside c.take-client.ensures.taken in
-    let longer = ap length c.push_reserved.ensures.items ∙ length_push c.loop-k.back.items c.take-client.result in
+    let longer = ap length c.push_reserved.ensures.items ∙ length_push c.loop-k.back.items
+    c.take-client.result in
     let many = was.more in
     rw up (record {
       some = rw after (rw rest at was.some).1;
       none = rw front (each_more IsEmpty
-          (take c.loop-k.k (held_in c.loop-k.places)) place.value was.none c.take-client.ensures.none);
+          (take c.loop-k.k (held_in c.loop-k.places)) place.value was.none
+          c.take-client.ensures.none);
       back = rw (c.push_reserved.ensures.items, after) (append_assoc c.loop-k.back.items
-          (c.take-client.result ∷ []) _ ∙ ap (λ xs. c.loop-k.back.items ++ xs) (sym next) ∙ was.back);
+          (c.take-client.result ∷ []) _ ∙ ap (λ xs. c.loop-k.back.items ++ xs) (sym next)
+          ∙ was.back);
       more = omega arith;
       room = c.push_reserved.ensures.capacity ∙ was.room;
     })
