@@ -3,8 +3,8 @@
  * calls none of these.
  *
  * These refuse what the functions of ferretgold.h refuse, except null pointers and clients that are
- * idle. Each object is in one call at a time: so one thread at a time opens and closes clients. A
- * call that refuses leaves its outputs as they were, except where ferretgold.h says so.
+ * idle. Each object is in one call at a time. A call that refuses leaves its outputs as they were,
+ * except where ferretgold.h says so.
  */
 #include "ferretgold.h" /* before the guard, as it ends with ferretgold_inline.h */
 
@@ -26,9 +26,11 @@ struct ferretgold_entry; /* of ferretgold_closed.h */
 
 /* None of these pointers is null, even if a length is 0. */
 uint32_t ferretgold_raw_config_check(const ferretgold_config *config);
-/* No two caches that are open have one number, which their handles have too. */
+/* No two caches that are open have one number, which their handles have too. A cache gives all its
+ * clients when it is opened, each to the place of its number, and takes all back when it is closed:
+ * `count` is the configuration's. */
 uint32_t ferretgold_raw_open(const ferretgold_config *config, uint32_t number,
-                             ferretgold_object *cache);
+                             ferretgold_object *clients, size_t count, ferretgold_object *cache);
 /* A cache that begins with entries: first the list of them, which allocates it, then each entry. The
  * list is gone once a cache was to begin with it, whatever is returned. */
 uint32_t ferretgold_raw_image_open(ferretgold_object *image);
@@ -37,17 +39,16 @@ uint32_t ferretgold_raw_image_add(ferretgold_object *image, const ferretgold_key
                                   uint32_t uses);
 void ferretgold_raw_image_free(ferretgold_object image);
 uint32_t ferretgold_raw_reopen(const ferretgold_config *config, uint32_t number,
-                               ferretgold_object image, ferretgold_object *cache,
-                               size_t *left_out);
-uint32_t ferretgold_raw_client_open(ferretgold_object *cache, ferretgold_object *client);
-uint32_t ferretgold_raw_client_close(ferretgold_object *cache, ferretgold_object client,
-                                     ferretgold_object *kept);
-uint32_t ferretgold_raw_close(ferretgold_object cache, ferretgold_totals *totals,
-                              ferretgold_object *kept);
+                               ferretgold_object image, ferretgold_object *clients, size_t count,
+                               ferretgold_object *cache, size_t *left_out);
+/* Where a client is refused, or one is missing, all are in their places as before. */
+uint32_t ferretgold_raw_close(ferretgold_object cache, ferretgold_object *clients, size_t count,
+                              ferretgold_totals *totals, ferretgold_object *kept);
 /* A closed cache: first the place for one, which allocates it, then what is left of a cache. Until
  * then reading it is refused by CLIENTS_OUT. */
 uint32_t ferretgold_raw_closed_open(ferretgold_object *closed);
-uint32_t ferretgold_raw_close_keeping(ferretgold_object cache, ferretgold_object *closed,
+uint32_t ferretgold_raw_close_keeping(ferretgold_object cache, ferretgold_object *clients,
+                                      size_t count, ferretgold_object *closed,
                                       ferretgold_object *kept);
 uint32_t ferretgold_raw_closed_totals(ferretgold_object *closed, ferretgold_totals *totals);
 uint32_t ferretgold_raw_closed_entry(ferretgold_object *closed, uint32_t shard, uint32_t slot,

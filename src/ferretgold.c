@@ -43,7 +43,7 @@ typedef struct ferretgold_back {
 } ferretgold_back;
 
 struct ferretgold_cache {
-    ferretgold_object rack;
+    ferretgold_object cache; /* the proved library's */
     ferretgold_config config;
     ferretgold_client *client;
     ferretgold_back *back; /* of each client */
@@ -150,22 +150,24 @@ bool cache_is_idle(ferretgold_cache *cache) {
 
 /* ---- Opening and closing --------------------------------------------------------------------- */
 
-/* Ends a cache that has its clients from `first` on, all idle: what is left of it goes to `left`, or
- * else to `totals` in sum. */
-static ferretgold_status end(ferretgold_cache *cache, uint32_t first, ferretgold_totals *totals,
+/* Ends a cache, whose clients are idle: what is left of it goes to `left`, or else to `totals` in
+ * sum. */
+static ferretgold_status end(ferretgold_cache *cache, ferretgold_totals *totals,
                              ferretgold_object *left) {
     ferretgold_object kept = {NULL};
-    for (uint32_t number = first; number < cache->config.clients; number++) {
-        (void)ferretgold_raw_client_close(&cache->rack, cache->client[number].session, &kept);
+    ferretgold_object session[MOST_CLIENTS];
+    const uint32_t count = cache->config.clients;
+    for (uint32_t number = 0; number < count; number++) {
+        session[number] = cache->client[number].session;
     }
-    const uint32_t status = left != NULL ? ferretgold_raw_close_keeping(cache->rack, left, &kept)
-                                         : ferretgold_raw_close(cache->rack, totals, &kept);
+    const uint32_t status =
+        left != NULL ? ferretgold_raw_close_keeping(cache->cache, session, count, left, &kept)
+                     : ferretgold_raw_close(cache->cache, session, count, totals, &kept);
     free(cache);
     return (ferretgold_status)status;
 }
 
-/* The cache's part of this file, with no client yet; NULL if memory is refused. */
-static ferretgold_cache *made(ferretgold_object rack, const ferretgold_config *config) {
+ferretgold_cache *cache_made(const ferretgold_config *config) {
     const uint32_t rows = rows_for(config->clients);
     const size_t size = sizeof(ferretgold_cache) + rows * sizeof(ferretgold_row) +
                         config->clients * (sizeof(ferretgold_client) + sizeof(ferretgold_back));
@@ -174,26 +176,26 @@ static ferretgold_cache *made(ferretgold_object rack, const ferretgold_config *c
         return NULL;
     }
     memset(cache, 0, size);
-    cache->rack = rack;
     cache->config = *config;
     cache->client = (ferretgold_client *)(void *)&cache->row[rows];
     cache->back = (ferretgold_back *)(void *)&cache->client[config->clients];
+    cache->large = large_setup_of(config);
     return cache;
 }
 
-/* Makes all clients of a cache, which are idle then. */
-static ferretgold_status make_clients(ferretgold_cache *cache) {
-    for (uint32_t number = cache->config.clients; number-- > 0;) {
-        ferretgold_client *client = &cache->client[number];
-        const uint32_t status = ferretgold_raw_client_open(&cache->rack, &client->session);
-        if (status != FERRETGOLD_OK) {
-            ferretgold_totals totals = {0, 0, 0, 0};
-            (void)end(cache, number + 1, &totals, NULL);
-            return (ferretgold_status)status;
-        }
-        client->cache = cache;
-        put_back(client);
+ferretgold_status cache_begin(ferretgold_cache *it, uint32_t status, const opened_cache *opened,
+                              ferretgold_cache **cache) {
+    if (status != FERRETGOLD_OK) {
+        free(it);
+        return (ferretgold_status)status;
     }
+    it->cache = opened->cache;
+    for (uint32_t number = it->config.clients; number-- > 0;) {
+        it->client[number].session = opened->client[number];
+        it->client[number].cache = it;
+        put_back(&it->client[number]);
+    }
+    *cache = it;
     return FERRETGOLD_OK;
 }
 
@@ -219,30 +221,20 @@ uint32_t cache_number(void) {
     return atomic_fetch_add(&opened, 1) + 1;
 }
 
-ferretgold_status cache_begin(ferretgold_object rack, const ferretgold_config *config,
-                              ferretgold_cache **cache) {
-    ferretgold_object kept = {NULL};
-    ferretgold_totals totals = {0, 0, 0, 0};
-    ferretgold_cache *it = made(rack, config);
+ferretgold_status ferretgold_open(const ferretgold_config *config, ferretgold_cache **cache) {
+    const ferretgold_status status = cache_judge(config, cache);
+    if (status != FERRETGOLD_OK) {
+        return status;
+    }
+    opened_cache opened = {{NULL}, {{NULL}}};
+    ferretgold_cache *it = cache_made(config);
     if (it == NULL) {
-        (void)ferretgold_raw_close(rack, &totals, &kept);
         return FERRETGOLD_OUT_OF_MEMORY;
     }
-    it->large = large_setup_of(config);
-    const ferretgold_status status = make_clients(it);
-    if (status == FERRETGOLD_OK) {
-        *cache = it;
-    }
-    return status;
-}
-
-ferretgold_status ferretgold_open(const ferretgold_config *config, ferretgold_cache **cache) {
-    ferretgold_object rack = {NULL};
-    ferretgold_status status = cache_judge(config, cache);
-    if (status == FERRETGOLD_OK) {
-        status = (ferretgold_status)ferretgold_raw_open(config, cache_number(), &rack);
-    }
-    return status == FERRETGOLD_OK ? cache_begin(rack, config, cache) : status;
+    return cache_begin(it,
+                       ferretgold_raw_open(config, cache_number(), opened.client, config->clients,
+                                           &opened.cache),
+                       &opened, cache);
 }
 
 ferretgold_status ferretgold_config_of(const ferretgold_cache *cache, ferretgold_config *config) {
@@ -283,11 +275,11 @@ ferretgold_status ferretgold_close(ferretgold_cache *cache, ferretgold_totals *t
     if (!cache_is_idle(cache)) {
         return FERRETGOLD_CLIENTS_OUT;
     }
-    return end(cache, 0, totals != NULL ? totals : &left, NULL);
+    return end(cache, totals != NULL ? totals : &left, NULL);
 }
 
 ferretgold_status cache_end(ferretgold_cache *cache, ferretgold_object *left) {
-    return end(cache, 0, NULL, left);
+    return end(cache, NULL, left);
 }
 
 ferretgold_status ferretgold_client_open(ferretgold_cache *cache, ferretgold_client **client) {

@@ -39,21 +39,22 @@ void ferretgold_image_free(ferretgold_image *image) {
 
 ferretgold_status ferretgold_reopen(const ferretgold_config *config, ferretgold_image *image,
                                     ferretgold_cache **cache, size_t *left_out) {
-    ferretgold_object rack = {NULL};
+    opened_cache opened = {{NULL}, {{NULL}}};
     size_t count = 0;
     if (image == NULL) {
         return FERRETGOLD_NULL;
     }
     ferretgold_status status = cache_judge(config, cache);
-    if (status != FERRETGOLD_OK) {
+    ferretgold_cache *it = status == FERRETGOLD_OK ? cache_made(config) : NULL;
+    if (it == NULL) {
         ferretgold_image_free(image);
-        return status;
+        return status == FERRETGOLD_OK ? FERRETGOLD_OUT_OF_MEMORY : status;
     }
-    status = (ferretgold_status)ferretgold_raw_reopen(config, cache_number(), list_of(image), &rack,
-                                                      &count);
-    if (status == FERRETGOLD_OK) {
-        status = cache_begin(rack, config, cache);
-    }
+    status = cache_begin(it,
+                         ferretgold_raw_reopen(config, cache_number(), list_of(image),
+                                               opened.client, config->clients, &opened.cache,
+                                               &count),
+                         &opened, cache);
     if (status == FERRETGOLD_OK && left_out != NULL) {
         *left_out = count;
     }

@@ -1,7 +1,7 @@
 -- What a struct with one pointer of C does, whatever type X stands behind the pointer: it lends
 -- what it stands for, it is made a box again, and it is made of a box's pointer. Each is a walk of
 -- the MIR; at a struct the code and the contract are those of here, by computation.
-use Rattle.std.proofs.Common.{◌≡◌, [], ◌∷◌, List, refl, sym, ap, ◌∙◌, ◌++◌, subst, Option, Some}
+use Rattle.std.proofs.Common.{◌≡◌, [], ◌∷◌, List, refl, sym, ap, ◌∙◌, ◌++◌, subst, Option, Some, None, IsSome, w64, lit<}
 use Rattle.std.proofs.VecSteps.Shapes.{after}
 use Rattle.std.proofs.raw_atomic.Walks.{proved, proved_at, leaves}
 use Rattle.std.specs.Borrow.{Lends}
@@ -39,7 +39,7 @@ use denote.Triple.Spec.{Meets, triple_of}
 use denote.Triple.Table.{framed}
 use denote.Triple.Walked.{Stays, walk_of, says, stay_dropped, Goes-spent_ref, ends_at, Goes-dropped}
 use mir.Raw.{raw as bare}
-use mir.Syntax.{Body, Local, Fn, Callee, named, erased, mut, local, value_local, ty_ref, ty_ptr, seq, block, assign, place, rv_opd, copy, deref, field, addr_of, return, Dict, impl, tcons, tnil, dcons, dnil, call, aggregate}
+use mir.Syntax.{Body, Local, Fn, Callee, named, erased, mut, local, value_local, ty_ref, ty_ptr, seq, block, assign, place, rv_opd, copy, deref, field, addr_of, return, Dict, impl, tcons, tnil, dcons, dnil, call, aggregate, int}
 use mir.Val.{Val, vptr, vstruct, vcons, vnil}
 use prog.Model.{Model}
 use prog.Wired.{Codes, AllWired, and, end}
@@ -49,7 +49,7 @@ use types.ByLocal.{alloc_all, pass_all, free_all, look_at, get, through, sets, s
 use types.Kit.{‵, raw, ◌⊛◌, some, later, at_ret, ◌$◌, ◌∵◌, !, qed, done, move, keep, use1, split, split3, join, fsplit, fsplit3, fjoin, fpack, pick, await, frame, rewrite, suffices, group, by, drop, use0, feq_i}
 use types.Logic.{Logic, sem}
 use types.Part.{whole, sub, look_in, agg}
-use types.Run.{enter, of_opd, addr, load, stop, fld, first, blocks, exec, returns, no_more, and_then}
+use types.Run.{enter, lit, of_opd, addr, load, stop, fld, first, blocks, exec, returns, no_more, and_then}
 use types.Tokens.{lft_new}
 use Rattle.std_alloc.proofs.BoxSteps.Form as box
 use Rattle.std_alloc.proofs.boxed.Box.TheLaws.{the_field_loose}
@@ -105,6 +105,10 @@ holding owns S = record {
       (exits_of k (rows (RawPtr-field ∷ []))));
   shr_at = S.type.shr_at;
 }
+
+some_of : {A : Type 0} (o : Option A) → IsSome o → (x : A) × (o ≡ Some x)
+some_of None has = cc
+some_of (Some x) has = (x, refl)
 
 -- it owns the box of its pointer
 abbrev pub boxed : (X : RattleType) → Global → Ptr → X.Denot → Fml
@@ -170,12 +174,39 @@ placing space loose = function 0 1
     (seq (assign (place 3 []) (rv_opd (copy (place 2 []))))
     (seq (assign (place 0 []) (aggregate (copy (place 3 []) ∷ []))) return)))
 
+-- to make none, and to make an object of what a place has
+abbrev pub emptying : RattleType → Fn
+emptying space = function 0 0 (local (lone space.mir) value_local ∷ [])
+    (seq (assign (place 0 []) (aggregate (int w64 0 ∷ []))) return)
+
+abbrev pub showing : RattleType → RattleType → Fn
+showing space object = function 0 1
+    (local (lone object.mir) value_local ∷ local (lone space.mir) value_local
+    ∷ local ty_ptr value_local ∷ [])
+    (seq (assign (place 2 []) (rv_opd (copy (place 1 (field 0 ∷ [])))))
+    (seq (assign (place 0 []) (aggregate (copy (place 2 []) ∷ []))) return))
+
 module _ (X : RattleType) {M : Type 1} (𝓤 : Ura M) (𝓛 : Logic 𝓤) (𝓜 : Model 𝓤 𝓛.H)
     (𝓡 : Running 𝓤 𝓛.H 𝓜) where
   open connectives 𝓤 use {⌜◌⌝, ◌∗◌, ⊤ₛ}
 
   abbrev 𝓣 : MachineTables 𝓤 𝓛.H 𝓜
   𝓣 = tables 𝓤 𝓛.H 𝓜 𝓡 𝓡.env
+
+  -- What a pointer owns is that of the struct that is made of it.
+  built : {V : Type 0} (owned : Global → Ptr → V → Fml) (S : Holder V) (p : Ptr) (a : Global)
+      (v : V)
+      → ent 𝓤 (sem 𝓛 (owned a p v)) (sem 𝓛 ((row (holding owned S)).own_val (S.make p a v)
+      (vstruct (vcons (ptr_val p) vnil) ∷ [])))
+  built {V} owned S p a v =
+      let w : Val = vstruct (vcons (ptr_val p) vnil) in let O = shape (holding owned S) in
+      qed 𝓛 (‵ (owned a p v) ∷ []) ∵
+      nothing ! $ feq_i ! (List Val) (ptr_val p ∷ []) (ptr_val p ∷ []) refl $ fjoin ! $
+      feq_i ! (List Val) (w ∷ []) (w ∷ []) refl $ fjoin ! $
+      fpack ! (Valss (RawPtr ∷ [])) (within O (p, tt) (w ∷ [])) (ptr_val p ∷ [], tt) $ fjoin ! $
+      rewrite ! 0 (λ (d : Ptr × (Global × V)).
+      ‵ (fsep ((Struct O).own_val (d.0, tt) (w ∷ [])) (owned d.1.0 d.0 d.1.1)))
+      (sym (S.made p a v)) refl $ done !
 
   module _ (S : Holder X.Denot) where
     abbrev O : Owning
@@ -451,15 +482,107 @@ module _ (X : RattleType) {M : Type 1} (𝓤 : Ura M) (𝓛 : Logic 𝓤) (𝓜 
         let pv : Val = vstruct (vcons (vptr b o) vnil) in
         sets ! (agg ! (and_then ! (get ! refl) (no_more !))) refl (tt, (tt, tt)) $
         returns ! (look_at ! 0 refl) $ free_all ! refl $ keep ! (0 ∷ []) $
-        -- [the value with its token]
-        nothing ! $ feq_i ! (List Val) (vptr b o ∷ []) (vptr b o ∷ []) refl $ fjoin ! $
-        feq_i ! (List Val) (pv ∷ []) (pv ∷ []) refl $ fjoin ! $
-        fpack ! (Valss (RawPtr ∷ [])) (within (shape I) (block_ptr b o, tt) (pv ∷ []))
-        (vptr b o ∷ [], tt) $ fjoin ! $
-        rewrite ! 0 (λ (d : Ptr × (Global × Option X.Denot)).
-        ‵ (fsep ((Struct (shape I)).own_val (d.0, tt) (pv ∷ [])) (maybe d.1.0 d.0 d.1.1)))
-        (sym new) refl $
+        use1 𝓛 (‵ ((row I).own_val r (pv ∷ [])))
+        (built maybe S (block_ptr b o) h.alloc (Some h.value)) $
         use0 𝓛 (raw (fact 𝓤 (S.value r ≡ Some h.value)))
         (fact_i 𝓤 (S.value r ≡ Some h.value) (emp 𝓤) (λ i. (new i).1.1)) $
         move ! (1 ∷ 0 ∷ []) $ nothing ! $ nothing ! $ fjoin ! $ nothing ! $
         by ! (leaves 𝓛 placed stayed_placed c z pv r (tt, tt) (tt, tt))))))
+
+    abbrev emptied : Ended
+    emptied = record { signature = typed 0 [] (plain (λ κs. row I)); kept = tt }
+
+    abbrev empties_clauses : Clauses 𝓤 emptied
+    empties_clauses κs args = record {
+      ghost = Unit {0};
+      requires = λ g. ⊤ₛ;
+      ensures = λ g result end. ⌜◌⌝ (S.value result ≡ None);
+    }
+
+    -- One with none is made.
+    pub empties : (a : Global) → {k : Callee} → Closed 𝓤 𝓛.H 𝓣.C 𝓣.Λ k (emptying (row I))
+        → Meets 𝓛 emptied.signature (𝓣.C k) (closing 𝓛 emptied empties_clauses)
+    empties a closed =
+        let H = 𝓛.H in let c = empties_clauses in let fn = emptying (row I) in
+        proved_at 𝓛 emptied tt c 𝓜 𝓡 tt _ fn closed (λ z are.
+        let Post : Val → SProp 𝓤 = (walk_of 𝓛 emptied tt c).post z in
+        let pv : Val = vstruct (vcons (ptr_val null_ptr) vnil) in
+        let r : S.type.D = S.make null_ptr a None in
+        let new = S.made null_ptr a None in
+        qed 𝓛 ((‵ ftrue ⊛ ‵ (owns [] z.0.3 z.0.4)) ∷ raw (emp 𝓤) ∷ []) ∵
+        split ! $ drop ! $ keep ! [] $
+        enter ! 𝓣.C 𝓣.Λ fn [] Post $ alloc_all ! (λ l. pass_all ! refl tt $
+        sets ! (agg ! (and_then ! (lit ! tt) (no_more !))) refl (
+          tt,
+          (record { fits = lit< tt }, tt),
+        ) $
+        returns ! (look_at ! 0 refl) $ free_all ! refl $ keep ! [] $
+        nothing ! $ use1 𝓛 (‵ ((row I).own_val r (pv ∷ []))) (built maybe S null_ptr a None) $
+        use0 𝓛 (raw (fact 𝓤 (S.value r ≡ None)))
+        (fact_i 𝓤 (S.value r ≡ None) (emp 𝓤) (λ i. (new i).1.1)) $
+        move ! (1 ∷ 0 ∷ []) $ nothing ! $ nothing ! $
+        by ! (leaves 𝓛 emptied tt c z pv r tt tt)))
+
+    module _ (T : Holder X.Denot) where
+      abbrev J : Owning
+      J = holding (boxed X) T
+
+      abbrev shown : Ended
+      shown = record {
+        signature = typed 0 (plain (λ κs. row I) ∷ []) (plain (λ κs. row J));
+        kept = (yes, tt);
+      }
+
+      abbrev shows_clauses : Clauses 𝓤 shown
+      shows_clauses κs args = record {
+        ghost = Unit {0};
+        requires = λ g. ⌜◌⌝ (IsSome (S.value args.0));
+        ensures = λ g result end. ⌜◌⌝ (S.value args.0 ≡ Some (T.value result));
+      }
+
+      abbrev stayed_shown : Stays shown.signature.params shown.kept
+      stayed_shown = (stay_dropped (plain (λ _. row I)) yes, tt)
+
+      -- What it has is made an object.
+      pub shows_object : {k : Callee} → Closed 𝓤 𝓛.H 𝓣.C 𝓣.Λ k (showing (row I) (row J))
+          → Meets 𝓛 shown.signature (𝓣.C k) (closing 𝓛 shown shows_clauses)
+      shows_object closed =
+          let H = 𝓛.H in let c = shows_clauses in let fn = showing (row I) (row J) in
+          proved_at 𝓛 shown stayed_shown c 𝓜 𝓡
+          (Goes-dropped 𝓛 0 (plain (λ _. row I)) yes (λ κs x w. refl), tt)
+          _ fn closed (λ z are.
+          let h = z.0.3.0 in let us = z.0.4.0 in
+          let Post : Val → SProp 𝓤 = (walk_of 𝓛 shown stayed_shown c).post z in
+          let Run : List Val → SProp 𝓤 = λ ws. WpFn 𝓤 H 𝓣.C 𝓣.Λ fn ws Post in
+          qed 𝓛 ((‵ ftrue ⊛ ‵ (owns (row I ∷ []) z.0.3 z.0.4))
+          ∷ raw (fact 𝓤 (IsSome (S.value h))) ∷ []) ∵
+          split ! $ drop ! $ fsplit ! $ move ! (2 ∷ []) $ heard ! (IsSome (S.value h)) (λ has.
+          keep ! (0 ∷ []) $ peeks ! (row I) _ (shows 𝓛 (row I)) h us (λ is. fsplit ! $ drop ! $
+          let x : X.Denot = (some_of (S.value h) has).0 in let it = (some_of (S.value h) has).1 in
+          rewrite ! 0 (λ (v : Option X.Denot). ‵ (maybe (S.alloc h) (S.at h) v)) it refl $
+          in_a_block ! (S.at h) (λ p. boxed X (S.alloc h) p x) (fst∗ 𝓤 (never 𝓤)
+          (sem 𝓛 (heap.ghosts.dealloc_token (S.alloc h) (bare (lone X.mir)) null_ptr))) (λ b o e.
+          let word = Tells-lowered I (RawPtr-laws, tt) h us is
+          ∙ ap (λ (p : Ptr). vstruct (vcons (ptr_val p) vnil) ∷ []) e in
+          let w : Val = vstruct (vcons (vptr b o) vnil) in
+          let r : T.type.D = T.make (block_ptr b o) (S.alloc h) x in
+          suffices ! (Run (w ∷ [])) (subst (λ (xs : List Val). ent 𝓤 (Run (w ∷ [])) (Run xs))
+          (sym (λ i. word i ++ [])) (id⊢ 𝓤 (Run (w ∷ [])))) $
+          enter ! 𝓣.C 𝓣.Λ fn (w ∷ []) Post $ alloc_all ! (λ l. pass_all ! refl (
+            (
+              tt,
+              (tt, tt),
+            ),
+            tt,
+          ) $
+          sets ! (of_opd ! (get_in ! (fld ! refl (stop !)) (sub ! 0 refl (whole !)))) refl
+          (tt, tt) $
+          sets ! (agg ! (and_then ! (get ! refl) (no_more !))) refl (tt, (tt, tt)) $
+          returns ! (look_at ! 0 refl) $ free_all ! refl $ keep ! (0 ∷ []) $
+          use1 𝓛 (‵ ((row J).own_val r (w ∷ []))) (built (boxed X) T (block_ptr b o)
+          (S.alloc h) x) $
+          use0 𝓛 (raw (fact 𝓤 (S.value h ≡ Some (T.value r)))) (fact_i 𝓤 (S.value h ≡ Some
+          (T.value r))
+          (emp 𝓤) (it ∙ sym (λ i. Some (T.made (block_ptr b o) (S.alloc h) x i).1.1))) $
+          move ! (1 ∷ 0 ∷ []) $ nothing ! $ nothing ! $ fjoin ! $ nothing ! $
+          by ! (leaves 𝓛 shown stayed_shown c z w r (tt, tt) (tt, tt)))))))

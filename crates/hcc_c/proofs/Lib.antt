@@ -1,3 +1,4 @@
 pub mod Backs
 pub mod Copies
 pub mod Holders
+pub mod Places

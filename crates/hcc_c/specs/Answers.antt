@@ -13,7 +13,6 @@ use Rattle.hcc_c.specs.declared.refusal.Refusal.{Refusal}
 use Rattle.hcc_c.specs.declared.refusal.Refusal.TheVariants.{NoHandle, TooShort}
 use Rattle.hcc_c.specs.declared.shapes.Entry.{Entry}
 use Rattle.hcc_c.specs.declared.shapes.Key.{Key}
-use Rattle.hcc_c.specs.declared.session.Session.{Session}
 use Rattle.hcc_c.specs.declared.shapes.CHandle.{CHandle}
 use Rattle.hcc_c.specs.Refusals.{code_of, inserted_code, inserting_of, looking_of, opening_of, unfit_of}
 use Rattle.hcc_c.specs.Shapes.{words_of}
@@ -152,12 +151,3 @@ status_of_copied (Err why) = code_of why
 abbrev pub length_copied : Result Got Refusal → ℕ → ℕ
 length_copied (Ok got) old = length_got got old
 length_copied (Err why) old = old
-
--- a client that is given back
-abbrev pub status_of_back : Result (Unit {0}) (Refusal × Box Session Global) → ℕ
-status_of_back (Ok done) = 0
-status_of_back (Err refused) = code_of refused.0
-
-abbrev pub kept_of : Result (Unit {0}) (Refusal × Box Session Global) → Option Session
-kept_of (Ok done) = None
-kept_of (Err refused) = Some refused.1.value

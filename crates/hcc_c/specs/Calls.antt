@@ -48,7 +48,7 @@ pub record LooksUp (key : Key) (answer : Result (Option CHandle) LookupError) (o
   pub refused : OnErr answer (new ≡ old)
   pub found : IfOk answer (λ o. IfSome o (λ number. (handle : Handle)
       × Finds (arc_value old.cache) any key handle old.client new.client
-      × (number ≡ number_of old.home handle)))
+      × (number ≡ number_of old.cache_number handle)))
   pub missed : IfOk answer (λ o. IfNone o (Misses (arc_value old.cache) key old.client
       new.client))
   pub searched : IfOk answer (λ o. SearchesFor (arc_value old.cache) any key
@@ -73,7 +73,7 @@ pub record RefersAgain (number : CHandle) (answer : Option (Result CHandle Looku
   pub again : IfSome answer (λ a. IfOk a (λ more. (was : Handle) × (handle : Handle)
       × IsHandle old number was
       × Rerefs (arc_value old.cache) was handle old.client new.client
-      × (more ≡ number_of old.home handle)))
+      × (more ≡ number_of old.cache_number handle)))
   pub acquires : IfSome answer (λ a. IfOk a (λ _.
       AcquiresFor (arc_value old.cache) (handle_in number) old.client new.client))
   pub counts : IfSome answer (λ a. IfOk a (λ _.
@@ -169,7 +169,7 @@ module _ (key : Key) (charge : ℕ) (priority : Priority) (value : List ℕ) whe
         (λ made. (handle : Handle)
         × InsertsWith (arc_value old.cache) key charge priority value handle made.1
         old.client new.client
-        × (made.0 ≡ number_of old.home handle))
+        × (made.0 ≡ number_of old.cache_number handle))
         (λ why. RefusesWith (arc_value old.cache) key charge priority value why
         old.client new.client))
     pub evicts : IfOk answer (λ a. MatchResult a

@@ -1,8 +1,9 @@
 -- Entries that C gives one by one, and a cache that begins with them.
 use Rattle.std.specs.Prelude.{◌≡◌, ℕ, ◌++◌, List, [], ◌∷◌, Result, Err, IfOk, IfErr, OnOk, OnErr, IsOkUnless, Box, length, map}
-use Rattle.std.specs.Arc.{arc_value}
 use Rattle.std.specs.Global.{Global}
 use Rattle.hcc_rule.specs.declared.key.Key.{Key}
+use Rattle.hcc_cache.specs.declared.cache.Cache.{Cache}
+use Rattle.hcc_cache.specs.declared.client.Client.{Client}
 use Rattle.hcc_cache.specs.declared.config.Config.{Config}
 use Rattle.hcc_cache.specs.declared.tags.AnyBytes.{AnyBytes}
 use Rattle.hcc_cache.specs.Configs.{checked}
@@ -10,11 +11,11 @@ use Rattle.hcc_cache.specs.Images.{Visible, visible_of}
 use Rattle.hcc_cache.specs.Reopened.{IsReopened}
 use Rattle.hcc_cache.specs.Taken.{split_of}
 use Rattle.hcc_c.specs.declared.image.Image.{Image}
+use Rattle.hcc_c.specs.declared.objects.ClientPlace.{ClientPlace}
 use Rattle.hcc_c.specs.declared.pool.Pool.{Pool}
-use Rattle.hcc_c.specs.declared.pool.Rack.{Rack}
 use Rattle.hcc_c.specs.declared.refusal.Refusal.{Refusal}
 use Rattle.hcc_c.specs.declared.refusal.Refusal.TheVariants.{OutOfMemory}
-use Rattle.hcc_c.specs.Pools.{IfOpen, IsWholeRack}
+use Rattle.hcc_c.specs.Pools.{BeginsWith, IsWholePool}
 use Rattle.hcc_c.specs.Refusals.{opening_of}
 use Rattle.hcc_c.specs.Sessions.{any}
 
@@ -34,24 +35,27 @@ pub record Adds (entry : Visible) (answer : Result (Unit {0}) Refusal) (old new 
   pub nothing : OnErr answer (entries_of new ≡ entries_of old)
   pub added : OnOk answer (entries_of new ≡ entries_of old ++ entry ∷ [])
 
--- a cache of this number as it was configured, which begins with these entries, with all its
--- clients back
+-- a cache of this number as it was configured, which begins with these entries, with a session of
+-- each of its clients
 pub record Reopens (config : Config) (number : ℕ) (entries : List Visible) (pool : Pool)
-    : Type 0 where
+    (places : List ClientPlace) : Type 0 where
   pub tag : AnyBytes
-  pub reopened : IsReopened any config tag entries (arc_value pool.cache) pool.back.items
-  pub config_is : pool.config ≡ config
-  pub number_is : pool.number ≡ number
+  pub cache : Cache AnyBytes
+  pub clients : List (Client AnyBytes)
+  pub reopened : IsReopened any config tag entries cache clients
+  pub begins : BeginsWith cache clients config number pool places
 
 -- how many of these entries a cache doesn't begin with
 abbrev pub left_out_of : Config → List Visible → ℕ
 left_out_of config entries = length (split_of config entries).left
 
--- A cache is opened that begins with these entries, and it is counted how many are left out.
+-- A cache is opened that begins with these entries, all its clients are given out, and it is
+-- counted how many entries are left out.
 pub record ReopensAs (config : Config) (number : ℕ) (entries : List Visible)
-    (answer : Result (Box Rack Global × ℕ) Refusal) : Type 0 where
+    (answer : Result (Box Pool Global × ℕ) Refusal) (old new : List ClientPlace) : Type 0 where
   pub refused : IfErr (checked config) (λ e. answer ≡ Err (opening_of e))
   pub memory : OnOk (checked config) (IsOkUnless answer OutOfMemory)
-  pub reopened : IfOk answer (λ made. IfOpen made.0.value.pool (Reopens config number entries))
+  pub nothing : OnErr answer (new ≡ old)
+  pub reopened : IfOk answer (λ made. Reopens config number entries made.0.value new)
   pub left_out : IfOk answer (λ made. made.1 ≡ left_out_of config entries)
-  pub whole : IfOk answer (λ made. IsWholeRack made.0.value)
+  pub whole : IfOk answer (λ made. IsWholePool made.0.value)

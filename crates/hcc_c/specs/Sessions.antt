@@ -30,12 +30,13 @@ handle_in number = handle_of (numbers_in number)
 
 -- The numbers are those of a handle that the client holds: its cache's, its own, and the serial.
 abbrev pub IsHandle : Session → CHandle → Handle → Type 0
-IsHandle session number handle = (number.cache ≡ session.home)
+IsHandle session number handle = (number.cache ≡ session.cache_number)
     × (handle ≡ handle_in number) × Holds session.client handle
 
 -- They are those of none.
 abbrev pub IsNone : Session → CHandle → Type 0
-IsNone session number = number.cache ≡ session.home → HoldsNone session.client (numbers_in number)
+IsNone session number = number.cache ≡ session.cache_number → HoldsNone session.client
+    (numbers_in number)
 
 -- why a value isn't inserted, before the cache is asked
 abbrev pub judged : (room len charge : ℕ) → Result (Unit {0}) Unfit

@@ -1,14 +1,13 @@
 //! How a call's result reaches C: by a status, and by outputs that stay if it is refused.
 ghost use Rattle.std.specs.Prelude.{◌≡◌, None};
-ghost use Rattle.hcc_c.specs.Answers.{beside_or, entry_or, given_or, handle_of_pinned, inserted_of, inserted_of_pinned, kept_of, key_or, length_copied, length_got, length_of, more_of, number_of, placed, placed_beside, status_of, status_of_back, status_of_copied, status_of_given, status_of_got, status_of_insert, status_of_left, status_of_look, status_of_pinned, status_of_read, status_of_reref, value_or};
+ghost use Rattle.hcc_c.specs.Answers.{beside_or, entry_or, given_or, handle_of_pinned, inserted_of, inserted_of_pinned, key_or, length_copied, length_got, length_of, more_of, number_of, placed, placed_beside, status_of, status_of_copied, status_of_given, status_of_got, status_of_insert, status_of_left, status_of_look, status_of_pinned, status_of_read, status_of_reref, value_or};
 
 use crate::closed::Left;
 use crate::image::Image;
 use crate::inserting::Unfit;
-use crate::objects::{CachePlace, ClientPlace, ClosedPlace, ImagePlace, Loose};
-use crate::pool::Rack;
+use crate::objects::{CachePlace, ClosedPlace, ImagePlace, Loose};
+use crate::pool::Pool;
 use crate::refusal::{Refusal, inserted_code};
-use crate::session::Session;
 use crate::shapes::{CHandle, Entry, Key};
 use hcc_cache::{Got, InsertError, Inserted, LookupError};
 
@@ -151,14 +150,14 @@ pub(crate) fn told_read(answer: Option<Result<usize, usize>>, length: &mut usize
 }
 
 /// Gives C a new cache by the place that it has, or why there is none.
-pub(crate) fn told_cache(answer: Result<Box<Rack>, Refusal>, cache: &mut CachePlace) -> u32
+pub(crate) fn told_cache(answer: Result<Box<Pool>, Refusal>, cache: &mut CachePlace) -> u32
     requires { cache.old.value ≡ None }
     ensures status { result ≡ status_of_given answer }
     ensures place { cache.new.value ≡ placed answer }
 {
     match answer {
-        Ok(rack) => {
-            *cache = CachePlace::of(Loose::of(rack));
+        Ok(pool) => {
+            *cache = CachePlace::of(Loose::of(pool));
             DONE
         }
         Err(why) => why.code(),
@@ -167,7 +166,7 @@ pub(crate) fn told_cache(answer: Result<Box<Rack>, Refusal>, cache: &mut CachePl
 
 /// Gives C a cache that begins with entries, and how many are left out, or why there is none.
 pub(crate) fn told_reopened(
-    answer: Result<(Box<Rack>, usize), Refusal>,
+    answer: Result<(Box<Pool>, usize), Refusal>,
     cache: &mut CachePlace,
     left_out: &mut usize,
 ) -> u32
@@ -177,41 +176,11 @@ pub(crate) fn told_reopened(
     ensures left_out { left_out.new ≡ beside_or answer left_out.old }
 {
     match answer {
-        Ok((rack, count)) => {
+        Ok((pool, count)) => {
             *left_out = count;
-            told_cache(Ok(rack), cache)
+            told_cache(Ok(pool), cache)
         }
         Err(why) => why.code(),
-    }
-}
-
-/// Gives C a client by the place that it has, or why there is none.
-pub(crate) fn told_client(answer: Result<Box<Session>, Refusal>, client: &mut ClientPlace) -> u32
-    requires { client.old.value ≡ None }
-    ensures status { result ≡ status_of_given answer }
-    ensures place { client.new.value ≡ placed answer }
-{
-    match answer {
-        Ok(session) => {
-            *client = ClientPlace::of(Loose::of(session));
-            DONE
-        }
-        Err(why) => why.code(),
-    }
-}
-
-/// Reports to C that a client is back; else why it isn't, and by its place which one it is.
-pub(crate) fn told_back(answer: Result<(), (Refusal, Box<Session>)>, kept: &mut ClientPlace) -> u32
-    requires { kept.old.value ≡ None }
-    ensures status { result ≡ status_of_back answer }
-    ensures kept { kept.new.value ≡ kept_of answer }
-{
-    match answer {
-        Ok(()) => DONE,
-        Err((why, session)) => {
-            *kept = ClientPlace::of(Loose::of(session));
-            why.code()
-        }
     }
 }
 

@@ -1,16 +1,15 @@
 //! The calls of a cache, as C has them. Each says by its status and its outputs what the call of
 //! the cache behind the pointer answered, and comes to what that call comes to.
-ghost use Rattle.std.specs.Prelude.{◌≡◌, None, Some, OnErr, OnOk};
+ghost use Rattle.std.specs.Prelude.{◌≡◌, None, Some, OnErr, OnOk, length};
 ghost use Rattle.hcc_cache.specs.Configs.{checked};
-ghost use Rattle.hcc_c.specs.Answers.{kept_of, placed, status_of_back, status_of_checked, status_of_given, given_or};
-ghost use Rattle.hcc_c.specs.Lending.{IsCacheThere};
-ghost use Rattle.hcc_c.specs.Pools.{EndsAs, IsHome, IsWholeRack, OpensAs, TakesIn, TakesOut};
-ghost use Rattle.hcc_c.specs.Sessions.{IsWhole};
+ghost use Rattle.hcc_rule.specs.Views.{Each};
+ghost use Rattle.hcc_c.specs.Answers.{given_or, placed, status_of_checked, status_of_given};
+ghost use Rattle.hcc_c.specs.Pools.{AreFit, EndsAs, IsEmpty, IsWholePool, OpensAs, held_in};
 ghost use Rattle.hcc_c.specs.Shapes.{config_of};
 
-use crate::answers::{DONE, told_back, told_cache, told_client, told_given};
-use crate::objects::{CacheObject, CachePlace, ClientObject, ClientPlace, Loose};
-use crate::pool::Rack;
+use crate::answers::{DONE, told_cache, told_given};
+use crate::objects::{CacheObject, CachePlace, ClientPlace, Loose};
+use crate::pool::Pool;
 use crate::refusal::Refusal;
 use crate::shapes::{CConfig, Totals};
 use std::alloc::Global;
@@ -26,79 +25,48 @@ pub extern "C" fn ferretgold_raw_config_check(setup: &CConfig) -> u32
     }
 }
 
+/// Opens a cache, and gives all its clients: each goes to the place of its number.
 #[unsafe(no_mangle)]
 pub extern "C" fn ferretgold_raw_open(
     alloc: Global,
     setup: &CConfig,
     number: u32,
+    clients: &mut [ClientPlace],
     cache: &mut CachePlace,
 ) -> u32
-    requires { cache.old.value ≡ None }
-    ensures opens { (answer : _) × OpensAs (config_of setup.now) number answer
+    requires cache { cache.old.value ≡ None }
+    requires clients { Each IsEmpty (held_in clients.old) }
+    requires count { length clients.old ≡ setup.now.clients }
+    ensures opens { (answer : _)
+        × OpensAs (config_of setup.now) number answer clients.old clients.new
         × (result ≡ status_of_given answer) × (cache.new.value ≡ placed answer) }
 {
-    let answer = Rack::open(alloc, setup.config(), number);
+    let answer = Pool::open(alloc, setup.config(), number, clients);
     told_cache(answer, cache)
 }
 
-#[unsafe(no_mangle)]
-pub extern "C" fn ferretgold_raw_client_open(
-    alloc: Global,
-    cache: &mut CacheObject,
-    client: &mut ClientPlace,
-) -> u32
-    requires cache { IsWholeRack cache.old.value }
-    requires client { client.old.value ≡ None }
-    ensures there { IsCacheThere cache.old cache.new }
-    ensures whole { IsWholeRack cache.new.value }
-    ensures takes { (answer : _) × TakesOut answer cache.old.value cache.new.value
-        × (result ≡ status_of_given answer) × (client.new.value ≡ placed answer) }
-{
-    let answer = cache.rack().take(alloc);
-    told_client(answer, client)
-}
-
-/// No two caches that are open have one number: so a client that has this cache's number is one of
-/// it. Where the client isn't taken back, `kept` has it as it was.
-#[unsafe(no_mangle)]
-pub extern "C" fn ferretgold_raw_client_close(
-    alloc: Global,
-    cache: &mut CacheObject,
-    client: ClientObject,
-    kept: &mut ClientPlace,
-) -> u32
-    requires cache { IsWholeRack cache.old.value }
-    requires client { IsWhole client.value }
-    requires home { IsHome client.value cache.old.value }
-    requires kept { kept.old.value ≡ None }
-    ensures there { IsCacheThere cache.old cache.new }
-    ensures whole { IsWholeRack cache.new.value }
-    ensures takes { (session : _) × (session.value ≡ client.value) × (answer : _)
-        × TakesIn session answer cache.old.value cache.new.value
-        × (result ≡ status_of_back answer) × (kept.new.value ≡ kept_of answer) }
-{
-    let client = client.client(alloc);
-    let answer = cache.rack().give_back(client);
-    told_back(answer, kept)
-}
-
-/// Where the cache isn't closed, `kept` has it as it was.
+/// Takes all clients back and ends the cache. No two caches that are open have one number: so a
+/// client that has this cache's number is one of it. Where the cache isn't ended, `kept` has it; if
+/// a client is the reason, or one is missing, all are in their places still.
 #[unsafe(no_mangle)]
 pub extern "C" fn ferretgold_raw_close(
     alloc: Global,
     cache: CacheObject,
+    clients: &mut [ClientPlace],
     totals: &mut Totals,
     kept: &mut CachePlace,
 ) -> u32
-    requires cache { IsWholeRack cache.value }
+    requires cache { IsWholePool cache.value }
+    requires clients { AreFit cache.value (held_in clients.old) }
     requires kept { kept.old.value ≡ None }
-    ensures ends { (answer : _) × (left : _) × EndsAs answer cache.value left
+    ensures ends { (answer : _) × (left : _)
+        × EndsAs answer cache.value left (held_in clients.old) (held_in clients.new)
         × (result ≡ status_of_given answer) × (totals.new ≡ given_or answer totals.old)
-        × OnErr answer (kept.new.value ≡ Some cache.value)
+        × OnErr answer (kept.new.value ≡ Some left)
         × OnOk answer (kept.new.value ≡ None) }
 {
     let mut cache = cache.cache(alloc);
-    let answer = cache.close();
+    let answer = cache.close(alloc, clients);
     if answer.is_err() {
         *kept = CachePlace::of(Loose::of(cache));
     }

@@ -5,11 +5,11 @@ ghost use Rattle.hcc_rule.specs.declared.layout.TheConstants.{DISPLACEMENT, META
 ghost use Rattle.hcc_c.specs.Answers.{entry_or, given_or, length_copied, placed, status_of_copied, status_of_given, status_of_left};
 ghost use Rattle.hcc_c.specs.Left.{ReadsLeft, TellsLeft, field_left, hand_left, totals_left};
 ghost use Rattle.hcc_c.specs.Lending.{IsClosedThere};
-ghost use Rattle.hcc_c.specs.Pools.{EndsKept, IsWholeRack};
+ghost use Rattle.hcc_c.specs.Pools.{AreFit, EndsKept, IsWholePool, held_in};
 
 use crate::answers::{told_copied, told_done, told_given, told_left, told_room};
 use crate::closed::Left;
-use crate::objects::{CacheObject, CachePlace, ClosedObject, ClosedPlace, Loose};
+use crate::objects::{CacheObject, CachePlace, ClientPlace, ClosedObject, ClosedPlace, Loose};
 use crate::refusal::Refusal;
 use crate::shapes::{Entry, Totals};
 use std::alloc::Global;
@@ -26,25 +26,28 @@ pub extern "C" fn ferretgold_raw_closed_open(alloc: Global, closed: &mut ClosedP
     told_room(answer, closed)
 }
 
-/// Where the cache isn't closed, `kept` has it as it was.
+/// Ends the cache as `ferretgold_raw_close` does, and keeps what is left of it.
 #[unsafe(no_mangle)]
 pub extern "C" fn ferretgold_raw_close_keeping(
     alloc: Global,
     cache: CacheObject,
+    clients: &mut [ClientPlace],
     closed: &mut ClosedObject,
     kept: &mut CachePlace,
 ) -> u32
-    requires cache { IsWholeRack cache.value }
+    requires cache { IsWholePool cache.value }
+    requires clients { AreFit cache.value (held_in clients.old) }
     requires kept { kept.old.value ≡ None }
     ensures there { IsClosedThere closed.old closed.new }
     ensures ends { (answer : _) × (left : _)
-        × EndsKept answer cache.value left closed.old.value closed.new.value
+        × EndsKept answer cache.value left (held_in clients.old) (held_in clients.new)
+        closed.old.value closed.new.value
         × (result ≡ status_of_given answer)
-        × OnErr answer (kept.new.value ≡ Some cache.value)
+        × OnErr answer (kept.new.value ≡ Some left)
         × OnOk answer (kept.new.value ≡ None) }
 {
     let mut cache = cache.cache(alloc);
-    let answer = cache.close_keeping(closed.left());
+    let answer = cache.close_keeping(alloc, clients, closed.left());
     if answer.is_err() {
         *kept = CachePlace::of(Loose::of(cache));
     }

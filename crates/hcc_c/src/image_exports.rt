@@ -1,14 +1,16 @@
 //! Entries come one by one, and a cache begins with them.
-ghost use Rattle.std.specs.Prelude.{◌≡◌, [], None, IfOk, IsOkUnless};
+ghost use Rattle.std.specs.Prelude.{◌≡◌, [], None, IfOk, IsOkUnless, length};
+ghost use Rattle.hcc_rule.specs.Views.{Each};
 ghost use Rattle.hcc_c.specs.Answers.{beside_or, placed, placed_beside, status_of_given};
 ghost use Rattle.hcc_c.specs.Images.{Adds, ReopensAs, entries_of, entry_for};
 ghost use Rattle.hcc_c.specs.Lending.{IsImageThere};
+ghost use Rattle.hcc_c.specs.Pools.{IsEmpty, held_in};
 ghost use Rattle.hcc_c.specs.Shapes.{config_of, key_of};
 
 use crate::answers::{told_done, told_image, told_reopened};
 use crate::image::Image;
-use crate::objects::{CachePlace, ImageObject, ImagePlace};
-use crate::pool::Rack;
+use crate::objects::{CachePlace, ClientPlace, ImageObject, ImagePlace};
+use crate::pool::Pool;
 use crate::refusal::Refusal;
 use crate::shapes::{CConfig, Key};
 use std::alloc::Global;
@@ -51,23 +53,28 @@ pub extern "C" fn ferretgold_raw_image_free(alloc: Global, image: ImageObject) {
     drop(image.whole(alloc));
 }
 
-/// Opens a cache that begins with the entries, which C has no more, whatever it answers.
+/// Opens a cache that begins with the entries, which C has no more, whatever it answers, and gives
+/// all its clients: each goes to the place of its number.
 #[unsafe(no_mangle)]
 pub extern "C" fn ferretgold_raw_reopen(
     alloc: Global,
     setup: &CConfig,
     number: u32,
     image: ImageObject,
+    clients: &mut [ClientPlace],
     cache: &mut CachePlace,
     left_out: &mut usize,
 ) -> u32
-    requires { cache.old.value ≡ None }
+    requires cache { cache.old.value ≡ None }
+    requires clients { Each IsEmpty (held_in clients.old) }
+    requires count { length clients.old ≡ setup.now.clients }
     ensures reopens { (answer : _)
         × ReopensAs (config_of setup.now) number (entries_of image.value) answer
+        clients.old clients.new
         × (result ≡ status_of_given answer) × (cache.new.value ≡ placed_beside answer)
         × (left_out.new ≡ beside_or answer left_out.old) }
 {
     let image = image.whole(alloc);
-    let answer = Rack::reopen(alloc, setup.config(), number, image);
+    let answer = Pool::reopen(alloc, setup.config(), number, image, clients);
     told_reopened(answer, cache, left_out)
 }

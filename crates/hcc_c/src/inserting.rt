@@ -63,7 +63,7 @@ impl Session {
             .cache
             .insert_pinned(&mut self.client, key, copy, charge, priority);
         let told = match answer {
-            Ok((handle, inserted)) => Ok((CHandle::of(self.home, handle), inserted)),
+            Ok((handle, inserted)) => Ok((CHandle::of(self.cache_number, handle), inserted)),
             Err((why, _)) => Err(why),
         };
         self.counts.insert_pinned(told);

@@ -1,22 +1,22 @@
 //! The opaque objects: a cache or a client behind a pointer that C keeps.
-ghost use Rattle.std.specs.Prelude.{◌≡◌, Option, Some};
+ghost use Rattle.std.specs.Prelude.{◌≡◌, Option, Some, None, IsSome};
 ghost use Rattle.std.specs.Borrow.{sem};
 ghost use Rattle.std_alloc.specs.Box.Ownership.{box_owns};
 ghost use Rattle.std_heap.specs.contracts.GlobalAllocator.TheImpl as heap;
 ghost use Rattle.std.specs.Global.{Global};
 ghost use Rattle.hcc_c.specs.declared.closed.Left.{Left};
 ghost use Rattle.hcc_c.specs.declared.image.Image.{Image};
-ghost use Rattle.hcc_c.specs.declared.pool.Rack.{Rack};
+ghost use Rattle.hcc_c.specs.declared.pool.Pool.{Pool};
 ghost use Rattle.hcc_c.specs.declared.session.Session.{Session};
 ghost use Rattle.hcc_c.specs.contracts.closed.Left.{the_row as left_row};
 ghost use Rattle.hcc_c.specs.contracts.image.Image.{the_row as image_row};
-ghost use Rattle.hcc_c.specs.contracts.pool.Rack.{the_row as rack_row};
+ghost use Rattle.hcc_c.specs.contracts.pool.Pool.{the_row as pool_row};
 ghost use Rattle.hcc_c.specs.contracts.session.Session.{the_row as session_row};
 ghost use Rattle.hcc_c.specs.Places.{owns_if};
 
 use crate::closed::Left;
 use crate::image::Image;
-use crate::pool::Rack;
+use crate::pool::Pool;
 use crate::session::Session;
 use std::alloc::Global;
 use std::marker::Model;
@@ -61,31 +61,21 @@ unsafe impl Send for ClientObject {}
 pub struct CacheObject {
     at: *mut u8,
     ghost alloc: { Global },
-    ghost value: { Rack },
+    ghost value: { Pool },
 }
 
 impl Model for CacheObject {
     ghost also_owns = { λ o.
-        box_owns (heap.ghosts.dealloc_token o.alloc) rack_row o.at o.value };
+        box_owns (heap.ghosts.dealloc_token o.alloc) pool_row o.at o.value };
 }
 
 impl CacheObject {
-    ghost use Rattle.hcc_c.specs.Lending.{LendsRack};
-
-    /// The cache behind the pointer, for one call.
-    pub(crate) fn rack(&mut self) -> &mut Rack
-        ensures* lends { sem 𝓛 (LendsRack self.entry result) }
-        ensures value { result.now ≡ self.old.value }
-    {
-        unsafe { &mut *(self.at as *mut Rack) }
-    }
-
     /// The cache itself, which C has no more.
-    pub(crate) fn cache(self, alloc: Global) -> Box<Rack>
+    pub(crate) fn cache(self, alloc: Global) -> Box<Pool>
         ensures { result.value ≡ self.value }
     {
         let CacheObject { at } = self;
-        unsafe { Box::from_raw(alloc, at as *mut Rack) }
+        unsafe { Box::from_raw(alloc, at as *mut Pool) }
     }
 }
 
@@ -200,6 +190,23 @@ impl ClientPlace {
         let Loose { at } = client;
         ClientPlace { at: at as *mut u8 }
     }
+
+    pub(crate) fn none() -> ClientPlace
+        ensures { result.value ≡ None }
+    {
+        ClientPlace {
+            at: std::ptr::null_mut(),
+        }
+    }
+
+    /// The client that it has.
+    pub(crate) fn object(self) -> ClientObject
+        requires { IsSome self.value }
+        ensures { self.value ≡ Some result.value }
+    {
+        let ClientPlace { at } = self;
+        ClientObject { at }
+    }
 }
 
 /// The same for a cache.
@@ -208,16 +215,16 @@ impl ClientPlace {
 pub struct CachePlace {
     at: *mut u8,
     ghost alloc: { Global },
-    ghost value: { Option Rack },
+    ghost value: { Option Pool },
 }
 
 impl Model for CachePlace {
     ghost also_owns = { λ p.
-        owns_if (heap.ghosts.dealloc_token p.alloc) rack_row p.at p.value };
+        owns_if (heap.ghosts.dealloc_token p.alloc) pool_row p.at p.value };
 }
 
 impl CachePlace {
-    pub(crate) fn of(cache: Loose<Rack>) -> CachePlace
+    pub(crate) fn of(cache: Loose<Pool>) -> CachePlace
         ensures { result.value ≡ Some cache.value }
     {
         let Loose { at } = cache;

@@ -1,69 +1,38 @@
 //! A cache in the hands of C that begins with entries.
-ghost use Rattle.std.specs.Prelude.{◌≡◌, Err, IfOk, IfErr, IsOkUnless, OnOk};
-ghost use Rattle.hcc_cache.specs.Configs.{checked};
-ghost use Rattle.hcc_c.specs.Images.{Reopens, ReopensAs, entries_of, left_out_of};
-ghost use Rattle.hcc_c.specs.Pools.{IsWholePool};
+ghost use Rattle.std.specs.Prelude.{◌≡◌, length};
+ghost use Rattle.hcc_c.specs.Images.{ReopensAs, entries_of};
 
 use crate::image::Image;
-use crate::pool::{Pool, Rack};
+use crate::objects::ClientPlace;
+use crate::pool::Pool;
 use crate::refusal::Refusal;
-use hcc_cache::{AnyBytes, Cache, Config, NewError};
+use hcc_cache::{AnyBytes, Cache, Config};
 use std::alloc::Global;
-use std::sync::Arc;
 
-impl Rack {
-    /// A cache of this number that begins with these entries, with all its clients, and how many
-    /// entries are left out. It refuses what the cache's `reopen` does. The entries are gone then.
+impl Pool {
+    /// A cache of this number that begins with these entries, whose clients go to the places, in
+    /// order of their numbers, and how many entries are left out. It refuses what the cache's
+    /// `reopen` does, and where memory is refused; the places are as before then. The entries are
+    /// gone, whatever is returned.
     pub fn reopen(
         alloc: Global,
         config: Config,
         number: u32,
         image: Box<Image>,
-    ) -> Result<(Box<Rack>, usize), Refusal>
-        ensures { ReopensAs config number (entries_of image.value) result }
+        clients: &mut [ClientPlace],
+    ) -> Result<(Box<Pool>, usize), Refusal>
+        requires { length clients.old ≡ config.clients }
+        ensures { ReopensAs config number (entries_of image.value) result clients.old clients.new }
     {
-        let image = Box::into_inner(image);
-        let (pool, left_out) = match Pool::reopen(alloc, config, number, image) {
+        let Image { entries } = Box::into_inner(image);
+        let (cache, made, left) = match Cache::reopen(alloc, config, AnyBytes, entries) {
             Ok(made) => made,
             Err(why) => return Err(Refusal::opening(why)),
         };
-        match Box::new(alloc, Rack { pool: Some(pool) }) {
-            Ok(rack) => Ok((rack, left_out)),
-            Err(_) => Err(Refusal::OutOfMemory),
-        }
-    }
-}
-
-impl Pool {
-    /// The same, as a pool.
-    pub fn reopen(
-        alloc: Global,
-        config: Config,
-        number: u32,
-        image: Image,
-    ) -> Result<(Pool, usize), NewError>
-        ensures refused { IfErr (checked config) (λ e. result ≡ Err e) }
-        ensures memory { OnOk (checked config) (IsOkUnless result NewError.OutOfMemory) }
-        ensures reopened { IfOk result (λ made.
-            Reopens config number (entries_of image) made.0) }
-        ensures left_out { IfOk result (λ made.
-            made.1 ≡ left_out_of config (entries_of image)) }
-        ensures whole { IfOk result (λ made. IsWholePool made.0) }
-    {
-        let Image { entries } = image;
-        let (cache, back, left) = Cache::reopen(alloc, config, AnyBytes, entries)?;
         let left_out = left.len();
-        match Arc::new(alloc, cache) {
-            Ok(cache) => {
-                let pool = Pool {
-                    cache,
-                    back,
-                    config,
-                    number,
-                };
-                Ok((pool, left_out))
-            }
-            Err(_) => Err(NewError::OutOfMemory),
+        match Pool::of(alloc, cache, made, config, number, clients) {
+            Ok(pool) => Ok((pool, left_out)),
+            Err(why) => Err(why),
         }
     }
 }

@@ -13,7 +13,7 @@ pub struct Session {
     pub(crate) cache: Arc<Cache<AnyBytes>, Global>,
     pub(crate) client: Client<AnyBytes>,
     /// The number of its cache, among those that are open.
-    pub(crate) home: u32,
+    pub(crate) cache_number: u32,
     /// How many shards the cache has, and how many slots each of them.
     pub(crate) shards: u32,
     pub(crate) slots: u32,
@@ -25,10 +25,10 @@ impl Session {
     /// The cache's numbers of a handle; none where it is another cache's.
     pub(crate) fn numbers(&self, number: CHandle) -> Option<HandleParts>
         ensures some { IfSome result (λ numbers. (numbers ≡ numbers_in number)
-            × (number.cache ≡ self.now.home)) }
-        ensures none { IfNone result (¬ (number.cache ≡ self.now.home)) }
+            × (number.cache ≡ self.now.cache_number)) }
+        ensures none { IfNone result (¬ (number.cache ≡ self.now.cache_number)) }
     {
-        if number.cache == self.home {
+        if number.cache == self.cache_number {
             Some(number.numbers())
         } else {
             None

@@ -6,8 +6,8 @@ use denote.Struct.Struct.{exits_of}
 use denote.Struct.Owning.{shape, fields, to}
 use Rattle.std_alloc.proofs.SendSync.{quiet, lies}
 use Rattle.std.proofs.Crossing.{frees}
-use Rattle.hcc_c.proofs.pool.Rack.TheSendSync.{the_send as its-send}
-use Rattle.hcc_c.specs.contracts.pool.Rack.{the_row as X}
+use Rattle.hcc_c.proofs.pool.Pool.TheSendSync.{the_send as its-send}
+use Rattle.hcc_c.specs.contracts.pool.Pool.{the_row as X}
 use Rattle.hcc_c.specs.contracts.objects.CacheObject.{the_row, the_type}
 
 pub send : IsSend the_row

@@ -1,9 +1,9 @@
 use Rattle.std.proofs.Common.{refl}
-use Rattle.hcc_c.proofs.pool.Rack.TheLaws.{the_row_laws}
+use Rattle.hcc_c.proofs.pool.Pool.TheLaws.{the_row_laws}
 use Rattle.hcc_c.proofs.Holders.{holder, takes}
 use Rattle.hcc_c.proofs.objects.CacheObject.cache.Code as code
 use Rattle.hcc_c.proofs.objects.CacheObject.cache.Statement.{statement}
-use Rattle.hcc_c.specs.contracts.pool.Rack.{the_row}
+use Rattle.hcc_c.specs.contracts.pool.Pool.{the_row}
 use Rattle.hcc_c.specs.contracts.objects.CacheObject.{the_type}
 
 pub cache_spec : {M : Type 1} → statement M

@@ -1,8 +1,8 @@
-use Rattle.hcc_c.proofs.pool.Rack.TheLaws.{the_row_laws}
+use Rattle.hcc_c.proofs.pool.Pool.TheLaws.{the_row_laws}
 use Rattle.hcc_c.proofs.Holders.{holder, places}
 use Rattle.hcc_c.proofs.objects.CachePlace.of.Code as code
 use Rattle.hcc_c.proofs.objects.CachePlace.of.Statement.{statement}
-use Rattle.hcc_c.specs.contracts.pool.Rack.{the_row}
+use Rattle.hcc_c.specs.contracts.pool.Pool.{the_row}
 use Rattle.hcc_c.specs.contracts.objects.CachePlace.{the_type}
 
 pub of_spec : {M : Type 1} → statement M

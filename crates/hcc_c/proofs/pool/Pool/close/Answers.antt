@@ -1,14 +1,12 @@
-use Rattle.std.proofs.Common.{◌≤◌, length, arith}
-use Rattle.hcc_c.proofs.Backs.{are_back}
+use Rattle.std.proofs.Common.{◌≡◌}
+use Rattle.hcc_c.specs.Left.{totals_of}
+use Rattle.hcc_c.specs.Pools.{held_in}
+use Rattle.hcc_c.proofs.Backs.{told}
 use Rattle.hcc_c.proofs.pool.Pool.close.Goals as goal
 
-pub returns-in-Ok-clause-closed : goal.returns-in-Ok-clause-closed
-returns-in-Ok-clause-closed c =
-    let pool = c.args.self in
-    let count = c.len.ensures in
-    let items = pool.back.ok.0 in
-    let less = c.if-len-self.false in
-    let enough : pool.config.clients ≤ length pool.back.items = omega arith in record {
-      back = are_back pool c.requires enough;
-      closes = rw c.in-Ok.ensures.ok at c.closed.ensures;
-    }
+pub returns-in-Ok : goal.returns-in-Ok
+returns-in-Ok c = record {
+  ends = told (λ totals left. totals ≡ totals_of left) c.in-Ok.closed c.totals.result
+      c.args.self.now c.end.new.self (held_in c.args.clients.now) (held_in c.end.new.clients)
+      c.in-Ok.ensures.ends c.totals.ensures;
+}

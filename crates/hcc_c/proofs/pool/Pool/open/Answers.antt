@@ -1,27 +1,26 @@
-use Rattle.std.proofs.Common.{◌≤◌, vec_capacity, refl, arith}
-use Rattle.hcc_c.proofs.Backs.{all_back, is_sized}
+use Rattle.std.proofs.Common.{rules}
+use Rattle.hcc_c.proofs.Backs.{all_back}
 use Rattle.hcc_c.proofs.pool.Pool.open.Goals as goal
 
-pub returns-in-Ok-clause-opened : goal.returns-in-Ok-clause-opened
-returns-in-Ok-clause-opened c = record {
-  tag = _;
-  opened = rw c.in-Ok.ensures.ok c.in_ok-cache.ensures.made;
-  config_is = refl;
-  number_is = refl;
-}
+pub of-requires-clause-back : goal.of-requires-clause-back
+of-requires-clause-back c =
+    let opened = c.in-Ok.ensures.made in
+    all_back c.in-Ok.made.0 c.in-Ok.made.1.items opened.known
+    (λ k client at. (opened.dealt.each k client at).unused.held)
 
-pub returns-in-Ok-clause-whole : goal.returns-in-Ok-clause-whole
-returns-in-Ok-clause-whole c =
-    let opened = c.in_ok-cache.ensures.made in
-    let back = c.in_ok-cache.back in
-    let count = opened.dealt.count in
-    let items = back.ok.0 in
-    let fits = back.ok.1 in
-    let room : c.args.config.clients ≤ vec_capacity back = omega arith in
-    record {
-      sized = rw c.in-Ok.ensures.ok (is_sized c.args.config _ c.in_ok-cache.cache
-          c.in_ok-cache.back.items opened);
-      clients = rw c.in-Ok.ensures.ok (all_back c.args.config _ c.in_ok-cache.cache
-          c.in_ok-cache.back.items opened);
-      room = room;
-    }
+pub returns-in-Ok-of : goal.returns-in-Ok-of
+returns-in-Ok-of c = record {
+  opens = record {
+    refused = search rules;
+    memory = search rules;
+    nothing = tt;
+    opened = record {
+      tag = _;
+      cache = c.in-Ok.made.0;
+      clients = c.in-Ok.made.1.items;
+      opened = c.in-Ok.ensures.made;
+      begins = c.in-Ok-of.ensures.begins;
+    };
+    whole = c.in-Ok-of.ensures.whole;
+  };
+}

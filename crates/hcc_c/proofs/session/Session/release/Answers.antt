@@ -12,7 +12,7 @@ use Rattle.hcc_c.proofs.session.Session.release.Goals as goal
 
 -- What the cache says of a release by numbers, it says of the handle that they are.
 given : (old new : Session) (number : CHandle) (useful erase : Bool) (answer : Option Bool)
-    → number.cache ≡ old.home
+    → number.cache ≡ old.cache_number
     → IfSome answer (λ _. Holds old.client (handle_of (numbers_in number)))
     → IfSome answer (λ freed. Releases (arc_value old.cache) (handle_of (numbers_in number)) erase
     freed old.client new.client)

@@ -17,7 +17,7 @@ impl Session {
         match self.cache.lookup(&mut self.client, key)? {
             Some(handle) => {
                 self.counts.hit();
-                Ok(Some(CHandle::of(self.home, handle)))
+                Ok(Some(CHandle::of(self.cache_number, handle)))
             }
             None => {
                 self.counts.miss();
@@ -36,7 +36,7 @@ impl Session {
         let numbers = self.numbers(number)?;
         let handle = self.client.handle(numbers)?;
         match self.cache.reref(&mut self.client, handle) {
-            Ok(more) => Some(Ok(CHandle::of(self.home, more))),
+            Ok(more) => Some(Ok(CHandle::of(self.cache_number, more))),
             Err(why) => Some(Err(why)),
         }
     }
@@ -58,7 +58,7 @@ impl Session {
         ensures { TellsHandle index result self.now }
     {
         let handle = self.client.handle_at(index)?;
-        Some(CHandle::of(self.home, handle))
+        Some(CHandle::of(self.cache_number, handle))
     }
 
     /// Hides each visible entry of the key, as the cache does: how many it hid.
