@@ -39,23 +39,23 @@ status_of_checked (Err why) = code_of (opening_of why)
 -- a look-up
 abbrev pub status_of_look : Result (Option CHandle) LookupError → ℕ
 status_of_look (Ok None) = 1
-status_of_look (Ok (Some number)) = 0
+status_of_look (Ok (Some c_handle)) = 0
 status_of_look (Err why) = code_of (looking_of why)
 
-abbrev pub number_of : Result (Option CHandle) LookupError → CHandle → CHandle
-number_of (Ok None) old = old
-number_of (Ok (Some number)) old = number
-number_of (Err why) old = old
+abbrev pub c_handle_after : Result (Option CHandle) LookupError → CHandle → CHandle
+c_handle_after (Ok None) old = old
+c_handle_after (Ok (Some c_handle)) old = c_handle
+c_handle_after (Err why) old = old
 
 -- one handle more
 abbrev pub status_of_reref : Option (Result CHandle LookupError) → ℕ
 status_of_reref None = code_of NoHandle
-status_of_reref (Some (Ok number)) = 0
+status_of_reref (Some (Ok c_handle)) = 0
 status_of_reref (Some (Err why)) = code_of (looking_of why)
 
 abbrev pub more_of : Option (Result CHandle LookupError) → CHandle → CHandle
 more_of None old = old
-more_of (Some (Ok number)) old = number
+more_of (Some (Ok c_handle)) old = c_handle
 more_of (Some (Err why)) old = old
 
 -- an insertion

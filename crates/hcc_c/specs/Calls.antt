@@ -29,7 +29,7 @@ use Rattle.hcc_c.specs.declared.shapes.Counts.{Counts}
 use Rattle.hcc_c.specs.declared.shapes.CHandle.{CHandle}
 use Rattle.hcc_c.specs.Counts.{counted_get, counted_insert, counted_look, counted_pinned}
 use Rattle.hcc_c.specs.Sessions.{IsHandle, IsNone, any, handle_in, judged}
-use Rattle.hcc_c.specs.Shapes.{number_of}
+use Rattle.hcc_c.specs.Shapes.{c_handle_of}
 
 -- Nothing of the session changed but its client.
 abbrev pub KeepsRest : (old new : Session) → Type 0
@@ -46,9 +46,9 @@ pub record LooksUp (key : Key) (answer : Result (Option CHandle) LookupError) (o
   pub spent : IsErrOf answer look.Spent
       ↔ ((held_by old.client < old.client.most) × (old.client.left ≡ 0))
   pub refused : OnErr answer (new ≡ old)
-  pub found : IfOk answer (λ o. IfSome o (λ number. (handle : Handle)
+  pub found : IfOk answer (λ o. IfSome o (λ c_handle. (handle : Handle)
       × Finds (arc_value old.cache) any key handle old.client new.client
-      × (number ≡ number_of old.cache_number handle)))
+      × (c_handle ≡ c_handle_of old.cache_number handle)))
   pub missed : IfOk answer (λ o. IfNone o (Misses (arc_value old.cache) key old.client
       new.client))
   pub searched : IfOk answer (λ o. SearchesFor (arc_value old.cache) any key
@@ -60,43 +60,43 @@ pub record LooksUp (key : Key) (answer : Result (Option CHandle) LookupError) (o
   pub rest : KeepsCounting (counted_look answer old.counts) old new
   pub steps : TakesAtMost (7 * (arc_value old.cache).geometry.slots) old.client new.client
 
--- One handle more on the entry of the handle of this number; none where it is that of none.
-pub record RefersAgain (number : CHandle) (answer : Option (Result CHandle LookupError))
+-- One handle more on the entry of the handle of these parts; none where it is that of none.
+pub record RefersAgain (c_handle : CHandle) (answer : Option (Result CHandle LookupError))
     (old new : Session) : Type 0 where
-  pub none : IfNone answer (IsNone old number × (new ≡ old))
-  pub some : IfSome answer (λ _. (handle : Handle) × IsHandle old number handle)
+  pub none : IfNone answer (IsNone old c_handle × (new ≡ old))
+  pub some : IfSome answer (λ _. (handle : Handle) × IsHandle old c_handle handle)
   pub full : IfSome answer (λ a. IsErrOf a look.HandlesFull
       ↔ (held_by old.client ≡ old.client.most))
   pub spent : IfSome answer (λ a. IsErrOf a look.Spent
       ↔ ((held_by old.client < old.client.most) × (old.client.left ≡ 0)))
   pub refused : IfSome answer (λ a. OnErr a (new ≡ old))
   pub again : IfSome answer (λ a. IfOk a (λ more. (was : Handle) × (handle : Handle)
-      × IsHandle old number was
+      × IsHandle old c_handle was
       × Rerefs (arc_value old.cache) was handle old.client new.client
-      × (more ≡ number_of old.cache_number handle)))
+      × (more ≡ c_handle_of old.cache_number handle)))
   pub acquires : IfSome answer (λ a. IfOk a (λ _.
-      AcquiresFor (arc_value old.cache) (handle_in number) old.client new.client))
+      AcquiresFor (arc_value old.cache) (handle_in c_handle) old.client new.client))
   pub counts : IfSome answer (λ a. IfOk a (λ _.
-      CountsBy (handle_in number) old.client new.client))
+      CountsBy (handle_in c_handle) old.client new.client))
   pub rest : KeepsRest old new
   pub steps : TakesAtMost 2 old.client new.client
 
--- The handle of this number is given back; none where it is that of none.
-pub record GivesBack (number : CHandle) (useful erase : Bool) (answer : Option Bool)
+-- The handle of these parts is given back; none where it is that of none.
+pub record GivesBack (c_handle : CHandle) (useful erase : Bool) (answer : Option Bool)
     (old new : Session) : Type 0 where
-  pub none : IfNone answer (IsNone old number × (new ≡ old))
-  pub released : IfSome answer (λ freed. (handle : Handle) × IsHandle old number handle
+  pub none : IfNone answer (IsNone old c_handle × (new ≡ old))
+  pub released : IfSome answer (λ freed. (handle : Handle) × IsHandle old c_handle handle
       × Releases (arc_value old.cache) handle erase freed old.client new.client
       × GivesUp (arc_value old.cache) handle useful erase freed old.client new.client)
-  pub counts : IfSome answer (λ _. CountsBy (handle_in number) old.client new.client)
+  pub counts : IfSome answer (λ _. CountsBy (handle_in c_handle) old.client new.client)
   pub rest : KeepsRest old new
   pub steps : TakesAtMost (freeing (arc_value old.cache).geometry.slots + 3)
       old.client new.client
 
 -- The handle at an index is told, by its numbers; none where the client holds none there.
 pub record TellsHandle (index : ℕ) (answer : Option CHandle) (session : Session) : Type 0 where
-  pub some : IfSome answer (λ number. (number.index ≡ index)
-      × (handle : Handle) × IsHandle session number handle)
+  pub some : IfSome answer (λ c_handle. (c_handle.index ≡ index)
+      × (handle : Handle) × IsHandle session c_handle handle)
   pub none : IfNone answer
       ((handle : Handle) → handle.index ≡ index → ¬ Holds session.client handle)
 
@@ -169,7 +169,7 @@ module _ (key : Key) (charge : ℕ) (priority : Priority) (value : List ℕ) whe
         (λ made. (handle : Handle)
         × InsertsWith (arc_value old.cache) key charge priority value handle made.1
         old.client new.client
-        × (made.0 ≡ number_of old.cache_number handle))
+        × (made.0 ≡ c_handle_of old.cache_number handle))
         (λ why. RefusesWith (arc_value old.cache) key charge priority value why
         old.client new.client))
     pub evicts : IfOk answer (λ a. MatchResult a
@@ -183,18 +183,18 @@ module _ (key : Key) (charge : ℕ) (priority : Priority) (value : List ℕ) whe
     pub rest : KeepsCounting (counted_pinned answer old.counts) old new
     pub steps : InsertsWithin old new
 
--- The key of the handle of this number is told; none where it is that of none.
-pub record TellsKey (number : CHandle) (answer : Option Key) (old new : Session) : Type 0 where
-  pub none : IfNone answer (IsNone old number)
-  pub exact : IfSome answer (λ key. (handle : Handle) × IsHandle old number handle
+-- The key of the handle of these parts is told; none where it is that of none.
+pub record TellsKey (c_handle : CHandle) (answer : Option Key) (old new : Session) : Type 0 where
+  pub none : IfNone answer (IsNone old c_handle)
+  pub exact : IfSome answer (λ key. (handle : Handle) × IsHandle old c_handle handle
       × IfSome (held_of (arc_value old.cache) old.client handle) (λ held.
       key ≡ held.insertion.key))
   pub same : new ≡ old
 
 -- And the length of its value.
-pub record TellsLength (number : CHandle) (answer : Option ℕ) (old new : Session) : Type 0 where
-  pub none : IfNone answer (IsNone old number × (new ≡ old))
-  pub exact : IfSome answer (λ len. (handle : Handle) × IsHandle old number handle
+pub record TellsLength (c_handle : CHandle) (answer : Option ℕ) (old new : Session) : Type 0 where
+  pub none : IfNone answer (IsNone old c_handle × (new ≡ old))
+  pub exact : IfSome answer (λ len. (handle : Handle) × IsHandle old c_handle handle
       × IfSome (held_of (arc_value old.cache) old.client handle) (λ held.
       len ≡ length held.insertion.value))
   pub reads : IfSome answer (λ _. Reads (arc_value old.cache) old.client new.client)
@@ -202,15 +202,15 @@ pub record TellsLength (number : CHandle) (answer : Option ℕ) (old new : Sessi
   pub steps : TakesAtMost 1 old.client new.client
 
 -- The value itself is copied to the front of a buffer, if it isn't longer.
-pub record ReadsValue (number : CHandle) (answer : Option (Result ℕ ℕ)) (before after : List ℕ)
+pub record ReadsValue (c_handle : CHandle) (answer : Option (Result ℕ ℕ)) (before after : List ℕ)
     (old new : Session) : Type 0 where
-  pub none : IfNone answer (IsNone old number × (new ≡ old) × (after ≡ before))
-  pub read : IfSome answer (λ a. IfOk a (λ len. (handle : Handle) × IsHandle old number handle
+  pub none : IfNone answer (IsNone old c_handle × (new ≡ old) × (after ≡ before))
+  pub read : IfSome answer (λ a. IfOk a (λ len. (handle : Handle) × IsHandle old c_handle handle
       × IfSome (held_of (arc_value old.cache) old.client handle) (λ held.
       (len ≡ length held.insertion.value)
       × (after ≡ held.insertion.value ++ drop len before))))
   pub short : IfSome answer (λ a. IfErr a (λ len. (handle : Handle)
-      × IsHandle old number handle
+      × IsHandle old c_handle handle
       × IfSome (held_of (arc_value old.cache) old.client handle) (λ held.
       len ≡ length held.insertion.value)
       × (length before < len) × (after ≡ before)))

@@ -11,7 +11,7 @@ use Rattle.hcc_c.specs.declared.shapes.CHandle.{CHandle}
 use Rattle.hcc_c.specs.declared.session.Session.{Session}
 use Rattle.hcc_c.specs.declared.inserting.Unfit.{Unfit}
 use Rattle.hcc_c.specs.declared.inserting.Unfit.TheVariants.{NoCharge, TooLong}
-use Rattle.hcc_c.specs.Shapes.{numbers_in}
+use Rattle.hcc_c.specs.Shapes.{parts_in}
 
 -- What holds of a client between any two of its calls: its cache knows it, and the sizes are the
 -- cache's.
@@ -26,17 +26,17 @@ any tag key value = Unit {0}
 
 -- the handle of these numbers, which nobody may hold
 abbrev pub handle_in : CHandle → Handle
-handle_in number = handle_of (numbers_in number)
+handle_in c_handle = handle_of (parts_in c_handle)
 
 -- The numbers are those of a handle that the client holds: its cache's, its own, and the serial.
 abbrev pub IsHandle : Session → CHandle → Handle → Type 0
-IsHandle session number handle = (number.cache ≡ session.cache_number)
-    × (handle ≡ handle_in number) × Holds session.client handle
+IsHandle session c_handle handle = (c_handle.cache ≡ session.cache_number)
+    × (handle ≡ handle_in c_handle) × Holds session.client handle
 
 -- They are those of none.
 abbrev pub IsNone : Session → CHandle → Type 0
-IsNone session number = number.cache ≡ session.cache_number → HoldsNone session.client
-    (numbers_in number)
+IsNone session c_handle = c_handle.cache ≡ session.cache_number → HoldsNone session.client
+    (parts_in c_handle)
 
 -- why a value isn't inserted, before the cache is asked
 abbrev pub judged : (room len charge : ℕ) → Result (Unit {0}) Unfit

@@ -19,17 +19,17 @@ key_of key = record { w0 = key.w0; w1 = key.w1 }
 abbrev pub words_of : CacheKey → Key
 words_of key = record { w0 = key.w0; w1 = key.w1 }
 
-abbrev pub number_of : (cache : ℕ) → Handle → CHandle
-number_of cache handle = record {
+abbrev pub c_handle_of : (cache : ℕ) → Handle → CHandle
+c_handle_of cache handle = record {
   index = handle.index;
   serial = handle.serial;
   client = handle.client;
   cache = cache;
 }
 
-abbrev pub numbers_in : CHandle → HandleParts
-numbers_in number =
-    record { client = number.client; index = number.index; serial = number.serial }
+abbrev pub parts_in : CHandle → HandleParts
+parts_in c_handle =
+    record { client = c_handle.client; index = c_handle.index; serial = c_handle.serial }
 
 abbrev pub config_of : CConfig → Config
 config_of setup = record {

@@ -3,7 +3,7 @@
 ghost use Rattle.std.specs.Prelude.{◌≡◌, None, IfSome, true, false};
 ghost use Rattle.hcc_cache.specs.Clients.{held_by};
 ghost use Rattle.hcc_cache.specs.Totals.{no_stats, stats_over};
-ghost use Rattle.hcc_c.specs.Answers.{handle_of_pinned, inserted_of, inserted_of_pinned, key_or, length_got, length_of, more_of, number_of, status_of, status_of_got, status_of_insert, status_of_look, status_of_pinned, status_of_read, status_of_reref, value_or};
+ghost use Rattle.hcc_c.specs.Answers.{handle_of_pinned, inserted_of, inserted_of_pinned, key_or, length_got, length_of, more_of, c_handle_after, status_of, status_of_got, status_of_insert, status_of_look, status_of_pinned, status_of_read, status_of_reref, value_or};
 ghost use Rattle.hcc_c.specs.Calls.{GetsValue, GivesBack, Hides, LooksUp, Puts, PutsPinned, ReadsValue, RefersAgain, TellsDisplacement, TellsHandle, TellsKey, TellsLength, TellsOccupancy, TellsPinned, TellsUsage, TellsWord};
 ghost use Rattle.hcc_c.specs.Lending.{IsThere};
 ghost use Rattle.hcc_c.specs.Refusals.{code_of, priority_of};
@@ -29,7 +29,7 @@ pub extern "C" fn ferretgold_raw_lookup(
     ensures whole { IsWhole client.new.value }
     ensures looks { (answer : _)
         × LooksUp (key_of key.now) answer client.old.value client.new.value
-        × (result ≡ status_of_look answer) × (handle.new ≡ number_of answer handle.old) }
+        × (result ≡ status_of_look answer) × (handle.new ≡ c_handle_after answer handle.old) }
 {
     let answer = client.session().lookup(key.key());
     told_look(answer, handle)

@@ -1,4 +1,4 @@
-//! Handles that are given by their numbers, and given back.
+//! Handles that are given by their parts, and given back.
 ghost use Rattle.hcc_c.specs.Calls.{GivesBack, Hides, LooksUp, RefersAgain, TellsHandle};
 ghost use Rattle.hcc_c.specs.Sessions.{IsWhole};
 
@@ -8,7 +8,7 @@ use hcc_cache::{Key, LookupError};
 
 impl Session {
     /// Looks for a visible entry of the key, as the cache does. The handle that it gives is named
-    /// by its numbers.
+    /// by its parts.
     pub fn lookup(&mut self, key: Key) -> Result<Option<CHandle>, LookupError>
         requires { IsWhole self.old }
         ensures whole { IsWhole self.new }
@@ -27,14 +27,14 @@ impl Session {
     }
 
     /// One handle more on the very entry that a handle is on; none where the client holds no
-    /// handle of these numbers.
-    pub fn reref(&mut self, number: CHandle) -> Option<Result<CHandle, LookupError>>
+    /// handle of these parts.
+    pub fn reref(&mut self, c_handle: CHandle) -> Option<Result<CHandle, LookupError>>
         requires { IsWhole self.old }
         ensures whole { IsWhole self.new }
-        ensures again { RefersAgain number result self.old self.new }
+        ensures again { RefersAgain c_handle result self.old self.new }
     {
-        let numbers = self.numbers(number)?;
-        let handle = self.client.handle(numbers)?;
+        let parts = self.parts(c_handle)?;
+        let handle = self.client.handle(parts)?;
         match self.cache.reref(&mut self.client, handle) {
             Ok(more) => Some(Ok(CHandle::of(self.cache_number, more))),
             Err(why) => Some(Err(why)),
@@ -42,18 +42,18 @@ impl Session {
     }
 
     /// Gives a handle back, as the cache does: whether an entry was freed. None where the client
-    /// holds no handle of these numbers.
-    pub fn release(&mut self, number: CHandle, useful: bool, erase_if_last: bool) -> Option<bool>
+    /// holds no handle of these parts.
+    pub fn release(&mut self, c_handle: CHandle, useful: bool, erase_if_last: bool) -> Option<bool>
         requires { IsWhole self.old }
         ensures whole { IsWhole self.new }
-        ensures released { GivesBack number useful erase_if_last result self.old self.new }
+        ensures released { GivesBack c_handle useful erase_if_last result self.old self.new }
     {
-        let numbers = self.numbers(number)?;
+        let parts = self.parts(c_handle)?;
         self.cache
-            .try_release(&mut self.client, numbers, useful, erase_if_last)
+            .try_release(&mut self.client, parts, useful, erase_if_last)
     }
 
-    /// The handle at an index, by its numbers, if the client holds one there.
+    /// The handle at an index, by its parts, if the client holds one there.
     pub fn handle_at(&self, index: usize) -> Option<CHandle>
         ensures { TellsHandle index result self.now }
     {

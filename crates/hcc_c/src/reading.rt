@@ -8,38 +8,42 @@ use hcc_cache::{Got, Key};
 
 impl Session {
     /// The key of the entry that a handle is on; none where the client holds no handle of these
-    /// numbers.
-    pub fn key(&mut self, number: CHandle) -> Option<Key>
+    /// parts.
+    pub fn key(&mut self, c_handle: CHandle) -> Option<Key>
         requires { IsWhole self.old }
         ensures whole { IsWhole self.new }
-        ensures tells { TellsKey number result self.old self.new }
+        ensures tells { TellsKey c_handle result self.old self.new }
     {
-        let numbers = self.numbers(number)?;
-        let handle = self.client.handle(numbers)?;
+        let parts = self.parts(c_handle)?;
+        let handle = self.client.handle(parts)?;
         Some(self.cache.key(&mut self.client, handle))
     }
 
-    /// How many bytes the value has; none where the client holds no handle of these numbers.
-    pub fn value_len(&mut self, number: CHandle) -> Option<usize>
+    /// How many bytes the value has; none where the client holds no handle of these parts.
+    pub fn value_len(&mut self, c_handle: CHandle) -> Option<usize>
         requires { IsWhole self.old }
         ensures whole { IsWhole self.new }
-        ensures tells { TellsLength number result self.old self.new }
+        ensures tells { TellsLength c_handle result self.old self.new }
     {
-        let numbers = self.numbers(number)?;
-        let handle = self.client.handle(numbers)?;
+        let parts = self.parts(c_handle)?;
+        let handle = self.client.handle(parts)?;
         Some(self.cache.value_len(&mut self.client, handle))
     }
 
     /// Copies the value to the front of the buffer: how many bytes it has. Where the buffer has
     /// fewer, the same number is returned as an error, and the buffer stays. None where the client
-    /// holds no handle of these numbers.
-    pub fn read_value(&mut self, number: CHandle, buffer: &mut [u8]) -> Option<Result<usize, usize>>
+    /// holds no handle of these parts.
+    pub fn read_value(
+        &mut self,
+        c_handle: CHandle,
+        buffer: &mut [u8],
+    ) -> Option<Result<usize, usize>>
         requires { IsWhole self.old }
         ensures whole { IsWhole self.new }
-        ensures reads { ReadsValue number result buffer.old buffer.new self.old self.new }
+        ensures reads { ReadsValue c_handle result buffer.old buffer.new self.old self.new }
     {
-        let numbers = self.numbers(number)?;
-        self.cache.try_read(&mut self.client, numbers, buffer)
+        let parts = self.parts(c_handle)?;
+        self.cache.try_read(&mut self.client, parts, buffer)
     }
 
     /// Copies the value of a key to the front of the buffer, with no handle: how many bytes it has,

@@ -1,6 +1,6 @@
 //! A client in the hands of C, with the cache that it works on.
 ghost use Rattle.std.specs.Prelude.{◌≡◌, IfNone, IfSome};
-ghost use Rattle.hcc_c.specs.Shapes.{numbers_in};
+ghost use Rattle.hcc_c.specs.Shapes.{parts_in};
 
 use crate::shapes::{CHandle, Counts};
 use hcc_cache::{AnyBytes, Cache, Client, HandleParts};
@@ -12,7 +12,7 @@ use std::sync::Arc;
 pub struct Session {
     pub(crate) cache: Arc<Cache<AnyBytes>, Global>,
     pub(crate) client: Client<AnyBytes>,
-    /// The number of its cache, among those that are open.
+    /// The c_handle of its cache, among those that are open.
     pub(crate) cache_number: u32,
     /// How many shards the cache has, and how many slots each of them.
     pub(crate) shards: u32,
@@ -23,13 +23,13 @@ pub struct Session {
 
 impl Session {
     /// The cache's numbers of a handle; none where it is another cache's.
-    pub(crate) fn numbers(&self, number: CHandle) -> Option<HandleParts>
-        ensures some { IfSome result (λ numbers. (numbers ≡ numbers_in number)
-            × (number.cache ≡ self.now.cache_number)) }
-        ensures none { IfNone result (¬ (number.cache ≡ self.now.cache_number)) }
+    pub(crate) fn parts(&self, c_handle: CHandle) -> Option<HandleParts>
+        ensures some { IfSome result (λ parts. (parts ≡ parts_in c_handle)
+            × (c_handle.cache ≡ self.now.cache_number)) }
+        ensures none { IfNone result (¬ (c_handle.cache ≡ self.now.cache_number)) }
     {
-        if number.cache == self.cache_number {
-            Some(number.numbers())
+        if c_handle.cache == self.cache_number {
+            Some(c_handle.parts())
         } else {
             None
         }

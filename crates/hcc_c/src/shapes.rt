@@ -2,7 +2,7 @@
 ghost use Rattle.std.specs.Prelude.{◌≡◌, ◌^◌, ◌<◌, Ok};
 ghost use Rattle.hcc_cache.specs.Totals.{with_count};
 ghost use Rattle.hcc_c.specs.Counts.{counted_get, counted_insert, counted_pinned, no_counts, one_hit, one_miss};
-ghost use Rattle.hcc_c.specs.Shapes.{config_of, entry_of, key_of, number_of, numbers_in, stats_of, words_of};
+ghost use Rattle.hcc_c.specs.Shapes.{config_of, entry_of, key_of, c_handle_of, parts_in, stats_of, words_of};
 
 use hcc_cache::{ClosedEntry, Config, Got, Handle, HandleParts, InsertError, Inserted};
 use hcc_word::layout::VISIBLE;
@@ -68,7 +68,7 @@ pub struct CHandle {
 impl CHandle {
     /// Those of a handle of the cache of this number.
     pub(crate) fn of(cache: u32, handle: Handle) -> CHandle
-        ensures { result ≡ number_of cache handle }
+        ensures { result ≡ c_handle_of cache handle }
     {
         let HandleParts {
             client,
@@ -84,8 +84,8 @@ impl CHandle {
     }
 
     /// The cache's numbers of a handle.
-    pub(crate) fn numbers(&self) -> HandleParts
-        ensures { result ≡ numbers_in self.now }
+    pub(crate) fn parts(&self) -> HandleParts
+        ensures { result ≡ parts_in self.now }
     {
         HandleParts {
             client: self.client,

@@ -85,13 +85,13 @@ impl Session {
     }
 
     /// Whether these are the numbers of a handle that it holds.
-    pub fn holds(&self, number: CHandle) -> bool
-        ensures held { result ≡ true → (handle : _) × IsHandle self.now number handle }
-        ensures yes { (handle : _) → IsHandle self.now number handle → result ≡ true }
-        ensures no { IsNone self.now number → result ≡ false }
+    pub fn holds(&self, c_handle: CHandle) -> bool
+        ensures held { result ≡ true → (handle : _) × IsHandle self.now c_handle handle }
+        ensures yes { (handle : _) → IsHandle self.now c_handle handle → result ≡ true }
+        ensures no { IsNone self.now c_handle → result ≡ false }
     {
-        match self.numbers(number) {
-            Some(numbers) => self.client.handle(numbers).is_some(),
+        match self.parts(c_handle) {
+            Some(parts) => self.client.handle(parts).is_some(),
             None => false,
         }
     }

@@ -7,36 +7,36 @@ use Rattle.hcc_cache.specs.Handles.{handle_of}
 use Rattle.hcc_c.specs.declared.session.Session.{Session}
 use Rattle.hcc_c.specs.declared.shapes.CHandle.{CHandle}
 use Rattle.hcc_c.specs.Sessions.{IsHandle}
-use Rattle.hcc_c.specs.Shapes.{numbers_in}
+use Rattle.hcc_c.specs.Shapes.{parts_in}
 use Rattle.hcc_c.proofs.session.Session.release.Goals as goal
 
--- What the cache says of a release by numbers, it says of the handle that they are.
+-- What the cache says of a release by parts, it says of the handle that they are.
 given : (old new : Session) (number : CHandle) (useful erase : Bool) (answer : Option Bool)
     → number.cache ≡ old.cache_number
-    → IfSome answer (λ _. Holds old.client (handle_of (numbers_in number)))
-    → IfSome answer (λ freed. Releases (arc_value old.cache) (handle_of (numbers_in number)) erase
+    → IfSome answer (λ _. Holds old.client (handle_of (parts_in number)))
+    → IfSome answer (λ freed. Releases (arc_value old.cache) (handle_of (parts_in number)) erase
     freed old.client new.client)
-    → IfSome answer (λ freed. GivesUp (arc_value old.cache) (handle_of (numbers_in number)) useful
+    → IfSome answer (λ freed. GivesUp (arc_value old.cache) (handle_of (parts_in number)) useful
     erase freed old.client new.client)
     → IfSome answer (λ freed. (handle : Handle) × IsHandle old number handle
     × Releases (arc_value old.cache) handle erase freed old.client new.client
     × GivesUp (arc_value old.cache) handle useful erase freed old.client new.client)
 given old new number useful erase None its holds releases gives = tt
 given old new number useful erase (Some freed) its holds releases gives =
-    (handle_of (numbers_in number), (its, refl, holds), releases, gives)
+    (handle_of (parts_in number), (its, refl, holds), releases, gives)
 
 pub returns-clause-released : goal.returns-clause-released
 returns-clause-released c =
     let told = c.try_release.ensures in
-    let numbers = c.in_ok-numbers.ensures.some in
+    let parts = c.in_ok-parts.ensures.some in
     record {
       none = search rules;
       released =
           given c.args.self.now (record c.args.self.now { client = c.try_release.new.client })
-          c.args.number c.args.useful c.args.erase_if_last c.try_release.result numbers.1
-          (rw numbers.0 at told.some) (rw (c.deref.ensures, numbers.0) at told.released)
-          (rw (c.deref.ensures, numbers.0) at told.gives);
-      counts = rw numbers.0 at told.counts;
+          c.args.c_handle c.args.useful c.args.erase_if_last c.try_release.result parts.1
+          (rw parts.0 at told.some) (rw (c.deref.ensures, parts.0) at told.released)
+          (rw (c.deref.ensures, parts.0) at told.gives);
+      counts = rw parts.0 at told.counts;
       rest = search rules;
       steps = search rules;
     }

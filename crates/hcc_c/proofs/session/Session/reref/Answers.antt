@@ -4,7 +4,7 @@ use Rattle.hcc_c.proofs.session.Session.reref.Goals as goal
 pub returns-in-Ok-clause-again : goal.returns-in-Ok-clause-again
 returns-in-Ok-clause-again c =
     let told = c.in-Ok.ensures in
-    let numbers = c.in_ok-numbers.ensures.some.0 in
+    let parts = c.in_ok-parts.ensures.some.0 in
     let handle = c.in_ok-handle.ensures.some.0 in
     record {
       none = search rules;
@@ -13,8 +13,8 @@ returns-in-Ok-clause-again c =
       spent = search rules;
       refused = search rules;
       again = search rules;
-      acquires = rw (c.deref.ensures, handle, numbers) at told.acquires;
-      counts = rw (handle, numbers) at told.counts;
+      acquires = rw (c.deref.ensures, handle, parts) at told.acquires;
+      counts = rw (handle, parts) at told.counts;
       rest = search rules;
       steps = search rules;
     }
