@@ -1,9 +1,7 @@
 # What .ci/run calls: steps in turn, steps beside others, rt ci with a watch, and the table at the end.
 # Sourced at the top of the repository, with the words of .ci/run.
-anew=
-if [[ $* == --anew ]]; then
-    anew=--anew
-elif [[ $# -gt 0 ]]; then
+anew=$*
+if [[ $anew && $anew != --anew ]]; then
     echo "usage: .ci/run [--anew]"
     exit 2
 fi

@@ -34,9 +34,9 @@ ALLOCATES = re.compile(
 MAY_ALLOCATE = {
     "hcc_cache": "Cache::new Cache::reopen Closed::image Cache::close",
     "hcc_block": "",
-    "hcc_c": "ferretgold_raw_open ferretgold_raw_reopen"
-    " ferretgold_raw_close ferretgold_raw_close_keeping ferretgold_raw_closed_open ferretgold_raw_closed_free"
-    " ferretgold_raw_image_open ferretgold_raw_image_add ferretgold_raw_image_free ferretgold_raw_insert_pinned",
+    "hcc_c": "ferretgold_raw_open ferretgold_raw_reopen ferretgold_raw_close ferretgold_raw_close_keeping"
+    " ferretgold_raw_closed_open ferretgold_raw_closed_free ferretgold_raw_image_open"
+    " ferretgold_raw_image_add ferretgold_raw_image_free ferretgold_raw_insert_pinned",
 }
 # Public functions that nothing above their crate calls, by the reason why they are there.
 CALLED_BY_NOBODY = {
