@@ -12,7 +12,7 @@ use std::sync::Arc;
 pub struct Session {
     pub(crate) cache: Arc<Cache<AnyBytes>, Global>,
     pub(crate) client: Client<AnyBytes>,
-    /// The c_handle of its cache, among those that are open.
+    /// The number of its cache, among those that are open.
     pub(crate) cache_number: u32,
     /// How many shards the cache has, and how many slots each of them.
     pub(crate) shards: u32,
@@ -22,7 +22,7 @@ pub struct Session {
 }
 
 impl Session {
-    /// The cache's numbers of a handle; none where it is another cache's.
+    /// The parts of a handle of its cache; none where it is another cache's.
     pub(crate) fn parts(&self, c_handle: CHandle) -> Option<HandleParts>
         ensures some { IfSome result (λ parts. (parts ≡ parts_in c_handle)
             × (c_handle.cache ≡ self.now.cache_number)) }
