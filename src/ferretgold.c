@@ -157,7 +157,7 @@ static ferretgold_status end(ferretgold_cache *cache, ferretgold_totals *totals,
     ferretgold_object kept = {NULL};
     ferretgold_object session[MOST_CLIENTS];
     const uint32_t count = cache->config.clients;
-    for (uint32_t number = 0; number < count; number++) {
+    for (uint32_t number = count; number-- > 0;) {
         session[number] = cache->client[number].session;
     }
     const uint32_t status =

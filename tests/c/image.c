@@ -205,6 +205,29 @@ static ferretgold_image *listed_at_last(void) {
     return image;
 }
 
+/* A handle on the entry of the first row, by a client that is given back. */
+static ferretgold_handle held_in(ferretgold_cache *cache) {
+    ferretgold_client *client = NULL;
+    ferretgold_handle handle = {0};
+    EXPECT(ferretgold_client_open(cache, &client), 0);
+    EXPECT(ferretgold_lookup(client, &rows[0].key, &handle), 0);
+    EXPECT(ferretgold_release(client, handle, false, false, NULL), 0);
+    EXPECT(ferretgold_client_close(cache, client), 0);
+    return handle;
+}
+
+/* Two caches have two numbers: here that of one is how many clients the other has. */
+static void numbers(void) {
+    ferretgold_cache *cache = NULL, *other = NULL;
+    ferretgold_config config = SMALL;
+    EXPECT(ferretgold_reopen(&config, listed(), &cache, NULL), 0);
+    config.clients = held_in(cache).cache;
+    EXPECT(ferretgold_reopen(&config, listed(), &other, NULL), 0);
+    EXPECT(held_in(other).cache != config.clients, true);
+    (void)ended(other);
+    (void)ended(cache);
+}
+
 /* Where memory is refused for opening, nothing remains. */
 static void refused_memory(void) {
     const size_t blocks = heap_blocks;
@@ -230,5 +253,6 @@ void images(void) {
     begins();
     in_order();
     refusals();
+    numbers();
     refused_memory();
 }
