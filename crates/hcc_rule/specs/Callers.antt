@@ -1,6 +1,8 @@
 -- What callers say of a table, by its public value alone, and of the view of a seat at it.
 use Rattle.std.specs.Prelude.{◌≡◌, ℕ, ◌<◌, Bool, IsSomeAnd}
+use Rattle.hcc_rule.specs.declared.addresses.SlotAt.{SlotAt}
 use Rattle.hcc_rule.specs.declared.geometry.Geometry.{Geometry}
+use Rattle.hcc_rule.specs.declared.layout.TheConstants.{DATA}
 use Rattle.hcc_rule.specs.declared.rule.Plan.{Plan}
 use Rattle.hcc_rule.specs.declared.table.RuleTable.{RuleTable}
 use Rattle.hcc_rule.specs.declared.view.Done.{Done}
@@ -8,6 +10,7 @@ use Rattle.hcc_rule.specs.declared.view.View.{View}
 use Rattle.hcc_rule.specs.Acts.{IsAllowed, IsNext, past}
 use Rattle.hcc_rule.specs.Seats.{SeatOf, IsSeatOf}
 use Rattle.hcc_rule.specs.Records.{record_in}
+use Rattle.hcc_rule.specs.Words.{field_at}
 
 module _ {T A : Type 0} where
   -- its sizes, its rule of capacity and its tag
@@ -45,6 +48,11 @@ module _ {T A : Type 0} where
   -- a slot of this table
   abbrev pub IsSlotOf : RuleTable T A → ℕ → Type 0
   IsSlotOf table slot = slot < table.geometry.slots
+
+  -- a slot of this table, with the address of its first data word
+  abbrev pub IsSlotAt : RuleTable T A → SlotAt → Type 0
+  IsSlotAt table at =
+      IsSlotOf table at.slot × (at.data ≡ field_at table.geometry.room at.slot DATA)
 
 module _ {T : Type 0} where
   -- the seat's step was no event

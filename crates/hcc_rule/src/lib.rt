@@ -3,6 +3,7 @@
 //! step.
 #![tactic(auto)]
 
+mod addresses;
 mod beginning;
 mod closed;
 mod closing;
@@ -18,6 +19,7 @@ mod steps;
 mod table;
 mod view;
 
+pub use addresses::SlotAt;
 pub use closed::ClosedTable;
 pub use geometry::Geometry;
 pub use image::ImageEntry;

@@ -4,6 +4,7 @@ ghost use Rattle.hcc_rule_tests.specs.Benches.{IsReady};
 ghost use Rattle.hcc_rule.specs.Seats.{view};
 
 use super::worker::{LIMIT, NAME, Worker};
+use hcc_rule::SlotAt;
 use std::process::Abort;
 
 impl Worker<'_> {
@@ -21,11 +22,12 @@ impl Worker<'_> {
         let occupancy = self.table.enter(&mut self.seat);
         assert!(rt; occupancy < LIMIT, "the table is full");
         let usage = self.table.charge(&mut self.seat, charge);
-        let first = self.table.data_of(slot);
-        self.table.pass_at(&mut self.seat, slot, first);
-        let passed = self.table.count_at(&mut self.seat, slot, first);
+        let data = self.table.data_of(slot);
+        let at = SlotAt { slot, data };
+        self.table.pass_at(&mut self.seat, at);
+        let passed = self.table.count_at(&mut self.seat, at);
         self.table.unpass(&mut self.seat, slot);
-        let left = self.table.count_at(&mut self.seat, slot, first);
+        let left = self.table.count_at(&mut self.seat, at);
         let charged = self.table.usage(&mut self.seat);
         let entered = self.table.occupancy(&mut self.seat);
         self.table.waive(&mut self.seat, charge as u64);

@@ -6,6 +6,7 @@ ghost use Rattle.hcc_rule.specs.Seats.{view};
 use super::hired::{bench, hired};
 use super::inserts::FIRST;
 use super::worker::{NAME, Worker};
+use hcc_rule::SlotAt;
 use hcc_word::layout::{INVISIBLE, NEAR};
 use hcc_word::{corrected, releases, state};
 use std::alloc::AllocError;
@@ -36,8 +37,9 @@ impl Worker<'_> {
         ensures ready { IsReady (view self.new.seat) }
     {
         self.reach(rt, slot, 3);
-        let first = self.table.data_of(slot);
-        self.table.spend_at(&mut self.seat, slot, first, 3, NAME);
+        let data = self.table.data_of(slot);
+        let at = SlotAt { slot, data };
+        self.table.spend_at(&mut self.seat, at, 3, NAME);
     }
 
     /// A look-up near the end of the counters, which takes them back. The words are those that the
@@ -50,23 +52,19 @@ impl Worker<'_> {
             × ((view self.new.seat).others ≡ (view self.old.seat).others) }
         ensures ready { IsReady (view self.new.seat) }
     {
-        let first = self.table.data_of(slot);
-        let seen = self.table.look_at(&mut self.seat, slot, first);
+        let data = self.table.data_of(slot);
+        let at = SlotAt { slot, data };
+        let seen = self.table.look_at(&mut self.seat, at);
         assert!(rt; state(seen) >= INVISIBLE, "slot {slot} has no entry");
-        let found = self.table.acquire_at(&mut self.seat, slot, first, 1, NAME);
+        let found = self.table.acquire_at(&mut self.seat, at, 1, NAME);
         assert!(rt; state(found) >= INVISIBLE, "slot {slot} lost its entry");
         assert!(rt; releases(found) >= NEAR, "slot {slot} is not near its end");
         let old = found.wrapping_add(1);
         let new = corrected(old).expect(rt, "the counters can't be taken back");
         let met = self.table.correct(&mut self.seat, slot, NAME, old, new);
-        let left = self.table.look_at(&mut self.seat, slot, first);
-        self.table.give_at(&mut self.seat, slot, first, 1, NAME);
-        [
-            found,
-            met,
-            left,
-            self.table.look_at(&mut self.seat, slot, first),
-        ]
+        let left = self.table.look_at(&mut self.seat, at);
+        self.table.give_at(&mut self.seat, at, 1, NAME);
+        [found, met, left, self.table.look_at(&mut self.seat, at)]
     }
 }
 

@@ -11,8 +11,8 @@ ghost use Rattle.hcc_rule.specs.Seats.{view};
 ghost use Rattle.hcc_rule.specs.Words.{made_words};
 
 use super::worker::{NAME, Worker};
-use hcc_rule::Key;
 use hcc_rule::layout::{CHARGE, KEY0, KEY1};
+use hcc_rule::{Key, SlotAt};
 use hcc_word::layout::INVISIBLE;
 use hcc_word::{refs, state};
 use std::process::Abort;
@@ -59,10 +59,11 @@ impl Worker<'_> {
         }) [] (view self.new.seat) }
         ensures some { 0 < result }
     {
-        let first = self.table.data_of(slot);
-        let key0 = self.table.read_own_at(&mut self.seat, slot, first, KEY0);
-        let key1 = self.table.read_own_at(&mut self.seat, slot, first, KEY1);
-        let charge = self.table.read_own_at(&mut self.seat, slot, first, CHARGE);
+        let data = self.table.data_of(slot);
+        let at = SlotAt { slot, data };
+        let key0 = self.table.read_own_at(&mut self.seat, at, KEY0);
+        let key1 = self.table.read_own_at(&mut self.seat, at, KEY1);
+        let charge = self.table.read_own_at(&mut self.seat, at, CHARGE);
         assert!(rt;
             key0 == key.w0 && key1 == key.w1,
             "slot {slot} has another key"
@@ -89,8 +90,9 @@ impl Worker<'_> {
         ensures ready { IsReady (view self.new.seat) }
     {
         self.take_trail(passed);
-        let first = self.table.data_of(slot);
-        self.table.empty_at(&mut self.seat, slot, first);
+        let data = self.table.data_of(slot);
+        let at = SlotAt { slot, data };
+        self.table.empty_at(&mut self.seat, at);
         self.table.return_slots(&mut self.seat, 1);
         self.table.settle(&mut self.seat, charge);
     }
@@ -113,21 +115,17 @@ impl Worker<'_> {
             × ((view self.new.seat).others ≡ (view self.old.seat).others) }
         ensures ready { IsReady (view self.new.seat) }
     {
-        let first = self.table.data_of(slot);
-        let seen = self.table.look_at(&mut self.seat, slot, first);
+        let data = self.table.data_of(slot);
+        let at = SlotAt { slot, data };
+        let seen = self.table.look_at(&mut self.seat, at);
         assert!(rt; state(seen) >= INVISIBLE, "slot {slot} has no entry");
         assert!(rt; refs(seen) == 0, "slot {slot} is held");
-        let found = self.table.free_at(&mut self.seat, slot, first, seen, None);
+        let found = self.table.free_at(&mut self.seat, at, seen, None);
         assert!(rt; found == seen, "slot {slot} was not taken");
         let charge = self.taken_charge(rt, slot, key);
-        let taken = self.table.look_at(&mut self.seat, slot, first);
+        let taken = self.table.look_at(&mut self.seat, at);
         self.take_back(slot, passed, charge);
-        [
-            seen,
-            taken,
-            self.table.look_at(&mut self.seat, slot, first),
-            charge,
-        ]
+        [seen, taken, self.table.look_at(&mut self.seat, at), charge]
     }
 
     /// Frees the entry of a slot without references, while an acquire goes astray there. The words
@@ -141,22 +139,19 @@ impl Worker<'_> {
             × ((view self.new.seat).others ≡ (view self.old.seat).others) }
         ensures ready { IsReady (view self.new.seat) }
     {
-        let first = self.table.data_of(slot);
-        let seen = self.table.look_at(&mut self.seat, slot, first);
+        let data = self.table.data_of(slot);
+        let at = SlotAt { slot, data };
+        let seen = self.table.look_at(&mut self.seat, at);
         assert!(rt; state(seen) >= INVISIBLE, "slot {slot} has no entry");
         assert!(rt; refs(seen) == 0, "slot {slot} is held");
-        let found = self.table.free_at(&mut self.seat, slot, first, seen, None);
+        let found = self.table.free_at(&mut self.seat, at, seen, None);
         assert!(rt; found == seen, "slot {slot} was not taken");
-        let stray = self.table.acquire_at(&mut self.seat, slot, first, 1, NAME);
+        let stray = self.table.acquire_at(&mut self.seat, at, 1, NAME);
         assert!(rt; state(stray) < INVISIBLE, "slot {slot} has an entry");
         let charge = self.taken_charge(rt, slot, key);
-        let strayed = self.table.look_at(&mut self.seat, slot, first);
+        let strayed = self.table.look_at(&mut self.seat, at);
         self.take_back(slot, None, charge);
-        [
-            stray,
-            strayed,
-            self.table.look_at(&mut self.seat, slot, first),
-        ]
+        [stray, strayed, self.table.look_at(&mut self.seat, at)]
     }
 
     /// Hides the entry of a slot, and frees it with the last reference. The words are those that
@@ -179,13 +174,12 @@ impl Worker<'_> {
     {
         let (seen, _) = self.reach(rt, slot, 1);
         let shown = self.table.hide(&mut self.seat, slot, NAME);
-        let first = self.table.data_of(slot);
-        let hidden = self.table.look_at(&mut self.seat, slot, first);
+        let data = self.table.data_of(slot);
+        let at = SlotAt { slot, data };
+        let hidden = self.table.look_at(&mut self.seat, at);
         assert!(rt; state(hidden) >= INVISIBLE, "slot {slot} lost its entry");
         assert!(rt; refs(hidden) == 1, "slot {slot} is held by others");
-        let found = self
-            .table
-            .free_at(&mut self.seat, slot, first, hidden, Some(NAME));
+        let found = self.table.free_at(&mut self.seat, at, hidden, Some(NAME));
         assert!(rt; found == hidden, "slot {slot} was not taken");
         let charge = self.taken_charge(rt, slot, key);
         self.take_back(slot, passed, charge);
@@ -193,7 +187,7 @@ impl Worker<'_> {
             seen,
             shown,
             hidden,
-            self.table.look_at(&mut self.seat, slot, first),
+            self.table.look_at(&mut self.seat, at),
             charge,
         ]
     }

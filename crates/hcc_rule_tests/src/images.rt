@@ -18,7 +18,7 @@ ghost use Rattle.hcc_rule.specs.Work.{Carries};
 use super::inserts::FIRST;
 use super::worker::{Bench, NAME, Worker};
 use crate::any::AnyBytes;
-use hcc_rule::{ClosedTable, Geometry, ImageEntry, RuleSeat, RuleTable};
+use hcc_rule::{ClosedTable, Geometry, ImageEntry, RuleSeat, RuleTable, SlotAt};
 use hcc_word::layout::{INVISIBLE, NEAR};
 use hcc_word::{corrected, releases, state};
 use std::alloc::{AllocError, Global};
@@ -186,10 +186,11 @@ impl Worker<'_> {
             (record_of 1 1 NAME result entry ∷ []) (view self.new.seat) }
         ensures late { is_counting result ≡ false }
     {
-        let first = self.table.data_of(1);
-        let seen = self.table.look_at(&mut self.seat, 1, first);
+        let data = self.table.data_of(1);
+        let at = SlotAt { slot: 1, data };
+        let seen = self.table.look_at(&mut self.seat, at);
         assert!(rt; state(seen) >= INVISIBLE, "slot 1 has no entry");
-        let found = self.table.acquire_at(&mut self.seat, 1, first, 1, NAME);
+        let found = self.table.acquire_at(&mut self.seat, at, 1, NAME);
         assert!(rt; state(found) >= INVISIBLE, "slot 1 lost its entry");
         assert!(rt; releases(found) >= NEAR, "slot 1 is not near its end");
         found
@@ -209,8 +210,9 @@ impl Worker<'_> {
         let old = found.wrapping_add(1);
         let new = corrected(old).expect(rt, "the counters can't be taken back");
         let met = self.table.correct(&mut self.seat, 1, NAME, old, new);
-        let first = self.table.data_of(1);
-        [met, self.table.give_at(&mut self.seat, 1, first, 1, NAME)]
+        let data = self.table.data_of(1);
+        let at = SlotAt { slot: 1, data };
+        [met, self.table.give_at(&mut self.seat, at, 1, NAME)]
     }
 }
 

@@ -15,7 +15,7 @@ ghost use Rattle.hcc_rule.specs.Words.{made_words};
 use super::worker::{LIMIT, NAME, PAYLOAD_WORDS, VALUE, Worker};
 use hcc_core::limits::STAMPS_PER_CLIENT;
 use hcc_rule::layout::{CHARGE, KEY0, KEY1, LENGTH, PAYLOAD, STAMP};
-use hcc_rule::{Draft, Key};
+use hcc_rule::{Draft, Key, SlotAt};
 use hcc_word::layout::EMPTY;
 use hcc_word::state;
 use std::process::Abort;
@@ -78,8 +78,9 @@ impl Worker<'_> {
         let occupancy = self.table.enter(&mut self.seat);
         assert!(rt; occupancy < LIMIT, "the table is full");
         let usage = self.table.charge(&mut self.seat, charge);
-        let first = self.table.data_of(slot);
-        let found = self.table.occupy_at(&mut self.seat, slot, first);
+        let data = self.table.data_of(slot);
+        let at = SlotAt { slot, data };
+        let found = self.table.occupy_at(&mut self.seat, at);
         assert!(rt; state(found) == EMPTY, "slot {slot} is not empty");
         [occupancy, usage, found]
     }
@@ -96,8 +97,9 @@ impl Worker<'_> {
             { work = record (view self.old.seat).work { trail = option_to_list passed } } }
     {
         if let Some(place) = passed {
-            let first = self.table.data_of(place);
-            self.table.pass_at(&mut self.seat, place, first);
+            let data = self.table.data_of(place);
+            let at = SlotAt { slot: place, data };
+            self.table.pass_at(&mut self.seat, at);
         }
     }
 
@@ -131,9 +133,9 @@ impl Worker<'_> {
             × ((view self.new.seat).others ≡ (view self.old.seat).others) }
         ensures view { view self.new.seat ≡ after_write word (view self.old.seat) }
     {
-        let first = self.table.data_of(slot);
-        self.table
-            .write_at(&mut self.seat, slot, first, index, word);
+        let data = self.table.data_of(slot);
+        let at = SlotAt { slot, data };
+        self.table.write_at(&mut self.seat, at, index, word);
     }
 
     /// Shows an entry in an empty slot, once the slot of its trail was passed.
@@ -163,9 +165,9 @@ impl Worker<'_> {
         self.pass_over(passed);
         let words = self.words(draft);
         self.write_all(slot, words);
-        let first = self.table.data_of(slot);
-        self.table
-            .show_at(&mut self.seat, slot, first, draft, &VALUE);
+        let data = self.table.data_of(slot);
+        let at = SlotAt { slot, data };
+        self.table.show_at(&mut self.seat, at, draft, &VALUE);
         self.shown += 1;
         found
     }
@@ -220,9 +222,10 @@ impl Worker<'_> {
         ensures ready { IsReady (view self.new.seat) }
     {
         self.show_all(rt, slot, draft, passed);
-        let first = self.table.data_of(slot);
-        let shown = self.table.spend_at(&mut self.seat, slot, first, 1, NAME);
-        [shown, self.table.look_at(&mut self.seat, slot, first)]
+        let data = self.table.data_of(slot);
+        let at = SlotAt { slot, data };
+        let shown = self.table.spend_at(&mut self.seat, at, 1, NAME);
+        [shown, self.table.look_at(&mut self.seat, at)]
     }
 
     /// Shows an entry, hides it by the reference that is kept, and releases this as a use. The
@@ -250,13 +253,10 @@ impl Worker<'_> {
     {
         self.show_all(rt, slot, draft, passed);
         let shown = self.table.hide(&mut self.seat, slot, NAME);
-        let first = self.table.data_of(slot);
-        let hidden = self.table.spend_at(&mut self.seat, slot, first, 1, NAME);
-        [
-            shown,
-            hidden,
-            self.table.look_at(&mut self.seat, slot, first),
-        ]
+        let data = self.table.data_of(slot);
+        let at = SlotAt { slot, data };
+        let hidden = self.table.spend_at(&mut self.seat, at, 1, NAME);
+        [shown, hidden, self.table.look_at(&mut self.seat, at)]
     }
 
     /// Asks for a place and a charge, and takes slot 1 or, where that is another's, passes it and
@@ -279,13 +279,15 @@ impl Worker<'_> {
         let occupancy = self.table.enter(&mut self.seat);
         assert!(rt; occupancy < LIMIT, "the table is full");
         self.table.charge(&mut self.seat, charge);
-        let first = self.table.data_of(1);
-        if state(self.table.occupy_at(&mut self.seat, 1, first)) == EMPTY {
+        let data = self.table.data_of(1);
+        let at = SlotAt { slot: 1, data };
+        if state(self.table.occupy_at(&mut self.seat, at)) == EMPTY {
             return 1;
         }
-        self.table.pass_at(&mut self.seat, 1, first);
-        let first = self.table.data_of(2);
-        let found = self.table.occupy_at(&mut self.seat, 2, first);
+        self.table.pass_at(&mut self.seat, at);
+        let data = self.table.data_of(2);
+        let at = SlotAt { slot: 2, data };
+        let found = self.table.occupy_at(&mut self.seat, at);
         assert!(rt; state(found) == EMPTY, "slot 2 is not empty");
         2
     }
@@ -309,9 +311,9 @@ impl Worker<'_> {
         let slot = self.reserve_either(rt, draft.charge);
         let words = self.words(draft);
         self.write_all(slot, words);
-        let first = self.table.data_of(slot);
-        self.table
-            .show_at(&mut self.seat, slot, first, draft, &VALUE);
+        let data = self.table.data_of(slot);
+        let at = SlotAt { slot, data };
+        self.table.show_at(&mut self.seat, at, draft, &VALUE);
         self.shown += 1;
         slot
     }

@@ -11,6 +11,7 @@ ghost use Rattle.hcc_rule.specs.ToldReferences.{record_of};
 ghost use Rattle.hcc_rule.specs.Records.{record_in};
 
 use super::worker::{NAME, Worker};
+use hcc_rule::SlotAt;
 use hcc_rule::layout::{CHARGE, KEY0, KEY1, LENGTH, PAYLOAD, STAMP};
 use hcc_word::layout::{INVISIBLE, NEAR};
 use hcc_word::{clocked, refs, releases, state};
@@ -30,12 +31,11 @@ impl Worker<'_> {
             (record_of slot weight NAME result.1 entry ∷ []) (view self.new.seat) }
         ensures counting { is_counting result.1 ≡ true }
     {
-        let first = self.table.data_of(slot);
-        let seen = self.table.look_at(&mut self.seat, slot, first);
+        let data = self.table.data_of(slot);
+        let at = SlotAt { slot, data };
+        let seen = self.table.look_at(&mut self.seat, at);
         assert!(rt; state(seen) >= INVISIBLE, "slot {slot} has no entry");
-        let found = self
-            .table
-            .acquire_at(&mut self.seat, slot, first, weight, NAME);
+        let found = self.table.acquire_at(&mut self.seat, at, weight, NAME);
         assert!(rt; state(found) >= INVISIBLE, "slot {slot} lost its entry");
         assert!(rt; releases(found) < NEAR, "slot {slot} is near its end");
         (seen, found)
@@ -52,22 +52,15 @@ impl Worker<'_> {
         ensures view { view self.new.seat
             ≡ record (view self.old.seat) { met = (view self.new.seat).met } }
     {
-        let first = self.table.data_of(slot);
-        let key0 = self.table.read_at(&mut self.seat, slot, first, KEY0, NAME);
-        let key1 = self.table.read_at(&mut self.seat, slot, first, KEY1, NAME);
-        let charge = self
-            .table
-            .read_at(&mut self.seat, slot, first, CHARGE, NAME);
-        let stamp = self.table.read_at(&mut self.seat, slot, first, STAMP, NAME);
-        let length = self
-            .table
-            .read_at(&mut self.seat, slot, first, LENGTH, NAME);
-        let payload0 = self
-            .table
-            .read_at(&mut self.seat, slot, first, PAYLOAD, NAME);
-        let payload1 = self
-            .table
-            .read_at(&mut self.seat, slot, first, PAYLOAD + 1, NAME);
+        let data = self.table.data_of(slot);
+        let at = SlotAt { slot, data };
+        let key0 = self.table.read_at(&mut self.seat, at, KEY0, NAME);
+        let key1 = self.table.read_at(&mut self.seat, at, KEY1, NAME);
+        let charge = self.table.read_at(&mut self.seat, at, CHARGE, NAME);
+        let stamp = self.table.read_at(&mut self.seat, at, STAMP, NAME);
+        let length = self.table.read_at(&mut self.seat, at, LENGTH, NAME);
+        let payload0 = self.table.read_at(&mut self.seat, at, PAYLOAD, NAME);
+        let payload1 = self.table.read_at(&mut self.seat, at, PAYLOAD + 1, NAME);
         [key0, key1, charge, stamp, length, payload0, payload1]
     }
 
@@ -84,9 +77,10 @@ impl Worker<'_> {
         let (seen, found) = self.reach(rt, slot, 1);
         let data = self.read_all(slot);
         let marked = self.table.mark(&mut self.seat, slot, NAME);
-        let first = self.table.data_of(slot);
-        let released = self.table.spend_at(&mut self.seat, slot, first, 1, NAME);
-        let left = self.table.look_at(&mut self.seat, slot, first);
+        let data = self.table.data_of(slot);
+        let at = SlotAt { slot, data };
+        let released = self.table.spend_at(&mut self.seat, at, 1, NAME);
+        let left = self.table.look_at(&mut self.seat, at);
         ([seen, found, marked, released, left], data)
     }
 
@@ -102,11 +96,10 @@ impl Worker<'_> {
         ensures ready { IsReady (view self.new.seat) }
     {
         let (seen, found) = self.reach(rt, slot, weight);
-        let first = self.table.data_of(slot);
-        let given = self
-            .table
-            .give_at(&mut self.seat, slot, first, weight, NAME);
-        let left = self.table.look_at(&mut self.seat, slot, first);
+        let data = self.table.data_of(slot);
+        let at = SlotAt { slot, data };
+        let given = self.table.give_at(&mut self.seat, at, weight, NAME);
+        let left = self.table.look_at(&mut self.seat, at);
         [seen, found, given, left]
     }
 
@@ -121,18 +114,15 @@ impl Worker<'_> {
             × ((view self.new.seat).others ≡ (view self.old.seat).others) }
         ensures ready { IsReady (view self.new.seat) }
     {
-        let first = self.table.data_of(slot);
-        let tried = self.table.occupy_at(&mut self.seat, slot, first);
+        let data = self.table.data_of(slot);
+        let at = SlotAt { slot, data };
+        let tried = self.table.occupy_at(&mut self.seat, at);
         assert!(rt; state(tried) >= INVISIBLE, "slot {slot} has no entry");
-        let found = self
-            .table
-            .acquire_at(&mut self.seat, slot, first, weight, NAME);
+        let found = self.table.acquire_at(&mut self.seat, at, weight, NAME);
         assert!(rt; state(found) >= INVISIBLE, "slot {slot} lost its entry");
         assert!(rt; releases(found) < NEAR, "slot {slot} is near its end");
-        let released = self
-            .table
-            .spend_at(&mut self.seat, slot, first, weight, NAME);
-        let left = self.table.look_at(&mut self.seat, slot, first);
+        let released = self.table.spend_at(&mut self.seat, at, weight, NAME);
+        let left = self.table.look_at(&mut self.seat, at);
         [tried, found, released, left]
     }
 
@@ -145,14 +135,15 @@ impl Worker<'_> {
             × ((view self.new.seat).others ≡ (view self.old.seat).others) }
         ensures ready { IsReady (view self.new.seat) }
     {
-        let first = self.table.data_of(slot);
-        if state(self.table.look_at(&mut self.seat, slot, first)) < INVISIBLE {
+        let data = self.table.data_of(slot);
+        let at = SlotAt { slot, data };
+        if state(self.table.look_at(&mut self.seat, at)) < INVISIBLE {
             return;
         }
-        if state(self.table.acquire_at(&mut self.seat, slot, first, 1, NAME)) < INVISIBLE {
+        if state(self.table.acquire_at(&mut self.seat, at, 1, NAME)) < INVISIBLE {
             return;
         }
-        self.table.give_at(&mut self.seat, slot, first, 1, NAME);
+        self.table.give_at(&mut self.seat, at, 1, NAME);
     }
 
     /// A visit of the clock: the word that it finds, and the one after it.
@@ -164,12 +155,13 @@ impl Worker<'_> {
             × ((view self.new.seat).others ≡ (view self.old.seat).others) }
         ensures ready { IsReady (view self.new.seat) }
     {
-        let first = self.table.data_of(slot);
-        let seen = self.table.look_at(&mut self.seat, slot, first);
+        let data = self.table.data_of(slot);
+        let at = SlotAt { slot, data };
+        let seen = self.table.look_at(&mut self.seat, at);
         if let Some(next) = clocked(seen) {
-            self.table.clock_at(&mut self.seat, slot, first, seen, next);
+            self.table.clock_at(&mut self.seat, at, seen, next);
         }
-        [seen, self.table.look_at(&mut self.seat, slot, first)]
+        [seen, self.table.look_at(&mut self.seat, at)]
     }
 
     /// Exchanges of the clock and of a free that come too late. The words are the slot's before,
@@ -187,15 +179,11 @@ impl Worker<'_> {
         assert!(rt; refs(seen) == 0, "slot {slot} is held");
         let next = clocked(seen).expect(rt, "the clock passes over the slot");
         self.matched(rt, slot, 1);
-        let first = self.table.data_of(slot);
-        let counted = self.table.clock_at(&mut self.seat, slot, first, seen, next);
-        let freed = self.table.free_at(&mut self.seat, slot, first, seen, None);
+        let data = self.table.data_of(slot);
+        let at = SlotAt { slot, data };
+        let counted = self.table.clock_at(&mut self.seat, at, seen, next);
+        let freed = self.table.free_at(&mut self.seat, at, seen, None);
         assert!(rt; freed != seen, "slot {slot} was taken");
-        [
-            seen,
-            counted,
-            freed,
-            self.table.look_at(&mut self.seat, slot, first),
-        ]
+        [seen, counted, freed, self.table.look_at(&mut self.seat, at)]
     }
 }

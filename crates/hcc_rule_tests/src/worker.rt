@@ -7,7 +7,7 @@ ghost use Rattle.hcc_rule.specs.Passing.{as_other};
 ghost use Rattle.hcc_rule.specs.Seats.{view};
 
 use crate::any::AnyBytes;
-use hcc_rule::{RuleSeat, RuleTable};
+use hcc_rule::{RuleSeat, RuleTable, SlotAt};
 use std::alloc::Global;
 
 /// A table for tests: of 8 slots, 2 payload words for each, and not strict.
@@ -48,8 +48,9 @@ impl Worker<'_> {
             × ((view self.new.seat).others ≡ (view self.old.seat).others) }
         ensures ready { IsReady (view self.new.seat) }
     {
-        let first = self.table.data_of(slot);
-        self.table.look_at(&mut self.seat, slot, first)
+        let data = self.table.data_of(slot);
+        let at = SlotAt { slot, data };
+        self.table.look_at(&mut self.seat, at)
     }
 
     /// How often a slot stands in trails.
@@ -61,8 +62,9 @@ impl Worker<'_> {
             × ((view self.new.seat).others ≡ (view self.old.seat).others) }
         ensures ready { IsReady (view self.new.seat) }
     {
-        let first = self.table.data_of(slot);
-        self.table.count_at(&mut self.seat, slot, first)
+        let data = self.table.data_of(slot);
+        let at = SlotAt { slot, data };
+        self.table.count_at(&mut self.seat, at)
     }
 
     /// The usage, the occupancy and what stands.

@@ -1,12 +1,10 @@
 //! Values that are read by their keys.
 ghost use Rattle.std.specs.Prelude.{◌≡◌, ◌+◌, IfSome, IsSomeAnd};
-ghost use Rattle.hcc_rule.specs.declared.layout.TheConstants.{DATA};
-ghost use Rattle.hcc_rule.specs.Callers.{room_of, slots_of, IsSeatAt, IsSlotOf};
+ghost use Rattle.hcc_rule.specs.Callers.{room_of, slots_of, IsSeatAt};
 ghost use Rattle.hcc_rule.specs.Records.{record_in};
 ghost use Rattle.hcc_rule.specs.Seats.{IsSameSeat, view};
-ghost use Rattle.hcc_rule.specs.Words.{field_at};
 ghost use Rattle.hcc_table.specs.Efforts.{Took};
-ghost use Rattle.hcc_table.specs.Pins.{IsPinned, is_useful};
+ghost use Rattle.hcc_table.specs.Pins.{IsPinned, is_useful, IsPinAt};
 ghost use Rattle.hcc_table.specs.Readings.{IsReadable};
 ghost use Rattle.hcc_table.specs.Searched.{Sought};
 ghost use Rattle.hcc_table.specs.Seeking.{Seeks};
@@ -20,7 +18,7 @@ use crate::erasing::IN_FLIGHT;
 use crate::seat::ShardSeat;
 use crate::shard::Shard;
 use hcc_rule::{Key, RuleSeat, RuleTable, Tag};
-use hcc_table::{Pin, Use, copy_bytes, find, give_back, read_len};
+use hcc_table::{PinAt, Use, copy_bytes, find, give_back, read_len};
 use std::alloc::Allocator;
 
 /// What came of reading the value of a key.
@@ -67,11 +65,9 @@ impl<T: Tag, A: Allocator> Shard<T, A> {
             self.marks,
             &mut seat.effort,
         ) {
-            Some(found) => {
-                let pin = found.pin;
-                let first = found.first;
-                let got = copy_out(&self.table, &mut seat.seat, pin, first, buffer);
-                give_back(&self.table, &mut seat.seat, pin, first, as_use);
+            Some(held) => {
+                let got = copy_out(&self.table, &mut seat.seat, held, buffer);
+                give_back(&self.table, &mut seat.seat, held, as_use);
                 got
             }
             None => Got::Miss,
@@ -84,27 +80,25 @@ impl<T: Tag, A: Allocator> Shard<T, A> {
 fn copy_out<T: Tag, A: Allocator>(
     table: &RuleTable<T, A>,
     seat: &mut RuleSeat<T>,
-    pin: Pin,
-    first: usize,
+    held: PinAt,
     buffer: &mut [u8],
 ) -> Got
     requires seat { IsSeatAt table.now seat.old }
-    requires slot { IsSlotOf table.now pin.slot }
-    requires first { first ≡ field_at (room_of table.now) pin.slot DATA }
-    requires holds { IsPinned pin (view seat.old) }
-    requires readable { IfSome (record_in pin.name (view seat.old).records)
+    requires held { IsPinAt table.now held }
+    requires holds { IsPinned held.pin (view seat.old) }
+    requires readable { IfSome (record_in held.pin.name (view seat.old).records)
         (λ r. IsReadable (room_of table.now) r) }
     ensures seat { IsSameSeat seat.old seat.new }
     ensures view { view seat.new ≡ view seat.old }
-    ensures copies { IsSomeAnd (record_in pin.name (view seat.old).records)
+    ensures copies { IsSomeAnd (record_in held.pin.name (view seat.old).records)
         (λ r. CopiesOut result r.entry.value buffer.old buffer.new) }
     ensures seeks { Seeks table.now seat.old seat.new }
     ensures steps { MakesAtMost (room_of table.now + 1) seat.old seat.new }
 {
-    let count = read_len(table, seat, pin, first);
+    let count = read_len(table, seat, held);
     if count > buffer.len() {
         return Got::Short(count);
     }
-    copy_bytes(table, seat, pin, first, count, buffer);
+    copy_bytes(table, seat, held, count, buffer);
     Got::Hit(count)
 }

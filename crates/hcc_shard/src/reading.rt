@@ -20,7 +20,7 @@ ghost use Rattle.hcc_shard.specs.Stays.{CountsBy, LooksBy, SeeksAt};
 use crate::seat::ShardSeat;
 use crate::shard::Shard;
 use hcc_rule::{Key, Tag};
-use hcc_table::{Pin, copy_bytes, displacement, read_bytes, read_key, read_len, word};
+use hcc_table::{Pin, PinAt, copy_bytes, displacement, read_bytes, read_key, read_len, word};
 use std::alloc::Allocator;
 
 impl<T: Tag, A: Allocator> Shard<T, A> {
@@ -110,8 +110,9 @@ impl<T: Tag, A: Allocator> Shard<T, A> {
         ensures counts { SameCounts seat.old seat.new }
         ensures steps { MakesAtMost 1 seat.old.seat seat.new.seat }
     {
-        let first = self.table.data_of(pin.slot);
-        read_len(&self.table, &mut seat.seat, pin, first)
+        let data = self.table.data_of(pin.slot);
+        let held = PinAt { pin, data };
+        read_len(&self.table, &mut seat.seat, held)
     }
 
     /// Copies the value of the entry of a pin that the client holds to the front of a buffer, which
@@ -167,12 +168,13 @@ impl<T: Tag, A: Allocator> Shard<T, A> {
             MakesAtMost (words_for len + 1) seat.old.seat seat.new.seat) }
         ensures few { IfErr result (λ _. MakesAtMost 1 seat.old.seat seat.new.seat) }
     {
-        let first = self.table.data_of(pin.slot);
-        let count = read_len(&self.table, &mut seat.seat, pin, first);
+        let data = self.table.data_of(pin.slot);
+        let held = PinAt { pin, data };
+        let count = read_len(&self.table, &mut seat.seat, held);
         if buffer.len() < count {
             return Err(count);
         }
-        copy_bytes(&self.table, &mut seat.seat, pin, first, count, buffer);
+        copy_bytes(&self.table, &mut seat.seat, held, count, buffer);
         Ok(count)
     }
 }

@@ -3,16 +3,14 @@ ghost use Rattle.std.specs.Prelude.{◌≡◌, ◌⊎◌, ◌+◌, ◌++◌, ◌
 ghost use Rattle.hcc_word.specs.Changes.{IsCorrectable, corrected_word};
 ghost use Rattle.hcc_word.specs.Word.{is_counting};
 ghost use Rattle.hcc_core.specs.declared.limits.TheConstants.{MOST_WEIGHT, REFERENCES_PER_CLIENT};
-ghost use Rattle.hcc_rule.specs.declared.layout.TheConstants.{DATA};
 ghost use Rattle.hcc_rule.specs.declared.view.Record.{Record};
-ghost use Rattle.hcc_rule.specs.Callers.{room_of, IsEvent, IsSeatAt, IsSlotOf};
+ghost use Rattle.hcc_rule.specs.Callers.{room_of, IsEvent, IsSeatAt, IsSlotOf, IsSlotAt};
 ghost use Rattle.hcc_rule.specs.Addresses.{address_of_meta};
 ghost use Rattle.hcc_rule.specs.Events.{correct_done};
 ghost use Rattle.hcc_rule.specs.Seats.{IsSameSeat, view, Makes};
 ghost use Rattle.hcc_rule.specs.ToldReferences.{may_reach};
 ghost use Rattle.hcc_rule.specs.Views.{load_of};
 ghost use Rattle.hcc_rule.specs.Records.{record_in};
-ghost use Rattle.hcc_rule.specs.Words.{field_at};
 ghost use Rattle.hcc_table.specs.Efforts.{Corrected, Lost, Took};
 ghost use Rattle.hcc_table.specs.Pins.{IsOf, IsPinned};
 ghost use Rattle.hcc_table.specs.Searched.{Searched, Sought, Reached};
@@ -22,7 +20,7 @@ ghost use Rattle.hcc_table.specs.Steps.{Acquires, AddsUnmarked, Corrects, MakesA
 use crate::efforts::Effort;
 use crate::pins::Pin;
 use crate::words::{has_entry, is_counting};
-use hcc_rule::{RuleSeat, RuleTable, Tag};
+use hcc_rule::{RuleSeat, RuleTable, SlotAt, Tag};
 use hcc_word::corrected;
 use std::alloc::Allocator;
 
@@ -58,8 +56,9 @@ pub fn again<T: Tag, A: Allocator>(
         × ReachesBy table.now pin.slot 1 name found seat.old seat.new }
     ensures steps { MakesAtMost 2 seat.old seat.new }
 {
-    let first = table.data_of(pin.slot);
-    let found = reach(table, seat, pin.slot, first, 1, name, effort);
+    let (slot, data) = (pin.slot, table.data_of(pin.slot));
+    let at = SlotAt { slot, data };
+    let found = reach(table, seat, at, 1, name, effort);
     Pin {
         slot: pin.slot,
         name,
@@ -73,36 +72,35 @@ pub fn again<T: Tag, A: Allocator>(
 pub(crate) fn reach<T: Tag, A: Allocator>(
     table: &RuleTable<T, A>,
     seat: &mut RuleSeat<T>,
-    slot: u32,
-    first: usize,
+    at: SlotAt,
     weight: u32,
     name: u64,
     effort: &mut Effort,
 ) -> u64
     requires seat { IsSeatAt table.now seat.old }
-    requires slot { IsSlotOf table.now slot }
-    requires first { first ≡ field_at (room_of table.now) slot DATA }
+    requires at { IsSlotAt table.now at }
     requires weight { (0 < weight) × (weight ≤ MOST_WEIGHT) }
     requires fresh { record_in name (view seat.old).records ≡ None }
-    requires reach { may_reach slot (view seat.old) ≡ true }
+    requires reach { may_reach at.slot (view seat.old) ≡ true }
     requires load { load_of (view seat.old).records + weight ≤ REFERENCES_PER_CLIENT }
     ensures seat { IsSameSeat seat.old seat.new }
     ensures effort { Took 0 0 1 effort.old effort.new }
-    ensures view { Reached T.fits (room_of table.now) slot weight name result
+    ensures view { Reached T.fits (room_of table.now) at.slot weight name result
         (view seat.old) (view seat.new) }
-    ensures acquires { Acquires (address_of_meta table.now slot) weight result seat.old seat.new }
-    ensures corrects { Corrects (address_of_meta table.now slot) weight result
+    ensures acquires { Acquires (address_of_meta table.now at.slot) weight result
+        seat.old seat.new }
+    ensures corrects { Corrects (address_of_meta table.now at.slot) weight result
         effort.old effort.new seat.old seat.new }
-    ensures by { ReachesBy table.now slot weight name result seat.old seat.new }
+    ensures by { ReachesBy table.now at.slot weight name result seat.old seat.new }
     ensures adds { AddsUnmarked seat.old seat.new }
     ensures steps { MakesAtMost 2 seat.old seat.new }
 {
-    let found = table.acquire_at(seat, slot, first, weight, name);
+    let found = table.acquire_at(seat, at, weight, name);
     if has_entry(found) && !is_counting(found) {
         relieve(
             table,
             seat,
-            slot,
+            at.slot,
             name,
             found.wrapping_add(weight as u64),
             effort,

@@ -1,14 +1,13 @@
 //! Taking an entry to free it.
-ghost use Rattle.std.specs.Prelude.{◌≡◌, ◌+◌, ◌^◌, ◌<◌, ◌≤◌, [], true, IfSome, IfNone, slice_index};
+ghost use Rattle.std.specs.Prelude.{◌≡◌, ◌+◌, ◌^◌, ◌≤◌, [], true, IfSome, IfNone, slice_index};
 ghost use Rattle.hcc_word.specs.Word.{is_shareable};
-ghost use Rattle.hcc_rule.specs.declared.layout.TheConstants.{DATA, CHARGE};
-ghost use Rattle.hcc_rule.specs.Callers.{slots_of, room_of, IsSeatAt, IsSlotOf};
+ghost use Rattle.hcc_rule.specs.declared.layout.TheConstants.{CHARGE};
+ghost use Rattle.hcc_rule.specs.Callers.{slots_of, room_of, IsSeatAt, IsSlotOf, IsSlotAt};
 ghost use Rattle.hcc_rule.specs.Addresses.{address_of_meta};
 ghost use Rattle.hcc_rule.specs.Between.{MayFree};
 ghost use Rattle.hcc_rule.specs.Probes.{trail_to};
 ghost use Rattle.hcc_rule.specs.Seats.{IsSameSeat, view};
 ghost use Rattle.hcc_rule.specs.ToldOwners.{IsLast, records_left};
-ghost use Rattle.hcc_rule.specs.Words.{field_at};
 ghost use Rattle.hcc_table.specs.Efforts.{Lost};
 ghost use Rattle.hcc_table.specs.Freed.{HasTaken, IsFreed, TakenAt, TakesBy, emptied};
 ghost use Rattle.hcc_table.specs.Searched.{Sought};
@@ -18,7 +17,7 @@ ghost use Rattle.hcc_table.specs.Steps.{Adds, MakesAtMost, TriesToTake, freeing}
 use crate::efforts::Effort;
 use crate::walk::Walk;
 use hcc_rule::layout::{CHARGE, KEY0, KEY1};
-use hcc_rule::{Key, RuleSeat, RuleTable, Tag};
+use hcc_rule::{Key, RuleSeat, RuleTable, SlotAt, Tag};
 use std::alloc::Allocator;
 
 /// Frees the slot whose entry the client took: takes back the displacements of the key's probes
@@ -42,20 +41,19 @@ pub fn free_taken<T: Tag, A: Allocator>(
     ensures adds { Adds seat.old seat.new }
     ensures steps { MakesAtMost (slots_of table.now + 4) seat.old seat.new }
 {
-    free_taken_at(table, seat, slot, table.data_of(slot))
+    let data = table.data_of(slot);
+    free_taken_at(table, seat, SlotAt { slot, data })
 }
 
 /// The same as `free_taken`, for a caller that has the address of the slot's first data word.
 fn free_taken_at<T: Tag, A: Allocator>(
     table: &RuleTable<T, A>,
     seat: &mut RuleSeat<T>,
-    slot: u32,
-    first: usize,
+    at: SlotAt,
 ) -> u64
     requires seat { IsSeatAt table.now seat.old }
-    requires slot { IsSlotOf table.now slot }
-    requires first { first ≡ field_at (room_of table.now) slot DATA }
-    requires taken { HasTaken (slots_of table.now) slot (view seat.old) }
+    requires at { IsSlotAt table.now at }
+    requires taken { HasTaken (slots_of table.now) at.slot (view seat.old) }
     ensures seat { IsSameSeat seat.old seat.new }
     ensures charge { result ≡ slice_index (view seat.old).written CHARGE }
     ensures view { view seat.new ≡ emptied (view seat.old) }
@@ -64,12 +62,12 @@ fn free_taken_at<T: Tag, A: Allocator>(
     ensures steps { MakesAtMost (slots_of table.now + 4) seat.old seat.new }
 {
     let key = Key {
-        w0: table.read_own_at(seat, slot, first, KEY0),
-        w1: table.read_own_at(seat, slot, first, KEY1),
+        w0: table.read_own_at(seat, at, KEY0),
+        w1: table.read_own_at(seat, at, KEY1),
     };
-    let charge = table.read_own_at(seat, slot, first, CHARGE);
-    take_back(table, seat, slot, key);
-    table.empty_at(seat, slot, first);
+    let charge = table.read_own_at(seat, at, CHARGE);
+    take_back(table, seat, at.slot, key);
+    table.empty_at(seat, at);
     charge
 }
 
@@ -106,35 +104,33 @@ pub(crate) fn take_back<T: Tag, A: Allocator>(
 pub(crate) fn try_free<T: Tag, A: Allocator>(
     table: &RuleTable<T, A>,
     seat: &mut RuleSeat<T>,
-    slot: u32,
-    first: usize,
+    at: SlotAt,
     word: u64,
     name: Option<u64>,
     effort: &mut Effort,
 ) -> Option<u64>
     requires seat { IsSeatAt table.now seat.old }
-    requires slot { IsSlotOf table.now slot }
-    requires first { first ≡ field_at (room_of table.now) slot DATA }
+    requires at { IsSlotAt table.now at }
     requires entry { is_shareable word ≡ true }
-    requires last { IsLast slot word name (view seat.old) }
+    requires last { IsLast at.slot word name (view seat.old) }
     requires may { MayFree (view seat.old) }
     ensures seat { IsSameSeat seat.old seat.new }
     ensures lost { IfNone result (Sought (view seat.old) (view seat.new)
         × ((view seat.new).met ≡ (view seat.old).met) × Lost 1 1 effort.old effort.new) }
     ensures won { IfSome result (λ _. effort.new ≡ effort.old) }
     ensures taken { IfSome result (λ charge. TakenAt T.fits (slots_of table.now) (room_of table.now)
-        slot word name charge (view seat.old) (view seat.new)) }
+        at.slot word name charge (view seat.old) (view seat.new)) }
     ensures freed { IfSome result (λ charge.
         IsFreed T.fits (room_of table.now) word name charge (view seat.old) (view seat.new)
         × ((view seat.new).records ≡ records_left name (view seat.old).records)
         × ((view seat.new).work.looked ≡ (view seat.old).work.looked)) }
-    ensures tried { TriesToTake (address_of_meta table.now slot) word result seat.old seat.new }
-    ensures by { TakesBy table.now slot word name result seat.old seat.new }
+    ensures tried { TriesToTake (address_of_meta table.now at.slot) word result seat.old seat.new }
+    ensures by { TakesBy table.now at.slot word name result seat.old seat.new }
     ensures steps { MakesAtMost (freeing (slots_of table.now)) seat.old seat.new }
 {
-    if table.free_at(seat, slot, first, word, name) != word {
+    if table.free_at(seat, at, word, name) != word {
         effort.lose();
         return None;
     }
-    Some(free_taken_at(table, seat, slot, first))
+    Some(free_taken_at(table, seat, at))
 }

@@ -21,7 +21,7 @@ use crate::freeing::try_free;
 use crate::search::acquire_at;
 use crate::walk::Walk;
 use crate::words::{has_entry, is_shown};
-use hcc_rule::{Key, RuleSeat, RuleTable, Tag};
+use hcc_rule::{Key, RuleSeat, RuleTable, SlotAt, Tag};
 use hcc_word::layout::HIDING_MASK;
 use hcc_word::refs;
 use std::alloc::Allocator;
@@ -113,7 +113,8 @@ pub fn hide<T: Tag, A: Allocator>(
         effort.probes(1);
         let here = hide_at(table, seat, slot, key, name, effort);
         all = all.with(here);
-        if table.count_at(seat, slot, table.data_of(slot)) == 0 {
+        let data = table.data_of(slot);
+        if table.count_at(seat, SlotAt { slot, data }) == 0 {
             return all;
         }
         walk = walk.next();
@@ -147,7 +148,8 @@ fn hide_at<T: Tag, A: Allocator>(
         effort.old effort.new seat.old seat.new }
     ensures steps { MakesAtMost ((slots_of table.now + 4) * result.slots + 8) seat.old seat.new }
 {
-    match acquire_at(table, seat, slot, table.data_of(slot), key, name, effort) {
+    let data = table.data_of(slot);
+    match acquire_at(table, seat, SlotAt { slot, data }, key, name, effort) {
         Some(_) => hide_held(table, seat, slot, name, effort),
         None => Erased::NOTHING,
     }
@@ -191,7 +193,8 @@ fn hide_held<T: Tag, A: Allocator>(
             charge,
         },
         None => {
-            table.give_at(seat, slot, table.data_of(slot), 1, name);
+            let data = table.data_of(slot);
+            table.give_at(seat, SlotAt { slot, data }, 1, name);
             Erased {
                 hidden,
                 slots: 0,
@@ -231,8 +234,9 @@ fn free_last<T: Tag, A: Allocator>(
     ensures fewer { IfNone result (MakesAtMost 1 seat.old seat.new) }
 {
     if has_entry(word) && !is_shown(word) && refs(word) == 1 {
-        let first = table.data_of(slot);
-        try_free(table, seat, slot, first, word, Some(name), effort)
+        let data = table.data_of(slot);
+        let at = SlotAt { slot, data };
+        try_free(table, seat, at, word, Some(name), effort)
     } else {
         None
     }

@@ -2,18 +2,16 @@
 //! empty, or one that shows an entry of the key.
 ghost use Rattle.std.specs.Prelude.{◌≡◌, ◌+◌, ◌<◌, ◌≤◌, true, false, None, [], ℕ};
 ghost use Rattle.hcc_table.specs.declared.inserting.Insertion.TheVariants.{Placed, Matched};
-ghost use Rattle.hcc_rule.specs.declared.layout.TheConstants.{DATA};
 ghost use Rattle.hcc_rule.specs.ToldOwners.{first_word};
 ghost use Rattle.hcc_word.specs.Word.{is_empty};
 ghost use Rattle.hcc_core.specs.declared.limits.TheConstants.{MOST_WEIGHT, REFERENCES_PER_CLIENT};
-ghost use Rattle.hcc_rule.specs.Callers.{plan_of, slots_of, IsSeatAt, IsSlotOf, room_of};
+ghost use Rattle.hcc_rule.specs.Callers.{plan_of, slots_of, IsSeatAt, room_of, IsSlotAt};
 ghost use Rattle.hcc_rule.specs.Addresses.{address_of_meta};
 ghost use Rattle.hcc_rule.specs.Probes.{trail_to};
 ghost use Rattle.hcc_rule.specs.Seats.{IsSameSeat, view, atomic};
 ghost use Rattle.hcc_rule.specs.ToldReferences.{may_reach};
 ghost use Rattle.hcc_rule.specs.Views.{load_of};
 ghost use Rattle.hcc_rule.specs.Records.{record_in};
-ghost use Rattle.hcc_rule.specs.Words.{field_at};
 ghost use Rattle.hcc_table.specs.Efforts.{Took};
 ghost use Rattle.hcc_table.specs.Inserted.{CountsTaken, InsertedBy, MayInsert, Meets, TriedAt};
 ghost use Rattle.hcc_table.specs.Probed.{PassesEntry};
@@ -29,7 +27,7 @@ use crate::releasing::let_go;
 use crate::search::matches;
 use crate::walk::Walk;
 use crate::words::{has_entry, is_counting, is_shown};
-use hcc_rule::{Draft, Key, RuleSeat, RuleTable, Tag};
+use hcc_rule::{Draft, Key, RuleSeat, RuleTable, SlotAt, Tag};
 use hcc_word::layout::EMPTY;
 use hcc_word::state;
 use std::alloc::Allocator;
@@ -103,9 +101,10 @@ pub fn insert<T: Tag, A: Allocator>(
     let mut passed = 0;
     loop {
         let slot = walk.slot();
-        let first = table.data_of(slot);
+        let data = table.data_of(slot);
+        let at = SlotAt { slot, data };
         effort.probes(1);
-        match insert_at(table, seat, slot, first, draft, value, client, name, effort) {
+        match insert_at(table, seat, at, draft, value, client, name, effort) {
             Insertion::Placed { slot } => return Insertion::Placed { slot },
             Insertion::Matched => {
                 take_back(table, seat, slot, draft.key);
@@ -117,7 +116,7 @@ pub fn insert<T: Tag, A: Allocator>(
             take_back(table, seat, slot, draft.key);
             return Insertion::NoSlot;
         }
-        table.pass_at(seat, slot, first);
+        table.pass_at(seat, at);
         walk = walk.next();
         passed += 1;
     }
@@ -128,8 +127,7 @@ pub fn insert<T: Tag, A: Allocator>(
 fn insert_at<T: Tag, A: Allocator>(
     table: &RuleTable<T, A>,
     seat: &mut RuleSeat<T>,
-    slot: u32,
-    first: usize,
+    at: SlotAt,
     draft: Draft,
     value: &[u8],
     client: u32,
@@ -137,31 +135,30 @@ fn insert_at<T: Tag, A: Allocator>(
     effort: &mut Effort,
 ) -> Insertion
     requires seat { IsSeatAt table.now seat.old }
-    requires slot { IsSlotOf table.now slot }
-    requires first { first ≡ field_at (room_of table.now) slot DATA }
+    requires at { IsSlotAt table.now at }
     requires may { MayInsert T.fits (plan_of table.now) draft value.now client name
         (view seat.old) }
-    requires trail { (view seat.old).work.trail ≡ trail_to (slots_of table.now) draft.key slot }
+    requires trail { (view seat.old).work.trail ≡ trail_to (slots_of table.now) draft.key at.slot }
     ensures seat { IsSameSeat seat.old seat.new }
     ensures effort { Took 0 0 1 effort.old effort.new }
-    ensures view { TriedAt slot draft value.now result (view seat.old) (view seat.new) }
+    ensures view { TriedAt at.slot draft value.now result (view seat.old) (view seat.new) }
     ensures placed { (at : ℕ) → result ≡ Placed at → Ends (atomic
         (address_of_meta table.now at) (first_word draft) 0 (first_word draft))
         seat.old seat.new }
     ensures matched { result ≡ Matched
-        → UsesUp (address_of_meta table.now slot) draft.countdown seat.old seat.new }
-    ensures tries { TriesAt T.fits table.now draft.key name draft.countdown slot result
+        → UsesUp (address_of_meta table.now at.slot) draft.countdown seat.old seat.new }
+    ensures tries { TriesAt T.fits table.now draft.key name draft.countdown at.slot result
         effort.old effort.new seat.old seat.new }
     ensures adds { Adds seat.old seat.new }
     ensures steps { MakesAtMost (trying (room_of table.now) result) seat.old seat.new }
 {
-    let found = table.occupy_at(seat, slot, first);
+    let found = table.occupy_at(seat, at);
     if is_free(found) {
-        build(table, seat, slot, first, draft, value, client);
-        return Insertion::Placed { slot };
+        build(table, seat, at, draft, value, client);
+        return Insertion::Placed { slot: at.slot };
     }
     let (key, weight) = (draft.key, draft.countdown);
-    if is_shown(found) && meet(table, seat, slot, first, key, weight, name, effort) {
+    if is_shown(found) && meet(table, seat, at, key, weight, name, effort) {
         return Insertion::Matched;
     }
     Insertion::NoSlot
@@ -179,42 +176,40 @@ fn is_free(word: u64) -> bool
 fn meet<T: Tag, A: Allocator>(
     table: &RuleTable<T, A>,
     seat: &mut RuleSeat<T>,
-    slot: u32,
-    first: usize,
+    at: SlotAt,
     key: Key,
     weight: u32,
     name: u64,
     effort: &mut Effort,
 ) -> bool
     requires seat { IsSeatAt table.now seat.old }
-    requires slot { IsSlotOf table.now slot }
-    requires first { first ≡ field_at (room_of table.now) slot DATA }
+    requires at { IsSlotAt table.now at }
     requires weight { (0 < weight) × (weight ≤ MOST_WEIGHT) }
     requires fresh { record_in name (view seat.old).records ≡ None }
-    requires reach { may_reach slot (view seat.old) ≡ true }
+    requires reach { may_reach at.slot (view seat.old) ≡ true }
     requires load { load_of (view seat.old).records + weight ≤ REFERENCES_PER_CLIENT }
     ensures seat { IsSameSeat seat.old seat.new }
     ensures effort { Took 0 0 1 effort.old effort.new }
     ensures view { Sought (view seat.old) (view seat.new) }
     ensures met { result ≡ true → Meets key (view seat.old) (view seat.new) }
-    ensures dead { result ≡ false → Buried key (λ s. s ≡ slot) (view seat.old) (view seat.new) }
+    ensures dead { result ≡ false → Buried key (λ s. s ≡ at.slot) (view seat.old) (view seat.new) }
     ensures matched { result ≡ true
-        → UsesUp (address_of_meta table.now slot) weight seat.old seat.new }
-    ensures uses { result ≡ true → (word : ℕ) × UsesEntry T.fits table.now key name weight slot word
-        effort.old effort.new seat.old seat.new }
-    ensures passes { result ≡ false → (word : ℕ) × PassesEntry T.fits table.now key name slot weight
+        → UsesUp (address_of_meta table.now at.slot) weight seat.old seat.new }
+    ensures uses { result ≡ true → (word : ℕ) × UsesEntry T.fits table.now key name weight at.slot
         word effort.old effort.new seat.old seat.new }
+    ensures passes { result ≡ false → (word : ℕ) × PassesEntry T.fits table.now key name at.slot
+        weight word effort.old effort.new seat.old seat.new }
     ensures adds { Adds seat.old seat.new }
     ensures steps { MakesAtMost 5 seat.old seat.new }
 {
-    let found = reach(table, seat, slot, first, weight, name, effort);
+    let found = reach(table, seat, at, weight, name, effort);
     if !has_entry(found) {
         return false;
     }
-    if matches(table, seat, slot, first, key, name, found) {
-        let_go(table, seat, slot, first, weight, name, is_counting(found));
+    if matches(table, seat, at, key, name, found) {
+        let_go(table, seat, at, weight, name, is_counting(found));
         return true;
     }
-    table.give_at(seat, slot, first, weight, name);
+    table.give_at(seat, at, weight, name);
     false
 }

@@ -16,7 +16,7 @@ use crate::acquire::reach;
 use crate::efforts::Effort;
 use crate::words::has_entry;
 use hcc_rule::layout::CHARGE;
-use hcc_rule::{RuleSeat, RuleTable, Tag};
+use hcc_rule::{RuleSeat, RuleTable, SlotAt, Tag};
 use hcc_word::refs;
 use std::alloc::Allocator;
 
@@ -52,17 +52,18 @@ pub fn pinned_charge<T: Tag, A: Allocator>(
     ensures seeks { Seeks table.now seat.old seat.new }
     ensures steps { MakesAtMost 5 seat.old seat.new }
 {
-    let first = table.data_of(slot);
-    let word = table.look_at(seat, slot, first);
+    let data = table.data_of(slot);
+    let at = SlotAt { slot, data };
+    let word = table.look_at(seat, at);
     if !has_entry(word) || refs(word) == 0 {
         return 0;
     }
-    let found = reach(table, seat, slot, first, 1, name, effort);
+    let found = reach(table, seat, at, 1, name, effort);
     if !has_entry(found) {
         return 0;
     }
-    let charge = table.read_at(seat, slot, first, CHARGE, name);
-    table.give_at(seat, slot, first, 1, name);
+    let charge = table.read_at(seat, at, CHARGE, name);
+    table.give_at(seat, at, 1, name);
     if refs(found) == 0 {
         return 0;
     }

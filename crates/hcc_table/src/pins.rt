@@ -14,6 +14,15 @@ pub struct Pin {
     pub counting: bool,
 }
 
+/// A reference with the address of the first data word of its slot, by which the entry is read.
+#[derive(Clone, Copy, Debug, PartialEq, Eq)]
+pub struct PinAt {
+    /// The reference.
+    pub pin: Pin,
+    /// The address, as `RuleTable::data_of` returns it.
+    pub data: usize,
+}
+
 /// Whether the release of a reference is a use of its entry.
 #[derive(Clone, Copy, Debug, PartialEq, Eq)]
 pub enum Use {

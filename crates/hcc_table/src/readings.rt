@@ -3,7 +3,7 @@ ghost use Rattle.std.specs.Prelude.{◌≡◌, ◌+◌, ◌-◌, ◌*◌, ◌<�
 ghost use Rattle.std.specs.Int.{to_le_bytes};
 ghost use mir.Syntax.{w64};
 ghost use Rattle.hcc_core.specs.World.{limit_of, times};
-ghost use Rattle.hcc_rule.specs.declared.layout.TheConstants.{DATA, KEY1};
+ghost use Rattle.hcc_rule.specs.declared.layout.TheConstants.{KEY1};
 ghost use Rattle.hcc_rule.specs.declared.view.Record.{Record};
 ghost use Rattle.hcc_rule.specs.Callers.{clients_of, plan_of, slots_of, room_of, IsEvent, IsSeatAt, IsSlotOf, HasOn};
 ghost use Rattle.hcc_rule.specs.Events.{count_done, look_done};
@@ -16,15 +16,15 @@ ghost use Rattle.hcc_rule.specs.ToldOwners.{after_read};
 ghost use Rattle.hcc_rule.specs.ToldTrails.{passed_held};
 ghost use Rattle.hcc_rule.specs.Views.{Each};
 ghost use Rattle.hcc_rule.specs.Records.{different, record_in};
-ghost use Rattle.hcc_rule.specs.Words.{field_at, key_of, payload_word, words_for};
-ghost use Rattle.hcc_table.specs.Pins.{IsPinned};
+ghost use Rattle.hcc_rule.specs.Words.{key_of, payload_word, words_for};
+ghost use Rattle.hcc_table.specs.Pins.{IsPinned, IsPinAt};
 ghost use Rattle.hcc_table.specs.Readings.{put_in, put_turn, IsReadable};
 ghost use Rattle.hcc_table.specs.Seeking.{Seeks};
 ghost use Rattle.hcc_table.specs.Steps.{MakesAtMost};
 
-use crate::pins::Pin;
+use crate::pins::{Pin, PinAt};
 use hcc_rule::layout::{KEY0, KEY1, LENGTH, PAYLOAD};
-use hcc_rule::{Key, RuleSeat, RuleTable, Tag};
+use hcc_rule::{Key, RuleSeat, RuleTable, SlotAt, Tag};
 use std::alloc::Allocator;
 
 /// The meta word of a slot, as its load found it. `hcc_word` reads its fields.
@@ -45,7 +45,8 @@ pub fn word<T: Tag, A: Allocator>(table: &RuleTable<T, A>, seat: &mut RuleSeat<T
     ensures event { IsEvent table.now (look_done slot result (view seat.old)) seat.old seat.new }
     ensures steps { MakesAtMost 1 seat.old seat.new }
 {
-    table.look_at(seat, slot, table.data_of(slot))
+    let data = table.data_of(slot);
+    table.look_at(seat, SlotAt { slot, data })
 }
 
 /// How often a slot stands in the trails of entries and of clients, as a load of its displacement
@@ -86,7 +87,8 @@ pub fn displacement<T: Tag, A: Allocator>(
     ensures event { IsEvent table.now (count_done slot result (view seat.old)) seat.old seat.new }
     ensures steps { MakesAtMost 1 seat.old seat.new }
 {
-    table.count_at(seat, slot, table.data_of(slot))
+    let data = table.data_of(slot);
+    table.count_at(seat, SlotAt { slot, data })
 }
 
 /// How many bytes the value has of the entry of a pin, for a caller that has the address of its
@@ -98,21 +100,20 @@ pub fn displacement<T: Tag, A: Allocator>(
 pub fn read_len<T: Tag, A: Allocator>(
     table: &RuleTable<T, A>,
     seat: &mut RuleSeat<T>,
-    pin: Pin,
-    first: usize,
+    held: PinAt,
 ) -> usize
     requires seat { IsSeatAt table.now seat.old }
-    requires slot { IsSlotOf table.now pin.slot }
-    requires first { first ≡ field_at (room_of table.now) pin.slot DATA }
-    requires holds { IsPinned pin (view seat.old) }
+    requires held { IsPinAt table.now held }
+    requires holds { IsPinned held.pin (view seat.old) }
     ensures seat { IsSameSeat seat.old seat.new }
     ensures view { view seat.new ≡ view seat.old }
-    ensures exact { IfSome (record_in pin.name (view seat.old).records)
+    ensures exact { IfSome (record_in held.pin.name (view seat.old).records)
         (λ r. result ≡ length r.entry.value) }
     ensures seeks { Seeks table.now seat.old seat.new }
     ensures steps { MakesAtMost 1 seat.old seat.new }
 {
-    table.read_at(seat, pin.slot, first, LENGTH, pin.name) as usize
+    let (slot, data) = (held.pin.slot, held.data);
+    table.read_at(seat, SlotAt { slot, data }, LENGTH, held.pin.name) as usize
 }
 
 /// The key of the entry of a pin.
@@ -135,10 +136,11 @@ pub fn read_key<T: Tag, A: Allocator>(
     ensures seeks { Seeks table.now seat.old seat.new }
     ensures steps { MakesAtMost 2 seat.old seat.new }
 {
-    let first = table.data_of(pin.slot);
+    let (slot, data) = (pin.slot, table.data_of(pin.slot));
+    let at = SlotAt { slot, data };
     Key {
-        w0: table.read_at(seat, pin.slot, first, KEY0, pin.name),
-        w1: table.read_at(seat, pin.slot, first, KEY1, pin.name),
+        w0: table.read_at(seat, at, KEY0, pin.name),
+        w1: table.read_at(seat, at, KEY1, pin.name),
     }
 }
 
@@ -170,9 +172,10 @@ pub fn read_bytes<T: Tag, A: Allocator>(
     ensures seeks { Seeks table.now seat.old seat.new }
     ensures steps { MakesAtMost (words_for result + 1) seat.old seat.new }
 {
-    let first = table.data_of(pin.slot);
-    let length = read_len(table, seat, pin, first);
-    copy_bytes(table, seat, pin, first, length, buffer);
+    let data = table.data_of(pin.slot);
+    let held = PinAt { pin, data };
+    let length = read_len(table, seat, held);
+    copy_bytes(table, seat, held, length, buffer);
     length
 }
 
@@ -181,23 +184,21 @@ pub fn read_bytes<T: Tag, A: Allocator>(
 pub fn copy_bytes<T: Tag, A: Allocator>(
     table: &RuleTable<T, A>,
     seat: &mut RuleSeat<T>,
-    pin: Pin,
-    first: usize,
+    held: PinAt,
     count: usize,
     buffer: &mut [u8],
 )
     requires seat { IsSeatAt table.now seat.old }
-    requires slot { IsSlotOf table.now pin.slot }
-    requires first { first ≡ field_at (room_of table.now) pin.slot DATA }
-    requires holds { IsPinned pin (view seat.old) }
-    requires readable { IfSome (record_in pin.name (view seat.old).records)
+    requires held { IsPinAt table.now held }
+    requires holds { IsPinned held.pin (view seat.old) }
+    requires readable { IfSome (record_in held.pin.name (view seat.old).records)
         (λ r. IsReadable (room_of table.now) r) }
-    requires exact { IfSome (record_in pin.name (view seat.old).records)
+    requires exact { IfSome (record_in held.pin.name (view seat.old).records)
         (λ r. count ≡ length r.entry.value) }
     requires space { count ≤ length buffer.old }
     ensures seat { IsSameSeat seat.old seat.new }
     ensures view { view seat.new ≡ view seat.old }
-    ensures bytes { IfSome (record_in pin.name (view seat.old).records)
+    ensures bytes { IfSome (record_in held.pin.name (view seat.old).records)
         (λ r. buffer.new ≡ r.entry.value ++ drop (length r.entry.value) buffer.old) }
     ensures seeks { Seeks table.now seat.old seat.new }
     ensures steps { MakesAtMost (words_for count) seat.old seat.new }
@@ -205,21 +206,21 @@ pub fn copy_bytes<T: Tag, A: Allocator>(
     let whole = count / 8;
     let blocks = whole / 32;
     for block in 0..blocks {
-        copy_lines(table, seat, pin, first, 32 * block, buffer);
+        copy_lines(table, seat, held, 32 * block, buffer);
     }
     let fours = whole / 4;
     for four in 8 * blocks..fours {
         // These are unrolled; of more the compiler reckons each address anew.
         for part in 0..4 {
-            copy_word(table, seat, pin, first, 4 * four + part, 8, buffer);
+            copy_word(table, seat, held, 4 * four + part, 8, buffer);
         }
     }
     for index in 4 * fours..whole {
-        copy_word(table, seat, pin, first, index, 8, buffer);
+        copy_word(table, seat, held, index, 8, buffer);
     }
     let rest = count % 8;
     if rest > 0 {
-        copy_word(table, seat, pin, first, whole, rest, buffer);
+        copy_word(table, seat, held, whole, rest, buffer);
     }
 }
 
@@ -230,35 +231,33 @@ pub fn copy_bytes<T: Tag, A: Allocator>(
 fn copy_lines<T: Tag, A: Allocator>(
     table: &RuleTable<T, A>,
     seat: &mut RuleSeat<T>,
-    pin: Pin,
-    first: usize,
+    held: PinAt,
     from: usize,
     buffer: &mut [u8],
 )
     requires seat { IsSeatAt table.now seat.old }
-    requires slot { IsSlotOf table.now pin.slot }
-    requires first { first ≡ field_at (room_of table.now) pin.slot DATA }
+    requires held { IsPinAt table.now held }
     requires within { from + 32 ≤ room_of table.now }
     requires space { 8 * from + 256 ≤ length buffer.old }
-    requires holds { IsSomeAnd (record_in pin.name (view seat.old).records)
-        (λ r. (r.slot ≡ pin.slot) × IsReadable (room_of table.now) r
+    requires holds { IsSomeAnd (record_in held.pin.name (view seat.old).records)
+        (λ r. (r.slot ≡ held.pin.slot) × IsReadable (room_of table.now) r
         × (8 * from + 256 ≤ length r.entry.value)) }
     ensures seat { IsSameSeat seat.old seat.new }
     ensures view { view seat.new ≡ view seat.old }
-    ensures bytes { IfSome (record_in pin.name (view seat.old).records)
+    ensures bytes { IfSome (record_in held.pin.name (view seat.old).records)
         (λ r. buffer.new ≡ put_in (8 * from) 256 r.entry.value buffer.old) }
     ensures seeks { Seeks table.now seat.old seat.new }
     ensures steps { MakesAtMost 32 seat.old seat.new }
 {
     // The compiler leaves a loop of this length as it is.
-    copy_turn(table, seat, pin, first, from, buffer);
-    copy_turn(table, seat, pin, first, from + 1, buffer);
-    copy_turn(table, seat, pin, first, from + 2, buffer);
-    copy_turn(table, seat, pin, first, from + 3, buffer);
-    copy_turn(table, seat, pin, first, from + 4, buffer);
-    copy_turn(table, seat, pin, first, from + 5, buffer);
-    copy_turn(table, seat, pin, first, from + 6, buffer);
-    copy_turn(table, seat, pin, first, from + 7, buffer);
+    copy_turn(table, seat, held, from, buffer);
+    copy_turn(table, seat, held, from + 1, buffer);
+    copy_turn(table, seat, held, from + 2, buffer);
+    copy_turn(table, seat, held, from + 3, buffer);
+    copy_turn(table, seat, held, from + 4, buffer);
+    copy_turn(table, seat, held, from + 5, buffer);
+    copy_turn(table, seat, held, from + 6, buffer);
+    copy_turn(table, seat, held, from + 7, buffer);
 }
 
 /// Copies four words of the value, the first by its index and each eight words behind the one
@@ -267,30 +266,28 @@ fn copy_lines<T: Tag, A: Allocator>(
 fn copy_turn<T: Tag, A: Allocator>(
     table: &RuleTable<T, A>,
     seat: &mut RuleSeat<T>,
-    pin: Pin,
-    first: usize,
+    held: PinAt,
     at: usize,
     buffer: &mut [u8],
 )
     requires seat { IsSeatAt table.now seat.old }
-    requires slot { IsSlotOf table.now pin.slot }
-    requires first { first ≡ field_at (room_of table.now) pin.slot DATA }
+    requires held { IsPinAt table.now held }
     requires within { at + 24 < room_of table.now }
     requires space { 8 * (at + 24) + 8 ≤ length buffer.old }
-    requires holds { IsSomeAnd (record_in pin.name (view seat.old).records)
-        (λ r. (r.slot ≡ pin.slot) × IsReadable (room_of table.now) r
+    requires holds { IsSomeAnd (record_in held.pin.name (view seat.old).records)
+        (λ r. (r.slot ≡ held.pin.slot) × IsReadable (room_of table.now) r
         × (8 * (at + 24) + 8 ≤ length r.entry.value)) }
     ensures seat { IsSameSeat seat.old seat.new }
     ensures view { view seat.new ≡ view seat.old }
-    ensures bytes { IfSome (record_in pin.name (view seat.old).records)
+    ensures bytes { IfSome (record_in held.pin.name (view seat.old).records)
         (λ r. buffer.new ≡ put_turn at r.entry.value buffer.old) }
     ensures seeks { Seeks table.now seat.old seat.new }
     ensures steps { MakesAtMost 4 seat.old seat.new }
 {
-    copy_word(table, seat, pin, first, at, 8, buffer);
-    copy_word(table, seat, pin, first, at + 8, 8, buffer);
-    copy_word(table, seat, pin, first, at + 16, 8, buffer);
-    copy_word(table, seat, pin, first, at + 24, 8, buffer);
+    copy_word(table, seat, held, at, 8, buffer);
+    copy_word(table, seat, held, at + 8, 8, buffer);
+    copy_word(table, seat, held, at + 16, 8, buffer);
+    copy_word(table, seat, held, at + 24, 8, buffer);
 }
 
 /// Copies the first bytes of a word of the value, by its index, to their place in a buffer.
@@ -298,30 +295,28 @@ fn copy_turn<T: Tag, A: Allocator>(
 fn copy_word<T: Tag, A: Allocator>(
     table: &RuleTable<T, A>,
     seat: &mut RuleSeat<T>,
-    pin: Pin,
-    first: usize,
+    held: PinAt,
     index: usize,
     count: usize,
     buffer: &mut [u8],
 )
     requires seat { IsSeatAt table.now seat.old }
-    requires slot { IsSlotOf table.now pin.slot }
-    requires first { first ≡ field_at (room_of table.now) pin.slot DATA }
+    requires held { IsPinAt table.now held }
     requires within { index < room_of table.now }
     requires some { 0 < count }
     requires few { count ≤ 8 }
     requires space { 8 * index + count ≤ length buffer.old }
-    requires holds { IsSomeAnd (record_in pin.name (view seat.old).records)
-        (λ r. (r.slot ≡ pin.slot) × IsReadable (room_of table.now) r
+    requires holds { IsSomeAnd (record_in held.pin.name (view seat.old).records)
+        (λ r. (r.slot ≡ held.pin.slot) × IsReadable (room_of table.now) r
         × (8 * index + count ≤ length r.entry.value)) }
     ensures seat { IsSameSeat seat.old seat.new }
     ensures view { view seat.new ≡ view seat.old }
-    ensures bytes { IfSome (record_in pin.name (view seat.old).records)
+    ensures bytes { IfSome (record_in held.pin.name (view seat.old).records)
         (λ r. buffer.new ≡ put_in (8 * index) count r.entry.value buffer.old) }
     ensures seeks { Seeks table.now seat.old seat.new }
     ensures steps { MakesAtMost 1 seat.old seat.new }
 {
-    let word = read_word(table, seat, pin, first, index);
+    let word = read_word(table, seat, held, index);
     put(buffer, 8 * index, count, word);
 }
 
@@ -329,23 +324,22 @@ fn copy_word<T: Tag, A: Allocator>(
 fn read_word<T: Tag, A: Allocator>(
     table: &RuleTable<T, A>,
     seat: &mut RuleSeat<T>,
-    pin: Pin,
-    first: usize,
+    held: PinAt,
     index: usize,
 ) -> u64
     requires seat { IsSeatAt table.now seat.old }
-    requires slot { IsSlotOf table.now pin.slot }
-    requires first { first ≡ field_at (room_of table.now) pin.slot DATA }
+    requires held { IsPinAt table.now held }
     requires within { index < room_of table.now }
-    requires holds { HasOn pin.slot pin.name (view seat.old) }
+    requires holds { HasOn held.pin.slot held.pin.name (view seat.old) }
     ensures seat { IsSameSeat seat.old seat.new }
     ensures view { view seat.new ≡ view seat.old }
-    ensures word { IfSome (record_in pin.name (view seat.old).records)
+    ensures word { IfSome (record_in held.pin.name (view seat.old).records)
         (λ r. 8 * index < length r.entry.value → result ≡ payload_word r.entry.value index) }
     ensures seeks { Seeks table.now seat.old seat.new }
     ensures steps { MakesAtMost 1 seat.old seat.new }
 {
-    table.read_at(seat, pin.slot, first, PAYLOAD + index, pin.name)
+    let (slot, data) = (held.pin.slot, held.data);
+    table.read_at(seat, SlotAt { slot, data }, PAYLOAD + index, held.pin.name)
 }
 
 /// Puts the first bytes of a word into a buffer, the lowest first.

@@ -1,27 +1,25 @@
 //! References that are given back.
-ghost use Rattle.std.specs.Prelude.{◌≡◌, ◌+◌, ◌^◌, ◌<◌, ◌≤◌, true, false, ◌&&◌, ◌||◌, ◌==◌, not, None, IfSome, IfNone, IsSomeAnd, ℕ};
+ghost use Rattle.std.specs.Prelude.{◌≡◌, ◌+◌, ◌^◌, ◌≤◌, true, false, ◌&&◌, ◌||◌, ◌==◌, not, None, IfSome, IfNone, IsSomeAnd, ℕ};
 ghost use Rattle.hcc_word.specs.declared.layout.TheConstants.{CONSTRUCTION_WORD};
 ghost use Rattle.hcc_word.specs.Word.{is_visible};
 ghost use Rattle.hcc_core.specs.Outcomes.{dropped};
-ghost use Rattle.hcc_rule.specs.declared.layout.TheConstants.{DATA};
-ghost use Rattle.hcc_rule.specs.Callers.{room_of, IsSeatAt, IsSlotOf, slots_of};
+ghost use Rattle.hcc_rule.specs.Callers.{room_of, IsSeatAt, IsSlotOf, slots_of, IsSlotAt};
 ghost use Rattle.hcc_rule.specs.Addresses.{address_of_meta};
 ghost use Rattle.hcc_rule.specs.Between.{MayFree};
 ghost use Rattle.hcc_rule.specs.Seats.{IsSameSeat, view, SeatOf, atomic};
 ghost use Rattle.hcc_rule.specs.Views.{is_called};
 ghost use Rattle.hcc_rule.specs.Records.{record_in};
-ghost use Rattle.hcc_rule.specs.Words.{field_at};
 ghost use Rattle.hcc_table.specs.Efforts.{Lost};
 ghost use Rattle.hcc_table.specs.Freed.{GivesOnce, IsFreed, IsLeft, IsLeftBy, TakesByWhereDue, TriedWhereDue, is_due};
-ghost use Rattle.hcc_table.specs.Pins.{IsPinned, erases, is_useful};
+ghost use Rattle.hcc_table.specs.Pins.{IsPinned, erases, is_useful, IsPinAt};
 ghost use Rattle.hcc_table.specs.Searched.{Searched};
 ghost use Rattle.hcc_table.specs.Steps.{Among, MakesAtMost, freeing};
 
 use crate::efforts::Effort;
 use crate::freeing::try_free;
-use crate::pins::{IfLast, Pin, Use};
+use crate::pins::{IfLast, Pin, PinAt, Use};
 use crate::words::{has_entry, is_shown};
-use hcc_rule::{RuleSeat, RuleTable, Tag};
+use hcc_rule::{RuleSeat, RuleTable, SlotAt, Tag};
 use hcc_word::{given_back, refs, released};
 use std::alloc::Allocator;
 
@@ -71,10 +69,11 @@ pub fn release<T: Tag, A: Allocator>(
     ensures steps { MakesAtMost (freeing (slots_of table.now) + 1) seat.old seat.new }
 {
     let used = as_use.is_use(pin.counting);
-    let first = table.data_of(pin.slot);
-    let left = let_go(table, seat, pin.slot, first, 1, pin.name, used);
+    let (slot, data) = (pin.slot, table.data_of(pin.slot));
+    let at = SlotAt { slot, data };
+    let left = let_go(table, seat, at, 1, pin.name, used);
     if is_free_to_go(left, last.erases()) {
-        try_free(table, seat, pin.slot, first, left, None, effort)
+        try_free(table, seat, at, left, None, effort)
     } else {
         None
     }
@@ -90,20 +89,19 @@ pub fn release<T: Tag, A: Allocator>(
 pub fn give_back<T: Tag, A: Allocator>(
     table: &RuleTable<T, A>,
     seat: &mut RuleSeat<T>,
-    pin: Pin,
-    first: usize,
+    held: PinAt,
     as_use: Use,
 )
     requires seat { IsSeatAt table.now seat.old }
-    requires slot { IsSlotOf table.now pin.slot }
-    requires first { first ≡ field_at (room_of table.now) pin.slot DATA }
-    requires holds { IsPinned pin (view seat.old) }
+    requires held { IsPinAt table.now held }
+    requires holds { IsPinned held.pin (view seat.old) }
     ensures seat { IsSameSeat seat.old seat.new }
-    ensures gives { GivesOnce table.now pin (is_useful as_use) seat.old seat.new }
+    ensures gives { GivesOnce table.now held.pin (is_useful as_use) seat.old seat.new }
     ensures steps { MakesAtMost 1 seat.old seat.new }
 {
-    let used = as_use.is_use(pin.counting);
-    let_go(table, seat, pin.slot, first, 1, pin.name, used);
+    let used = as_use.is_use(held.pin.counting);
+    let (slot, data) = (held.pin.slot, held.data);
+    let_go(table, seat, SlotAt { slot, data }, 1, held.pin.name, used);
 }
 
 /// Gives the references of this name back, as uses or not, and returns the word that is left.
@@ -111,27 +109,25 @@ pub fn give_back<T: Tag, A: Allocator>(
 pub(crate) fn let_go<T: Tag, A: Allocator>(
     table: &RuleTable<T, A>,
     seat: &mut RuleSeat<T>,
-    slot: u32,
-    first: usize,
+    at: SlotAt,
     weight: u32,
     name: u64,
     used: bool,
 ) -> u64
     requires seat { IsSeatAt table.now seat.old }
-    requires slot { IsSlotOf table.now slot }
-    requires first { first ≡ field_at (room_of table.now) slot DATA }
+    requires at { IsSlotAt table.now at }
     requires holds { IsSomeAnd (record_in name (view seat.old).records)
-        (λ r. (r.slot ≡ slot) × (r.weight ≡ weight) × (used ≡ true → r.counting ≡ true)) }
+        (λ r. (r.slot ≡ at.slot) × (r.weight ≡ weight) × (used ≡ true → r.counting ≡ true)) }
     ensures seat { IsSameSeat seat.old seat.new }
-    ensures left { IsLeft (address_of_meta table.now slot) slot weight name used result
+    ensures left { IsLeft (address_of_meta table.now at.slot) at.slot weight name used result
         seat.old seat.new }
     ensures by { IsLeftBy table.now weight name used result seat.old seat.new }
     ensures steps { MakesAtMost 1 seat.old seat.new }
 {
     if used {
-        released(table.spend_at(seat, slot, first, weight, name), weight)
+        released(table.spend_at(seat, at, weight, name), weight)
     } else {
-        given_back(table.give_at(seat, slot, first, weight, name), weight)
+        given_back(table.give_at(seat, at, weight, name), weight)
     }
 }
 

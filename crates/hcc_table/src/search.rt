@@ -3,18 +3,17 @@ ghost use Rattle.std.specs.Prelude.{◌≡◌, ◌⊎◌, ◌+◌, ◌<◌, ◌�
 ghost use Rattle.hcc_word.specs.declared.layout.TheConstants.{HIT_BIT};
 ghost use Rattle.hcc_word.specs.Word.{is_counting, is_visible, hit_of};
 ghost use Rattle.hcc_core.specs.declared.limits.TheConstants.{REFERENCES_PER_CLIENT};
-ghost use Rattle.hcc_rule.specs.declared.layout.TheConstants.{DATA};
 ghost use Rattle.hcc_rule.specs.declared.view.Record.{Record};
-ghost use Rattle.hcc_rule.specs.Callers.{slots_of, room_of, IsEvent, IsSeatAt, IsSlotOf, HasOn};
+ghost use Rattle.hcc_rule.specs.Callers.{slots_of, room_of, IsEvent, IsSeatAt, IsSlotOf, HasOn, IsSlotAt};
 ghost use Rattle.hcc_rule.specs.Addresses.{address_of_meta};
 ghost use Rattle.hcc_rule.specs.Events.{mark_done};
 ghost use Rattle.hcc_rule.specs.Seats.{IsSameSeat, view, Makes, atomic};
 ghost use Rattle.hcc_rule.specs.ToldOwners.{with_met};
 ghost use Rattle.hcc_rule.specs.Views.{load_of};
 ghost use Rattle.hcc_rule.specs.Records.{record_in};
-ghost use Rattle.hcc_rule.specs.Words.{field_at, key_of};
+ghost use Rattle.hcc_rule.specs.Words.{key_of};
 ghost use Rattle.hcc_table.specs.Efforts.{Took};
-ghost use Rattle.hcc_table.specs.Pins.{pin_of};
+ghost use Rattle.hcc_table.specs.Pins.{pin_of, IsPinAt};
 ghost use Rattle.hcc_table.specs.Probed.{Catches, LoadsKey, LoadsOther, Looks, Passes, Searches};
 ghost use Rattle.hcc_table.specs.Searched.{Sought, IsFound, IsMissed, Buried};
 ghost use Rattle.hcc_table.specs.Seeking.{Seeks};
@@ -22,22 +21,13 @@ ghost use Rattle.hcc_table.specs.Steps.{AddsUnmarked, Among, MakesAtMost, MakesF
 
 use crate::acquire::reach;
 use crate::efforts::Effort;
-use crate::pins::Pin;
+use crate::pins::{Pin, PinAt};
 use crate::walk::Walk;
 use crate::words::{has_entry, is_counting, is_shown};
 use hcc_rule::layout::{KEY0, KEY1};
-use hcc_rule::{Key, RuleSeat, RuleTable, Tag};
+use hcc_rule::{Key, RuleSeat, RuleTable, SlotAt, Tag};
 use hcc_word::hit;
 use std::alloc::Allocator;
-
-/// What a search found.
-#[derive(Clone, Copy, Debug, PartialEq, Eq)]
-pub struct Found {
-    /// The reference on the entry.
-    pub pin: Pin,
-    /// The address of the first data word of its slot, for those who read the entry next.
-    pub first: usize,
-}
 
 /// Finds a visible entry of the key, and acquires a reference on it under this name, which the
 /// client doesn't hold; it has room for one more. With `marks` the entry's hit bit is set. Each
@@ -67,7 +57,7 @@ pub fn find<T: Tag, A: Allocator>(
     name: u64,
     marks: bool,
     effort: &mut Effort,
-) -> Option<Found>
+) -> Option<PinAt>
     requires seat { IsSeatAt table.now seat.old }
     requires fresh { record_in name (view seat.old).records ≡ None }
     requires load { load_of (view seat.old).records + 1 ≤ REFERENCES_PER_CLIENT }
@@ -75,8 +65,7 @@ pub fn find<T: Tag, A: Allocator>(
     ensures effort { Took 1 (slots_of table.now) (slots_of table.now) effort.old effort.new }
     ensures pin { IfSome (pin_of result) (λ pin. (pin.slot < slots_of table.now)
         × (pin.name ≡ name)) }
-    ensures first { IfSome result (λ found.
-        found.first ≡ field_at (room_of table.now) found.pin.slot DATA) }
+    ensures held { IfSome result (λ held. IsPinAt table.now held) }
     ensures found { IfSome (pin_of result) (λ pin. (r : Record)
         × IsFound T.fits (room_of table.now) pin.slot name key (view seat.old) (view seat.new) r
         × (r.counting ≡ pin.counting)) }
@@ -95,8 +84,9 @@ pub fn find<T: Tag, A: Allocator>(
     let mut walk = Walk::begin(key, slots);
     // Most searches end at the first probe: before the loop it costs nothing of what others need.
     let home = walk.slot();
-    let first = table.data_of(home);
-    if let Some(found) = acquire_at(table, seat, home, first, key, name, effort) {
+    let data = table.data_of(home);
+    let at = SlotAt { slot: home, data };
+    if let Some(found) = acquire_at(table, seat, at, key, name, effort) {
         mark_if(table, seat, home, name, marks, found);
         effort.probes(1);
         let pin = Pin {
@@ -104,17 +94,18 @@ pub fn find<T: Tag, A: Allocator>(
             name,
             counting: is_counting(found),
         };
-        return Some(Found { pin, first });
+        return Some(PinAt { pin, data: at.data });
     }
-    if table.count_at(seat, home, first) == 0 {
+    if table.count_at(seat, at) == 0 {
         effort.probes(1);
         return None;
     }
     walk = walk.next();
     for probe in 1..slots {
         let slot = walk.slot();
-        let first = table.data_of(slot);
-        if let Some(found) = acquire_at(table, seat, slot, first, key, name, effort) {
+        let data = table.data_of(slot);
+        let at = SlotAt { slot, data };
+        if let Some(found) = acquire_at(table, seat, at, key, name, effort) {
             mark_if(table, seat, slot, name, marks, found);
             effort.probes(probe as u64 + 1);
             let pin = Pin {
@@ -122,9 +113,9 @@ pub fn find<T: Tag, A: Allocator>(
                 name,
                 counting: is_counting(found),
             };
-            return Some(Found { pin, first });
+            return Some(PinAt { pin, data: at.data });
         }
-        if table.count_at(seat, slot, first) == 0 {
+        if table.count_at(seat, at) == 0 {
             effort.probes(probe as u64 + 1);
             return None;
         }
@@ -139,46 +130,44 @@ pub fn find<T: Tag, A: Allocator>(
 pub(crate) fn acquire_at<T: Tag, A: Allocator>(
     table: &RuleTable<T, A>,
     seat: &mut RuleSeat<T>,
-    slot: u32,
-    first: usize,
+    at: SlotAt,
     key: Key,
     name: u64,
     effort: &mut Effort,
 ) -> Option<u64>
     requires seat { IsSeatAt table.now seat.old }
-    requires slot { IsSlotOf table.now slot }
-    requires first { first ≡ field_at (room_of table.now) slot DATA }
+    requires at { IsSlotAt table.now at }
     requires fresh { record_in name (view seat.old).records ≡ None }
     requires load { load_of (view seat.old).records + 1 ≤ REFERENCES_PER_CLIENT }
     ensures seat { IsSameSeat seat.old seat.new }
     ensures effort { Took 0 0 1 effort.old effort.new }
     ensures found { IfSome result (λ word. (r : Record)
-        × IsFound T.fits (room_of table.now) slot name key (view seat.old) (view seat.new) r
+        × IsFound T.fits (room_of table.now) at.slot name key (view seat.old) (view seat.new) r
         × (r.counting ≡ is_counting word)) }
     ensures missed { IfNone result (Sought (view seat.old) (view seat.new)
-        × Buried key (λ s. s ≡ slot) (view seat.old) (view seat.new)) }
+        × Buried key (λ s. s ≡ at.slot) (view seat.old) (view seat.new)) }
     ensures passes { IfNone result ((word : ℕ) × Passes T.fits table.now key name
-        (Looks table.now slot) slot 1 word effort.old effort.new seat.old seat.new) }
+        (Looks table.now at.slot) at.slot 1 word effort.old effort.new seat.old seat.new) }
     ensures catches { IfSome result (λ word. Catches T.fits table.now key name
-        (Looks table.now slot) slot 1 word effort.old effort.new seat.old seat.new) }
+        (Looks table.now at.slot) at.slot 1 word effort.old effort.new seat.old seat.new) }
     ensures acquired { IfSome result (λ word.
-        Among (atomic (address_of_meta table.now slot) 1 0 word) seat.old seat.new) }
+        Among (atomic (address_of_meta table.now at.slot) 1 0 word) seat.old seat.new) }
     ensures adds { AddsUnmarked seat.old seat.new }
     ensures steps { MakesAtMost 6 seat.old seat.new }
     ensures fewer { IfSome result (λ _. MakesAtMost 5 seat.old seat.new) }
 {
-    let seen = table.look_at(seat, slot, first);
+    let seen = table.look_at(seat, at);
     if !is_shown(seen) {
         return None;
     }
-    let found = reach(table, seat, slot, first, 1, name, effort);
+    let found = reach(table, seat, at, 1, name, effort);
     if !has_entry(found) {
         return None;
     }
-    if matches(table, seat, slot, first, key, name, found) {
+    if matches(table, seat, at, key, name, found) {
         return Some(found);
     }
-    table.give_at(seat, slot, first, 1, name);
+    table.give_at(seat, at, 1, name);
     None
 }
 
@@ -187,16 +176,14 @@ pub(crate) fn acquire_at<T: Tag, A: Allocator>(
 pub(crate) fn matches<T: Tag, A: Allocator>(
     table: &RuleTable<T, A>,
     seat: &mut RuleSeat<T>,
-    slot: u32,
-    first: usize,
+    at: SlotAt,
     key: Key,
     name: u64,
     found: u64,
 ) -> bool
     requires seat { IsSeatAt table.now seat.old }
-    requires slot { IsSlotOf table.now slot }
-    requires first { first ≡ field_at (room_of table.now) slot DATA }
-    requires holds { HasOn slot name (view seat.old) }
+    requires at { IsSlotAt table.now at }
+    requires holds { HasOn at.slot name (view seat.old) }
     ensures seat { IsSameSeat seat.old seat.new }
     ensures view { Sought (view seat.old) (view seat.new) }
     ensures shown { result ≡ true → is_visible found ≡ true }
@@ -206,14 +193,14 @@ pub(crate) fn matches<T: Tag, A: Allocator>(
         → IfSome (record_in name (view seat.old).records) (λ r. ¬ (key_of r.entry ≡ key)) }
     ensures met { result ≡ true → (view seat.new).met
         ≡ with_met (record_in name (view seat.old).records) (view seat.old).met }
-    ensures loads { result ≡ true → LoadsKey table.now key slot seat.old seat.new }
+    ensures loads { result ≡ true → LoadsKey table.now key at.slot seat.old seat.new }
     ensures differs { result ≡ false → is_visible found ≡ true
-        → LoadsOther table.now key slot seat.old seat.new }
+        → LoadsOther table.now key at.slot seat.old seat.new }
     ensures seeks { Seeks table.now seat.old seat.new }
     ensures adds { AddsUnmarked seat.old seat.new }
     ensures steps { MakesAtMost 2 seat.old seat.new }
 {
-    is_shown(found) && has_key(table, seat, slot, first, key, name)
+    is_shown(found) && has_key(table, seat, at, key, name)
 }
 
 /// Whether the entry that the record of this name is on has this key. Where the first halves differ
@@ -222,15 +209,13 @@ pub(crate) fn matches<T: Tag, A: Allocator>(
 fn has_key<T: Tag, A: Allocator>(
     table: &RuleTable<T, A>,
     seat: &mut RuleSeat<T>,
-    slot: u32,
-    first: usize,
+    at: SlotAt,
     key: Key,
     name: u64,
 ) -> bool
     requires seat { IsSeatAt table.now seat.old }
-    requires slot { IsSlotOf table.now slot }
-    requires first { first ≡ field_at (room_of table.now) slot DATA }
-    requires holds { HasOn slot name (view seat.old) }
+    requires at { IsSlotAt table.now at }
+    requires holds { HasOn at.slot name (view seat.old) }
     ensures seat { IsSameSeat seat.old seat.new }
     ensures view { Sought (view seat.old) (view seat.new) }
     ensures equal { result ≡ true
@@ -239,14 +224,13 @@ fn has_key<T: Tag, A: Allocator>(
         → IfSome (record_in name (view seat.old).records) (λ r. ¬ (key_of r.entry ≡ key)) }
     ensures met { result ≡ true → (view seat.new).met
         ≡ with_met (record_in name (view seat.old).records) (view seat.old).met }
-    ensures loads { result ≡ true → LoadsKey table.now key slot seat.old seat.new }
-    ensures differs { result ≡ false → LoadsOther table.now key slot seat.old seat.new }
+    ensures loads { result ≡ true → LoadsKey table.now key at.slot seat.old seat.new }
+    ensures differs { result ≡ false → LoadsOther table.now key at.slot seat.old seat.new }
     ensures seeks { Seeks table.now seat.old seat.new }
     ensures adds { AddsUnmarked seat.old seat.new }
     ensures steps { MakesAtMost 2 seat.old seat.new }
 {
-    table.read_at(seat, slot, first, KEY0, name) == key.w0
-        && table.read_at(seat, slot, first, KEY1, name) == key.w1
+    table.read_at(seat, at, KEY0, name) == key.w0 && table.read_at(seat, at, KEY1, name) == key.w1
 }
 
 /// Marks the entry that the record of this name is on, where that is asked for and the word that

@@ -1,20 +1,18 @@
 //! The clock's visit of a slot.
-ghost use Rattle.std.specs.Prelude.{◌≡◌, ◌+◌, ◌^◌, ◌<◌, ◌≤◌, [], true};
+ghost use Rattle.std.specs.Prelude.{◌≡◌, ◌+◌, ◌^◌, ◌≤◌, [], true};
 ghost use Rattle.hcc_word.specs.Changes.{IsClockable, clocked_word};
 ghost use Rattle.hcc_word.specs.Word.{is_shareable, refs_of};
-ghost use Rattle.hcc_rule.specs.declared.layout.TheConstants.{DATA};
-ghost use Rattle.hcc_rule.specs.Callers.{slots_of, room_of, IsSeatAt, IsSlotOf};
+ghost use Rattle.hcc_rule.specs.Callers.{slots_of, room_of, IsSeatAt, IsSlotOf, IsSlotAt};
 ghost use Rattle.hcc_rule.specs.Addresses.{address_of_meta};
 ghost use Rattle.hcc_rule.specs.Between.{MayFree};
 ghost use Rattle.hcc_rule.specs.Seats.{IsSameSeat, view};
-ghost use Rattle.hcc_rule.specs.Words.{field_at};
 ghost use Rattle.hcc_table.specs.Visited.{LostBy, Visited, CountedDown, Swept};
 ghost use Rattle.hcc_table.specs.Steps.{MakesAtMost, freeing};
 
 use crate::efforts::Effort;
 use crate::freeing::try_free;
 use crate::words::has_entry;
-use hcc_rule::{RuleSeat, RuleTable, Tag};
+use hcc_rule::{RuleSeat, RuleTable, SlotAt, Tag};
 use hcc_word::{clocked, hit, refs};
 use std::alloc::Allocator;
 
@@ -55,8 +53,9 @@ pub fn visit<T: Tag, A: Allocator>(
         (address_of_meta table.now slot) slot result seat.old seat.new }
     ensures steps { MakesAtMost (freeing (slots_of table.now) + 1) seat.old seat.new }
 {
-    let first = table.data_of(slot);
-    let word = table.look_at(seat, slot, first);
+    let data = table.data_of(slot);
+    let at = SlotAt { slot, data };
+    let word = table.look_at(seat, at);
     if !has_entry(word) {
         return ClockVisit::Passed;
     }
@@ -64,8 +63,8 @@ pub fn visit<T: Tag, A: Allocator>(
         return ClockVisit::Pinned;
     }
     match clocked(word) {
-        Some(next) => count_down(table, seat, slot, first, word, next, effort),
-        None => sweep(table, seat, slot, first, word, effort),
+        Some(next) => count_down(table, seat, at, word, next, effort),
+        None => sweep(table, seat, at, word, effort),
     }
 }
 
@@ -73,23 +72,21 @@ pub fn visit<T: Tag, A: Allocator>(
 fn count_down<T: Tag, A: Allocator>(
     table: &RuleTable<T, A>,
     seat: &mut RuleSeat<T>,
-    slot: u32,
-    first: usize,
+    at: SlotAt,
     word: u64,
     next: u64,
     effort: &mut Effort,
 ) -> ClockVisit
     requires seat { IsSeatAt table.now seat.old }
-    requires slot { IsSlotOf table.now slot }
-    requires first { first ≡ field_at (room_of table.now) slot DATA }
+    requires at { IsSlotAt table.now at }
     requires clockable { IsClockable word }
     requires clocked { next ≡ clocked_word word }
     ensures seat { IsSameSeat seat.old seat.new }
     ensures effort { LostBy result effort.old effort.new }
-    ensures visit { CountedDown (address_of_meta table.now slot) word result seat.old seat.new }
+    ensures visit { CountedDown (address_of_meta table.now at.slot) word result seat.old seat.new }
     ensures steps { MakesAtMost 1 seat.old seat.new }
 {
-    if table.clock_at(seat, slot, first, word, next) == word {
+    if table.clock_at(seat, at, word, next) == word {
         return ClockVisit::Counted;
     }
     effort.lose();
@@ -100,24 +97,22 @@ fn count_down<T: Tag, A: Allocator>(
 fn sweep<T: Tag, A: Allocator>(
     table: &RuleTable<T, A>,
     seat: &mut RuleSeat<T>,
-    slot: u32,
-    first: usize,
+    at: SlotAt,
     word: u64,
     effort: &mut Effort,
 ) -> ClockVisit
     requires seat { IsSeatAt table.now seat.old }
-    requires slot { IsSlotOf table.now slot }
-    requires first { first ≡ field_at (room_of table.now) slot DATA }
+    requires at { IsSlotAt table.now at }
     requires entry { is_shareable word ≡ true }
     requires unheld { refs_of word ≡ 0 }
     requires may { MayFree (view seat.old) }
     ensures seat { IsSameSeat seat.old seat.new }
     ensures effort { LostBy result effort.old effort.new }
     ensures visit { Swept T.fits (slots_of table.now) (room_of table.now)
-        (address_of_meta table.now slot) slot word result seat.old seat.new }
+        (address_of_meta table.now at.slot) at.slot word result seat.old seat.new }
     ensures steps { MakesAtMost (freeing (slots_of table.now)) seat.old seat.new }
 {
-    match try_free(table, seat, slot, first, word, None, effort) {
+    match try_free(table, seat, at, word, None, effort) {
         Some(charge) => ClockVisit::Freed {
             charge,
             hit: hit(word),

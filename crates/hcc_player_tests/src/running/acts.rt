@@ -14,8 +14,8 @@ ghost use Rattle.hcc_rule_tests.specs.Benches.{IsReady};
 
 use super::tape::Tape;
 use super::worker::{FIRST, HELD, KEPT, LIMIT, THIRD, Worker};
-use hcc_rule::Key;
 use hcc_rule::layout::{CHARGE, KEY0, KEY1};
+use hcc_rule::{Key, SlotAt};
 use hcc_word::layout::{INVISIBLE, VISIBLE};
 use hcc_word::{clocked, refs, state};
 use std::alloc::AllocError;
@@ -35,7 +35,8 @@ pub(super) fn comes_to_nothing(
     tape.add("enter 0")?;
     zero.table.charge(&mut zero.seat, 50);
     tape.add("charge 0 50")?;
-    zero.table.pass_at(&mut zero.seat, 3, zero.table.data_of(3));
+    let data = zero.table.data_of(3);
+    zero.table.pass_at(&mut zero.seat, SlotAt { slot: 3, data });
     tape.add("pass 0 3")?;
     zero.table.unpass(&mut zero.seat, 3);
     tape.add("unpass 0 3")?;
@@ -74,17 +75,19 @@ pub(super) fn uses(
     ensures ready { OnOk result (IsReady (view one.new.seat)) }
 {
     one.reaches(rt, tape, 2, 1)?;
-    let first = one.table.data_of(2);
-    let word = one.table.read_at(&mut one.seat, 2, first, KEY1, HELD);
+    let data = one.table.data_of(2);
+    let at = SlotAt { slot: 2, data };
+    let word = one.table.read_at(&mut one.seat, at, KEY1, HELD);
     assert!(rt; word == FIRST.w1, "slot 2 has another key");
     tape.add("read 1 4")?;
     one.table.mark(&mut one.seat, 2, HELD);
     tape.add("mark 1 4")?;
-    one.table.spend_at(&mut one.seat, 2, first, 1, HELD);
+    one.table.spend_at(&mut one.seat, at, 1, HELD);
     tape.add("use 1 4")?;
     one.reaches(rt, tape, 2, 3)?;
-    let first = one.table.data_of(2);
-    one.table.give_at(&mut one.seat, 2, first, 3, HELD);
+    let data = one.table.data_of(2);
+    let at = SlotAt { slot: 2, data };
+    one.table.give_at(&mut one.seat, at, 3, HELD);
     tape.add("give 1 4")
 }
 
@@ -96,8 +99,9 @@ pub(super) fn hides(zero: &mut Worker<'_>, tape: &mut Tape<'_>) -> Result<(), Al
 {
     zero.table.hide(&mut zero.seat, 2, KEPT);
     tape.add("hide 0 7")?;
-    let first = zero.table.data_of(2);
-    zero.table.give_at(&mut zero.seat, 2, first, 1, KEPT);
+    let data = zero.table.data_of(2);
+    let at = SlotAt { slot: 2, data };
+    zero.table.give_at(&mut zero.seat, at, 1, KEPT);
     tape.add("give 0 7")
 }
 
@@ -113,23 +117,27 @@ pub(super) fn frees(
     ensures zero { OnOk result (IsReady (view zero.new.seat)) }
     ensures one { OnOk result (IsReady (view one.new.seat)) }
 {
-    let seen = one.table.look_at(&mut one.seat, 2, one.table.data_of(2));
+    let data = one.table.data_of(2);
+    let seen = one.table.look_at(&mut one.seat, SlotAt { slot: 2, data });
     assert!(rt; state(seen) >= INVISIBLE, "slot 2 has no entry");
     tape.add("look 1 2")?;
     assert!(rt; refs(seen) == 0, "slot 2 is held");
-    let first = zero.table.data_of(2);
-    let found = zero.table.free_at(&mut zero.seat, 2, first, seen, None);
+    let data = zero.table.data_of(2);
+    let at = SlotAt { slot: 2, data };
+    let found = zero.table.free_at(&mut zero.seat, at, seen, None);
     assert!(rt; found == seen, "slot 2 was not taken");
     tape.add("free 0 2 -")?;
-    let first = one.table.data_of(2);
-    let stray = one.table.acquire_at(&mut one.seat, 2, first, 1, HELD);
+    let data = one.table.data_of(2);
+    let at = SlotAt { slot: 2, data };
+    let stray = one.table.acquire_at(&mut one.seat, at, 1, HELD);
     assert!(rt; state(stray) < INVISIBLE, "slot 2 has an entry");
     tape.add("acquire 1 2 1 4")?;
     let charge = taken_charge(rt, zero, 2, FIRST);
     zero.table.unpass(&mut zero.seat, 1);
     tape.add("unpass 0 1")?;
-    let first = zero.table.data_of(2);
-    zero.table.empty_at(&mut zero.seat, 2, first);
+    let data = zero.table.data_of(2);
+    let at = SlotAt { slot: 2, data };
+    zero.table.empty_at(&mut zero.seat, at);
     tape.add("empty 0")?;
     zero.table.return_slots(&mut zero.seat, 1);
     tape.add("slots 0")?;
@@ -155,16 +163,11 @@ fn taken_charge(rt: &impl Abort, worker: &mut Worker<'_>, slot: u32, key: Key) -
     }) [] (view worker.new.seat) }
     ensures some { 0 < result }
 {
-    let first = worker.table.data_of(slot);
-    let key0 = worker
-        .table
-        .read_own_at(&mut worker.seat, slot, first, KEY0);
-    let key1 = worker
-        .table
-        .read_own_at(&mut worker.seat, slot, first, KEY1);
-    let charge = worker
-        .table
-        .read_own_at(&mut worker.seat, slot, first, CHARGE);
+    let data = worker.table.data_of(slot);
+    let at = SlotAt { slot, data };
+    let key0 = worker.table.read_own_at(&mut worker.seat, at, KEY0);
+    let key1 = worker.table.read_own_at(&mut worker.seat, at, KEY1);
+    let charge = worker.table.read_own_at(&mut worker.seat, at, CHARGE);
     assert!(rt;
         key0 == key.w0 && key1 == key.w1,
         "slot {slot} has another key"
@@ -186,14 +189,16 @@ pub(super) fn counts_down(
     ensures zero { OnOk result (IsReady (view zero.new.seat)) }
     ensures one { OnOk result (IsReady (view one.new.seat)) }
 {
-    let first = one.table.data_of(3);
-    one.table.spend_at(&mut one.seat, 3, first, 1, KEPT);
+    let data = one.table.data_of(3);
+    let at = SlotAt { slot: 3, data };
+    one.table.spend_at(&mut one.seat, at, 1, KEPT);
     tape.add("use 1 7")?;
-    let first = zero.table.data_of(3);
-    let seen = zero.table.look_at(&mut zero.seat, 3, first);
+    let data = zero.table.data_of(3);
+    let at = SlotAt { slot: 3, data };
+    let seen = zero.table.look_at(&mut zero.seat, at);
     tape.add("look 0 3")?;
     let next = clocked(seen).expect(rt, "the clock passes over slot 3");
-    let found = zero.table.clock_at(&mut zero.seat, 3, first, seen, next);
+    let found = zero.table.clock_at(&mut zero.seat, at, seen, next);
     assert!(rt; found == seen, "slot 3 was not counted down");
     tape.add("clock 0 3")
 }
@@ -211,20 +216,20 @@ pub(super) fn erases(
     assert!(rt; state(word) == VISIBLE, "slot 3 is hidden");
     one.table.hide(&mut one.seat, 3, HELD);
     tape.add("hide 1 4")?;
-    let first = one.table.data_of(3);
-    let hidden = one.table.look_at(&mut one.seat, 3, first);
+    let data = one.table.data_of(3);
+    let at = SlotAt { slot: 3, data };
+    let hidden = one.table.look_at(&mut one.seat, at);
     tape.add("look 1 3")?;
     assert!(rt;
         state(hidden) >= INVISIBLE && refs(hidden) == 1,
         "slot 3 is held"
     );
-    let found = one
-        .table
-        .free_at(&mut one.seat, 3, first, hidden, Some(HELD));
+    let found = one.table.free_at(&mut one.seat, at, hidden, Some(HELD));
     assert!(rt; found == hidden, "slot 3 was not taken");
     tape.add("free 1 3 4")?;
     let charge = taken_charge(rt, one, 3, THIRD);
-    one.table.empty_at(&mut one.seat, 3, one.table.data_of(3));
+    let data = one.table.data_of(3);
+    one.table.empty_at(&mut one.seat, SlotAt { slot: 3, data });
     tape.add("empty 1")?;
     one.table.return_slots(&mut one.seat, 1);
     tape.add("slots 1")?;

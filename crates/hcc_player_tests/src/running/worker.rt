@@ -19,7 +19,7 @@ ghost use Rattle.hcc_rule_tests.specs.Benches.{IsBench, IsReady};
 use super::tape::Tape;
 use hcc_core::limits::STAMPS_PER_CLIENT;
 use hcc_rule::layout::{CHARGE, KEY0, KEY1, LENGTH, PAYLOAD, STAMP};
-use hcc_rule::{Draft, Key, RuleSeat, RuleTable, Tag};
+use hcc_rule::{Draft, Key, RuleSeat, RuleTable, SlotAt, Tag};
 use hcc_word::layout::{CONSTRUCTION, EMPTY, INVISIBLE, NEAR};
 use hcc_word::{releases, state};
 use std::alloc::{AllocError, Global};
@@ -76,9 +76,10 @@ impl Worker<'_> {
     pub(super) fn finds(&mut self, slot: u32) -> (u64, u64)
         requires slot { slot < 8 }
     {
-        let first = self.table.data_of(slot);
-        let word = self.table.look_at(&mut self.seat, slot, first);
-        (word, self.table.count_at(&mut self.seat, slot, first))
+        let data = self.table.data_of(slot);
+        let at = SlotAt { slot, data };
+        let word = self.table.look_at(&mut self.seat, at);
+        (word, self.table.count_at(&mut self.seat, at))
     }
 
     /// The usage, the occupancy and the standalone charges.
@@ -104,13 +105,12 @@ impl Worker<'_> {
         ensures counting { IfOk result (λ found. is_counting found ≡ true) }
     {
         let client = self.client;
-        let first = self.table.data_of(slot);
-        let seen = self.table.look_at(&mut self.seat, slot, first);
+        let data = self.table.data_of(slot);
+        let at = SlotAt { slot, data };
+        let seen = self.table.look_at(&mut self.seat, at);
         assert!(rt; state(seen) >= INVISIBLE, "slot {slot} has no entry");
         tape.add(&format!(in tape.alloc; "look {client} {slot}")?)?;
-        let found = self
-            .table
-            .acquire_at(&mut self.seat, slot, first, weight, HELD);
+        let found = self.table.acquire_at(&mut self.seat, at, weight, HELD);
         assert!(rt; state(found) >= INVISIBLE, "slot {slot} lost its entry");
         assert!(rt; releases(found) < NEAR, "slot {slot} is near its end");
         tape.add(&format!(in tape.alloc; "acquire {client} {slot} {weight} {HELD}")?)?;
@@ -174,9 +174,9 @@ impl Worker<'_> {
         ensures holds { (entry : Entry)
             × Carries new_client (first_records slot draft.name entry) (view self.new.seat) }
     {
-        let first = self.table.data_of(slot);
-        self.table
-            .show_at(&mut self.seat, slot, first, draft, &VALUE);
+        let data = self.table.data_of(slot);
+        let at = SlotAt { slot, data };
+        self.table.show_at(&mut self.seat, at, draft, &VALUE);
         self.shown += 1;
     }
 
@@ -203,8 +203,9 @@ impl Worker<'_> {
         tape.add(&format!(in tape.alloc; "enter {client}")?)?;
         self.table.charge(&mut self.seat, charge);
         tape.add(&format!(in tape.alloc; "charge {client} {charge}")?)?;
-        let first = self.table.data_of(slot);
-        let found = self.table.occupy_at(&mut self.seat, slot, first);
+        let data = self.table.data_of(slot);
+        let at = SlotAt { slot, data };
+        let found = self.table.occupy_at(&mut self.seat, at);
         assert!(rt; state(found) == EMPTY, "slot {slot} is not empty");
         tape.add(&format!(in tape.alloc; "occupy {client} {slot}")?)
     }
@@ -216,8 +217,9 @@ impl Worker<'_> {
         ensures ready { OnOk result (IsReady (view self.new.seat)) }
     {
         let client = self.client;
-        let first = self.table.data_of(slot);
-        let found = self.table.occupy_at(&mut self.seat, slot, first);
+        let data = self.table.data_of(slot);
+        let at = SlotAt { slot, data };
+        let found = self.table.occupy_at(&mut self.seat, at);
         assert!(rt; state(found) == CONSTRUCTION, "nobody builds slot {slot}");
         tape.add(&format!(in tape.alloc; "occupy {client} {slot}")?)
     }
@@ -234,8 +236,9 @@ impl Worker<'_> {
     {
         let client = self.client;
         if let Some(place) = passed {
-            let first = self.table.data_of(place);
-            self.table.pass_at(&mut self.seat, place, first);
+            let data = self.table.data_of(place);
+            let at = SlotAt { slot: place, data };
+            self.table.pass_at(&mut self.seat, at);
             tape.add(&format!(in tape.alloc; "pass {client} {place}")?)?;
         }
         Ok(())
@@ -294,9 +297,9 @@ impl Worker<'_> {
         ensures view { OnOk result (view self.new.seat ≡ after_write word (view self.old.seat)) }
     {
         let client = self.client;
-        let first = self.table.data_of(slot);
-        self.table
-            .write_at(&mut self.seat, slot, first, index, word);
+        let data = self.table.data_of(slot);
+        let at = SlotAt { slot, data };
+        self.table.write_at(&mut self.seat, at, index, word);
         tape.add(&format!(in tape.alloc; "write {client}")?)
     }
 }

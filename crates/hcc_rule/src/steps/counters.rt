@@ -1,15 +1,14 @@
 //! Steps on the counters of a meta word by compare-exchange: the clock's, and corrections.
 ghost use Rattle.std.specs.Prelude.{◌≡◌, ◌<◌, false, IsSomeAnd};
 ghost use Rattle.hcc_word.specs.Changes.{IsClockable, clocked_word, IsCorrectable, corrected_word};
-ghost use Rattle.hcc_rule.specs.declared.layout.TheConstants.{DATA};
-ghost use Rattle.hcc_rule.specs.Callers.{IsEvent, IsSeatAt};
+ghost use Rattle.hcc_rule.specs.Callers.{IsEvent, IsSeatAt, IsSlotAt};
 ghost use Rattle.hcc_rule.specs.Addresses.{address_of_meta};
 ghost use Rattle.hcc_rule.specs.Events.{clock_done, correct_done};
 ghost use Rattle.hcc_rule.specs.Seats.{IsSameSeat, Makes, view};
 ghost use Rattle.hcc_rule.specs.Records.{record_in};
 ghost use Rattle.hcc_rule.specs.ToldReferences.{after_clock, after_correct};
-ghost use Rattle.hcc_rule.specs.Words.{field_at};
 
+use crate::addresses::SlotAt;
 use crate::key::Tag;
 use crate::layout::META;
 use crate::table::{RuleSeat, RuleTable};
@@ -23,27 +22,19 @@ impl<T: Tag, A: Allocator> RuleTable<T, A> {
     /// compare-exchange was made, and the client knows what it knew. Else the step was a look.
     ///
     /// It allocates nothing. It costs one compare-exchange.
-    pub fn clock_at(
-        &self,
-        seat: &mut RuleSeat<T>,
-        slot: u32,
-        first: usize,
-        old: u64,
-        new: u64,
-    ) -> u64
+    pub fn clock_at(&self, seat: &mut RuleSeat<T>, at: SlotAt, old: u64, new: u64) -> u64
         requires seat { IsSeatAt self.now seat.old }
-        requires slot { slot < self.now.geometry.slots }
-        requires first { first ≡ field_at self.now.geometry.room slot DATA }
+        requires at { IsSlotAt self.now at }
         requires clockable { IsClockable old }
         requires clocked { new ≡ clocked_word old }
         ensures seat { IsSameSeat seat.old seat.new }
-        ensures view { view seat.new ≡ after_clock slot old result (view seat.old) }
-        ensures step { Makes (address_of_meta self.now slot) old new result seat.old seat.new }
-        ensures event { IsEvent self.now (clock_done slot old new result (view seat.old))
+        ensures view { view seat.new ≡ after_clock at.slot old result (view seat.old) }
+        ensures step { Makes (address_of_meta self.now at.slot) old new result seat.old seat.new }
+        ensures event { IsEvent self.now (clock_done at.slot old new result (view seat.old))
             seat.old seat.new }
     {
-        let address = self.head_address(slot, first, META);
-        self.compare_exchange::<Brand, _>(seat, address, old, new, slot)
+        let address = self.head_address(at, META);
+        self.compare_exchange::<Brand, _>(seat, address, old, new, at.slot)
     }
 
     /// Tries to subtract 2^29 from both counters of a slot near its end, on which the client has a

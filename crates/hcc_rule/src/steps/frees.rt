@@ -1,16 +1,15 @@
 //! The compare-exchange that takes an entry to free it.
-ghost use Rattle.std.specs.Prelude.{◌≡◌, ◌+◌, ◌-◌, ◌^◌, ◌<◌, ◌≤◌, [], true};
+ghost use Rattle.std.specs.Prelude.{◌≡◌, ◌+◌, ◌-◌, ◌^◌, ◌≤◌, [], true};
 ghost use Rattle.hcc_word.specs.declared.layout.TheConstants.{CONSTRUCTION_WORD};
 ghost use Rattle.hcc_word.specs.Word.{is_shareable};
 ghost use Rattle.hcc_core.specs.World.{owns_nothing};
-ghost use Rattle.hcc_rule.specs.declared.layout.TheConstants.{DATA};
-ghost use Rattle.hcc_rule.specs.Callers.{IsEvent, IsSeatAt};
+ghost use Rattle.hcc_rule.specs.Callers.{IsEvent, IsSeatAt, IsSlotAt};
 ghost use Rattle.hcc_rule.specs.Addresses.{address_of_meta};
 ghost use Rattle.hcc_rule.specs.Events.{free_done};
 ghost use Rattle.hcc_rule.specs.Seats.{IsSameSeat, Makes, view};
 ghost use Rattle.hcc_rule.specs.ToldOwners.{IsLast, Freed};
-ghost use Rattle.hcc_rule.specs.Words.{field_at};
 
+use crate::addresses::SlotAt;
 use crate::key::Tag;
 use crate::layout::META;
 use crate::table::{RuleSeat, RuleTable};
@@ -27,32 +26,24 @@ impl<T: Tag, A: Allocator> RuleTable<T, A> {
     ///
     /// The client owns no slot, has an empty trail, and has freed at most `2^49 - 2^32` that isn't
     /// settled. It allocates nothing. It costs one compare-exchange.
-    pub fn free_at(
-        &self,
-        seat: &mut RuleSeat<T>,
-        slot: u32,
-        first: usize,
-        old: u64,
-        name: Option<u64>,
-    ) -> u64
+    pub fn free_at(&self, seat: &mut RuleSeat<T>, at: SlotAt, old: u64, name: Option<u64>) -> u64
         requires seat { IsSeatAt self.now seat.old }
-        requires slot { slot < self.now.geometry.slots }
-        requires first { first ≡ field_at self.now.geometry.room slot DATA }
+        requires at { IsSlotAt self.now at }
         requires entry { is_shareable old ≡ true }
-        requires last { IsLast slot old name (view seat.old) }
+        requires last { IsLast at.slot old name (view seat.old) }
         requires idle { (owns_nothing (view seat.old).work.owned ≡ true)
             × ((view seat.old).work.trail ≡ []) }
         requires space { (view seat.old).work.freed + 2 ^ 32 ≤ 2 ^ 49 }
         ensures seat { IsSameSeat seat.old seat.new }
-        ensures view { Freed T.fits self.now.geometry.slots self.now.geometry.room slot old result
-            name (view seat.old) (view seat.new) }
-        ensures step { Makes (address_of_meta self.now slot) old CONSTRUCTION_WORD result
+        ensures view { Freed T.fits self.now.geometry.slots self.now.geometry.room at.slot old
+            result name (view seat.old) (view seat.new) }
+        ensures step { Makes (address_of_meta self.now at.slot) old CONSTRUCTION_WORD result
             seat.old seat.new }
-        ensures event { IsEvent self.now (free_done slot name old result
+        ensures event { IsEvent self.now (free_done at.slot name old result
             ((view seat.new).work.freed - (view seat.old).work.freed) (view seat.old))
             seat.old seat.new }
     {
-        let address = self.head_address(slot, first, META);
-        self.compare_exchange::<Brand, _>(seat, address, old, CONSTRUCTION_WORD, (slot, name))
+        let address = self.head_address(at, META);
+        self.compare_exchange::<Brand, _>(seat, address, old, CONSTRUCTION_WORD, (at.slot, name))
     }
 }

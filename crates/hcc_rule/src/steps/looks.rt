@@ -1,14 +1,13 @@
 //! Loads of meta words.
-ghost use Rattle.std.specs.Prelude.{◌≡◌, ◌<◌};
-ghost use Rattle.hcc_rule.specs.declared.layout.TheConstants.{DATA};
-ghost use Rattle.hcc_rule.specs.Callers.{plan_of, IsEvent, IsSeatAt};
+ghost use Rattle.std.specs.Prelude.{◌≡◌};
+ghost use Rattle.hcc_rule.specs.Callers.{plan_of, IsEvent, IsSeatAt, IsSlotAt};
 ghost use Rattle.hcc_rule.specs.Addresses.{address_of_meta};
 ghost use Rattle.hcc_rule.specs.Events.{look_done};
 ghost use Rattle.hcc_rule.specs.Rule.{setup_of};
 ghost use Rattle.hcc_rule.specs.Seats.{IsSameSeat, Makes, view};
 ghost use Rattle.hcc_rule.specs.Looked.{after_look, HoldsAll, Backs};
-ghost use Rattle.hcc_rule.specs.Words.{field_at};
 
+use crate::addresses::SlotAt;
 use crate::key::Tag;
 use crate::layout::META;
 use crate::table::{RuleSeat, RuleTable};
@@ -23,18 +22,17 @@ impl<T: Tag, A: Allocator> RuleTable<T, A> {
     /// one client, with just these.
     ///
     /// It allocates nothing. It costs one load.
-    pub fn look_at(&self, seat: &mut RuleSeat<T>, slot: u32, first: usize) -> u64
+    pub fn look_at(&self, seat: &mut RuleSeat<T>, at: SlotAt) -> u64
         requires seat { IsSeatAt self.now seat.old }
-        requires slot { slot < self.now.geometry.slots }
-        requires first { first ≡ field_at self.now.geometry.room slot DATA }
+        requires at { IsSlotAt self.now at }
         ensures seat { IsSameSeat seat.old seat.new }
-        ensures view { view seat.new ≡ after_look slot result (view seat.old) }
-        ensures backs { Backs slot result (view seat.old) }
-        ensures alone { HoldsAll (setup_of (plan_of self.now)) slot result (view seat.old) }
-        ensures step { Makes (address_of_meta self.now slot) 0 0 result seat.old seat.new }
-        ensures event { IsEvent self.now (look_done slot result (view seat.old))
+        ensures view { view seat.new ≡ after_look at.slot result (view seat.old) }
+        ensures backs { Backs at.slot result (view seat.old) }
+        ensures alone { HoldsAll (setup_of (plan_of self.now)) at.slot result (view seat.old) }
+        ensures step { Makes (address_of_meta self.now at.slot) 0 0 result seat.old seat.new }
+        ensures event { IsEvent self.now (look_done at.slot result (view seat.old))
             seat.old seat.new }
     {
-        self.load::<Brand, _>(seat, self.head_address(slot, first, META), slot)
+        self.load::<Brand, _>(seat, self.head_address(at, META), at.slot)
     }
 }

@@ -1,17 +1,16 @@
 //! Loads of data words.
 ghost use Rattle.std.specs.Prelude.{◌≡◌, ◌+◌, ◌<◌, Some, IfSome, IsSomeAnd, length, slice_index};
 ghost use Rattle.hcc_core.specs.Lawful.{owned_slot};
-ghost use Rattle.hcc_rule.specs.declared.layout.TheConstants.{DATA, PAYLOAD};
-ghost use Rattle.hcc_rule.specs.Callers.{IsEvent, IsNoEvent, IsSeatAt};
+ghost use Rattle.hcc_rule.specs.declared.layout.TheConstants.{PAYLOAD};
+ghost use Rattle.hcc_rule.specs.Callers.{HasOn, IsEvent, IsNoEvent, IsSeatAt, IsSlotAt};
 ghost use Rattle.hcc_rule.specs.Addresses.{address_of_data};
 ghost use Rattle.hcc_rule.specs.Events.{read_done};
 ghost use Rattle.hcc_rule.specs.Seats.{IsSameSeat, Makes, view};
 ghost use Rattle.hcc_rule.specs.ToldOwners.{IsDataWord, after_read};
 ghost use Rattle.hcc_rule.specs.Records.{record_in};
-ghost use Rattle.hcc_rule.specs.Words.{field_at};
 
+use crate::addresses::SlotAt;
 use crate::key::Tag;
-use crate::layout::DATA;
 use crate::table::{RuleSeat, RuleTable};
 use std::alloc::Allocator;
 use std::marker::Brand;
@@ -22,47 +21,38 @@ impl<T: Tag, A: Allocator> RuleTable<T, A> {
     ///
     /// The record is of that slot. Once the second key word of an entry was read that was got as
     /// Shown, its key joins the met keys. It allocates nothing. It costs one load.
-    pub fn read_at(
-        &self,
-        seat: &mut RuleSeat<T>,
-        slot: u32,
-        first: usize,
-        index: usize,
-        name: u64,
-    ) -> u64
+    pub fn read_at(&self, seat: &mut RuleSeat<T>, at: SlotAt, index: usize, name: u64) -> u64
         requires seat { IsSeatAt self.now seat.old }
-        requires slot { slot < self.now.geometry.slots }
-        requires first { first ≡ field_at self.now.geometry.room slot DATA }
+        requires at { IsSlotAt self.now at }
         requires within { index < PAYLOAD + self.now.geometry.room }
-        requires holds { IsSomeAnd (record_in name (view seat.old).records) (λ r. r.slot ≡ slot) }
+        requires holds { HasOn at.slot name (view seat.old) }
         ensures seat { IsSameSeat seat.old seat.new }
         ensures view { view seat.new ≡ after_read name index (view seat.old) }
         ensures word { IfSome (record_in name (view seat.old).records)
             (λ r. IsDataWord r.entry index result) }
-        ensures step { Makes (address_of_data self.now slot index) 0 0 result seat.old seat.new }
+        ensures step { Makes (address_of_data self.now at.slot index) 0 0 result seat.old seat.new }
         ensures event { IfSome (record_in name (view seat.old).records)
             (λ r. IsEvent self.now (read_done name r.entry (view seat.old)) seat.old seat.new) }
     {
-        self.load::<Brand, _>(seat, self.data_address(slot, first, index), (name, index))
+        self.load::<Brand, _>(seat, self.data_address(at, index), (name, index))
     }
 
     /// Loads a data word of the slot that the client owns: one that it wrote, or one of the entry
     /// that it took to free.
     ///
     /// It allocates nothing. It costs one load.
-    pub fn read_own_at(&self, seat: &mut RuleSeat<T>, slot: u32, first: usize, index: usize) -> u64
+    pub fn read_own_at(&self, seat: &mut RuleSeat<T>, at: SlotAt, index: usize) -> u64
         requires seat { IsSeatAt self.now seat.old }
-        requires slot { slot < self.now.geometry.slots }
-        requires first { first ≡ field_at self.now.geometry.room slot DATA }
+        requires at { IsSlotAt self.now at }
         requires within { index < PAYLOAD + self.now.geometry.room }
-        requires owned { owned_slot (view seat.old).work.owned ≡ Some slot }
+        requires owned { owned_slot (view seat.old).work.owned ≡ Some at.slot }
         ensures seat { IsSameSeat seat.old seat.new }
         ensures view { view seat.new ≡ view seat.old }
         ensures word { index < length (view seat.old).written
             → result ≡ slice_index (view seat.old).written index }
-        ensures step { Makes (address_of_data self.now slot index) 0 0 result seat.old seat.new }
+        ensures step { Makes (address_of_data self.now at.slot index) 0 0 result seat.old seat.new }
         ensures event { IsNoEvent seat.old seat.new }
     {
-        self.load::<Brand, _>(seat, self.data_address(slot, first, index), index)
+        self.load::<Brand, _>(seat, self.data_address(at, index), index)
     }
 }

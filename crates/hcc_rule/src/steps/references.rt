@@ -3,16 +3,15 @@ ghost use Rattle.std.specs.Prelude.{◌≡◌, ◌+◌, ◌*◌, ◌<◌, ◌≤
 ghost use Rattle.hcc_word.specs.declared.layout.TheConstants.{ONE_RELEASE};
 ghost use Rattle.hcc_word.specs.Word.{refs_of, is_shareable};
 ghost use Rattle.hcc_core.specs.declared.limits.TheConstants.{MOST_WEIGHT, REFERENCES_PER_CLIENT};
-ghost use Rattle.hcc_rule.specs.declared.layout.TheConstants.{DATA};
-ghost use Rattle.hcc_rule.specs.Callers.{IsEvent, IsSeatAt};
+ghost use Rattle.hcc_rule.specs.Callers.{IsEvent, IsSeatAt, IsSlotAt};
 ghost use Rattle.hcc_rule.specs.Addresses.{address_of_meta};
 ghost use Rattle.hcc_rule.specs.Events.{acquire_done, give_done, spend_done};
 ghost use Rattle.hcc_rule.specs.Seats.{IsSameSeat, Makes, view};
 ghost use Rattle.hcc_rule.specs.Views.{load_of};
 ghost use Rattle.hcc_rule.specs.Records.{record_in};
 ghost use Rattle.hcc_rule.specs.ToldReferences.{may_reach, Acquired, after_give};
-ghost use Rattle.hcc_rule.specs.Words.{field_at};
 
+use crate::addresses::SlotAt;
 use crate::key::Tag;
 use crate::layout::META;
 use crate::table::{RuleSeat, RuleTable};
@@ -34,30 +33,22 @@ impl<T: Tag, A: Allocator> RuleTable<T, A> {
     /// then.
     ///
     /// It allocates nothing. It costs one atomic add.
-    pub fn acquire_at(
-        &self,
-        seat: &mut RuleSeat<T>,
-        slot: u32,
-        first: usize,
-        weight: u32,
-        name: u64,
-    ) -> u64
+    pub fn acquire_at(&self, seat: &mut RuleSeat<T>, at: SlotAt, weight: u32, name: u64) -> u64
         requires seat { IsSeatAt self.now seat.old }
-        requires slot { slot < self.now.geometry.slots }
-        requires first { first ≡ field_at self.now.geometry.room slot DATA }
+        requires at { IsSlotAt self.now at }
         requires weight { (0 < weight) × (weight ≤ MOST_WEIGHT) }
         requires fresh { record_in name (view seat.old).records ≡ None }
-        requires reach { may_reach slot (view seat.old) ≡ true }
+        requires reach { may_reach at.slot (view seat.old) ≡ true }
         requires load { load_of (view seat.old).records + weight ≤ REFERENCES_PER_CLIENT }
         ensures seat { IsSameSeat seat.old seat.new }
-        ensures view { Acquired T.fits self.now.geometry.room slot weight name result
+        ensures view { Acquired T.fits self.now.geometry.room at.slot weight name result
             (view seat.old) (view seat.new) }
-        ensures step { Makes (address_of_meta self.now slot) weight 0 result seat.old seat.new }
-        ensures event { IsEvent self.now (acquire_done slot weight name result (view seat.old))
+        ensures step { Makes (address_of_meta self.now at.slot) weight 0 result seat.old seat.new }
+        ensures event { IsEvent self.now (acquire_done at.slot weight name result (view seat.old))
             seat.old seat.new }
     {
-        let address = self.head_address(slot, first, META);
-        self.fetch_add::<Brand, _>(seat, address, weight as u64, (slot, name))
+        let address = self.head_address(at, META);
+        self.fetch_add::<Brand, _>(seat, address, weight as u64, (at.slot, name))
     }
 
     /// Gives the references of this name back: their weight is subtracted from the acquires of the
@@ -67,29 +58,21 @@ impl<T: Tag, A: Allocator> RuleTable<T, A> {
     ///
     /// The word that is found is that of an entry, with at least these references. It allocates
     /// nothing. It costs one atomic subtraction.
-    pub fn give_at(
-        &self,
-        seat: &mut RuleSeat<T>,
-        slot: u32,
-        first: usize,
-        weight: u32,
-        name: u64,
-    ) -> u64
+    pub fn give_at(&self, seat: &mut RuleSeat<T>, at: SlotAt, weight: u32, name: u64) -> u64
         requires seat { IsSeatAt self.now seat.old }
-        requires slot { slot < self.now.geometry.slots }
-        requires first { first ≡ field_at self.now.geometry.room slot DATA }
+        requires at { IsSlotAt self.now at }
         requires holds { IsSomeAnd (record_in name (view seat.old).records)
-            (λ r. (r.slot ≡ slot) × (r.weight ≡ weight)) }
+            (λ r. (r.slot ≡ at.slot) × (r.weight ≡ weight)) }
         ensures seat { IsSameSeat seat.old seat.new }
-        ensures view { view seat.new ≡ after_give slot name result (view seat.old) }
+        ensures view { view seat.new ≡ after_give at.slot name result (view seat.old) }
         ensures entry { is_shareable result ≡ true }
         ensures references { weight ≤ refs_of result }
-        ensures step { Makes (address_of_meta self.now slot) weight 0 result seat.old seat.new }
+        ensures step { Makes (address_of_meta self.now at.slot) weight 0 result seat.old seat.new }
         ensures event { IsEvent self.now (give_done weight name result (view seat.old))
             seat.old seat.new }
     {
-        let address = self.head_address(slot, first, META);
-        self.fetch_sub::<Brand, _>(seat, address, weight as u64, (slot, name))
+        let address = self.head_address(at, META);
+        self.fetch_sub::<Brand, _>(seat, address, weight as u64, (at.slot, name))
     }
 
     /// Releases the references of this name as uses: their weight is added to the releases of the
@@ -99,33 +82,25 @@ impl<T: Tag, A: Allocator> RuleTable<T, A> {
     ///
     /// The word that is found is that of an entry, with at least these references. It allocates
     /// nothing. It costs one atomic add.
-    pub fn spend_at(
-        &self,
-        seat: &mut RuleSeat<T>,
-        slot: u32,
-        first: usize,
-        weight: u32,
-        name: u64,
-    ) -> u64
+    pub fn spend_at(&self, seat: &mut RuleSeat<T>, at: SlotAt, weight: u32, name: u64) -> u64
         requires seat { IsSeatAt self.now seat.old }
-        requires slot { slot < self.now.geometry.slots }
-        requires first { first ≡ field_at self.now.geometry.room slot DATA }
+        requires at { IsSlotAt self.now at }
         requires holds { IsSomeAnd (record_in name (view seat.old).records)
-            (λ r. (r.slot ≡ slot) × (r.weight ≡ weight) × (r.counting ≡ true)) }
+            (λ r. (r.slot ≡ at.slot) × (r.weight ≡ weight) × (r.counting ≡ true)) }
         ensures seat { IsSameSeat seat.old seat.new }
-        ensures view { view seat.new ≡ after_give slot name result (view seat.old) }
+        ensures view { view seat.new ≡ after_give at.slot name result (view seat.old) }
         ensures entry { is_shareable result ≡ true }
         ensures references { weight ≤ refs_of result }
-        ensures step { Makes (address_of_meta self.now slot) (weight * ONE_RELEASE) 0 result
+        ensures step { Makes (address_of_meta self.now at.slot) (weight * ONE_RELEASE) 0 result
             seat.old seat.new }
         ensures event { IsEvent self.now (spend_done weight name result (view seat.old))
             seat.old seat.new }
     {
         self.fetch_add::<Brand, _>(
             seat,
-            self.head_address(slot, first, META),
+            self.head_address(at, META),
             weight as u64 * ONE_RELEASE,
-            (slot, name),
+            (at.slot, name),
         )
     }
 }

@@ -1,13 +1,12 @@
 //! The store that shows an entry.
-ghost use Rattle.std.specs.Prelude.{◌≡◌, ◌<◌};
-ghost use Rattle.hcc_rule.specs.declared.layout.TheConstants.{DATA};
-ghost use Rattle.hcc_rule.specs.Callers.{plan_of, IsEvent, IsSeatAt};
+ghost use Rattle.std.specs.Prelude.{◌≡◌};
+ghost use Rattle.hcc_rule.specs.Callers.{plan_of, IsEvent, IsSeatAt, IsSlotAt};
 ghost use Rattle.hcc_rule.specs.Addresses.{address_of_meta};
 ghost use Rattle.hcc_rule.specs.Events.{show_done};
 ghost use Rattle.hcc_rule.specs.Seats.{IsSameSeat, Makes, view};
 ghost use Rattle.hcc_rule.specs.ToldOwners.{MayShow, after_show, first_word, made_of};
-ghost use Rattle.hcc_rule.specs.Words.{field_at};
 
+use crate::addresses::SlotAt;
 use crate::key::{Key, Tag};
 use crate::layout::META;
 use crate::table::{RuleSeat, RuleTable};
@@ -36,30 +35,22 @@ impl<T: Tag, A: Allocator> RuleTable<T, A> {
     /// The draft and the value say which entry it is; its words were all written. Its place and its
     /// charge were granted, and nothing is needed. The client's trail is the probes of the key
     /// before the slot, and becomes the entry's. It allocates nothing. It costs one atomic store.
-    pub fn show_at(
-        &self,
-        seat: &mut RuleSeat<T>,
-        slot: u32,
-        first: usize,
-        draft: Draft,
-        value: &[u8],
-    )
+    pub fn show_at(&self, seat: &mut RuleSeat<T>, at: SlotAt, draft: Draft, value: &[u8])
         requires seat { IsSeatAt self.now seat.old }
-        requires slot { slot < self.now.geometry.slots }
-        requires first { first ≡ field_at self.now.geometry.room slot DATA }
-        requires may { MayShow T.fits (plan_of self.now) slot draft.countdown draft.name
+        requires at { IsSlotAt self.now at }
+        requires may { MayShow T.fits (plan_of self.now) at.slot draft.countdown draft.name
             (made_of draft value.now) (view seat.old) }
         ensures seat { IsSameSeat seat.old seat.new }
-        ensures view { view seat.new ≡ after_show slot draft.name (made_of draft value.now)
+        ensures view { view seat.new ≡ after_show at.slot draft.name (made_of draft value.now)
             (view seat.old) }
-        ensures step { Makes (address_of_meta self.now slot) (first_word draft) 0 (first_word draft)
-            seat.old seat.new }
+        ensures step { Makes (address_of_meta self.now at.slot) (first_word draft) 0
+            (first_word draft) seat.old seat.new }
         ensures event { IsEvent self.now (show_done draft.countdown draft.name
             (made_of draft value.now) (view seat.old))
             seat.old seat.new }
     {
         let word = started(draft.countdown, draft.name.is_some());
-        let address = self.head_address(slot, first, META);
-        self.store::<Brand, _>(seat, address, word, (slot, draft, value));
+        let address = self.head_address(at, META);
+        self.store::<Brand, _>(seat, address, word, (at.slot, draft, value));
     }
 }

@@ -6,9 +6,9 @@ ghost use Rattle.hcc_rule.specs.Seats.{view};
 ghost use Rattle.hcc_shard_tests.specs.Handles.{HoldsOne, IsPin};
 
 use super::caller::{Caller, NAME};
-use hcc_rule::Key;
+use hcc_rule::{Key, SlotAt};
 use hcc_table::{
-    IfLast, Insertion, Pin, Use, again, find, free_taken, insert, pinned_charge, read_bytes,
+    IfLast, Insertion, Pin, PinAt, Use, again, find, free_taken, insert, pinned_charge, read_bytes,
     read_key, read_len, release, word,
 };
 use hcc_word::layout::INVISIBLE;
@@ -89,8 +89,9 @@ impl Caller<'_> {
         ensures holds { HoldsOne found (view self.new.seat) }
     {
         let key = read_key(self.table, &mut self.seat, found);
-        let first = self.table.data_of(found.slot);
-        let length = read_len(self.table, &mut self.seat, found, first);
+        let data = self.table.data_of(found.slot);
+        let held = PinAt { pin: found, data };
+        let length = read_len(self.table, &mut self.seat, held);
         let mut buffer = [UNREAD; 20];
         let count = read_bytes(self.table, &mut self.seat, found, &mut buffer);
         (key, length, count, buffer)
@@ -144,8 +145,9 @@ impl Caller<'_> {
         let seen = word(self.table, &mut self.seat, slot);
         assert!(rt; state(seen) >= INVISIBLE, "slot {slot} has no entry");
         assert!(rt; refs(seen) == 0, "slot {slot} is held");
-        let first = self.table.data_of(slot);
-        let found = self.table.free_at(&mut self.seat, slot, first, seen, None);
+        let data = self.table.data_of(slot);
+        let at = SlotAt { slot, data };
+        let found = self.table.free_at(&mut self.seat, at, seen, None);
         assert!(rt; found == seen, "slot {slot} was not taken");
         let charge = free_taken(self.table, &mut self.seat, slot);
         self.settle(1, charge);

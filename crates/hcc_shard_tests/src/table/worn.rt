@@ -4,6 +4,7 @@ ghost use Rattle.hcc_rule_tests.specs.Benches.{IsReady};
 ghost use Rattle.hcc_rule.specs.Seats.{view};
 
 use super::caller::{Caller, NAME};
+use hcc_rule::SlotAt;
 use hcc_word::layout::{INVISIBLE, NEAR};
 use hcc_word::{releases, state};
 use std::process::Abort;
@@ -28,12 +29,13 @@ impl Caller<'_> {
         ensures same { self.new.table ≡ self.old.table }
         ensures ready { IsReady (view self.new.seat) }
     {
-        let first = self.table.data_of(slot);
-        let seen = self.table.look_at(&mut self.seat, slot, first);
+        let data = self.table.data_of(slot);
+        let at = SlotAt { slot, data };
+        let seen = self.table.look_at(&mut self.seat, at);
         assert!(rt; state(seen) >= INVISIBLE, "slot {slot} has no entry");
-        let found = self.table.acquire_at(&mut self.seat, slot, first, 3, NAME);
+        let found = self.table.acquire_at(&mut self.seat, at, 3, NAME);
         assert!(rt; state(found) >= INVISIBLE, "slot {slot} lost its entry");
         assert!(rt; releases(found) < NEAR, "slot {slot} is near its end");
-        self.table.spend_at(&mut self.seat, slot, first, 3, NAME);
+        self.table.spend_at(&mut self.seat, at, 3, NAME);
     }
 }

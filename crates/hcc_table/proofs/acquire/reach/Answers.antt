@@ -8,13 +8,13 @@ use Rattle.hcc_table.proofs.acquire.reach.Goals as goal
 
 pub relieve-requires-clause-holds : goal.relieve-requires-clause-holds
 relieve-requires-clause-holds g c =
-    relieves g.T.Tag.fits _ c.args.slot c.args.weight c.args.name _ _ _
+    relieves g.T.Tag.fits _ c.args.at.slot c.args.weight c.args.name _ _ _
     c.acquire_at-found.ensures.view
     (sym c.if-has_entry.ensures) c.requires.fresh (sym c.if-not-is_counting.ensures)
 
 pub returns-then-not-is_counting-clause-view : goal.returns-then-not-is_counting-clause-view
 returns-then-not-is_counting-clause-view g c =
-    reached_of g.T.Tag.fits c.args.table.now.geometry.room c.args.slot c.args.weight c.args.name
+    reached_of g.T.Tag.fits c.args.table.now.geometry.room c.args.at.slot c.args.weight c.args.name
     c.acquire_at-found.result (view c.args.seat.now) (view c.acquire_at-found.new.seat)
     c.acquire_at-found.ensures.view (view c.relieve.new.seat) c.relieve.ensures.view
 
@@ -40,10 +40,10 @@ returns-then-not-is_counting-clause-acquires g c = record {
   where
     got : Atomic
     got =
-        atomic (address_of_meta c.args.table.now c.args.slot) c.args.weight 0
+        atomic (address_of_meta c.args.table.now c.args.at.slot) c.args.weight 0
         c.acquire_at-found.result
 
-    added : Makes (address_of_meta c.args.table.now c.args.slot) c.args.weight 0
+    added : Makes (address_of_meta c.args.table.now c.args.at.slot) c.args.weight 0
         c.acquire_at-found.result c.args.seat.now c.acquire_at-found.new.seat
     added = c.acquire_at-found.ensures.step
 

@@ -22,7 +22,7 @@ write_at-requires-clause-seat g c =
 pub write_at-requires-clause-owned : goal.write_at-requires-clause-owned
 write_at-requires-clause-owned g c =
     still_builds c.args.value.now c.loop-k.k c.args.seat.now c.loop-k.seat c.loop-k.invariant.0
-    c.args.slot c.requires.owned
+    c.args.at.slot c.requires.owned
 
 pub write_at-requires-clause-next : goal.write_at-requires-clause-next
 write_at-requires-clause-next g c = (

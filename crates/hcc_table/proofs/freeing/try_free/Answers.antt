@@ -5,19 +5,19 @@ use Rattle.hcc_table.proofs.freeing.try_free.Goals as goal
 
 pub returns-clause-taken : goal.returns-clause-taken
 returns-clause-taken g c =
-    taken_at g.T.Tag.fits c.args.table.now.geometry.slots c.args.table.now.geometry.room c.args.slot
-    c.free_at.result c.args.word c.free_taken_at.result c.args.name (view c.args.seat.now)
-    (view c.free_at.new.seat) (view c.free_taken_at.new.seat)
+    taken_at g.T.Tag.fits c.args.table.now.geometry.slots c.args.table.now.geometry.room
+    c.args.at.slot c.free_at.result c.args.word c.free_taken_at.result c.args.name
+    (view c.args.seat.now) (view c.free_at.new.seat) (view c.free_taken_at.new.seat)
     (eq-eqb c.free_at.result c.args.word c.if-free_at-word.false) c.free_at.ensures.view
     c.free_taken_at.ensures.charge c.free_taken_at.ensures.view
 
 pub returns-clause-freed : goal.returns-clause-freed
 returns-clause-freed g c =
-    freed g.T.Tag.fits c.args.table.now.geometry.slots c.args.table.now.geometry.room c.args.slot
+    freed g.T.Tag.fits c.args.table.now.geometry.slots c.args.table.now.geometry.room c.args.at.slot
     c.args.word c.free_taken_at.result c.args.name (view c.args.seat.now) (view
     c.free_taken_at.new.seat)
     (taken_at g.T.Tag.fits c.args.table.now.geometry.slots c.args.table.now.geometry.room
-    c.args.slot c.free_at.result c.args.word c.free_taken_at.result c.args.name (view
+    c.args.at.slot c.free_at.result c.args.word c.free_taken_at.result c.args.name (view
     c.args.seat.now)
     (view c.free_at.new.seat) (view c.free_taken_at.new.seat)
     (eq-eqb c.free_at.result c.args.word c.if-free_at-word.false) c.free_at.ensures.view
@@ -25,12 +25,13 @@ returns-clause-freed g c =
 
 pub returns-clause-by : goal.returns-clause-by
 returns-clause-by g c =
-    taken_by c.args.table.now c.args.slot c.args.word c.args.name c.args.seat.now c.free_at.new.seat
-    g.T.Tag.fits c.args.table.now.geometry.slots c.args.table.now.geometry.room c.free_at.result
-    c.free_taken_at.result c.free_taken_at.new.seat c.if-free_at-word.false c.free_at.ensures.view
-    c.free_taken_at.ensures.charge c.free_at.ensures.event c.free_taken_at.ensures.past
+    taken_by c.args.table.now c.args.at.slot c.args.word c.args.name c.args.seat.now
+    c.free_at.new.seat g.T.Tag.fits c.args.table.now.geometry.slots c.args.table.now.geometry.room
+    c.free_at.result c.free_taken_at.result c.free_taken_at.new.seat c.if-free_at-word.false
+    c.free_at.ensures.view c.free_taken_at.ensures.charge c.free_at.ensures.event
+    c.free_taken_at.ensures.past
 
 pub returns-then-free_at-word-clause-by : goal.returns-then-free_at-word-clause-by
 returns-then-free_at-word-clause-by g c =
-    lost_by c.args.table.now c.args.slot c.args.word c.args.name c.args.seat.now c.free_at.new.seat
-    c.free_at.result _ c.if-free_at-word.true c.free_at.ensures.event
+    lost_by c.args.table.now c.args.at.slot c.args.word c.args.name c.args.seat.now
+    c.free_at.new.seat c.free_at.result _ c.if-free_at-word.true c.free_at.ensures.event

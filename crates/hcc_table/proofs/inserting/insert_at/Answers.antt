@@ -73,19 +73,19 @@ returns-clause-view g c = (tried.0, tried.1, buried)
     tried : Tried (view c.args.seat.now) (view c.else-is_shown.seat)
         × ((view c.else-is_shown.seat).saw ≡ (view c.args.seat.now).saw + 1)
     tried =
-        tried_there c.args.slot c.occupy_at-found.result (view c.args.seat.now)
+        tried_there c.args.at.slot c.occupy_at-found.result (view c.args.seat.now)
         (view c.occupy_at-found.new.seat) (view c.else-is_shown.seat) (sym c.if-is_free.ensures)
         c.occupy_at-found.ensures.view kept
 
-    buried : Buried c.args.draft.key (λ s. s ≡ c.args.slot) (view c.args.seat.now)
+    buried : Buried c.args.draft.key (λ s. s ≡ c.args.at.slot) (view c.args.seat.now)
         (view c.else-is_shown.seat)
     buried = elim c.else-is_shown.branch [
       | else-is_shown-via-then-is_shown+else-meet w ↦ rw w.seat-is
-          (shown_there c.args.draft.key c.args.slot c.occupy_at-found.result (view c.args.seat.now)
-          (view c.occupy_at-found.new.seat) (view w.meet.new.seat) (sym c.if-is_free.ensures)
-          c.occupy_at-found.ensures.view (w.meet.ensures.dead w.if-meet.false))
+          (shown_there c.args.draft.key c.args.at.slot c.occupy_at-found.result
+          (view c.args.seat.now) (view c.occupy_at-found.new.seat) (view w.meet.new.seat)
+          (sym c.if-is_free.ensures) c.occupy_at-found.ensures.view (w.meet.ensures.dead w.if-meet.false))
       | else-is_shown-via-else-is_shown w ↦ rw w.seat-is
-          (unshown_there c.args.draft.key c.args.slot c.occupy_at-found.result (view
+          (unshown_there c.args.draft.key c.args.at.slot c.occupy_at-found.result (view
           c.args.seat.now)
           (view c.occupy_at-found.new.seat) (sym c.if-is_free.ensures) (sym w.if-is_shown.ensures)
           c.occupy_at-found.ensures.backs c.occupy_at-found.ensures.view)
@@ -101,7 +101,7 @@ returns-then-meet-clause-view g c = (
     tried : Tried (view c.args.seat.now) (view c.meet.new.seat)
         × ((view c.meet.new.seat).saw ≡ (view c.args.seat.now).saw + 1)
     tried =
-        tried_there c.args.slot c.occupy_at-found.result (view c.args.seat.now)
+        tried_there c.args.at.slot c.occupy_at-found.result (view c.args.seat.now)
         (view c.occupy_at-found.new.seat) (view c.meet.new.seat) (sym c.if-is_free.ensures)
         c.occupy_at-found.ensures.view c.meet.ensures.view
 
@@ -109,7 +109,7 @@ returns-then-meet-clause-view g c = (
     met = c.meet.ensures.met c.if-meet.true
 
     same : (view c.occupy_at-found.new.seat).met ≡ (view c.args.seat.now).met
-    same = occupy_meets c.args.slot c.occupy_at-found.result (view c.args.seat.now)
+    same = occupy_meets c.args.at.slot c.occupy_at-found.result (view c.args.seat.now)
         (view c.occupy_at-found.new.seat) (sym c.if-is_free.ensures) c.occupy_at-found.ensures.view
 
 pub returns-then-meet-clause-matched : goal.returns-then-meet-clause-matched
@@ -139,7 +139,7 @@ returns-then-is_free-clause-tries g c = (
     empty = empty;
     took = c.occupy_at-found.new.seat;
     takes = c.occupy_at-found.ensures.event;
-    same = occupied_client c.args.slot c.occupy_at-found.result (view c.args.seat.now)
+    same = occupied_client c.args.at.slot c.occupy_at-found.result (view c.args.seat.now)
         (view c.occupy_at-found.new.seat) empty c.occupy_at-found.ensures.view;
     made = made_of c.args.draft c.args.value.now;
     asked = refl;

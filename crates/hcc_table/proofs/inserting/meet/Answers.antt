@@ -15,7 +15,7 @@ use Rattle.hcc_table.proofs.inserting.meet.Goals as goal
 pub returns-then-not-has_entry-clause-view : goal.returns-then-not-has_entry-clause-view
 returns-then-not-has_entry-clause-view g c =
     (strayed
-    g.T.Tag.fits c.args.table.now.geometry.room c.args.slot c.args.weight c.args.name
+    g.T.Tag.fits c.args.table.now.geometry.room c.args.at.slot c.args.weight c.args.name
     c.reach-found.result c.args.key (view c.args.seat.now) (view c.args.seat.now)
     (view c.reach-found.new.seat) (searched_refl (view c.args.seat.now)) c.reach-found.ensures.view
     (sym c.if-not-has_entry.ensures)).0
@@ -23,7 +23,7 @@ returns-then-not-has_entry-clause-view g c =
 pub returns-then-not-has_entry-clause-dead : goal.returns-then-not-has_entry-clause-dead
 returns-then-not-has_entry-clause-dead g c = λ _.
     (strayed
-    g.T.Tag.fits c.args.table.now.geometry.room c.args.slot c.args.weight c.args.name
+    g.T.Tag.fits c.args.table.now.geometry.room c.args.at.slot c.args.weight c.args.name
     c.reach-found.result c.args.key (view c.args.seat.now) (view c.args.seat.now)
     (view c.reach-found.new.seat) (searched_refl (view c.args.seat.now)) c.reach-found.ensures.view
     (sym c.if-not-has_entry.ensures)).1
@@ -31,7 +31,7 @@ returns-then-not-has_entry-clause-dead g c = λ _.
 pub matches-requires-clause-holds : goal.matches-requires-clause-holds
 matches-requires-clause-holds g c =
     holds_slot
-    g.T.Tag.fits c.args.table.now.geometry.room c.args.slot c.args.weight c.args.name
+    g.T.Tag.fits c.args.table.now.geometry.room c.args.at.slot c.args.weight c.args.name
     c.reach-found.result c.args.key (view c.args.seat.now) (view c.args.seat.now)
     (view c.reach-found.new.seat) (searched_refl (view c.args.seat.now)) c.reach-found.ensures.view
     (sym c.if-not-has_entry.ensures) c.requires.fresh (view c.reach-found.new.seat)
@@ -40,7 +40,7 @@ matches-requires-clause-holds g c =
 pub let_go-requires-clause-holds : goal.let_go-requires-clause-holds
 let_go-requires-clause-holds g c =
     holds_used
-    g.T.Tag.fits c.args.table.now.geometry.room c.args.slot c.args.weight c.args.name
+    g.T.Tag.fits c.args.table.now.geometry.room c.args.at.slot c.args.weight c.args.name
     c.reach-found.result c.args.key (view c.args.seat.now) (view c.args.seat.now)
     (view c.reach-found.new.seat) (searched_refl (view c.args.seat.now)) c.reach-found.ensures.view
     (sym c.if-not-has_entry.ensures) c.requires.fresh (view c.matches.new.seat) c.is_counting.result
@@ -49,7 +49,7 @@ let_go-requires-clause-holds g c =
 pub returns-then-matches-clause-view : goal.returns-then-matches-clause-view
 returns-then-matches-clause-view g c =
     given_back
-    g.T.Tag.fits c.args.table.now.geometry.room c.args.slot c.args.weight c.args.name
+    g.T.Tag.fits c.args.table.now.geometry.room c.args.at.slot c.args.weight c.args.name
     c.reach-found.result c.args.key (view c.args.seat.now) (view c.args.seat.now)
     (view c.reach-found.new.seat) (searched_refl (view c.args.seat.now)) c.reach-found.ensures.view
     (sym c.if-not-has_entry.ensures) c.requires.fresh c.let_go.ensures.left.found
@@ -59,13 +59,13 @@ returns-then-matches-clause-view g c =
 pub returns-then-matches-clause-met : goal.returns-then-matches-clause-met
 returns-then-matches-clause-met g c = λ _.
     met_there
-    g.T.Tag.fits c.args.table.now.geometry.room c.args.slot c.args.weight c.args.name
+    g.T.Tag.fits c.args.table.now.geometry.room c.args.at.slot c.args.weight c.args.name
     c.reach-found.result c.args.key (view c.args.seat.now) (view c.args.seat.now)
     (view c.reach-found.new.seat) (searched_refl (view c.args.seat.now)) c.reach-found.ensures.view
     (sym c.if-not-has_entry.ensures) c.requires.fresh c.let_go.ensures.left.found
     (view c.matches.new.seat) (view c.let_go.new.seat) (c.matches.ensures.shown c.if-matches.true)
     (told_key
-    g.T.Tag.fits c.args.table.now.geometry.room c.args.slot c.args.weight c.args.name
+    g.T.Tag.fits c.args.table.now.geometry.room c.args.at.slot c.args.weight c.args.name
     c.reach-found.result c.args.key (view c.args.seat.now) (view c.args.seat.now)
     (view c.reach-found.new.seat) (searched_refl (view c.args.seat.now)) c.reach-found.ensures.view
     (sym c.if-not-has_entry.ensures) c.requires.fresh (λ e. key_of e ≡ c.args.key)
@@ -75,7 +75,7 @@ returns-then-matches-clause-met g c = λ _.
 pub give_at-requires-clause-holds : goal.give_at-requires-clause-holds
 give_at-requires-clause-holds g c =
     holds
-    g.T.Tag.fits c.args.table.now.geometry.room c.args.slot c.args.weight c.args.name
+    g.T.Tag.fits c.args.table.now.geometry.room c.args.at.slot c.args.weight c.args.name
     c.reach-found.result c.args.key (view c.args.seat.now) (view c.args.seat.now)
     (view c.reach-found.new.seat) (searched_refl (view c.args.seat.now)) c.reach-found.ensures.view
     (sym c.if-not-has_entry.ensures) c.requires.fresh (view c.matches.new.seat)
@@ -84,7 +84,7 @@ give_at-requires-clause-holds g c =
 pub returns-clause-view : goal.returns-clause-view
 returns-clause-view g c =
     given_back
-    g.T.Tag.fits c.args.table.now.geometry.room c.args.slot c.args.weight c.args.name
+    g.T.Tag.fits c.args.table.now.geometry.room c.args.at.slot c.args.weight c.args.name
     c.reach-found.result c.args.key (view c.args.seat.now) (view c.args.seat.now)
     (view c.reach-found.new.seat) (searched_refl (view c.args.seat.now)) c.reach-found.ensures.view
     (sym c.if-not-has_entry.ensures) c.requires.fresh c.give_at.result (view c.matches.new.seat)
@@ -93,13 +93,13 @@ returns-clause-view g c =
 pub returns-clause-dead : goal.returns-clause-dead
 returns-clause-dead g c = λ _.
     (missed_there
-    g.T.Tag.fits c.args.table.now.geometry.room c.args.slot c.args.weight c.args.name
+    g.T.Tag.fits c.args.table.now.geometry.room c.args.at.slot c.args.weight c.args.name
     c.reach-found.result c.args.key (view c.args.seat.now) (view c.args.seat.now)
     (view c.reach-found.new.seat) (searched_refl (view c.args.seat.now)) c.reach-found.ensures.view
     (sym c.if-not-has_entry.ensures) c.requires.fresh c.give_at.result (view c.matches.new.seat)
     (view c.give_at.new.seat) c.matches.ensures.view c.give_at.ensures.view
     (λ shown. told_key
-    g.T.Tag.fits c.args.table.now.geometry.room c.args.slot c.args.weight c.args.name
+    g.T.Tag.fits c.args.table.now.geometry.room c.args.at.slot c.args.weight c.args.name
     c.reach-found.result c.args.key (view c.args.seat.now) (view c.args.seat.now)
     (view c.reach-found.new.seat) (searched_refl (view c.args.seat.now)) c.reach-found.ensures.view
     (sym c.if-not-has_entry.ensures) c.requires.fresh (λ e. ¬ (key_of e ≡ c.args.key))
@@ -121,7 +121,8 @@ returns-then-matches-clause-matched g c _ = (
   where
     got : Atomic
     got =
-        atomic (address_of_meta c.args.table.now c.args.slot) c.args.weight 0 c.reach-found.result
+        atomic (address_of_meta c.args.table.now c.args.at.slot) c.args.weight 0
+        c.reach-found.result
 
     before : Adds c.args.seat.now c.matches.new.seat
     before =
@@ -142,7 +143,7 @@ returns-then-matches-clause-uses g c _ = (
       by = c.reach-found.ensures.by;
     };
     visible = c.matches.ensures.shown c.if-matches.true;
-    same = on_told g.T.Tag.fits c.args.table.now.geometry.room c.args.slot c.args.weight
+    same = on_told g.T.Tag.fits c.args.table.now.geometry.room c.args.at.slot c.args.weight
         c.args.name c.reach-found.result c.args.key (view c.args.seat.now) (view c.args.seat.now)
         (view c.reach-found.new.seat) (searched_refl (view c.args.seat.now))
         c.reach-found.ensures.view (sym c.if-not-has_entry.ensures) c.requires.fresh
@@ -192,12 +193,12 @@ returns-clause-passes g c _ = (
     seeks = seeks_then c.args.table.now c.reach-found.new.seat c.matches.new.seat c.give_at.new.seat
         c.matches.ensures.seeks (seeks_one c.args.table.now _ c.matches.new.seat c.give_at.new.seat
         c.give_at.ensures.event refl);
-    other = λ shown. on_told g.T.Tag.fits c.args.table.now.geometry.room c.args.slot c.args.weight
-        c.args.name c.reach-found.result c.args.key (view c.args.seat.now) (view c.args.seat.now)
-        (view c.reach-found.new.seat) (searched_refl (view c.args.seat.now))
+    other = λ shown. on_told g.T.Tag.fits c.args.table.now.geometry.room c.args.at.slot
+        c.args.weight c.args.name c.reach-found.result c.args.key (view c.args.seat.now)
+        (view c.args.seat.now) (view c.reach-found.new.seat) (searched_refl (view c.args.seat.now))
         c.reach-found.ensures.view (sym c.if-not-has_entry.ensures) c.requires.fresh
         (λ e. ¬ (key_of e ≡ c.args.key)) (c.matches.ensures.other c.if-matches.false shown);
-    loads = λ shown. other_then c.args.table.now c.args.key c.args.slot c.reach-found.new.seat
+    loads = λ shown. other_then c.args.table.now c.args.key c.args.at.slot c.reach-found.new.seat
         c.matches.new.seat c.give_at.new.seat (c.matches.ensures.differs c.if-matches.false shown)
         given;
   },

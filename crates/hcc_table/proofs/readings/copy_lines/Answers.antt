@@ -8,7 +8,7 @@ use Rattle.hcc_table.proofs.readings.copy_lines.Goals as goal
 
 pub returns-clause-bytes : goal.returns-clause-bytes
 returns-clause-bytes g c =
-    some_last (record_in c.args.pin.name (view c.args.seat.now).records) c.args.pin.slot
+    some_last (record_in c.args.held.pin.name (view c.args.seat.now).records) c.args.held.pin.slot
     c.args.table.now.geometry.room c.args.from c.args.buffer.now c.copy_turn-8.new.buffer
     c.requires.space c.requires.holds
     (puts_next (put_turn (c.args.from + 7)) c.copy_turn-8.ensures.view c.copy_turn-8.ensures.bytes

@@ -7,10 +7,10 @@ use Rattle.hcc_table.proofs.readings.read_word.Goals as goal
 
 pub returns-clause-word : goal.returns-clause-word
 returns-clause-word g c =
-    told_word (record_in c.args.pin.name (view c.args.seat.now).records) c.args.index
+    told_word (record_in c.args.held.pin.name (view c.args.seat.now).records) c.args.index
     c.read_at.result c.read_at.ensures.word
 
 pub returns-clause-seeks : goal.returns-clause-seeks
 returns-clause-seeks g c =
-    seeks_read c.args.table.now c.args.pin.name (λ r. r.slot ≡ c.args.pin.slot) c.args.seat.now
-    c.read_at.new.seat c.requires.holds c.read_at.ensures.event
+    seeks_read c.args.table.now c.args.held.pin.name (λ r. r.slot ≡ c.args.held.pin.slot)
+    c.args.seat.now c.read_at.new.seat c.requires.holds c.read_at.ensures.event

@@ -14,47 +14,47 @@ use Rattle.hcc_table.proofs.search.acquire_at.Goals as goal
 pub returns-then-not-is_shown-clause-missed : goal.returns-then-not-is_shown-clause-missed
 returns-then-not-is_shown-clause-missed g c =
     let told = c.look_at-seen.ensures in (
-      looked_at c.args.slot c.look_at-seen.result _ _ told.view,
-      buried_by_look c.args.key c.args.slot c.look_at-seen.result _ _ (sym
+      looked_at c.args.at.slot c.look_at-seen.result _ _ told.view,
+      buried_by_look c.args.key c.args.at.slot c.look_at-seen.result _ _ (sym
           c.if-not-is_shown.ensures)
           told.backs told.view,
     )
 
 pub returns-then-not-has_entry-clause-missed : goal.returns-then-not-has_entry-clause-missed
 returns-then-not-has_entry-clause-missed g c =
-    strayed g.T.Tag.fits c.args.table.now.geometry.room c.args.slot 1 c.args.name
+    strayed g.T.Tag.fits c.args.table.now.geometry.room c.args.at.slot 1 c.args.name
     c.reach-found.result c.args.key (view c.args.seat.now) (view c.look_at-seen.new.seat)
     (view c.reach-found.new.seat)
-    (looked_at c.args.slot c.look_at-seen.result _ _ c.look_at-seen.ensures.view)
+    (looked_at c.args.at.slot c.look_at-seen.result _ _ c.look_at-seen.ensures.view)
     c.reach-found.ensures.view
     (sym c.if-not-has_entry.ensures)
 
 pub matches-requires-clause-holds : goal.matches-requires-clause-holds
 matches-requires-clause-holds g c =
-    holds_slot g.T.Tag.fits c.args.table.now.geometry.room c.args.slot 1 c.args.name
+    holds_slot g.T.Tag.fits c.args.table.now.geometry.room c.args.at.slot 1 c.args.name
     c.reach-found.result c.args.key (view c.args.seat.now) (view c.look_at-seen.new.seat)
     (view c.reach-found.new.seat)
-    (looked_at c.args.slot c.look_at-seen.result _ _ c.look_at-seen.ensures.view)
+    (looked_at c.args.at.slot c.look_at-seen.result _ _ c.look_at-seen.ensures.view)
     c.reach-found.ensures.view (sym c.if-not-has_entry.ensures) c.requires.fresh
     (view c.reach-found.new.seat) (searched_refl (view c.reach-found.new.seat))
 
 pub returns-then-matches-clause-found : goal.returns-then-matches-clause-found
 returns-then-matches-clause-found g c = (
-  got_record g.T.Tag.fits c.args.table.now.geometry.room c.args.slot 1 c.args.name
+  got_record g.T.Tag.fits c.args.table.now.geometry.room c.args.at.slot 1 c.args.name
       c.reach-found.result c.args.key
       (view c.args.seat.now) (view c.look_at-seen.new.seat) (view c.reach-found.new.seat)
-      (looked_at c.args.slot c.look_at-seen.result _ _ c.look_at-seen.ensures.view)
+      (looked_at c.args.at.slot c.look_at-seen.result _ _ c.look_at-seen.ensures.view)
       c.reach-found.ensures.view (sym c.if-not-has_entry.ensures) c.requires.fresh,
-  found_there g.T.Tag.fits c.args.table.now.geometry.room c.args.slot 1 c.args.name
+  found_there g.T.Tag.fits c.args.table.now.geometry.room c.args.at.slot 1 c.args.name
       c.reach-found.result c.args.key
       (view c.args.seat.now) (view c.look_at-seen.new.seat) (view c.reach-found.new.seat)
-      (looked_at c.args.slot c.look_at-seen.result _ _ c.look_at-seen.ensures.view)
+      (looked_at c.args.at.slot c.look_at-seen.result _ _ c.look_at-seen.ensures.view)
       c.reach-found.ensures.view (sym c.if-not-has_entry.ensures) c.requires.fresh
       (view c.matches.new.seat) refl (c.matches.ensures.shown c.if-matches.true)
-      (told_key g.T.Tag.fits c.args.table.now.geometry.room c.args.slot 1 c.args.name
+      (told_key g.T.Tag.fits c.args.table.now.geometry.room c.args.at.slot 1 c.args.name
       c.reach-found.result c.args.key (view c.args.seat.now) (view c.look_at-seen.new.seat)
       (view c.reach-found.new.seat)
-      (looked_at c.args.slot c.look_at-seen.result _ _ c.look_at-seen.ensures.view)
+      (looked_at c.args.at.slot c.look_at-seen.result _ _ c.look_at-seen.ensures.view)
       c.reach-found.ensures.view (sym c.if-not-has_entry.ensures) c.requires.fresh
       (λ e. key_of e ≡ c.args.key) (c.matches.ensures.equal c.if-matches.true))
       c.matches.ensures.view (c.matches.ensures.met c.if-matches.true),
@@ -63,32 +63,33 @@ returns-then-matches-clause-found g c = (
 
 pub give_at-requires-clause-holds : goal.give_at-requires-clause-holds
 give_at-requires-clause-holds g c =
-    holds g.T.Tag.fits c.args.table.now.geometry.room c.args.slot 1 c.args.name c.reach-found.result
-    c.args.key (view c.args.seat.now) (view c.look_at-seen.new.seat) (view c.reach-found.new.seat)
-    (looked_at c.args.slot c.look_at-seen.result _ _ c.look_at-seen.ensures.view)
+    holds g.T.Tag.fits c.args.table.now.geometry.room c.args.at.slot 1 c.args.name
+    c.reach-found.result c.args.key (view c.args.seat.now) (view c.look_at-seen.new.seat)
+    (view c.reach-found.new.seat)
+    (looked_at c.args.at.slot c.look_at-seen.result _ _ c.look_at-seen.ensures.view)
     c.reach-found.ensures.view (sym c.if-not-has_entry.ensures) c.requires.fresh
     (view c.matches.new.seat) c.matches.ensures.view
 
 pub returns-clause-missed : goal.returns-clause-missed
 returns-clause-missed g c =
-    missed_there g.T.Tag.fits c.args.table.now.geometry.room c.args.slot 1 c.args.name
+    missed_there g.T.Tag.fits c.args.table.now.geometry.room c.args.at.slot 1 c.args.name
     c.reach-found.result c.args.key (view c.args.seat.now) (view c.look_at-seen.new.seat)
     (view c.reach-found.new.seat)
-    (looked_at c.args.slot c.look_at-seen.result _ _ c.look_at-seen.ensures.view)
+    (looked_at c.args.at.slot c.look_at-seen.result _ _ c.look_at-seen.ensures.view)
     c.reach-found.ensures.view (sym c.if-not-has_entry.ensures) c.requires.fresh
     c.give_at.result (view c.matches.new.seat) (view c.give_at.new.seat) c.matches.ensures.view
     c.give_at.ensures.view (λ shown. told_key g.T.Tag.fits c.args.table.now.geometry.room
-    c.args.slot 1
+    c.args.at.slot 1
     c.args.name c.reach-found.result c.args.key (view c.args.seat.now) (view
     c.look_at-seen.new.seat)
     (view c.reach-found.new.seat)
-    (looked_at c.args.slot c.look_at-seen.result _ _ c.look_at-seen.ensures.view)
+    (looked_at c.args.at.slot c.look_at-seen.result _ _ c.look_at-seen.ensures.view)
     c.reach-found.ensures.view (sym c.if-not-has_entry.ensures) c.requires.fresh
     (λ e. ¬ (key_of e ≡ c.args.key)) (c.matches.ensures.other c.if-matches.false shown))
 
 pub returns-then-matches-clause-acquired : goal.returns-then-matches-clause-acquired
 returns-then-matches-clause-acquired g c =
-    let one = atomic (address_of_meta c.args.table.now c.args.slot) 1 0 c.reach-found.result in
+    let one = atomic (address_of_meta c.args.table.now c.args.at.slot) 1 0 c.reach-found.result in
     among_after one c.args.seat.now c.look_at-seen.new.seat c.matches.new.seat
     (adds_one _ c.args.seat.now c.look_at-seen.new.seat c.look_at-seen.ensures.step.step)
     (among_then one c.look_at-seen.new.seat c.reach-found.new.seat c.matches.new.seat
@@ -200,14 +201,14 @@ returns-clause-passes g c = (
           c.matches.ensures.seeks (seeks_one c.args.table.now _ c.matches.new.seat
           c.give_at.new.seat
           c.give_at.ensures.event refl);
-      other = λ shown. on_told g.T.Tag.fits c.args.table.now.geometry.room c.args.slot 1
+      other = λ shown. on_told g.T.Tag.fits c.args.table.now.geometry.room c.args.at.slot 1
           c.args.name c.reach-found.result c.args.key (view c.args.seat.now)
           (view c.look_at-seen.new.seat) (view c.reach-found.new.seat)
-          (looked_at c.args.slot c.look_at-seen.result _ _ c.look_at-seen.ensures.view)
+          (looked_at c.args.at.slot c.look_at-seen.result _ _ c.look_at-seen.ensures.view)
           c.reach-found.ensures.view (sym c.if-not-has_entry.ensures) c.requires.fresh
           (λ e. ¬ (key_of e ≡ c.args.key))
           (c.matches.ensures.other c.if-matches.false shown);
-      loads = λ shown. other_then c.args.table.now c.args.key c.args.slot c.reach-found.new.seat
+      loads = λ shown. other_then c.args.table.now c.args.key c.args.at.slot c.reach-found.new.seat
           c.matches.new.seat c.give_at.new.seat
           (c.matches.ensures.differs c.if-matches.false shown) given;
     };
@@ -231,10 +232,10 @@ returns-then-matches-clause-catches g c = record {
     by = c.reach-found.ensures.by;
   };
   visible = c.matches.ensures.shown c.if-matches.true;
-  same = on_told g.T.Tag.fits c.args.table.now.geometry.room c.args.slot 1 c.args.name
+  same = on_told g.T.Tag.fits c.args.table.now.geometry.room c.args.at.slot 1 c.args.name
       c.reach-found.result c.args.key (view c.args.seat.now) (view c.look_at-seen.new.seat)
       (view c.reach-found.new.seat)
-      (looked_at c.args.slot c.look_at-seen.result _ _ c.look_at-seen.ensures.view)
+      (looked_at c.args.at.slot c.look_at-seen.result _ _ c.look_at-seen.ensures.view)
       c.reach-found.ensures.view (sym c.if-not-has_entry.ensures) c.requires.fresh
       (λ e. key_of e ≡ c.args.key) (c.matches.ensures.equal c.if-matches.true);
   loads = c.matches.ensures.loads c.if-matches.true;

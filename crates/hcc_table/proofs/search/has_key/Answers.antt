@@ -21,14 +21,14 @@ returns-then-read_at-key-clause-view g c =
 
 pub returns-then-read_at-key-clause-loads : goal.returns-then-read_at-key-clause-loads
 returns-then-read_at-key-clause-loads g c same =
-    loads_key c.args.table.now c.args.key c.args.slot c.read_at.result
+    loads_key c.args.table.now c.args.key c.args.at.slot c.read_at.result
     c.read_at-then-read_at-key.result c.args.seat.now c.read_at.new.seat
     c.read_at-then-read_at-key.new.seat c.read_at.ensures.step
     c.read_at-then-read_at-key.ensures.step c.if-read_at-key.true (eqb-true _ _ same)
 
 pub returns-then-read_at-key-clause-differs : goal.returns-then-read_at-key-clause-differs
 returns-then-read_at-key-clause-differs g c other =
-    second_other c.args.table.now c.args.key c.args.slot c.read_at.result
+    second_other c.args.table.now c.args.key c.args.at.slot c.read_at.result
     c.read_at-then-read_at-key.result c.args.seat.now c.read_at.new.seat
     c.read_at-then-read_at-key.new.seat c.read_at.ensures.step
     c.read_at-then-read_at-key.ensures.step (eqb-false _ _ other)
@@ -42,7 +42,7 @@ returns-then-read_at-key-clause-adds g c =
 
 pub returns-else-read_at-key-clause-differs : goal.returns-else-read_at-key-clause-differs
 returns-else-read_at-key-clause-differs g c _ =
-    first_other c.args.table.now c.args.key c.args.slot c.read_at.result c.args.seat.now
+    first_other c.args.table.now c.args.key c.args.at.slot c.read_at.result c.args.seat.now
     c.read_at.new.seat c.read_at.ensures.step c.if-read_at-key.false
 
 pub returns-else-read_at-key-clause-adds : goal.returns-else-read_at-key-clause-adds
@@ -53,17 +53,17 @@ pub returns-then-read_at-key-clause-seeks : goal.returns-then-read_at-key-clause
 returns-then-read_at-key-clause-seeks g c =
     seeks_then c.args.table.now c.args.seat.now c.read_at.new.seat
     c.read_at-then-read_at-key.new.seat
-    (seeks_read c.args.table.now c.args.name (λ r. r.slot ≡ c.args.slot) c.args.seat.now
+    (seeks_read c.args.table.now c.args.name (λ r. r.slot ≡ c.args.at.slot) c.args.seat.now
     c.read_at.new.seat
     c.requires.holds c.read_at.ensures.event)
-    (seeks_read c.args.table.now c.args.name (λ r. r.slot ≡ c.args.slot) c.read_at.new.seat
+    (seeks_read c.args.table.now c.args.name (λ r. r.slot ≡ c.args.at.slot) c.read_at.new.seat
     c.read_at-then-read_at-key.new.seat
-    (subst (λ rs. IsSomeAnd (record_in c.args.name rs) (λ r. r.slot ≡ c.args.slot))
+    (subst (λ rs. IsSomeAnd (record_in c.args.name rs) (λ r. r.slot ≡ c.args.at.slot))
     (sym (read_there c.args.name KEY0 (view c.args.seat.now) (view c.read_at.new.seat)
     c.read_at.ensures.view).records) c.requires.holds) c.read_at-then-read_at-key.ensures.event)
 
 pub returns-else-read_at-key-clause-seeks : goal.returns-else-read_at-key-clause-seeks
 returns-else-read_at-key-clause-seeks g c =
-    seeks_read c.args.table.now c.args.name (λ r. r.slot ≡ c.args.slot) c.args.seat.now
+    seeks_read c.args.table.now c.args.name (λ r. r.slot ≡ c.args.at.slot) c.args.seat.now
     c.read_at.new.seat
     c.requires.holds c.read_at.ensures.event

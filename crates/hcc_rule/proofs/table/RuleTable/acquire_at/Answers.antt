@@ -9,9 +9,9 @@ fetch_add-requires g c =
     let weight = c.requires.weight in (
       seat,
       c.head_address-address.ensures.inside,
-      rw (← planned.0) (acquire_step g.T.Tag.fits c.args.self.now.table.shared.key _ _ c.args.slot _
-          c.args.weight c.args.name _
-          (rw planned.0 c.requires.slot) (ap is_some seat.tagged)
+      rw (← planned.0) (acquire_step g.T.Tag.fits c.args.self.now.table.shared.key _ _
+          c.args.at.slot _ c.args.weight c.args.name _
+          (rw planned.0 c.requires.at.0) (ap is_some seat.tagged)
           (rw planned.0 c.head_address-address.ensures.value)
           weight.0 weight.1 c.ranges.name.fits
           c.requires.fresh c.requires.reach c.requires.load),

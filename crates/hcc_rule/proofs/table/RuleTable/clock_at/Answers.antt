@@ -8,9 +8,9 @@ compare_exchange-requires g c =
     let seat = c.requires.seat in (
       seat,
       c.head_address-address.ensures.inside,
-      clock_step g.T.Tag.fits c.args.self.now.table.shared.key _ _ c.args.slot _ c.args.old
+      clock_step g.T.Tag.fits c.args.self.now.table.shared.key _ _ c.args.at.slot _ c.args.old
           c.args.new _
-          (rw planned.0 c.requires.slot) (ap is_some seat.tagged)
+          (rw planned.0 c.requires.at.0) (ap is_some seat.tagged)
           (rw planned.0 c.head_address-address.ensures.value)
           c.requires.clockable c.requires.clocked,
     )

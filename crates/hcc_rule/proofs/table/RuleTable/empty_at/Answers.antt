@@ -8,7 +8,7 @@ store-requires g c =
     let seat = c.requires.seat in (
       seat,
       c.head_address.ensures.inside,
-      empty_step g.T.Tag.fits c.args.self.now.table.shared.key _ _ c.args.slot _ _
-          (rw planned.0 c.requires.slot) (ap is_some seat.tagged) c.requires.owned c.requires.back
+      empty_step g.T.Tag.fits c.args.self.now.table.shared.key _ _ c.args.at.slot _ _
+          (rw planned.0 c.requires.at.0) (ap is_some seat.tagged) c.requires.owned c.requires.back
           (rw planned.0 c.head_address.ensures.value),
     )

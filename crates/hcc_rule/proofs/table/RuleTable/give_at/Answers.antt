@@ -8,7 +8,7 @@ fetch_sub-requires g c =
     let seat = c.requires.seat in (
       seat,
       c.head_address-address.ensures.inside,
-      give_step g.T.Tag.fits c.args.self.now.table.shared.key _ _ c.args.slot c.args.name _
+      give_step g.T.Tag.fits c.args.self.now.table.shared.key _ _ c.args.at.slot c.args.name _
           c.args.weight _
           (ap is_some seat.tagged) c.ranges.name.fits (rw planned.0
           c.head_address-address.ensures.value)

@@ -9,8 +9,8 @@ load-requires g c =
     let seat = c.requires.seat in (
       seat,
       c.head_address.ensures.inside,
-      look_step g.T.Tag.fits c.args.self.now.table.shared.key _ _ c.args.slot _ _
+      look_step g.T.Tag.fits c.args.self.now.table.shared.key _ _ c.args.at.slot _ _
           (setup_of c.args.self.now.table.shared.key) refl
-          (rw planned.0 c.requires.slot) (ap is_some seat.tagged)
+          (rw planned.0 c.requires.at.0) (ap is_some seat.tagged)
           (rw planned.0 c.head_address.ensures.value),
     )

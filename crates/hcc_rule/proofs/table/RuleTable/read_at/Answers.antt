@@ -9,10 +9,10 @@ load-requires g c =
     let seat = c.requires.seat in (
       seat,
       c.data_address.ensures.inside,
-      read_step g.T.Tag.fits c.args.self.now.table.shared.key _ _ c.args.slot c.args.name
+      read_step g.T.Tag.fits c.args.self.now.table.shared.key _ _ c.args.at.slot c.args.name
           c.args.index _ _
           (ap is_some seat.tagged) c.ranges.name.fits
           (rw planned.0 (c.data_address.ensures.value
-          ∙ sym (data_field _ c.args.slot c.args.index)))
+          ∙ sym (data_field _ c.args.at.slot c.args.index)))
           c.requires.holds,
     )

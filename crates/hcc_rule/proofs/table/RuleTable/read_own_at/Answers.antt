@@ -9,8 +9,8 @@ load-requires g c =
     let seat = c.requires.seat in (
       seat,
       c.data_address.ensures.inside,
-      read_own_step g.T.Tag.fits c.args.self.now.table.shared.key _ _ c.args.slot c.args.index _ _
-          c.requires.owned (ap is_some seat.tagged)
-          (rw planned.0 (c.data_address.ensures.value ∙ sym (data_field _ c.args.slot
+      read_own_step g.T.Tag.fits c.args.self.now.table.shared.key _ _ c.args.at.slot c.args.index _
+          _ c.requires.owned (ap is_some seat.tagged)
+          (rw planned.0 (c.data_address.ensures.value ∙ sym (data_field _ c.args.at.slot
           c.args.index))),
     )

@@ -9,9 +9,9 @@ store-requires g c =
     let seat = c.requires.seat in (
       seat,
       c.head_address-address.ensures.inside,
-      show_step g.T.Tag.fits c.args.self.now.table.shared.key _ _ c.args.slot c.args.draft.countdown
-          _ _
-          c.args.draft.name (made_of c.args.draft c.args.value.now) _ (rw planned.0 c.requires.slot)
+      show_step g.T.Tag.fits c.args.self.now.table.shared.key _ _ c.args.at.slot
+          c.args.draft.countdown _ _
+          c.args.draft.name (made_of c.args.draft c.args.value.now) _ (rw planned.0 c.requires.at.0)
           (ap is_some seat.tagged)
           c.requires.may (rw (← c.is_some.ensures) c.started-word.ensures.entry)
           (rw planned.0 c.head_address-address.ensures.value),

@@ -10,9 +10,9 @@ store-requires g c =
     let next = c.requires.next in (
       seat,
       c.data_address.ensures.inside,
-      write_step g.T.Tag.fits c.args.self.now.table.shared.key _ _ c.args.slot _ _ _
-          (rw planned.0 c.requires.slot) (ap is_some seat.tagged) c.requires.owned
+      write_step g.T.Tag.fits c.args.self.now.table.shared.key _ _ c.args.at.slot _ _ _
+          (rw planned.0 c.requires.at.0) (ap is_some seat.tagged) c.requires.owned
           (rw (planned.0, ← next.0) next.1)
           (rw (planned.0, ← next.0) (c.data_address.ensures.value
-          ∙ sym (data_field _ c.args.slot c.args.index))),
+          ∙ sym (data_field _ c.args.at.slot c.args.index))),
     )

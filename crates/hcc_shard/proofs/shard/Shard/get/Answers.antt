@@ -33,7 +33,7 @@ find-requires-clause-load g c =
 pub copy_out-got-requires-clause-holds : goal.copy_out-got-requires-clause-holds
 copy_out-got-requires-clause-holds g c =
     let told = c.in-Some.ensures in
-    got_pinned g.T.Tag.fits (room_of c.args.self.now.table) IN_FLIGHT c.in-Some.found.pin
+    got_pinned g.T.Tag.fits (room_of c.args.self.now.table) IN_FLIGHT c.in-Some.held.pin
     c.args.key (view c.args.seat.now.seat) (view c.find.new.seat) told.found.0
     (none_in_flight (geometry_of c.args.self.now.table) (view c.args.seat.now.seat)
     c.requires.seat.quiet) told.found.1 told.pin.1 told.found.2
@@ -41,7 +41,7 @@ copy_out-got-requires-clause-holds g c =
 pub copy_out-got-requires-clause-readable : goal.copy_out-got-requires-clause-readable
 copy_out-got-requires-clause-readable g c =
     let told = c.in-Some.ensures in
-    got_readable g.T.Tag.fits (room_of c.args.self.now.table) IN_FLIGHT c.in-Some.found.pin
+    got_readable g.T.Tag.fits (room_of c.args.self.now.table) IN_FLIGHT c.in-Some.held.pin
     c.args.key (view c.args.seat.now.seat) (view c.find.new.seat) told.found.0
     (none_in_flight (geometry_of c.args.self.now.table) (view c.args.seat.now.seat)
     c.requires.seat.quiet) told.found.1 told.pin.1
@@ -50,7 +50,7 @@ pub give_back-requires-clause-holds : goal.give_back-requires-clause-holds
 give_back-requires-clause-holds g c =
     let told = c.in-Some.ensures in
     rw c.copy_out-got.ensures.view
-    (got_pinned g.T.Tag.fits (room_of c.args.self.now.table) IN_FLIGHT c.in-Some.found.pin
+    (got_pinned g.T.Tag.fits (room_of c.args.self.now.table) IN_FLIGHT c.in-Some.held.pin
     c.args.key (view c.args.seat.now.seat) (view c.find.new.seat) told.found.0
     (none_in_flight (geometry_of c.args.self.now.table) (view c.args.seat.now.seat)
     c.requires.seat.quiet) told.found.1 told.pin.1 told.found.2)
@@ -71,7 +71,7 @@ returns-in-Some g c =
     let old = c.args.seat.now in
     let v = view old.seat in
     let w = view c.find.new.seat in
-    let pin = c.in-Some.found.pin in
+    let pin = c.in-Some.held.pin in
     let told = c.in-Some.ensures in
     let fresh = none_in_flight (geometry_of table) v c.requires.seat.quiet in
     let gives = c.give_back.ensures.gives in
