@@ -1,19 +1,25 @@
 -- What each event moves where it is allowed. What an event that shows adds, `Shows` says.
 use Rattle.std.proofs.Common.{◌≡◌, ℕ, ◌+◌, ◌-◌, ◌&&◌, ◌||◌, nat_lt, nat_le, is_none, true, not}
-use Rattle.std.proofs.Common.{length, List, Option, Some, Result, Ok, Err, slice_set, refl}
+use Rattle.std.proofs.Common.{length, List, Option, Some, Result, Ok, Err, slice_set, refl, Bool}
+use Rattle.std.proofs.Common.{false, cond, [], ◌∷◌, None, slice_get, ◌==◌, sym, ◌∙◌}
+use Rattle.std.specs.Prelude.{option_and_then}
 use Rattle.std.specs.List.{find, list_any}
 use Rattle.std.specs.Option.{ok_or}
-use Rattle.std.proofs.lemmas.Bool.{and_parts}
+use Rattle.std.proofs.lemmas.Bool.{and_parts, false≢true}
 use Rattle.hcc_core.specs.declared.limits.TheConstants.{CORRECTION}
 use Rattle.hcc_core.specs.declared.client.Client.{Client}
+use Rattle.hcc_core.specs.declared.client.Owned.{Owned}
+use Rattle.hcc_core.specs.declared.client.Owned.TheVariants as owned
 use Rattle.hcc_core.specs.declared.setup.Setup.{Setup}
+use Rattle.hcc_core.specs.declared.slot.Entry.{Entry}
+use Rattle.hcc_core.specs.declared.slot.Reference.{Reference}
 use Rattle.hcc_core.specs.declared.slot.Slot.{Slot}
 use Rattle.hcc_core.specs.declared.slot.Slot.TheVariants as slots
 use Rattle.hcc_core.specs.declared.event.CoreError.{CoreError}
 use Rattle.hcc_core.specs.declared.event.CoreError.TheVariants.{NotAllowed}
 use Rattle.hcc_core.specs.World.{State, references_of, usage_of, uses_of, is_placed, occupancy_of}
 use Rattle.hcc_core.specs.World.{standing_in, weight_of, has_client, slot_holding, owns_nothing}
-use Rattle.hcc_core.specs.World.{is_absent}
+use Rattle.hcc_core.specs.World.{is_absent, is_named}
 use Rattle.hcc_core.specs.Outcomes.{Outcome, ◌>>=◌, allow, slot_at, client_at, live_at, holding}
 use Rattle.hcc_core.specs.Outcomes.{with_both, has_no_member}
 use Rattle.hcc_core.specs.References.{start_of, look_of, looks_at, most_weight, acquire_of}
@@ -22,41 +28,115 @@ use Rattle.hcc_core.specs.References.{holds_nothing}
 use Rattle.hcc_core.specs.Uses.{clock_of, may_clock, clocked, mark_of, correct_of, may_correct}
 use Rattle.hcc_core.specs.Entries.{occupied, occupy_of, hide_of, free_of, may_free, empty_of}
 use Rattle.hcc_core.specs.Entries.{freed_by, write_of, is_building, read_of, entry_read}
+use Rattle.hcc_core.specs.Entries.{is_free_for}
 use Rattle.hcc_core.specs.Ledgers.{enter_of, slots_of, charge_by, may_charge, settle_of, may_settle}
 use Rattle.hcc_core.specs.Ledgers.{waive_of, may_waive, quit_of, told, usage_told, occupancy_told}
 use Rattle.hcc_core.specs.Ledgers.{standing_told, stand_of, may_stand, fall_of, is_standing}
 use Rattle.hcc_core.specs.Trails.{count_of, pass_of, unpass_of, is_slot, turn_of}
-use Rattle.hcc_core.specs.Lawful.{stamps_by}
+use Rattle.hcc_core.specs.Lawful.{Lawful, stamps_by, owner_in, owned_by, owned_slot}
+use Rattle.hcc_core.specs.Runs.{entry_held, is_by_name}
 use Rattle.hcc_core.proofs.ListLemmas.{read_same}
 use Rattle.hcc_core.proofs.Keeps.{found_ok, live_ok, may_ok}
 use Rattle.hcc_core.proofs.HeldNames.{unheld}
-use Rattle.hcc_core.proofs.Moves.{Moves, Turns, still, client_moves, slot_moves, emptied, taken}
-use Rattle.hcc_core.proofs.Moves.{given, used, hid, marked, recounted, got}
+use Rattle.hcc_core.proofs.Moves.{Moves, Turns, called, one_name, still, client_moves, slot_moves}
+use Rattle.hcc_core.proofs.Moves.{emptied, taken, given, used, hid, marked, recounted, got}
 
--- what the world after moved, where the step is made
+-- what the world after moved, where the step is made, and where these may go
+abbrev pub MovedBut : (ℕ → ℕ → Bool) → State → Outcome → Type 0
+MovedBut gone w (Ok done) = Moves gone w done.1
+MovedBut gone w (Err error) = Unit {0}
+
+-- where nothing goes
 abbrev pub Moved : State → Outcome → Type 0
-Moved w (Ok done) = Moves w done.1
-Moved w (Err error) = Unit {0}
+Moved w outcome = MovedBut (λ c n. false) w outcome
 
 -- a reading on the way, and what it found
+chain_but : (gone : ℕ → ℕ → Bool) (w : State) {A : Type 0} (r : Result A CoreError)
+    (f : A → Outcome) → ((x : A) → r ≡ Ok x → MovedBut gone w (f x)) → MovedBut gone w (r >>= f)
+chain_but gone w (Ok x) f h = h x refl
+chain_but gone w (Err e) f h = tt
+
 chain : (w : State) {A : Type 0} (r : Result A CoreError) (f : A → Outcome)
     → ((x : A) → r ≡ Ok x → Moved w (f x)) → Moved w (r >>= f)
-chain w (Ok x) f h = h x refl
-chain w (Err e) f h = tt
+chain w r f h = chain_but (λ c n. false) w r f h
 
 -- a step of a live client that changes nothing but that client
-live_moves : (w : State) (client : ℕ) (found new : Client) → live_at w client ≡ Ok found
-    → new.stamps ≡ found.stamps → Moves w (record w { clients = slice_set w.clients client new })
+live_moves : {gone : ℕ → ℕ → Bool} (w : State) (client : ℕ) (found new : Client)
+    → live_at w client ≡ Ok found → new.stamps ≡ found.stamps
+    → Moves gone w (record w { clients = slice_set w.clients client new })
 live_moves w client found new live stamps =
     client_moves w client found new (live_ok w client found live) stamps
 
 -- a step of a live client that changes a slot too
-both_move : (w : State) (slot client : ℕ) (seen left : Slot) (found new : Client)
-    → slot_at w slot ≡ Ok seen → live_at w client ≡ Ok found → Turns w (Some seen) left
-    → new.stamps ≡ found.stamps → Moves w (with_both w slot left client new)
+both_move : {gone : ℕ → ℕ → Bool} (w : State) (slot client : ℕ) (seen left : Slot)
+    (found new : Client) → slot_at w slot ≡ Ok seen → live_at w client ≡ Ok found
+    → Turns gone w (Some seen) left → new.stamps ≡ found.stamps
+    → Moves gone w (with_both w slot left client new)
 both_move w slot client seen left found new at live turns stamps =
     slot_moves w slot left _ (rw (found_ok _ _ seen at) turns)
     (λ c. read_same stamps_by w.clients client c found new (live_ok w client found live) stamps)
+
+-- Slots that nobody else holds.
+
+-- what is free for a client and a name has no other reference
+free_named : (client : ℕ) (name : Option ℕ) (c n : ℕ) (ks : List Reference)
+    → is_free_for client name ks ≡ true → list_any (is_named c n) ks ≡ true
+    → is_by_name c n client name ≡ true
+free_named client None c n [] free h = absurd (false≢true h)
+free_named client None c n (k ∷ ks) free h = absurd (false≢true free)
+free_named client (Some name) c n [] free h = absurd (false≢true free)
+free_named client (Some name) c n (k ∷ []) free h =
+    by (is_named c n k) refl h
+  where
+    by : (b : Bool) → is_named c n k ≡ b → (b || false) ≡ true
+        → ((client == c) && (name == n)) ≡ true
+    by true is h =
+        let a = and_parts (is_named client name k && k.weight == 1) true free in
+        let b = and_parts (is_named client name k) (k.weight == 1) a.0 in
+        one_name client name c n k b.0 is
+    by false is h = absurd (false≢true h)
+free_named client (Some name) c n (k ∷ j ∷ ks) free h =
+    let bad = and_parts (is_named client name k && k.weight == 1) false free in
+    absurd (false≢true bad.1)
+
+-- what is free for a client and a name is held under no other name
+freed : (client : ℕ) (found : Client) (seen : Slot) (name : Option ℕ)
+    → may_free client found seen name ≡ true → (c n : ℕ) (e : Entry)
+    → is_by_name c n client name ≡ false → entry_held c n seen ≡ Some e → None ≡ Some e
+freed client found (slots.Empty strays) name may c n e other h = h
+freed client found (slots.Building maker strays) name may c n e other h = h
+freed client found (slots.Shareable r) name may c n e other h =
+    by (list_any (is_named c n) r.references) refl h
+  where
+    by : (b : Bool) → list_any (is_named c n) r.references ≡ b
+        → cond b (Some r.entry) None ≡ Some e → None ≡ Some e
+    by true is h =
+        let a = and_parts _ (is_free_for client name r.references) may in
+        absurd (false≢true (sym other ∙ free_named client name c n r.references a.1 is))
+    by false is h = h
+
+-- nothing is held on a slot that has an owner
+none_held : (c n : ℕ) (e : Entry) (o : Option Slot) (owner : ℕ) → owner_in o ≡ Some owner
+    → option_and_then (entry_held c n) o ≡ Some e → None ≡ Some e
+none_held c n e None owner is h = cc
+none_held c n e (Some (slots.Empty strays)) owner is h = cc
+none_held c n e (Some (slots.Building client strays)) owner is h = cc
+none_held c n e (Some (slots.Shareable r)) owner is h = cc
+
+-- so nothing is on the slot that a client owns in a lawful world
+pub owned_held : {w : State} (client slot : ℕ) (found : Client) (l : Lawful w)
+    → live_at w client ≡ Ok found → owned_slot found.owned ≡ Some slot → (c n : ℕ) (e : Entry)
+    → option_and_then (entry_held c n) (slice_get w.slots slot) ≡ Some e → None ≡ Some e
+owned_held {w} client slot found l live owns c n e h =
+    let at : owned_by (slice_get w.clients client) ≡ Some slot =
+    rw (live_ok w client found live) owns in
+    none_held c n e (slice_get w.slots slot) client (l.owners.owned slot client at) h
+
+-- the slot that a client owns for freeing is one that it owns
+frees_owned : (o : Owned) (slot : ℕ) → freed_by o ≡ Some slot → owned_slot o ≡ Some slot
+frees_owned owned.Nothing slot h = cc
+frees_owned (owned.ForBuilding s) slot h = cc
+frees_owned (owned.ForFreeing s) slot h = h
 
 -- The events on references.
 
@@ -93,19 +173,23 @@ acquire_moves w client slot weight name =
     (unheld_to_acquire w.setup w.slots client found slot seen weight name (may_ok _ u may))))
     refl)))
 
-pub give_moves : (w : State) (client name : ℕ) → Moved w (give_of w client name)
+pub give_moves : (w : State) (client name : ℕ)
+    → MovedBut (called client name) w (give_of w client name)
 unfolding give_of
 give_moves w client name =
-    chain w (live_at w client) _ (λ found live. chain w (holding w client name) _ (λ slot held.
-    chain w (slot_at w slot) _ (λ seen at.
+    chain_but _ w (live_at w client) _ (λ found live.
+    chain_but _ w (holding w client name) _ (λ slot held.
+    chain_but _ w (slot_at w slot) _ (λ seen at.
     both_move w slot client seen _ found _ at live (given w client name seen) refl)))
 
-pub use_moves : (w : State) (client name : ℕ) → Moved w (use_of w client name)
+pub use_moves : (w : State) (client name : ℕ)
+    → MovedBut (called client name) w (use_of w client name)
 unfolding use_of
 use_moves w client name =
-    chain w (live_at w client) _ (λ found live. chain w (holding w client name) _ (λ slot held.
-    chain w (slot_at w slot) _ (λ seen at.
-    chain w (ok_or (counting_in client name (references_of seen)) NotAllowed) _ (λ k there.
+    chain_but _ w (live_at w client) _ (λ found live.
+    chain_but _ w (holding w client name) _ (λ slot held.
+    chain_but _ w (slot_at w slot) _ (λ seen at.
+    chain_but _ w (ok_or (counting_in client name (references_of seen)) NotAllowed) _ (λ k there.
     both_move w slot client seen _ found _ at live (used w client name k seen) refl))))
 
 pub hide_moves : (w : State) (client name : ℕ) → Moved w (hide_of w client name)
@@ -154,7 +238,8 @@ occupied_moves : (w : State) (client slot : ℕ) (found : Client) (seen : Slot)
     → slot_at w slot ≡ Ok seen → live_at w client ≡ Ok found
     → Moved w (occupied w client found slot seen)
 occupied_moves w client slot found (slots.Empty strays) at live =
-    both_move w slot client (slots.Empty strays) _ found _ at live (taken w _ client strays) refl
+    both_move w slot client (slots.Empty strays) _ found _ at live (taken w _ client strays
+    (λ l c n e other h. h)) refl
 occupied_moves w client slot found (slots.Building other strays) at live = look_moves w client slot
 occupied_moves w client slot found (slots.Shareable r) at live = look_moves w client slot
 
@@ -171,12 +256,13 @@ write_moves w client =
     still w w.hand))
 
 pub free_moves : (w : State) (client slot : ℕ) (name : Option ℕ)
-    → Moved w (free_of w client slot name)
+    → MovedBut (λ c n. is_by_name c n client name) w (free_of w client slot name)
 unfolding free_of
 free_moves w client slot name =
-    chain w (slot_at w slot) _ (λ seen at. chain w (live_at w client) _ (λ found live.
-    chain w (allow (may_free client found seen name)) _ (λ u may.
-    both_move w slot client seen _ found _ at live (taken w _ client 0) refl)))
+    chain_but _ w (slot_at w slot) _ (λ seen at. chain_but _ w (live_at w client) _ (λ found live.
+    chain_but _ w (allow (may_free client found seen name)) _ (λ u may.
+    both_move w slot client seen _ found _ at live
+    (taken w _ client 0 (λ l. freed client found seen name (may_ok _ u may))) refl)))
 
 pub empty_moves : (w : State) (client : ℕ) → Moved w (empty_of w client)
 unfolding empty_of
@@ -184,7 +270,9 @@ empty_moves w client =
     chain w (live_at w client) _ (λ found live.
     chain w (ok_or (freed_by found.owned) NotAllowed) _ (λ slot frees.
     chain w (allow (has_no_member found.trail)) _ (λ u back.
-    slot_moves w slot _ _ (emptied w _ 0)
+    slot_moves w slot _ _ (emptied w _ 0 (λ l c n e other.
+    owned_held client slot found l live
+    (frees_owned found.owned slot (found_ok _ _ slot frees)) c n e))
     (λ c. read_same stamps_by w.clients client c found _ (live_ok w client found live) refl))))
 
 -- The events on ledgers and standalone entries.

@@ -4,6 +4,8 @@ use Rattle.std.proofs.Common.{◌≡◌, ◌⊎◌, inl, inr, ℕ, ◌&&◌, Boo
 use Rattle.std.proofs.Common.{◌++◌, Option, Some, None, Ok, Err, length, replicate, slice_get, refl}
 use Rattle.std.proofs.Common.{sym, ap, ◌∙◌, arith, ◌≤◌}
 use Rattle.std.specs.Prelude.{option_and_then}
+use Rattle.std.specs.List.{list_any}
+use Rattle.std.proofs.lemmas.Bool.{or_parts}
 use Rattle.std.proofs.lemmas.List.{append_assoc, append-nil, length-append}
 use Rattle.hcc_core.specs.declared.event.Event.{Event}
 use Rattle.hcc_core.specs.declared.client.Client.{Client}
@@ -18,7 +20,7 @@ use Rattle.hcc_core.specs.Opening.{opening_of, new_slot, new_client, CanOpen}
 use Rattle.hcc_core.specs.Runs.{world_after, after, after_all, entry_held, held_at, named_on}
 use Rattle.hcc_core.specs.Runs.{named_in, Stands, StandsThrough, KeepsPlaces, FindsOne, CountersFit}
 use Rattle.hcc_core.specs.Runs.{entry_of, entry_at, is_show, shows_in, shows_of, entry_given}
-use Rattle.hcc_core.specs.Runs.{AreGiven}
+use Rattle.hcc_core.specs.Runs.{AreGiven, takes_away}
 use Rattle.hcc_core.specs.Lawful.{Lawful, stamps_by}
 use Rattle.hcc_core.proofs.ListLemmas.{nothing_in, in_replicate, read_before, read_last}
 use Rattle.hcc_core.proofs.SumLemmas.{total-zero}
@@ -26,7 +28,7 @@ use Rattle.hcc_core.proofs.Keeps.{KeepsLaw, outcome_keeps}
 use Rattle.hcc_core.proofs.Opening.{lawful_opening}
 use Rattle.hcc_core.proofs.Readable.{strays_few}
 use Rattle.hcc_core.proofs.HeldNames.{Apart, finds_one}
-use Rattle.hcc_core.proofs.Moves.{Holds, holds_still}
+use Rattle.hcc_core.proofs.Moves.{Holds, StaysHeld, holds_still}
 use Rattle.hcc_core.proofs.Shows.{Adds, Added, outcome_adds}
 
 -- Lawful worlds.
@@ -78,6 +80,17 @@ outcome_holds w event (Err error) a = holds_still w w refl
 
 after_holds : (w : State) (event : Event) → Holds w (after w event)
 after_holds w event = outcome_holds w event (outcome_of w event) (outcome_adds w event)
+
+-- an outcome leaves what is held, but for what its event takes away
+outcome_stands : (w : State) (event : Event) (outcome : Outcome) → Added w event outcome
+    → StaysHeld (λ c n. takes_away c n event) w (world_after w outcome)
+outcome_stands w event (Ok done) a = a.stands
+outcome_stands w event (Err error) a = λ l c n s e other h. h
+
+-- and so does each event, refused or not
+after_stands : (w : State) (event : Event)
+    → StaysHeld (λ c n. takes_away c n event) w (after w event)
+after_stands w event = outcome_stands w event (outcome_of w event) (outcome_adds w event)
 
 -- that stays so, since what is new was unheld
 apart_kept : (w w' : State) → Apart w → Holds w w' → Apart w'
@@ -168,6 +181,27 @@ run_finds_one setup events =
     finds_one (after_all (opening_of setup) events)
     (apart_all events (opening_of setup) (apart_opening setup))
     (once_all events (opening_of setup) (once_opening setup))
+
+-- a reference stands until its own client takes it away
+pub stands_all : (events : List Event) {w : State} (client name slot : ℕ) (entry : Entry)
+    → Lawful w → list_any (takes_away client name) events ≡ false
+    → held_at w client name slot ≡ Some entry
+    → held_at (after_all w events) client name slot ≡ Some entry
+stands_all [] client name slot entry l none held = held
+stands_all (event ∷ events) {w} client name slot entry l none held =
+    let parts = or_parts (takes_away client name event) _ none in
+    stands_all events client name slot entry (lawful_after w event l) parts.1
+    (after_stands w event l client name slot entry parts.0 held)
+
+-- so in every run
+pub run_stands : (setup : Setup) (before events : List Event) → CanOpen setup
+    → (client name slot : ℕ) (entry : Entry)
+    → list_any (takes_away client name) events ≡ false
+    → held_at (after_all (opening_of setup) before) client name slot ≡ Some entry
+    → held_at (after_all (after_all (opening_of setup) before) events) client name slot
+    ≡ Some entry
+run_stands setup before events can client name slot entry =
+    stands_all events client name slot entry (every_run setup before can)
 
 -- Entries.
 

@@ -8,6 +8,8 @@ use Rattle.std.specs.Option.{ok_or}
 use Rattle.std.proofs.lemmas.Bool.{and_parts, eq-eqb, ne_eqb, cases_eq}
 use Rattle.hcc_core.specs.declared.limits.TheConstants.{STAMPS_PER_CLIENT}
 use Rattle.hcc_core.specs.declared.client.Client.{Client}
+use Rattle.hcc_core.specs.declared.client.Owned.{Owned}
+use Rattle.hcc_core.specs.declared.client.Owned.TheVariants as owned
 use Rattle.hcc_core.specs.declared.slot.Entry.{Entry}
 use Rattle.hcc_core.specs.declared.slot.Resident.{Resident}
 use Rattle.hcc_core.specs.declared.slot.Slot.{Slot}
@@ -22,13 +24,14 @@ use Rattle.hcc_core.specs.Outcomes.{Outcome, ◌>>=◌, allow, live_at, with_bot
 use Rattle.hcc_core.specs.Entries.{built_by, is_fresh, may_show, first_references, resident_new}
 use Rattle.hcc_core.specs.Entries.{client_shown, show_of}
 use Rattle.hcc_core.specs.Steps.{in_range, rule_of, outcome_of}
-use Rattle.hcc_core.specs.Lawful.{stamps_by}
+use Rattle.hcc_core.specs.Lawful.{Lawful, stamps_by, owned_slot}
 use Rattle.hcc_core.specs.Runs.{entry_held, named_on, entry_of, entry_at, is_show, entry_given}
+use Rattle.hcc_core.specs.Runs.{takes_away}
 use Rattle.hcc_core.proofs.ListLemmas.{read_at_set, read_here, read_other}
-use Rattle.hcc_core.proofs.Keeps.{live_ok, may_ok}
+use Rattle.hcc_core.proofs.Keeps.{found_ok, live_ok, may_ok}
 use Rattle.hcc_core.proofs.SumLemmas.{sum_at}
 use Rattle.hcc_core.proofs.HeldNames.{Unheld, unheld, named_free}
-use Rattle.hcc_core.proofs.Moves.{Holds, FewOrNew, KeepsHeld, holds_slot}
+use Rattle.hcc_core.proofs.Moves.{Holds, StaysHeld, read_kept, FewOrNew, KeepsHeld, holds_slot}
 use Rattle.hcc_core.proofs.EventMoves.{Moved, start_moves, look_moves, acquire_moves, give_moves}
 use Rattle.hcc_core.proofs.EventMoves.{use_moves, occupy_moves, hide_moves, free_moves, empty_moves}
 use Rattle.hcc_core.proofs.EventMoves.{write_moves, read_moves, enter_moves, charge_moves}
@@ -36,7 +39,7 @@ use Rattle.hcc_core.proofs.EventMoves.{slots_moves, settle_moves, end_moves, clo
 use Rattle.hcc_core.proofs.EventMoves.{mark_moves, correct_moves, waive_moves, quit_moves}
 use Rattle.hcc_core.proofs.EventMoves.{usage_moves, occupancy_moves, standing_moves, stand_moves}
 use Rattle.hcc_core.proofs.EventMoves.{fall_moves, count_moves, pass_moves, unpass_moves}
-use Rattle.hcc_core.proofs.EventMoves.{turn_moves}
+use Rattle.hcc_core.proofs.EventMoves.{turn_moves, MovedBut, owned_held}
 
 -- the entry is what this event says, under the next stamp of the client that shows it
 pub record IsNew (w : State) (event : Event) (entry : Entry) : Type 0 where
@@ -47,6 +50,7 @@ pub record IsNew (w : State) (event : Event) (entry : Entry) : Type 0 where
 -- what a step of this event moves and shows
 pub record Adds (w : State) (event : Event) (w' : State) : Type 0 where
   pub holds : Holds w w'
+  pub stands : StaysHeld (λ c n. takes_away c n event) w w'
   pub entries : (slot : ℕ) (entry : Entry) → entry_at w' slot ≡ Some entry
       → (entry_at w slot ≡ Some entry) ⊎ IsNew w event entry
   pub counts : (c : ℕ) → stamps_by (slice_get w'.clients c)
@@ -57,17 +61,29 @@ abbrev pub Added : State → Event → Outcome → Type 0
 Added w event (Ok done) = Adds w event done.1
 Added w event (Err error) = Unit {0}
 
--- an event that is no show adds nothing
-quiet : (w : State) (event : Event) (outcome : Outcome) → ((c : ℕ) → is_show c event ≡ false)
-    → Moved w outcome → Added w event outcome
-quiet w event (Ok done) none m = record {
+-- an event that is no show adds nothing, and takes away what it names at most
+removes : (w : State) (event : Event) (outcome : Outcome) → ((c : ℕ) → is_show c event ≡ false)
+    → MovedBut (λ c n. takes_away c n event) w outcome → Added w event outcome
+removes w event (Ok done) none m = record {
   holds = m.holds;
+  stands = m.stands;
   entries = λ s e h. inl (m.entries s e h);
   counts = λ c.
       let same = m.counts c in
       let no_more : when (is_show c event) 1 ≡ 0 = rw (none c) refl in
       omega arith;
 }
+removes w event (Err error) none m = tt
+
+-- one that takes nothing away either
+quiet : (w : State) (event : Event) (outcome : Outcome) → ((c : ℕ) → is_show c event ≡ false)
+    → Moved w outcome → Added w event outcome
+quiet w event (Ok done) none m = removes w event (Ok done) none (record {
+  holds = m.holds;
+  stands = λ l c n s e other. m.stands l c n s e refl;
+  entries = m.entries;
+  counts = m.counts;
+})
 quiet w event (Err error) none m = tt
 
 -- Show.
@@ -108,6 +124,10 @@ shown_keeps w client (Some name) seen r fresh first = record {
         → FewOrNew w c n (when ((client == c) && (name == n)) 1 + 0) (sum_at (named_on c n) seen)
     times c n true is = inr (free c n is, rw is (omega arith))
     times c n false is = inl (rw is (omega arith))
+
+-- no entry is one
+none_some : (e : Entry) → None ≡ Some e → ⊥
+none_some e h = cc
 
 -- the world after a show
 module _ (w : State) (client slot key0 key1 charge countdown : ℕ) (name : Option ℕ) (value : List ℕ)
@@ -154,13 +174,25 @@ module _ (w : State) (client slot key0 key1 charge countdown : ℕ) (name : Opti
         omega arith
   ]
 
-  shown_adds : is_fresh w.slots client name ≡ true → Adds w said world
-  shown_adds fresh = record {
+  shown_adds : is_fresh w.slots client name ≡ true
+      → (Lawful w → (c n : ℕ) (e : Entry)
+      → option_and_then (entry_held c n) (slice_get w.slots slot) ≡ Some e → None ≡ Some e)
+      → Adds w said world
+  shown_adds fresh none = record {
     holds = holds_slot w slot _ _
         (shown_keeps w client name (slice_get w.slots slot) resident fresh refl);
+    stands = λ l c n s e other.
+        read_kept (entry_held c n) w.slots slot s (slots.Shareable resident) e
+        (λ held. absurd (none_some e (none l c n e held)));
     entries = shown_entries;
     counts = shown_counts;
   }
+
+-- the slot that a client builds in is one that it owns
+builds_owned : (o : Owned) (slot : ℕ) → built_by o ≡ Some slot → owned_slot o ≡ Some slot
+builds_owned owned.Nothing slot h = cc
+builds_owned (owned.ForBuilding s) slot h = h
+builds_owned (owned.ForFreeing s) slot h = cc
 
 -- a reading on the way, and what it found
 chain : (w : State) (event : Event) {A : Type 0} (r : Result A CoreError) (f : A → Outcome)
@@ -178,7 +210,9 @@ show_adds w client key0 key1 charge countdown name value =
     chain w _ (allow (may_show w.slots client found charge countdown name)) _ (λ u may.
     shown_adds w client slot key0 key1 charge countdown name
     value found (live_ok w client found live)
-    (fresh_to_show w.slots client found charge countdown name (may_ok _ u may)))))
+    (fresh_to_show w.slots client found charge countdown name (may_ok _ u may))
+    (λ l. owned_held client slot found l live
+    (builds_owned found.owned slot (found_ok _ _ slot builds))))))
 
 -- Any event.
 
@@ -187,13 +221,14 @@ rule_adds w (events.Start client) = quiet w _ _ (λ c. refl) (start_moves w clie
 rule_adds w (events.Look client slot) = quiet w _ _ (λ c. refl) (look_moves w client slot)
 rule_adds w (events.Acquire client slot weight name) =
     quiet w _ _ (λ c. refl) (acquire_moves w client slot weight name)
-rule_adds w (events.Give client name) = quiet w _ _ (λ c. refl) (give_moves w client name)
-rule_adds w (events.Use client name) = quiet w _ _ (λ c. refl) (use_moves w client name)
+rule_adds w (events.Give client name) = removes w _ _ (λ c. refl) (give_moves w client name)
+rule_adds w (events.Use client name) = removes w _ _ (λ c. refl) (use_moves w client name)
 rule_adds w (events.Occupy client slot) = quiet w _ _ (λ c. refl) (occupy_moves w client slot)
 rule_adds w (events.Show client key0 key1 charge countdown name value) =
     show_adds w client key0 key1 charge countdown name value
 rule_adds w (events.Hide client name) = quiet w _ _ (λ c. refl) (hide_moves w client name)
-rule_adds w (events.Free client slot name) = quiet w _ _ (λ c. refl) (free_moves w client slot name)
+rule_adds w (events.Free client slot name) =
+    removes w _ _ (λ c. refl) (free_moves w client slot name)
 rule_adds w (events.Empty client) = quiet w _ _ (λ c. refl) (empty_moves w client)
 rule_adds w (events.Write client) = quiet w _ _ (λ c. refl) (write_moves w client)
 rule_adds w (events.Read client name) = quiet w _ _ (λ c. refl) (read_moves w client name)

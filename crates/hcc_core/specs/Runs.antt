@@ -58,6 +58,19 @@ abbrev pub held_at : State → ℕ → ℕ → ℕ → Option Entry
 held_at world client name slot =
     option_and_then (entry_held client name) (slice_get world.slots slot)
 
+-- whether a step of a client by a name, if it gives one, is by this client and this name
+abbrev pub is_by_name : ℕ → ℕ → ℕ → Option ℕ → Bool
+is_by_name client name c None = false
+is_by_name client name c (Some n) = (c == client) && (n == name)
+
+-- whether the event takes this client's reference of this name away: the client's own give or use
+-- of it, or its free of the slot by that name
+abbrev pub takes_away : ℕ → ℕ → Event → Bool
+takes_away client name (events.Give c n) = (c == client) && (n == name)
+takes_away client name (events.Use c n) = (c == client) && (n == name)
+takes_away client name (events.Free c slot n) = is_by_name client name c n
+takes_away client name other = false
+
 -- this client's reference of this name stands, on some slot
 abbrev pub Stands : State → ℕ → ℕ → Type 0
 Stands world client name =

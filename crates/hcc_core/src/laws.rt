@@ -1,14 +1,16 @@
 //! What holds of every run.
-ghost use Rattle.std.specs.Prelude.{List};
+ghost use Rattle.std.specs.Prelude.{◌≡◌, ℕ, false, List, Some};
+ghost use Rattle.std.specs.List.{list_any};
+ghost use Rattle.hcc_core.specs.declared.slot.Entry.{Entry};
 ghost use Rattle.hcc_core.specs.declared.event.Event.{Event};
 ghost use Rattle.hcc_core.specs.declared.setup.Setup.{Setup};
 ghost use Rattle.hcc_core.specs.Lawful.{Lawful};
-ghost use Rattle.hcc_core.specs.Runs.{AreGiven, CountersFit, FindsOne, KeepsPlaces, after_all};
+ghost use Rattle.hcc_core.specs.Runs.{AreGiven, CountersFit, FindsOne, KeepsPlaces, after_all, held_at, takes_away};
 ghost use Rattle.hcc_core.specs.Opening.{CanOpen, opening_of};
 
 /// What holds of every world on the way of every run from an opening world, whatever events come
-/// and in whatever order. Events that are refused change nothing. Only the first two clauses need
-/// that the setup can be opened.
+/// and in whatever order. Events that are refused change nothing. Only `lawful`, `counters` and
+/// `stands` need that the setup can be opened.
 ///
 /// It does nothing when it runs: its contract is the law.
 pub fn law_every_run()
@@ -23,6 +25,14 @@ pub fn law_every_run()
     // A reference that stands in two worlds and in all between them has one slot and one entry.
     ensures places { (setup : Setup) (before events : List Event)
         → KeepsPlaces (after_all (opening_of setup) before) events }
+
+    // A reference stands until its own client gives or uses it, or frees its slot, by its name.
+    ensures stands { (setup : Setup) (before events : List Event) → CanOpen setup
+        → (client name slot : ℕ) (entry : Entry)
+        → list_any (takes_away client name) events ≡ false
+        → held_at (after_all (opening_of setup) before) client name slot ≡ Some entry
+        → held_at (after_all (after_all (opening_of setup) before) events) client name slot
+        ≡ Some entry }
 
     // A client has one reference of a name at most, and steps find its slot by the name.
     ensures found { (setup : Setup) (events : List Event)

@@ -1,5 +1,5 @@
 use Rattle.hcc_core.proofs.EveryRun.{every_run, run_counters_fit, run_keeps_places, run_finds_one}
-use Rattle.hcc_core.proofs.EveryRun.{run_is_given}
+use Rattle.hcc_core.proofs.EveryRun.{run_is_given, run_stands}
 use Rattle.hcc_core.proofs.laws.law_every_run.Goals as goal
 
 pub returns-clause-lawful : goal.returns-clause-lawful
@@ -10,6 +10,9 @@ returns-clause-counters c = run_counters_fit
 
 pub returns-clause-places : goal.returns-clause-places
 returns-clause-places c = run_keeps_places
+
+pub returns-clause-stands : goal.returns-clause-stands
+returns-clause-stands c = run_stands
 
 pub returns-clause-found : goal.returns-clause-found
 returns-clause-found c = run_finds_one
