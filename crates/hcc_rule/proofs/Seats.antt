@@ -8,5 +8,6 @@ pub mod Dealing
 pub mod Joins
 pub mod Newest
 pub mod Runs
+pub mod Kept
 pub mod Allowed
 pub mod Behind

@@ -4,6 +4,7 @@
 //! world that the words and the views of a state show. A state is meant without the seats' logs
 //! (`unlogged`), except what its words are before the first step (`HoldsLogged`).
 ghost use Rattle.std.specs.Prelude.{◌≡◌, ◌≢◌, ℕ, ◌+◌, ◌/◌, ◌^◌, ◌<◌, ◌≤◌, true, false, List, [], ◌++◌, Some, Ok, slice_get, slice_index};
+ghost use Rattle.std.specs.List.{list_any};
 ghost use Rattle.atomic_table.specs.Table.{opening};
 ghost use Rattle.hcc_word.specs.declared.layout.TheConstants.{VISIBLE};
 ghost use Rattle.hcc_word.specs.Word.{word_of};
@@ -14,7 +15,7 @@ ghost use Rattle.hcc_core.specs.declared.event.Reply.TheVariants as replies;
 ghost use Rattle.hcc_core.specs.declared.limits.TheConstants.{SLOTS_PER_TURN};
 ghost use Rattle.hcc_core.specs.Lawful.{Lawful, real_in, taken_in};
 ghost use Rattle.hcc_core.specs.Opening.{opening_of};
-ghost use Rattle.hcc_core.specs.Runs.{CountersFit, FindsOne, KeepsPlaces, StandsThrough, after_all};
+ghost use Rattle.hcc_core.specs.Runs.{CountersFit, FindsOne, KeepsPlaces, after_all, held_at, takes_away};
 ghost use Rattle.hcc_core.specs.Steps.{outcome_of};
 ghost use Rattle.hcc_core.specs.Sums.{total};
 ghost use Rattle.hcc_core.specs.World.{limit_of, occupancy_of, passed_by, standing_in, times};
@@ -26,7 +27,7 @@ ghost use Rattle.hcc_rule.specs.declared.view.Done.{Done};
 ghost use Rattle.hcc_rule.specs.declared.view.Logged.{Logged};
 ghost use Rattle.hcc_rule.specs.declared.view.Record.{Record};
 ghost use Rattle.hcc_rule.specs.declared.view.View.{View};
-ghost use Rattle.hcc_rule.specs.Acts.{IsAllowed, IsFront, IsKnown, IsRun, KeepsTrails, RecordsStand, events_of, world_of};
+ghost use Rattle.hcc_rule.specs.Acts.{IsAllowed, IsFront, IsKnown, IsNoStepOf, IsRun, KeepsTrails, RecordsStand, events_of, world_of};
 ghost use Rattle.hcc_rule.specs.Closing.{key_at};
 ghost use Rattle.hcc_rule.specs.Images.{entries_in};
 ghost use Rattle.hcc_rule.specs.ImageLimits.{AreRising, IsImageFor};
@@ -38,7 +39,7 @@ ghost use Rattle.hcc_rule.specs.Records.{record_in};
 ghost use Rattle.hcc_rule.specs.Rule.{hand_after, setup_of, Holds};
 ghost use Rattle.hcc_rule.specs.Runs.{AreShown};
 ghost use Rattle.hcc_rule.specs.Seats.{IsPlanned};
-ghost use Rattle.hcc_rule.specs.Views.{is_seated};
+ghost use Rattle.hcc_rule.specs.Views.{Each, is_seated};
 ghost use Rattle.hcc_rule.specs.Words.{field_at};
 
 use crate::key::Tag;
@@ -213,17 +214,31 @@ pub fn law_run<T: Tag>()
     ensures places { (p : Plan T) (before events : List Event)
         → KeepsPlaces (after_all (begun_world p) before) events }
 
-    // So a record that a client has at two moments, of which the later one's history goes on from
-    // the first one's, and whose reference stood in all worlds between, kept its slot and its
-    // entry, with key and value, whatever steps anybody made. Each step function says of its seat
-    // that its records stand (`event`).
-    ensures kept { (p : Plan T) (old new : Logged T) (since : List Done)
-        → RecordsStand p old → RecordsStand p new → new.past ≡ old.past ++ since
-        → new.known.client ≡ old.known.client → (name : ℕ) (r q : Record)
+    // What a seat has on record at one moment its client still holds at each later one, on that
+    // slot and entry, unless an event of that client between them gave or used the reference, or
+    // freed its slot, by its name. Of what others do nothing is asked.
+    ensures kept { (p : Plan T) (s t : LoggedStateOf T) (h : HoldsLogged T.fits p s)
+        (g : HoldsLogged T.fits p t) (since : List Done) → g.history ≡ h.history ++ since
+        → (number : ℕ) (l : Logged T) → slice_get s.views number ≡ Some l
+        → is_seated l.known ≡ true → (name : ℕ) (r : Record)
+        → record_in name l.known.records ≡ Some r
+        → list_any (takes_away l.known.client name) (events_of since) ≡ false
+        → held_at g.rule.world l.known.client name r.slot ≡ Some r.entry }
+
+    // So what stood in the world after all that a seat knew stands in the one after all that it
+    // knows later. Each step function says of its seat that its records stand (`event`).
+    ensures kept_known { (p : Plan T) → IsPlanned p.geometry p.capacity
+        → IsImageFor T.fits p.tag p.geometry p.capacity p.strict (entries_in p.image)
+        → (old new : Logged T) (since : List Done) → RecordsStand p old
+        → new.past ≡ old.past ++ since → (name : ℕ) (r : Record)
         → record_in name old.known.records ≡ Some r
-        → record_in name new.known.records ≡ Some q
-        → StandsThrough (world_of p old.past) (events_of since) old.known.client name
-        → (q.slot ≡ r.slot) × (q.entry ≡ r.entry) }
+        → list_any (takes_away old.known.client name) (events_of since) ≡ false
+        → held_at (world_of p new.past) old.known.client name r.slot ≡ Some r.entry }
+
+    // What isn't a step of a client takes none of its references away: so nothing does that comes
+    // between two events of its seat (`IsNext.apart`).
+    ensures others { (client name : ℕ) (others : List Done) → Each (IsNoStepOf client) others
+        → list_any (takes_away client name) (events_of others) ≡ false }
 
     // A client has one reference of a name at most, and steps find its slot by the name.
     ensures found { (p : Plan T) (events : List Event)

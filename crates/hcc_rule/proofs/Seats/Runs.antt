@@ -12,10 +12,10 @@ use Rattle.hcc_core.specs.declared.slot.Slot.{Slot}
 use Rattle.hcc_core.specs.declared.slot.Stamp.{Stamp}
 use Rattle.hcc_core.specs.Lawful.{Lawful, stamps_by}
 use Rattle.hcc_core.specs.Opening.{CanOpen, new_client, new_slot, opening_of}
-use Rattle.hcc_core.specs.Runs.{FindsOne, KeepsPlaces, StandsThrough, after_all, entry_given, entry_held, entry_of, held_at, named_on}
+use Rattle.hcc_core.specs.Runs.{FindsOne, KeepsPlaces, after_all, entry_given, entry_held, entry_of, named_on}
 use Rattle.hcc_core.specs.Steps.{outcome_of}
 use Rattle.hcc_core.specs.Sums.{total, when}
-use Rattle.hcc_core.specs.World.{State, is_named, references_of}
+use Rattle.hcc_core.specs.World.{is_named, references_of}
 use Rattle.hcc_core.proofs.EveryRun.{Given, Once, all_given, apart_all, keeps_places, lawful_all, once_all}
 use Rattle.hcc_core.proofs.HeldNames.{Apart, finds_one}
 use Rattle.hcc_core.proofs.ListLemmas.{in_replicate, read_here, read_other, replicate_is}
@@ -23,23 +23,20 @@ use Rattle.hcc_core.proofs.Opening.{is_lawful}
 use Rattle.hcc_rule.specs.declared.image.ImageEntry.{ImageEntry}
 use Rattle.hcc_rule.specs.declared.key.Key.{Key}
 use Rattle.hcc_rule.specs.declared.rule.Plan.{Plan}
-use Rattle.hcc_rule.specs.declared.view.Done.{Done}
 use Rattle.hcc_rule.specs.declared.view.Logged.{Logged}
-use Rattle.hcc_rule.specs.declared.view.Record.{Record}
-use Rattle.hcc_rule.specs.Acts.{IsRun, RecordsStand, events_of, world_of}
+use Rattle.hcc_rule.specs.Acts.{IsRun, events_of}
 use Rattle.hcc_rule.specs.ImageLimits.{IsImageFor}
 use Rattle.hcc_rule.specs.Images.{entries_in, made_of_entry}
 use Rattle.hcc_rule.specs.Laws.{LoggedStateOf}
 use Rattle.hcc_rule.specs.Logs.{HoldsLogged}
 use Rattle.hcc_rule.specs.Opening.{begun_world}
-use Rattle.hcc_rule.specs.Records.{record_in}
 use Rattle.hcc_rule.specs.Rule.{setup_of}
 use Rattle.hcc_rule.specs.Runs.{AreShown, first_shows, show_of}
 use Rattle.hcc_rule.specs.Seats.{IsPlanned}
 use Rattle.hcc_rule.specs.Views.{is_seated}
 use Rattle.hcc_rule.specs.Words.{entry_of as entry_made}
 use Rattle.hcc_rule.proofs.Images.Fillings.{filled_each, made_length, read_with}
-use Rattle.hcc_rule.proofs.Seats.Histories.{after_more, run_is}
+use Rattle.hcc_rule.proofs.Seats.Histories.{run_is}
 use Rattle.hcc_rule.proofs.Seats.Openings.{first_lawful, replicate_at}
 
 -- what no member has, a list has none of
@@ -93,26 +90,6 @@ module _ {T : Type 0} (p : Plan T) where
   run_finds events =
       finds_one (after_all (begun_world p) events) (apart_all events (begun_world p) begun_apart)
       (once_all events (begun_world p) begun_once)
-
-  -- a record that stands at two moments, with its reference at all between, is on one slot and
-  -- entry
-  pub run_keeps : (old new : Logged T) (since : List Done) → RecordsStand p old
-      → RecordsStand p new → new.past ≡ old.past ++ since
-      → new.known.client ≡ old.known.client → (name : ℕ) (r q : Record)
-      → record_in name old.known.records ≡ Some r → record_in name new.known.records ≡ Some q
-      → StandsThrough (world_of p old.past) (events_of since) old.known.client name
-      → (q.slot ≡ r.slot) × (q.entry ≡ r.entry)
-  run_keeps old new since first last goes_on same name r q held holds stands =
-      let world : world_of p new.past ≡ after_all (world_of p old.past) (events_of since) =
-      ap (λ h. world_of p h) goes_on ∙ after_more old.past since (begun_world p) in
-      let there : held_at (after_all (world_of p old.past) (events_of since)) old.known.client name
-      q.slot ≡ Some q.entry =
-      subst (λ (w : State). held_at w old.known.client name q.slot ≡ Some q.entry) world
-      (subst (λ c. held_at (world_of p new.past) c name q.slot ≡ Some q.entry) same
-      (last name q holds)) in
-      let kept = run_places (events_of old.past) (events_of since) old.known.client name stands
-      r.slot q.slot r.entry q.entry (first name r held) there in
-      (sym kept.0, sym kept.1)
 
   -- What clients showed before the first event.
 

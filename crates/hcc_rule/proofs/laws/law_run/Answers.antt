@@ -2,7 +2,8 @@ use Rattle.hcc_core.specs.Runs.{after_all}
 use Rattle.hcc_core.proofs.EveryRun.{counters_fit}
 use Rattle.hcc_rule.specs.Opening.{begun_world}
 use Rattle.hcc_rule.proofs.Seats.Lifts.{known_allowed}
-use Rattle.hcc_rule.proofs.Seats.Runs.{run_finds, run_keeps, run_lawful, run_places, run_shown, starts_opening, world_is}
+use Rattle.hcc_rule.proofs.Seats.Kept.{others_take_none, pasts_keep, states_keep}
+use Rattle.hcc_rule.proofs.Seats.Runs.{run_finds, run_lawful, run_places, run_shown, starts_opening, world_is}
 use Rattle.hcc_rule.proofs.laws.law_run.Goals as goal
 
 pub returns-clause-run : goal.returns-clause-run
@@ -38,7 +39,13 @@ pub returns-clause-places : goal.returns-clause-places
 returns-clause-places g c = λ p. run_places p
 
 pub returns-clause-kept : goal.returns-clause-kept
-returns-clause-kept g c = λ p. run_keeps p
+returns-clause-kept g c = states_keep g.T.Tag.fits
+
+pub returns-clause-kept_known : goal.returns-clause-kept_known
+returns-clause-kept_known g c = pasts_keep g.T.Tag.fits
+
+pub returns-clause-others : goal.returns-clause-others
+returns-clause-others g c = others_take_none
 
 pub returns-clause-found : goal.returns-clause-found
 returns-clause-found g c = λ p. run_finds p
