@@ -1,21 +1,19 @@
 -- What a shard of a cache may be between any two atomic steps of any threads.
-use Rattle.std.specs.Prelude.{◌≡◌, ℕ, ◌<◌, List, Option, None, Some, slice_get}
+use Rattle.std.specs.Prelude.{◌≡◌, ℕ, ◌<◌, List, Some, slice_get}
 use Rattle.std.specs.declared.alloc.Global.{Global}
 use Rattle.hcc_rule.specs.declared.key.Key.{Key}
 use Rattle.hcc_rule.specs.declared.rule.Plan.{Plan}
 use Rattle.hcc_rule.specs.Laws.{StateOf}
 use Rattle.hcc_rule.specs.Rule.{Holds}
-use Rattle.hcc_table.specs.declared.pins.Pin.{Pin}
-use Rattle.hcc_table.specs.Quiet.{IsQuiet, ShowsKeyAt}
 use Rattle.hcc_table.specs.Standing.{ShowsKey, world_at}
 use Rattle.hcc_shard.specs.declared.seat.ShardSeat.{ShardSeat}
 use Rattle.hcc_shard.specs.declared.shard.Shard.{Shard}
-use Rattle.hcc_shard.specs.Callers.{SearchesAt, plan_of}
+use Rattle.hcc_shard.specs.Callers.{plan_of}
 use Rattle.hcc_cache.specs.declared.cache.Cache.{Cache}
 use Rattle.hcc_cache.specs.declared.client.Client.{Client}
 use Rattle.hcc_cache.specs.declared.config.Config.{Config}
 use Rattle.hcc_cache.specs.declared.seeded.Seeded.{Seeded}
-use Rattle.hcc_cache.specs.Calls.{SearchesFor, shard_in}
+use Rattle.hcc_cache.specs.Calls.{shard_in}
 use Rattle.hcc_cache.specs.Keys.{fits_seeded}
 use Rattle.hcc_cache.specs.Opened.{IsCacheOf}
 use Rattle.hcc_cache.specs.Sharding.{key_to}
@@ -36,22 +34,6 @@ abbrev pub plan_in : {T : Type 0} {fits : T → Key → List ℕ → Type 0} {co
     {s : StateOf (Seeded T)} → IsMoment fits config tag s → Plan (Seeded T)
 plan_in m = plan_of m.shard
 
-module _ {T : Type 0} (fits : T → Key → List ℕ → Type 0) where
-  -- What a look-up found that missed is what the shard's words are in this state.
-  abbrev pub IsQuietBy : (shard : Shard (Seeded T) Global) (key : Key) (serial : ℕ)
-      (s : StateOf (Seeded T)) (pin : Option Pin) (was is : ShardSeat (Seeded T))
-      → SearchesAt (fits_seeded fits) shard key serial pin was is → Type 0
-  IsQuietBy shard key serial s None was is missed = IsQuiet shard.table key s missed
-  IsQuietBy shard key serial s (Some pin) was is found = Unit {0}
-
-  -- A look-up of the key missed in this shard, and all that it found is what the shard was then.
-  pub record IsQuietMiss {config : Config} {tag : T} {s : StateOf (Seeded T)}
-      (m : IsMoment fits config tag s) (key : Key) (old new : Client T)
-      (missed : SearchesFor m.cache fits key None old new) : Type 0 where
-    pub here : m.number ≡ shard_in m.cache key
-    pub quiet : IsQuietBy missed.shard (key_to m.cache.seed key) old.used s missed.did.0
-        missed.was missed.is missed.did.2
-
 -- The world that a client knows of a key's shard shows the key in a slot.
 pub record KnowsShown {T : Type 0} (cache : Cache T) (key : Key) (client : Client T) : Type 0 where
   pub shard : Shard (Seeded T) Global
@@ -61,8 +43,3 @@ pub record KnowsShown {T : Type 0} (cache : Cache T) (key : Key) (client : Clien
   pub slot : ℕ
   pub within : slot < cache.geometry.slots
   pub shows : ShowsKey (world_at shard.table seat.seat) (key_to cache.seed key) slot
-
--- A slot of the shard shows a caller's key in this state: look-ups find an entry of it there.
-abbrev pub ShowsKeyIn : {T : Type 0} {fits : T → Key → List ℕ → Type 0} {config : Config} {tag : T}
-    {s : StateOf (Seeded T)} → IsMoment fits config tag s → Key → (slot : ℕ) → Type 0
-ShowsKeyIn {s = s} m key slot = ShowsKeyAt m.shard.table (key_to m.cache.seed key) s slot

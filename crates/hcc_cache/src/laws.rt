@@ -34,7 +34,7 @@ ghost use Rattle.hcc_cache.specs.Gets.{GetsAt};
 ghost use Rattle.hcc_cache.specs.Inserts.{draft_of, PinsAt, ShowsAs, ShowsPinnedAs, StoresAt};
 ghost use Rattle.hcc_cache.specs.Keys.{fits_seeded};
 ghost use Rattle.hcc_cache.specs.Known.{Knows};
-ghost use Rattle.hcc_cache.specs.Moments.{IsMoment, IsQuietMiss, KnowsShown, ShowsKeyIn, plan_in};
+ghost use Rattle.hcc_cache.specs.Moments.{IsMoment, KnowsShown, plan_in};
 ghost use Rattle.hcc_cache.specs.Opened.{IsCacheOf};
 ghost use Rattle.hcc_cache.specs.Room.{HasRoom, HasRoomBeside, KeepsAs, KeepsPinnedAs, TurnsNone};
 ghost use Rattle.hcc_cache.specs.Sharding.{key_to};
@@ -45,7 +45,7 @@ use crate::seeded::Seeded;
 use hcc_rule::Tag;
 use hcc_rule::laws::{law_ledgers, law_made};
 use hcc_table::laws::{
-    law_found_alone, law_hidden_alone, law_inserted_alone, law_lasting, law_miss, law_room_alone,
+    law_found_alone, law_hidden_alone, law_inserted_alone, law_lasting, law_room_alone,
     law_told_alone,
 };
 use std::alloc::Global;
@@ -88,19 +88,6 @@ pub fn law_insertions<T: Tag>()
         → slice_get s.views number ≡ Some v → AreOfMade (fits_seeded T.fits) (plan_in m) s v }
 {
     law_made::<Seeded<T>>();
-}
-
-/// A miss is a miss.
-pub fn law_misses<T: Tag>()
-    // Where all that a look-up found, which missed, is what the key's shard was at one moment, no
-    // slot showed the key at that moment.
-    ensures { (config : Config) (tag : T) (s : StateOf (Seeded T))
-        (m : IsMoment T.fits config tag s) (key : Key) (old new : Client T)
-        (missed : SearchesFor m.cache T.fits key None old new)
-        → IsQuietMiss T.fits m key old new missed → (slot : ℕ) → slot < config.slots
-        → ¬ ShowsKeyIn m key slot }
-{
-    law_miss::<Seeded<T>, Global>();
 }
 
 /// A look-up finds what stands, whatever other clients do meanwhile.

@@ -5,7 +5,6 @@ pub mod Seeking
 pub mod Reaches
 pub mod Probes
 pub mod Probings
-pub mod Quiet
 pub mod Shown
 pub mod Lasting
 pub mod Alone

@@ -10,7 +10,6 @@ pub mod Readings
 pub mod Inserted
 pub mod Steps
 pub mod Probed
-pub mod Quiet
 pub mod Standing
 pub mod Hides
 pub mod Tries

@@ -5,10 +5,8 @@ ghost use Rattle.std.specs.Prelude.{◌≡◌, ℕ, ◌<◌, ◌↔◌, Bool, Op
 ghost use Rattle.hcc_rule.specs.declared.key.Key.{Key};
 ghost use Rattle.hcc_rule.specs.declared.table.RuleTable.{RuleTable};
 ghost use Rattle.hcc_core.specs.World.{occupancy_of, usage_of};
-ghost use Rattle.hcc_rule.specs.Callers.{clients_of, plan_of, slots_of, IsEvent};
+ghost use Rattle.hcc_rule.specs.Callers.{clients_of, slots_of, IsEvent};
 ghost use Rattle.hcc_rule.specs.Events.{occupancy_done, usage_done};
-ghost use Rattle.hcc_rule.specs.Laws.{StateOf};
-ghost use Rattle.hcc_rule.specs.Rule.{Holds};
 ghost use Rattle.hcc_rule.specs.Seats.{SeatOf, view};
 ghost use Rattle.hcc_table.specs.declared.efforts.Effort.{Effort};
 ghost use Rattle.hcc_table.specs.declared.hiding.Erased.{Erased};
@@ -16,15 +14,13 @@ ghost use Rattle.hcc_table.specs.declared.inserting.Insertion.{Insertion};
 ghost use Rattle.hcc_table.specs.declared.inserting.Insertion.TheVariants.{NoSlot};
 ghost use Rattle.hcc_table.specs.declared.pins.Pin.{Pin};
 ghost use Rattle.hcc_table.specs.Hides.{HidesAll};
-ghost use Rattle.hcc_table.specs.Probed.{Misses, Searches};
-ghost use Rattle.hcc_table.specs.Quiet.{IsQuiet, ShowsKeyAt};
+ghost use Rattle.hcc_table.specs.Probed.{Searches};
 ghost use Rattle.hcc_table.specs.Seeking.{is_settling, GoesOnBy, Seeks};
 ghost use Rattle.hcc_table.specs.Still.{BeganWithin, GoesOnStill, ReleasesBy, ShowsBut};
 ghost use Rattle.hcc_table.specs.Tries.{Inserts};
 ghost use Rattle.hcc_table.specs.Standing.{FindsFirst, FindsLasting, HidesShown, InsertsShown, ShowsKey, ShowsSame, shown_at, world_at};
 
 use hcc_rule::Tag;
-use hcc_rule::laws::law_trails;
 use std::alloc::Allocator;
 
 /// A search finds what stands, whatever other clients do meanwhile.
@@ -131,15 +127,3 @@ pub fn law_told_alone<T: Tag, A: Allocator>()
         → clients_of table ≡ 1 → IsEvent table (occupancy_done count (view old)) old new
         → count ≡ occupancy_of (world_at table old) }
 {}
-
-/// A miss is a miss.
-pub fn law_miss<T: Tag, A: Allocator>()
-    // Where all that a search found, which missed, is what one state has, that state shows the key
-    // in no slot.
-    ensures { (table : RuleTable T A) (key : Key) (name : ℕ) (before after : Effort)
-        (old new : SeatOf T) (m : Misses T.fits table key name before after old new)
-        (s : StateOf T) → Holds T.fits (plan_of table) s → IsQuiet table key s m
-        → (slot : ℕ) → slot < slots_of table → ¬ ShowsKeyAt table key s slot }
-{
-    law_trails::<T>();
-}
