@@ -1,6 +1,6 @@
 -- What contracts see of a client: what it knows of each shard, its handles, and what they stand
 -- for.
-use Rattle.std.specs.Prelude.{ℕ, ◌&&◌, ◌==◌, Bool, List, Option, Some, None, IsSome, option_map, slice_get, if◌then◌else◌}
+use Rattle.std.specs.Prelude.{◌≡◌, ℕ, ◌&&◌, ◌==◌, Bool, List, Option, Some, None, IsSome, option_map, slice_get, if◌then◌else◌}
 use Rattle.slab.specs.Slab.{Slab, get}
 use Rattle.hcc_core.specs.declared.client.Standalone.{Standalone}
 use Rattle.hcc_core.specs.declared.slot.Entry.{Entry}
@@ -71,6 +71,11 @@ held_alone key alone = record {
   entry = None;
   standing = Some alone.name;
 }
+
+-- the pin of what is kept of a handle on an entry of the table
+pub record IsPinOf (hold : Hold) (pin : Pin) : Type 0 where
+  pub name : pin.name ≡ hold.serial
+  pub kept : hold.kept ≡ Pinned pin.slot pin.counting
 
 -- the pin of a handle on an entry of the table
 abbrev pub pin_of : (serial slot : ℕ) → (counting : Bool) → Pin

@@ -1,12 +1,14 @@
 //! What a client keeps of its handles.
-ghost use Rattle.std.specs.Prelude.{◌≡◌, ◌+◌, ◌-◌, ◌<◌, ◌≤◌, ◌^◌, ◌↔◌, Some, None, IfOk, IsErrOf};
+ghost use Rattle.std.specs.Prelude.{◌≡◌, ◌+◌, ◌-◌, ◌<◌, ◌≤◌, ◌^◌, ◌↔◌, Some, None, IfErr, IfOk, IsErrOf};
 ghost use Rattle.slab.specs.Slab.{get, slab_len, HasRoomFor, Updates};
-ghost use Rattle.hcc_cache.specs.Clients.{Holds, hold_of};
+ghost use Rattle.hcc_cache.specs.declared.holding.Kept.TheVariants.{Standing};
+ghost use Rattle.hcc_cache.specs.Clients.{Holds, IsPinOf, hold_of};
 
 use crate::client::Client;
 use crate::errors::LookupError;
 use crate::handle::Handle;
 use hcc_rule::Key;
+use hcc_table::Pin;
 
 /// What a client keeps of a handle.
 #[derive(Clone, Copy, Debug, PartialEq, Eq)]
@@ -27,6 +29,24 @@ pub(crate) enum Kept {
     Pinned { slot: u32, counting: bool },
     /// It is the standalone entry of this index.
     Standing { index: usize },
+}
+
+impl Hold {
+    /// The reference on an entry of the table; the index of a standalone entry as an error.
+    #[inline(always)]
+    pub(crate) fn pin(self) -> Result<Pin, usize>
+        ensures pinned { IfOk result (IsPinOf self) }
+        ensures standing { IfErr result (λ index. self.kept ≡ Standing index) }
+    {
+        match self.kept {
+            Kept::Pinned { slot, counting } => Ok(Pin {
+                name: self.serial,
+                slot,
+                counting,
+            }),
+            Kept::Standing { index } => Err(index),
+        }
+    }
 }
 
 /// A standalone entry, which no table has.

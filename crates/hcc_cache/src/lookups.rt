@@ -3,7 +3,7 @@ ghost use Rattle.std.specs.Prelude.{◌≡◌, ◌*◌, ◌<◌, ◌≤◌, ◌�
 ghost use Rattle.hcc_shard.specs.Callers.{AcquiresAt};
 ghost use Rattle.hcc_cache.specs.declared.holding.Kept.TheVariants.{Pinned, Standing};
 ghost use Rattle.hcc_cache.specs.Calls.{AcquiresFor, AtShard, CountsAt, CountsBy, CountsNone, Finds, Misses, Rerefs, SearchesFor, TakesAtMost, TakesFor, shard_in};
-ghost use Rattle.hcc_cache.specs.Clients.{held_by, hold_of, Holds};
+ghost use Rattle.hcc_cache.specs.Clients.{held_by, hold_of, Holds, IsPinOf};
 ghost use Rattle.hcc_cache.specs.Keys.{key_from};
 ghost use Rattle.hcc_cache.specs.Sharding.{key_to, shard_of};
 ghost use Rattle.hcc_cache.specs.Known.{AreAlike, Knows};
@@ -119,42 +119,28 @@ impl<T: Tag> Cache<T> {
     {
         let hold = client.hold(handle);
         client.may_hold()?;
-        match hold.kept {
-            Kept::Pinned { slot, counting } => {
-                Ok(self.pinned_again(client, handle, hold, slot, counting))
-            }
-            Kept::Standing { index } => Ok(self.standing_again(client, handle, hold, index)),
+        match hold.pin() {
+            Ok(pin) => Ok(self.pinned_again(client, handle, hold, pin)),
+            Err(index) => Ok(self.standing_again(client, handle, hold, index)),
         }
     }
 
     /// One handle more on an entry of the table.
-    fn pinned_again(
-        &self,
-        client: &mut Client<T>,
-        handle: Handle,
-        hold: Hold,
-        slot: u32,
-        counting: bool,
-    ) -> Handle
+    fn pinned_again(&self, client: &mut Client<T>, handle: Handle, hold: Hold, pin: Pin) -> Handle
         requires known { Knows self.now client.old }
         requires held { hold_of client.old handle ≡ Some hold }
-        requires kept { hold.kept ≡ Pinned slot counting }
+        requires pinned { IsPinOf hold pin }
         requires free { (held_by client.old < client.old.most) × (0 < client.old.left) }
         ensures known { Knows self.now client.new }
         ensures again { Rerefs self.now handle result client.old client.new }
         ensures acquires { AtShard self.now (λ shard was is. (counts : _)
-            × AcquiresAt shard slot counts was is) hold.shard client.old client.new }
+            × AcquiresAt shard pin.slot counts was is) hold.shard client.old client.new }
         ensures stays { Stays self.now client.old client.new }
         ensures counts { CountsAt hold.shard client.old client.new }
         ensures steps { TakesAtMost 2 client.old client.new }
     {
         let serial = client.used;
         let seat = &mut client.seats[hold.shard];
-        let pin = Pin {
-            name: hold.serial,
-            slot,
-            counting,
-        };
         let pin = self.shards[hold.shard].reref(seat, pin, serial);
         client.keep(hold.key, hold.shard, pinned(pin))
     }

@@ -1,7 +1,6 @@
 //! What a client reads by its handles.
 ghost use Rattle.std.specs.Prelude.{◌≡◌, ◌+◌, ◌-◌, ◌<◌, ◌≤◌, ◌++◌, Some, IfErr, IfNone, IfOk, IfSome, length, drop};
 ghost use Rattle.hcc_rule.specs.Words.{words_for};
-ghost use Rattle.hcc_cache.specs.declared.holding.Kept.TheVariants.{Pinned};
 ghost use Rattle.hcc_cache.specs.Calls.{Reads, TakesAtMost};
 ghost use Rattle.hcc_cache.specs.Clients.{held_of, hold_of, Holds};
 ghost use Rattle.hcc_cache.specs.Handles.{handle_of, HoldsNone};
@@ -11,9 +10,8 @@ ghost use Rattle.hcc_cache.specs.Stays.{Stays};
 use crate::cache::Cache;
 use crate::client::Client;
 use crate::handle::{Handle, HandleParts};
-use crate::holding::{Hold, Kept};
+use crate::holding::Hold;
 use hcc_rule::{Key, Tag};
-use hcc_table::Pin;
 
 impl<T: Tag> Cache<T> {
     /// The key of the entry that a handle is on, as its insertion gave it.
@@ -120,17 +118,12 @@ impl<T: Tag> Cache<T> {
         ensures rest { client.new ≡ record client.old { seats = client.new.seats } }
         ensures steps { TakesAtMost 1 client.old client.new }
     {
-        match hold.kept {
-            Kept::Pinned { slot, counting } => {
-                let pin = Pin {
-                    name: hold.serial,
-                    slot,
-                    counting,
-                };
+        match hold.pin() {
+            Ok(pin) => {
                 let seat = &mut client.seats[hold.shard];
                 self.shards[hold.shard].value_len(seat, pin)
             }
-            Kept::Standing { index } => client.alone[index].value.len(),
+            Err(index) => client.alone[index].value.len(),
         }
     }
 
@@ -156,17 +149,12 @@ impl<T: Tag> Cache<T> {
             ++ drop (length held.insertion.value) buffer.old) }
         ensures steps { TakesAtMost (words_for result + 1) client.old client.new }
     {
-        match hold.kept {
-            Kept::Pinned { slot, counting } => {
-                let pin = Pin {
-                    name: hold.serial,
-                    slot,
-                    counting,
-                };
+        match hold.pin() {
+            Ok(pin) => {
                 let seat = &mut client.seats[hold.shard];
                 self.shards[hold.shard].read_value(seat, pin, buffer)
             }
-            Kept::Standing { index } => {
+            Err(index) => {
                 let value = &client.alone[index].value;
                 buffer[..value.len()].copy_from_slice(value);
                 value.len()
@@ -198,17 +186,12 @@ impl<T: Tag> Cache<T> {
             TakesAtMost (words_for len + 1) client.old client.new) }
         ensures few { IfErr result (λ _. TakesAtMost 1 client.old client.new) }
     {
-        match hold.kept {
-            Kept::Pinned { slot, counting } => {
-                let pin = Pin {
-                    name: hold.serial,
-                    slot,
-                    counting,
-                };
+        match hold.pin() {
+            Ok(pin) => {
                 let seat = &mut client.seats[hold.shard];
                 self.shards[hold.shard].try_read(seat, pin, buffer)
             }
-            Kept::Standing { index } => {
+            Err(index) => {
                 let value = &client.alone[index].value;
                 let len = value.len();
                 if buffer.len() < len {

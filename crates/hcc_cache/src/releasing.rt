@@ -2,7 +2,7 @@
 ghost use Rattle.std.specs.Prelude.{◌≡◌, ◌+◌, ◌*◌, ◌&&◌, true, false, IfNone, IfSome, Some};
 ghost use Rattle.hcc_cache.specs.declared.holding.Kept.TheVariants.{Pinned, Standing};
 ghost use Rattle.hcc_cache.specs.Calls.{CountsAt, CountsBy, CountsNone, GivesBackIn, GivesUp, Releases, TakesAtMost};
-ghost use Rattle.hcc_cache.specs.Clients.{hold_of, Holds};
+ghost use Rattle.hcc_cache.specs.Clients.{hold_of, Holds, IsPinOf};
 ghost use Rattle.hcc_cache.specs.Handles.{handle_of, HoldsNone};
 ghost use Rattle.hcc_cache.specs.Known.{Knows};
 ghost use Rattle.hcc_cache.specs.Stays.{ReleasesIn, ReleasesPin, Stays, StaysWhereStanding};
@@ -11,7 +11,7 @@ ghost use Rattle.hcc_table.specs.Steps.{freeing};
 use crate::cache::Cache;
 use crate::client::Client;
 use crate::handle::{Handle, HandleParts};
-use crate::holding::{Hold, Kept};
+use crate::holding::Hold;
 use hcc_rule::Tag;
 use hcc_table::{IfLast, Pin, Use};
 
@@ -105,16 +105,9 @@ impl<T: Tag> Cache<T> {
         ensures counts { CountsBy handle client.old client.new }
         ensures steps { TakesAtMost (freeing self.now.geometry.slots + 3) client.old client.new }
     {
-        match hold.kept {
-            Kept::Pinned { slot, counting } => {
-                let pin = Pin {
-                    name: hold.serial,
-                    slot,
-                    counting,
-                };
-                self.release_pin(client, handle, hold, pin, useful, erase_if_last)
-            }
-            Kept::Standing { index } => self.release_standing(client, handle, hold, index),
+        match hold.pin() {
+            Ok(pin) => self.release_pin(client, handle, hold, pin, useful, erase_if_last),
+            Err(index) => self.release_standing(client, handle, hold, index),
         }
     }
 
@@ -130,8 +123,7 @@ impl<T: Tag> Cache<T> {
     ) -> bool
         requires known { Knows self.now client.old }
         requires held { hold_of client.old handle ≡ Some hold }
-        requires name { pin.name ≡ hold.serial }
-        requires kept { hold.kept ≡ Pinned pin.slot pin.counting }
+        requires pinned { IsPinOf hold pin }
         ensures known { Knows self.now client.new }
         ensures released { Releases self.now handle erase_if_last result client.old client.new }
         ensures gives { GivesBackIn self.now hold.shard pin.slot (useful && pin.counting)

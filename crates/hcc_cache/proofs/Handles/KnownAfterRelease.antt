@@ -11,6 +11,7 @@ use Rattle.hcc_rule.specs.declared.view.View.{View}
 use Rattle.hcc_rule.specs.Views.{is_called}
 use Rattle.hcc_rule.proofs.Basics.Findings.{dropped_each}
 use Rattle.hcc_charge.specs.Settled.{fallen}
+use Rattle.hcc_table.specs.declared.pins.Pin.{Pin}
 use Rattle.hcc_shard.specs.declared.seat.ShardSeat.{ShardSeat}
 use Rattle.hcc_shard.specs.declared.shard.Shard.{Shard}
 use Rattle.hcc_shard.specs.Callers.{geometry_of, view_of}
@@ -21,10 +22,10 @@ use Rattle.hcc_cache.specs.declared.client.Client.{Client}
 use Rattle.hcc_cache.specs.declared.handle.Handle.{Handle}
 use Rattle.hcc_cache.specs.declared.holding.Alone.{Alone}
 use Rattle.hcc_cache.specs.declared.holding.Hold.{Hold}
-use Rattle.hcc_cache.specs.declared.holding.Kept.TheVariants.{Pinned, Standing}
+use Rattle.hcc_cache.specs.declared.holding.Kept.TheVariants.{Standing}
 use Rattle.hcc_cache.specs.declared.seeded.Seeded.{Seeded}
 use Rattle.hcc_cache.specs.Calls.{Loses, Releases, UsesNone}
-use Rattle.hcc_cache.specs.Clients.{held_alone, held_entry, held_of, hold_of, view_at, view_in}
+use Rattle.hcc_cache.specs.Clients.{IsPinOf, held_alone, held_entry, held_of, hold_of, view_at, view_in}
 use Rattle.hcc_cache.specs.Known.{IsSeated, Knows}
 use Rattle.hcc_cache.proofs.Handles.OneMoreOnPinned.{IsPinAt, held_at, pin_at}
 use Rattle.hcc_cache.proofs.Clients.AtOneShard.{ChangesAt, IsAt, home_kept, knows_at, seated_at, works_at}
@@ -140,16 +141,16 @@ module _ {T : Type 0} (cache : Cache T) (old new : Client T) (handle : Handle) (
         }
 
     -- The handle was on an entry of the table.
-    module _ (slot : ℕ) (counting : Bool) (kept : hold.kept ≡ Pinned slot counting)
-        (shard : Shard (Seeded T) _) (was is : ShardSeat (Seeded T))
-        (at : IsAt cache old hold.shard shard was) (change : ChangesAt old new hold.shard is)
-        (alone : new.alone ≡ old.alone) (erase freed : Bool)
+    module _ {pin : Pin} (pinned : IsPinOf hold pin) (shard : Shard (Seeded T) _)
+        (was is : ShardSeat (Seeded T)) (at : IsAt cache old hold.shard shard was)
+        (change : ChangesAt old new hold.shard is) (alone : new.alone ≡ old.alone)
+        (erase freed : Bool)
         (released : IsReleased hold.serial erase freed (view_of was) (view_of is)) where
       abbrev without : IsWithout hold.serial was is
       without = without_released hold.serial erase freed was is released
 
-      abbrev pin : IsPinAt cache old hold slot counting (geometry_of shard).slots was
-      pin = pin_at cache old hold slot counting handle.index shard was at lets.gone.there kept
+      abbrev found : IsPinAt cache old hold pin (geometry_of shard).slots was
+      found = pin_at handle at lets.was pinned
 
       -- the client is known still
       pub knows_unpinned : Rests shard is → Knows cache new
@@ -167,8 +168,8 @@ module _ {T : Type 0} (cache : Cache T) (old new : Client T) (handle : Handle) (
           (ap (λ (v : View (Seeded T)). v.made) released.same))
           (rw (change.seats, alone, lets.uses.0)
           (held_unpinned cache.seed old.used old.seats.items old.handles new.handles old.alone
-          handle.index slot counting hold was is lets.gone kept at.seat_is without at.knows.holds
-          pin.handled pin.there))
+          handle.index pin.slot pin.counting hold was is lets.gone pinned.kept at.seat_is without
+          at.knows.holds found.handled found.there))
           (omega arith) (omega arith)
           (rw (lets.uses.0, lets.uses.1) at.knows.serials)
 
@@ -177,10 +178,8 @@ module _ {T : Type 0} (cache : Cache T) (old new : Client T) (handle : Handle) (
       releases_unpinned =
           let own = own_parts old.number handle (get old.handles handle.index) hold lets.was in
           record {
-            held = held_entry cache.seed pin.handled.entry;
-            was =
-                held_at cache old hold slot counting handle.index shard was at lets.gone.there kept
-                pin.handled handle lets.was refl;
+            held = held_entry cache.seed found.handled.entry;
+            was = held_at handle at lets.was pinned found.handled refl;
             shard = hold.shard;
             v = view_of was;
             w = view_of is;
@@ -190,8 +189,8 @@ module _ {T : Type 0} (cache : Cache T) (old new : Client T) (handle : Handle) (
                 loses
                 (λ p k ne there. rw (change.seats, alone)
                 (stand_unpinned cache.seed old.used old.seats.items old.handles new.handles
-                old.alone handle.index slot counting hold was is lets.gone kept at.seat_is without
-                at.knows.holds p k ne there));
+                old.alone handle.index pin.slot pin.counting hold was is lets.gone pinned.kept
+                at.seat_is without at.knows.holds p k ne there));
           }
 
     -- The handle was on a standalone entry.

@@ -1,13 +1,12 @@
 -- What a client reads by a handle.
-use Rattle.std.proofs.Common.{◌≡◌, ℕ, ◌^◌, ◌<◌, Bool, List, Some, IfSome, length, sym, refl, ap, ◌∙◌, arith}
+use Rattle.std.proofs.Common.{◌≡◌, ℕ, ◌^◌, ◌<◌, Some, IfSome, length, sym, refl, ap, ◌∙◌, arith}
 use Rattle.slab.specs.Slab.{get}
 use Rattle.hcc_word.proofs.SeedLaws.{unseeded_key-seeded_key}
 use Rattle.hcc_rule.specs.declared.key.Key.{Key}
 use Rattle.hcc_rule.specs.declared.view.View.{View}
-use Rattle.hcc_rule.specs.Records.{record_in}
 use Rattle.hcc_shard.specs.declared.seat.ShardSeat.{ShardSeat}
 use Rattle.hcc_shard.specs.declared.shard.Shard.{Shard}
-use Rattle.hcc_shard.specs.Callers.{geometry_of, view_of}
+use Rattle.hcc_shard.specs.Callers.{view_of}
 use Rattle.hcc_shard.specs.Counted.{SameCounts}
 use Rattle.hcc_shard.specs.Seated.{Rests}
 use Rattle.hcc_cache.specs.declared.cache.Cache.{Cache}
@@ -18,11 +17,10 @@ use Rattle.hcc_cache.specs.declared.holding.Kept.{Kept}
 use Rattle.hcc_cache.specs.declared.holding.Kept.TheVariants.{Pinned, Standing}
 use Rattle.hcc_cache.specs.declared.seeded.Seeded.{Seeded}
 use Rattle.hcc_cache.specs.Calls.{Reads}
-use Rattle.hcc_cache.specs.Clients.{held_entry, held_of, hold_of, kept_as}
+use Rattle.hcc_cache.specs.Clients.{held_of, hold_of, kept_as}
 use Rattle.hcc_cache.specs.Keys.{key_from}
 use Rattle.hcc_cache.specs.Sharding.{key_of_words, key_to}
 use Rattle.hcc_cache.specs.Known.{IsKeptAs, IsSeated, Knows}
-use Rattle.hcc_cache.proofs.Handles.OneMoreOnPinned.{IsPinAt, held_at, pin_at}
 use Rattle.hcc_cache.proofs.Clients.AtOneShard.{ChangesAt, IsAt, counts_none, seated_at}
 use Rattle.hcc_cache.proofs.Searches.KnownAfterLookup.{IsLeft, keeps_left, knows_left}
 use Rattle.hcc_cache.proofs.Clients.Seats.{part_same, seated_by}
@@ -69,34 +67,6 @@ module _ {T : Type 0} (cache : Cache T) (old new : Client T) (i : ℕ) (shard : 
       };
       keeps = keeps_left cache old new i shard was is at change left records standalones;
     }
-
--- What is told of a handle on an entry of the table, by its record.
-module _ {T : Type 0} (cache : Cache T) (client : Client T) (handle : Handle) (hold : Hold)
-    (slot : ℕ) (counting : Bool) (shard : Shard (Seeded T) _) (was : ShardSeat (Seeded T))
-    (at : IsAt cache client hold.shard shard was) (held : hold_of client handle ≡ Some hold)
-    (there : get client.handles handle.index ≡ Some hold) (kept : hold.kept ≡ Pinned slot counting)
-    (P : List ℕ → Type 0) where
-  abbrev pin : IsPinAt cache client hold slot counting (geometry_of shard).slots was
-  pin = pin_at cache client hold slot counting handle.index shard was at there kept
-
-  stands : held_of cache client handle ≡ Some (held_entry cache.seed pin.handled.entry)
-  stands =
-      held_at cache client hold slot counting handle.index shard was at there kept pin.handled
-      handle held refl
-
-  -- of its value
-  pub told_of : IfSome (record_in hold.serial (view_of was).records) (λ r. P r.entry.value)
-      → IfSome (held_of cache client handle) (λ h. P h.insertion.value)
-  told_of told =
-      let here : P pin.handled.entry.value = rw (pin.there) at told in
-      rw stands here
-
-  -- and back
-  pub told_back : IfSome (held_of cache client handle) (λ h. P h.insertion.value)
-      → IfSome (record_in hold.serial (view_of was).records) (λ r. P r.entry.value)
-  told_back told =
-      let here : P pin.handled.entry.value = rw stands at told in
-      rw (pin.there) here
 
 -- a key of words is given back by its seeded key
 pub key_back : (seed : ℕ) (key : Key) → key.w0 < 2 ^ 64 → key.w1 < 2 ^ 64

@@ -1,80 +1,51 @@
 use Rattle.std.proofs.Common.{◌≡◌, List, ℕ, length, refl, arith}
 use Rattle.std.specs.Vec.{with_item}
-use Rattle.slab.specs.Slab.{get}
 use Rattle.hcc_cache.specs.declared.client.Client.{Client}
-use Rattle.hcc_cache.proofs.Handles.OneMoreOnPinned.{hold_within, pin_at, pinned_at, stand_there}
-use Rattle.hcc_cache.proofs.Clients.AtOneShard.{ChangesAt, is_at, seated_at, takes_at}
+use Rattle.hcc_cache.proofs.Handles.OneMoreOnPinned.{at_hold, held_within, pin_at, pinned_at, stand_there, told_of}
+use Rattle.hcc_cache.proofs.Clients.AtOneShard.{ChangesAt, seated_at, takes_at}
 use Rattle.hcc_cache.proofs.Searches.KnownAfterLookup.{IsLeft}
-use Rattle.hcc_cache.proofs.Handles.SameHolds.{hold_there}
-use Rattle.hcc_cache.proofs.Searches.ReadByHandle.{knows_read, reads_at, told_of}
+use Rattle.hcc_cache.proofs.Searches.ReadByHandle.{knows_read, reads_at}
 use Rattle.hcc_table.proofs.Still.{seeks_still}
 use Rattle.hcc_cache.proofs.Clients.ShownAfterwards.{stays_at, stays_same}
 use Rattle.hcc_cache.proofs.cache.Cache.len_of.Goals as goal
 
 pub index_mut-seat-requires : goal.index_mut-seat-requires
 index_mut-seat-requires g c =
-    let old = c.args.client.now in
-    let hold = c.args.hold in
-    let index = c.args.handle.index in
-    let there = hold_there old.number c.args.handle (get old.handles index) hold c.requires.held in
-    let within = hold_within c.args.self.now old hold index c.requires.known there in
-    let length_is = old.seats.ok.0 in
+    let within = held_within c.args.handle c.requires.known c.requires.held in
+    let length_is = c.args.client.now.seats.ok.0 in
     omega arith
 
 pub index-requires : goal.index-requires
 index-requires g c =
-    let cache = c.args.self.now in
-    let old = c.args.client.now in
-    let hold = c.args.hold in
-    let index = c.args.handle.index in
-    let there = hold_there old.number c.args.handle (get old.handles index) hold c.requires.held in
-    let within = hold_within cache old hold index c.requires.known there in
-    let length_is = cache.shards.ok.0 in
+    let within = held_within c.args.handle c.requires.known c.requires.held in
+    let length_is = c.args.self.now.shards.ok.0 in
     omega arith
 
-pub index-requires-in-Standing : goal.index-requires-in-Standing
-index-requires-in-Standing g c =
-    let old = c.args.client.now in
-    let hold = c.args.hold in
-    let index = c.args.handle.index in
-    let there = hold_there old.number c.args.handle (get old.handles index) hold c.requires.held in
-    stand_there c.args.self.now old hold c.in-Standing.index index c.requires.known there
-    c.in-Standing.is
+pub index-requires-in-Err : goal.index-requires-in-Err
+index-requires-in-Err g c =
+    stand_there c.args.handle c.requires.known c.requires.held c.in-Err.ensures.standing
 
 pub value_len-requires : goal.value_len-requires
 value_len-requires g c =
-    let cache = c.args.self.now in
-    let old = c.args.client.now in
-    let hold = c.args.hold in
-    let index = c.args.handle.index in
-    let there = hold_there old.number c.args.handle (get old.handles index) hold c.requires.held in
-    let within = hold_within cache old hold index c.requires.known there in
-    let shard = c.index.result.now in
-    let was = c.index_mut-seat.result.now in
-    let at = is_at cache old hold.shard shard was c.requires.known within.1 c.index.ensures
+    let at = at_hold c.args.handle c.requires.known c.requires.held c.index.ensures
     c.index_mut-seat.ensures.value in
-    let slot = c.in-Pinned.slot in
-    let counting = c.in-Pinned.counting in
     record {
-      seat = (seated_at cache old old hold.shard shard was was at).rests;
-      slot = (pin_at cache old hold slot counting index shard was at there c.in-Pinned.is).within;
-      holds = pinned_at cache old hold slot counting index shard was at there c.in-Pinned.is;
+      seat =
+          (seated_at c.args.self.now c.args.client.now c.args.client.now c.args.hold.shard
+          c.index.result.now c.index_mut-seat.result.now c.index_mut-seat.result.now at).rests;
+      slot = (pin_at c.args.handle at c.requires.held c.in-Ok.ensures.pinned).within;
+      holds = pinned_at c.args.handle at c.requires.held c.in-Ok.ensures.pinned;
     }
 
-pub returns-in-Pinned : goal.returns-in-Pinned
-returns-in-Pinned g c =
+pub returns-in-Ok : goal.returns-in-Ok
+returns-in-Ok g c =
     let cache = c.args.self.now in
     let old = c.args.client.now in
     let hold = c.args.hold in
-    let index = c.args.handle.index in
-    let there = hold_there old.number c.args.handle (get old.handles index) hold c.requires.held in
-    let within = hold_within cache old hold index c.requires.known there in
     let shard = c.index.result.now in
     let was = c.index_mut-seat.result.now in
-    let at = is_at cache old hold.shard shard was c.requires.known within.1 c.index.ensures
+    let at = at_hold c.args.handle c.requires.known c.requires.held c.index.ensures
     c.index_mut-seat.ensures.value in
-    let slot = c.in-Pinned.slot in
-    let counting = c.in-Pinned.counting in
     let is = c.value_len.new.seat in
     let new : Client g.row.T.Denot = record old { seats = with_item old.seats hold.shard is } in
     let change : ChangesAt old new hold.shard is =
@@ -92,8 +63,7 @@ returns-in-Pinned g c =
           stays_at cache old new hold.shard shard was is at change
           (seeks_still shard.table was.seat is.seat c.value_len.ensures.seeks);
       exact =
-          told_of cache old c.args.handle hold slot counting shard was at c.requires.held
-          there c.in-Pinned.is
+          told_of c.args.handle at c.requires.held c.in-Ok.ensures.pinned
           (λ (bytes : List ℕ). c.value_len.result ≡ length bytes) c.value_len.ensures.exact;
       rest = refl;
       steps =
@@ -101,6 +71,6 @@ returns-in-Pinned g c =
           c.value_len.ensures.steps;
     }
 
-pub returns-in-Standing-clause-stays : goal.returns-in-Standing-clause-stays
-returns-in-Standing-clause-stays g c =
+pub returns-in-Err-clause-stays : goal.returns-in-Err-clause-stays
+returns-in-Err-clause-stays g c =
     stays_same c.args.self.now c.args.client.now c.args.client.now refl

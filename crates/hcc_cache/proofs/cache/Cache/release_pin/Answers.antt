@@ -1,14 +1,12 @@
 use Rattle.std.proofs.Common.{◌≡◌, ◌∙◌, ◌+◌, ◌&&◌, get_or, slice_set, ap, refl, sym, arith}
 use Rattle.std.specs.Vec.{with_item}
-use Rattle.slab.specs.Slab.{get}
 use Rattle.hcc_rule.specs.declared.geometry.Geometry.{Geometry}
 use Rattle.hcc_table.specs.Pins.{erases, is_useful}
 use Rattle.hcc_table.specs.Steps.{freeing}
 use Rattle.hcc_shard.specs.Counted.{SameEvictions}
 use Rattle.hcc_cache.specs.declared.client.Client.{Client}
-use Rattle.hcc_cache.proofs.Handles.OneMoreOnPinned.{hold_within, pin_at, pinned_at}
-use Rattle.hcc_cache.proofs.Clients.AtOneShard.{ChangesAt, did_at, does_at, is_at, only_at, seated_at, takes_at}
-use Rattle.hcc_cache.proofs.Handles.SameHolds.{hold_there}
+use Rattle.hcc_cache.proofs.Handles.OneMoreOnPinned.{at_hold, held_within, kept_there, pin_at, pinned_at}
+use Rattle.hcc_cache.proofs.Clients.AtOneShard.{ChangesAt, did_at, does_at, only_at, seated_at, takes_at}
 use Rattle.hcc_cache.proofs.Handles.OneLessOnPinned.{IsLess}
 use Rattle.hcc_core.proofs.ListLemmas.{read_here}
 use Rattle.hcc_cache.proofs.Handles.KnownAfterRelease.{knows_unpinned, lets_go, releases_unpinned}
@@ -20,12 +18,8 @@ use Rattle.hcc_cache.proofs.cache.Cache.release_pin.Goals as goal
 
 pub index_mut-seat-requires : goal.index_mut-seat-requires
 index_mut-seat-requires g c =
-    let cache = c.args.self.now in
     let old = c.args.client.now in
-    let hold = c.args.hold in
-    let index = c.args.handle.index in
-    let there = hold_there old.number c.args.handle (get old.handles index) hold c.requires.held in
-    let within = hold_within cache old hold index c.requires.known there in
+    let within = held_within c.args.handle c.requires.known c.requires.held in
     let seats : c.let_go.new.self.seats ≡ old.seats =
     ap (λ (x : Client g.row.T.Denot). x.seats) c.let_go.ensures.rest in
     let length_is = old.seats.ok.0 in
@@ -33,13 +27,8 @@ index_mut-seat-requires g c =
 
 pub index-requires : goal.index-requires
 index-requires g c =
-    let cache = c.args.self.now in
-    let old = c.args.client.now in
-    let hold = c.args.hold in
-    let index = c.args.handle.index in
-    let there = hold_there old.number c.args.handle (get old.handles index) hold c.requires.held in
-    let within = hold_within cache old hold index c.requires.known there in
-    let length_is = cache.shards.ok.0 in
+    let within = held_within c.args.handle c.requires.known c.requires.held in
+    let length_is = c.args.self.now.shards.ok.0 in
     omega arith
 
 pub release-requires : goal.release-requires
@@ -47,24 +36,16 @@ release-requires g c =
     let cache = c.args.self.now in
     let old = c.args.client.now in
     let hold = c.args.hold in
-    let index = c.args.handle.index in
-    let there = hold_there old.number c.args.handle (get old.handles index) hold c.requires.held in
-    let within = hold_within cache old hold index c.requires.known there in
     let rest = c.let_go.ensures.rest in
     let shard = c.index.result.now in
     let was = c.index_mut-seat.result.now in
     let sits = c.index_mut-seat.ensures.value
     ∙ ap (λ (x : Client g.row.T.Denot). get_or x.seats.items hold.shard was) rest in
-    let at = is_at cache old hold.shard shard was c.requires.known within.1 c.index.ensures sits in
+    let at = at_hold c.args.handle c.requires.known c.requires.held c.index.ensures sits in
     record {
       seat = (seated_at cache old old hold.shard shard was was at).rests;
-      slot =
-          (pin_at cache old hold c.args.pin.slot c.args.pin.counting index shard was at there
-          c.requires.kept).within;
-      holds =
-          rw (c.requires.name)
-          (pinned_at cache old hold c.args.pin.slot c.args.pin.counting index shard was at there
-          c.requires.kept);
+      slot = (pin_at c.args.handle at c.requires.held c.requires.pinned).within;
+      holds = pinned_at c.args.handle at c.requires.held c.requires.pinned;
     }
 
 pub returns : goal.returns
@@ -72,16 +53,14 @@ returns g c =
     let cache = c.args.self.now in
     let old = c.args.client.now in
     let hold = c.args.hold in
-    let index = c.args.handle.index in
-    let there = hold_there old.number c.args.handle (get old.handles index) hold c.requires.held in
-    let within = hold_within cache old hold index c.requires.known there in
     let rest = c.let_go.ensures.rest in
     let shard = c.index.result.now in
     let was = c.index_mut-seat.result.now in
     let sits = c.index_mut-seat.ensures.value
     ∙ ap (λ (x : Client g.row.T.Denot). get_or x.seats.items hold.shard was) rest in
-    let at = is_at cache old hold.shard shard was c.requires.known within.1 c.index.ensures sits in
+    let at = at_hold c.args.handle c.requires.known c.requires.held c.index.ensures sits in
     let mid = c.let_go.new.self in
+    let there = kept_there c.args.handle c.requires.known c.requires.held in
     let is = c.release.new.seat in
     let new : Client g.row.T.Denot = record mid { seats = with_item mid.seats hold.shard is } in
     let change : ChangesAt old new hold.shard is = record {
@@ -95,7 +74,7 @@ returns g c =
       );
     } in
     let alone = ap (λ (x : Client g.row.T.Denot). x.alone) rest in
-    let gone : IsLess old.handles mid.handles index hold =
+    let gone : IsLess old.handles mid.handles c.args.handle.index hold =
     record { there = there; updates = c.let_go.ensures.gone; count = c.let_go.ensures.count } in
     let lets = lets_go cache old new c.args.handle hold mid c.requires.known c.requires.held gone
     rest refl in
@@ -104,7 +83,7 @@ returns g c =
       | then-erase_if_last w ↦ ap erases w.last-is ∙ sym w.if-erase_if_last.true
       | else-erase_if_last w ↦ ap erases w.last-is ∙ sym w.if-erase_if_last.false
     ] in
-    let given = rw (c.requires.name, asked) at c.release.ensures.view in
+    let given = rw (c.requires.pinned.name, asked) at c.release.ensures.view in
     let slots = ap (λ (y : Geometry). y.slots)
     (at.knows.alike.plans hold.shard shard at.shard_is).0 in
     let steps = c.release.ensures.steps in
@@ -115,15 +94,15 @@ returns g c =
     ] in
     let released : ReleasesAt shard c.args.pin.slot hold.serial
     (c.args.useful && c.args.pin.counting) c.args.erase_if_last c.release.result was is =
-    rw (← c.requires.name, ← useful, ← asked) c.release.ensures.by in
+    rw (← c.requires.pinned.name, ← useful, ← asked) c.release.ensures.by in
     record {
       known =
-          knows_unpinned cache old new c.args.handle hold lets c.args.pin.slot
-          c.args.pin.counting c.requires.kept shard was is at change alone c.args.erase_if_last
+          knows_unpinned cache old new c.args.handle hold lets
+          c.requires.pinned shard was is at change alone c.args.erase_if_last
           c.release.result given c.release.ensures.seat;
       released =
-          releases_unpinned cache old new c.args.handle hold lets c.args.pin.slot
-          c.args.pin.counting c.requires.kept shard was is at change alone c.args.erase_if_last
+          releases_unpinned cache old new c.args.handle hold lets
+          c.requires.pinned shard was is at change alone c.args.erase_if_last
           c.release.result given;
       gives = record {
         there = shard;

@@ -4,9 +4,9 @@ use Rattle.slab.specs.Slab.{Updates, get, with_value}
 use Rattle.hcc_cache.specs.declared.client.Client.{Client}
 use Rattle.hcc_cache.specs.declared.holding.Alone.{Alone}
 use Rattle.hcc_cache.specs.Calls.{counts_by, steps_by}
-use Rattle.hcc_cache.proofs.Handles.OneMoreOnPinned.{hold_within, stand_there}
-use Rattle.hcc_cache.proofs.Clients.AtOneShard.{ChangesAt, counts_none, is_at, seated_at, takes_at}
-use Rattle.hcc_cache.proofs.Handles.SameHolds.{IsSameAlone, hold_there}
+use Rattle.hcc_cache.proofs.Handles.OneMoreOnPinned.{at_hold, held_within, kept_there, stand_there}
+use Rattle.hcc_cache.proofs.Clients.AtOneShard.{ChangesAt, counts_none, seated_at, takes_at}
+use Rattle.hcc_cache.proofs.Handles.SameHolds.{IsSameAlone}
 use Rattle.hcc_cache.proofs.Handles.OneLessOnPinned.{IsLess}
 use Rattle.hcc_cache.proofs.Handles.KnownAfterRelease.{knows_fallen, knows_fewer, lets_go, releases_fallen, releases_fewer}
 use Rattle.hcc_cache.proofs.Basics.SlabSums.{updates_set}
@@ -16,23 +16,15 @@ use Rattle.hcc_cache.proofs.cache.Cache.release_standing.Goals as goal
 
 pub index-requires : goal.index-requires
 index-requires g c =
-    let cache = c.args.self.now in
     let old = c.args.client.now in
-    let hold = c.args.hold in
-    let from = c.args.handle.index in
-    let there = hold_there old.number c.args.handle (get old.handles from) hold c.requires.held in
     let alone : c.let_go.new.self.alone ≡ old.alone =
     ap (λ (x : Client g.row.T.Denot). x.alone) c.let_go.ensures.rest in
-    rw alone (stand_there cache old hold c.args.index from c.requires.known there c.requires.kept)
+    rw alone (stand_there c.args.handle c.requires.known c.requires.held c.requires.kept)
 
 pub index_mut-seat-requires : goal.index_mut-seat-requires
 index_mut-seat-requires g c =
-    let cache = c.args.self.now in
     let old = c.args.client.now in
-    let hold = c.args.hold in
-    let from = c.args.handle.index in
-    let there = hold_there old.number c.args.handle (get old.handles from) hold c.requires.held in
-    let within = hold_within cache old hold from c.requires.known there in
+    let within = held_within c.args.handle c.requires.known c.requires.held in
     let seats : c.let_go.new.self.seats ≡ old.seats =
     ap (λ (x : Client g.row.T.Denot). x.seats) c.let_go.ensures.rest in
     let length_is = old.seats.ok.0 in
@@ -40,13 +32,8 @@ index_mut-seat-requires g c =
 
 pub index-requires-2 : goal.index-requires-2
 index-requires-2 g c =
-    let cache = c.args.self.now in
-    let old = c.args.client.now in
-    let hold = c.args.hold in
-    let from = c.args.handle.index in
-    let there = hold_there old.number c.args.handle (get old.handles from) hold c.requires.held in
-    let within = hold_within cache old hold from c.requires.known there in
-    let length_is = cache.shards.ok.0 in
+    let within = held_within c.args.handle c.requires.known c.requires.held in
+    let length_is = c.args.self.now.shards.ok.0 in
     omega arith
 
 pub returns-then-index-gt1 : goal.returns-then-index-gt1
@@ -55,8 +42,7 @@ returns-then-index-gt1 g c =
     let old = c.args.client.now in
     let mid = c.let_go.new.self in
     let hold = c.args.hold in
-    let held = hold_there old.number c.args.handle (get old.handles c.args.handle.index) hold
-    c.requires.held in
+    let held = kept_there c.args.handle c.requires.known c.requires.held in
     let gone : IsLess old.handles mid.handles c.args.handle.index hold =
     record { there = held; updates = c.let_go.ensures.gone; count = c.let_go.ensures.count } in
     let rest = c.let_go.ensures.rest in
@@ -100,19 +86,16 @@ release_standalone-requires g c =
     let old = c.args.client.now in
     let mid = c.let_go.new.self in
     let hold = c.args.hold in
-    let held = hold_there old.number c.args.handle (get old.handles c.args.handle.index) hold
-    c.requires.held in
+    let held = kept_there c.args.handle c.requires.known c.requires.held in
     let gone : IsLess old.handles mid.handles c.args.handle.index hold =
     record { there = held; updates = c.let_go.ensures.gone; count = c.let_go.ensures.count } in
     let rest = c.let_go.ensures.rest in
     let alone_is = ap (λ (x : Client g.row.T.Denot). x.alone) rest in
-    let within = hold_within cache old hold c.args.handle.index c.requires.known held in
     let shard = c.index-2.result.now in
     let was = c.index_mut-seat.result.now in
     let sits = c.index_mut-seat.ensures.value
     ∙ ap (λ (x : Client g.row.T.Denot). get_or x.seats.items hold.shard was) rest in
-    let at = is_at cache old hold.shard shard was c.requires.known within.1 c.index-2.ensures sits
-    in
+    let at = at_hold c.args.handle c.requires.known c.requires.held c.index-2.ensures sits in
     let a = c.remove-gone.result in
     let there : get old.alone c.args.index ≡ Some a =
     ap (λ s. get s c.args.index) (sym alone_is) ∙ c.remove-gone.ensures.value in
@@ -130,19 +113,16 @@ returns g c =
     let old = c.args.client.now in
     let mid = c.let_go.new.self in
     let hold = c.args.hold in
-    let held = hold_there old.number c.args.handle (get old.handles c.args.handle.index) hold
-    c.requires.held in
+    let held = kept_there c.args.handle c.requires.known c.requires.held in
     let gone : IsLess old.handles mid.handles c.args.handle.index hold =
     record { there = held; updates = c.let_go.ensures.gone; count = c.let_go.ensures.count } in
     let rest = c.let_go.ensures.rest in
     let alone_is = ap (λ (x : Client g.row.T.Denot). x.alone) rest in
-    let within = hold_within cache old hold c.args.handle.index c.requires.known held in
     let shard = c.index-2.result.now in
     let was = c.index_mut-seat.result.now in
     let sits = c.index_mut-seat.ensures.value
     ∙ ap (λ (x : Client g.row.T.Denot). get_or x.seats.items hold.shard was) rest in
-    let at = is_at cache old hold.shard shard was c.requires.known within.1 c.index-2.ensures sits
-    in
+    let at = at_hold c.args.handle c.requires.known c.requires.held c.index-2.ensures sits in
     let a = c.remove-gone.result in
     let there : get old.alone c.args.index ≡ Some a =
     ap (λ s. get s c.args.index) (sym alone_is) ∙ c.remove-gone.ensures.value in

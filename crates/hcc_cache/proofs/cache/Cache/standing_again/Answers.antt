@@ -1,11 +1,11 @@
 use Rattle.std.proofs.Common.{◌≡◌, ◌+◌, ◌-◌, Some, slice_get, ap, refl, subst, sym, arith}
-use Rattle.slab.specs.Slab.{get, Updates}
+use Rattle.slab.specs.Slab.{Updates}
 use Rattle.hcc_cache.specs.declared.client.Client.{Client}
 use Rattle.hcc_cache.specs.declared.holding.Alone.{Alone}
 use Rattle.hcc_cache.specs.declared.holding.Hold.{Hold}
 use Rattle.hcc_cache.specs.Calls.{counts_by}
-use Rattle.hcc_cache.proofs.Handles.OneMoreOnPinned.{stand_there}
-use Rattle.hcc_cache.proofs.Handles.SameHolds.{hold_there, IsSameAlone}
+use Rattle.hcc_cache.proofs.Handles.OneMoreOnPinned.{kept_there, stand_there}
+use Rattle.hcc_cache.proofs.Handles.SameHolds.{IsSameAlone}
 use Rattle.hcc_cache.proofs.Handles.OneMore.{IsGiven}
 use Rattle.hcc_cache.proofs.Basics.SlabSums.{updates_set}
 use Rattle.hcc_cache.proofs.Handles.KnownAfterStandaloneReref.{few_references, knows_standing, rerefs_standing, takes_standing}
@@ -14,12 +14,7 @@ use Rattle.hcc_cache.proofs.cache.Cache.standing_again.Goals as goal
 
 pub index_mut-requires : goal.index_mut-requires
 index_mut-requires g c =
-    let cache = c.args.self.now in
-    let old = c.args.client.now in
-    let first = c.args.hold in
-    let from = c.args.handle.index in
-    let there = hold_there old.number c.args.handle (get old.handles from) first c.requires.held in
-    stand_there cache old first c.args.index from c.requires.known there c.requires.kept
+    stand_there c.args.handle c.requires.known c.requires.held c.requires.kept
 
 pub overflow_add-index_mut : goal.overflow_add-index_mut
 overflow_add-index_mut g c =
@@ -27,7 +22,7 @@ overflow_add-index_mut g c =
     let old = c.args.client.now in
     let first = c.args.hold in
     let from = c.args.handle.index in
-    let there = hold_there old.number c.args.handle (get old.handles from) first c.requires.held in
+    let there = kept_there c.args.handle c.requires.known c.requires.held in
     let few = few_references cache old first from c.requires.known there c.args.index
     c.index_mut.result.now c.index_mut.ensures.value c.requires.free.0 in
     omega arith
@@ -41,7 +36,7 @@ returns g c =
     let from = c.args.handle.index in
     let index = c.args.index in
     let knows = c.requires.known in
-    let there = hold_there old.number c.args.handle (get old.handles from) first c.requires.held in
+    let there = kept_there c.args.handle c.requires.known c.requires.held in
     let a = c.index_mut.result.now in
     let b : Alone = record a { references = a.references + 1 } in
     let same : IsSameAlone a b = record { name = refl; charge = refl; value = refl } in
