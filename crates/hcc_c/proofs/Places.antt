@@ -1,6 +1,5 @@
 -- Places for clients, of which one is written after another.
-use Rattle.std.proofs.Common.{◌≡◌, ℕ, zero, suc, ◌<◌, Result, IsSomeAnd, ◌∙◌, List, [], ◌∷◌, ◌++◌, Option, Some, None, IsSome, drop, take, length, slice_index_or, slice_set, map, refl, sym, ap, arith}
-use Rattle.hcc_rule.specs.Views.{Each}
+use Rattle.std.proofs.Common.{◌≡◌, ℕ, zero, suc, ◌<◌, Result, IsSomeAnd, ◌∙◌, List, [], ◌∷◌, ◌++◌, Option, Some, None, drop, take, length, slice_index_or, slice_set, map, refl, sym, ap, arith}
 use Rattle.hcc_cache.specs.declared.client.Client.{Client}
 use Rattle.hcc_cache.specs.declared.tags.AnyBytes.{AnyBytes}
 use Rattle.hcc_c.specs.declared.refusal.Refusal.{Refusal}
@@ -35,11 +34,6 @@ pub held_set : (ps : List ClientPlace) (k : ℕ) (d p : ClientPlace)
 held_set [] k d p same = refl
 held_set (q ∷ qs) zero d p same = ap (λ v. v ∷ held_in qs) same
 held_set (q ∷ qs) (suc k) d p same = ap (λ xs. q.value ∷ xs) (held_set qs k d p same)
-
-pub each_more : {A : Type 0} (P : A → Type 0) (xs : List A) (x : A) → Each P xs → P x
-    → Each P (xs ++ x ∷ [])
-each_more P [] x each it = (it, tt)
-each_more P (y ∷ ys) x each it = (each.0, each_more P ys x each.1 it)
 
 judged_on : (number : ℕ) (held : Option Session) (rest : List (Option Session))
     (answer : Result (Unit {0}) Refusal)

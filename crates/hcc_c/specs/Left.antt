@@ -1,7 +1,7 @@
 -- What C reads of a cache that was closed.
-use Rattle.std.specs.Prelude.{◌≡◌, ℕ, ◌<◌, ◌++◌, List, Bool, true, false, Option, Some, None, Result, Ok, Err, IfOk, IfErr, OnOk, IsOk, drop, length, nat_lt, option_map, if◌then◌else◌}
+use Rattle.std.specs.Prelude.{◌≡◌, ℕ, ◌<◌, ◌++◌, List, true, false, Option, Some, None, Result, Ok, Err, IfOk, IfErr, OnOk, IsOk, drop, length, nat_lt, option_map, if◌then◌else◌}
 use Rattle.std.specs.declared.alloc.Global.{Global}
-use Rattle.hcc_rule.specs.declared.layout.TheConstants.{DISPLACEMENT, HAND, META}
+use Rattle.hcc_rule.specs.declared.layout.TheConstants.{HAND}
 use Rattle.hcc_rule.specs.Closing.{has_entry, words_of}
 use Rattle.hcc_shard.specs.declared.entries.ClosedEntry.{ClosedEntry}
 use Rattle.hcc_shard.specs.declared.entries.ClosedShard.{ClosedShard}

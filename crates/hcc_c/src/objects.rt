@@ -44,14 +44,6 @@ impl ClientObject {
     {
         unsafe { &mut *(self.at as *mut Session) }
     }
-
-    /// The client itself, which C has no more.
-    pub(crate) fn client(self, alloc: Global) -> Box<Session>
-        ensures { result.value ≡ self.value }
-    {
-        let ClientObject { at } = self;
-        unsafe { Box::from_raw(alloc, at as *mut Session) }
-    }
 }
 
 unsafe impl Send for ClientObject {}
@@ -199,13 +191,13 @@ impl ClientPlace {
         }
     }
 
-    /// The client that it has.
-    pub(crate) fn object(self) -> ClientObject
+    /// The client that it has, which C has no more.
+    pub(crate) fn client(self, alloc: Global) -> Box<Session>
         requires { IsSome self.value }
         ensures { self.value ≡ Some result.value }
     {
         let ClientPlace { at } = self;
-        ClientObject { at }
+        unsafe { Box::from_raw(alloc, at as *mut Session) }
     }
 }
 

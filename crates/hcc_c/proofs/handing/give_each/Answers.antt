@@ -1,9 +1,8 @@
-use Rattle.std.proofs.Common.{◌≡◌, ◌+◌, ◌<◌, ◌++◌, ◌∷◌, [], Some, suc, length, ap, sym, ◌∙◌, map, drop, arith, rules}
+use Rattle.std.proofs.Common.{◌≡◌, ◌<◌, Some, suc, length, ap, sym, ◌∙◌, arith}
 use Rattle.std.proofs.lemmas.List.{length_push}
 use Rattle.std.specs.Prelude.{Box}
 use Rattle.std.specs.Global.{Global}
 use Rattle.hcc_c.specs.declared.session.Session.{Session}
-use Rattle.hcc_c.specs.Pools.{held_in}
 use Rattle.hcc_c.proofs.Places.{last_moved, rest_set}
 use Rattle.hcc_c.proofs.handing.give_each.Goals as goal
 

@@ -1,11 +1,12 @@
-use Rattle.std.proofs.Common.{◌≡◌, ◌++◌, ◌∷◌, ◌∙◌, length, map, ap, arith}
+use Rattle.std.proofs.Common.{[], ◌++◌, ◌∷◌, ◌∙◌, length, map, ap, arith}
 use Rattle.std.specs.Arc.{arc_value}
 use Rattle.std.specs.Global.{Global}
 use Rattle.std.specs.Prelude.{Box}
 use Rattle.std.proofs.lemmas.List.{length_push}
 use Rattle.hcc_c.specs.declared.session.Session.{Session}
 use Rattle.hcc_c.specs.Pools.{IsNew}
-use Rattle.hcc_c.proofs.Places.{each_more, last_moved}
+use Rattle.hcc_rule.proofs.Basics.Lists.{each_append}
+use Rattle.hcc_c.proofs.Places.{last_moved}
 use Rattle.hcc_c.proofs.handing.new_sessions.Goals as goal
 
 pub loop-client-preserved : goal.loop-client-preserved
@@ -27,8 +28,8 @@ loop-client-preserved c =
           ∙ ap (λ client. map (λ (session : Box Session Global). session.value.client) made
           ++ client ∷ rest) c.in-Ok-new_session.ensures.client
           ∙ (rw next at was.clients_are));
-      each = rw items (each_more (λ (session : Box Session Global).
-          IsNew (arc_value c.args.cache.now) c.args.number session.value) made session
-          was.each c.in-Ok-new_session.ensures.made);
+      each = rw items (each_append (λ (session : Box Session Global).
+          IsNew (arc_value c.args.cache.now) c.args.number session.value) made (session ∷ [])
+          was.each (c.in-Ok-new_session.ensures.made, tt));
       room = omega arith;
     }

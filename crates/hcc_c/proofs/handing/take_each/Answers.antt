@@ -1,7 +1,8 @@
 use Rattle.std.proofs.Common.{◌≡◌, ◌+◌, ◌<◌, ◌++◌, ◌∷◌, [], suc, length, ap, sym, ◌∙◌, take, arith}
 use Rattle.std.proofs.lemmas.List.{append_assoc, length_push}
 use Rattle.hcc_c.specs.Pools.{IsEmpty, held_in}
-use Rattle.hcc_c.proofs.Places.{after_set, clients_next, each_more, front_set, rest_at}
+use Rattle.hcc_rule.proofs.Basics.Lists.{each_append}
+use Rattle.hcc_c.proofs.Places.{after_set, clients_next, front_set, rest_at}
 use Rattle.hcc_c.proofs.handing.take_each.Goals as goal
 
 pub take-client-requires : goal.take-client-requires
@@ -28,9 +29,8 @@ loop-k-preserved c =
     let many = was.more in
     rw up (record {
       some = rw after (rw rest at was.some).1;
-      none = rw front (each_more IsEmpty
-          (take c.loop-k.k (held_in c.loop-k.places)) place.value was.none
-          c.take-client.ensures.none);
+      none = rw front (each_append IsEmpty (take c.loop-k.k (held_in c.loop-k.places))
+          (place.value ∷ []) was.none (c.take-client.ensures.none, tt));
       back = rw (c.push_reserved.ensures.items, after) (append_assoc c.loop-k.back.items
           (c.take-client.result ∷ []) _ ∙ ap (λ xs. c.loop-k.back.items ++ xs) (sym next)
           ∙ was.back);

@@ -8,7 +8,6 @@ use Rattle.hcc_c.specs.contracts.objects.ClosedObject.{the_type}
 
 pub whole_spec : {M : Type 1} → statement M
 unfolding code.code
-whole_spec 𝓤 𝓛 𝓜 𝓡 wired = takes the_row 𝓤 𝓛 𝓜 𝓡
-    (holder the_type (λ d. d.at) (λ d. d.alloc) (λ d. d.value)
-    (λ p a v. record { at = p; alloc = a; value = v }) (λ p a v i. (p, (a, v))))
-    the_row_laws refl refl (λ a p v. refl) (λ r vs. refl) (code.unfolded 𝓤 𝓛.H 𝓜 𝓡 wired) wired.2
+whole_spec 𝓤 𝓛 𝓜 𝓡 wired = takes the_row 𝓤 𝓛 𝓜 𝓡 the_row_laws refl refl (holder the_type
+    (λ h. (h.at, (h.alloc, h.value))) (λ d. record { at = d.0; alloc = d.1.0; value = d.1.1 })
+    (λ d i. d)) (λ a p x. refl) (λ r vs. refl) _ (code.unfolded 𝓤 𝓛.H 𝓜 𝓡 wired) wired.2

@@ -1,4 +1,3 @@
-use Rattle.hcc_c.proofs.closed.Left.TheLaws.{the_row_laws}
 use Rattle.hcc_c.proofs.Holders.{holder, places}
 use Rattle.hcc_c.proofs.objects.ClosedPlace.of.Code as code
 use Rattle.hcc_c.proofs.objects.ClosedPlace.of.Statement.{statement}
@@ -6,7 +5,6 @@ use Rattle.hcc_c.specs.contracts.closed.Left.{the_row}
 use Rattle.hcc_c.specs.contracts.objects.ClosedPlace.{the_type}
 
 pub of_spec : {M : Type 1} → statement M
-of_spec 𝓤 𝓛 𝓜 𝓡 wired = places the_row 𝓤 𝓛 𝓜 𝓡
-    (holder the_type (λ d. d.at) (λ d. d.alloc) (λ d. d.value)
-    (λ p a v. record { at = p; alloc = a; value = v }) (λ p a v i. (p, (a, v))))
-    the_row_laws (code.unfolded 𝓤 𝓛.H 𝓜 𝓡 wired)
+of_spec 𝓤 𝓛 𝓜 𝓡 wired = places the_row 𝓤 𝓛 𝓜 𝓡 (holder the_type
+    (λ h. (h.at, (h.alloc, h.value))) (λ d. record { at = d.0; alloc = d.1.0; value = d.1.1 })
+    (λ d i. d)) (code.unfolded 𝓤 𝓛.H 𝓜 𝓡 wired)

@@ -4,7 +4,7 @@ use Rattle.std.proofs.raw_atomic.Walks.{proved_at, leaves}
 use base.Fraction.{full_share}
 use base.Logic.{SProp, ent, emp, id⊢, fst∗, never}
 use base.Fml.{Lft, ftrue, flft}
-use mir.Syntax.{Args, Dict, a_type, dcons, impl, tcons, tnil, dnil}
+use mir.Syntax.{Args, a_type, dcons, dnil}
 use mir.MapTy.{inst_fn}
 use mir.Raw.{raw as bare}
 use mir.Val.{Val, vptr, vstruct, vcons, vnil}
@@ -14,29 +14,25 @@ use contract.Monad.{fact, fact_i}
 use contract.Running.{tables}
 use types.Logic.{sem}
 use types.Tokens.{lft_new}
-use types.Kit.{‵, raw, ◌⊛◌, some, later, ◌$◌, ◌∵◌, !, qed, by, move, keep, drop, use0, use1, split, join, fsplit, fjoin, fpack, feq_i, feq_l, pick, await, suffices}
+use types.Kit.{‵, raw, ◌⊛◌, some, later, ◌$◌, ◌∵◌, !, qed, by, move, keep, drop, use0, use1, split, join, fsplit, fjoin, feq_l, pick, await, suffices}
 use types.Part.{agg}
 use types.Run.{enter, of_opd, returns, no_more, and_then}
 use types.ByLocal.{alloc_all, pass_all, free_all, look_at, get, sets, lands_as}
 use denote.Exit.{no}
-use denote.Memory.{lone}
-use denote.Param.{arg, bounded, layout, param}
-use denote.Param.Laws.{Laws, arg_laws}
+use denote.Param.{bounded, layout, param}
 use denote.Param.NoDrop.{glues}
-use denote.RattleType.{RattleType, Valss, owns}
+use denote.RattleType.{RattleType, owns}
 use denote.Builtin.{RawPtr}
 use denote.RawPtr.{Ptr, block_ptr, null_ptr, ptr_val, in_a_block}
 use denote.Signature.{plain}
 use denote.Steps.{nothing, only, heard}
-use denote.Struct.Owning.{shape}
-use denote.Struct.Struct.{within}
+use denote.Struct.Owning.{row}
 use denote.Triple.Call.{calls_at}
 use denote.Triple.Clauses.{Lasts, lasts}
 use denote.Triple.Spec.{triple_of}
 use denote.Triple.Walked.{Stays, stay_dropped, walk_of}
 use denote.Triple.Table.{framed}
 use Rattle.std.proofs.alloc.Calls.{Goes-blank}
-use Rattle.std_alloc.specs.Box.Ownership.{box_owns}
 use Rattle.std_alloc.proofs.BoxSteps.Form as box
 use Rattle.std_alloc.proofs.BoxSteps.Steps.{box_out, box_in}
 use Rattle.std_alloc.specs.contracts.boxed.Box.{the_row as box-row}
@@ -45,25 +41,15 @@ use Rattle.std_alloc.proofs.boxed.Box.into_raw.Met.{met}
 use Rattle.std_heap.specs.contracts.Global.{the_row as G}
 use Rattle.std_heap.specs.contracts.GlobalAllocator.TheImpl as heap
 use Rattle.std_heap.proofs.GlobalAllocator.TheImpl.Met.{passed}
-use Rattle.std_heap.proofs.Global.TheLaws.{the_row_laws as G-laws}
 use Rattle.hcc_c.proofs.Destruct++none.drop.Symbol.{symbol as #none}
+use Rattle.hcc_c.proofs.Holders.{A, A-laws, none, boxed, built, loose}
 use Rattle.hcc_c.specs.contracts.objects.Loose.of as f
 use Rattle.hcc_c.proofs.objects.Loose.of.Statement.{statement}
 use Rattle.hcc_c.proofs.objects.Loose.of.Code as code
 use Rattle.hcc_c.specs.contracts.objects.Loose.{the_type}
 
--- the allocator as the call of `into_raw` passes it
-abbrev A : RattleType
-A = arg (bare (lone G.mir)) no G
-
-abbrev A-laws : Laws A
-A-laws = arg_laws (bare (lone G.mir)) no G G-laws refl
-
-abbrev none : Dict
-none = impl (#none ∷ []) (tcons (layout A) tnil) dnil
-
 pub of_spec : {M : Type 1} → statement M
-unfolding Rattle.hcc_c.proofs.Destruct++none.drop.Code.code
+unfolding code.code Rattle.hcc_c.proofs.Destruct++none.drop.Code.code
 of_spec {M} 𝓤 𝓛 𝓜 𝓡 wired T L dx glue =
     let H = 𝓛.H in let 𝓣 = tables 𝓤 H 𝓜 𝓡 𝓡.env in
     let En = f.ended T dx in let c = f.clauses T dx 𝓛 𝓜.mem 𝓡.returns in
@@ -99,44 +85,35 @@ of_spec {M} 𝓤 𝓛 𝓜 𝓡 wired T L dx glue =
     -- the lifetime of the allocator's type
     lft_new ! tt (λ β. let μ : Lft = β ∷ [] in
     let toks = ‵ (flft κ q) ⊛ ‵ (flft μ full_share) ⊛ ‵ ftrue in
-    nothing ! $ move ! (1 ∷ 0 ∷ []) $ join ! $ move ! (2 ∷ 0 ∷ []) $ join ! $
-    nothing ! $ move ! (2 ∷ 0 ∷ []) $ fjoin ! $ move ! (1 ∷ 0 ∷ []) $ join ! $
-    nothing ! $
-    use0 𝓛 (raw (fact 𝓤 (μ ⊑ A.lives))) (fact_i 𝓤 (μ ⊑ A.lives) (emp 𝓤) (⊑_static μ)) $ join ! $
-    use0 𝓛 (raw (fact 𝓤 (κ ⊑ T.lives))) (fact_i 𝓤 (κ ⊑ T.lives) (emp 𝓤) inside) $ join ! $
+    nothing ! $ move ! (1 ∷ 0 ∷ []) $ join ! $ move ! (2 ∷ 0 ∷ []) $ join ! $ nothing ! $
+    move ! (2 ∷ 0 ∷ []) $ fjoin ! $ move ! (1 ∷ 0 ∷ []) $ join ! $ nothing ! $
+    use0 𝓛 (raw (fact 𝓤 (μ ⊑ A.lives))) (fact_i 𝓤 _ _ (⊑_static μ)) $ join ! $
+    use0 𝓛 (raw (fact 𝓤 (κ ⊑ T.lives))) (fact_i 𝓤 _ _ inside) $ join ! $
     move ! (1 ∷ 0 ∷ []) $ join ! $
     let k = triple_of 𝓛 (callee.signature T A heap.ghosts heap.dict none dx)
     (callee.spec T A heap.ghosts heap.dict none dx 𝓛 𝓜.mem 𝓡.returns) in
     let y : k.Ghost = (((κ, (μ, tt)), (q, (full_share, tt)), tt, (v, tt), (w ∷ [], tt)), tt) in
     use1 𝓛 (raw (k.pre y)) (id⊢ 𝓤 _) $
-    calls_at ! (framed 𝓤 H 𝓜 𝓣) k (met 𝓤 𝓛 𝓜 𝓡 (code.calls-std_alloc::boxed::Box::into_raw
-    𝓡.env wired) T A L A-laws heap.ghosts heap.dict none dx
-    (passed 𝓡.env (code.calls-std_heap::GlobalAllocator::allocate 𝓡.env wired)
-    (code.calls-std_heap::GlobalAllocator::deallocate 𝓡.env wired)
-    (code.calls-std_heap::GlobalAllocator::grow 𝓡.env wired)
-    (code.calls-std_heap::GlobalAllocator::shrink 𝓡.env wired) M 𝓤 𝓛 𝓜 𝓡)
-    (glues #none 𝓡.env (code.calls-hcc_c::Destruct++none::drop 𝓡.env wired) A A-laws M 𝓤 𝓛 𝓜 𝓡)
-    glue) y
+    calls_at ! (framed 𝓤 H 𝓜 𝓣) k (met 𝓤 𝓛 𝓜 𝓡 wired.2.1.0 T A L A-laws heap.ghosts heap.dict
+    none dx (passed 𝓡.env wired.2.1.1.0 wired.2.1.1.1.0 wired.2.1.1.1.1.0 wired.2.1.1.1.1.1.0 M 𝓤
+    𝓛 𝓜 𝓡) (glues #none 𝓡.env wired.2.0 A A-laws M 𝓤 𝓛 𝓜 𝓡) glue) y
     (and_then ! (get ! refl) (no_more !)) (λ u.
+    let end = callee.ended T A heap.ghosts heap.dict none dx in
     use1 𝓛 (later (some (λ (r : Ptr). (toks ⊛ ‵ (RawPtr.own_val r (u ∷ []))) ⊛ some (λ (ls : Lasts
-    (callee.ended T A heap.ghosts heap.dict none dx) y.0.0 y.0.3). ‵ (lasts (callee.ended T A
-    heap.ghosts heap.dict none dx) y.0.0 y.0.3 ls) ⊛ ‵ (box_owns (heap.ghosts.dealloc_token a)
-    R r v.value))))) (id⊢ 𝓤 (k.post y u)) $
+    end y.0.0 y.0.3). ‵ (lasts end y.0.0 y.0.3 ls) ⊛ ‵ (boxed R a r v.value)))))
+    (id⊢ 𝓤 (k.post y u)) $
     await ! tt $ pick ! (λ r. split ! $ split ! $ split ! $ move ! (2 ∷ []) $ feq_l ! (λ ep.
     move ! (2 ∷ []) $ pick ! (λ ls. split ! $ drop ! $
-    in_a_block ! r (λ p. box_owns (heap.ghosts.dealloc_token a) R p v.value) (fst∗ 𝓤
-    (never 𝓤) (sem 𝓛 (heap.ghosts.dealloc_token a (bare (layout T)) null_ptr))) (λ b' o' e'.
+    in_a_block ! r (λ p. boxed R a p v.value) (fst∗ 𝓤 (never 𝓤)
+    (sem 𝓛 (heap.ghosts.dealloc_token a (bare (layout T)) null_ptr))) (λ b' o' e'.
     lands_as ! (ap only (ep ∙ ap (λ (p : Ptr). ptr_val p ∷ []) e')) refl (tt, tt) $
     let pv : Val = vstruct (vcons (vptr b' o') vnil) in
+    let l = (loose R).make (block_ptr b' o', (a, v.value)) in
     sets ! (agg ! (and_then ! (get ! refl) (no_more !))) refl (tt, (tt, tt)) $
     returns ! (look_at ! 0 refl) $ free_all ! refl $ keep ! (0 ∷ 1 ∷ []) $
     -- [the value with its token; the lifetime's token]
-    nothing ! $ feq_i ! (List Val) (vptr b' o' ∷ []) (vptr b' o' ∷ []) refl $ fjoin ! $
-    feq_i ! (List Val) (pv ∷ []) (pv ∷ []) refl $ fjoin ! $
-    fpack ! (Valss (RawPtr ∷ [])) (within (shape (the_type R)) (block_ptr b' o', tt) (pv ∷ []))
-    (vptr b' o' ∷ [], tt) $ fjoin ! $
-    use0 𝓛 (raw (fact 𝓤 (v.value ≡ v.value))) (fact_i 𝓤 (v.value ≡ v.value) (emp 𝓤) refl) $
-    move ! (1 ∷ 0 ∷ []) $ nothing ! $ nothing ! $ fjoin ! $
-    nothing ! $ move ! (4 ∷ 0 ∷ []) $ join ! $
-    by ! (leaves 𝓛 En stays c z pv (record { at = block_ptr b' o'; alloc = a; value = v.value })
-    (tt, tt) (tt, tt))))))))))))
+    use1 𝓛 (‵ ((row (the_type R)).own_val l (pv ∷ [])))
+    (built R 𝓤 𝓛 𝓜 𝓡 (boxed R) (loose R) (block_ptr b' o', (a, v.value))) $
+    use0 𝓛 (raw (fact 𝓤 (v.value ≡ v.value))) (fact_i 𝓤 _ _ refl) $ move ! (1 ∷ 0 ∷ []) $
+    nothing ! $ nothing ! $ fjoin ! $ nothing ! $ move ! (4 ∷ 0 ∷ []) $ join ! $
+    by ! (leaves 𝓛 En stays c z pv l (tt, tt) (tt, tt))))))))))))

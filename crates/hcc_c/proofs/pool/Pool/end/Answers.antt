@@ -1,4 +1,4 @@
-use Rattle.std.proofs.Common.{◌≡◌, ◌+◌, ◌≤◌, ◌∙◌, Ok, length, ap, sym, arith}
+use Rattle.std.proofs.Common.{◌≡◌, ◌+◌, ◌∙◌, Ok, length, ap, sym, arith}
 use Rattle.std.proofs.lemmas.List.{length-append, length-map}
 use Rattle.hcc_c.specs.Pools.{clients_in, held_in, judged_each}
 use Rattle.hcc_c.proofs.Backs.{count_in, ended, passes, whole_with}
