@@ -75,13 +75,13 @@ impl Worker<'_> {
         ensures ready { IsReady (view self.new.seat) }
     {
         let (seen, found) = self.reach(rt, slot, 1);
-        let data = self.read_all(slot);
+        let words = self.read_all(slot);
         let marked = self.table.mark(&mut self.seat, slot, NAME);
         let data = self.table.data_of(slot);
         let at = SlotAt { slot, data };
         let released = self.table.spend_at(&mut self.seat, at, 1, NAME);
         let left = self.table.look_at(&mut self.seat, at);
-        ([seen, found, marked, released, left], data)
+        ([seen, found, marked, released, left], words)
     }
 
     /// A look-up that is no use: the words of the look, the acquire and the give, and the word

@@ -45,7 +45,7 @@ pub fn free_taken<T: Tag, A: Allocator>(
     free_taken_at(table, seat, SlotAt { slot, data })
 }
 
-/// The same as `free_taken`, for a caller that has the address of the slot's first data word.
+/// The same as `free_taken`, for a caller that has the slot with its address.
 fn free_taken_at<T: Tag, A: Allocator>(
     table: &RuleTable<T, A>,
     seat: &mut RuleSeat<T>,

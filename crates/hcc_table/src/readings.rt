@@ -91,8 +91,7 @@ pub fn displacement<T: Tag, A: Allocator>(
     table.count_at(seat, SlotAt { slot, data })
 }
 
-/// How many bytes the value has of the entry of a pin, for a caller that has the address of its
-/// slot's first data word.
+/// How many bytes the value has of the entry of a pin.
 ///
 /// The client holds the pin's reference. What the client has stays. It refuses nothing and
 /// allocates nothing. It costs one load.

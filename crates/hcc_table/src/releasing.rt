@@ -80,8 +80,7 @@ pub fn release<T: Tag, A: Allocator>(
 }
 
 /// Gives the reference of a pin back, as a use where it is useful and counts, and frees nothing: an
-/// erased entry that nobody holds then stays until the clock comes by. It is for a caller that has
-/// the address of the slot's first data word.
+/// erased entry that nobody holds then stays until the clock comes by.
 ///
 /// The client holds the pin's reference. Its record is gone afterwards, and no other. It allocates
 /// nothing. It costs one atomic add or subtraction.

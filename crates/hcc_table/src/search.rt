@@ -94,7 +94,7 @@ pub fn find<T: Tag, A: Allocator>(
             name,
             counting: is_counting(found),
         };
-        return Some(PinAt { pin, data: at.data });
+        return Some(PinAt { pin, data });
     }
     if table.count_at(seat, at) == 0 {
         effort.probes(1);
@@ -113,7 +113,7 @@ pub fn find<T: Tag, A: Allocator>(
                 name,
                 counting: is_counting(found),
             };
-            return Some(PinAt { pin, data: at.data });
+            return Some(PinAt { pin, data });
         }
         if table.count_at(seat, at) == 0 {
             effort.probes(probe as u64 + 1);

@@ -83,7 +83,8 @@ returns-clause-view g c = (tried.0, tried.1, buried)
       | else-is_shown-via-then-is_shown+else-meet w ↦ rw w.seat-is
           (shown_there c.args.draft.key c.args.at.slot c.occupy_at-found.result
           (view c.args.seat.now) (view c.occupy_at-found.new.seat) (view w.meet.new.seat)
-          (sym c.if-is_free.ensures) c.occupy_at-found.ensures.view (w.meet.ensures.dead w.if-meet.false))
+          (sym c.if-is_free.ensures) c.occupy_at-found.ensures.view
+          (w.meet.ensures.dead w.if-meet.false))
       | else-is_shown-via-else-is_shown w ↦ rw w.seat-is
           (unshown_there c.args.draft.key c.args.at.slot c.occupy_at-found.result (view
           c.args.seat.now)
