@@ -15,7 +15,7 @@ import sys
 from collections import defaultdict
 
 OURS = "ferretgold"
-SHOWN = (OURS, "rocksdb-hyperclock", "rocksdb-lru")
+SHOWN = (OURS, "rocksdb-hyperclock", "rocksdb-lru", "rocksdb-lru-sharded")
 # The guide's table has the twin as well.
 ALL = (OURS, "twin", "rocksdb-hyperclock", "rocksdb-lru")
 COLOURS = {OURS: "#b8860b", "twin": "#2e8b57", "rocksdb-hyperclock": "#1f5fa8", "rocksdb-lru": "#7a7a7a"}
@@ -69,7 +69,7 @@ def print_medians(medians, builds):
 
 
 def print_front(medians, _):
-    """A row for each case and number of threads, a cell for each size: the three caches, the fastest of
+    """A row for each case and number of threads, a cell for each size: the four caches, the fastest of
     them bold."""
     sizes = sorted({size for _, size, threads in medians if threads == 1})
     print("|  | " + " | ".join(f"{size:,} bytes" for size in sizes) + " |")
