@@ -119,7 +119,7 @@ unturned_still fits table charge (Ok Reserved) before after effort counted a d h
 unturned_still fits table charge (Ok NoPlace) before after effort counted a d h same =
     turned_still fits table charge h.0 same
 unturned_still fits table charge (Err TooLarge) before after effort counted a d h same =
-    goes_none table is_still a d (ap past h.2)
+    goes_none table is_still a d h.2
 unturned_still fits table charge (Err CapacityFull) before after effort counted a d h same =
     turned_still fits table charge h.0 same
 unturned_still fits table charge (Err OccupancyFull) before after effort counted a d h same =

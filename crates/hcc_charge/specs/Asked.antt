@@ -77,8 +77,8 @@ module _ {T A : Type 0} (fits : T → Key → List ℕ → Type 0) (table : Rule
     -- A reservation found so many places taken, and this usage, and evicted exactly for what it
     -- asks for then, which left the seat c. The client's view counts the turns, what they took and
     -- the open place, its tally all that they did, and its effort the exchanges that they lost. The
-    -- steps before the eviction are told by their events, too. Behind it in a shard of one client
-    -- no entry is made or taken, shown or hidden.
+    -- steps before the eviction are told by their events, too. Behind it the client makes and takes
+    -- no entry, and shows and hides none.
     pub record EvictsAsAsked (before after : Tally) (effort counted : Effort) (a d : SeatOf T)
         : Type 0 where
       pub taken : ℕ

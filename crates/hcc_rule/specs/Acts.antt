@@ -150,13 +150,15 @@ module _ {T : Type 0} where
       → held_at (world_of p l.past) l.known.client name r.slot ≡ Some r.entry
 
   -- The seat did this, after what others did since its last event: none of these is a step of a
-  -- client that it names, and there are none where the shard has one client. What its client holds
-  -- stands in the world after it; what it held stood in the world before, where no other client is.
+  -- client that it names, and there are none where the shard has one client. It names whom it
+  -- named. What its client holds stands in the world after it; what it held stood in the world
+  -- before, where no other client is.
   pub record IsNext (p : Plan T) (clients : ℕ) (done : Done) (old new : Logged T) : Type 0 where
     pub others : List Done
     pub past : new.past ≡ old.past ++ (others ++ done ∷ [])
     pub apart : (c : ℕ) → 1 ≤ names c old.known → Each (IsNoStepOf c) others
     pub alone : clients ≡ 1 → others ≡ []
+    pub named : (c : ℕ) → names c new.known ≡ names c old.known
     pub stand : RecordsStand p new
     pub stood : clients ≡ 1 → RecordsStand p old
 

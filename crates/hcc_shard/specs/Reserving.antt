@@ -72,8 +72,8 @@ module _ {T A : Type 0} (fits : T → Key → List ℕ → Type 0) (shard : Shar
         new.effort old.seat new.seat
     pub counts : CountsSlots answer old new
 
-  -- They were tried from where the reservation ended, and only steps were added behind that: in a
-  -- shard of one client by events that make and take no entry, and show and hide none.
+  -- They were tried from where the reservation ended, and only steps were added behind that, by
+  -- events that make and take no entry, and show and hide none.
   pub record TriesFrom (reserved : SeatOf T) (counted : Effort) (answer : Insertion)
       (new : ShardSeat T) : Type 0 where
     pub done : SeatOf T

@@ -19,8 +19,8 @@ module _ {T A : Type 0} (shard : Shard T A) where
     pub within : slot < slots_of shard.table
     pub shows : ShowsKey (world_at shard.table seat.seat) key slot
 
-  -- What the seat knows goes on: in a shard of one client by events that make and take no entry,
-  -- and show and hide none.
+  -- What the seat knows goes on: its client made and took no entry in that, and showed and hid
+  -- none; in a shard of one client nobody did.
   abbrev pub StaysAt : (old new : ShardSeat T) → Type 0
   StaysAt old new = GoesOnStill shard.table old.seat new.seat
 

@@ -82,7 +82,7 @@ unfreed_still table slot name used erase a b h =
   where
     by : (due : Bool) → TakesByWhereDue table slot h.left None due None h.between b
         → GoesOnStill table h.between b
-    by false takes = goes_none table is_still h.between b (ap past (takes.1 refl))
+    by false takes = goes_none table is_still h.between b (takes.1 refl)
     by true takes =
         let lost = (takes.0 refl).lost in
         goes_event table is_still (look_done slot lost.0 (view h.between)) h.between b lost.2 refl

@@ -1,17 +1,17 @@
 -- What a seat does while it searches: step by step, and with what other clients do meanwhile.
-use Rattle.std.proofs.Common.{◌≡◌, ℕ, Bool, true, List, [], ◌∷◌, ◌++◌, Option, Some, None, refl, sym, subst, ap, ◌∙◌}
+use Rattle.std.proofs.Common.{◌≡◌, ℕ, ◌≤◌, Bool, true, List, [], ◌∷◌, ◌++◌, Option, Some, None, refl, sym, subst, ap, ◌∙◌}
 use Rattle.std.specs.Prelude.{IfSome, IsSomeAnd}
 use Rattle.std.proofs.lemmas.List.{append_assoc, append-nil}
 use Rattle.hcc_core.specs.declared.event.Event.{Event}
 use Rattle.hcc_rule.specs.declared.table.RuleTable.{RuleTable}
 use Rattle.hcc_rule.specs.declared.view.Done.{Done}
 use Rattle.hcc_rule.specs.declared.view.Record.{Record}
-use Rattle.hcc_rule.specs.Acts.{past}
+use Rattle.hcc_rule.specs.Acts.{IsNoStepOf, IsStepBy, past}
 use Rattle.hcc_rule.specs.Callers.{IsEvent}
 use Rattle.hcc_rule.specs.Events.{read_done}
 use Rattle.hcc_rule.specs.Records.{record_in}
 use Rattle.hcc_rule.specs.Seats.{SeatOf, view}
-use Rattle.hcc_rule.specs.Views.{Each}
+use Rattle.hcc_rule.specs.Views.{Each, names}
 use Rattle.hcc_rule.proofs.Basics.Lists.{each_append}
 use Rattle.hcc_table.specs.Seeking.{Does, GoesOnBy, Seeks, is_seeking}
 
@@ -20,13 +20,22 @@ module _ {T A : Type 0} (table : RuleTable T A) where
     abbrev IsSo : Done → Type 0
     IsSo done = kind done.event ≡ true
 
-    -- nothing more is known
-    pub goes_none : (a b : SeatOf T) → past b ≡ past a → GoesOnBy table kind a b
-    goes_none a b same = record {
+    abbrev IsOwn : ℕ → Done → Type 0
+    IsOwn c done = IsStepBy c done.event → kind done.event ≡ true
+
+    -- nothing was done that is an event
+    pub goes_quiet : (a b : SeatOf T) → past b ≡ past a → view b ≡ view a → GoesOnBy table kind a b
+    goes_quiet a b same saw = record {
       more = [];
       goes_on = same ∙ sym (append-nil (past a));
+      own = λ c named. tt;
+      named = λ c. ap (names c) saw;
       alone = λ one. tt;
     }
+
+    -- nothing was done
+    pub goes_none : (a b : SeatOf T) → b ≡ a → GoesOnBy table kind a b
+    goes_none a b same = goes_quiet a b (ap past same) (ap view same)
 
     pub goes_then : (a b c : SeatOf T) → GoesOnBy table kind a b → GoesOnBy table kind b c
         → GoesOnBy table kind a c
@@ -34,8 +43,17 @@ module _ {T A : Type 0} (table : RuleTable T A) where
       more = h.more ++ g.more;
       goes_on =
           g.goes_on ∙ ap (λ xs. xs ++ g.more) h.goes_on ∙ append_assoc (past a) h.more g.more;
+      own = λ c named.
+          each_append (IsOwn c) h.more g.more (h.own c named)
+          (g.own c (subst (λ n. 1 ≤ n) (sym (h.named c)) named));
+      named = λ c. g.named c ∙ h.named c;
       alone = λ one. each_append IsSo h.more g.more (h.alone one) (g.alone one);
     }
+
+    not_own : (c : ℕ) (ds : List Done) → Each (IsNoStepOf c) ds → Each (IsOwn c) ds
+    not_own c [] apart = tt
+    not_own c (d ∷ ds) apart =
+        ((λ by. absurd (apart.0 by.0 by.1)), not_own c ds apart.1)
 
     -- what a seat's own event adds
     pub goes_event : (done : Done) (a b : SeatOf T) → IsEvent table done a b
@@ -43,9 +61,33 @@ module _ {T A : Type 0} (table : RuleTable T A) where
     goes_event done a b event so = record {
       more = event.0.others ++ done ∷ [];
       goes_on = event.0.past;
+      own = λ c named.
+          each_append (IsOwn c) event.0.others (done ∷ [])
+          (not_own c event.0.others (event.0.apart c named)) ((λ by. so), tt);
+      named = event.0.named;
       alone = λ one.
           subst (λ os. Each IsSo (os ++ done ∷ [])) (sym (event.0.alone one)) (so, tt);
     }
+
+  -- events of one kind are events of a wider one
+  pub goes_wider : (kind wider : Event → Bool)
+      → ((event : Event) → kind event ≡ true → wider event ≡ true)
+      → (a b : SeatOf T) → GoesOnBy table kind a b → GoesOnBy table wider a b
+  goes_wider kind wider widens a b h = record {
+    more = h.more;
+    goes_on = h.goes_on;
+    own = λ c named. own c h.more (h.own c named);
+    named = h.named;
+    alone = λ one. all h.more (h.alone one);
+  }
+    where
+      own : (c : ℕ) (ds : List Done) → Each (IsOwn kind c) ds → Each (IsOwn wider c) ds
+      own c [] only = tt
+      own c (d ∷ ds) only = ((λ by. widens d.event (only.0 by)), own c ds only.1)
+
+      all : (ds : List Done) → Each (IsSo kind) ds → Each (IsSo wider) ds
+      all [] only = tt
+      all (d ∷ ds) only = (widens d.event only.0, all ds only.1)
 
   -- nothing was done
   pub seeks_none : (a : SeatOf T) → Seeks table a a

@@ -36,7 +36,7 @@ use Rattle.hcc_table.specs.Seeking.{Does, GoesOnBy, ReachesBy, Seeks, is_seeking
 use Rattle.hcc_table.specs.Standing.{entry_shown, world_at}
 use Rattle.hcc_table.specs.Still.{GoesOnStill, is_still}
 use Rattle.hcc_table.proofs.Lasting.{reach_seeks, reached_seeks}
-use Rattle.hcc_table.proofs.Seeking.{goes_event, goes_none, goes_then, seeks_one, seeks_read, seeks_then}
+use Rattle.hcc_table.proofs.Seeking.{goes_event, goes_none, goes_then, goes_wider, seeks_one, seeks_read, seeks_then}
 
 -- a reading of a slot that references, uses and marks leave as it is
 pub record Leaves {A : Type 0} (f : Option Slot → A) : Type 0 where
@@ -416,19 +416,10 @@ module _ {T A : Type 0} (table : RuleTable T A) where
       (seeks_one table (give_done weight name word (view b)) b c gives refl)
 
   -- What settles makes and takes no entry.
-  settled_each : (ds : List Done) → Each (λ (done : Done). is_settling done.event ≡ true) ds
-      → Each (λ (done : Done). is_still done.event ≡ true) ds
-  settled_each [] only = tt
-  settled_each (d ∷ ds) only = (by d.event only.0, settled_each ds only.1)
+  pub settled_still : (a b : SeatOf T) → GoesOnBy table is_settling a b → GoesOnStill table a b
+  settled_still a b h = goes_wider table is_settling is_still by a b h
     where
       by : (event : Event) → is_settling event ≡ true → is_still event ≡ true
       by (events.Slots client) is = refl
       by (events.Settle client) is = refl
       by other is = cc
-
-  pub settled_still : (a b : SeatOf T) → GoesOnBy table is_settling a b → GoesOnStill table a b
-  settled_still a b h = record {
-    more = h.more;
-    goes_on = h.goes_on;
-    alone = λ one. settled_each h.more (h.alone one);
-  }

@@ -1,16 +1,16 @@
 -- What a seat does while it searches, as events of the protocol's machine.
-use Rattle.std.specs.Prelude.{◌≡◌, ◌⊎◌, ℕ, Bool, true, false, List, [], ◌∷◌, ◌++◌, Option}
+use Rattle.std.specs.Prelude.{◌≡◌, ◌⊎◌, ℕ, ◌≤◌, Bool, true, false, List, [], ◌∷◌, ◌++◌, Option}
 use Rattle.hcc_core.specs.declared.event.Event.{Event}
 use Rattle.hcc_core.specs.declared.event.Event.TheVariants as events
 use Rattle.hcc_core.specs.declared.event.Reply.TheVariants as replies
 use Rattle.hcc_rule.specs.declared.table.RuleTable.{RuleTable}
 use Rattle.hcc_rule.specs.declared.view.Done.{Done}
 use Rattle.hcc_rule.specs.declared.view.Made.{Made}
-use Rattle.hcc_rule.specs.Acts.{did, past}
+use Rattle.hcc_rule.specs.Acts.{IsStepBy, did, past}
 use Rattle.hcc_rule.specs.Callers.{IsEvent, clients_of}
 use Rattle.hcc_rule.specs.Events.{acquire_done, correct_done, show_done}
 use Rattle.hcc_rule.specs.Seats.{SeatOf, view}
-use Rattle.hcc_rule.specs.Views.{Each}
+use Rattle.hcc_rule.specs.Views.{Each, names}
 use Rattle.hcc_table.specs.Steps.{acquired}
 
 -- whether it is an event of a search: these change no entry, and show and hide none
@@ -52,10 +52,14 @@ module _ {T A : Type 0} (table : RuleTable T A) where
     pub does : Does own old new
     pub only : Each (λ (done : Done). is_seeking done.event ≡ true) own
 
-  -- What the seat knows goes on. In a shard of one client it does so by such events alone.
+  -- What the seat knows goes on, and it names whom it named. In that each step of a client that it
+  -- names is such an event; in a shard of one client there are no others.
   pub record GoesOnBy (kind : Event → Bool) (old new : SeatOf T) : Type 0 where
     pub more : List Done
     pub goes_on : past new ≡ past old ++ more
+    pub own : (c : ℕ) → 1 ≤ names c (view old)
+        → Each (λ (done : Done). IsStepBy c done.event → kind done.event ≡ true) more
+    pub named : (c : ℕ) → names c (view new) ≡ names c (view old)
     pub alone : clients_of table ≡ 1 → Each (λ (done : Done). kind done.event ≡ true) more
 
   -- What frees a slot that the client took: the trail is taken back, and then the slot is emptied.

@@ -30,7 +30,8 @@ pub record ShowsBut (slot : ℕ) (freed : Option ℕ) (world next : State) : Typ
   pub gone : IfSome freed (λ charge. shown_at next slot ≡ None)
 
 module _ {T A : Type 0} (table : RuleTable T A) where
-  -- What the seat knows goes on. In a shard of one client nothing else is shown then.
+  -- What the seat knows goes on. Its client made and took no entry in that, and showed and hid
+  -- none. In a shard of one client nothing else is shown then.
   abbrev pub GoesOnStill : (old new : SeatOf T) → Type 0
   GoesOnStill old new = GoesOnBy table is_still old new
 

@@ -292,15 +292,17 @@ module _ {T : Type 0} where
   pub follows_is : (p : Plan T) (clients : ℕ) (history : List Done) (done : Option Done)
       (old new : Logged T)
       → is_seated old.known ≡ true → new.past ≡ past_after history done old
+      → ((c : ℕ) → names c new.known ≡ names c old.known)
       → (new.past ≡ with_done history done → RecordsStand p new)
       → (old.past ≡ history → RecordsStand p old)
       → IsFront clients history old → Follows p clients done old new
-  follows_is p clients history None old new seated past stand stood f = past
-  follows_is p clients history (Some done) old new seated past stand stood f = record {
+  follows_is p clients history None old new seated past named stand stood f = past
+  follows_is p clients history (Some done) old new seated past named stand stood f = record {
     others = f.later;
     past = past ∙ (ap (λ h. h ++ done ∷ []) f.is ∙ append_assoc old.past f.later (done ∷ []));
     apart = f.apart;
     alone = λ one. f.alone one seated;
+    named = named;
     stand = stand past;
     stood = λ one.
         stood (sym (f.is ∙ ap (λ ds. old.past ++ ds) (f.alone one seated) ∙ append-nil old.past));

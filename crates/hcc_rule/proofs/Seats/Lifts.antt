@@ -233,6 +233,8 @@ module _ {T : Type 0} (fits : T → Key → List ℕ → Type 0) (p : Plan T) wh
           done = given.3;
           told = given.5;
           follows = follows_is p p.geometry.clients holds.history given.3 me.0 w seated refl
+              (names_same fits p (unlogged s) holds.rule _ _ id me.0.known w.known
+              (known_at fits p s id me.0 here) given.4.0)
               (λ all. records_stand _ after id w there
               (sits w.known w.known.tag refl (λ none. let never = after.spent id w there none in
               omega arith)) all) (records_stand s holds id me.0 here seated)
