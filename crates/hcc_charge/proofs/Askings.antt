@@ -15,7 +15,7 @@ use Rattle.hcc_rule.specs.Seats.{SeatOf, Makes, view}
 use Rattle.hcc_rule.specs.Views.{charge_made}
 use Rattle.hcc_table.specs.declared.efforts.Effort.{Effort}
 use Rattle.hcc_table.specs.Efforts.{Lost}
-use Rattle.hcc_table.specs.Still.{GoesOnStill}
+use Rattle.hcc_table.specs.Seeking.{GoesOnBy, is_booking}
 use Rattle.hcc_charge.specs.declared.swept.Swept.{Swept}
 use Rattle.hcc_charge.specs.declared.tally.Tally.{Tally}
 use Rattle.hcc_charge.specs.Asked.{added, is_full, lacked, Enters, EvictsAsAsked, EvictsNothing, FindsBy}
@@ -93,7 +93,7 @@ module _ {T A : Type 0} (fits : T → Key → List ℕ → Type 0) (table : Rule
       → (clients_of table ≡ 1
       → taken + (view a).takings ≡ length (view a).made + occupied_by (view a).work)
       → (clients_of table ≡ 1 → used ≤ charged_to (view u).work + charge_made (view u))
-      → (d : SeatOf T) → EvictsNothing (view c) (view d) → GoesOnStill table c d
+      → (d : SeatOf T) → EvictsNothing (view c) (view d) → GoesOnBy table is_booking c d
       → EvictsAsAsked fits table charge before after effort counted a d
   evicts_as_asked is_found is_kind is_asked enters opens finds enters_by finds_by first evicts
       within sweeps tallied lost idle places charges d last behind =

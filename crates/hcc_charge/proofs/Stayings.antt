@@ -27,6 +27,7 @@ use Rattle.hcc_table.specs.declared.efforts.Effort.{Effort}
 use Rattle.hcc_table.specs.Standing.{world_at}
 use Rattle.hcc_table.specs.Still.{GoesOnStill, is_still}
 use Rattle.hcc_table.proofs.Alone.{event_alone, usage_tells}
+use Rattle.hcc_table.proofs.Still.{booked_still}
 use Rattle.hcc_table.proofs.Seeking.{goes_event, goes_none, goes_then}
 use Rattle.hcc_table.proofs.Setups.{setup_stays}
 use Rattle.hcc_table.proofs.Shown.{bound, ruled, same_outcome}
@@ -78,7 +79,8 @@ module _ {T A : Type 0} (fits : T → Key → List ℕ → Type 0) (table : Rule
       e.enters_by refl)
       (goes_then table is_still e.u e.b d
       (finds_still table (is_strict table) charge e.used e.u e.b e.finds_by)
-      (subst (λ z. GoesOnStill table z d) (e.evicts.none none).1 e.behind))
+      (subst (λ z. GoesOnStill table z d) (e.evicts.none none).1
+      (booked_still table e.c d e.behind)))
 
   -- So it is where no turn was made:
   module _ (e : EvictsAsAsked fits table charge before after effort counted a d)

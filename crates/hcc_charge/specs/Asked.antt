@@ -14,7 +14,7 @@ use Rattle.hcc_rule.specs.Seats.{SeatOf, Makes, MakesSome, view}
 use Rattle.hcc_rule.specs.Views.{charge_made}
 use Rattle.hcc_table.specs.declared.efforts.Effort.{Effort}
 use Rattle.hcc_table.specs.Efforts.{Lost}
-use Rattle.hcc_table.specs.Still.{GoesOnStill}
+use Rattle.hcc_table.specs.Seeking.{GoesOnBy, is_booking}
 use Rattle.hcc_charge.specs.declared.reserving.Reservation.{Reservation}
 use Rattle.hcc_charge.specs.declared.reserving.Reservation.TheVariants.{Reserved, NoPlace}
 use Rattle.hcc_charge.specs.declared.reserving.Refused.{Refused}
@@ -77,8 +77,8 @@ module _ {T A : Type 0} (fits : T → Key → List ℕ → Type 0) (table : Rule
     -- A reservation found so many places taken, and this usage, and evicted exactly for what it
     -- asks for then, which left the seat c. The client's view counts the turns, what they took and
     -- the open place, its tally all that they did, and its effort the exchanges that they lost. The
-    -- steps before the eviction are told by their events, too. Behind it the client makes and takes
-    -- no entry, and shows and hides none.
+    -- steps before the eviction are told by their events, too. Behind it the client keeps what it
+    -- reserved, or gives it back, and does nothing else.
     pub record EvictsAsAsked (before after : Tally) (effort counted : Effort) (a d : SeatOf T)
         : Type 0 where
       pub taken : ℕ
@@ -100,7 +100,7 @@ module _ {T A : Type 0} (fits : T → Key → List ℕ → Type 0) (table : Rule
       pub opened : (view d).open_places ≡ (view a).open_places + when (is_full table taken) 1
       pub tallied : Tallied swept before after
       pub lost : Lost swept.lost swept.lost effort counted
-      pub behind : GoesOnStill table c d
+      pub behind : GoesOnBy table is_booking c d
       -- A client that is alone made all that it found: the places taken are for what it made and
       -- didn't take,
       pub taken_alone : clients_of table ≡ 1

@@ -15,6 +15,7 @@ ghost use Rattle.hcc_charge.specs.Asked.{is_full, Enters, EvictsBy, GivesAllBack
 ghost use Rattle.hcc_charge.specs.Evicted.{asking, most_turns, sweeping, EvictsFor, IsSweptFor, Sweeps};
 ghost use Rattle.hcc_charge.specs.Reserved.{entered, settled_as, sweeping_between, ReservedBy};
 ghost use Rattle.hcc_charge.specs.Swept.{Tallied};
+ghost use Rattle.hcc_table.specs.Seeking.{is_booking, GoesOnBy};
 ghost use Rattle.hcc_table.specs.Steps.{MakesAtMost};
 ghost use Rattle.hcc_table.specs.Still.{GoesOnStill};
 
@@ -248,7 +249,7 @@ fn refuse<T: Tag, A: Allocator>(
     ensures seat { IsSameSeat seat.old seat.new }
     ensures view { view seat.new ≡ settled_as Absent 0 (view seat.old) }
     ensures gives { GivesAllBack table.now charge swept seat.old seat.new }
-    ensures still { GoesOnStill table.now seat.old seat.new }
+    ensures by { GoesOnBy table.now is_booking seat.old seat.new }
     ensures steps { MakesAtMost 2 seat.old seat.new }
 {
     table.quit(seat, 1 + swept.slots);

@@ -28,7 +28,7 @@ use Rattle.hcc_table.specs.Searched.{Buried}
 use Rattle.hcc_table.proofs.Logs.{adds_none, adds_then, ends_adds}
 use Rattle.hcc_table.proofs.Seeking.{goes_none}
 use Rattle.hcc_table.specs.Steps.{Adds, Among, Ends, MakesAtMost, MakesFor}
-use Rattle.hcc_table.specs.Still.{GoesOnStill, is_still}
+use Rattle.hcc_table.specs.Seeking.{GoesOnBy, is_booking}
 use Rattle.hcc_table.specs.Tries.{Inserts}
 use Rattle.hcc_charge.specs.declared.reserving.Refused.{Refused}
 use Rattle.hcc_charge.specs.declared.reserving.Refused.TheVariants.{TooLarge, CapacityFull, OccupancyFull}
@@ -182,15 +182,15 @@ module _ {T A : Type 0} (shard : Shard T A) (draft : Draft) where
     -- What was tried from where the reservation ended.
     tries_from : (answer : Insertion) (mid between new : ShardSeat T)
         → TriesEach fits shard draft answer mid between → new.effort ≡ between.effort
-        → Adds between.seat new.seat → GoesOnStill shard.table between.seat new.seat
+        → Adds between.seat new.seat → GoesOnBy shard.table is_booking between.seat new.seat
         → TriesFrom fits shard draft mid.seat mid.effort answer new
-    tries_from answer mid between new tries same behind still = record {
+    tries_from answer mid between new tries same behind books = record {
       done = between.seat;
       inserts =
           subst (λ e. Inserts fits shard.table draft.key draft.serial draft.countdown answer
           mid.effort e mid.seat between.seat) (sym same) tries.inserts;
       adds = behind;
-      still = still;
+      books = books;
     }
 
     -- The entry was put in a slot that was reserved for it.
@@ -225,7 +225,7 @@ module _ {T A : Type 0} (shard : Shard T A) (draft : Draft) where
       last = last;
       tries =
           tries_from (Placed slot) mid new new tries refl (adds_none new.seat new.seat refl)
-          (goes_none shard.table is_still new.seat new.seat refl);
+          (goes_none shard.table is_booking new.seat new.seat refl);
       probes =
           slots_from (Placed slot) old mid new new (ap (λ (z : View T). z.saw) r.same) lost.0
           refl refl tries.counts;
@@ -247,12 +247,12 @@ module _ {T A : Type 0} (shard : Shard T A) (draft : Draft) where
         → EvictsNothing (view between.seat) (view new.seat)
         → (view new.seat).met ≡ (view between.seat).met
         → (view new.seat).saw ≡ (view between.seat).saw → Adds between.seat new.seat
-        → GoesOnStill shard.table between.seat new.seat
+        → GoesOnBy shard.table is_booking between.seat new.seat
         → Rose (when matched 1) (when matched 1) old.boosts new.boosts
         → TriesEach fits shard draft (left_out matched) mid between → new.effort ≡ between.effort
         → LeavesOut fits shard draft old new
     leaves_reserved matched old mid between new r lost counts evicts tried adds why idle met saw
-        behind still boosts tries same = record {
+        behind books boosts tries same = record {
           told = Reserved;
           matched = matched;
           reserves = record {
@@ -271,7 +271,7 @@ module _ {T A : Type 0} (shard : Shard T A) (draft : Draft) where
           why =
               left_from matched old mid between new (ap (λ (z : View T). z.met) r.same) first met
               saw why;
-          tries = tries_from (left_out matched) mid between new tries same behind still;
+          tries = tries_from (left_out matched) mid between new tries same behind books;
           probes =
               slots_from (left_out matched) old mid between new first lost.0 saw same
               tries.counts;
@@ -288,10 +288,10 @@ module _ {T A : Type 0} (shard : Shard T A) (draft : Draft) where
         → EvictsBy fits shard.table draft.charge (Ok NoPlace) old.tally new.tally
         old.effort new.effort old.seat a
         → EvictsNothing (view a) (view new.seat) → (view new.seat).saw ≡ (view a).saw
-        → Adds a new.seat → GoesOnStill shard.table a new.seat
+        → Adds a new.seat → GoesOnBy shard.table is_booking a new.seat
         → new.effort.probes ≡ old.effort.probes → new.boosts ≡ old.boosts
         → LeavesOut fits shard draft old new
-    leaves_unreserved old new a r evicts idle saw behind still probes boosts = record {
+    leaves_unreserved old new a r evicts idle saw behind books probes boosts = record {
       told = NoPlace;
       matched = false;
       reserves = record {
@@ -302,7 +302,7 @@ module _ {T A : Type 0} (shard : Shard T A) (draft : Draft) where
         rest = λ less. behind;
       };
       why = (refl, saw ∙ ap (λ (z : View T). z.saw) r.same, probes);
-      tries = (refl, still);
+      tries = (refl, books);
       probes = (
         0,
         (let before = ap (λ (z : View T). z.saw) r.same in omega arith),

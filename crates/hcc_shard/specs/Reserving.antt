@@ -15,7 +15,7 @@ use Rattle.hcc_table.specs.Rises.{Rose}
 use Rattle.hcc_table.specs.Inserted.{Meets, visited_by}
 use Rattle.hcc_table.specs.Searched.{Buried, IsBefore}
 use Rattle.hcc_table.specs.Steps.{Adds, Ends}
-use Rattle.hcc_table.specs.Still.{GoesOnStill}
+use Rattle.hcc_table.specs.Seeking.{GoesOnBy, is_booking}
 use Rattle.hcc_table.specs.Tries.{Inserts}
 use Rattle.hcc_charge.specs.declared.reserving.Reservation.{Reservation}
 use Rattle.hcc_charge.specs.declared.reserving.Reservation.TheVariants.{Reserved, NoPlace}
@@ -72,23 +72,23 @@ module _ {T A : Type 0} (fits : T → Key → List ℕ → Type 0) (shard : Shar
         new.effort old.seat new.seat
     pub counts : CountsSlots answer old new
 
-  -- They were tried from where the reservation ended, and only steps were added behind that, by
-  -- events that make and take no entry, and show and hide none.
+  -- They were tried from where the reservation ended. Only steps were added behind that, by which
+  -- the client keeps what it reserved, or gives it back.
   pub record TriesFrom (reserved : SeatOf T) (counted : Effort) (answer : Insertion)
       (new : ShardSeat T) : Type 0 where
     pub done : SeatOf T
     pub inserts : Inserts fits shard.table draft.key draft.serial draft.countdown answer counted
         new.effort reserved done
     pub adds : Adds done new.seat
-    pub still : GoesOnStill shard.table done new.seat
+    pub books : GoesOnBy shard.table is_booking done new.seat
 
-  -- What was tried where a place was reserved; else nothing was, and only such events came behind
+  -- What was tried where a place was reserved; else nothing was, and only such steps came behind
   -- the reservation.
   abbrev pub TriesWhere : Reservation → SeatOf T → Effort → Insertion → (new : ShardSeat T)
       → Type 0
   TriesWhere Reserved reserved counted answer new = TriesFrom reserved counted answer new
   TriesWhere NoPlace reserved counted answer new =
-      (new.effort ≡ counted) × GoesOnStill shard.table reserved new.seat
+      (new.effort ≡ counted) × GoesOnBy shard.table is_booking reserved new.seat
 
   -- The entry was put in this slot, probe i of its key: the i probes before it were taken, and each
   -- entry of the key that the client holds there is dead to it. The last step showed the entry by

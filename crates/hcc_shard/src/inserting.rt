@@ -13,8 +13,8 @@ ghost use Rattle.hcc_table.specs.declared.inserting.Insertion.TheVariants.{Place
 ghost use Rattle.hcc_table.specs.Efforts.{Took};
 ghost use Rattle.hcc_table.specs.Rises.{Rose};
 ghost use Rattle.hcc_table.specs.Inserted.{MayInsert};
+ghost use Rattle.hcc_table.specs.Seeking.{is_booking, GoesOnBy};
 ghost use Rattle.hcc_table.specs.Steps.{Adds, Ends, MakesAtMost, MakesFor};
-ghost use Rattle.hcc_table.specs.Still.{GoesOnStill};
 ghost use Rattle.hcc_charge.specs.declared.reserving.Refused.TheVariants.{TooLarge};
 ghost use Rattle.hcc_charge.specs.declared.reserving.Reservation.TheVariants.{Reserved};
 ghost use Rattle.hcc_charge.specs.Evicted.{most_turns};
@@ -257,7 +257,7 @@ fn stand<T: Tag, A: Allocator>(
     requires few { length (view seat.old).work.standalones < MOST_HANDLES }
     ensures seat { IsSameSeat seat.old seat.new }
     ensures view { view seat.new ≡ stood name charge (without_place charge (view seat.old)) }
-    ensures still { GoesOnStill table.now seat.old seat.new }
+    ensures by { GoesOnBy table.now is_booking seat.old seat.new }
     ensures adds { Adds seat.old seat.new }
     ensures steps { MakesAtMost 3 seat.old seat.new }
 {

@@ -32,7 +32,7 @@ use Rattle.hcc_rule.specs.Records.{record_in}
 use Rattle.hcc_rule.specs.Seats.{SeatOf, view}
 use Rattle.hcc_rule.specs.Views.{Each}
 use Rattle.hcc_rule.proofs.Seats.Histories.{after_more}
-use Rattle.hcc_table.specs.Seeking.{Does, GoesOnBy, ReachesBy, Seeks, is_seeking, is_settling}
+use Rattle.hcc_table.specs.Seeking.{Does, GoesOnBy, ReachesBy, Seeks, is_booking, is_seeking, is_settling}
 use Rattle.hcc_table.specs.Standing.{entry_shown, world_at}
 use Rattle.hcc_table.specs.Still.{GoesOnStill, is_still}
 use Rattle.hcc_table.proofs.Lasting.{reach_seeks, reached_seeks}
@@ -415,11 +415,27 @@ module _ {T A : Type 0} (table : RuleTable T A) where
       seeks_then table a b c (seeks_read table name (λ r. r.slot ≡ slot) a b on reads)
       (seeks_one table (give_done weight name word (view b)) b c gives refl)
 
-  -- What settles makes and takes no entry.
-  pub settled_still : (a b : SeatOf T) → GoesOnBy table is_settling a b → GoesOnStill table a b
-  settled_still a b h = goes_wider table is_settling is_still by a b h
+  -- What settles books, and what books makes and takes no entry.
+  pub settled_books : (a b : SeatOf T) → GoesOnBy table is_settling a b
+      → GoesOnBy table is_booking a b
+  settled_books a b h = goes_wider table is_settling is_booking by a b h
     where
-      by : (event : Event) → is_settling event ≡ true → is_still event ≡ true
+      by : (event : Event) → is_settling event ≡ true → is_booking event ≡ true
       by (events.Slots client) is = refl
       by (events.Settle client) is = refl
       by other is = cc
+
+  pub booked_still : (a b : SeatOf T) → GoesOnBy table is_booking a b → GoesOnStill table a b
+  booked_still a b h = goes_wider table is_booking is_still by a b h
+    where
+      by : (event : Event) → is_booking event ≡ true → is_still event ≡ true
+      by (events.Charge client charge) is = refl
+      by (events.Slots client) is = refl
+      by (events.Settle client) is = refl
+      by (events.Waive client) is = refl
+      by (events.Quit client) is = refl
+      by (events.Stand client charge name) is = refl
+      by other is = cc
+
+  pub settled_still : (a b : SeatOf T) → GoesOnBy table is_settling a b → GoesOnStill table a b
+  settled_still a b h = booked_still a b (settled_books a b h)

@@ -40,6 +40,16 @@ is_settling (events.Slots client) = true
 is_settling (events.Settle client) = true
 is_settling other = false
 
+-- whether it is an event by which a client keeps, or gives back, what it reserved and freed
+abbrev pub is_booking : Event → Bool
+is_booking (events.Charge client charge) = true
+is_booking (events.Slots client) = true
+is_booking (events.Settle client) = true
+is_booking (events.Waive client) = true
+is_booking (events.Quit client) = true
+is_booking (events.Stand client charge name) = true
+is_booking other = false
+
 module _ {T A : Type 0} (table : RuleTable T A) where
   -- The seat did these, one after the other, and nothing else.
   abbrev pub Does : List Done → (old new : SeatOf T) → Type 0

@@ -18,6 +18,7 @@ use Rattle.hcc_table.specs.declared.inserting.Insertion.TheVariants.{Placed, Mat
 use Rattle.hcc_table.specs.Standing.{InsertsShown, ShowsKey, ShowsSame, shown_at, world_at}
 use Rattle.hcc_table.specs.Tries.{Inserts}
 use Rattle.hcc_table.proofs.Releases.{still_shows}
+use Rattle.hcc_table.proofs.Still.{booked_still}
 use Rattle.hcc_charge.specs.declared.reserving.Refused.{Refused}
 use Rattle.hcc_charge.specs.declared.reserving.Refused.TheVariants.{TooLarge, CapacityFull, OccupancyFull}
 use Rattle.hcc_charge.specs.declared.reserving.Reservation.{Reservation}
@@ -162,7 +163,8 @@ module _ {T : Type 0} (fits : T → Key → List ℕ → Type 0) (shard : Shard 
           new.tally old.effort r.counted old.seat r.reserved r.evicts
           (turns_of (Ok Reserved) r same)))
           (tells answer r.counted new.effort r.reserved t.done t.inserts)
-          (still_shows shard.table one t.done new.seat t.still);
+          (still_shows shard.table one t.done new.seat
+          (booked_still shard.table t.done new.seat t.books));
       idle =
           keeps_then (view old.seat) (view r.reserved) (view new.seat)
           (unturned (fits_seeded fits) shard.table draft.charge (Ok Reserved) old.tally new.tally

@@ -3,9 +3,9 @@ use Rattle.hcc_rule.specs.Callers.{plan_of, slots_of}
 use Rattle.hcc_rule.specs.Events.{charge_done, quit_done}
 use Rattle.hcc_rule.specs.Rule.{setup_of}
 use Rattle.hcc_rule.specs.Seats.{SeatOf, view}
-use Rattle.hcc_table.specs.Still.{GoesOnStill, is_still}
+use Rattle.hcc_table.specs.Seeking.{GoesOnBy, is_booking}
 use Rattle.hcc_table.proofs.Seeking.{goes_event, goes_then}
-use Rattle.hcc_table.proofs.Still.{settled_still}
+use Rattle.hcc_table.proofs.Still.{settled_books}
 use Rattle.hcc_charge.specs.Asked.{EvictsAsAsked, EvictsNothing, Grants}
 use Rattle.hcc_charge.proofs.Answered.{lax_refused, lax_reserved}
 use Rattle.hcc_charge.proofs.Askings.{asked_lax, between_is, evicts_as_asked, keeps_by, keeps_then, lacked_lax}
@@ -50,7 +50,7 @@ returns-clause-view g c =
 -- What was found and evicted, whatever came behind it.
 abbrev evicted : (g : given.Over) (c : After-evict_for-swept g) (d : SeatOf g.row.T.Denot)
     → EvictsNothing (view c.evict_for-swept.new.seat) (view d)
-    → GoesOnStill c.args.table.now c.evict_for-swept.new.seat d
+    → GoesOnBy c.args.table.now is_booking c.evict_for-swept.new.seat d
     → EvictsAsAsked g.T.Tag.fits c.args.table.now c.args.charge c.args.tally.now
     c.evict_for-swept.new.tally c.args.effort.now c.evict_for-swept.new.effort c.args.seat.now d
 evicted g c =
@@ -78,26 +78,26 @@ idle g c =
     (keeps_by _ (view c.give_charge.new.seat) (view c.charge.new.seat) c.give_charge.ensures.view
     refl refl refl))
 
--- Nor does it make or take an entry, or show or hide one.
+-- It only keeps what was reserved, and gives back what was freed.
 behind : (g : given.Over) (c : After-give_charge g)
-    → GoesOnStill c.args.table.now c.evict_for-swept.new.seat c.give_charge.new.seat
+    → GoesOnBy c.args.table.now is_booking c.evict_for-swept.new.seat c.give_charge.new.seat
 behind g c =
     let table = c.args.table.now in
-    goes_then table is_still c.evict_for-swept.new.seat c.give_slots.new.seat
+    goes_then table is_booking c.evict_for-swept.new.seat c.give_slots.new.seat
     c.give_charge.new.seat
-    (settled_still table c.evict_for-swept.new.seat c.give_slots.new.seat c.give_slots.ensures.by)
-    (goes_then table is_still c.give_slots.new.seat c.charge.new.seat c.give_charge.new.seat
-    (goes_event table is_still
+    (settled_books table c.evict_for-swept.new.seat c.give_slots.new.seat c.give_slots.ensures.by)
+    (goes_then table is_booking c.give_slots.new.seat c.charge.new.seat c.give_charge.new.seat
+    (goes_event table is_booking
     (charge_done (setup_of (plan_of table)) c.args.charge c.charge.result
     (view c.give_slots.new.seat))
     c.give_slots.new.seat c.charge.new.seat c.charge.ensures.event refl)
-    (settled_still table c.charge.new.seat c.give_charge.new.seat c.give_charge.ensures.by))
+    (settled_books table c.charge.new.seat c.give_charge.new.seat c.give_charge.ensures.by))
 
 pub returns-then-swept-eq0-clause-evicts : goal.returns-then-swept-eq0-clause-evicts
 returns-then-swept-eq0-clause-evicts g c = (
   evicted g (goal.at.returns-then-swept-eq0-clause-evicts g c).After-evict_for-swept c.quit.new.seat
       (keeps_by _ _ (view c.evict_for-swept.new.seat) c.quit.ensures.view refl refl refl)
-      (goes_event c.args.table.now is_still (quit_done (view c.evict_for-swept.new.seat))
+      (goes_event c.args.table.now is_booking (quit_done (view c.evict_for-swept.new.seat))
       c.evict_for-swept.new.seat c.quit.new.seat c.quit.ensures.event refl),
   sym c.enter-full.ensures.enters.1 ∙ c.if-full.true,
   c.if-swept-eq0.true,

@@ -2,8 +2,8 @@ use Rattle.std.proofs.Common.{◌≡◌, ◌<◌, ◌≤◌, true, sym, subst, r
 use Rattle.hcc_rule.specs.Callers.{plan_of, slots_of}
 use Rattle.hcc_rule.specs.Rule.{setup_of}
 use Rattle.hcc_rule.specs.Seats.{SeatOf, view}
-use Rattle.hcc_table.specs.Still.{GoesOnStill}
-use Rattle.hcc_table.proofs.Still.{settled_still}
+use Rattle.hcc_table.specs.Seeking.{GoesOnBy, is_booking}
+use Rattle.hcc_table.proofs.Still.{settled_books}
 use Rattle.hcc_charge.specs.Reserved.{still_needed}
 use Rattle.hcc_charge.specs.Asked.{lacked, EvictsAsAsked, EvictsNothing, Grants}
 use Rattle.hcc_charge.proofs.Answered.{strict_full, strict_reserved, strict_short}
@@ -75,7 +75,7 @@ returns-clause-view g c =
 -- What was found and evicted, whatever came behind it.
 abbrev evicted : (g : given.Over) (c : After-evict_for-swept g) (d : SeatOf g.row.T.Denot)
     → EvictsNothing (view c.evict_for-swept.new.seat) (view d)
-    → GoesOnStill c.args.table.now c.evict_for-swept.new.seat d
+    → GoesOnBy c.args.table.now is_booking c.evict_for-swept.new.seat d
     → EvictsAsAsked g.T.Tag.fits c.args.table.now c.args.charge c.args.tally.now
     c.evict_for-swept.new.tally c.args.effort.now c.evict_for-swept.new.effort c.args.seat.now d
 evicted g c =
@@ -95,7 +95,7 @@ returns-then-swept-needed-clause-evicts g c = (
   evicted g (goal.at.returns-then-swept-needed-clause-evicts g c).After-evict_for-swept
       c.refuse.new.seat
       (keeps_by _ _ (view c.evict_for-swept.new.seat) c.refuse.ensures.view refl refl refl)
-      c.refuse.ensures.still,
+      c.refuse.ensures.by,
   rw (lacked_strict c.args.table.now c.args.charge c.charge-used.result c.requires.strict)
       (rw (← c.capacity.ensures) (rw (← c.needed-needed.ensures.value) c.if-swept-needed.true)),
   c.refuse.ensures.gives,
@@ -106,7 +106,7 @@ returns-then-swept-eq0-clause-evicts g c = (
   evicted g (goal.at.returns-then-swept-eq0-clause-evicts g c).After-evict_for-swept
       c.refuse-then-swept-eq0.new.seat
       (keeps_by _ _ (view c.evict_for-swept.new.seat) c.refuse-then-swept-eq0.ensures.view refl
-      refl refl) c.refuse-then-swept-eq0.ensures.still,
+      refl refl) c.refuse-then-swept-eq0.ensures.by,
   sym c.enter-full.ensures.enters.1 ∙ c.if-full.true,
   c.if-swept-eq0.true,
   needless,
@@ -126,7 +126,7 @@ pub returns-clause-evicts : goal.returns-clause-evicts
 returns-clause-evicts g c = (
   evicted g (goal.at.returns-clause-evicts g c).After-evict_for-swept c.settle.new.seat
       (keeps_by _ _ (view c.evict_for-swept.new.seat) c.settle.ensures.view refl refl refl)
-      (settled_still c.args.table.now c.evict_for-swept.new.seat c.settle.new.seat
+      (settled_books c.args.table.now c.evict_for-swept.new.seat c.settle.new.seat
       c.settle.ensures.by),
   λ is. placed g c (c.enter-full.ensures.enters.1 ∙ is),
   rw (lacked_strict c.args.table.now c.args.charge c.charge-used.result c.requires.strict)
@@ -140,7 +140,7 @@ pub returns-clause-steps : goal.returns-clause-steps
 returns-clause-steps g c =
     let e = evicted g (goal.at.returns-clause-steps g c).After-evict_for-swept c.settle.new.seat
     (keeps_by _ _ (view c.evict_for-swept.new.seat) c.settle.ensures.view refl refl refl)
-    (settled_still c.args.table.now c.evict_for-swept.new.seat c.settle.new.seat
+    (settled_books c.args.table.now c.evict_for-swept.new.seat c.settle.new.seat
     c.settle.ensures.by) in
     rw (between_is (slots_of c.args.table.now) c.evict_for-swept.result.turns
     c.evict_for-swept.result.slots (view c.args.seat.now) (view c.settle.new.seat)

@@ -4,7 +4,7 @@ use Rattle.hcc_rule.specs.declared.view.View.{View}
 use Rattle.hcc_rule.specs.Callers.{capacity_of, geometry_of, is_strict, plan_of, room_of, slots_of}
 use Rattle.hcc_rule.specs.Seats.{view}
 use Rattle.hcc_table.specs.Rises.{Rose}
-use Rattle.hcc_table.specs.Still.{is_still}
+use Rattle.hcc_table.specs.Seeking.{is_booking}
 use Rattle.hcc_table.proofs.Logs.{adds_none}
 use Rattle.hcc_table.proofs.Seeking.{goes_none}
 use Rattle.hcc_charge.proofs.Askings.{keeps_by, keeps_then}
@@ -130,7 +130,7 @@ returns-in-None-clause-evicts g c =
     (keeps_by _ _ (view c.put.new.seat.seat) c.give_up.ensures.view refl refl refl)
     (ap (λ (z : View g.row.T.Denot). z.met) c.give_up.ensures.view)
     (ap (λ (z : View g.row.T.Denot). z.saw) c.give_up.ensures.view) c.give_up.ensures.adds
-    c.give_up.ensures.still told.left.2 told.left.3 refl
+    c.give_up.ensures.by told.left.2 told.left.3 refl
 
 pub returns-in-None-clause-frees : goal.returns-in-None-clause-frees
 returns-in-None-clause-frees g c =
@@ -159,7 +159,7 @@ returns-in-NoPlace-clause-evicts g c =
     c.reserve.new.seat r (rw c.in-NoPlace.is at c.in_ok-reserved.ensures.evicts)
     (record { turns = refl; takings = refl; opened = refl }) refl
     (adds_none c.reserve.new.seat c.reserve.new.seat refl)
-    (goes_none c.args.self.now.table is_still c.reserve.new.seat c.reserve.new.seat refl)
+    (goes_none c.args.self.now.table is_booking c.reserve.new.seat c.reserve.new.seat refl)
     c.in_ok-reserved.ensures.effort.0 refl
 
 pub returns-in-NoPlace-clause-frees : goal.returns-in-NoPlace-clause-frees

@@ -148,7 +148,7 @@ returns-in-None-clause-evicts g c =
     (keeps_by _ _ (view c.put.new.seat.seat) c.stand.ensures.view refl refl refl)
     (ap (λ (z : View g.row.T.Denot). z.met) c.stand.ensures.view)
     (ap (λ (z : View g.row.T.Denot). z.saw) c.stand.ensures.view) c.stand.ensures.adds
-    c.stand.ensures.still told.left.2 told.left.3 refl
+    c.stand.ensures.by told.left.2 told.left.3 refl
 
 pub returns-in-None-clause-frees : goal.returns-in-None-clause-frees
 returns-in-None-clause-frees g c =
@@ -177,7 +177,7 @@ returns-in-NoPlace-clause-evicts g c =
     c.reserve.new.seat r (rw c.in-NoPlace.is at c.in_ok-reserved.ensures.evicts)
     (keeps_by _ _ (view c.reserve.new.seat) c.standalone_in.ensures.view refl refl refl)
     (ap (λ (z : View g.row.T.Denot). z.saw) c.standalone_in.ensures.view)
-    c.standalone_in.ensures.adds c.standalone_in.ensures.still
+    c.standalone_in.ensures.adds c.standalone_in.ensures.by
     c.in_ok-reserved.ensures.effort.0 refl
 
 pub returns-in-NoPlace-clause-frees : goal.returns-in-NoPlace-clause-frees
