@@ -15,7 +15,8 @@ impl<T: Tag> Cache<T> {
     /// key was hidden, and the search ended as a miss does. In a cache of one client it hides just
     /// what is shown of the key (`laws::law_erasures`).
     ///
-    /// Each entry of the key that the client holds has been seen dead afterwards; its handles show
+    /// Each entry of the key that the client holds has been seen dead afterwards, and so has each
+    /// that it hid, held or not: no look-up of this client finds that one again. Its handles show
     /// what they showed. It refuses nothing and allocates nothing. Each probe costs what it costs a
     /// look-up; each match an atomic and, a compare-exchange where nobody holds the entry, and the
     /// freeing where that wins, else a subtraction. Two subtractions follow where any was freed.

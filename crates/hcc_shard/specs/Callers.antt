@@ -81,7 +81,7 @@ module _ {T A : Type 0} (fits : T → Key → List ℕ → Type 0) where
       old.seat new.seat
 
   -- An erasure of the key was made by the client of a seat: what it found and hid at each probe,
-  -- and what it took. What settles that came behind it.
+  -- and what it took. What settles that came behind it, and left what is dead to the client.
   pub record ErasesAt (shard : Shard T A) (key : Key) (hidden : ℕ) (old new : ShardSeat T)
       : Type 0 where
     pub all : Erased
@@ -91,6 +91,7 @@ module _ {T A : Type 0} (fits : T → Key → List ℕ → Type 0) where
     pub taken : (view new.seat).takings ≡ (view old.seat).takings + all.slots
     pub rest : Adds mid new.seat
     pub settles : GoesOnBy shard.table is_settling mid new.seat
+    pub dead : (view new.seat).work.dead ≡ (view mid).work.dead
 
 module _ {T A : Type 0} where
   -- one load found this meta word of a slot, this displacement word or this occupancy, and was the

@@ -26,11 +26,11 @@ impl<T: Tag, A: Allocator> Shard<T, A> {
     /// returns how many were hidden. Each slot that was visited and found visible with the key was
     /// hidden, at least one was visited, and the last has a displacement of 0, or all were.
     ///
-    /// Each entry of the key that the client holds has been seen dead afterwards. It allocates
-    /// nothing. Each probe costs what it costs a look-up; each match an atomic and, a
-    /// compare-exchange where nobody holds the entry, and the freeing where that wins, else a
-    /// subtraction. Two subtractions follow where any was freed. In a shard of L slots that is at
-    /// most 9 steps a probe, L + 4 for each entry that is freed, and 2.
+    /// Each entry of the key that the client holds has been seen dead afterwards, and so has each
+    /// that it hid, held or not. It allocates nothing. Each probe costs what it costs a look-up;
+    /// each match an atomic and, a compare-exchange where nobody holds the entry, and the freeing
+    /// where that wins, else a subtraction. Two subtractions follow where any was freed. In a shard
+    /// of L slots that is at most 9 steps a probe, L + 4 for each entry that is freed, and 2.
     pub fn erase(&self, seat: &mut ShardSeat<T>, key: Key) -> u32
         requires seat { Rests self.now seat.old }
         ensures seat { Rests self.now seat.new }

@@ -1,5 +1,7 @@
 -- What hiding does at the probes of a key, one after the other.
-use Rattle.std.proofs.Common.{◌≡◌, ℕ, ◌+◌, ◌<◌, ◌++◌, List, [], ◌∷◌, inl, inr, length, sym, subst, refl, ap, ◌∙◌, arith}
+use Rattle.std.proofs.Common.{◌≡◌, ℕ, ◌+◌, ◌<◌, ◌++◌, List, [], ◌∷◌, Option, Some, None, IfSome, true, inl, inr, length, sym, subst, refl, ap, ◌∙◌, arith}
+use Rattle.hcc_core.specs.declared.slot.Stamp.{Stamp}
+use Rattle.hcc_core.specs.Lawful.{is_in}
 use Rattle.hcc_core.specs.Sums.{total}
 use Rattle.hcc_core.proofs.SumLemmas.{total-append}
 use Rattle.hcc_rule.specs.declared.key.Key.{Key}
@@ -9,11 +11,14 @@ use Rattle.hcc_rule.specs.Addresses.{address_of_displacement}
 use Rattle.hcc_rule.specs.Events.{count_done}
 use Rattle.hcc_rule.specs.Probes.{probe_slot}
 use Rattle.hcc_rule.specs.Seats.{SeatOf, Makes, view}
+use Rattle.hcc_rule.specs.Views.{Each}
+use Rattle.hcc_rule.proofs.Basics.Lists.{each_append, each_map}
 use Rattle.hcc_table.specs.declared.efforts.Effort.{Effort}
 use Rattle.hcc_table.specs.declared.hiding.Erased.{Erased}
 use Rattle.hcc_table.specs.Efforts.{VisitedSlots}
-use Rattle.hcc_table.specs.Hides.{HidAt, HideProbe, HidesAll, HidingGoesOn, PassesOrHides, nothing_erased}
+use Rattle.hcc_table.specs.Hides.{HidAt, HideProbe, HidesAll, HidingGoesOn, IsDeadIn, PassesOrHides, nothing_erased}
 use Rattle.hcc_table.specs.Probed.{AtProbes}
+use Rattle.hcc_table.specs.Searched.{Grows}
 use Rattle.hcc_table.proofs.Probings.{HasSeen, each_front, more_seen, one_longer, seen_none, seen_then, split_last}
 
 -- a sum, and one more
@@ -34,6 +39,7 @@ module _ {T A : Type 0} (fits : T → Key → List ℕ → Type 0) (table : Rule
     pub hidden : all.hidden ≡ total (λ (p : HideProbe). p.done.hidden) visits.seen
     pub slots : all.slots ≡ total (λ (p : HideProbe). p.done.slots) visits.seen
     pub charge : all.charge ≡ total (λ (p : HideProbe). p.done.charge) visits.seen
+    pub dead : Each (IsDeadIn (view now).work.dead) visits.seen
 
   pub hid_none : (effort : Effort) (seat : SeatOf T)
       → HasHid 0 nothing_erased effort effort seat seat
@@ -42,20 +48,27 @@ module _ {T A : Type 0} (fits : T → Key → List ℕ → Type 0) (table : Rule
     hidden = refl;
     slots = refl;
     charge = refl;
+    dead = tt;
   }
 
-  module _ (i slot word n : ℕ) (all here sum : Erased) (e counted f : Effort)
+  module _ (i slot word n : ℕ) (caught : Option Stamp) (all here sum : Erased)
+      (e counted f : Effort)
       (old now mid new : SeatOf T) (h : HasHid i all e f old now)
       (there : slot ≡ probe_slot (slots_of table) key i) (g : Effort)
       (visited : VisitedSlots 1 f counted)
-      (does : PassesOrHides fits table key name slot word here counted g now mid)
+      (does : PassesOrHides fits table key name slot word caught here counted g now mid)
       (is_sum : (sum.hidden ≡ all.hidden + here.hidden) × (sum.slots ≡ all.slots + here.slots)
       × (sum.charge ≡ all.charge + here.charge))
       (counts : Makes (address_of_displacement table slot) 0 0 n mid new)
       (event : IsEvent table (count_done slot n (view mid)) mid new)
-      (kept : view new ≡ view mid) where
+      (kept : view new ≡ view mid) (grows : Grows (view now).work.dead (view mid).work.dead)
+      (buried : IfSome caught (λ stamp. is_in stamp (view mid).work.dead ≡ true)) where
     abbrev probe : HideProbe
-    probe = record { found = record { word = word; displacement = n }; done = here }
+    probe = record {
+      found = record { word = word; displacement = n };
+      caught = caught;
+      done = here;
+    }
 
     abbrev at : HidAt fits table key name slot probe f g now new
     at = record {
@@ -85,6 +98,17 @@ module _ {T A : Type 0} (fits : T → Key → List ℕ → Type 0) (table : Rule
         total_more (λ (p : HideProbe). p.done.charge) h.visits.seen probe all.charge here.charge
         sum.charge h.charge refl is_sum.2
 
+    grown : (o : Option Stamp) → IfSome o (λ stamp. is_in stamp (view now).work.dead ≡ true)
+        → IfSome o (λ stamp. is_in stamp (view mid).work.dead ≡ true)
+    grown None was = tt
+    grown (Some stamp) was = grows stamp was
+
+    dead_more : Each (IsDeadIn (view new).work.dead) (h.visits.seen ++ probe ∷ [])
+    dead_more = rw kept
+        (each_append (IsDeadIn (view mid).work.dead) h.visits.seen (probe ∷ [])
+        (each_map (IsDeadIn (view now).work.dead) (IsDeadIn (view mid).work.dead)
+        (λ p. grown p.caught) h.visits.seen h.dead) (buried, tt))
+
     -- It goes on,
     pub hid_then : ¬ (n ≡ 0) → HasHid (i + 1) sum e g old new
     hid_then some = record {
@@ -93,6 +117,7 @@ module _ {T A : Type 0} (fits : T → Key → List ℕ → Type 0) (table : Rule
       hidden = hidden_more;
       slots = slots_more;
       charge = charge_more;
+      dead = dead_more;
     }
 
     -- or ends here.
@@ -107,6 +132,7 @@ module _ {T A : Type 0} (fits : T → Key → List ℕ → Type 0) (table : Rule
       hidden = hidden_more;
       slots = slots_more;
       charge = charge_more;
+      dead = dead_more;
     }
 
   -- It ends after all probes.
@@ -126,6 +152,8 @@ module _ {T A : Type 0} (fits : T → Key → List ℕ → Type 0) (table : Rule
     hidden = h.hidden ∙ ap (total (λ (p : HideProbe). p.done.hidden)) split.2;
     slots = h.slots ∙ ap (total (λ (p : HideProbe). p.done.slots)) split.2;
     charge = h.charge ∙ ap (total (λ (p : HideProbe). p.done.charge)) split.2;
+    dead =
+        subst (λ (ps : List HideProbe). Each (IsDeadIn (view now).work.dead) ps) split.2 h.dead;
   }
     where
       split : (before : List HideProbe) × (last : HideProbe)

@@ -11,6 +11,7 @@ use Rattle.hcc_core.specs.declared.event.Reply.TheVariants as replies
 use Rattle.hcc_core.specs.declared.slot.Entry.{Entry}
 use Rattle.hcc_core.specs.declared.slot.Slot.{Slot}
 use Rattle.hcc_core.specs.declared.slot.Slot.TheVariants as slots
+use Rattle.hcc_core.specs.declared.slot.Stamp.{Stamp}
 use Rattle.hcc_core.specs.Runs.{FindsOne, after_all, held_at}
 use Rattle.hcc_core.specs.Sums.{total, when}
 use Rattle.hcc_core.specs.World.{State}
@@ -354,11 +355,12 @@ module _ {T A : Type 0} (table : RuleTable T A) (one : clients_of table ≡ 1) w
           (reached_seeks table slot 1 name word h.looked h.mid h.reaches.by)) h.seeks)
 
       -- What was done at one slot: there nothing shows the key any more.
-      passed_loses : (slot word : ℕ) (done : Erased) (e f : Effort) (a b : SeatOf T)
-          → slot < slots_of table → PassesOrHides fits table key name slot word done e f a b
+      passed_loses : (slot word : ℕ) (caught : Option Stamp) (done : Erased) (e f : Effort)
+          (a b : SeatOf T)
+          → slot < slots_of table → PassesOrHides fits table key name slot word caught done e f a b
           → Loses (slots_of table) key done.hidden (world_at table a) (world_at table b)
           × ¬ ShowsKey (world_at table b) key slot
-      passed_loses slot word done e f a b low (inl passes) =
+      passed_loses slot word caught done e f a b low (inl passes) =
           let seeks = passes_seek fits table key name slot word e f a b passes.0 in
           let stays = loses_same (slots_of table) key (world_at table a) (world_at table b)
           (alone_shows table one a b seeks) in (
@@ -369,7 +371,7 @@ module _ {T A : Type 0} (table : RuleTable T A) (one : clients_of table ≡ 1) w
                 (passes_lack fits table key name a b slot word e f a b (seeks_none table a)
                 (seeks_none table b) passes.0)),
           )
-      passed_loses slot word done e f a b low (inr h) =
+      passed_loses slot word caught done e f a b low (inr h) =
           let seeks = catches_seek slot word e h.between a h.held h.catches in
           let hid = held_loses slot name done h.between f h.held b low h.hides h.holds in (
             subst (λ n. Loses (slots_of table) key n (world_at table a) (world_at table b))
@@ -386,7 +388,8 @@ module _ {T A : Type 0} (table : RuleTable T A) (one : clients_of table ≡ 1) w
           → Loses (slots_of table) key p.done.hidden (world_at table a) (world_at table b)
           × ¬ ShowsKey (world_at table b) key slot
       hid_at_loses slot p e f a b low h =
-          let done = passed_loses slot p.found.word p.done h.between f a h.mid low h.does in
+          let done = passed_loses slot p.found.word p.caught p.done h.between f a h.mid low
+          h.does in
           let stays = loses_same (slots_of table) key (world_at table h.mid) (world_at table b)
           (alone_shows table one h.mid b
           (seeks_one table (count_done slot p.found.displacement (view h.mid)) h.mid b h.event

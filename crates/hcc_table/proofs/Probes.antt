@@ -1,9 +1,10 @@
 -- What the probe of one slot told: a look, an acquire, the key's words, and a give.
-use Rattle.std.proofs.Common.{◌≡◌, ℕ, ◌++◌, cond, Bool, true, false, List, [], ◌∷◌, Some, None, IfSome, IsSomeAnd, sym, subst, refl, ap, ◌∙◌, append_assoc, ◌≤◌, arith}
+use Rattle.std.proofs.Common.{◌≡◌, ℕ, ◌++◌, cond, Bool, true, false, List, [], ◌∷◌, Option, Some, None, IfSome, IsSomeAnd, option_map, sym, subst, refl, ap, ◌∙◌, append_assoc, ◌≤◌, arith}
 use Rattle.std.specs.List.{find}
 use Rattle.std.proofs.lemmas.Bool.{eq-eqb}
 use Rattle.hcc_word.specs.Word.{is_counting, is_shareable, is_visible}
 use Rattle.hcc_core.specs.declared.slot.Entry.{Entry}
+use Rattle.hcc_core.specs.declared.slot.Stamp.{Stamp}
 use Rattle.hcc_core.specs.Outcomes.{dropped}
 use Rattle.hcc_core.specs.References.{joined}
 use Rattle.hcc_core.specs.Lawful.{is_in}
@@ -34,6 +35,21 @@ dropped_last p (y ∷ ys) x missed passes = by (p y) (dropped_last p ys x) misse
         → cond b (ys ++ x ∷ []) (y ∷ dropped p (ys ++ x ∷ [])) ≡ y ∷ ys
     by true later missed = cc
     by false later missed = ap (λ z. y ∷ z) (later missed passes)
+
+-- the stamp of the entry that a record is on
+abbrev pub stamp_in : Option Record → Option Stamp
+stamp_in = option_map (λ (r : Record). r.entry.stamp)
+
+pub stamp_is : (P : Record → Type 0) (o : Option Record) → IsSomeAnd o P
+    → IsSomeAnd o (λ r. stamp_in o ≡ Some r.entry.stamp)
+stamp_is P None there = absurd there
+stamp_is P (Some r) there = refl
+
+pub stamp_dead : (P : Record → Type 0) (dead : List Stamp) (o : Option Record)
+    → IsSomeAnd o (λ r. P r × (is_in r.entry.stamp dead ≡ true))
+    → IfSome (stamp_in o) (λ stamp. is_in stamp dead ≡ true)
+stamp_dead P dead None there = tt
+stamp_dead P dead (Some r) there = there.1
 
 -- a key is met once where it stands behind others
 met_once : (key : Key) (before : List Key) → 1 ≤ times_met key (before ++ key ∷ [])

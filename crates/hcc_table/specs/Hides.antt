@@ -1,8 +1,10 @@
 -- What hiding the entries of a key does at each of its probes, step by step.
-use Rattle.std.specs.Prelude.{◌≡◌, ◌⊎◌, ℕ, ◌+◌, ◌==◌, ◌&&◌, not, Bool, List, [], ◌∷◌, ◌++◌, Option, Some, IfSome, IfNone, IsSomeAnd, length, bit_and}
+use Rattle.std.specs.Prelude.{◌≡◌, ◌⊎◌, ℕ, ◌+◌, ◌==◌, ◌&&◌, not, Bool, true, List, [], ◌∷◌, ◌++◌, Option, None, Some, IfSome, IfNone, IsSomeAnd, length, bit_and}
 use Rattle.std.specs.Int.{from_bool}
 use Rattle.hcc_word.specs.declared.layout.TheConstants.{HIDING_MASK}
 use Rattle.hcc_word.specs.Word.{is_shareable, is_visible, refs_of}
+use Rattle.hcc_core.specs.declared.slot.Stamp.{Stamp}
+use Rattle.hcc_core.specs.Lawful.{is_in}
 use Rattle.hcc_core.specs.Sums.{total}
 use Rattle.hcc_rule.specs.declared.key.Key.{Key}
 use Rattle.hcc_rule.specs.declared.table.RuleTable.{RuleTable}
@@ -27,10 +29,15 @@ is_alone left = is_shareable left && not (is_visible left) && (refs_of left == 1
 abbrev pub nothing_erased : Erased
 nothing_erased = record { hidden = 0; slots = 0; charge = 0 }
 
--- What was found at one probe of a key, and what was done there.
+-- What was found at one probe of a key, and what was done there: which entry was hidden, if any.
 pub record HideProbe : Type 0 where
   pub found : Probe
+  pub caught : Option Stamp
   pub done : Erased
+
+-- the entry that was hidden there, if any was, stands in this dead list
+abbrev pub IsDeadIn : List Stamp → HideProbe → Type 0
+IsDeadIn dead p = IfSome p.caught (λ stamp. is_in stamp dead ≡ true)
 
 -- At each of these probes a trail went on: no displacement word was 0.
 abbrev pub HidingGoesOn : List HideProbe → Type 0
@@ -63,23 +70,25 @@ module _ {T A : Type 0} (table : RuleTable T A) where
 
 module _ {T A : Type 0} (fits : T → Key → List ℕ → Type 0) (table : RuleTable T A) (key : Key)
     (name : ℕ) where
-  -- The slot was found visible with an entry of the key, and that was hidden.
-  pub record Hides (slot word : ℕ) (done : Erased) (before after : Effort) (old new : SeatOf T)
-      : Type 0 where
+  -- The slot was found visible with an entry of the key, and that was hidden: the caught one.
+  pub record Hides (slot word : ℕ) (caught : Option Stamp) (done : Erased) (before after : Effort)
+      (old new : SeatOf T) : Type 0 where
     pub between : Effort
     pub held : SeatOf T
     pub catches : Catches fits table key name (Looks table slot) slot 1 word before between old held
     pub holds : IsSomeAnd (record_in name (view held).records)
         (λ r. (r.slot ≡ slot) × (key_of r.entry ≡ key))
+    pub entry : IsSomeAnd (record_in name (view held).records)
+        (λ r. caught ≡ Some r.entry.stamp)
     pub hides : HidesHeld table slot name done between after held new
 
   -- it was passed, and nothing was done, or its entry was hidden
-  abbrev pub PassesOrHides : (slot word : ℕ) → (done : Erased) → (before after : Effort)
-      → (old new : SeatOf T) → Type 0
-  PassesOrHides slot word done before after old new =
+  abbrev pub PassesOrHides : (slot word : ℕ) → (caught : Option Stamp) → (done : Erased)
+      → (before after : Effort) → (old new : SeatOf T) → Type 0
+  PassesOrHides slot word caught done before after old new =
       (Passes fits table key name (Looks table slot) slot 1 word before after old new
-      × (done ≡ nothing_erased))
-      ⊎ Hides slot word done before after old new
+      × (done ≡ nothing_erased) × (caught ≡ None))
+      ⊎ Hides slot word caught done before after old new
 
   -- one slot of the key's probes, which was counted first
   pub record HidAt (slot : ℕ) (p : HideProbe) (before after : Effort) (old new : SeatOf T)
@@ -87,14 +96,15 @@ module _ {T A : Type 0} (fits : T → Key → List ℕ → Type 0) (table : Rule
     pub between : Effort
     pub visited : VisitedSlots 1 before between
     pub mid : SeatOf T
-    pub does : PassesOrHides slot p.found.word p.done between after old mid
+    pub does : PassesOrHides slot p.found.word p.caught p.done between after old mid
     pub counts : Makes (address_of_displacement table slot) 0 0 p.found.displacement mid new
     pub event : IsEvent table (count_done slot p.found.displacement (view mid)) mid new
     pub kept : view new ≡ view mid
 
   -- Each slot that was visited and found visible with the key was hidden, and each other one was
   -- passed. There was at least one; at the last no trail went on, or it was that of the last probe.
-  -- All that was done is the sum of what was done at each.
+  -- All that was done is the sum of what was done at each. Each entry that was hidden is dead to
+  -- the client, held before or not.
   pub record HidesAll (all : Erased) (before after : Effort) (old new : SeatOf T) : Type 0 where
     pub earlier : List HideProbe
     pub last : HideProbe
@@ -104,3 +114,4 @@ module _ {T A : Type 0} (fits : T → Key → List ℕ → Type 0) (table : Rule
     pub hidden : all.hidden ≡ total (λ (p : HideProbe). p.done.hidden) (earlier ++ last ∷ [])
     pub slots : all.slots ≡ total (λ (p : HideProbe). p.done.slots) (earlier ++ last ∷ [])
     pub charge : all.charge ≡ total (λ (p : HideProbe). p.done.charge) (earlier ++ last ∷ [])
+    pub dead : Each (IsDeadIn (view new).work.dead) (earlier ++ last ∷ [])

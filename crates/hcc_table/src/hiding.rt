@@ -1,6 +1,7 @@
 //! Hiding the entries of a key.
-ghost use Rattle.std.specs.Prelude.{◌≡◌, ◌+◌, ◌-◌, ◌*◌, ◌^◌, ◌<◌, ◌≤◌, [], true, None, Some, IfSome, IfNone, IsSomeAnd, replicate, ℕ};
+ghost use Rattle.std.specs.Prelude.{◌≡◌, ◌+◌, ◌-◌, ◌*◌, ◌^◌, ◌<◌, ◌≤◌, [], true, Option, None, Some, IfSome, IfNone, IsSomeAnd, replicate, ℕ};
 ghost use Rattle.hcc_core.specs.declared.limits.TheConstants.{REFERENCES_PER_CLIENT};
+ghost use Rattle.hcc_core.specs.declared.slot.Stamp.{Stamp};
 ghost use Rattle.hcc_core.specs.Lawful.{is_in};
 ghost use Rattle.hcc_core.specs.Outcomes.{dropped};
 ghost use Rattle.hcc_rule.specs.Callers.{slots_of, IsSeatAt, IsSlotOf};
@@ -68,8 +69,8 @@ impl Erased {
 ///
 /// The name is one that the client doesn't hold, and there is room for one more reference. The
 /// client owns no slot, has an empty trail, and no freed charge to settle. Each entry of the key
-/// that it holds has been seen dead afterwards. It frees no more entries than it met of the key,
-/// each of a charge below 2^32.
+/// that it holds has been seen dead afterwards, and so has each that it hid, held or not. It frees
+/// no more entries than it met of the key, each of a charge below 2^32.
 ///
 /// At least one slot is visited. Each that was found visible with an entry of the key was hidden,
 /// and each other one was found not visible, by its load or by the add, or with another key. It
@@ -144,8 +145,10 @@ fn hide_at<T: Tag, A: Allocator>(
     ensures dead { Buried key (λ s. s ≡ slot) (view seat.old) (view seat.new) }
     ensures few { (result.hidden ≤ 1) × (result.slots ≤ 1)
         × (result.charge ≤ result.slots * (2 ^ 32 - 1)) }
-    ensures does { (word : ℕ) × PassesOrHides T.fits table.now key name slot word result
-        effort.old effort.new seat.old seat.new }
+    ensures does { (word : ℕ) × (caught : Option Stamp)
+        × PassesOrHides T.fits table.now key name slot word caught result effort.old effort.new
+        seat.old seat.new
+        × IfSome caught (λ stamp. is_in stamp (view seat.new).work.dead ≡ true) }
     ensures steps { MakesAtMost ((slots_of table.now + 4) * result.slots + 8) seat.old seat.new }
 {
     let data = table.data_of(slot);

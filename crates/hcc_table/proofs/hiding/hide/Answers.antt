@@ -67,13 +67,14 @@ loop-preserved g c =
           c.hide_at-here.result.slots c.with-all.result.slots all.slots in
           omega arith),
       hid_then g.T.Tag.fits c.args.table.now c.args.key c.args.name c.loop.counter
-          c.slot-slot.result here.does.0 c.count_at.result c.loop.all c.hide_at-here.result
-          c.with-all.result c.args.effort.now c.probes.new.self c.loop.effort c.args.seat.now
+          c.slot-slot.result here.does.0 c.count_at.result here.does.1 c.loop.all
+          c.hide_at-here.result c.with-all.result c.args.effort.now c.probes.new.self
+          c.loop.effort c.args.seat.now
           c.loop.seat c.hide_at-here.new.seat c.count_at.new.seat c.loop.invariant.3
           (c.slot-slot.ensures ∙ c.loop.invariant.0.walking.probe) c.hide_at-here.new.effort
           (c.probes.ensures.probes, c.probes.ensures.corrections, c.probes.ensures.lost)
-          here.does.1 (all.hidden, all.slots, all.charge) told.step told.event told.view
-          c.if-count_at-eq0.false,
+          here.does.2 (all.hidden, all.slots, all.charge) told.step told.event told.view
+          here.view.erases.dead here.does.3 c.if-count_at-eq0.false,
     )
   where
     visited : Took (c.loop.counter + 1) (c.loop.counter + 1) (2 * (c.loop.counter + 1))
@@ -120,13 +121,13 @@ returns-then-count_at-eq0-clause-hides g c =
     let all = c.with-all.ensures in
     let told = c.count_at.ensures in
     hides_here g.T.Tag.fits c.args.table.now c.args.key c.args.name c.loop.counter
-    c.slot-slot.result here.does.0 c.count_at.result c.loop.all c.hide_at-here.result
+    c.slot-slot.result here.does.0 c.count_at.result here.does.1 c.loop.all c.hide_at-here.result
     c.with-all.result c.args.effort.now c.probes.new.self c.loop.effort c.args.seat.now
     c.loop.seat c.hide_at-here.new.seat c.count_at.new.seat c.loop.invariant.3
     (c.slot-slot.ensures ∙ c.loop.invariant.0.walking.probe) c.hide_at-here.new.effort
     (c.probes.ensures.probes, c.probes.ensures.corrections, c.probes.ensures.lost)
-    here.does.1 (all.hidden, all.slots, all.charge) told.step told.event told.view
-    c.if-count_at-eq0.true
+    here.does.2 (all.hidden, all.slots, all.charge) told.step told.event told.view
+    here.view.erases.dead here.does.3 c.if-count_at-eq0.true
 
 pub returns-clause-hides : goal.returns-clause-hides
 returns-clause-hides g c =

@@ -1,7 +1,8 @@
-use Rattle.std.proofs.Common.{inl, inr, refl}
+use Rattle.std.proofs.Common.{None, inl, inr, refl}
 use Rattle.hcc_table.proofs.Erasures.{erased_none, erased_there, buried_there}
 use Rattle.hcc_rule.specs.Seats.{view}
-use Rattle.hcc_table.proofs.Probes.{found_asked, found_holds}
+use Rattle.hcc_rule.specs.Records.{record_in}
+use Rattle.hcc_table.proofs.Probes.{found_asked, found_holds, stamp_dead, stamp_in, stamp_is}
 use Rattle.hcc_table.proofs.hiding.hide_at.Goals as goal
 
 pub hide_held-requires-clause-holds : goal.hide_held-requires-clause-holds
@@ -28,23 +29,28 @@ returns-in-Some-clause-dead g c =
     (view c.hide_held.new.seat) found.0 c.requires.fresh found.1 c.hide_held.ensures.view
 
 pub returns-in-Some-clause-does : goal.returns-in-Some-clause-does
-returns-in-Some-clause-does g c = (
-  c.in-Some.field-0,
-  inr (record {
-    between = c.acquire_at.new.effort;
-    held = c.acquire_at.new.seat;
-    catches = c.in-Some.ensures.catches;
-    holds =
-        let found = c.in-Some.ensures.found in
-        found_asked g.T.Tag.fits c.args.table.now.geometry.room c.args.slot c.args.name c.args.key
-        (view c.args.seat.now) (view c.acquire_at.new.seat) found.0 c.requires.fresh found.1;
-    hides = c.hide_held.ensures.hides;
-  }),
-)
+returns-in-Some-clause-does g c =
+    let mine = record_in c.args.name (view c.acquire_at.new.seat).records in (
+      c.in-Some.field-0,
+      stamp_in mine,
+      inr (record {
+        between = c.acquire_at.new.effort;
+        held = c.acquire_at.new.seat;
+        catches = c.in-Some.ensures.catches;
+        holds =
+            let found = c.in-Some.ensures.found in
+            found_asked g.T.Tag.fits c.args.table.now.geometry.room c.args.slot c.args.name
+            c.args.key (view c.args.seat.now) (view c.acquire_at.new.seat) found.0 c.requires.fresh
+            found.1;
+        entry = stamp_is _ mine c.hide_held.ensures.view;
+        hides = c.hide_held.ensures.hides;
+      }),
+      stamp_dead _ _ mine c.hide_held.ensures.view,
+    )
 
 pub returns-in-None-clause-does : goal.returns-in-None-clause-does
 returns-in-None-clause-does g c =
-    (c.in-None.ensures.passes.0, inl (c.in-None.ensures.passes.1, refl))
+    (c.in-None.ensures.passes.0, None, inl (c.in-None.ensures.passes.1, refl, refl), tt)
 
 pub returns-in-None-clause-view : goal.returns-in-None-clause-view
 returns-in-None-clause-view g c =

@@ -1,4 +1,4 @@
-use Rattle.std.proofs.Common.{◌≡◌, ◌-◌, refl, arith}
+use Rattle.std.proofs.Common.{◌≡◌, ◌-◌, ap, refl, arith}
 use Rattle.hcc_rule.specs.Callers.{geometry_of}
 use Rattle.hcc_rule.specs.Seats.{view}
 use Rattle.hcc_shard.proofs.Names.{load_is, not_kept}
@@ -55,6 +55,7 @@ returns-clause-erases g c =
           c.hide-erased.ensures.view c.settle.ensures.view;
       rest = c.settle.ensures.adds;
       settles = c.settle.ensures.by;
+      dead = ap (λ v. v.work.dead) c.settle.ensures.view;
     }
 
 pub returns-clause-frees : goal.returns-clause-frees
