@@ -1,10 +1,7 @@
 use Rattle.hcc_c.proofs.Holders.{holder, empties}
-use Rattle.hcc_c.proofs.objects.ClientPlace.none.Code as code
-use Rattle.hcc_c.proofs.objects.ClientPlace.none.Statement.{statement}
-use Rattle.hcc_c.specs.contracts.session.Session.{the_row}
-use Rattle.hcc_c.specs.contracts.objects.ClientPlace.{the_type}
+use Rattle.hcc_c.proofs.objects.ClientPlace.none.{Code.unfolded, Statement.statement}
+use Rattle.hcc_c.specs.contracts.{session.Session.the_row, objects.ClientPlace.the_type}
 
 pub none_spec : {M : Type 1} → statement M
-none_spec 𝓤 𝓛 𝓜 𝓡 wired = empties the_row 𝓤 𝓛 𝓜 𝓡 (holder the_type
-    (λ h. (h.at, (h.alloc, h.value))) (λ d. record { at = d.0; alloc = d.1.0; value = d.1.1 })
-    (λ d i. d)) (record { memory = record { seal = tt } }) (code.unfolded 𝓤 𝓛.H 𝓜 𝓡 wired)
+none_spec 𝓤 𝓛 𝓜 𝓡 w = empties the_row 𝓤 𝓛 𝓜 𝓡 (holder the_type (λ h. (h.at, h.alloc, h.value))
+    (λ d. record { at = d.0; alloc = d.1; value = d.2 }) (λ d i. d)) (unfolded 𝓤 𝓛.H 𝓜 𝓡 w)

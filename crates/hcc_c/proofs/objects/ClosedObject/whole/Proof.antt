@@ -1,13 +1,10 @@
 use Rattle.std.proofs.Common.{refl}
-use Rattle.hcc_c.proofs.closed.Left.TheLaws.{the_row_laws}
-use Rattle.hcc_c.proofs.Holders.{holder, takes}
-use Rattle.hcc_c.proofs.objects.ClosedObject.whole.Code as code
-use Rattle.hcc_c.proofs.objects.ClosedObject.whole.Statement.{statement}
-use Rattle.hcc_c.specs.contracts.closed.Left.{the_row}
-use Rattle.hcc_c.specs.contracts.objects.ClosedObject.{the_type}
+use Rattle.hcc_c.proofs.{Holders.holder, Holders.takes, closed.Left.TheLaws.the_row_laws}
+use Rattle.hcc_c.proofs.objects.ClosedObject.whole.{Code.code, Code.unfolded, Statement.statement}
+use Rattle.hcc_c.specs.contracts.{closed.Left.the_row, objects.ClosedObject.the_type}
 
 pub whole_spec : {M : Type 1} → statement M
-unfolding code.code
-whole_spec 𝓤 𝓛 𝓜 𝓡 wired = takes the_row 𝓤 𝓛 𝓜 𝓡 the_row_laws refl refl (holder the_type
-    (λ h. (h.at, (h.alloc, h.value))) (λ d. record { at = d.0; alloc = d.1.0; value = d.1.1 })
-    (λ d i. d)) (λ a p x. refl) (λ r vs. refl) _ (code.unfolded 𝓤 𝓛.H 𝓜 𝓡 wired) wired.2
+unfolding code
+whole_spec 𝓤 𝓛 𝓜 𝓡 w = takes the_row 𝓤 𝓛 𝓜 𝓡 the_row_laws refl (holder the_type
+    (λ h. (h.at, h.alloc, h.value)) (λ d. record { at = d.0; alloc = d.1; value = d.2 }) (λ d i. d))
+    (λ a p x. refl) _ (unfolded 𝓤 𝓛.H 𝓜 𝓡 w) w.2

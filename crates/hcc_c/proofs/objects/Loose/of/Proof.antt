@@ -108,12 +108,12 @@ of_spec {M} 𝓤 𝓛 𝓜 𝓡 wired T L dx glue =
     (sem 𝓛 (heap.ghosts.dealloc_token a (bare (layout T)) null_ptr))) (λ b' o' e'.
     lands_as ! (ap only (ep ∙ ap (λ (p : Ptr). ptr_val p ∷ []) e')) refl (tt, tt) $
     let pv : Val = vstruct (vcons (vptr b' o') vnil) in
-    let l = (loose R).make (block_ptr b' o', (a, v.value)) in
+    let l = (loose R).make (block_ptr b' o', a, v.value) in
     sets ! (agg ! (and_then ! (get ! refl) (no_more !))) refl (tt, (tt, tt)) $
     returns ! (look_at ! 0 refl) $ free_all ! refl $ keep ! (0 ∷ 1 ∷ []) $
     -- [the value with its token; the lifetime's token]
     use1 𝓛 (‵ ((row (the_type R)).own_val l (pv ∷ [])))
-    (built R 𝓤 𝓛 𝓜 𝓡 (boxed R) (loose R) (block_ptr b' o', (a, v.value))) $
+    (built R 𝓤 𝓛 𝓜 𝓡 (boxed R) (loose R) (block_ptr b' o', a, v.value)) $
     use0 𝓛 (raw (fact 𝓤 (v.value ≡ v.value))) (fact_i 𝓤 _ _ refl) $ move ! (1 ∷ 0 ∷ []) $
     nothing ! $ nothing ! $ fjoin ! $ nothing ! $ move ! (4 ∷ 0 ∷ []) $ join ! $
     by ! (leaves 𝓛 En stays c z pv l (tt, tt) (tt, tt))))))))))))
