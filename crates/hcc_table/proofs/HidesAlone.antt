@@ -42,7 +42,7 @@ use Rattle.hcc_table.specs.Searched.{is_key}
 use Rattle.hcc_table.specs.Seeking.{Empties, GoesOnBy, Seeks, is_settling}
 use Rattle.hcc_table.specs.Standing.{HidesShown, ShowsKey, counts_shown, entry_shown, shown_at, shown_of, world_at}
 use Rattle.hcc_table.proofs.Alone.{event_alone}
-use Rattle.hcc_table.proofs.Lasting.{alone_shows, event_trails, lacks_alone, looks_seek, none_shown, passes_lack, passes_seek, reach_seeks, reached_seeks, some_and}
+use Rattle.hcc_table.proofs.Lasting.{alone_shows, event_trails, lacks_alone, led_none, looks_seek, none_shown, passes_lack, passes_seek, reach_seeks, reached_seeks, some_and}
 use Rattle.hcc_table.proofs.Probings.{one_longer}
 use Rattle.hcc_table.proofs.Seeking.{seeks_none, seeks_one, seeks_then}
 use Rattle.hcc_table.proofs.Setups.{slots_at}
@@ -368,7 +368,7 @@ module _ {T A : Type 0} (table : RuleTable T A) (one : clients_of table ≡ 1) w
                 (world_at table b)) (sym passes.1) stays,
             still_lacks (slots_of table) key 0 (world_at table a) (world_at table b) stays slot
                 (lacks_alone table key slot a b one
-                (passes_lack fits table key name a b slot word e f a b (seeks_none table a)
+                (passes_lack fits table key name a b slot word e f a b (led_none table a)
                 (seeks_none table b) passes.0)),
           )
       passed_loses slot word caught done e f a b low (inr h) =

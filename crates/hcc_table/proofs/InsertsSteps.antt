@@ -10,10 +10,10 @@ use Rattle.hcc_rule.specs.Seats.{SeatOf, MakesSome, view}
 use Rattle.hcc_rule.specs.ToldTrails.{after_pass}
 use Rattle.hcc_table.specs.declared.efforts.Effort.{Effort}
 use Rattle.hcc_table.specs.declared.inserting.Insertion.{Insertion}
-use Rattle.hcc_table.specs.declared.inserting.Insertion.TheVariants.{NoSlot}
+use Rattle.hcc_table.specs.declared.inserting.Insertion.TheVariants.{NoSlot, Placed}
 use Rattle.hcc_table.specs.Efforts.{VisitedSlots}
 use Rattle.hcc_table.specs.Seeking.{GoesOnBy, is_unpass}
-use Rattle.hcc_table.specs.Steps.{Adds}
+use Rattle.hcc_table.specs.Steps.{Adds, MakesAtMost}
 use Rattle.hcc_table.specs.Tries.{Inserts, PassesTaken, TriesAt}
 use Rattle.hcc_table.proofs.Probings.{HasSeen, seen_none, seen_then}
 
@@ -32,10 +32,11 @@ module _ {T A : Type 0} (fits : T → Key → List ℕ → Type 0) (table : Rule
       (visited : VisitedSlots 1 f counted)
       (tries : TriesAt fits table key name weight slot answer counted g now mid) where
     -- It ends here.
-    pub inserts_here : (answer ≡ NoSlot → i + 1 ≡ slots_of table) → Adds mid new
-        → GoesOnBy table is_unpass mid new
+    pub inserts_here : (answer ≡ NoSlot → i + 1 ≡ slots_of table)
+        → ((at : ℕ) → answer ≡ Placed at → new ≡ mid) → Adds mid new
+        → GoesOnBy table is_unpass mid new → MakesAtMost i mid new
         → Inserts fits table key name weight answer e g old new
-    inserts_here all adds rest = record {
+    inserts_here all placed adds rest few = record {
       earlier = h.seen;
       between = f;
       mid = now;
@@ -46,8 +47,10 @@ module _ {T A : Type 0} (fits : T → Key → List ℕ → Type 0) (table : Rule
       tries = subst (λ k. TriesAt fits table key name weight k answer counted g now mid)
           (there ∙ ap (probe_slot (slots_of table) key) (sym h.long)) tries;
       all = λ none. ap (λ n. n + 1) h.long ∙ all none;
+      placed = placed;
       adds = adds;
       rest = rest;
+      few = subst (λ n. MakesAtMost n mid new) (sym h.long) few;
     }
 
   -- It goes on.

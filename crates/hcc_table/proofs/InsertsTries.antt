@@ -85,12 +85,11 @@ module _ {T : Type 0} where
           probed_trail : (view probed).work.trail ≡ trail
           probed_trail = trail_is trail (view seat) (view probed) tried_all
 
+          pub probed_long : length (view probed).work.trail ≡ i
+          probed_long = ap length probed_trail ∙ trail_length slots draft.key power i s.inside
+
           pub probed_room : length (view probed).work.trail < slots
-          probed_room =
-              let long = trail_length slots draft.key power i s.inside in
-              let short = s.inside in
-              let is = ap length probed_trail in
-              omega arith
+          probed_room = let short = s.inside in omega (arith, probed_long)
 
           -- It is taken back.
           probed_back : (new : SeatOf T) → (view seat).work.trail ≡ []

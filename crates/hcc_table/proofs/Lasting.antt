@@ -17,7 +17,7 @@ use Rattle.hcc_rule.specs.declared.table.RuleTable.{RuleTable}
 use Rattle.hcc_rule.specs.declared.view.Done.{Done}
 use Rattle.hcc_rule.specs.declared.view.Record.{Record}
 use Rattle.hcc_rule.specs.declared.view.View.{View}
-use Rattle.hcc_rule.specs.Acts.{IsRun, Leads, did, past, world_of}
+use Rattle.hcc_rule.specs.Acts.{IsRun, Leads, client_by, did, past, world_of}
 use Rattle.hcc_rule.specs.Callers.{IsEvent, clients_of, plan_of, slots_of}
 use Rattle.hcc_rule.specs.Events.{acquire_done, correct_done, count_done, look_done, mark_done}
 use Rattle.hcc_rule.specs.Opening.{begun_world}
@@ -129,23 +129,40 @@ module _ {T A : Type 0} (table : RuleTable T A) where
 
   -- Moments of a search.
 
-  moment_of : (done : Done) (old before moment new : SeatOf T) → Seeks table old before
-      → IsEvent table done before moment → is_seeking done.event ≡ true → Seeks table moment new
+  -- a search by the seat's own client led from one seat to the other
+  pub record Led (old new : SeatOf T) : Type 0 where
+    pub seeks : Seeks table old new
+    pub same : (view new).client ≡ (view old).client
+
+  pub led_none : (a : SeatOf T) → Led a a
+  led_none a = record { seeks = seeks_none table a; same = refl }
+
+  led_then : (a b c : SeatOf T) → Led a b → Led b c → Led a c
+  led_then a b c h g =
+      record { seeks = seeks_then table a b c h.seeks g.seeks; same = g.same ∙ h.same }
+
+  -- right behind an own event of a search
+  moment_of : (done : Done) (old before moment new : SeatOf T) → Led old before
+      → IsEvent table done before moment → is_seeking done.event ≡ true
+      → client_by done.event ≡ (view before).client → Seeks table moment new
       → IsMomentOf table moment old new
-  moment_of done old before moment new began step seeking rest =
-      let first = seeks_then table old before moment began
-      (seeks_one table done before moment step seeking) in
-      let since = does_more first.own old moment first.does in
+  moment_of done old before moment new led step seeking by rest =
+      let first = does_more led.seeks.own old before led.seeks.does in
+      let behind = step.0.others ++ done ∷ [] in
       let later = does_more rest.own moment new rest.does in
       record {
         before = before;
         done = done;
-        began = began;
+        began = led.seeks;
         step = step;
         seeking = seeking;
+        own = by ∙ led.same;
         rest = rest;
-        since = since.0;
-        begins = since.1;
+        since = first.0 ++ step.0.others;
+        begins =
+            step.0.past ∙ ap (λ h. h ++ behind) first.1 ∙ append_assoc (past old) first.0 behind
+            ∙ ap (λ h. past old ++ h)
+            (sym (append_assoc first.0 step.0.others (done ∷ [])));
         later = later.0;
         goes_on = later.1;
       }
@@ -166,15 +183,22 @@ module _ {T A : Type 0} (table : RuleTable T A) where
         h.2 (subst (λ o. IsSomeAnd o (λ e. key_of e ≡ key))
         (sym (moment_shows one old h.0 new h.1 slot)) shows)
 
-    shows_alone : clients_of table ≡ 1 → ShowsOnce table key slot old new
-        → ShowsKey (world_at table old) key slot
-    shows_alone one h =
-        subst (λ o. IsSomeAnd o (λ e. key_of e ≡ key)) (moment_shows one old h.0 new h.1 slot) h.2
+    shows_alone : clients_of table ≡ 1 → (e : Entry) → key_of e ≡ key
+        → ShowsOnce table slot e old new → ShowsKey (world_at table old) key slot
+    shows_alone one e asked h =
+        subst (λ o. IsSomeAnd o (λ x. key_of x ≡ key))
+        (sym h.2 ∙ moment_shows one old h.0 new h.1 slot) asked
 
   -- Each part of a search only searches.
 
   pub looks_seek : (slot seen : ℕ) (a b : SeatOf T) → Looks table slot seen a b → Seeks table a b
   looks_seek slot seen a b h = seeks_one table (look_done slot seen (view a)) a b h.2 refl
+
+  pub looks_led : (slot seen : ℕ) (a b : SeatOf T) → Looks table slot seen a b → Led a b
+  looks_led slot seen a b h = record {
+    seeks = looks_seek slot seen a b h;
+    same = ap (λ (v : View T). v.client) h.1;
+  }
 
   tries_seek : (slot name word other : ℕ) (v : View T) (a b : SeatOf T)
       → IsEvent table (correct_done slot name word other v) a b → Seeks table a b
@@ -238,38 +262,50 @@ module _ {T A : Type 0} (fits : T → Key → List ℕ → Type 0) (table : Rule
           seeks_then table a h.mid b (looks_seek table slot h.seen a h.mid h.first)
           (entry_seeks slot 1 word e f h.mid b (h.shown on))
 
-  probed_seeks : (slot : ℕ) (p : Probe) (e f : Effort) (a b : SeatOf T)
-      → Probed fits table key name slot p e f a b → Seeks table a b
-  probed_seeks slot p e f a b h =
-      seeks_then table a h.mid b (passes_seek slot p.word e f a h.mid h.passes)
-      (seeks_one table (count_done slot p.displacement (view h.mid)) h.mid b h.event refl)
+  passes_led : (slot word : ℕ) (e f : Effort) (a b : SeatOf T)
+      → Passes fits table key name (Looks table slot) slot 1 word e f a b → Led table a b
+  passes_led slot word e f a b h =
+      record { seeks = passes_seek slot word e f a b h; same = by (is_visible h.seen) refl }
+    where
+      looked : (view h.mid).client ≡ (view a).client
+      looked = (looks_led table slot h.seen a h.mid h.first).same
 
-  probes_seek : (i : ℕ) (ps : List Probe) (e f : Effort) (a b : SeatOf T)
-      → AtProbes (slots_of table) key (Probed fits table key name) i ps e f a b
-      → Seeks table a b
-  probes_seek i [] e f a b h = subst (λ z. Seeks table a z) (sym h.1) (seeks_none table a)
-  probes_seek i (p ∷ ps) e f a b h =
-      seeks_then table a h.1 b
-      (probed_seeks (probe_slot (slots_of table) key i) p e h.0 a h.1 h.2)
-      (probes_seek (i + 1) ps h.0 f h.1 b h.3)
+      by : (shown : Bool) → is_visible h.seen ≡ shown → (view b).client ≡ (view a).client
+      by false off = ap (λ (z : SeatOf T). (view z).client) (h.unshown off).2 ∙ looked
+      by true on = ap (λ (v : View T). v.client) (h.shown on).kept.searched.same ∙ looked
+
+  probed_led : (slot : ℕ) (p : Probe) (e f : Effort) (a b : SeatOf T)
+      → Probed fits table key name slot p e f a b → Led table a b
+  probed_led slot p e f a b h =
+      led_then table a h.mid b (passes_led slot p.word e f a h.mid h.passes) (record {
+        seeks = seeks_one table (count_done slot p.displacement (view h.mid)) h.mid b h.event refl;
+        same = ap (λ (v : View T). v.client) h.kept;
+      })
+
+  probes_led : (i : ℕ) (ps : List Probe) (e f : Effort) (a b : SeatOf T)
+      → AtProbes (slots_of table) key (Probed fits table key name) i ps e f a b → Led table a b
+  probes_led i [] e f a b h = subst (λ z. Led table a z) (sym h.1) (led_none table a)
+  probes_led i (p ∷ ps) e f a b h =
+      led_then table a h.1 b (probed_led (probe_slot (slots_of table) key i) p e h.0 a h.1 h.2)
+      (probes_led (i + 1) ps h.0 f h.1 b h.3)
 
   -- What each part tells.
   module _ (old new : SeatOf T) where
     -- a slot that was passed lacked the key once
-    pub passes_lack : (slot word : ℕ) (e f : Effort) (a b : SeatOf T) → Seeks table old a
+    pub passes_lack : (slot word : ℕ) (e f : Effort) (a b : SeatOf T) → Led table old a
         → Seeks table b new → Passes fits table key name (Looks table slot) slot 1 word e f a b
         → LacksOnce table key slot old new
     passes_lack slot word e f a b before behind h = by (is_visible h.seen) refl
       where
-        looked : Seeks table old h.mid
-        looked = seeks_then table old a h.mid before (looks_seek table slot h.seen a h.mid h.first)
+        looked : Led table old h.mid
+        looked = led_then table old a h.mid before (looks_led table slot h.seen a h.mid h.first)
 
         by : (shown : Bool) → is_visible h.seen ≡ shown → LacksOnce table key slot old new
         by false off =
             let led = event_leads table (look_done slot h.seen (view a)) a h.mid h.first.2 in (
               h.mid,
               moment_of table (look_done slot h.seen (view a)) old a h.mid new before h.first.2 refl
-                  (subst (λ z. Seeks table z new) (h.unshown off).2 behind),
+                  refl (subst (λ z. Seeks table z new) (h.unshown off).2 behind),
               none_shown (world_at table h.mid) key slot
                   (look_tells led.0 (world_at table h.mid) (view a).client slot h.seen led.1 off),
             )
@@ -290,7 +326,7 @@ module _ {T A : Type 0} (fits : T → Key → List ℕ → Type 0) (table : Rule
             moment none = (
               got,
               moment_of table (acquire_done slot 1 name word (view h.mid)) old h.mid got new looked
-                  entry.reaches.by.adds refl
+                  entry.reaches.by.adds refl refl
                   (seeks_then table got entry.mid new
                   (reached_seeks table slot 1 name word h.mid entry.mid entry.reaches.by)
                   (seeks_then table entry.mid b new entry.seeks behind)),
@@ -309,7 +345,7 @@ module _ {T A : Type 0} (fits : T → Key → List ℕ → Type 0) (table : Rule
                 (λ e. ¬ (key_of e ≡ key)) (entry.other visible) found.0 found.1 found.2)
 
     -- so did each of the slots that were passed
-    probes_lack : (i : ℕ) (ps : List Probe) (e f : Effort) (a b : SeatOf T) → Seeks table old a
+    probes_lack : (i : ℕ) (ps : List Probe) (e f : Effort) (a b : SeatOf T) → Led table old a
         → Seeks table b new
         → AtProbes (slots_of table) key (Probed fits table key name) i ps e f a b
         → (k : ℕ) → i ≤ k → k < i + length ps
@@ -318,8 +354,8 @@ module _ {T A : Type 0} (fits : T → Key → List ℕ → Type 0) (table : Rule
     probes_lack i (p ∷ ps) e f a b before behind h k low high = elim (cases_lt i k) [
       | inl later ↦
           probes_lack (i + 1) ps h.0 f h.1 b
-          (seeks_then table old a h.1 before
-          (probed_seeks (probe_slot (slots_of table) key i) p e h.0 a h.1 h.2)) behind h.3 k
+          (led_then table old a h.1 before
+          (probed_led (probe_slot (slots_of table) key i) p e h.0 a h.1 h.2)) behind h.3 k
           (omega arith) (omega arith)
       | inr here ↦
           let same : i ≡ k = omega arith in
@@ -329,40 +365,72 @@ module _ {T A : Type 0} (fits : T → Key → List ℕ → Type 0) (table : Rule
           (seeks_then table h.2.mid h.1 b
           (seeks_one table (count_done (probe_slot (slots_of table) key i) p.displacement
           (view h.2.mid)) h.2.mid h.1 h.2.event refl)
-          (probes_seek (i + 1) ps h.0 f h.1 b h.3)) behind)
+          (probes_led (i + 1) ps h.0 f h.1 b h.3).seeks) behind)
           h.2.passes)
     ]
 
     -- an entry that was caught was shown once
-    catches_show : (slot word : ℕ) (e f : Effort) (a b : SeatOf T) → Seeks table old a
-        → Seeks table b new → Catches fits table key name (Looks table slot) slot 1 word e f a b
-        → ShowsOnce table key slot old new
-    catches_show slot word e f a b before behind h =
-        let by = h.reaches.by in
-        let led = event_leads table (acquire_done slot 1 name word (view h.looked)) h.looked by.mid
-        by.adds in
-        let shown = acquire_shows led.0 (world_at table by.mid) (view h.looked).client slot 1 name
-        word led.1 h.visible in (
-          by.mid,
-          moment_of table (acquire_done slot 1 name word (view h.looked)) old h.looked by.mid new
-              (seeks_then table old a h.looked before
-              (looks_seek table slot h.seen a h.looked h.first)) by.adds refl
-              (seeks_then table by.mid h.mid new
-              (reached_seeks table slot 1 name word h.looked h.mid by)
-              (seeks_then table h.mid b new h.seeks behind)),
-          subst (λ o. IsSomeAnd o (λ e. key_of e ≡ key)) (sym shown.1)
-              (met_there table slot 1 name word h.looked h.mid by (λ e. key_of e ≡ key) h.same
-              shown.0 shown.1),
+    catches_show : (slot word : ℕ) (e f : Effort) (a b : SeatOf T) → Led table old a
+        → Seeks table b new
+        → (h : Catches fits table key name (Looks table slot) slot 1 word e f a b)
+        → (view new).records ≡ (view h.mid).records
+        → IsSomeAnd (record_in name (view new).records)
+        (λ r. (key_of r.entry ≡ key) × ShowsOnce table slot r.entry old new)
+    catches_show slot word e f a b before behind h same =
+        subst (λ o. IsSomeAnd o (λ r. (key_of r.entry ≡ key)
+        × ShowsOnce table slot r.entry old new))
+        (sym (ap (record_in name) same ∙ kept.1)) (
+          kept.2.1,
+          (by.mid, moment, shown.1 ∙ ap Some same_entry),
         )
+      where
+        by : ReachesBy table slot 1 name word h.looked h.mid
+        by = h.reaches.by
+
+        done : Done
+        done = acquire_done slot 1 name word (view h.looked)
+
+        -- the record of it,
+        kept : (r : Record) × (record_in name (view h.mid).records ≡ Some r)
+            × ((r.slot ≡ slot) × (key_of r.entry ≡ key))
+        kept = some_and (record_in name (view h.mid).records) _ h.same
+
+        there : IsSomeAnd (record_in name (view h.mid).records)
+            (λ q. (q.slot ≡ slot) × (q.entry ≡ kept.0.entry))
+        there =
+            subst (λ o. IsSomeAnd o (λ q. (q.slot ≡ slot) × (q.entry ≡ kept.0.entry)))
+            (sym kept.1) (kept.2.0, refl)
+
+        -- what the slot showed,
+        shown : (e : Entry) × (shown_at (world_at table by.mid) slot ≡ Some e)
+        shown =
+            let led = event_leads table done h.looked by.mid by.adds in
+            acquire_shows led.0 (world_at table by.mid) (view h.looked).client slot 1 name word
+            led.1 h.visible
+
+        same_entry : shown.0 ≡ kept.0.entry
+        same_entry =
+            met_there table slot 1 name word h.looked h.mid by (λ e. e ≡ kept.0.entry) there
+            shown.0 shown.1
+
+        -- and when.
+        moment : IsMomentOf table by.mid old new
+        moment =
+            moment_of table done old h.looked by.mid new
+            (led_then table old a h.looked before
+            (looks_led table slot h.seen a h.looked h.first)) by.adds refl refl
+            (seeks_then table by.mid h.mid new
+            (reached_seeks table slot 1 name word h.looked h.mid by)
+            (seeks_then table h.mid b new h.seeks behind))
 
   -- the count at the last of some probes
   last_count : (i : ℕ) (ps : List Probe) (p : Probe) (e f : Effort) (a b : SeatOf T)
       → AtProbes (slots_of table) key (Probed fits table key name) i (ps ++ p ∷ []) e f a b
-      → (c : SeatOf T) × Seeks table a c × IsEvent table (count_done
+      → (c : SeatOf T) × Led table a c × IsEvent table (count_done
       (probe_slot (slots_of table) key (i + length ps)) p.displacement (view c)) c b
   last_count i [] p e f a b h = (
     h.2.mid,
-    passes_seek (probe_slot (slots_of table) key i) p.word e h.0 a h.2.mid h.2.passes,
+    passes_led (probe_slot (slots_of table) key i) p.word e h.0 a h.2.mid h.2.passes,
     subst (λ n. IsEvent table (count_done (probe_slot (slots_of table) key n) p.displacement
         (view h.2.mid)) h.2.mid b) here
         (subst (λ z. IsEvent table (count_done (probe_slot (slots_of table) key i) p.displacement
@@ -374,8 +442,8 @@ module _ {T A : Type 0} (fits : T → Key → List ℕ → Type 0) (table : Rule
   last_count i (q ∷ ps) p e f a b h =
       let rest = last_count (i + 1) ps p h.0 f h.1 b h.3 in (
         rest.0,
-        seeks_then table a h.1 rest.0
-            (probed_seeks (probe_slot (slots_of table) key i) q e h.0 a h.1 h.2) rest.1,
+        led_then table a h.1 rest.0
+            (probed_led (probe_slot (slots_of table) key i) q e h.0 a h.1 h.2) rest.1,
         subst (λ n. IsEvent table (count_done (probe_slot (slots_of table) key n) p.displacement
             (view rest.0)) rest.0 b) on rest.2,
       )
@@ -397,7 +465,8 @@ module _ {T A : Type 0} (fits : T → Key → List ℕ → Type 0) (table : Rule
         let told = count_tells led.0 (world_at table new) (view count.0).client
         (probe_slot (slots_of table) key (0 + length m.earlier)) m.last.displacement led.1 in (
           new,
-          moment_of table done old count.0 new new count.1 count.2 refl (seeks_none table new),
+          moment_of table done old count.0 new new count.1 count.2 refl refl
+              (seeks_none table new),
           λ shows.
               let found = some_and (shown_at (world_at table new)
               (probe_slot (slots_of table) key i)) _ shows in
@@ -425,7 +494,7 @@ module _ {T A : Type 0} (fits : T → Key → List ℕ → Type 0) (table : Rule
           ]
           | inr visited ↦
               probes_lack old new 0 (m.earlier ++ m.last ∷ []) before m.between old new
-              (seeks_none table old) (seeks_none table new) m.probes i (omega arith)
+              (led_none table old) (seeks_none table new) m.probes i (omega arith)
               (omega (arith, long))
         ]
 
@@ -438,8 +507,8 @@ module _ {T A : Type 0} (fits : T → Key → List ℕ → Type 0) (table : Rule
       | inr event ↦ seeks_one table (mark_done name (view f.held)) f.held new event refl
     ]
 
-    passed_seeks : Seeks table old f.mid
-    passed_seeks = probes_seek 0 f.earlier before f.between old f.mid f.probes
+    passed_led : Led table old f.mid
+    passed_led = probes_led 0 f.earlier before f.between old f.mid f.probes
 
     caught_seeks : Seeks table f.mid f.held
     caught_seeks =
@@ -451,14 +520,16 @@ module _ {T A : Type 0} (fits : T → Key → List ℕ → Type 0) (table : Rule
         (reach_seeks table slot 1 name word h.looked h.mid h.reaches.by)
         (reached_seeks table slot 1 name word h.looked h.mid h.reaches.by)) h.seeks)
 
-    pub finds_show : ShowsOnce table key slot old new
-    finds_show = catches_show old new slot word f.between f.later f.mid f.held passed_seeks
-        marked_seeks f.catches
+    pub finds_show : IsSomeAnd (record_in name (view new).records)
+        (λ r. (key_of r.entry ≡ key) × ShowsOnce table slot r.entry old new)
+    finds_show =
+        catches_show old new slot word f.between f.later f.mid f.held passed_led marked_seeks
+        f.catches (f.kept.records ∙ f.catches.kept.records)
 
     pub finds_lack : (j : ℕ) → j < length f.earlier
         → LacksOnce table key (probe_slot (slots_of table) key j) old new
     finds_lack j first =
-        probes_lack old new 0 f.earlier before f.between old f.mid (seeks_none table old)
+        probes_lack old new 0 f.earlier before f.between old f.mid (led_none table old)
         (seeks_then table f.mid f.held new caught_seeks marked_seeks) f.probes j (omega arith)
         (omega arith)
 
@@ -467,10 +538,10 @@ module _ {T A : Type 0} (fits : T → Key → List ℕ → Type 0) (table : Rule
       (old new : SeatOf T) → Searches fits table key name marks answer before after old new
       → Seeks table old new
   searches_seek marks None before last old new m =
-      probes_seek 0 (m.earlier ++ m.last ∷ []) before m.between old new m.probes
+      (probes_led 0 (m.earlier ++ m.last ∷ []) before m.between old new m.probes).seeks
   searches_seek marks (Some pin) before last old new h =
       seeks_then table old h.1.mid new
-      (passed_seeks marks pin.slot h.0 before last old new h.1)
+      (passed_led marks pin.slot h.0 before last old new h.1).seeks
       (seeks_then table h.1.mid h.1.held new
       (caught_seeks marks pin.slot h.0 before last old new h.1)
       (marked_seeks marks pin.slot h.0 before last old new h.1))
@@ -478,7 +549,7 @@ module _ {T A : Type 0} (fits : T → Key → List ℕ → Type 0) (table : Rule
   -- Any number of clients.
   pub finds_lasting : (marks : Bool) (answer : Option Pin) (before after : Effort)
       (old new : SeatOf T) → Searches fits table key name marks answer before after old new
-      → FindsLasting table key answer old new
+      → FindsLasting table key name answer old new
   finds_lasting marks None before last old new m = λ slot near.
       misses_lack before last old new m slot near
   finds_lasting marks (Some pin) before last old new h = (
@@ -498,8 +569,9 @@ module _ {T A : Type 0} (fits : T → Key → List ℕ → Type 0) (table : Rule
   finds_first one marks (Some pin) before last old new h = (
     length h.1.earlier,
     h.1.probe,
-    shows_alone table key pin.slot old new one
-        (finds_show marks pin.slot h.0 before last old new h.1),
+    (let found = some_and (record_in name (view new).records) _
+        (finds_show marks pin.slot h.0 before last old new h.1) in
+        shows_alone table key pin.slot old new one found.0.entry found.2.0 found.2.1),
     λ j first. lacks_alone table key (probe_slot (slots_of table) key j) old new one
         (finds_lack marks pin.slot h.0 before last old new h.1 j first),
   )

@@ -16,6 +16,7 @@ use Rattle.hcc_rule.proofs.Basics.Lists.{each_append}
 use Rattle.hcc_table.specs.declared.efforts.Effort.{Effort}
 use Rattle.hcc_table.specs.Efforts.{VisitedSlots}
 use Rattle.hcc_table.specs.Probed.{AtProbes, Catches, Finds, LoadsKey, LoadsOther, Looks, Misses, Passes, Probe, Probed, Probes, TrailsGoOn}
+use Rattle.hcc_table.specs.Searched.{Sought}
 use Rattle.hcc_table.specs.Steps.{Adds, MakesNone, after}
 use Rattle.hcc_table.proofs.Logs.{adds_none, adds_one, among_at, among_then, makes_two}
 
@@ -232,9 +233,10 @@ module _ {T A : Type 0} (fits : T → Key → List ℕ → Type 0) (table : Rule
       → MakesSome (address_of_meta table slot) HIT_BIT 0 held new)
       → (hit_of word ≡ true → MakesNone held new) → (marks ≡ false → MakesNone held new)
       → (new ≡ held) ⊎ IsEvent table (mark_done name (view held)) held new
+      → Sought (view held) (view new)
       → Finds fits table key name marks slot word e all old new
   finds_here marks i slot word e f g all old now held new h there catches visited marked hit
-      unasked by = record {
+      unasked by kept = record {
         earlier = h.seen;
         between = f;
         mid = now;
@@ -249,6 +251,7 @@ module _ {T A : Type 0} (fits : T → Key → List ℕ → Type 0) (table : Rule
         hit = hit;
         unasked = unasked;
         by = by;
+        kept = kept;
       }
 
 module _ {T : Type 0} (address : ℕ) (a b : SeatOf T) where

@@ -1,5 +1,5 @@
 -- The trail of a taken entry, taken back from its first probe on.
-use Rattle.std.proofs.Common.{◌≡◌, ℕ, suc, ◌+◌, ◌-◌, ◌%◌, ◌^◌, ◌<◌, ◌≤◌, ◌≢◌, ◌==◌, ◌||◌, cond, true, Some, None, List, [], ◌∷◌, map, sym, subst, refl, ap, ◌∙◌, bit_and, bit_or, arith, ne_eqb, Option, slice_index}
+use Rattle.std.proofs.Common.{◌≡◌, ℕ, suc, ◌+◌, ◌-◌, ◌%◌, ◌^◌, ◌<◌, ◌≤◌, ◌≢◌, ◌==◌, ◌||◌, cond, true, Some, None, List, [], ◌∷◌, length, map, sym, subst, refl, ap, ◌∙◌, bit_and, bit_or, arith, ne_eqb, Option, slice_index}
 use Rattle.std.specs.List.{list_any, range_with_len}
 use Rattle.std.specs.Prelude.{if◌then◌else◌}
 use Rattle.std.proofs.lemmas.Bool.{eq-eqb, eqb-true}
@@ -14,7 +14,7 @@ use Rattle.hcc_rule.specs.Events.{free_done, look_done}
 use Rattle.hcc_rule.specs.Probes.{probe_slot, trail_to, before}
 use Rattle.hcc_rule.specs.Seats.{SeatOf, IsSameSeat, view}
 use Rattle.hcc_rule.specs.ToldTrails.{after_unpass}
-use Rattle.hcc_rule.proofs.Probes.ProbeLaws.{first_masked, next_masked}
+use Rattle.hcc_rule.proofs.Probes.ProbeLaws.{first_masked, next_masked, probe_of_slot, trail_length}
 use Rattle.hcc_table.specs.declared.walk.Walk.{Walk}
 use Rattle.hcc_table.proofs.Finds.{IsAt, seat_then}
 use Rattle.hcc_rule.specs.declared.layout.TheConstants.{CHARGE}
@@ -56,6 +56,14 @@ module _ (slots : ℕ) (key : Key) (slot i : ℕ) where
   trail_end past =
       let none : slots - i ≡ 0 = omega arith in
       ap (λ n. before slot (map (probe_slot slots key) (range_with_len i n))) none
+
+-- A trail is shorter than there are slots.
+pub trail_short : (slots : ℕ) (key : Key) (slot : ℕ) → MOST_SLOTS % slots ≡ 0 → slot < slots
+    → length (trail_to slots key slot) < slots
+trail_short slots key slot power near =
+    let at = probe_of_slot slots key power slot near in
+    subst (λ s. length (trail_to slots key s) < slots) at.2
+    (let long = trail_length slots key power at.0 at.1 in let inside = at.1 in omega arith)
 
 module _ {T : Type 0} where
   -- What is left of the trail, once the first so many probes were taken back.
@@ -145,6 +153,14 @@ module _ {T : Type 0} where
               ∙ ap (λ b. cond b (trail_from slots key slot (i + 1))
               (there ∷ dropped (is_slot there) (trail_from slots key slot (i + 1))))
               (eq-eqb there there refl)
+
+      -- One less is left.
+      pub shorter : (new : SeatOf T) (next : Walk) → IsTakingBack slots key slot (i + 1) next seat new
+          → length (view now).work.trail ≡ length (view new).work.trail + 1
+      shorter new next back =
+          let was = ap length first_is in
+          let is = ap (λ (z : View T). length z.work.trail) back.left in
+          omega arith
 
   -- All is taken back after all probes.
   pub back_at_end : (slots : ℕ) (key : Key) (slot i : ℕ) (walk : Walk) (seat now : SeatOf T)

@@ -18,9 +18,9 @@ use Rattle.hcc_rule.specs.Words.{key_of}
 use Rattle.hcc_table.specs.declared.efforts.Effort.{Effort}
 use Rattle.hcc_table.specs.declared.pins.Pin.{Pin}
 use Rattle.hcc_table.specs.Efforts.{VisitedSlots}
-use Rattle.hcc_table.specs.Searched.{Reached}
+use Rattle.hcc_table.specs.Searched.{Reached, Sought}
 use Rattle.hcc_table.specs.Seeking.{ReachesBy, Seeks}
-use Rattle.hcc_table.specs.Steps.{Acquires, Adds, Among, Corrects, MakesNone, MakesTwo}
+use Rattle.hcc_table.specs.Steps.{Acquires, AddsUnmarked, Among, Corrects, MakesNone, MakesTwo}
 
 -- What was found at one probe: the meta word of its slot, as the add of a reference found it where
 -- there was one, else as the first step there did; and its displacement word.
@@ -86,13 +86,15 @@ module _ {T A : Type 0} (fits : T → Key → List ℕ → Type 0) (table : Rule
 module _ {T A : Type 0} (fits : T → Key → List ℕ → Type 0) (table : RuleTable T A) (key : Key)
     (name : ℕ) where
   -- References were acquired on a slot, and it was passed: the add found a word that isn't visible,
-  -- or that of an entry of another key, and a load of a half of its key told so.
+  -- or that of an entry of another key, and a load of a half of its key told so. They were given
+  -- back, and nothing was marked.
   pub record PassesEntry (slot weight word : ℕ) (before after : Effort) (old new : SeatOf T)
       : Type 0 where
     pub mid : SeatOf T
     pub reaches : Reaches fits table name slot weight word before after old mid
-    pub adds : Adds mid new
+    pub adds : AddsUnmarked mid new
     pub seeks : Seeks table mid new
+    pub kept : Sought (view old) (view new)
     pub other : is_visible word ≡ true → IsSomeAnd (record_in name (view mid).records)
         (λ r. (r.slot ≡ slot) × ¬ (key_of r.entry ≡ key))
     pub loads : is_visible word ≡ true → LoadsOther table key slot mid new
@@ -122,6 +124,7 @@ module _ {T A : Type 0} (fits : T → Key → List ℕ → Type 0) (table : Rule
         (λ r. (r.slot ≡ slot) × (key_of r.entry ≡ key))
     pub loads : LoadsKey table key slot mid new
     pub seeks : Seeks table mid new
+    pub kept : Sought (view mid) (view new)
 
   -- A search passed this slot, and found this there.
   pub record Probed (slot : ℕ) (p : Probe) (before after : Effort) (old new : SeatOf T)
@@ -166,6 +169,7 @@ module _ {T A : Type 0} (fits : T → Key → List ℕ → Type 0) (table : Rule
     pub hit : hit_of word ≡ true → MakesNone held new
     pub unasked : marks ≡ false → MakesNone held new
     pub by : (new ≡ held) ⊎ IsEvent table (mark_done name (view held)) held new
+    pub kept : Sought (view held) (view new)
 
   -- What a search found at each probe of the key, by its answer.
   abbrev pub Searches : (marks : Bool) → Option Pin → (before after : Effort)

@@ -1,6 +1,6 @@
 -- What a shard shows at the moments of a call: in the worlds to which the histories lead that its
 -- seat knew then.
-use Rattle.std.specs.Prelude.{◌≡◌, ℕ, zero, suc, ◌+◌, ◌<◌, true, List, ◌++◌, Option, Some, None, IsSomeAnd, slice_get, option_and_then, if◌then◌else◌}
+use Rattle.std.specs.Prelude.{◌≡◌, ℕ, zero, suc, ◌+◌, ◌<◌, true, List, [], ◌∷◌, ◌++◌, Option, Some, None, IsSomeAnd, slice_get, option_and_then, if◌then◌else◌}
 use Rattle.hcc_core.specs.declared.slot.Entry.{Entry}
 use Rattle.hcc_core.specs.declared.slot.Slot.{Slot}
 use Rattle.hcc_core.specs.declared.slot.Slot.TheVariants as slots
@@ -9,10 +9,11 @@ use Rattle.hcc_core.specs.World.{State}
 use Rattle.hcc_rule.specs.declared.key.Key.{Key}
 use Rattle.hcc_rule.specs.declared.table.RuleTable.{RuleTable}
 use Rattle.hcc_rule.specs.declared.view.Done.{Done}
-use Rattle.hcc_rule.specs.Acts.{past, world_of}
+use Rattle.hcc_rule.specs.Acts.{client_by, past, world_of}
 use Rattle.hcc_rule.specs.Callers.{plan_of, slots_of, IsEvent}
 use Rattle.hcc_rule.specs.Probes.{probe_slot}
-use Rattle.hcc_rule.specs.Seats.{SeatOf}
+use Rattle.hcc_rule.specs.Records.{record_in}
+use Rattle.hcc_rule.specs.Seats.{SeatOf, view}
 use Rattle.hcc_rule.specs.Words.{key_of}
 use Rattle.hcc_table.specs.declared.inserting.Insertion.{Insertion}
 use Rattle.hcc_table.specs.declared.inserting.Insertion.TheVariants.{Placed, Matched, NoSlot}
@@ -85,40 +86,45 @@ module _ {T A : Type 0} (table : RuleTable T A) where
   abbrev pub world_at : SeatOf T → State
   world_at seat = world_of (plan_of table) (past seat)
 
-  -- A moment of a call that searched: right behind one of its own steps, when its seat was this.
-  -- The history up to it goes on from what the seat knew when the call began, and what it knew at
-  -- the end goes on from that.
+  -- A moment of a call that searched: right behind a step of the call's own client, made since the
+  -- call began, when its seat was this. The history up to it goes on from what the seat knew when
+  -- the call began, and what it knew at the end goes on from that.
   pub record IsMomentOf (moment old new : SeatOf T) : Type 0 where
     pub before : SeatOf T
     pub done : Done
     pub began : Seeks table old before
     pub step : IsEvent table done before moment
     pub seeking : is_seeking done.event ≡ true
+    pub own : client_by done.event ≡ (view old).client
     pub rest : Seeks table moment new
     pub since : List Done
-    pub begins : past moment ≡ past old ++ since
+    pub begins : past moment ≡ past old ++ (since ++ done ∷ [])
     pub later : List Done
     pub goes_on : past new ≡ past moment ++ later
 
-module _ {T A : Type 0} (table : RuleTable T A) (key : Key) where
-  -- at some moment of the call the shard shows the key in this slot
-  abbrev pub ShowsOnce : (slot : ℕ) → (old new : SeatOf T) → Type 0
-  ShowsOnce slot old new =
-      (moment : SeatOf T) × IsMomentOf table moment old new
-      × ShowsKey (world_at table moment) key slot
+  -- at some moment of the call the shard shows this entry in this slot
+  abbrev pub ShowsOnce : (slot : ℕ) → Entry → (old new : SeatOf T) → Type 0
+  ShowsOnce slot entry old new =
+      (moment : SeatOf T) × IsMomentOf moment old new
+      × (shown_at (world_at moment) slot ≡ Some entry)
 
-  -- at some moment of the call it doesn't
+module _ {T A : Type 0} (table : RuleTable T A) (key : Key) where
+  -- at some moment of the call the shard doesn't show the key in this slot
   abbrev pub LacksOnce : (slot : ℕ) → (old new : SeatOf T) → Type 0
   LacksOnce slot old new =
       (moment : SeatOf T) × IsMomentOf table moment old new
       × ¬ ShowsKey (world_at table moment) key slot
 
-  -- Of each slot this holds where a search missed; where it found an entry, that was shown once,
-  -- and each slot of an earlier probe lacked the key once.
-  abbrev pub FindsLasting : Option Pin → (old new : SeatOf T) → Type 0
-  FindsLasting None old new = (slot : ℕ) → slot < slots_of table → LacksOnce slot old new
-  FindsLasting (Some pin) old new =
-      (i : ℕ) × (pin.slot ≡ probe_slot (slots_of table) key i) × ShowsOnce pin.slot old new
+  -- Of each slot this holds where a search missed. Where it found an entry, the one that it holds
+  -- under the name is of the key, and was shown once; and each slot of an earlier probe lacked the
+  -- key once.
+  abbrev pub FindsLasting : (name : ℕ) → Option Pin → (old new : SeatOf T) → Type 0
+  FindsLasting name None old new =
+      (slot : ℕ) → slot < slots_of table → LacksOnce slot old new
+  FindsLasting name (Some pin) old new =
+      (i : ℕ) × (pin.slot ≡ probe_slot (slots_of table) key i)
+      × IsSomeAnd (record_in name (view new).records)
+      (λ r. (key_of r.entry ≡ key) × ShowsOnce table pin.slot r.entry old new)
       × ((j : ℕ) → j < i → LacksOnce (probe_slot (slots_of table) key j) old new)
 
   -- A search of a world that stood still: it missed where the world shows the key in no slot, else

@@ -20,7 +20,7 @@ use Rattle.hcc_table.specs.Efforts.{VisitedSlots}
 use Rattle.hcc_table.specs.Freed.{release_done}
 use Rattle.hcc_table.specs.Probed.{AtProbes, FindsTaken, LoadsKey, Passes, Reaches}
 use Rattle.hcc_table.specs.Seeking.{Builds, GoesOnBy, Seeks, is_unpass}
-use Rattle.hcc_table.specs.Steps.{Adds, Begins, amount_of}
+use Rattle.hcc_table.specs.Steps.{Adds, Begins, MakesAtMost, amount_of}
 
 module _ {T A : Type 0} (table : RuleTable T A) where
   -- An insertion found a slot empty, and took it by the step that set its occupied bit.
@@ -97,7 +97,7 @@ module _ {T A : Type 0} (fits : T → Key → List ℕ → Type 0) (table : Rule
   -- An insertion passed some slots, or none, each of which was taken and not visible with the key.
   -- At the next probe it ended: there it placed its entry, or met a visible one of the key, or the
   -- slot was passed too, as that of the last probe. Where nothing was placed, the displacements
-  -- were taken back behind that.
+  -- were taken back behind that, one step for each; else nothing came behind it.
   pub record Inserts (answer : Insertion) (before after : Effort) (old new : SeatOf T)
       : Type 0 where
     pub earlier : List ℕ
@@ -110,5 +110,7 @@ module _ {T A : Type 0} (fits : T → Key → List ℕ → Type 0) (table : Rule
     pub tries : TriesAt (probe_slot (slots_of table) key (length earlier)) answer counted after
         mid done
     pub all : answer ≡ NoSlot → length earlier + 1 ≡ slots_of table
+    pub placed : (there : ℕ) → answer ≡ Placed there → new ≡ done
     pub adds : Adds done new
     pub rest : GoesOnBy table is_unpass done new
+    pub few : MakesAtMost (length earlier) done new

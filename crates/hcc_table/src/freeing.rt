@@ -1,5 +1,5 @@
 //! Taking an entry to free it.
-ghost use Rattle.std.specs.Prelude.{◌≡◌, ◌+◌, ◌^◌, ◌≤◌, [], true, IfSome, IfNone, slice_index};
+ghost use Rattle.std.specs.Prelude.{◌≡◌, ◌+◌, ◌^◌, ◌≤◌, [], true, IfSome, IfNone, length, slice_index};
 ghost use Rattle.hcc_word.specs.Word.{is_shareable};
 ghost use Rattle.hcc_rule.specs.declared.layout.TheConstants.{CHARGE};
 ghost use Rattle.hcc_rule.specs.Callers.{slots_of, room_of, IsSeatAt, IsSlotOf, IsSlotAt};
@@ -24,8 +24,7 @@ use std::alloc::Allocator;
 /// before the slot, and empties it. It returns the entry's charge, which the client has to settle
 /// with its place.
 ///
-/// It allocates nothing. It costs three loads, a subtraction for each probe before the slot, and a
-/// store.
+/// It allocates nothing. It costs three loads, a subtraction for each slot of the trail, and a store.
 pub fn free_taken<T: Tag, A: Allocator>(
     table: &RuleTable<T, A>,
     seat: &mut RuleSeat<T>,
@@ -39,7 +38,7 @@ pub fn free_taken<T: Tag, A: Allocator>(
     ensures view { view seat.new ≡ emptied (view seat.old) }
     ensures past { Empties table.now (view seat.old).client seat.old seat.new }
     ensures adds { Adds seat.old seat.new }
-    ensures steps { MakesAtMost (slots_of table.now + 4) seat.old seat.new }
+    ensures steps { MakesAtMost (length (view seat.old).work.trail + 4) seat.old seat.new }
 {
     let data = table.data_of(slot);
     free_taken_at(table, seat, SlotAt { slot, data })
@@ -59,7 +58,7 @@ fn free_taken_at<T: Tag, A: Allocator>(
     ensures view { view seat.new ≡ emptied (view seat.old) }
     ensures past { Empties table.now (view seat.old).client seat.old seat.new }
     ensures adds { Adds seat.old seat.new }
-    ensures steps { MakesAtMost (slots_of table.now + 4) seat.old seat.new }
+    ensures steps { MakesAtMost (length (view seat.old).work.trail + 4) seat.old seat.new }
 {
     let key = Key {
         w0: table.read_own_at(seat, at, KEY0),
@@ -85,7 +84,7 @@ pub(crate) fn take_back<T: Tag, A: Allocator>(
         ≡ record (view seat.old) { work = record (view seat.old).work { trail = [] } } }
     ensures past { GoesOnBy table.now is_unpass seat.old seat.new }
     ensures adds { Adds seat.old seat.new }
-    ensures steps { MakesAtMost (slots_of table.now) seat.old seat.new }
+    ensures steps { MakesAtMost (length (view seat.old).work.trail) seat.old seat.new }
 {
     let slots = table.geometry().slots;
     let mut walk = Walk::begin(key, slots);

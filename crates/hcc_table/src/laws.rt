@@ -27,11 +27,12 @@ use std::alloc::Allocator;
 pub fn law_lasting<T: Tag, A: Allocator>()
     // A search that misses: each slot lacks a visible entry of the key at some moment of the call.
     // So none stood visible in one slot through the whole call. One that finds an entry: at some
-    // moment it was visible in its slot, and each slot of an earlier probe lacked one at some.
+    // moment that very entry was visible in its slot, and each slot of an earlier probe lacked one
+    // at some.
     ensures { (table : RuleTable T A) (key : Key) (name : ℕ) (marks : Bool) (answer : Option Pin)
         (before after : Effort) (old new : SeatOf T)
         → Searches T.fits table key name marks answer before after old new
-        → FindsLasting table key answer old new }
+        → FindsLasting table key name answer old new }
 {}
 
 /// In a shard of one client a search finds exactly what the shard has.

@@ -2,7 +2,7 @@ use Rattle.std.proofs.Common.{arith, refl}
 use Rattle.hcc_table.proofs.Logs.{adds_none, adds_one, adds_then}
 use Rattle.hcc_table.specs.Seeking.{is_unpass}
 use Rattle.hcc_table.proofs.Seeking.{goes_event, goes_none, goes_then}
-use Rattle.hcc_table.proofs.TakesBack.{takes_back, back, stands, goes_back}
+use Rattle.hcc_table.proofs.TakesBack.{takes_back, back, stands, goes_back, shorter}
 use Rattle.hcc_table.proofs.freeing.take_back.Goals as goal
 
 pub loop-init : goal.loop-init
@@ -34,13 +34,18 @@ loop-preserved g c =
     let told = c.next-walk.ensures in
     let table = c.args.table.now in
     let so_far = c.loop.invariant.1 in
-    let one = c.unpass.ensures.step.1.one in (
-      goes_back c.args.table.now.geometry.slots c.args.key c.args.slot c.loop.counter
+    let one = c.unpass.ensures.step.1.one in
+    let back = goes_back c.args.table.now.geometry.slots c.args.key c.args.slot c.loop.counter
+    c.slot-passed.result c.loop.walk c.args.seat.now c.loop.seat c.loop.invariant.0
+    c.slot-passed.ensures (rw (← c.geometry-slots.ensures) c.loop-test.true)
+    c.if-passed-slot.false c.unpass.new.seat c.next-walk.result c.args.table.now.limits.power
+    c.unpass.ensures.seat c.unpass.ensures.view told.probe told.stride told.mask in (
+      back,
+      (let less = shorter c.args.table.now.geometry.slots c.args.key c.args.slot c.loop.counter
           c.slot-passed.result c.loop.walk c.args.seat.now c.loop.seat c.loop.invariant.0
           c.slot-passed.ensures (rw (← c.geometry-slots.ensures) c.loop-test.true)
-          c.if-passed-slot.false c.unpass.new.seat c.next-walk.result c.args.table.now.limits.power
-          c.unpass.ensures.seat c.unpass.ensures.view told.probe told.stride told.mask,
-      omega arith,
+          c.if-passed-slot.false c.unpass.new.seat c.next-walk.result back in
+          omega arith),
       adds_then c.args.seat.now c.loop.seat c.unpass.new.seat c.loop.invariant.2
           (adds_one _ c.loop.seat c.unpass.new.seat c.unpass.ensures.step.1.step),
       goes_then table is_unpass c.args.seat.now c.loop.seat c.unpass.new.seat c.loop.invariant.3

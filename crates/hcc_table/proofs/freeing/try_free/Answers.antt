@@ -1,6 +1,8 @@
+use Rattle.std.proofs.Common.{length, ap, arith}
 use Rattle.std.proofs.lemmas.Bool.{eq-eqb}
+use Rattle.hcc_rule.specs.declared.view.View.{View}
 use Rattle.hcc_rule.specs.Seats.{view}
-use Rattle.hcc_table.proofs.TakesBack.{freed, lost_by, taken_at, taken_by}
+use Rattle.hcc_table.proofs.TakesBack.{freed, lost_by, taken_at, taken_by, trail_short}
 use Rattle.hcc_table.proofs.freeing.try_free.Goals as goal
 
 pub returns-clause-taken : goal.returns-clause-taken
@@ -22,6 +24,18 @@ returns-clause-freed g c =
     (view c.free_at.new.seat) (view c.free_taken_at.new.seat)
     (eq-eqb c.free_at.result c.args.word c.if-free_at-word.false) c.free_at.ensures.view
     c.free_taken_at.ensures.charge c.free_taken_at.ensures.view)
+
+pub returns-clause-steps : goal.returns-clause-steps
+returns-clause-steps g c =
+    let slots = c.args.table.now.geometry.slots in
+    let one = c.free_at.ensures.step.one in
+    let last = c.free_taken_at.ensures.steps in
+    let got = c.free_at.ensures.view.won
+    (eq-eqb c.free_at.result c.args.word c.if-free_at-word.false) in
+    let trail = ap (λ (v : View g.row.T.Denot). length v.work.trail) got.3 in
+    let short = trail_short slots got.1.key c.args.at.slot c.args.table.now.limits.power
+    c.requires.at.0 in
+    omega arith
 
 pub returns-clause-by : goal.returns-clause-by
 returns-clause-by g c =

@@ -1,8 +1,8 @@
-use Rattle.std.proofs.Common.{◌≡◌, ◌+◌, ap, refl, rules, sym, ◌∙◌, arith}
+use Rattle.std.proofs.Common.{◌≡◌, ◌+◌, ap, length, refl, rules, sym, ◌∙◌, arith}
 use Rattle.hcc_word.specs.Word.{is_counting}
 use Rattle.hcc_rule.specs.declared.view.Atomic.{Atomic}
 use Rattle.hcc_rule.specs.Addresses.{address_of_meta}
-use Rattle.hcc_rule.specs.Seats.{atomic}
+use Rattle.hcc_rule.specs.Seats.{atomic, view}
 use Rattle.hcc_rule.specs.ToldOwners.{first_word}
 use Rattle.hcc_table.specs.Efforts.{Took}
 use Rattle.hcc_table.specs.Seeking.{is_unpass}
@@ -13,7 +13,7 @@ use Rattle.hcc_table.proofs.Rises.{took_none, took_next, took_within}
 use Rattle.hcc_rule.specs.declared.view.View.{View}
 use Rattle.hcc_table.specs.declared.inserting.Insertion.TheVariants.{Placed, Matched, NoSlot}
 use Rattle.hcc_table.proofs.InsertsSteps.{inserts_here, tried_none, tried_then}
-use Rattle.hcc_table.proofs.InsertsTries.{tries_first, probed_room, tries_placed, tries_matched, tries_last, tries_next}
+use Rattle.hcc_table.proofs.InsertsTries.{tries_first, probed_long, probed_room, tries_placed, tries_matched, tries_last, tries_next}
 use Rattle.hcc_table.proofs.inserting.insert.Goals as goal
 
 pub loop-slot-init : goal.loop-slot-init
@@ -165,6 +165,10 @@ returns-in-Matched-clause-steps g c =
     let so_far = c.loop-slot.invariant.2 in
     let tried = c.in-Matched.ensures.steps in
     let back = c.take_back.ensures.steps in
+    let long = probed_long c.args.table.now.geometry.slots c.args.draft c.args.value.now
+    c.args.table.now.limits.power c.loop-slot.passed c.slot-slot.result c.loop-slot.walk
+    c.args.seat.now c.loop-slot.seat c.loop-slot.invariant.0 c.slot-slot.ensures
+    c.insert_at.new.seat c.insert_at.ensures.seat c.in-Matched.ensures.view.0 in
     record {
       visited = c.loop-slot.passed + 1;
       within = omega arith;
@@ -182,6 +186,10 @@ returns-then-passed-slots-clause-steps g c =
     let so_far = c.loop-slot.invariant.2 in
     let tried = c.in-NoSlot.ensures.steps in
     let back = c.take_back-then-passed-slots.ensures.steps in
+    let long = probed_long c.args.table.now.geometry.slots c.args.draft c.args.value.now
+    c.args.table.now.limits.power c.loop-slot.passed c.slot-slot.result c.loop-slot.walk
+    c.args.seat.now c.loop-slot.seat c.loop-slot.invariant.0 c.slot-slot.ensures
+    c.insert_at.new.seat c.insert_at.ensures.seat c.in-NoSlot.ensures.view.0 in
     record {
       visited = c.loop-slot.passed + 1;
       within = omega arith;
@@ -200,9 +208,10 @@ returns-in-Placed-clause-inserts g c =
     c.insert_at.new.seat c.insert_at.new.seat c.loop-slot.invariant.4
     (c.slot-slot.ensures ∙ c.loop-slot.invariant.0.walking.probe)
     (c.probes.ensures.probes, c.probes.ensures.corrections, c.probes.ensures.lost)
-    c.in-Placed.ensures.tries (λ none. cc)
+    c.in-Placed.ensures.tries (λ none. cc) (λ slot same. refl)
     (adds_none c.insert_at.new.seat c.insert_at.new.seat refl)
     (goes_none c.args.table.now is_unpass c.insert_at.new.seat c.insert_at.new.seat refl)
+    (omega arith)
 
 pub returns-in-Matched-clause-inserts : goal.returns-in-Matched-clause-inserts
 returns-in-Matched-clause-inserts g c =
@@ -212,7 +221,15 @@ returns-in-Matched-clause-inserts g c =
     c.insert_at.new.seat c.take_back.new.seat c.loop-slot.invariant.4
     (c.slot-slot.ensures ∙ c.loop-slot.invariant.0.walking.probe)
     (c.probes.ensures.probes, c.probes.ensures.corrections, c.probes.ensures.lost)
-    c.in-Matched.ensures.tries (λ none. cc) c.take_back.ensures.adds c.take_back.ensures.past
+    c.in-Matched.ensures.tries (λ none. cc) (λ slot same. cc) c.take_back.ensures.adds
+    c.take_back.ensures.past (let back = c.take_back.ensures.steps in omega (arith, long))
+  where
+    long : length (view c.insert_at.new.seat).work.trail ≡ c.loop-slot.passed
+    long =
+        probed_long c.args.table.now.geometry.slots c.args.draft c.args.value.now
+        c.args.table.now.limits.power c.loop-slot.passed c.slot-slot.result c.loop-slot.walk
+        c.args.seat.now c.loop-slot.seat c.loop-slot.invariant.0 c.slot-slot.ensures
+        c.insert_at.new.seat c.insert_at.ensures.seat c.in-Matched.ensures.view.0
 
 pub returns-then-passed-slots-clause-inserts : goal.returns-then-passed-slots-clause-inserts
 returns-then-passed-slots-clause-inserts g c =
@@ -225,8 +242,16 @@ returns-then-passed-slots-clause-inserts g c =
     c.insert_at.new.seat c.take_back-then-passed-slots.new.seat c.loop-slot.invariant.4
     (c.slot-slot.ensures ∙ c.loop-slot.invariant.0.walking.probe)
     (c.probes.ensures.probes, c.probes.ensures.corrections, c.probes.ensures.lost)
-    c.in-NoSlot.ensures.tries (λ none. sym least)
+    c.in-NoSlot.ensures.tries (λ none. sym least) (λ slot same. cc)
     c.take_back-then-passed-slots.ensures.adds c.take_back-then-passed-slots.ensures.past
+    (let back = c.take_back-then-passed-slots.ensures.steps in omega (arith, long))
+  where
+    long : length (view c.insert_at.new.seat).work.trail ≡ c.loop-slot.passed
+    long =
+        probed_long c.args.table.now.geometry.slots c.args.draft c.args.value.now
+        c.args.table.now.limits.power c.loop-slot.passed c.slot-slot.result c.loop-slot.walk
+        c.args.seat.now c.loop-slot.seat c.loop-slot.invariant.0 c.slot-slot.ensures
+        c.insert_at.new.seat c.insert_at.ensures.seat c.in-NoSlot.ensures.view.0
 
 pub returns-in-Placed-clause-probes : goal.returns-in-Placed-clause-probes
 returns-in-Placed-clause-probes g c = (

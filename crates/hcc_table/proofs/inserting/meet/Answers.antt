@@ -3,8 +3,8 @@ use Rattle.hcc_word.specs.Word.{is_shareable}
 use Rattle.hcc_rule.specs.declared.view.Atomic.{Atomic}
 use Rattle.hcc_rule.specs.Addresses.{address_of_meta}
 use Rattle.hcc_rule.specs.Seats.{atomic, view}
-use Rattle.hcc_table.specs.Steps.{Adds}
-use Rattle.hcc_table.proofs.Logs.{adds_none, adds_one, adds_then, among_at, among_first, among_then, begins_adds, unmarked_adds}
+use Rattle.hcc_table.specs.Steps.{Adds, AddsUnmarked}
+use Rattle.hcc_table.proofs.Logs.{adds_none, adds_one, adds_then, among_at, among_first, among_then, begins_adds, light, unmarked_adds, unmarked_none, unmarked_one, unmarked_then}
 use Rattle.hcc_rule.specs.Words.{key_of}
 use Rattle.hcc_table.proofs.Searches.{searched_refl}
 use Rattle.hcc_table.proofs.Seeking.{seeks_none, seeks_one, seeks_then}
@@ -168,8 +168,9 @@ returns-then-not-has_entry-clause-passes g c _ = (
       corrects = c.reach-found.ensures.corrects;
       by = c.reach-found.ensures.by;
     };
-    adds = adds_none c.reach-found.new.seat c.reach-found.new.seat refl;
+    adds = unmarked_none c.reach-found.new.seat c.reach-found.new.seat refl;
     seeks = seeks_none c.args.table.now c.reach-found.new.seat;
+    kept = returns-then-not-has_entry-clause-view g c;
     other = λ shown. neither (is_shareable c.reach-found.result)
         (visible_has c.reach-found.result shown) (sym c.if-not-has_entry.ensures);
     loads = λ shown. neither (is_shareable c.reach-found.result)
@@ -188,11 +189,12 @@ returns-clause-passes g c _ = (
       corrects = c.reach-found.ensures.corrects;
       by = c.reach-found.ensures.by;
     };
-    adds = adds_then c.reach-found.new.seat c.matches.new.seat c.give_at.new.seat
-        (unmarked_adds c.reach-found.new.seat c.matches.new.seat c.matches.ensures.adds) given;
+    adds = unmarked_then c.reach-found.new.seat c.matches.new.seat c.give_at.new.seat
+        c.matches.ensures.adds given;
     seeks = seeks_then c.args.table.now c.reach-found.new.seat c.matches.new.seat c.give_at.new.seat
         c.matches.ensures.seeks (seeks_one c.args.table.now _ c.matches.new.seat c.give_at.new.seat
         c.give_at.ensures.event refl);
+    kept = returns-clause-view g c;
     other = λ shown. on_told g.T.Tag.fits c.args.table.now.geometry.room c.args.at.slot
         c.args.weight c.args.name c.reach-found.result c.args.key (view c.args.seat.now)
         (view c.args.seat.now) (view c.reach-found.new.seat) (searched_refl (view c.args.seat.now))
@@ -200,12 +202,14 @@ returns-clause-passes g c _ = (
         (λ e. ¬ (key_of e ≡ c.args.key)) (c.matches.ensures.other c.if-matches.false shown);
     loads = λ shown. other_then c.args.table.now c.args.key c.args.at.slot c.reach-found.new.seat
         c.matches.new.seat c.give_at.new.seat (c.matches.ensures.differs c.if-matches.false shown)
-        given;
+        (unmarked_adds c.matches.new.seat c.give_at.new.seat given);
   },
 )
   where
-    given : Adds c.matches.new.seat c.give_at.new.seat
-    given = adds_one _ c.matches.new.seat c.give_at.new.seat c.give_at.ensures.step.step
+    given : AddsUnmarked c.matches.new.seat c.give_at.new.seat
+    given =
+        unmarked_one _ c.matches.new.seat c.give_at.new.seat c.give_at.ensures.step.step
+        (light c.args.weight c.requires.weight.1)
 
 pub returns-then-matches-clause-adds : goal.returns-then-matches-clause-adds
 returns-then-matches-clause-adds g c =

@@ -3,9 +3,9 @@ use Rattle.hcc_word.specs.Word.{is_shareable, is_visible}
 use Rattle.hcc_rule.specs.Addresses.{address_of_meta}
 use Rattle.hcc_rule.specs.Seats.{atomic, view}
 use Rattle.hcc_rule.specs.Words.{key_of}
-use Rattle.hcc_table.specs.Steps.{Adds}
-use Rattle.hcc_table.proofs.Logs.{adds_none, adds_one, adds_then, among_after, among_first, among_then, light, unmarked_adds, unmarked_one, unmarked_then, unmarked_zero}
-use Rattle.hcc_table.proofs.Probes.{looked_at, buried_by_look, strayed, holds, holds_slot, told_key, missed_there, found_there, got_record, on_told}
+use Rattle.hcc_table.specs.Steps.{AddsUnmarked}
+use Rattle.hcc_table.proofs.Logs.{adds_one, among_after, among_first, among_then, light, unmarked_adds, unmarked_none, unmarked_one, unmarked_then, unmarked_zero}
+use Rattle.hcc_table.proofs.Probes.{looked_at, buried_by_look, given_back, strayed, holds, holds_slot, told_key, missed_there, found_there, got_record, on_told}
 use Rattle.hcc_table.proofs.Probings.{neither, other_then, visible_has}
 use Rattle.hcc_table.proofs.Searches.{searched_refl}
 use Rattle.hcc_table.proofs.Seeking.{seeks_none, seeks_one, seeks_then}
@@ -163,8 +163,12 @@ returns-then-not-has_entry-clause-passes g c = (
         corrects = c.reach-found.ensures.corrects;
         by = c.reach-found.ensures.by;
       };
-      adds = adds_none c.reach-found.new.seat c.reach-found.new.seat refl;
+      adds = unmarked_none c.reach-found.new.seat c.reach-found.new.seat refl;
       seeks = seeks_none c.args.table.now c.reach-found.new.seat;
+      kept = record {
+        searched = c.reach-found.ensures.view.searched;
+        records = c.reach-found.ensures.view.stray (sym c.if-not-has_entry.ensures);
+      };
       other = λ shown. neither (is_shareable c.reach-found.result)
           (visible_has c.reach-found.result shown) (sym c.if-not-has_entry.ensures);
       loads = λ shown. neither (is_shareable c.reach-found.result)
@@ -194,13 +198,20 @@ returns-clause-passes g c = (
         corrects = c.reach-found.ensures.corrects;
         by = c.reach-found.ensures.by;
       };
-      adds = adds_then c.reach-found.new.seat c.matches.new.seat c.give_at.new.seat
-          (unmarked_adds c.reach-found.new.seat c.matches.new.seat c.matches.ensures.adds) given;
+      adds = unmarked_then c.reach-found.new.seat c.matches.new.seat c.give_at.new.seat
+          c.matches.ensures.adds given;
       seeks = seeks_then c.args.table.now c.reach-found.new.seat c.matches.new.seat
           c.give_at.new.seat
           c.matches.ensures.seeks (seeks_one c.args.table.now _ c.matches.new.seat
           c.give_at.new.seat
           c.give_at.ensures.event refl);
+      kept = given_back g.T.Tag.fits c.args.table.now.geometry.room c.args.at.slot 1 c.args.name
+          c.reach-found.result c.args.key (view c.look_at-seen.new.seat)
+          (view c.look_at-seen.new.seat) (view c.reach-found.new.seat)
+          (searched_refl (view c.look_at-seen.new.seat)) c.reach-found.ensures.view
+          (sym c.if-not-has_entry.ensures) (rw c.look_at-seen.ensures.view c.requires.fresh)
+          c.give_at.result (view c.matches.new.seat) (view c.give_at.new.seat)
+          c.matches.ensures.view c.give_at.ensures.view;
       other = λ shown. on_told g.T.Tag.fits c.args.table.now.geometry.room c.args.at.slot 1
           c.args.name c.reach-found.result c.args.key (view c.args.seat.now)
           (view c.look_at-seen.new.seat) (view c.reach-found.new.seat)
@@ -210,13 +221,16 @@ returns-clause-passes g c = (
           (c.matches.ensures.other c.if-matches.false shown);
       loads = λ shown. other_then c.args.table.now c.args.key c.args.at.slot c.reach-found.new.seat
           c.matches.new.seat c.give_at.new.seat
-          (c.matches.ensures.differs c.if-matches.false shown) given;
+          (c.matches.ensures.differs c.if-matches.false shown)
+          (unmarked_adds c.matches.new.seat c.give_at.new.seat given);
     };
   },
 )
   where
-    given : Adds c.matches.new.seat c.give_at.new.seat
-    given = adds_one _ c.matches.new.seat c.give_at.new.seat c.give_at.ensures.step.step
+    given : AddsUnmarked c.matches.new.seat c.give_at.new.seat
+    given =
+        unmarked_one _ c.matches.new.seat c.give_at.new.seat c.give_at.ensures.step.step
+        (light 1 (omega arith))
 
 pub returns-then-matches-clause-catches : goal.returns-then-matches-clause-catches
 returns-then-matches-clause-catches g c = record {
@@ -240,4 +254,5 @@ returns-then-matches-clause-catches g c = record {
       (λ e. key_of e ≡ c.args.key) (c.matches.ensures.equal c.if-matches.true);
   loads = c.matches.ensures.loads c.if-matches.true;
   seeks = c.matches.ensures.seeks;
+  kept = c.matches.ensures.view;
 }

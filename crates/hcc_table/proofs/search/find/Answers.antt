@@ -49,7 +49,8 @@ returns-in-Some-clause-searches g c =
           c.begin-walk.ensures.mask)).walking.probe)
           c.in-Some.ensures.catches
           (counted.probes, counted.corrections, counted.lost) c.mark_if.ensures.marked
-          c.mark_if.ensures.unmarked c.mark_if.ensures.unasked c.mark_if.ensures.by,
+          c.mark_if.ensures.unmarked c.mark_if.ensures.unasked c.mark_if.ensures.by
+          c.mark_if.ensures.view,
       c.is_counting.ensures,
     )
 
@@ -433,7 +434,7 @@ returns-in-Some-acquire_at-clause-searches g c =
           (counted.probes, counted.corrections, counted.lost)
           c.mark_if-in-Some-acquire_at.ensures.marked
           c.mark_if-in-Some-acquire_at.ensures.unmarked c.mark_if-in-Some-acquire_at.ensures.unasked
-          c.mark_if-in-Some-acquire_at.ensures.by,
+          c.mark_if-in-Some-acquire_at.ensures.by c.mark_if-in-Some-acquire_at.ensures.view,
       c.is_counting-in-Some-acquire_at.ensures,
     )
 
