@@ -1,6 +1,6 @@
 -- What is left of a view once amounts and places were given back, and once a standalone entry was
--- made or let go.
-use Rattle.std.specs.Prelude.{◌≡◌, ℕ, ◌+◌, ◌<◌, nat_lt, [], ◌∷◌, ◌++◌, if◌then◌else◌}
+-- made or let go; and by which events.
+use Rattle.std.specs.Prelude.{◌≡◌, ℕ, ◌+◌, ◌<◌, Bool, true, false, nat_lt, [], ◌∷◌, ◌++◌, if◌then◌else◌}
 use Rattle.hcc_core.specs.declared.client.Place.{Place}
 use Rattle.hcc_core.specs.declared.client.Place.TheVariants as places
 use Rattle.hcc_core.specs.Ledgers.{is_standing, place_granted}
@@ -9,7 +9,10 @@ use Rattle.hcc_rule.specs.declared.layout.TheConstants.{OCCUPANCY, USAGE}
 use Rattle.hcc_rule.specs.declared.table.RuleTable.{RuleTable}
 use Rattle.hcc_rule.specs.declared.view.View.{View}
 use Rattle.hcc_rule.specs.Addresses.{address_of_ledger}
-use Rattle.hcc_rule.specs.Seats.{SeatOf, MakesSome}
+use Rattle.hcc_rule.specs.Callers.{IsEvent, plan_of}
+use Rattle.hcc_rule.specs.Events.{charge_done, quit_done, stand_done, waive_done}
+use Rattle.hcc_rule.specs.Rule.{setup_of}
+use Rattle.hcc_rule.specs.Seats.{SeatOf, MakesSome, view}
 use Rattle.hcc_table.specs.Steps.{MakesNone}
 
 -- the place that is left where so many slots were freed
@@ -65,6 +68,20 @@ module _ {T A : Type 0} (table : RuleTable T A) where
   pub record TakesOff (ledger amount : ℕ) (old new : SeatOf T) : Type 0 where
     pub none : amount ≡ 0 → MakesNone old new
     pub some : 0 < amount → MakesSome (address_of_ledger table ledger) amount 0 old new
+
+  -- What was reserved was given up: the place, and then the charge.
+  abbrev pub GivesUp : (old new : SeatOf T) → Type 0
+  GivesUp old new =
+      (mid : SeatOf T) × IsEvent table (quit_done (view old)) old mid
+      × IsEvent table (waive_done (view mid)) mid new
+
+  -- A standalone entry was made of what was granted; where nothing was, the charge was added first.
+  abbrev pub StandsBy : (granted : Bool) → (name charge : ℕ) → (old new : SeatOf T) → Type 0
+  StandsBy true name charge old new = IsEvent table (stand_done name charge (view old)) old new
+  StandsBy false name charge old new =
+      (used : ℕ) × (mid : SeatOf T)
+      × IsEvent table (charge_done (setup_of (plan_of table)) charge used (view old)) old mid
+      × IsEvent table (stand_done name charge (view mid)) mid new
 
   -- So many freed slots were taken from the occupancy, and then this charge from the usage.
   abbrev pub Settles : (slots charge : ℕ) → (old new : SeatOf T) → Type 0

@@ -1,11 +1,12 @@
 //! What a client freed, or reserved and doesn't use, is given back.
 ghost use Rattle.std.specs.Prelude.{◌≡◌, ◌<◌, ◌≤◌, true};
 ghost use Rattle.hcc_core.specs.World.{is_placed};
-ghost use Rattle.hcc_rule.specs.Callers.{IsSeatAt};
+ghost use Rattle.hcc_rule.specs.Callers.{IsEvent, IsSeatAt};
+ghost use Rattle.hcc_rule.specs.Events.{quit_done};
 ghost use Rattle.hcc_rule.specs.Seats.{IsSameSeat, view};
 ghost use Rattle.hcc_rule.specs.declared.layout.TheConstants.{OCCUPANCY, USAGE};
-ghost use Rattle.hcc_charge.specs.Settled.{paid, placed_anew, settled, without_place, HasFreedNothing, Settles, TakesOff};
-ghost use Rattle.hcc_table.specs.Seeking.{is_booking, is_settling, GoesOnBy};
+ghost use Rattle.hcc_charge.specs.Settled.{paid, placed_anew, settled, without_place, GivesUp, HasFreedNothing, Settles, TakesOff};
+ghost use Rattle.hcc_table.specs.Seeking.{is_settling, GoesOnBy};
 ghost use Rattle.hcc_table.specs.Steps.{Adds, MakesAtMost};
 
 use hcc_rule::{RuleSeat, RuleTable, Tag};
@@ -48,7 +49,7 @@ pub fn give_up<T: Tag, A: Allocator>(table: &RuleTable<T, A>, seat: &mut RuleSea
     requires some { 0 < charge }
     ensures seat { IsSameSeat seat.old seat.new }
     ensures view { view seat.new ≡ without_place 0 (view seat.old) }
-    ensures by { GoesOnBy table.now is_booking seat.old seat.new }
+    ensures by { GivesUp table.now seat.old seat.new }
     ensures adds { Adds seat.old seat.new }
     ensures steps { MakesAtMost 2 seat.old seat.new }
 {
@@ -65,7 +66,7 @@ pub fn keep_charge<T: Tag, A: Allocator>(table: &RuleTable<T, A>, seat: &mut Rul
     requires none { (view seat.old).work.freed_slots ≡ 0 }
     ensures seat { IsSameSeat seat.old seat.new }
     ensures view { view seat.new ≡ without_place (view seat.old).work.granted (view seat.old) }
-    ensures by { GoesOnBy table.now is_booking seat.old seat.new }
+    ensures by { IsEvent table.now (quit_done (view seat.old)) seat.old seat.new }
     ensures adds { Adds seat.old seat.new }
     ensures steps { MakesAtMost 1 seat.old seat.new }
 {

@@ -6,8 +6,7 @@ ghost use Rattle.hcc_core.specs.declared.limits.TheConstants.{MOST_HANDLES};
 ghost use Rattle.hcc_core.specs.Ledgers.{is_standing};
 ghost use Rattle.hcc_rule.specs.Callers.{is_strict, IsSeatAt};
 ghost use Rattle.hcc_rule.specs.Seats.{IsSameSeat, view};
-ghost use Rattle.hcc_charge.specs.Settled.{fallen, stood};
-ghost use Rattle.hcc_table.specs.Seeking.{is_booking, GoesOnBy};
+ghost use Rattle.hcc_charge.specs.Settled.{fallen, stood, StandsBy};
 ghost use Rattle.hcc_table.specs.Steps.{Adds, MakesAtMost};
 ghost use Rattle.hcc_table.specs.Still.{GoesOnStill};
 
@@ -37,7 +36,7 @@ pub fn standalone_in<T: Tag, A: Allocator>(
     requires few { length (view seat.old).work.standalones < MOST_HANDLES }
     ensures seat { IsSameSeat seat.old seat.new }
     ensures view { view seat.new ≡ stood name charge (view seat.old) }
-    ensures by { GoesOnBy table.now is_booking seat.old seat.new }
+    ensures by { StandsBy table.now granted name charge seat.old seat.new }
     ensures adds { Adds seat.old seat.new }
     ensures steps { MakesAtMost 2 seat.old seat.new }
 {
