@@ -83,6 +83,12 @@ module _ {T A : Type 0} (table : RuleTable T A) where
       × IsEvent table (charge_done (setup_of (plan_of table)) charge used (view old)) old mid
       × IsEvent table (stand_done name charge (view mid)) mid new
 
+  -- One was made of what was reserved: the place was given up, and the charge stays.
+  abbrev pub KeepsAlone : (name charge : ℕ) → (old new : SeatOf T) → Type 0
+  KeepsAlone name charge old new =
+      (mid : SeatOf T) × IsEvent table (quit_done (view old)) old mid
+      × StandsBy true name charge mid new
+
   -- So many freed slots were taken from the occupancy, and then this charge from the usage.
   abbrev pub Settles : (slots charge : ℕ) → (old new : SeatOf T) → Type 0
   Settles slots charge old new =

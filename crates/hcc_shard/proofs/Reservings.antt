@@ -12,8 +12,10 @@ use Rattle.hcc_rule.specs.declared.view.Atomic.{Atomic}
 use Rattle.hcc_rule.specs.declared.view.Made.{Made}
 use Rattle.hcc_rule.specs.declared.view.Record.{Record}
 use Rattle.hcc_rule.specs.declared.view.View.{View}
-use Rattle.hcc_rule.specs.Callers.{slots_of}
+use Rattle.hcc_rule.specs.Callers.{plan_of, slots_of}
 use Rattle.hcc_rule.specs.Addresses.{address_of_meta}
+use Rattle.hcc_rule.specs.Events.{charge_done, quit_done, stand_done, waive_done}
+use Rattle.hcc_rule.specs.Rule.{setup_of}
 use Rattle.hcc_rule.specs.Seats.{SeatOf, atomic, made, steps, view}
 use Rattle.hcc_rule.specs.ToldOwners.{after_show, first_word, made_of}
 use Rattle.hcc_rule.specs.Views.{Each}
@@ -26,12 +28,13 @@ use Rattle.hcc_table.specs.Rises.{Rose}
 use Rattle.hcc_table.specs.Inserted.{IsPlaced, Meets, Tried}
 use Rattle.hcc_table.specs.Searched.{Buried}
 use Rattle.hcc_table.proofs.Logs.{adds_none, adds_then, ends_adds}
-use Rattle.hcc_table.proofs.Seeking.{goes_none}
+use Rattle.hcc_table.proofs.Seeking.{goes_event, goes_none, goes_then}
 use Rattle.hcc_table.specs.Steps.{Adds, Among, Ends, MakesAtMost, MakesFor}
 use Rattle.hcc_table.specs.Seeking.{GoesOnBy, is_booking}
 use Rattle.hcc_table.specs.Tries.{Inserts}
 use Rattle.hcc_charge.specs.declared.reserving.Refused.{Refused}
 use Rattle.hcc_charge.specs.declared.reserving.Refused.TheVariants.{TooLarge, CapacityFull, OccupancyFull}
+use Rattle.hcc_charge.specs.declared.reserving.Reservation.{Reservation}
 use Rattle.hcc_charge.specs.declared.reserving.Reservation.TheVariants.{Reserved, NoPlace}
 use Rattle.hcc_charge.specs.Asked.{EvictsBy, EvictsNothing}
 use Rattle.hcc_charge.specs.Evicted.{asking, evicting, most_turns, sweeping}
@@ -40,7 +43,7 @@ use Rattle.hcc_charge.proofs.Askings.{between_is, keeps_by, keeps_then}
 use Rattle.hcc_shard.specs.declared.seat.ShardSeat.{ShardSeat}
 use Rattle.hcc_shard.specs.declared.shard.Shard.{Shard}
 use Rattle.hcc_shard.specs.Inserted.{RefusedBy, Tries, inserting, inserting_between}
-use Rattle.hcc_shard.specs.Reserving.{CountsSlots, IsLeftFor, LeavesOut, PutsIn, Refuses, TriesEach, TriesFrom, left_out}
+use Rattle.hcc_shard.specs.Reserving.{CountsSlots, EndsBy, IsLeftFor, LeavesOut, PutsIn, Refuses, TriesEach, TriesFrom, left_out}
 
 -- Turns and what they took are within what an eviction may do.
 sweeping_within : (slots turns freed : ℕ) → turns ≤ most_turns slots → freed ≤ 4 * turns
@@ -179,6 +182,26 @@ module _ {T A : Type 0} (shard : Shard T A) (draft : Draft) where
       boosts = boosts;
     }
 
+    -- What comes behind the tries keeps what was reserved, or gives it back.
+    ends_book : (keeps : Bool) (told : Reservation) (a b : SeatOf T)
+        → EndsBy shard draft keeps told a b → GoesOnBy shard.table is_booking a b
+    ends_book false Reserved a b h =
+        goes_then shard.table is_booking a h.0 b
+        (goes_event shard.table is_booking (quit_done (view a)) a h.0 h.1 refl)
+        (goes_event shard.table is_booking (waive_done (view h.0)) h.0 b h.2 refl)
+    ends_book false NoPlace a b h = goes_none shard.table is_booking a b h
+    ends_book true Reserved a b h =
+        goes_then shard.table is_booking a h.0 b
+        (goes_event shard.table is_booking (quit_done (view a)) a h.0 h.1 refl)
+        (goes_event shard.table is_booking (stand_done draft.serial draft.charge (view h.0)) h.0 b
+        h.2 refl)
+    ends_book true NoPlace a b h =
+        goes_then shard.table is_booking a h.1 b
+        (goes_event shard.table is_booking
+        (charge_done (setup_of (plan_of shard.table)) draft.charge h.0 (view a)) a h.1 h.2 refl)
+        (goes_event shard.table is_booking (stand_done draft.serial draft.charge (view h.1)) h.1 b
+        h.3 refl)
+
     -- What was tried from where the reservation ended.
     tries_from : (answer : Insertion) (mid between new : ShardSeat T)
         → TriesEach fits shard draft answer mid between → new.effort ≡ between.effort
@@ -206,6 +229,7 @@ module _ {T A : Type 0} (shard : Shard T A) (draft : Draft) where
         mid.seat new.seat
         → TriesEach fits shard draft (Placed slot) mid new
         → new.boosts ≡ old.boosts → PutsIn fits shard draft slot old new
+    unfolding tries_from
     puts_in {i = i} slot value old mid new r lost counts evicts told last tries boosts = record {
       reserves = record {
         reserved = mid.seat;
@@ -226,6 +250,7 @@ module _ {T A : Type 0} (shard : Shard T A) (draft : Draft) where
       tries =
           tries_from (Placed slot) mid new new tries refl (adds_none new.seat new.seat refl)
           (goes_none shard.table is_booking new.seat new.seat refl);
+      ends = refl;
       probes =
           slots_from (Placed slot) old mid new new (ap (λ (z : View T). z.saw) r.same) lost.0
           refl refl tries.counts;
@@ -234,7 +259,7 @@ module _ {T A : Type 0} (shard : Shard T A) (draft : Draft) where
 
     -- It was put in none, though a place was reserved,
     pub leaves_reserved : {slots capacity : ℕ} {strict : Bool} {charge granted : ℕ} {place : Place}
-        (matched : Bool) (old mid between new : ShardSeat T)
+        (matched keeps : Bool) (old mid between new : ShardSeat T)
         → Reserves slots capacity strict charge place granted (view old.seat) (view mid.seat)
         → Lost 0 (4 * most_turns (slots_of shard.table)) old.effort mid.effort
         → new.tally ≡ mid.tally
@@ -247,12 +272,13 @@ module _ {T A : Type 0} (shard : Shard T A) (draft : Draft) where
         → EvictsNothing (view between.seat) (view new.seat)
         → (view new.seat).met ≡ (view between.seat).met
         → (view new.seat).saw ≡ (view between.seat).saw → Adds between.seat new.seat
-        → GoesOnBy shard.table is_booking between.seat new.seat
+        → EndsBy shard draft keeps Reserved between.seat new.seat
         → Rose (when matched 1) (when matched 1) old.boosts new.boosts
         → TriesEach fits shard draft (left_out matched) mid between → new.effort ≡ between.effort
-        → LeavesOut fits shard draft old new
-    leaves_reserved matched old mid between new r lost counts evicts tried adds why idle met saw
-        behind books boosts tries same = record {
+        → LeavesOut fits shard draft keeps old new
+    unfolding tries_from
+    leaves_reserved matched keeps old mid between new r lost counts evicts tried adds why idle met
+        saw behind ends boosts tries same = record {
           told = Reserved;
           matched = matched;
           reserves = record {
@@ -271,7 +297,10 @@ module _ {T A : Type 0} (shard : Shard T A) (draft : Draft) where
           why =
               left_from matched old mid between new (ap (λ (z : View T). z.met) r.same) first met
               saw why;
-          tries = tries_from (left_out matched) mid between new tries same behind books;
+          tries =
+              tries_from (left_out matched) mid between new tries same behind
+              (ends_book keeps Reserved between.seat new.seat ends);
+          ends = ends;
           probes =
               slots_from (left_out matched) old mid between new first lost.0 saw same
               tries.counts;
@@ -283,15 +312,15 @@ module _ {T A : Type 0} (shard : Shard T A) (draft : Draft) where
 
     -- or no place was.
     pub leaves_unreserved : {slots capacity : ℕ} {strict : Bool} {charge granted : ℕ}
-        {place : Place} (old new : ShardSeat T) (a : SeatOf T)
+        {place : Place} (keeps : Bool) (old new : ShardSeat T) (a : SeatOf T)
         → Reserves slots capacity strict charge place granted (view old.seat) (view a)
         → EvictsBy fits shard.table draft.charge (Ok NoPlace) old.tally new.tally
         old.effort new.effort old.seat a
         → EvictsNothing (view a) (view new.seat) → (view new.seat).saw ≡ (view a).saw
-        → Adds a new.seat → GoesOnBy shard.table is_booking a new.seat
+        → Adds a new.seat → EndsBy shard draft keeps NoPlace a new.seat
         → new.effort.probes ≡ old.effort.probes → new.boosts ≡ old.boosts
-        → LeavesOut fits shard draft old new
-    leaves_unreserved old new a r evicts idle saw behind books probes boosts = record {
+        → LeavesOut fits shard draft keeps old new
+    leaves_unreserved keeps old new a r evicts idle saw behind ends probes boosts = record {
       told = NoPlace;
       matched = false;
       reserves = record {
@@ -302,7 +331,8 @@ module _ {T A : Type 0} (shard : Shard T A) (draft : Draft) where
         rest = λ less. behind;
       };
       why = (refl, saw ∙ ap (λ (z : View T). z.saw) r.same, probes);
-      tries = (refl, books);
+      tries = (refl, ends_book keeps NoPlace a new.seat ends);
+      ends = ends;
       probes = (
         0,
         (let before = ap (λ (z : View T). z.saw) r.same in omega arith),

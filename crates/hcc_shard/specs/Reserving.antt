@@ -21,6 +21,7 @@ use Rattle.hcc_charge.specs.declared.reserving.Reservation.{Reservation}
 use Rattle.hcc_charge.specs.declared.reserving.Reservation.TheVariants.{Reserved, NoPlace}
 use Rattle.hcc_charge.specs.declared.reserving.Refused.{Refused}
 use Rattle.hcc_charge.specs.Asked.{EvictsBy, EvictsNothing}
+use Rattle.hcc_charge.specs.Settled.{GivesUp, KeepsAlone, StandsBy}
 use Rattle.hcc_shard.specs.declared.inserting.Inserted.{Inserted}
 use Rattle.hcc_shard.specs.declared.inserting.Inserted.TheVariants as inserted
 use Rattle.hcc_shard.specs.declared.inserting.Pinned.{Pinned}
@@ -51,6 +52,15 @@ module _ {T A : Type 0} (shard : Shard T A) (draft : Draft) where
   IsLeftFor NoPlace matched old new =
       (matched ≡ false) × ((view new.seat).saw ≡ (view old.seat).saw)
       × (new.effort.probes ≡ old.effort.probes)
+
+  -- What came last, event by event: what was reserved was given up; or a standalone entry
+  -- was made of the charge, which stays or is added first.
+  abbrev pub EndsBy : (keeps : Bool) → Reservation → (old new : SeatOf T) → Type 0
+  EndsBy false Reserved old new = GivesUp shard.table old new
+  EndsBy false NoPlace old new = new ≡ old
+  EndsBy true Reserved old new = KeepsAlone shard.table draft.serial draft.charge old new
+  EndsBy true NoPlace old new =
+      StandsBy shard.table false draft.serial draft.charge old new
 
 module _ {T A : Type 0} (fits : T → Key → List ℕ → Type 0) (shard : Shard T A) (draft : Draft) where
   -- An insertion began with a reservation, which answered this, evicted just what it asked for,
@@ -90,6 +100,13 @@ module _ {T A : Type 0} (fits : T → Key → List ℕ → Type 0) (shard : Shar
   TriesWhere NoPlace reserved counted answer new =
       (new.effort ≡ counted) × GoesOnBy shard.table is_booking reserved new.seat
 
+  -- the seat at which the tries ended, or the reservation where nothing was tried
+  abbrev pub tried_last : (told : Reservation) (reserved : SeatOf T) (counted : Effort)
+      (answer : Insertion) (new : ShardSeat T) → TriesWhere told reserved counted answer new
+      → SeatOf T
+  tried_last Reserved reserved counted answer new tries = tries.done
+  tried_last NoPlace reserved counted answer new tries = reserved
+
   -- The entry was put in this slot, probe i of its key: the i probes before it were taken, and each
   -- entry of the key that the client holds there is dead to it. The last step showed the entry by
   -- the word that its draft says.
@@ -104,16 +121,20 @@ module _ {T A : Type 0} (fits : T → Key → List ℕ → Type 0) (shard : Shar
         (atomic (address_of_meta shard.table slot) (first_word draft) 0 (first_word draft))
         reserves.reserved new.seat
     pub tries : TriesFrom reserves.reserved reserves.counted (Placed slot) new
+    pub ends : new.seat ≡ tries.done
     pub probes : CountsSlots (Placed slot) old new
     pub boosts : new.boosts ≡ old.boosts
 
-  -- The entry was put in no slot. A match is counted among the boosts, and nothing else is.
-  pub record LeavesOut (old new : ShardSeat T) : Type 0 where
+  -- The entry was put in no slot, and is dropped, or kept as a standalone one. A match is counted
+  -- among the boosts, and nothing else is.
+  pub record LeavesOut (keeps : Bool) (old new : ShardSeat T) : Type 0 where
     pub told : Reservation
     pub matched : Bool
     pub reserves : ReservedAs (Ok told) old new
     pub why : IsLeftFor shard draft told matched old new
     pub tries : TriesWhere told reserves.reserved reserves.counted (left_out matched) new
+    pub ends : EndsBy shard draft keeps told
+        (tried_last told reserves.reserved reserves.counted (left_out matched) new tries) new.seat
     pub probes : CountsSlots (left_out matched) old new
     pub boosts : Rose (when matched 1) (when matched 1) old.boosts new.boosts
 
@@ -128,11 +149,11 @@ module _ {T A : Type 0} (fits : T → Key → List ℕ → Type 0) (shard : Shar
   -- an insertion, by its answer
   abbrev pub InsertedAs : Result Inserted Refused → (old new : ShardSeat T) → Type 0
   InsertedAs (Ok inserted.Placed) old new = (slot : ℕ) × PutsIn slot old new
-  InsertedAs (Ok inserted.Dropped) old new = LeavesOut old new
+  InsertedAs (Ok inserted.Dropped) old new = LeavesOut false old new
   InsertedAs (Err why) old new = Refuses why old new
 
   -- one that keeps a reference
   abbrev pub PinnedAs : Result Pinned Refused → (old new : ShardSeat T) → Type 0
   PinnedAs (Ok (pinned.Placed pin)) old new = PutsIn pin.slot old new
-  PinnedAs (Ok pinned.Standalone) old new = LeavesOut old new
+  PinnedAs (Ok pinned.Standalone) old new = LeavesOut true old new
   PinnedAs (Err why) old new = Refuses why old new

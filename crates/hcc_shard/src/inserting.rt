@@ -13,12 +13,11 @@ ghost use Rattle.hcc_table.specs.declared.inserting.Insertion.TheVariants.{Place
 ghost use Rattle.hcc_table.specs.Efforts.{Took};
 ghost use Rattle.hcc_table.specs.Rises.{Rose};
 ghost use Rattle.hcc_table.specs.Inserted.{MayInsert};
-ghost use Rattle.hcc_table.specs.Seeking.{is_booking, GoesOnBy};
 ghost use Rattle.hcc_table.specs.Steps.{Adds, Ends, MakesAtMost, MakesFor};
 ghost use Rattle.hcc_charge.specs.declared.reserving.Refused.TheVariants.{TooLarge};
 ghost use Rattle.hcc_charge.specs.declared.reserving.Reservation.TheVariants.{Reserved};
 ghost use Rattle.hcc_charge.specs.Evicted.{most_turns};
-ghost use Rattle.hcc_charge.specs.Settled.{HasFreedNothing, stood, without_place};
+ghost use Rattle.hcc_charge.specs.Settled.{HasFreedNothing, KeepsAlone, stood, without_place};
 ghost use Rattle.hcc_shard.specs.Inserted.{InsertedBy, IsInsertable, PinnedBy, PutBy, inserting, inserting_between};
 ghost use Rattle.hcc_shard.specs.Reserving.{InsertedAs, IsLeftFor, PinnedAs, TriesEach, left_out};
 ghost use Rattle.hcc_shard.specs.Seated.{Rests};
@@ -257,7 +256,7 @@ fn stand<T: Tag, A: Allocator>(
     requires few { length (view seat.old).work.standalones < MOST_HANDLES }
     ensures seat { IsSameSeat seat.old seat.new }
     ensures view { view seat.new ≡ stood name charge (without_place charge (view seat.old)) }
-    ensures by { GoesOnBy table.now is_booking seat.old seat.new }
+    ensures by { KeepsAlone table.now name charge seat.old seat.new }
     ensures adds { Adds seat.old seat.new }
     ensures steps { MakesAtMost 3 seat.old seat.new }
 {

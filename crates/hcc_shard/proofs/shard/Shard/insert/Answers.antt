@@ -1,12 +1,10 @@
-use Rattle.std.proofs.Common.{◌≡◌, IfSome, ap, refl, sym, subst, arith}
+use Rattle.std.proofs.Common.{false, ◌≡◌, IfSome, ap, refl, sym, subst, arith}
 use Rattle.std.proofs.lemmas.Result.{err_from_is_err_and}
 use Rattle.hcc_rule.specs.declared.view.View.{View}
 use Rattle.hcc_rule.specs.Callers.{capacity_of, geometry_of, is_strict, plan_of, room_of, slots_of}
 use Rattle.hcc_rule.specs.Seats.{view}
 use Rattle.hcc_table.specs.Rises.{Rose}
-use Rattle.hcc_table.specs.Seeking.{is_booking}
 use Rattle.hcc_table.proofs.Logs.{adds_none}
-use Rattle.hcc_table.proofs.Seeking.{goes_none}
 use Rattle.hcc_charge.proofs.Askings.{keeps_by, keeps_then}
 use Rattle.hcc_shard.proofs.Insertions.{left_dropped, left_none, may_insert, refused_by, tries_placed}
 use Rattle.hcc_shard.proofs.Reservings.{few_by, frees_by, idle_placed, idle_tried, leaves_reserved, leaves_unreserved, puts_in, refused_within, refuses, rose_same, tries_within}
@@ -122,7 +120,7 @@ pub returns-in-None-clause-evicts : goal.returns-in-None-clause-evicts
 returns-in-None-clause-evicts g c =
     let told = c.in-None.ensures in
     let r = (rw c.in-Reserved.is at c.in_ok-reserved.ensures.view).0 in
-    leaves_reserved c.args.self.now c.args.draft g.T.Tag.fits told.left.0 c.args.seat.now _
+    leaves_reserved c.args.self.now c.args.draft g.T.Tag.fits told.left.0 false c.args.seat.now _
     c.put.new.seat _ r
     c.in_ok-reserved.ensures.effort c.put.ensures.tally
     (rw c.in-Reserved.is at c.in_ok-reserved.ensures.evicts)
@@ -155,11 +153,11 @@ returns-in-None-clause-steps g c =
 pub returns-in-NoPlace-clause-evicts : goal.returns-in-NoPlace-clause-evicts
 returns-in-NoPlace-clause-evicts g c =
     let r = (rw c.in-NoPlace.is at c.in_ok-reserved.ensures.view).0 in
-    leaves_unreserved c.args.self.now c.args.draft g.T.Tag.fits c.args.seat.now _
+    leaves_unreserved c.args.self.now c.args.draft g.T.Tag.fits false c.args.seat.now _
     c.reserve.new.seat r (rw c.in-NoPlace.is at c.in_ok-reserved.ensures.evicts)
     (record { turns = refl; takings = refl; opened = refl }) refl
     (adds_none c.reserve.new.seat c.reserve.new.seat refl)
-    (goes_none c.args.self.now.table is_booking c.reserve.new.seat c.reserve.new.seat refl)
+    refl
     c.in_ok-reserved.ensures.effort.0 refl
 
 pub returns-in-NoPlace-clause-frees : goal.returns-in-NoPlace-clause-frees

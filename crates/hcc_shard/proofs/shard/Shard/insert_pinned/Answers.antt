@@ -1,4 +1,4 @@
-use Rattle.std.proofs.Common.{◌≡◌, IfSome, ap, ◌∙◌, refl, sym, subst, arith}
+use Rattle.std.proofs.Common.{true, ◌≡◌, IfSome, ap, ◌∙◌, refl, sym, subst, arith}
 use Rattle.std.specs.List.{list_any}
 use Rattle.std.proofs.lemmas.Result.{err_from_is_err_and}
 use Rattle.hcc_core.specs.Ledgers.{is_standing}
@@ -140,7 +140,7 @@ pub returns-in-None-clause-evicts : goal.returns-in-None-clause-evicts
 returns-in-None-clause-evicts g c =
     let told = c.in-None.ensures in
     let r = (rw c.in-Reserved.is at c.in_ok-reserved.ensures.view).0 in
-    leaves_reserved c.args.self.now c.args.draft g.T.Tag.fits told.left.0 c.args.seat.now _
+    leaves_reserved c.args.self.now c.args.draft g.T.Tag.fits told.left.0 true c.args.seat.now _
     c.put.new.seat _ r
     c.in_ok-reserved.ensures.effort c.put.ensures.tally
     (rw c.in-Reserved.is at c.in_ok-reserved.ensures.evicts)
@@ -173,7 +173,7 @@ returns-in-None-clause-steps g c =
 pub returns-in-NoPlace-clause-evicts : goal.returns-in-NoPlace-clause-evicts
 returns-in-NoPlace-clause-evicts g c =
     let r = (rw c.in-NoPlace.is at c.in_ok-reserved.ensures.view).0 in
-    leaves_unreserved c.args.self.now c.args.draft g.T.Tag.fits c.args.seat.now _
+    leaves_unreserved c.args.self.now c.args.draft g.T.Tag.fits true c.args.seat.now _
     c.reserve.new.seat r (rw c.in-NoPlace.is at c.in_ok-reserved.ensures.evicts)
     (keeps_by _ _ (view c.reserve.new.seat) c.standalone_in.ensures.view refl refl refl)
     (ap (λ (z : View g.row.T.Denot). z.saw) c.standalone_in.ensures.view)
