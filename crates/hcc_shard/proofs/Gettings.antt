@@ -1,5 +1,5 @@
 -- The reading of a key's value: the reference that it holds meanwhile.
-use Rattle.std.proofs.Common.{◌≡◌, ℕ, ◌≤◌, Bool, List, Option, None, Some, IfSome, IsSomeAnd, length, ap, subst, ◌∙◌, arith}
+use Rattle.std.proofs.Common.{◌≡◌, ℕ, ◌+◌, ◌*◌, ◌≤◌, Bool, List, Option, None, Some, IfSome, IsSomeAnd, length, ap, subst, ◌∙◌, arith}
 use Rattle.std.proofs.lemmas.Bool.{eq-eqb}
 use Rattle.hcc_core.specs.Outcomes.{dropped}
 use Rattle.hcc_rule.specs.declared.geometry.Geometry.{Geometry}
@@ -21,7 +21,7 @@ use Rattle.hcc_shard.specs.declared.getting.Got.{Got}
 use Rattle.hcc_shard.specs.declared.getting.Got.TheVariants.{Hit, Miss, Short}
 use Rattle.hcc_shard.specs.declared.seat.ShardSeat.{ShardSeat}
 use Rattle.hcc_shard.specs.declared.shard.Shard.{Shard}
-use Rattle.hcc_shard.specs.Gets.{CopiesOut, Gets, ReadsOut}
+use Rattle.hcc_shard.specs.Gets.{CopiesOut, Gets, ReadsOut, loads_of}
 use Rattle.hcc_shard.specs.Seated.{IsQuiet}
 use Rattle.hcc_shard.proofs.Names.{not_kept}
 
@@ -77,6 +77,14 @@ pub words_within : (room count : ℕ) (P : Record → Type 0) (o : Option Record
 words_within room count P None held exact readable = absurd held
 words_within room count P (Some r) held exact readable =
     let short = readable.short in omega (arith, exact, short)
+
+-- So many loads read a value that fits its slot.
+pub loads_within : (room : ℕ) (got : Got) (value before after : List ℕ)
+    → CopiesOut got value before after → length value ≤ 8 * room → loads_of got ≤ room + 1
+loads_within room Miss value before after copies short = absurd copies
+loads_within room (Hit count) value before after copies short =
+    let exact = copies.0 in omega (arith, exact, short)
+loads_within room (Short count) value before after copies short = omega arith
 
 -- A reading that found an entry is one by its answer.
 pub gets_out : {T A : Type 0} (fits : T → Key → List ℕ → Type 0) (shard : Shard T A) (key : Key)

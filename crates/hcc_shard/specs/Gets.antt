@@ -1,13 +1,16 @@
 -- What the reading of a key's value found, copied and gave back.
-use Rattle.std.specs.Prelude.{◌≡◌, ℕ, ◌<◌, ◌≤◌, ◌++◌, Bool, List, None, Some, length, drop}
+use Rattle.std.specs.Prelude.{◌≡◌, ℕ, ◌+◌, ◌<◌, ◌≤◌, ◌++◌, Bool, List, None, Some, length, drop}
 use Rattle.hcc_rule.specs.declared.key.Key.{Key}
 use Rattle.hcc_rule.specs.declared.view.Record.{Record}
 use Rattle.hcc_rule.specs.Callers.{room_of}
 use Rattle.hcc_rule.specs.Seats.{SeatOf, view}
+use Rattle.hcc_rule.specs.Words.{words_for}
 use Rattle.hcc_table.specs.declared.pins.Pin.{Pin}
 use Rattle.hcc_table.specs.Freed.{GivesOnce}
 use Rattle.hcc_table.specs.Pins.{IsOf}
 use Rattle.hcc_table.specs.Searched.{IsFound, IsMissed}
+use Rattle.hcc_table.specs.Seeking.{Seeks}
+use Rattle.hcc_table.specs.Steps.{MakesAtMost}
 use Rattle.hcc_shard.specs.declared.erasing.TheConstants.{IN_FLIGHT}
 use Rattle.hcc_shard.specs.declared.getting.Got.{Got}
 use Rattle.hcc_shard.specs.declared.getting.Got.TheVariants.{Hit, Miss, Short}
@@ -23,10 +26,18 @@ CopiesOut (Hit count) value before after =
 CopiesOut (Short count) value before after =
     (count ≡ length value) × (length before < count) × (after ≡ before)
 
+-- how many loads read a value, by what came of it: one for its length, and where it is copied one
+-- for each of its words
+abbrev pub loads_of : Got → ℕ
+loads_of Miss = 0
+loads_of (Hit count) = words_for count + 1
+loads_of (Short count) = 1
+
 module _ {T A : Type 0} (fits : T → Key → List ℕ → Type 0) (shard : Shard T A) (key : Key)
     (useful : Bool) where
   -- A look-up found an entry of the key, under the name of references that no call keeps. Its value
-  -- was read, and the reference given back.
+  -- was read: by so many steps at most, and all that the seat did in that was what a search does.
+  -- Then the reference was given back.
   pub record ReadsOut (got : Got) (before after : List ℕ) (old new : ShardSeat T) : Type 0 where
     pub pin : Pin
     pub held : ShardSeat T
@@ -38,6 +49,8 @@ module _ {T A : Type 0} (fits : T → Key → List ℕ → Type 0) (shard : Shar
     pub copies : CopiesOut got found.entry.value before after
     pub read : SeatOf T
     pub kept : view read ≡ view_of held
+    pub reads : Seeks shard.table held.seat read
+    pub loads : MakesAtMost (loads_of got) held.seat read
     pub gives : GivesOnce shard.table pin useful read new.seat
     pub counted : new.effort ≡ held.effort
 

@@ -10,7 +10,7 @@ ghost use Rattle.hcc_table.specs.Searched.{Sought};
 ghost use Rattle.hcc_table.specs.Seeking.{Seeks};
 ghost use Rattle.hcc_table.specs.Steps.{MakesAtMost, MakesFor};
 ghost use Rattle.hcc_shard.specs.Counted.{SameEvictions};
-ghost use Rattle.hcc_shard.specs.Gets.{CopiesOut, Gets};
+ghost use Rattle.hcc_shard.specs.Gets.{CopiesOut, Gets, loads_of};
 ghost use Rattle.hcc_shard.specs.Seated.{Rests};
 ghost use Rattle.hcc_shard.specs.Stays.{StaysAt};
 
@@ -93,7 +93,7 @@ fn copy_out<T: Tag, A: Allocator>(
     ensures copies { IsSomeAnd (record_in held.pin.name (view seat.old).records)
         (λ r. CopiesOut result r.entry.value buffer.old buffer.new) }
     ensures seeks { Seeks table.now seat.old seat.new }
-    ensures steps { MakesAtMost (room_of table.now + 1) seat.old seat.new }
+    ensures steps { MakesAtMost (loads_of result) seat.old seat.new }
 {
     let count = read_len(table, seat, held);
     if count > buffer.len() {

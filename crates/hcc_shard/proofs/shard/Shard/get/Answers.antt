@@ -12,7 +12,7 @@ use Rattle.hcc_table.proofs.Lasting.{searches_seek}
 use Rattle.hcc_table.proofs.Releases.{gives_still}
 use Rattle.hcc_table.proofs.Seeking.{goes_then}
 use Rattle.hcc_table.proofs.Still.{seeks_still}
-use Rattle.hcc_shard.proofs.Gettings.{gets_out, got_back, got_copied, got_pinned, got_readable, none_in_flight}
+use Rattle.hcc_shard.proofs.Gettings.{gets_out, got_back, got_copied, got_pinned, got_readable, loads_within, none_in_flight}
 use Rattle.hcc_shard.proofs.Names.{load_is}
 use Rattle.hcc_shard.proofs.Resting.{quiet_sought, rests_again}
 use Rattle.hcc_shard.proofs.shard.Shard.get.Goals as goal
@@ -87,6 +87,14 @@ returns-in-Some g c =
     let made = searched.steps in
     let read = c.copy_out-got.ensures.steps in
     let gave = c.give_back.ensures.steps in
+    let copied =
+    got_copied g.T.Tag.fits (room_of table) IN_FLIGHT pin c.args.key v w told.found.0 fresh
+    told.found.1
+    (λ r. CopiesOut c.copy_out-got.result r.entry.value c.args.buffer.now
+    c.copy_out-got.new.buffer) told.pin.1 c.copy_out-got.ensures.copies in
+    let few =
+    loads_within (room_of table) c.copy_out-got.result told.found.0.entry.value c.args.buffer.now
+    c.copy_out-got.new.buffer copied told.found.1.short in
     record {
       seat =
           rests_again _ old _ c.requires.seat
@@ -105,13 +113,11 @@ returns-in-Some g c =
             found = told.found.0;
             finds = told.found.1;
             of = (told.found.1.on, told.found.1.single, told.found.2);
-            copies =
-                got_copied g.T.Tag.fits (room_of table) IN_FLIGHT pin c.args.key v w told.found.0
-                fresh told.found.1
-                (λ r. CopiesOut c.copy_out-got.result r.entry.value c.args.buffer.now
-                c.copy_out-got.new.buffer) told.pin.1 c.copy_out-got.ensures.copies;
+            copies = copied;
             read = c.copy_out-got.new.seat;
             kept = c.copy_out-got.ensures.view;
+            reads = c.copy_out-got.ensures.seeks;
+            loads = c.copy_out-got.ensures.steps;
             gives = gives;
             counted = refl;
           });
