@@ -5,12 +5,13 @@ use Rattle.hcc_rule.specs.declared.key.Key.{Key}
 use Rattle.hcc_rule.specs.declared.layout.TheConstants.{STANDING, USAGE}
 use Rattle.hcc_rule.specs.declared.table.RuleTable.{RuleTable}
 use Rattle.hcc_rule.specs.Callers.{capacity_of, is_strict, slots_of, IsEvent}
-use Rattle.hcc_rule.specs.Events.{usage_done}
+use Rattle.hcc_rule.specs.Events.{standing_done, usage_done}
 use Rattle.hcc_rule.specs.Addresses.{address_of_ledger}
 use Rattle.hcc_rule.specs.Seats.{SeatOf, Makes, view}
 use Rattle.hcc_rule.specs.ToldLedgers.{after_usage}
 use Rattle.hcc_table.specs.declared.efforts.Effort.{Effort}
 use Rattle.hcc_table.specs.Pinned.{CountsHeld}
+use Rattle.hcc_table.specs.Seeking.{Seeks}
 use Rattle.hcc_shard.specs.declared.erasing.TheConstants.{IN_FLIGHT}
 use Rattle.hcc_shard.specs.declared.seat.ShardSeat.{ShardSeat}
 use Rattle.hcc_shard.specs.declared.seat.Stats.{Stats}
@@ -63,22 +64,30 @@ LoadsUsage shard result old new =
     × IsEvent shard.table (usage_done used (view old.seat)) old.seat new.seat
 
 module _ {T A : Type 0} (fits : T → Key → List ℕ → Type 0) (table : RuleTable T A) where
+  -- A slot was looked at, and this charge was counted there. All that the seat did there was to
+  -- search: what it acquired it gave back, and not as a use.
+  pub record CountsAt (slot charge : ℕ) (before after : Effort) (old new : SeatOf T) : Type 0 where
+    pub counts : CountsHeld fits table IN_FLIGHT slot charge before after old new
+    pub seeks : Seeks table old new
+
   -- From this slot on one slot after the other was looked at, and this charge was counted there.
   abbrev pub CountsFrom : (slot : ℕ) → (charges : List ℕ) → (before after : Effort)
       → (old new : SeatOf T) → Type 0
   CountsFrom slot [] before after old new = (after ≡ before) × (new ≡ old)
   CountsFrom slot (charge ∷ more) before after old new =
       (between : Effort) × (mid : SeatOf T)
-      × CountsHeld fits table IN_FLIGHT slot charge before between old mid
+      × CountsAt slot charge before between old mid
       × CountsFrom (slot + 1) more between after mid new
 
 -- What is charged for what is held was counted: the charges that stand, which one load found, and
--- then what was found at each slot in turn.
+-- then what was found at each slot in turn. The seat did nothing else.
 pub record CountsPinned {T A : Type 0} (fits : T → Key → List ℕ → Type 0) (shard : Shard T A)
     (result : ℕ) (old new : ShardSeat T) : Type 0 where
   pub standing : ℕ
   pub loaded : SeatOf T
   pub loads : Makes (address_of_ledger shard.table STANDING) 0 0 standing old.seat loaded
+  pub event : IsEvent shard.table (standing_done standing (view old.seat)) old.seat loaded
+  pub kept : view loaded ≡ view old.seat
   pub charges : List ℕ
   pub all : length charges ≡ slots_of shard.table
   pub counts : CountsFrom fits shard.table 0 charges old.effort new.effort loaded new.seat

@@ -70,7 +70,8 @@ impl<T: Tag, A: Allocator> Shard<T, A> {
     /// What is charged for entries that are held, and for standalone ones: slot by slot, where a
     /// look and then an acquire find that the slot's entry is held. It is at least the charges of
     /// the entries that the client holds, each once, and of its standalone entries; in a shard of
-    /// one client it is these. Each slot is looked at once, in turn.
+    /// one client it is these. Each slot is looked at once, in turn, and what is acquired there is
+    /// given back, not as a use.
     ///
     /// It refuses nothing and allocates nothing. It costs a load, and one for each slot; where that
     /// finds an entry held an add, a load and a subtraction more, with a compare-exchange where the
