@@ -9,18 +9,18 @@ use Rattle.hcc_rule.specs.Images.{BeginsWith}
 use Rattle.hcc_rule.specs.Logs.{HoldsLogged, moves_in}
 use Rattle.hcc_rule.specs.Seats.{SeatOf}
 use Rattle.hcc_rule.specs.NewSeats.{AreNewSeats, AreSeatsWith}
-use Rattle.hcc_rule.specs.Callers.{plan_of}
+use Rattle.hcc_rule.specs.Callers.{id_of, plan_of}
 
 module _ {T A : Type 0} where
   -- the seats of this table's clients, as it was made, from this client on
   abbrev pub AreSeatsAt : RuleTable T A → ℕ → List (SeatOf T) → Type 0
   AreSeatsAt table client seats =
-      AreNewSeats table.table.shared.table_id table.table.shared.key.tag client seats
+      AreNewSeats (id_of table) (plan_of table).tag client seats
 
   -- the same, where client 0 made these entries
   abbrev pub AreSeatsAtWith : RuleTable T A → List ImageEntry → List (SeatOf T) → Type 0
   AreSeatsAtWith table es seats =
-      AreSeatsWith table.table.shared.table_id table.table.shared.key.tag es seats
+      AreSeatsWith (id_of table) (plan_of table).tag es seats
 
   -- until a seat of this table makes a step, its words are those of these entries
   abbrev pub OpensWith : (T → Key → List ℕ → Type 0) → RuleTable T A → List ImageEntry → Type 0

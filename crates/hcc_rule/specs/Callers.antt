@@ -1,5 +1,6 @@
 -- What callers say of a table, by its public value alone, and of the view of a seat at it.
 use Rattle.std.specs.Prelude.{◌≡◌, ℕ, ◌<◌, Bool, IsSomeAnd}
+use Rattle.atomic_table.specs.Seated.{TableId}
 use Rattle.hcc_rule.specs.declared.addresses.SlotAt.{SlotAt}
 use Rattle.hcc_rule.specs.declared.geometry.Geometry.{Geometry}
 use Rattle.hcc_rule.specs.declared.layout.TheConstants.{DATA}
@@ -13,9 +14,13 @@ use Rattle.hcc_rule.specs.Records.{record_in}
 use Rattle.hcc_rule.specs.Words.{field_at}
 
 module _ {T A : Type 0} where
+  -- which table it is; each seat has that of its own
+  abbrev pub id_of : RuleTable T A → TableId
+  id_of table = table.words.table.shared.table_id
+
   -- its sizes, its rule of capacity and its tag
   abbrev pub plan_of : RuleTable T A → Plan T
-  plan_of table = table.table.shared.key
+  plan_of table = table.words.table.shared.key
 
   abbrev pub geometry_of : RuleTable T A → Geometry
   geometry_of table = table.geometry
@@ -37,7 +42,7 @@ module _ {T A : Type 0} where
 
   -- a seat at this table that stands for a client
   abbrev pub IsSeatAt : RuleTable T A → SeatOf T → Type 0
-  IsSeatAt table seat = IsSeatOf table.table.shared.table_id table.table.shared.key.tag seat
+  IsSeatAt table seat = IsSeatOf (id_of table) (plan_of table).tag seat
 
   -- the seat's step was this event with this reply, and the machine allows all that the seat knows
   abbrev pub IsEvent : RuleTable T A → Done → (old new : SeatOf T) → Type 0

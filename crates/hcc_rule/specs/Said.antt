@@ -6,7 +6,7 @@ use Rattle.hcc_rule.specs.declared.key.Key.{Key}
 use Rattle.hcc_rule.specs.declared.table.RuleTable.{RuleTable}
 use Rattle.hcc_rule.specs.declared.view.Done.{Done}
 use Rattle.hcc_rule.specs.Acts.{Acts, Follows, IsAllowed, past}
-use Rattle.hcc_rule.specs.Callers.{clients_of, plan_of, IsSeatAt}
+use Rattle.hcc_rule.specs.Callers.{clients_of, id_of, plan_of, IsSeatAt}
 use Rattle.hcc_rule.specs.Logs.{known_of}
 use Rattle.hcc_rule.specs.Seats.{SeatOf, Makes}
 use Rattle.hcc_rule.specs.Told.{Held}
@@ -14,8 +14,7 @@ use Rattle.hcc_rule.specs.Told.{Held}
 module _ {T A : Type 0} where
   -- the step of an operation at this address, with these operands
   abbrev pub step_of : RuleTable T A → (address first second : ℕ) → Step (Unit {0})
-  step_of table address first second = step table.table.shared.table_id.slots address first second
-      none
+  step_of table address first second = step (id_of table).slots address first second none
 
   -- what it tells, of the word that it found, of the seat after it and of its event
   abbrev pub tells : (Step (Unit {0}) → Held T → ℕ → Held T → Option Done → Type 0) → RuleTable T A
@@ -27,9 +26,8 @@ module _ {T A : Type 0} where
   abbrev pub May : (T → Key → List ℕ → Type 0) → RuleTable T A → SeatOf T → (address : ℕ) → (ℕ → ℕ)
       → (ℕ → Held T → Option Done → Type 0) → Type 0
   May fits table seat address f told =
-      IsSeatAt table seat × (address < table.table.shared.table_id.words)
-      × Acts fits table.table.shared.key table.table.shared.table_id.slots seat.id
-      (known_of seat.me) address f told
+      IsSeatAt table seat × (address < (id_of table).words)
+      × Acts fits (plan_of table) (id_of table).slots seat.id (known_of seat.me) address f told
 
   -- it was done, as one step more of the seat that found this, and that is told
   abbrev pub Did : (Step (Unit {0}) → Held T → ℕ → Held T → Option Done → Type 0) → RuleTable T A

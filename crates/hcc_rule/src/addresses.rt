@@ -1,7 +1,7 @@
 //! Addresses of a slot's words.
 ghost use Rattle.std.specs.Prelude.{◌≡◌, ◌+◌, ◌<◌};
 ghost use Rattle.hcc_rule.specs.declared.layout.TheConstants.{SLOT_HEAD, DATA, PAYLOAD};
-ghost use Rattle.hcc_rule.specs.Callers.{IsSlotAt};
+ghost use Rattle.hcc_rule.specs.Callers.{id_of, IsSlotAt};
 ghost use Rattle.hcc_rule.specs.Words.{field_at};
 
 use crate::key::Tag;
@@ -35,7 +35,7 @@ impl<T: Tag, A: Allocator> RuleTable<T, A> {
         requires at { IsSlotAt self.now at }
         requires head { field < DATA }
         ensures value { result ≡ field_at self.now.geometry.room at.slot field }
-        ensures inside { result < self.now.table.shared.table_id.words }
+        ensures inside { result < (id_of self.now).words }
     {
         at.data - (DATA - field)
     }
@@ -46,7 +46,7 @@ impl<T: Tag, A: Allocator> RuleTable<T, A> {
         requires at { IsSlotAt self.now at }
         requires within { index < PAYLOAD + self.now.geometry.room }
         ensures value { result ≡ field_at self.now.geometry.room at.slot (DATA + index) }
-        ensures inside { result < self.now.table.shared.table_id.words }
+        ensures inside { result < (id_of self.now).words }
     {
         at.data + index
     }
@@ -56,7 +56,7 @@ impl<T: Tag, A: Allocator> RuleTable<T, A> {
     pub(crate) fn address(&self, slot: u32, field: usize) -> usize
         requires { (slot < self.now.geometry.slots) × (field < self.now.geometry.room + SLOT_HEAD) }
         ensures value { result ≡ field_at self.now.geometry.room slot field }
-        ensures inside { result < self.now.table.shared.table_id.words }
+        ensures inside { result < (id_of self.now).words }
     {
         slot as usize * self.stride + field
     }

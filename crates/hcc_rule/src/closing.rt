@@ -52,13 +52,13 @@ impl<T: Tag, A: Allocator> RuleTable<T, A> {
         ensures allowed { IsAllowed (plan_of self) (past seat) }
     {
         let RuleTable {
-            table,
+            words,
             geometry,
             stride: _,
             capacity: _,
             strict: _,
         } = self;
-        ClosedTable::of(table.close_with(seat), geometry)
+        ClosedTable::of(words.close(seat), geometry)
     }
 }
 

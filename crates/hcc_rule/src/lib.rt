@@ -18,6 +18,7 @@ mod rule;
 mod steps;
 mod table;
 mod view;
+mod words;
 
 pub use addresses::SlotAt;
 pub use closed::ClosedTable;

@@ -15,7 +15,7 @@ use crate::key::Tag;
 use crate::layout::SLOT_HEAD;
 use crate::rule::Plan;
 use crate::table::{RuleSeat, RuleTable};
-use atomic_table::Table;
+use crate::words::Words;
 use std::alloc::{AllocError, Allocator};
 use std::snapshot::Snapshot;
 
@@ -156,10 +156,10 @@ impl<T: Tag, A: Allocator> RuleTable<T, A> {
     {
         let (geometry, capacity, strict) = (plan.geometry, plan.capacity, plan.strict);
         let words = words_with(alloc.clone()?, geometry, image)?;
-        let (table, seat) = Table::of_words(alloc, words.as_slice(), &plan)?;
+        let (words, seat) = Words::new(alloc, words.as_slice(), &plan)?;
         Ok((
             RuleTable {
-                table,
+                words,
                 geometry,
                 stride: geometry.room as usize + SLOT_HEAD,
                 capacity,

@@ -1,7 +1,7 @@
 //! One function for each kind of step, and what it shows its seat.
-mod atomics;
 mod bits;
 mod counters;
+mod does;
 mod frees;
 mod hand;
 mod ledgers;
@@ -10,9 +10,9 @@ mod occupancy;
 mod owners;
 mod reads;
 mod references;
-mod seats;
 mod shows;
 mod standing;
 mod trails;
 
+pub(crate) use does::{Does, End, Start};
 pub use shows::Draft;

@@ -6,25 +6,25 @@ ghost use Rattle.hcc_rule.specs.Words.{word_count};
 
 use crate::geometry::Geometry;
 use crate::key::Tag;
-use crate::rule::{Plan, ShardRule};
 use crate::view::Logged;
-use atomic_table::{Seat, Table};
+use crate::words::Words;
+use atomic_table::Seat;
 use std::alloc::Allocator;
 
 /// The words of a shard, which change only by the steps of its seats.
 #[derive(Drop)]
 pub struct RuleTable<T: Tag, A: Allocator> {
-    pub(crate) table: Table<(), Logged<T>, Plan<T>, ShardRule<T>, A>,
+    pub(crate) words: Words<T, A>,
     pub(crate) geometry: Geometry,
     /// How many words a slot has.
     pub(crate) stride: usize,
     pub(crate) capacity: u64,
     pub(crate) strict: bool,
-    ghost sized: { table.shared.table_id.words ≡ word_count geometry.slots geometry.room },
+    ghost sized: { words.table.shared.table_id.words ≡ word_count geometry.slots geometry.room },
     ghost strided: { stride ≡ geometry.room + SLOT_HEAD },
-    ghost slotless: { table.shared.table_id.slots ≡ 0 },
-    ghost planned: { (table.shared.key.geometry ≡ geometry) × (table.shared.key.capacity ≡ capacity)
-        × (table.shared.key.strict ≡ strict) },
+    ghost slotless: { words.table.shared.table_id.slots ≡ 0 },
+    ghost planned: { (words.table.shared.key.geometry ≡ geometry)
+        × (words.table.shared.key.capacity ≡ capacity) × (words.table.shared.key.strict ≡ strict) },
     ghost limits: { IsPlanned geometry capacity },
 }
 

@@ -10,7 +10,7 @@ ghost use Rattle.hcc_rule.specs.ToldLedgers.{after_turn};
 
 use crate::key::Tag;
 use crate::layout::HAND;
-use crate::steps::atomics::Does;
+use crate::steps::does::Does;
 use crate::table::{RuleSeat, RuleTable};
 use crate::view::View;
 use hcc_core::limits::SLOTS_PER_TURN;

@@ -4,7 +4,7 @@ ghost use Rattle.hcc_core.specs.Lawful.{real_to};
 ghost use Rattle.hcc_core.specs.World.{charged_to};
 ghost use Rattle.hcc_rule.specs.declared.layout.TheConstants.{LEDGER_WORDS, USAGE};
 ghost use Rattle.hcc_rule.specs.declared.view.Record.{Record};
-ghost use Rattle.hcc_rule.specs.Callers.{capacity_of, clients_of, is_strict, plan_of, IsEvent, IsSeatAt};
+ghost use Rattle.hcc_rule.specs.Callers.{capacity_of, clients_of, id_of, is_strict, plan_of, IsEvent, IsSeatAt};
 ghost use Rattle.hcc_rule.specs.Addresses.{address_of_ledger};
 ghost use Rattle.hcc_rule.specs.Events.{charge_done, settle_done, usage_done, waive_done};
 ghost use Rattle.hcc_rule.specs.Rule.{setup_of};
@@ -16,7 +16,7 @@ ghost use Rattle.hcc_rule.specs.Words.{ledger_at};
 
 use crate::key::Tag;
 use crate::layout::USAGE;
-use crate::steps::atomics::Does;
+use crate::steps::does::Does;
 use crate::table::{RuleSeat, RuleTable};
 use crate::view::View;
 use std::alloc::Allocator;
@@ -46,7 +46,7 @@ impl<T: Tag, A: Allocator> RuleTable<T, A> {
     pub(crate) fn ledger(&self, ledger: usize) -> usize
         requires { ledger < LEDGER_WORDS }
         ensures value { result ≡ ledger_at self.now.geometry.slots self.now.geometry.room ledger }
-        ensures inside { result < self.now.table.shared.table_id.words }
+        ensures inside { result < (id_of self.now).words }
     {
         self.geometry.slots as usize * self.stride + ledger
     }

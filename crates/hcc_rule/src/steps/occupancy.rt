@@ -13,7 +13,7 @@ ghost use Rattle.hcc_rule.specs.Records.{different};
 
 use crate::key::Tag;
 use crate::layout::OCCUPANCY;
-use crate::steps::atomics::Does;
+use crate::steps::does::Does;
 use crate::table::{RuleSeat, RuleTable};
 use crate::view::View;
 use std::alloc::Allocator;

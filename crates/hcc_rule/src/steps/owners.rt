@@ -14,7 +14,7 @@ ghost use Rattle.hcc_rule.specs.ToldOwners.{after_occupy, after_empty, after_wri
 use crate::addresses::SlotAt;
 use crate::key::Tag;
 use crate::layout::META;
-use crate::steps::atomics::Does;
+use crate::steps::does::Does;
 use crate::table::{RuleSeat, RuleTable};
 use crate::view::View;
 use hcc_word::layout::{EMPTY_WORD, OCCUPIED_BIT};

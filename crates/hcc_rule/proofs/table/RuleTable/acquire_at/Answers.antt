@@ -1,4 +1,5 @@
 use Rattle.std.proofs.Common.{ap, is_some}
+use Rattle.hcc_rule.specs.Callers.{plan_of}
 use Rattle.hcc_rule.proofs.References.Acquires.{acquire_step}
 use Rattle.hcc_rule.proofs.table.RuleTable.acquire_at.Goals as goal
 
@@ -9,7 +10,7 @@ fetch_add-requires g c =
     let weight = c.requires.weight in (
       seat,
       c.head_address-address.ensures.inside,
-      rw (← planned.0) (acquire_step g.T.Tag.fits c.args.self.now.table.shared.key _ _
+      rw (← planned.0) (acquire_step g.T.Tag.fits (plan_of c.args.self.now) _ _
           c.args.at.slot _ c.args.weight c.args.name _
           (rw planned.0 c.requires.at.0) (ap is_some seat.tagged)
           (rw planned.0 c.head_address-address.ensures.value)

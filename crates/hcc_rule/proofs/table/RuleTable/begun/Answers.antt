@@ -4,8 +4,8 @@ use Rattle.hcc_rule.specs.ImageLimits.{IsImageFor}
 use Rattle.hcc_rule.proofs.Seats.Openings.{opens_logged}
 use Rattle.hcc_rule.proofs.table.RuleTable.begun.Goals as goal
 
-pub of_words-requires : goal.of_words-requires
-of_words-requires g c =
+pub new-requires : goal.new-requires
+new-requires g c =
     let planned = c.requires.planned in
     let plan = c.args.plan in
     let image : IsImageFor g.T.Tag.fits plan.tag plan.geometry plan.capacity plan.strict

@@ -1,4 +1,5 @@
 use Rattle.std.proofs.Common.{ap, refl, is_some, arith}
+use Rattle.hcc_rule.specs.Callers.{plan_of}
 use Rattle.hcc_rule.proofs.Ledgers.UsageSteps.{charge_step}
 use Rattle.hcc_rule.specs.Rule.{setup_of}
 use Rattle.hcc_rule.proofs.table.RuleTable.charge.Goals as goal
@@ -10,8 +11,8 @@ fetch_add-requires g c =
     let spent = c.requires.spent in (
       seat,
       c.ledger.ensures.inside,
-      charge_step g.T.Tag.fits c.args.self.now.table.shared.key _ _ _ _
+      charge_step g.T.Tag.fits (plan_of c.args.self.now) _ _ _ _
           (ap is_some seat.tagged) (rw planned.0 c.ledger.ensures.value)
-          (setup_of c.args.self.now.table.shared.key) c.args.amount refl (omega arith) spent.0
+          (setup_of (plan_of c.args.self.now)) c.args.amount refl (omega arith) spent.0
           spent.1,
     )

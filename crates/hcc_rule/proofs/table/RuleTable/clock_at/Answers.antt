@@ -1,4 +1,5 @@
 use Rattle.std.proofs.Common.{ap, is_some}
+use Rattle.hcc_rule.specs.Callers.{plan_of}
 use Rattle.hcc_rule.proofs.References.Exchanges.{clock_step}
 use Rattle.hcc_rule.proofs.table.RuleTable.clock_at.Goals as goal
 
@@ -8,7 +9,7 @@ compare_exchange-requires g c =
     let seat = c.requires.seat in (
       seat,
       c.head_address-address.ensures.inside,
-      clock_step g.T.Tag.fits c.args.self.now.table.shared.key _ _ c.args.at.slot _ c.args.old
+      clock_step g.T.Tag.fits (plan_of c.args.self.now) _ _ c.args.at.slot _ c.args.old
           c.args.new _
           (rw planned.0 c.requires.at.0) (ap is_some seat.tagged)
           (rw planned.0 c.head_address-address.ensures.value)

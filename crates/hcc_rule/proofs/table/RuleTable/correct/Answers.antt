@@ -1,4 +1,5 @@
 use Rattle.std.proofs.Common.{ap, is_some}
+use Rattle.hcc_rule.specs.Callers.{plan_of}
 use Rattle.hcc_rule.proofs.References.Exchanges.{correct_step}
 use Rattle.hcc_rule.proofs.table.RuleTable.correct.Goals as goal
 
@@ -8,7 +9,7 @@ compare_exchange-requires g c =
     let seat = c.requires.seat in (
       seat,
       c.address.ensures.inside,
-      correct_step g.T.Tag.fits c.args.self.now.table.shared.key _ _ c.args.slot c.args.name _
+      correct_step g.T.Tag.fits (plan_of c.args.self.now) _ _ c.args.slot c.args.name _
           c.args.old c.args.new _
           (ap is_some seat.tagged) c.ranges.name.fits (rw planned.0 c.address.ensures.value)
           c.requires.holds c.requires.correctable c.requires.corrected,

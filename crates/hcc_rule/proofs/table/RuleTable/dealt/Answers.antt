@@ -1,4 +1,5 @@
 use Rattle.std.proofs.Common.{◌+◌, ap, ◌∙◌}
+use Rattle.hcc_rule.specs.Callers.{id_of, plan_of}
 use Rattle.hcc_rule.specs.declared.view.View.{View}
 use Rattle.hcc_rule.specs.Images.{entries_in, maker_of}
 use Rattle.hcc_rule.specs.Opening.{unstarted}
@@ -18,8 +19,8 @@ pub loop-preserved : goal.loop-preserved
 loop-preserved g c =
     let told = c.split.ensures in
     rw (c.in_ok-push.ensures.items)
-    (deal c.args.self.now.table.shared.table_id c.args.self.now.table.shared.key.tag
-    (maker_of (entries_in c.args.self.now.table.shared.key.image))
+    (deal (id_of c.args.self.now) (plan_of c.args.self.now).tag
+    (maker_of (entries_in (plan_of c.args.self.now).image))
     c.args.self.now.geometry.clients c.loop.counter c.loop.first c.split.new.seat c.split.result
     c.loop.seats.items c.loop.invariant c.loop-test.true told.seat told.left told.new told.right
     told.kept told.none told.moves.0 told.moves.1 told.past.0 told.past.1)

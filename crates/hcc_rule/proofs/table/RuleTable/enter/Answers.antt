@@ -1,4 +1,5 @@
 use Rattle.std.proofs.Common.{ap, refl, is_some}
+use Rattle.hcc_rule.specs.Callers.{plan_of}
 use Rattle.hcc_rule.proofs.Ledgers.OccupancySteps.{enter_step}
 use Rattle.hcc_rule.specs.Rule.{setup_of}
 use Rattle.hcc_rule.proofs.table.RuleTable.enter.Goals as goal
@@ -9,7 +10,7 @@ fetch_add-requires g c =
     let seat = c.requires.seat in (
       seat,
       c.ledger.ensures.inside,
-      enter_step g.T.Tag.fits c.args.self.now.table.shared.key _ _ _ _
+      enter_step g.T.Tag.fits (plan_of c.args.self.now) _ _ _ _
           (ap is_some seat.tagged) (rw planned.0 c.ledger.ensures.value)
-          (setup_of c.args.self.now.table.shared.key) refl c.requires.absent,
+          (setup_of (plan_of c.args.self.now)) refl c.requires.absent,
     )

@@ -1,4 +1,5 @@
 use Rattle.std.proofs.Common.{ap, is_some, arith}
+use Rattle.hcc_rule.specs.Callers.{plan_of}
 use Rattle.hcc_rule.proofs.Ledgers.StandingSteps.{fall_step}
 use Rattle.hcc_rule.proofs.table.RuleTable.fall.Goals as goal
 
@@ -8,7 +9,7 @@ fetch_sub-requires g c =
     let seat = c.requires.seat in (
       seat,
       c.ledger.ensures.inside,
-      fall_step g.T.Tag.fits c.args.self.now.table.shared.key _ _ _ _
+      fall_step g.T.Tag.fits (plan_of c.args.self.now) _ _ _ _
           (ap is_some seat.tagged) (rw planned.0 c.ledger.ensures.value)
           c.args.name c.args.charge (omega arith) c.requires.stood c.requires.room,
     )

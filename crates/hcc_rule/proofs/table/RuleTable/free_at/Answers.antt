@@ -1,4 +1,5 @@
 use Rattle.std.proofs.Common.{ap, is_some}
+use Rattle.hcc_rule.specs.Callers.{plan_of}
 use Rattle.hcc_rule.proofs.Entries.Frees.{free_step}
 use Rattle.hcc_rule.proofs.table.RuleTable.free_at.Goals as goal
 
@@ -8,7 +9,7 @@ compare_exchange-requires g c =
     let seat = c.requires.seat in (
       seat,
       c.head_address-address.ensures.inside,
-      rw (← planned.0) (free_step g.T.Tag.fits c.args.self.now.table.shared.key _ _ c.args.at.slot _
+      rw (← planned.0) (free_step g.T.Tag.fits (plan_of c.args.self.now) _ _ c.args.at.slot _
           _ c.args.name _
           (rw planned.0 c.requires.at.0) (ap is_some seat.tagged)
           (rw planned.0 c.head_address-address.ensures.value) c.requires.entry c.requires.last

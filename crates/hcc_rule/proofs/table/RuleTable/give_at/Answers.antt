@@ -1,4 +1,5 @@
 use Rattle.std.proofs.Common.{ap, is_some}
+use Rattle.hcc_rule.specs.Callers.{plan_of}
 use Rattle.hcc_rule.proofs.References.Gives.{give_step}
 use Rattle.hcc_rule.proofs.table.RuleTable.give_at.Goals as goal
 
@@ -8,7 +9,7 @@ fetch_sub-requires g c =
     let seat = c.requires.seat in (
       seat,
       c.head_address-address.ensures.inside,
-      give_step g.T.Tag.fits c.args.self.now.table.shared.key _ _ c.args.at.slot c.args.name _
+      give_step g.T.Tag.fits (plan_of c.args.self.now) _ _ c.args.at.slot c.args.name _
           c.args.weight _
           (ap is_some seat.tagged) c.ranges.name.fits (rw planned.0
           c.head_address-address.ensures.value)

@@ -1,4 +1,5 @@
 use Rattle.std.proofs.Common.{ap, is_some, arith}
+use Rattle.hcc_rule.specs.Callers.{plan_of}
 use Rattle.hcc_rule.proofs.Seats.Joins.{joins}
 use Rattle.hcc_rule.proofs.Seats.Lifts.{joins_logged}
 use Rattle.hcc_rule.proofs.table.RuleTable.join.Goals as goal
@@ -11,9 +12,9 @@ join_seat-requires g c =
       c.requires.other.table,
       c.requires.other.slots,
       omega arith,
-      joins_logged g.T.Tag.fits c.args.self.now.table.shared.key _ _ _ _ _
+      joins_logged g.T.Tag.fits (plan_of c.args.self.now) _ _ _ _ _
           (ap is_some c.requires.seat.tagged) (ap is_some c.requires.other.tagged)
-          (joins g.T.Tag.fits c.args.self.now.table.shared.key _ _ _ _
+          (joins g.T.Tag.fits (plan_of c.args.self.now) _ _ _ _
           (ap is_some c.requires.seat.tagged)
           (ap is_some c.requires.other.tagged) idle.0 idle.1),
     )

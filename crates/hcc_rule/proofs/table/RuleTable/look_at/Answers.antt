@@ -1,4 +1,5 @@
 use Rattle.std.proofs.Common.{ap, refl, is_some}
+use Rattle.hcc_rule.specs.Callers.{plan_of}
 use Rattle.hcc_rule.proofs.References.Looks.{look_step}
 use Rattle.hcc_rule.specs.Rule.{setup_of}
 use Rattle.hcc_rule.proofs.table.RuleTable.look_at.Goals as goal
@@ -9,8 +10,8 @@ load-requires g c =
     let seat = c.requires.seat in (
       seat,
       c.head_address.ensures.inside,
-      look_step g.T.Tag.fits c.args.self.now.table.shared.key _ _ c.args.at.slot _ _
-          (setup_of c.args.self.now.table.shared.key) refl
+      look_step g.T.Tag.fits (plan_of c.args.self.now) _ _ c.args.at.slot _ _
+          (setup_of (plan_of c.args.self.now)) refl
           (rw planned.0 c.requires.at.0) (ap is_some seat.tagged)
           (rw planned.0 c.head_address.ensures.value),
     )

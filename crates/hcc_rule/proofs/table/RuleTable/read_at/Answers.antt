@@ -1,4 +1,5 @@
 use Rattle.std.proofs.Common.{ap, is_some, sym, ◌∙◌}
+use Rattle.hcc_rule.specs.Callers.{plan_of}
 use Rattle.hcc_rule.proofs.Parts.Addresses.{data_field}
 use Rattle.hcc_rule.proofs.Entries.DataWords.{read_step}
 use Rattle.hcc_rule.proofs.table.RuleTable.read_at.Goals as goal
@@ -9,7 +10,7 @@ load-requires g c =
     let seat = c.requires.seat in (
       seat,
       c.data_address.ensures.inside,
-      read_step g.T.Tag.fits c.args.self.now.table.shared.key _ _ c.args.at.slot c.args.name
+      read_step g.T.Tag.fits (plan_of c.args.self.now) _ _ c.args.at.slot c.args.name
           c.args.index _ _
           (ap is_some seat.tagged) c.ranges.name.fits
           (rw planned.0 (c.data_address.ensures.value

@@ -1,4 +1,5 @@
 use Rattle.std.proofs.Common.{ap, is_some, sym, ◌∙◌}
+use Rattle.hcc_rule.specs.Callers.{plan_of}
 use Rattle.hcc_rule.proofs.Parts.Addresses.{data_field}
 use Rattle.hcc_rule.proofs.Entries.DataWords.{read_own_step}
 use Rattle.hcc_rule.proofs.table.RuleTable.read_own_at.Goals as goal
@@ -9,7 +10,7 @@ load-requires g c =
     let seat = c.requires.seat in (
       seat,
       c.data_address.ensures.inside,
-      read_own_step g.T.Tag.fits c.args.self.now.table.shared.key _ _ c.args.at.slot c.args.index _
+      read_own_step g.T.Tag.fits (plan_of c.args.self.now) _ _ c.args.at.slot c.args.index _
           _ c.requires.owned (ap is_some seat.tagged)
           (rw planned.0 (c.data_address.ensures.value ∙ sym (data_field _ c.args.at.slot
           c.args.index))),

@@ -1,4 +1,5 @@
 use Rattle.std.proofs.Common.{ap, sym, is_some}
+use Rattle.hcc_rule.specs.Callers.{plan_of}
 use Rattle.hcc_rule.proofs.Ledgers.UsageSteps.{settle_step}
 use Rattle.hcc_rule.proofs.table.RuleTable.settle.Goals as goal
 
@@ -9,7 +10,7 @@ fetch_sub-requires g c =
     let amount = c.requires.amount in (
       seat,
       c.ledger.ensures.inside,
-      settle_step g.T.Tag.fits c.args.self.now.table.shared.key _ _ _ _
+      settle_step g.T.Tag.fits (plan_of c.args.self.now) _ _ _ _
           (ap is_some seat.tagged) (rw planned.0 c.ledger.ensures.value)
           c.args.amount (sym amount.0) amount.1 c.requires.covered,
     )

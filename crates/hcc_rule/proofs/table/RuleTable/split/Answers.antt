@@ -1,4 +1,5 @@
 use Rattle.std.proofs.Common.{ap, is_some, arith}
+use Rattle.hcc_rule.specs.Callers.{plan_of}
 use Rattle.hcc_rule.proofs.Seats.Lifts.{splits_logged}
 use Rattle.hcc_rule.proofs.Seats.Splits.{splits}
 use Rattle.hcc_rule.proofs.table.RuleTable.split.Goals as goal
@@ -9,8 +10,8 @@ split_seat-requires g c =
     let sized = c.args.self.now.sized in (
       c.requires.seat.table,
       omega arith,
-      splits_logged g.T.Tag.fits c.args.self.now.table.shared.key _ _ another.0 another.1 _
+      splits_logged g.T.Tag.fits (plan_of c.args.self.now) _ _ another.0 another.1 _
           (ap is_some c.requires.seat.tagged) another.2
-          (splits g.T.Tag.fits c.args.self.now.table.shared.key _ _ _ another.0 another.1
+          (splits g.T.Tag.fits (plan_of c.args.self.now) _ _ _ another.0 another.1
           c.requires.seat.tagged another.2),
     )

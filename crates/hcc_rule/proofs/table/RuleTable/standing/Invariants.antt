@@ -1,6 +1,7 @@
+use Rattle.hcc_rule.specs.Callers.{plan_of}
 use Rattle.hcc_rule.specs.Rule.{setup_of}
 use Rattle.hcc_rule.specs.ToldLedgers.{standings}
 use Rattle.hcc_rule.proofs.table.RuleTable.standing.Given as goal
 
 abbrev pub ghosts-load : goal.ghosts-load
-ghosts-load g a = record { then = standings (setup_of a.self.now.table.shared.key) }
+ghosts-load g a = record { then = standings (setup_of (plan_of a.self.now)) }

@@ -1,4 +1,5 @@
 use Rattle.std.proofs.Common.{ap, is_some}
+use Rattle.hcc_rule.specs.Callers.{plan_of}
 use Rattle.hcc_rule.proofs.Ledgers.HandSteps.{turn_step}
 use Rattle.hcc_rule.proofs.table.RuleTable.turn.Goals as goal
 
@@ -8,6 +9,6 @@ fetch_add-requires g c =
     let seat = c.requires.seat in (
       seat,
       c.ledger.ensures.inside,
-      turn_step g.T.Tag.fits c.args.self.now.table.shared.key _ _ _ _
+      turn_step g.T.Tag.fits (plan_of c.args.self.now) _ _ _ _
           (ap is_some seat.tagged) (rw planned.0 c.ledger.ensures.value),
     )

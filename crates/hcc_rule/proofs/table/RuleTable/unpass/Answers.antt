@@ -1,4 +1,5 @@
 use Rattle.std.proofs.Common.{ap, is_some}
+use Rattle.hcc_rule.specs.Callers.{plan_of}
 use Rattle.hcc_rule.proofs.Ledgers.TrailSteps.{unpass_step}
 use Rattle.hcc_rule.proofs.table.RuleTable.unpass.Goals as goal
 
@@ -8,7 +9,7 @@ fetch_sub-requires g c =
     let seat = c.requires.seat in (
       seat,
       c.address.ensures.inside,
-      unpass_step g.T.Tag.fits c.args.self.now.table.shared.key _ _ c.args.slot _ _
+      unpass_step g.T.Tag.fits (plan_of c.args.self.now) _ _ c.args.slot _ _
           (rw planned.0 c.requires.slot) (ap is_some seat.tagged)
           (rw planned.0 c.address.ensures.value)
           c.requires.passed,

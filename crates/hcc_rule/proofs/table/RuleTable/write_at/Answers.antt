@@ -1,4 +1,5 @@
 use Rattle.std.proofs.Common.{ap, is_some, sym, ◌∙◌}
+use Rattle.hcc_rule.specs.Callers.{plan_of}
 use Rattle.hcc_rule.proofs.Parts.Addresses.{data_field}
 use Rattle.hcc_rule.proofs.Entries.Writes.{write_step}
 use Rattle.hcc_rule.proofs.table.RuleTable.write_at.Goals as goal
@@ -10,7 +11,7 @@ store-requires g c =
     let next = c.requires.next in (
       seat,
       c.data_address.ensures.inside,
-      write_step g.T.Tag.fits c.args.self.now.table.shared.key _ _ c.args.at.slot _ _ _
+      write_step g.T.Tag.fits (plan_of c.args.self.now) _ _ c.args.at.slot _ _ _
           (rw planned.0 c.requires.at.0) (ap is_some seat.tagged) c.requires.owned
           (rw (planned.0, ← next.0) next.1)
           (rw (planned.0, ← next.0) (c.data_address.ensures.value
