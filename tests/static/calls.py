@@ -1,10 +1,11 @@
-"""Checks of who calls what: no call of a running cache waits or allocates, and no public function is
-there for nobody. They go by names, so a call stands for all that it may mean; a function that is handed
-on by its name, and not called there, they don't see.
+"""Checks of who calls what: no call of a running cache waits or allocates, a step makes one atomic
+operation, and no public function is there for nobody. They go by names, so a call stands for all that it
+may mean; a function that is handed on by its name, and not called there, they don't see.
 
 A function of Rattle that may wait has to be given that right by its caller, through a bound `Wait` of
 its own signature, its impl, its type or a trait: so where no code names it, no public signature does.
-That a function allocates doesn't show in its signature: a list has its allocator with it."""
+That a function allocates doesn't show in its signature: a list has its allocator with it. Nor does a
+contract say that a step loads no more words than its log has: a load changes nothing."""
 import contextlib
 import os
 import re
@@ -12,7 +13,7 @@ import shutil
 import tempfile
 
 from crates import crates
-from functions import Code, code_of
+from functions import CALL, Code, code_of, functions_of
 from texts import read
 
 # What users call: these crates and all below them are looked at.
@@ -49,6 +50,15 @@ CALLED_BY_NOBODY = {
     " hcc_rule::Key::from_bytes hcc_table::free_taken hcc_charge::evict",
 }
 
+# The file of hcc_rule that alone reaches a shard's words; what each of its functions calls, and nothing else.
+REACHES = "src/words.rt"
+OPERATIONS = {
+    "new": "of_words", "close": "close_with", "split": "split_seat", "join": "join_seat",
+    **{it: it for it in "load store fetch_add fetch_sub fetch_and fetch_or compare_exchange".split()},
+}
+REACHING = re.compile(r"\bshared\b|\bpeek\b|\bTable\b")
+REPEATS = re.compile(r"\b(?:for|while|loop)\b|\|")
+
 # Plants: a name, then for each change a file, what stands there, and what comes in its place, where @
 # is what stood there.
 LOOKUP = ("hcc_cache/src/lookups.rt", r"pub fn lookup\(\s*&self,", "pub fn lookup<R: Wait>(&self, rt: &R,")
@@ -64,11 +74,22 @@ LOCKS = {
         ("hcc_word/src/lib.rt", "\nmod ", '\nconst A: &str = "\\"//"; fn b(rt: &impl Wait) {} // c@')
     ],
 }
-BODY = r"(pub fn %s\b.*?\n    \{\n)"
+BODY = r"(pub(?:\(crate\))? fn %s\b.*?\n    \{\n)"
 ALLOCATIONS = {
     "a push in a look-up": [("hcc_cache/src/lookups.rt", BODY % "lookup", "@        client.seats.push(seat);\n")],
     "a box in a probe": [("hcc_table/src/acquire.rt", r"(fn reach\b.*?\n\{\n)", "@    let kept = Box::new(Global, 0);\n")],
     "a copy in an erasure": [("hcc_cache/src/erasing.rt", BODY % "erase", "@        let kept = shards.to_vec(alloc);\n")],
+}
+LOADS = {
+    "a load in no log, in a step": [
+        ("hcc_rule/src/steps/looks.rt", BODY % "look_at", "@        self.words.table.shared.peek(0);\n")
+    ],
+    "a load more in an operation": [
+        ("hcc_rule/src/words.rt", BODY % "load", "@        self.words.table.shared.peek(address);\n")
+    ],
+    "an operation in a loop": [
+        ("hcc_rule/src/words.rt", BODY % "store", "@        for _ in 0..self.geometry.slots\n")
+    ],
 }
 # What names locks and is none.
 HARMLESS = ("hcc_word/src/lib.rt", "\nmod ", '\n/// No Wait.\nconst A: &str = "Mutex // \\" lock"; /* Wait */@')
@@ -112,6 +133,21 @@ def no_allocation():
             if it not in way:
                 way[it] = caller
                 due.append(it)
+
+
+def one_operation():
+    """Functions of hcc_rule that name what reaches a shard's words, and stand in another file than those
+    that do; and of these, those that make another operation than that of their name, or one more."""
+    found = {}
+    for it in functions_of(crates()["hcc_rule"]):
+        place = f"crates/hcc_rule/{it.path}: {it.label}"
+        if it.path != REACHES:
+            yield from (f"{place} names {of[0]}" for of in REACHING.finditer(it.body))
+            continue
+        found[it.name] = [call[2] for call in CALL.findall(it.body)]
+        if found[it.name] != [OPERATIONS.get(it.name)] or REPEATS.search(it.body):
+            yield f"{place} isn't one call of {OPERATIONS.get(it.name, 'the table')}"
+    yield from (f"crates/hcc_rule/{REACHES}: there is no {it}" for it in OPERATIONS if it not in found)
 
 
 def is_law(function):
@@ -162,9 +198,9 @@ def changed(changes):
 
 
 def plants():
-    """Plants of the two checks above that they don't find in each file that has one, and in no other; and
-    what is harmless that they find."""
-    for check, plants in ((no_lock, LOCKS), (no_allocation, ALLOCATIONS)):
+    """Plants of the three checks above that they don't find in each file that has one, and in no other;
+    and what is harmless that they find."""
+    for check, plants in ((no_lock, LOCKS), (no_allocation, ALLOCATIONS), (one_operation, LOADS)):
         for name, changes in plants.items():
             with changed(changes) as lacking:
                 files = {it.split(":")[0] for it in check()}

@@ -8,15 +8,15 @@ import sys
 sys.dont_write_bytecode = True
 HERE = os.path.dirname(os.path.realpath(__file__))
 sys.path[:0] = [HERE, os.path.join(HERE, "../edits")]
-from calls import no_allocation, no_lock, plants, unused
+from calls import no_allocation, no_lock, one_operation, plants, unused
 from edit import edits
 from guarantees import guarantees
 from header import layout, wrappers
 from limits import bounds, limits
 from texts import columns, links, words
 
-CHECKS = [columns, words, links, edits, no_lock, no_allocation, plants, unused, guarantees, layout, wrappers, limits,
-          bounds]
+CHECKS = [columns, words, links, edits, no_lock, no_allocation, one_operation, plants, unused, guarantees, layout,
+          wrappers, limits, bounds]
 
 
 def main():
