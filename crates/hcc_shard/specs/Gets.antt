@@ -3,6 +3,7 @@ use Rattle.std.specs.Prelude.{◌≡◌, ℕ, ◌+◌, ◌<◌, ◌≤◌, ◌++
 use Rattle.hcc_rule.specs.declared.key.Key.{Key}
 use Rattle.hcc_rule.specs.declared.view.Record.{Record}
 use Rattle.hcc_rule.specs.Callers.{room_of}
+use Rattle.hcc_rule.specs.Records.{record_in}
 use Rattle.hcc_rule.specs.Seats.{SeatOf, view}
 use Rattle.hcc_rule.specs.Words.{words_for}
 use Rattle.hcc_table.specs.declared.pins.Pin.{Pin}
@@ -11,6 +12,7 @@ use Rattle.hcc_table.specs.Pins.{IsOf}
 use Rattle.hcc_table.specs.Searched.{IsFound, IsMissed}
 use Rattle.hcc_table.specs.Seeking.{Seeks}
 use Rattle.hcc_table.specs.Steps.{MakesAtMost}
+use Rattle.hcc_table.specs.Standing.{FindsLasting}
 use Rattle.hcc_shard.specs.declared.erasing.TheConstants.{IN_FLIGHT}
 use Rattle.hcc_shard.specs.declared.getting.Got.{Got}
 use Rattle.hcc_shard.specs.declared.getting.Got.TheVariants.{Hit, Miss, Short}
@@ -45,6 +47,7 @@ module _ {T A : Type 0} (fits : T → Key → List ℕ → Type 0) (shard : Shar
     pub found : Record
     pub finds : IsFound fits (room_of shard.table) pin.slot IN_FLIGHT key (view_of old)
         (view_of held) found
+    pub holds : record_in IN_FLIGHT (view_of held).records ≡ Some found
     pub of : IsOf pin found
     pub copies : CopiesOut got found.entry.value before after
     pub read : SeatOf T
@@ -61,3 +64,14 @@ module _ {T A : Type 0} (fits : T → Key → List ℕ → Type 0) (shard : Shar
       × SearchesAt fits shard key IN_FLIGHT None old new
   Gets (Hit count) before after old new = ReadsOut (Hit count) before after old new
   Gets (Short count) before after old new = ReadsOut (Short count) before after old new
+
+  -- Of a reading that missed each slot lacked the key once in the call. Of one that found an entry
+  -- that very one was shown once, and each slot of an earlier probe lacked the key once.
+  abbrev pub GotLasting : (got : Got) (before after : List ℕ) (old new : ShardSeat T)
+      → Gets got before after old new → Type 0
+  GotLasting Miss before after old new did =
+      FindsLasting shard.table key IN_FLIGHT None old.seat new.seat
+  GotLasting (Hit count) before after old new did =
+      FindsLasting shard.table key IN_FLIGHT (Some did.pin) old.seat did.held.seat
+  GotLasting (Short count) before after old new did =
+      FindsLasting shard.table key IN_FLIGHT (Some did.pin) old.seat did.held.seat

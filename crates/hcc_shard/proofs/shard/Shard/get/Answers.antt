@@ -9,6 +9,7 @@ use Rattle.hcc_table.specs.Searched.{Sought}
 use Rattle.hcc_table.specs.Still.{is_still}
 use Rattle.hcc_table.proofs.Finds.{seat_then}
 use Rattle.hcc_table.proofs.Lasting.{searches_seek}
+use Rattle.hcc_table.proofs.Probes.{found_held}
 use Rattle.hcc_table.proofs.Releases.{gives_still}
 use Rattle.hcc_table.proofs.Seeking.{goes_then}
 use Rattle.hcc_table.proofs.Still.{seeks_still}
@@ -112,6 +113,8 @@ returns-in-Some g c =
             searches = told.searches;
             found = told.found.0;
             finds = told.found.1;
+            holds = found_held g.T.Tag.fits (room_of table) pin.slot IN_FLIGHT c.args.key v w
+                told.found.0 fresh told.found.1;
             of = (told.found.1.on, told.found.1.single, told.found.2);
             copies = copied;
             read = c.copy_out-got.new.seat;
