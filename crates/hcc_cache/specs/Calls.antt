@@ -1,5 +1,5 @@
 -- What each call leaves of a client.
-use Rattle.std.specs.Prelude.{◌≡◌, ℕ, ◌+◌, ◌*◌, ◌≤◌, ◌++◌, ◌&&◌, Bool, true, false, List, [], ◌∷◌, Option, Some, None, IsSome, find, is_some, length, slice_get}
+use Rattle.std.specs.Prelude.{◌≡◌, ℕ, ◌+◌, ◌*◌, ◌≤◌, ◌++◌, ◌&&◌, Bool, true, false, List, [], ◌∷◌, Option, Some, None, IsSome, find, is_some, length, slice_get, vec_capacity}
 use Rattle.std.specs.declared.alloc.Global.{Global}
 use Rattle.hcc_core.specs.declared.slot.Entry.{Entry}
 use Rattle.hcc_core.specs.Lawful.{is_in}
@@ -30,6 +30,12 @@ use Rattle.hcc_cache.specs.Clients.{Held, held_by, held_entry, held_of, hold_of,
 use Rattle.hcc_cache.specs.Keys.{fits_seeded, key_from}
 use Rattle.hcc_cache.specs.Sharding.{key_to, shard_of}
 
+-- The capacities of a client's lists: of its seats, its handles and its standalone entries.
+pub record Capacities : Type 0 where
+  pub seats : ℕ
+  pub handles : ℕ
+  pub alone : ℕ
+
 -- the counts of a seat, if there is one
 abbrev pub counts_by : {T : Type 0} → Option (ShardSeat T) → Option Stats
 counts_by None = None
@@ -51,9 +57,19 @@ module _ {T : Type 0} where
   abbrev pub UsesNone : (old new : Client T) → Type 0
   UsesNone old new = (new.used ≡ old.used) × (new.left ≡ old.left)
 
-  -- The client keeps its number and how many handles it may hold.
+  abbrev pub capacities_of : Client T → Capacities
+  capacities_of client = record {
+    seats = vec_capacity client.seats;
+    handles = client.handles.capacity;
+    alone = client.alone.capacity;
+  }
+
+  -- The client keeps its number, how many handles it may hold, and the capacity of each of its
+  -- lists: none of them took memory.
   abbrev pub IsSelf : (old new : Client T) → Type 0
-  IsSelf old new = (new.number ≡ old.number) × (new.most ≡ old.most)
+  IsSelf old new =
+      (new.number ≡ old.number) × (new.most ≡ old.most)
+      × (capacities_of new ≡ capacities_of old)
 
   -- It worked at this shard alone: what it knew of it is the first view, and what it knows the
   -- second. Of the others it knows what it knew.

@@ -2,6 +2,7 @@
 ghost use Rattle.std.specs.Prelude.{◌≡◌, ◌+◌, ◌-◌, ◌<◌, ◌≤◌, ◌^◌, ◌↔◌, Some, None, IfErr, IfOk, IsErrOf};
 ghost use Rattle.slab.specs.Slab.{get, slab_len, HasRoomFor, Updates};
 ghost use Rattle.hcc_cache.specs.declared.holding.Kept.TheVariants.{Standing};
+ghost use Rattle.hcc_cache.specs.Calls.{capacities_of};
 ghost use Rattle.hcc_cache.specs.Clients.{Holds, IsPinOf, hold_of};
 
 use crate::client::Client;
@@ -88,7 +89,7 @@ impl<T> Client<T> {
         ensures kept { Updates self.old.handles self.new.handles result.index
             (Some (record { serial = self.old.used; key = key; shard = shard; kept = kept })) }
         ensures count { slab_len self.new.handles ≡ slab_len self.old.handles + 1 }
-        ensures capacity { self.new.handles.capacity ≡ self.old.handles.capacity }
+        ensures capacities { capacities_of self.new ≡ capacities_of self.old }
         ensures rest { self.new ≡ record self.old {
           handles = self.new.handles;
           held = self.old.held + 1;
@@ -130,7 +131,7 @@ impl<T> Client<T> {
         ensures there { get self.old.handles handle.index ≡ Some result }
         ensures gone { Updates self.old.handles self.new.handles handle.index None }
         ensures count { slab_len self.new.handles + 1 ≡ slab_len self.old.handles }
-        ensures capacity { self.new.handles.capacity ≡ self.old.handles.capacity }
+        ensures capacities { capacities_of self.new ≡ capacities_of self.old }
         ensures rest { self.new ≡ record self.old {
           handles = self.new.handles;
           held = self.old.held - 1;

@@ -3,7 +3,7 @@ ghost use Rattle.std.specs.Prelude.{◌≡◌, ◌+◌, ◌-◌, ◌*◌, ◌<�
 ghost use Rattle.slab.specs.Slab.{get, slab_len, HasRoomFor, Updates};
 ghost use Rattle.hcc_cache.specs.declared.holding.Kept.TheVariants.{Standing};
 ghost use Rattle.hcc_shard.specs.Inserted.{inserting, inserting_between};
-ghost use Rattle.hcc_cache.specs.Calls.{OnlyAt, TakesAtMost, TakesFor, shard_in};
+ghost use Rattle.hcc_cache.specs.Calls.{OnlyAt, TakesAtMost, TakesFor, capacities_of, shard_in};
 ghost use Rattle.hcc_cache.specs.Clients.{held_by};
 ghost use Rattle.hcc_cache.specs.Inserts.{Inserts, InsertsAt, InsertsPinnedAt, InsertsWith, RefusesPinnedAt, RefusesWith, answer_of};
 ghost use Rattle.hcc_cache.specs.Known.{Knows};
@@ -347,8 +347,7 @@ impl<T> Client<T> {
             })) }
         ensures count { (slab_len self.new.handles ≡ slab_len self.old.handles + 1)
             × (slab_len self.new.alone ≡ slab_len self.old.alone + 1) }
-        ensures capacity { (self.new.handles.capacity ≡ self.old.handles.capacity)
-            × (self.new.alone.capacity ≡ self.old.alone.capacity) }
+        ensures capacities { capacities_of self.new ≡ capacities_of self.old }
         ensures rest { self.new ≡ record self.old {
           handles = self.new.handles;
           alone = self.new.alone;

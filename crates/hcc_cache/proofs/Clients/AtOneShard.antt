@@ -18,7 +18,7 @@ use Rattle.hcc_shard.specs.Seated.{IsNext}
 use Rattle.hcc_cache.specs.declared.cache.Cache.{Cache}
 use Rattle.hcc_cache.specs.declared.client.Client.{Client}
 use Rattle.hcc_cache.specs.declared.seeded.Seeded.{Seeded}
-use Rattle.hcc_cache.specs.Calls.{AtShard, CountsNone, DoesAt, OnlyAt, TakesAtMost, TakesFor, Works, counts_by}
+use Rattle.hcc_cache.specs.Calls.{AtShard, Capacities, CountsNone, DoesAt, OnlyAt, TakesAtMost, TakesFor, Works, capacities_of, counts_by}
 use Rattle.hcc_cache.specs.Clients.{view_by}
 use Rattle.hcc_cache.specs.Known.{AreHeld, IsHome, IsSeated, Knows, records_at}
 use Rattle.hcc_cache.proofs.Clients.Seats.{home_set, seated_set, steps_set, view_else, view_here}
@@ -37,8 +37,7 @@ module _ {T : Type 0} where
     pub number : new.number ≡ old.number
     pub most : new.most ≡ old.most
     pub seed : new.seed ≡ old.seed
-    pub capacity : (new.handles.capacity ≡ old.handles.capacity)
-        × (new.alone.capacity ≡ old.alone.capacity)
+    pub capacities : capacities_of new ≡ capacities_of old
 
   -- what an index reads
   pub is_at : (cache : Cache T) (client : Client T) (i : ℕ) (shard : Shard (Seeded T) _)
@@ -95,7 +94,7 @@ module _ {T : Type 0} where
         before = ap view_by at.seat_is;
         after = rw (change.seats) (view_here old.seats.items i was is at.seat_is);
         others = λ s ne. rw (change.seats) (view_else old.seats.items i s is ne);
-        self = (change.number, change.most);
+        self = (change.number, change.most, change.capacities);
       }
 
       -- what the seat did there the client did
@@ -172,6 +171,11 @@ module _ {T : Type 0} where
         count = count;
         few = rw (change.most) few;
         most = rw (change.most) at.knows.most;
-        room = rw (change.most, change.capacity.0, change.capacity.1) at.knows.room;
+        room = rw (
+          change.most,
+          ap (λ (c : Capacities). c.handles) change.capacities,
+          ap (λ (c : Capacities). c.alone) change.capacities,
+        )
+            at.knows.room;
         serials = serials;
       }

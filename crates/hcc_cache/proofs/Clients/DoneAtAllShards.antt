@@ -55,7 +55,7 @@ module _ {T : Type 0} (cache : Cache T) (R : View (Seeded T) → View (Seeded T)
   goes_first most old knows = record {
     knows = knows;
     keeps = record { all = λ h. refl; count = refl; serials = (refl, refl) };
-    self = (refl, refl);
+    self = (refl, refl, refl);
     done = λ s low. absurd (omega arith);
     left = λ s low. refl;
     steps = omega arith;
@@ -75,7 +75,11 @@ module _ {T : Type 0} (cache : Cache T) (R : View (Seeded T) → View (Seeded T)
         keeps.serials.1 ∙ g.keeps.serials.1,
       );
     };
-    self = (works.self.0 ∙ g.self.0, works.self.1 ∙ g.self.1);
+    self = (
+      works.self.0 ∙ g.self.0,
+      works.self.1 ∙ g.self.1,
+      works.self.2 ∙ g.self.2,
+    );
     done = λ s low. elim (cases_eq s k) [
       | inl same ↦ rw (ap (λ j. view_at j old) same, ap (λ j. view_at j next) same, works.after)
           does

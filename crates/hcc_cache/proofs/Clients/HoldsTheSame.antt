@@ -1,5 +1,5 @@
 -- A client that worked at one shard, and holds what it held.
-use Rattle.std.proofs.Common.{◌≡◌, ℕ, slice_set, refl, ap, arith}
+use Rattle.std.proofs.Common.{◌≡◌, ℕ, slice_set, refl, ap, ◌∙◌, arith, vec_capacity}
 use Rattle.hcc_rule.specs.declared.key.Key.{Key}
 use Rattle.hcc_rule.specs.declared.view.View.{View}
 use Rattle.hcc_rule.specs.Looked.{after_look}
@@ -13,7 +13,7 @@ use Rattle.hcc_shard.specs.Seated.{Rests}
 use Rattle.hcc_cache.specs.declared.cache.Cache.{Cache}
 use Rattle.hcc_cache.specs.declared.client.Client.{Client}
 use Rattle.hcc_cache.specs.declared.seeded.Seeded.{Seeded}
-use Rattle.hcc_cache.specs.Calls.{KeepsAll}
+use Rattle.hcc_cache.specs.Calls.{KeepsAll, capacities_of}
 use Rattle.hcc_cache.specs.Known.{IsSeated, Knows}
 use Rattle.hcc_cache.proofs.Clients.AtOneShard.{IsAt, ChangesAt, home_kept, knows_at, seated_at}
 use Rattle.hcc_cache.proofs.Handles.SameHolds.{keeps_all}
@@ -29,9 +29,10 @@ pub record Same {T : Type 0} (v w : View T) : Type 0 where
   pub standalones : w.work.standalones ≡ v.work.standalones
   pub made : w.made ≡ v.made
 
--- nothing else of a client changed than its seats
+-- nothing else of a client changed than its seats, in a list of the same capacity
 pub record OnlySeats {T : Type 0} (old new : Client T) : Type 0 where
   pub rest : new ≡ record old { seats = new.seats }
+  pub capacity : vec_capacity new.seats ≡ vec_capacity old.seats
 
 module _ {T : Type 0} (cache : Cache T) (old new : Client T) (i : ℕ) (shard : Shard (Seeded T) _)
     (was is : ShardSeat (Seeded T)) (at : IsAt cache old i shard was) (rests : Rests shard is)
@@ -56,10 +57,9 @@ module _ {T : Type 0} (cache : Cache T) (old new : Client T) (i : ℕ) (shard : 
         number = ap (λ (c : Client T). c.number) only.rest;
         most = ap (λ (c : Client T). c.most) only.rest;
         seed = ap (λ (c : Client T). c.seed) only.rest;
-        capacity = (
-          ap (λ (c : Client T). c.handles.capacity) only.rest,
-          ap (λ (c : Client T). c.alone.capacity) only.rest,
-        );
+        capacities =
+            ap (λ (c : Client T). capacities_of c) only.rest
+            ∙ ap (λ n. record (capacities_of old) { seats = n }) only.capacity;
       }
 
       -- the cache knows the client,

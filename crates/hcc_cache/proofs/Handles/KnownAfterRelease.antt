@@ -24,7 +24,7 @@ use Rattle.hcc_cache.specs.declared.holding.Alone.{Alone}
 use Rattle.hcc_cache.specs.declared.holding.Hold.{Hold}
 use Rattle.hcc_cache.specs.declared.holding.Kept.TheVariants.{Standing}
 use Rattle.hcc_cache.specs.declared.seeded.Seeded.{Seeded}
-use Rattle.hcc_cache.specs.Calls.{Loses, Releases, UsesNone}
+use Rattle.hcc_cache.specs.Calls.{Capacities, Loses, Releases, UsesNone, capacities_of}
 use Rattle.hcc_cache.specs.Clients.{IsPinOf, held_alone, held_entry, held_of, hold_of, view_at, view_in}
 use Rattle.hcc_cache.specs.Known.{IsSeated, Knows}
 use Rattle.hcc_cache.proofs.Handles.OneMoreOnPinned.{IsPinAt, held_at, pin_at}
@@ -204,10 +204,10 @@ module _ {T : Type 0} (cache : Cache T) (old new : Client T) (handle : Handle) (
       module _ (knows : Knows cache old) (b : Alone) (same : IsSameAlone a b)
           (reference : b.references + 1 ≡ a.references) (some : 1 ≤ b.references)
           (updates : Updates old.alone new.alone index (Some b))
-          (seats : new.seats.items ≡ old.seats.items) where
-        pub knows_fewer : (new.handles.capacity ≡ old.handles.capacity)
-            × (new.alone.capacity ≡ old.alone.capacity) → Knows cache new
-        knows_fewer capacity =
+          (seats : new.seats.items ≡ old.seats.items)
+          (capacities : capacities_of new ≡ capacities_of old) where
+        pub knows_fewer : Knows cache new
+        knows_fewer =
             let count = knows.count in
             let few = knows.few in
             let held = lets.held in
@@ -226,7 +226,12 @@ module _ {T : Type 0} (cache : Cache T) (old new : Client T) (handle : Handle) (
               count = omega arith;
               few = omega arith;
               most = rw (lets.most) knows.most;
-              room = rw (lets.most, capacity.0, capacity.1) knows.room;
+              room = rw (
+                lets.most,
+                ap (λ (c : Capacities). c.handles) capacities,
+                ap (λ (c : Capacities). c.alone) capacities,
+              )
+                  knows.room;
               serials = rw (lets.uses.0, lets.uses.1) knows.serials;
             }
 
@@ -241,7 +246,7 @@ module _ {T : Type 0} (cache : Cache T) (old new : Client T) (handle : Handle) (
             before = refl;
             after = ap (λ xs. view_in xs hold.shard) seats;
             others = λ s ne. ap (λ xs. view_in xs s) seats;
-            self = (lets.number, lets.most);
+            self = (lets.number, lets.most, capacities);
           };
           released = refl;
           loses =

@@ -16,7 +16,7 @@ use Rattle.hcc_cache.specs.declared.holding.Alone.{Alone}
 use Rattle.hcc_cache.specs.declared.holding.Hold.{Hold}
 use Rattle.hcc_cache.specs.declared.holding.Kept.TheVariants.{Standing}
 use Rattle.hcc_cache.specs.declared.seeded.Seeded.{Seeded}
-use Rattle.hcc_cache.specs.Calls.{Rerefs, TakesAtMost}
+use Rattle.hcc_cache.specs.Calls.{Rerefs, TakesAtMost, capacities_of}
 use Rattle.hcc_cache.specs.Clients.{held_alone, hold_of}
 use Rattle.hcc_cache.specs.Known.{Knows, is_standing_at}
 use Rattle.hcc_cache.proofs.Handles.OneMoreOnPinned.{hold_within}
@@ -65,8 +65,7 @@ module _ {T : Type 0} (cache : Cache T) (old : Client T) (first : Hold) (from : 
       (updates : Updates old.alone new.alone index (Some b))
       (given : IsGiven old new more hold) (seats : new.seats.items ≡ old.seats.items)
       (most : new.most ≡ old.most) (seed : new.seed ≡ old.seed)
-      (capacity : (new.handles.capacity ≡ old.handles.capacity)
-      × (new.alone.capacity ≡ old.alone.capacity)) where
+      (capacities : capacities_of new ≡ capacities_of old) where
     changes : ChangesAt old new first.shard somewhere.seat
     changes = record {
       seats =
@@ -74,7 +73,7 @@ module _ {T : Type 0} (cache : Cache T) (old : Client T) (first : Hold) (from : 
       number = given.number;
       most = most;
       seed = seed;
-      capacity = capacity;
+      capacities = capacities;
     }
 
     pub knows_standing : old.held < old.most → Knows cache new

@@ -62,7 +62,7 @@ module _ {T : Type 0} (cache : Cache T) (old new : Client T) (i : ℕ) (shard : 
       rests = record {
         all = λ s. rw (change.seats)
             (part_same (λ v. v) old.seats.items i s was is at.seat_is same);
-        self = (change.number, change.most);
+        self = (change.number, change.most, change.capacities);
         counts = counts_none cache old new i shard was is at change counted;
       };
       keeps = keeps_left cache old new i shard was is at change left records standalones;
@@ -97,7 +97,11 @@ pub reads_twice : {T : Type 0} (cache : Cache T) (a b c : Client T)
 reads_twice cache a b c first next = record {
   rests = record {
     all = λ s. next.rests.all s ∙ first.rests.all s;
-    self = (next.rests.self.0 ∙ first.rests.self.0, next.rests.self.1 ∙ first.rests.self.1);
+    self = (
+      next.rests.self.0 ∙ first.rests.self.0,
+      next.rests.self.1 ∙ first.rests.self.1,
+      next.rests.self.2 ∙ first.rests.self.2,
+    );
     counts = λ s. next.rests.counts s ∙ first.rests.counts s;
   };
   keeps = record {

@@ -29,7 +29,7 @@ returns-clause-known g c =
     c.displacement.new.seat at
     c.displacement.ensures.seat (same_all (view_of was) (view_of c.displacement.new.seat)
     c.displacement.ensures.view) refl
-    (record { rest = refl })
+    (record { rest = refl; capacity = refl })
 
 pub returns-clause-reads : goal.returns-clause-reads
 returns-clause-reads g c =
@@ -40,7 +40,7 @@ returns-clause-reads g c =
       rests = record {
         all = λ s. part_same (λ v. v) c.args.client.now.seats.items c.args.shard s was
             c.displacement.new.seat at.seat_is c.displacement.ensures.view;
-        self = (refl, refl);
+        self = (refl, refl, refl);
         counts =
             counts_none c.args.self.now c.args.client.now
             (record c.args.client.now {
@@ -52,7 +52,7 @@ returns-clause-reads g c =
               number = refl;
               most = refl;
               seed = refl;
-              capacity = (refl, refl);
+              capacities = refl;
             })
             c.displacement.ensures.counts;
       };
@@ -60,7 +60,7 @@ returns-clause-reads g c =
           c.displacement.new.seat at
           c.displacement.ensures.seat (same_all (view_of was) (view_of c.displacement.new.seat)
           c.displacement.ensures.view) refl
-          (record { rest = refl });
+          (record { rest = refl; capacity = refl });
     }
 
 pub returns-clause-entries : goal.returns-clause-entries
@@ -80,7 +80,7 @@ returns-clause-loads g c =
     c.requires.known c.requires.shard c.index.ensures c.index_mut-seat.ensures.value in
     did_at c.args.self.now c.args.client.now _ c.args.shard c.index.result.now was
     c.displacement.new.seat at
-    (record { seats = refl; number = refl; most = refl; seed = refl; capacity = (refl, refl) })
+    (record { seats = refl; number = refl; most = refl; seed = refl; capacities = refl })
     (λ s a b. LoadsDisplacement s c.args.slot c.displacement.result a b)
     c.displacement.ensures.loads c.args.shard refl
 
@@ -101,7 +101,7 @@ returns-clause-stays g c =
     (record c.args.client.now {
       seats = with_item c.args.client.now.seats c.args.shard c.displacement.new.seat;
     }) c.args.shard c.index.result.now was c.displacement.new.seat at
-    (record { seats = refl; number = refl; most = refl; seed = refl; capacity = (refl, refl) })
+    (record { seats = refl; number = refl; most = refl; seed = refl; capacities = refl })
     (goes_event c.index.result.now.table is_still
     (count_done c.args.slot c.displacement.result (view_of was)) was.seat
     c.displacement.new.seat.seat c.displacement.ensures.by refl)

@@ -36,7 +36,7 @@ returns-clause-known g c =
     c.shard_number-shard.ensures.inside c.index.ensures c.index_mut-seat.ensures.value in
     knows_same cache old _ i c.index.result.now was c.erase.new.seat at c.erase.ensures.seat
     (same_erased (view_of was) (view_of c.erase.new.seat) c.key_to-seeded.result.in_shard
-    c.erase.result c.erase.ensures.view) refl (record { rest = refl })
+    c.erase.result c.erase.ensures.view) refl (record { rest = refl; capacity = refl })
 
 pub returns-clause-erased : goal.returns-clause-erased
 returns-clause-erased g c =
@@ -54,7 +54,7 @@ returns-clause-erased g c =
     let works : Works (shard_in cache c.args.key) old new (view_of was) (view_of is) =
     rw (← there)
     (works_at cache old new i c.index.result.now was is at
-    (record { seats = refl; number = refl; most = refl; seed = refl; capacity = (refl, refl) })) in
+    (record { seats = refl; number = refl; most = refl; seed = refl; capacities = refl })) in
     let dead : AllDead (key_to cache.seed c.args.key) (view_of was) (view_of is) =
     rw (← words) c.erase.ensures.dead in
     record {
@@ -68,7 +68,7 @@ returns-clause-erased g c =
       keeps =
           keeps_same cache old _ i c.index.result.now was c.erase.new.seat at c.erase.ensures.seat
           (same_erased (view_of was) (view_of c.erase.new.seat) c.key_to-seeded.result.in_shard
-          c.erase.result c.erase.ensures.view) refl (record { rest = refl });
+          c.erase.result c.erase.ensures.view) refl (record { rest = refl; capacity = refl });
     }
 
 pub returns-clause-searched : goal.returns-clause-searched
@@ -83,7 +83,7 @@ returns-clause-searched g c =
     let there = c.shard_number-shard.ensures.value
     ∙ ap (λ k. shard_of k (length cache.shards.items)) words in
     did_at cache old _ i c.index.result.now was c.erase.new.seat at
-    (record { seats = refl; number = refl; most = refl; seed = refl; capacity = (refl, refl) })
+    (record { seats = refl; number = refl; most = refl; seed = refl; capacities = refl })
     (λ s a b. ErasesAt (fits_seeded g.T.Tag.fits) s (key_to cache.seed c.args.key) c.erase.result a
     b) (rw (← words) c.erase.ensures.erases) (shard_in cache c.args.key) there
 
@@ -96,7 +96,7 @@ returns-clause-counts g c =
     let at = is_at cache old i c.index.result.now was c.requires
     c.shard_number-shard.ensures.inside c.index.ensures c.index_mut-seat.ensures.value in
     does_at cache old _ i c.index.result.now was c.erase.new.seat at
-    (record { seats = refl; number = refl; most = refl; seed = refl; capacity = (refl, refl) })
+    (record { seats = refl; number = refl; most = refl; seed = refl; capacities = refl })
     SameEvictions c.erase.ensures.counts (shard_in cache c.args.key)
     (c.shard_number-shard.ensures.value
     ∙ ap (λ k. shard_of k (length cache.shards.items)) c.key_to-seeded.ensures.words)
@@ -119,7 +119,7 @@ returns-clause-frees g c =
       number = refl;
       most = refl;
       seed = refl;
-      capacity = (refl, refl);
+      capacities = refl;
     }) 9
     (more (view_of was) (view_of is)) more (shard_in cache c.args.key)
     (c.shard_number-shard.ensures.value

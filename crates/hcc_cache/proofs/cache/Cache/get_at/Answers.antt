@@ -46,7 +46,7 @@ returns g c =
             number = refl;
             most = refl;
             seed = refl;
-            capacity = (refl, refl);
+            capacities = refl;
           })
           (record { handles = refl; alone = refl; held = refl; uses = (refl, refl) })
           c.get.ensures.seat sought;
@@ -57,7 +57,7 @@ returns g c =
             number = refl;
             most = refl;
             seed = refl;
-            capacity = (refl, refl);
+            capacities = refl;
           })
           (record { handles = refl; alone = refl; held = refl; uses = (refl, refl) })
           sought.records (ap (λ v. v.work.standalones) sought.searched.same);
@@ -68,7 +68,7 @@ returns g c =
             number = refl;
             most = refl;
             seed = refl;
-            capacity = (refl, refl);
+            capacities = refl;
           })
           g.T.Tag.fits c.args.key there (rw words at c.requires.undone)
           c.args.useful c.args.buffer.now c.get.new.buffer sought;
@@ -79,7 +79,7 @@ returns g c =
             number = refl;
             most = refl;
             seed = refl;
-            capacity = (refl, refl);
+            capacities = refl;
           })
           g.T.Tag.fits c.args.key there (rw words at c.requires.undone)
           c.args.useful c.args.buffer.now c.get.new.buffer c.get.result got;
@@ -90,7 +90,7 @@ returns g c =
             number = refl;
             most = refl;
             seed = refl;
-            capacity = (refl, refl);
+            capacities = refl;
           })
           (λ s a b. Gets (fits_seeded g.T.Tag.fits) s (key_to cache.seed c.args.key)
           c.args.useful c.get.result c.args.buffer.now c.get.new.buffer a b) got
@@ -102,7 +102,7 @@ returns g c =
             number = refl;
             most = refl;
             seed = refl;
-            capacity = (refl, refl);
+            capacities = refl;
           })
           c.get.ensures.stays;
       counts =
@@ -112,7 +112,7 @@ returns g c =
             number = refl;
             most = refl;
             seed = refl;
-            capacity = (refl, refl);
+            capacities = refl;
           })
           SameEvictions c.get.ensures.counts (shard_in cache c.args.key) there;
       steps =
@@ -122,7 +122,7 @@ returns g c =
             number = refl;
             most = refl;
             seed = refl;
-            capacity = (refl, refl);
+            capacities = refl;
           }) 7
           (cache.geometry.room + 2) (λ v w. cache.geometry.room + 2)
           (shard_in cache c.args.key) there (rw (← alike.0) c.get.ensures.steps) (omega arith);

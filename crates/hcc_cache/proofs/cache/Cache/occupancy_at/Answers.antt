@@ -31,7 +31,7 @@ returns-clause-known g c =
     c.occupancy.new.seat at
     c.occupancy.ensures.seat (same_all (view_of was) (view_of c.occupancy.new.seat)
     c.occupancy.ensures.view) refl
-    (record { rest = refl })
+    (record { rest = refl; capacity = refl })
 
 pub returns-clause-reads : goal.returns-clause-reads
 returns-clause-reads g c =
@@ -42,7 +42,7 @@ returns-clause-reads g c =
       rests = record {
         all = λ s. part_same (λ v. v) c.args.client.now.seats.items c.args.shard s was
             c.occupancy.new.seat at.seat_is c.occupancy.ensures.view;
-        self = (refl, refl);
+        self = (refl, refl, refl);
         counts =
             counts_none c.args.self.now c.args.client.now
             (record c.args.client.now {
@@ -54,7 +54,7 @@ returns-clause-reads g c =
               number = refl;
               most = refl;
               seed = refl;
-              capacity = (refl, refl);
+              capacities = refl;
             })
             c.occupancy.ensures.counts;
       };
@@ -62,7 +62,7 @@ returns-clause-reads g c =
           c.occupancy.new.seat at
           c.occupancy.ensures.seat (same_all (view_of was) (view_of c.occupancy.new.seat)
           c.occupancy.ensures.view) refl
-          (record { rest = refl });
+          (record { rest = refl; capacity = refl });
     }
 
 pub returns-clause-entries : goal.returns-clause-entries
@@ -100,7 +100,7 @@ returns-clause-loads g c =
     c.requires.known c.requires.within c.index.ensures c.index_mut-seat.ensures.value in
     did_at c.args.self.now c.args.client.now _ c.args.shard c.index.result.now was
     c.occupancy.new.seat at
-    (record { seats = refl; number = refl; most = refl; seed = refl; capacity = (refl, refl) })
+    (record { seats = refl; number = refl; most = refl; seed = refl; capacities = refl })
     (λ s a b. LoadsOccupancy s c.occupancy.result a b) c.occupancy.ensures.loads c.args.shard refl
 
 pub returns-clause-others : goal.returns-clause-others

@@ -73,10 +73,7 @@ returns g c =
       number = ap (λ (x : Client g.row.T.Denot). x.number) rest;
       most = ap (λ (x : Client g.row.T.Denot). x.most) rest;
       seed = ap (λ (x : Client g.row.T.Denot). x.seed) rest;
-      capacity = (
-        c.keep.ensures.capacity,
-        ap (λ (x : Client g.row.T.Denot). x.alone.capacity) rest,
-      );
+      capacities = c.keep.ensures.capacities;
     } in
     let given : IsGiven old new c.keep.result hold = record {
       client = c.keep.ensures.client;

@@ -31,7 +31,7 @@ returns-clause-known g c =
     c.pinned_usage.new.seat at
     c.pinned_usage.ensures.seat (same_sought (view_of was) (view_of c.pinned_usage.new.seat)
     c.pinned_usage.ensures.view) refl
-    (record { rest = refl })
+    (record { rest = refl; capacity = refl })
 
 pub returns-clause-keeps : goal.returns-clause-keeps
 returns-clause-keeps g c =
@@ -42,7 +42,7 @@ returns-clause-keeps g c =
     c.pinned_usage.new.seat at
     c.pinned_usage.ensures.seat (same_sought (view_of was) (view_of c.pinned_usage.new.seat)
     c.pinned_usage.ensures.view) refl
-    (record { rest = refl })
+    (record { rest = refl; capacity = refl })
 
 pub returns-clause-view : goal.returns-clause-view
 returns-clause-view g c =
@@ -56,7 +56,7 @@ returns-clause-view g c =
     )
     (works_at c.args.self.now c.args.client.now _ c.args.shard c.index.result.now was
     c.pinned_usage.new.seat at
-    (record { seats = refl; number = refl; most = refl; seed = refl; capacity = (refl, refl) }))
+    (record { seats = refl; number = refl; most = refl; seed = refl; capacities = refl }))
 
 pub returns-clause-sought : goal.returns-clause-sought
 returns-clause-sought g c =
@@ -92,7 +92,7 @@ returns-clause-loads g c =
     c.requires.known c.requires.within c.index.ensures c.index_mut-seat.ensures.value in
     did_at c.args.self.now c.args.client.now _ c.args.shard c.index.result.now was
     c.pinned_usage.new.seat at
-    (record { seats = refl; number = refl; most = refl; seed = refl; capacity = (refl, refl) })
+    (record { seats = refl; number = refl; most = refl; seed = refl; capacities = refl })
     (λ s a b. CountsHeldAt g.T.Tag.fits s c.pinned_usage.result a b)
     (c.pinned_usage.ensures.loads, c.pinned_usage.ensures.counts) c.args.shard refl
 
@@ -121,5 +121,5 @@ returns-clause-stays g c =
     (record c.args.client.now {
       seats = with_item c.args.client.now.seats c.args.shard c.pinned_usage.new.seat;
     }) c.args.shard c.index.result.now was c.pinned_usage.new.seat at
-    (record { seats = refl; number = refl; most = refl; seed = refl; capacity = (refl, refl) })
+    (record { seats = refl; number = refl; most = refl; seed = refl; capacities = refl })
     c.pinned_usage.ensures.stays

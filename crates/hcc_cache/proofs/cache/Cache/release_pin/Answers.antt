@@ -68,10 +68,7 @@ returns g c =
       number = ap (λ (x : Client g.row.T.Denot). x.number) rest;
       most = ap (λ (x : Client g.row.T.Denot). x.most) rest;
       seed = ap (λ (x : Client g.row.T.Denot). x.seed) rest;
-      capacity = (
-        c.let_go.ensures.capacity,
-        ap (λ (x : Client g.row.T.Denot). x.alone.capacity) rest,
-      );
+      capacities = c.let_go.ensures.capacities;
     } in
     let alone = ap (λ (x : Client g.row.T.Denot). x.alone) rest in
     let gone : IsLess old.handles mid.handles c.args.handle.index hold =

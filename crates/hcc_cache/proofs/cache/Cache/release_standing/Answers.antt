@@ -3,7 +3,7 @@ use Rattle.std.specs.Vec.{with_item}
 use Rattle.slab.specs.Slab.{Updates, get, with_value}
 use Rattle.hcc_cache.specs.declared.client.Client.{Client}
 use Rattle.hcc_cache.specs.declared.holding.Alone.{Alone}
-use Rattle.hcc_cache.specs.Calls.{counts_by, steps_by}
+use Rattle.hcc_cache.specs.Calls.{capacities_of, counts_by, steps_by}
 use Rattle.hcc_cache.proofs.Handles.OneMoreOnPinned.{at_hold, held_within, kept_there, stand_there}
 use Rattle.hcc_cache.proofs.Clients.AtOneShard.{ChangesAt, counts_none, seated_at, takes_at}
 use Rattle.hcc_cache.proofs.Handles.SameHolds.{IsSameAlone}
@@ -71,10 +71,11 @@ returns-then-index-gt1 g c =
       known =
           knows_fewer cache old new c.args.handle hold lets c.args.index a c.requires.kept there
           c.requires.known b same reference some updates seats
-          (c.let_go.ensures.capacity, ap (λ (x : Client g.row.T.Denot). x.alone.capacity) rest);
+          c.let_go.ensures.capacities;
       released =
           releases_fewer cache old new c.args.handle hold lets c.args.index a c.requires.kept there
-          c.requires.known b same reference some updates seats;
+          c.requires.known b same reference some updates seats
+          c.let_go.ensures.capacities;
       stays = stays_same cache old new seats;
       counts = λ s. ap (λ l. counts_by (slice_get l s)) seats;
       steps = omega arith;
@@ -148,10 +149,9 @@ returns g c =
       number = ap (λ (x : Client g.row.T.Denot). x.number) rest;
       most = ap (λ (x : Client g.row.T.Denot). x.most) rest;
       seed = ap (λ (x : Client g.row.T.Denot). x.seed) rest;
-      capacity = (
-        c.let_go.ensures.capacity,
-        c.remove-gone.ensures.capacity ∙ ap (λ (x : Client g.row.T.Denot). x.alone.capacity) rest,
-      );
+      capacities =
+          ap (λ n. record (capacities_of mid) { alone = n }) c.remove-gone.ensures.capacity
+          ∙ c.let_go.ensures.capacities;
     } in
     record {
       known =

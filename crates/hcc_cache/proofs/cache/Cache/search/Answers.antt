@@ -58,7 +58,7 @@ returns-in_err-pin-clause-known g c =
     let at = is_at cache old i shard was c.requires.known c.shard_number-shard.ensures.inside
     c.index.ensures c.index_mut-seat.ensures.value in
     knows_sought cache old _ i shard was is at
-    (record { seats = refl; number = refl; most = refl; seed = refl; capacity = (refl, refl) })
+    (record { seats = refl; number = refl; most = refl; seed = refl; capacities = refl })
     (record { handles = refl; alone = refl; held = refl; uses = (refl, refl) })
     c.lookup.ensures.seat c.in_err-pin.ensures.missed.sought
 
@@ -76,7 +76,7 @@ returns-in_err-pin-clause-missed g c =
     let shards = length cache.shards.items in
     rw (c.from_residual.ensures)
     (misses cache old _ i shard was is at
-    (record { seats = refl; number = refl; most = refl; seed = refl; capacity = (refl, refl) })
+    (record { seats = refl; number = refl; most = refl; seed = refl; capacities = refl })
     c.args.key
     (record { handles = refl; alone = refl; held = refl; uses = (refl, refl) })
     (c.shard_number-shard.ensures.value ∙ ap (λ k. shard_of k shards) words)
@@ -96,7 +96,7 @@ returns-in_err-pin-clause-searched g c =
     let shards = length cache.shards.items in
     rw (c.from_residual.ensures)
     (searched_at cache old _ i shard was is at
-    (record { seats = refl; number = refl; most = refl; seed = refl; capacity = (refl, refl) })
+    (record { seats = refl; number = refl; most = refl; seed = refl; capacities = refl })
     g.T.Tag.fits c.args.key None
     (c.shard_number-shard.ensures.value ∙ ap (λ k. shard_of k shards) words) c.lookup.result
     (ap is_some c.in_err-pin.was) (rw words at c.lookup.ensures.searches))
@@ -110,7 +110,7 @@ returns-in_err-pin-clause-counts g c =
     let at = is_at cache old i c.index.result.now was c.requires.known
     c.shard_number-shard.ensures.inside c.index.ensures c.index_mut-seat.ensures.value in
     does_at cache old _ i c.index.result.now was c.lookup.new.seat at
-    (record { seats = refl; number = refl; most = refl; seed = refl; capacity = (refl, refl) })
+    (record { seats = refl; number = refl; most = refl; seed = refl; capacities = refl })
     SameEvictions c.lookup.ensures.counts (shard_in cache c.args.key)
     (c.shard_number-shard.ensures.value
     ∙ ap (λ k. shard_of k (length cache.shards.items)) c.key_to-seeded.ensures.words)
@@ -132,7 +132,7 @@ returns-in_err-pin-clause-visits g c =
       number = refl;
       most = refl;
       seed = refl;
-      capacity = (refl, refl);
+      capacities = refl;
     }) c.args.key
     (c.shard_number-shard.ensures.value ∙ ap (λ k. shard_of k (length cache.shards.items)) words)
     c.lookup.ensures.steps
@@ -153,7 +153,7 @@ returns-in_err-pin-clause-steps g c =
       number = refl;
       most = refl;
       seed = refl;
-      capacity = (refl, refl);
+      capacities = refl;
     }) was.effort
     is.effort c.lookup.ensures.steps
 
@@ -187,10 +187,7 @@ returns g c =
       number = ap (λ (x : Client g.row.T.Denot). x.number) rest;
       most = ap (λ (x : Client g.row.T.Denot). x.most) rest;
       seed = ap (λ (x : Client g.row.T.Denot). x.seed) rest;
-      capacity = (
-        c.keep.ensures.capacity,
-        ap (λ (x : Client g.row.T.Denot). x.alone.capacity) rest,
-      );
+      capacities = c.keep.ensures.capacities;
     } in
     let given : IsGiven old new c.keep.result hold = record {
       client = c.keep.ensures.client;
@@ -253,7 +250,7 @@ returns-in_err-pin-clause-stays g c =
     let at = is_at cache old i shard was c.requires.known c.shard_number-shard.ensures.inside
     c.index.ensures c.index_mut-seat.ensures.value in
     stays_at cache old (record old { seats = with_item old.seats i is }) i shard was is at
-    (record { seats = refl; number = refl; most = refl; seed = refl; capacity = (refl, refl) })
+    (record { seats = refl; number = refl; most = refl; seed = refl; capacities = refl })
     (seeks_still shard.table was.seat is.seat
     (searches_seek (fits_seeded g.T.Tag.fits) shard.table c.key_to-seeded.result.in_shard old.used
     shard.marks c.lookup.result was.effort is.effort was.seat is.seat c.lookup.ensures.searches))

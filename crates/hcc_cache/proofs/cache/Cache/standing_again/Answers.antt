@@ -67,23 +67,22 @@ returns g c =
     let seats = ap (λ (x : Client g.row.T.Denot). x.seats.items) rest in
     let most = ap (λ (x : Client g.row.T.Denot). x.most) rest in
     let seed = ap (λ (x : Client g.row.T.Denot). x.seed) rest in
-    let alone_capacity = ap (λ (x : Client g.row.T.Denot). x.alone.capacity) rest in
     record {
       known =
           knows_standing cache old first from knows there new c.args.handle c.keep.result hold
           index a b c.requires.held c.requires.kept c.requires.kept refl refl
           c.index_mut.ensures.value same refl updates given seats most seed
-          (c.keep.ensures.capacity, alone_capacity) c.requires.free.0;
+          c.keep.ensures.capacities c.requires.free.0;
       again =
           rerefs_standing cache old first from knows there new c.args.handle c.keep.result hold
           index a b c.requires.held c.requires.kept c.requires.kept refl refl
           c.index_mut.ensures.value same refl updates given seats most seed
-          (c.keep.ensures.capacity, alone_capacity);
+          c.keep.ensures.capacities;
       stays = stays_same cache old new seats;
       counts = λ s. ap (λ l. counts_by (slice_get l s)) seats;
       steps =
           takes_standing cache old first from knows there new c.args.handle c.keep.result hold
           index a b c.requires.held c.requires.kept c.requires.kept refl refl
           c.index_mut.ensures.value same refl updates given seats most seed
-          (c.keep.ensures.capacity, alone_capacity);
+          c.keep.ensures.capacities;
     }

@@ -3,7 +3,7 @@ use Rattle.hcc_rule.specs.declared.steps.shows.Draft.{Draft}
 use Rattle.hcc_shard.specs.Callers.{view_of}
 use Rattle.hcc_shard.specs.Inserted.{InsertedBy}
 use Rattle.hcc_cache.specs.declared.client.Client.{Client}
-use Rattle.hcc_cache.specs.Calls.{shard_in}
+use Rattle.hcc_cache.specs.Calls.{capacities_of, shard_in}
 use Rattle.hcc_cache.specs.Inserts.{draft_of}
 use Rattle.hcc_cache.specs.Sharding.{shard_of}
 use Rattle.hcc_cache.proofs.Clients.AtOneShard.{ChangesAt, is_at, only_at, seated_at}
@@ -83,10 +83,7 @@ returns g c =
       number = ap (λ (x : Client g.row.T.Denot). x.number) rest;
       most = ap (λ (x : Client g.row.T.Denot). x.most) rest;
       seed = ap (λ (x : Client g.row.T.Denot). x.seed) rest;
-      capacity = (
-        ap (λ (x : Client g.row.T.Denot). x.handles.capacity) rest,
-        ap (λ (x : Client g.row.T.Denot). x.alone.capacity) rest,
-      );
+      capacities = ap (λ (x : Client g.row.T.Denot). capacities_of x) rest;
     } in
     let some = c.requires.some in
     let less : c.next_serial.new.self.left ≡ old.left - 1 =

@@ -6,7 +6,7 @@ use Rattle.hcc_shard.specs.Inserted.{RefusedBy, with_draft}
 use Rattle.hcc_cache.specs.declared.client.Client.{Client}
 use Rattle.hcc_cache.specs.declared.holding.Alone.{Alone}
 use Rattle.hcc_cache.specs.declared.holding.Kept.TheVariants.{Standing}
-use Rattle.hcc_cache.specs.Calls.{shard_in}
+use Rattle.hcc_cache.specs.Calls.{capacities_of, shard_in}
 use Rattle.hcc_cache.specs.Inserts.{pinned_draft}
 use Rattle.hcc_cache.specs.Sharding.{shard_of}
 use Rattle.hcc_cache.proofs.Insertions.StandaloneEntry.{IsJoined}
@@ -114,7 +114,7 @@ returns-in-Ok-Placed g c =
       number = ap (λ (x : Client g.row.T.Denot). x.number) rest;
       most = ap (λ (x : Client g.row.T.Denot). x.most) rest;
       seed = ap (λ (x : Client g.row.T.Denot). x.seed) rest;
-      capacity = (c.keep-handle.ensures.capacity, ap (λ a. a.capacity) alone);
+      capacities = c.keep-handle.ensures.capacities;
     } in
     let given : IsGiven old new c.keep-handle.result
     (hold_with old.used c.args.key i c.pinned.result) = record {
@@ -200,7 +200,7 @@ returns-in-Ok-Standalone g c =
       number = ap (λ (x : Client g.row.T.Denot). x.number) rest;
       most = ap (λ (x : Client g.row.T.Denot). x.most) rest;
       seed = ap (λ (x : Client g.row.T.Denot). x.seed) rest;
-      capacity = c.keep_alone-handle.ensures.capacity;
+      capacities = c.keep_alone-handle.ensures.capacities;
     } in
     let kept = c.keep_alone-handle.ensures.kept in
     let alone : Alone = record {
@@ -298,10 +298,7 @@ returns-in-Err g c =
       number = ap (λ (x : Client g.row.T.Denot). x.number) rest;
       most = ap (λ (x : Client g.row.T.Denot). x.most) rest;
       seed = ap (λ (x : Client g.row.T.Denot). x.seed) rest;
-      capacity = (
-        ap (λ (x : Client g.row.T.Denot). x.handles.capacity) rest,
-        ap (λ (x : Client g.row.T.Denot). x.alone.capacity) rest,
-      );
+      capacities = ap (λ (x : Client g.row.T.Denot). capacities_of x) rest;
     } in
     let changed : IsAsked old new = record {
       handles = ap (λ (x : Client g.row.T.Denot). x.handles) rest;

@@ -51,7 +51,7 @@ returns-in-Ok g c =
     let is = c.try_read.new.seat in
     let new : Client g.row.T.Denot = record old { seats = with_item old.seats hold.shard is } in
     let change : ChangesAt old new hold.shard is =
-    record { seats = refl; number = refl; most = refl; seed = refl; capacity = (refl, refl) } in
+    record { seats = refl; number = refl; most = refl; seed = refl; capacities = refl } in
     let left : IsLeft old new =
     record { handles = refl; alone = refl; held = refl; uses = (refl, refl) } in
     let told = told_of c.args.handle at c.requires.held c.in-Ok.ensures.pinned in

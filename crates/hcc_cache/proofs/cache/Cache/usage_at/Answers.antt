@@ -28,7 +28,7 @@ returns-clause-known g c =
     let told = c.usage.ensures.view in
     knows_same c.args.self.now c.args.client.now _ c.args.shard c.index.result.now was is at
     c.usage.ensures.seat (same_usage (view_of was) (view_of is) told.0 told.1) refl
-    (record { rest = refl })
+    (record { rest = refl; capacity = refl })
 
 pub returns-clause-keeps : goal.returns-clause-keeps
 returns-clause-keeps g c =
@@ -39,7 +39,7 @@ returns-clause-keeps g c =
     let told = c.usage.ensures.view in
     keeps_same c.args.self.now c.args.client.now _ c.args.shard c.index.result.now was is at
     c.usage.ensures.seat (same_usage (view_of was) (view_of is) told.0 told.1) refl
-    (record { rest = refl })
+    (record { rest = refl; capacity = refl })
 
 pub returns-clause-view : goal.returns-clause-view
 returns-clause-view g c =
@@ -57,7 +57,7 @@ returns-clause-view g c =
             number = refl;
             most = refl;
             seed = refl;
-            capacity = (refl, refl);
+            capacities = refl;
           })),
     )
 
@@ -83,7 +83,7 @@ returns-clause-loads g c =
     c.requires.known c.requires.within c.index.ensures c.index_mut-seat.ensures.value in
     did_at c.args.self.now c.args.client.now _ c.args.shard c.index.result.now was
     c.usage.new.seat at
-    (record { seats = refl; number = refl; most = refl; seed = refl; capacity = (refl, refl) })
+    (record { seats = refl; number = refl; most = refl; seed = refl; capacities = refl })
     (λ s a b. LoadsUsage s c.usage.result a b) c.usage.ensures.view c.args.shard refl
 
 pub returns-clause-others : goal.returns-clause-others
@@ -100,7 +100,7 @@ returns-clause-counts g c =
       seats = with_item c.args.client.now.seats c.args.shard c.usage.new.seat;
     }) c.args.shard c.index.result.now was
     c.usage.new.seat at
-    (record { seats = refl; number = refl; most = refl; seed = refl; capacity = (refl, refl) })
+    (record { seats = refl; number = refl; most = refl; seed = refl; capacities = refl })
     c.usage.ensures.counts
 
 pub returns-clause-steps : goal.returns-clause-steps

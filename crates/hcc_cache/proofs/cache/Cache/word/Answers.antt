@@ -28,7 +28,7 @@ returns-clause-known g c =
     c.word.new.seat at
     c.word.ensures.seat (same_look (view_of was) (view_of c.word.new.seat) c.args.slot
     c.word.result c.word.ensures.view) refl
-    (record { rest = refl })
+    (record { rest = refl; capacity = refl })
 
 pub returns-clause-keeps : goal.returns-clause-keeps
 returns-clause-keeps g c =
@@ -39,7 +39,7 @@ returns-clause-keeps g c =
     c.word.new.seat at
     c.word.ensures.seat (same_look (view_of was) (view_of c.word.new.seat) c.args.slot
     c.word.result c.word.ensures.view) refl
-    (record { rest = refl })
+    (record { rest = refl; capacity = refl })
 
 pub returns-clause-view : goal.returns-clause-view
 returns-clause-view g c =
@@ -49,7 +49,7 @@ returns-clause-view g c =
     rw (ap view_by at.seat_is, ← c.word.ensures.view)
     (works_at c.args.self.now c.args.client.now _ c.args.shard c.index.result.now was
     c.word.new.seat at
-    (record { seats = refl; number = refl; most = refl; seed = refl; capacity = (refl, refl) }))
+    (record { seats = refl; number = refl; most = refl; seed = refl; capacities = refl }))
 
 pub returns-clause-backs : goal.returns-clause-backs
 returns-clause-backs g c =
@@ -65,7 +65,7 @@ returns-clause-loads g c =
     c.requires.known c.requires.shard c.index.ensures c.index_mut-seat.ensures.value in
     did_at c.args.self.now c.args.client.now _ c.args.shard c.index.result.now was
     c.word.new.seat at
-    (record { seats = refl; number = refl; most = refl; seed = refl; capacity = (refl, refl) })
+    (record { seats = refl; number = refl; most = refl; seed = refl; capacities = refl })
     (λ s a b. LoadsWord s c.args.slot c.word.result a b) c.word.ensures.loads c.args.shard refl
 
 pub returns-clause-counts : goal.returns-clause-counts
@@ -78,7 +78,7 @@ returns-clause-counts g c =
       seats = with_item c.args.client.now.seats c.args.shard c.word.new.seat;
     }) c.args.shard c.index.result.now was
     c.word.new.seat at
-    (record { seats = refl; number = refl; most = refl; seed = refl; capacity = (refl, refl) })
+    (record { seats = refl; number = refl; most = refl; seed = refl; capacities = refl })
     c.word.ensures.counts
 
 pub returns-clause-steps : goal.returns-clause-steps
@@ -98,7 +98,7 @@ returns-clause-stays g c =
     (record c.args.client.now {
       seats = with_item c.args.client.now.seats c.args.shard c.word.new.seat;
     }) c.args.shard c.index.result.now was c.word.new.seat at
-    (record { seats = refl; number = refl; most = refl; seed = refl; capacity = (refl, refl) })
+    (record { seats = refl; number = refl; most = refl; seed = refl; capacities = refl })
     (goes_event c.index.result.now.table is_still
     (look_done c.args.slot c.word.result (view_of was)) was.seat c.word.new.seat.seat
     c.word.ensures.by refl)
