@@ -30,6 +30,7 @@ ghost use Rattle.hcc_cache.specs.declared.holding.Hold.{Hold};
 ghost use Rattle.hcc_cache.specs.Calls.{shard_in, ErasesFor, Gains, OnlyAt, SearchesFor};
 ghost use Rattle.hcc_cache.specs.Clients.{Held, Holds};
 ghost use Rattle.hcc_cache.specs.Configs.{shard_capacity};
+ghost use Rattle.hcc_shard.specs.Gets.{GotLasting};
 ghost use Rattle.hcc_cache.specs.Gets.{GetsAt};
 ghost use Rattle.hcc_cache.specs.Inserts.{draft_of, PinsAt, ShowsAs, ShowsPinnedAs, StoresAt};
 ghost use Rattle.hcc_cache.specs.Keys.{fits_seeded};
@@ -93,17 +94,21 @@ pub fn law_insertions<T: Tag>()
 /// A look-up finds what stands, whatever other clients do meanwhile.
 pub fn law_lookups<T: Tag>()
     // One that misses: each slot of the key's shard lacks a visible entry of the key at some moment
-    // of the call. So none stood visible in one slot through the whole call. One that finds an
-    // entry: at some moment it was visible in its slot, and each slot of an earlier probe lacked
+    // of the call, right behind one of its own steps. So none stood visible in one slot through the
+    // whole call. One that finds an entry: at some moment the very entry that the client holds
+    // under the handle's serial was visible in its slot, and each slot of an earlier probe lacked
     // one at some.
     ensures lasting { (cache : Cache T) (key : Key) (found : Option Handle) (old new : Client T)
         (h : SearchesFor cache T.fits key found old new)
-        → FindsLasting h.shard.table (key_to cache.seed key) h.did.0 h.was.seat h.is.seat }
+        → FindsLasting h.shard.table (key_to cache.seed key) old.used h.did.0 h.was.seat
+        h.is.seat }
 
-    // So it is of a read by a key that misses.
-    ensures gets { (cache : Cache T) (key : Key) (useful : Bool) (before after : List ℕ)
-        (old new : Client T) (h : GetsAt cache T.fits key useful Miss before after old new)
-        → FindsLasting h.shard.table (key_to cache.seed key) None h.was.seat h.is.seat }
+    // So it is of a read by a key, of the entry whose value it read.
+    ensures gets { (cache : Cache T) (key : Key) (useful : Bool) (got : Got)
+        (before after : List ℕ) (old new : Client T)
+        (h : GetsAt cache T.fits key useful got before after old new)
+        → GotLasting (fits_seeded T.fits) h.shard (key_to cache.seed key) useful got before after
+        h.was h.is h.did }
 
     // In a cache of one client a look-up misses where the world that the client knows of the shard
     // when the call begins shows the key in no slot, else it finds the slot of the earliest probe

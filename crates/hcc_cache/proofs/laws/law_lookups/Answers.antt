@@ -4,14 +4,14 @@ use Rattle.hcc_rule.specs.declared.geometry.Geometry.{Geometry}
 use Rattle.hcc_rule.specs.declared.key.Key.{Key}
 use Rattle.hcc_rule.specs.Callers.{clients_of, slots_of}
 use Rattle.hcc_table.specs.declared.pins.Pin.{Pin}
-use Rattle.hcc_table.specs.Standing.{ShowsKey, world_at}
+use Rattle.hcc_table.specs.Standing.{FindsLasting, ShowsKey, world_at}
 use Rattle.hcc_shard.specs.declared.erasing.TheConstants.{IN_FLIGHT}
 use Rattle.hcc_shard.specs.declared.getting.Got.{Got}
 use Rattle.hcc_shard.specs.declared.getting.Got.TheVariants.{Hit, Miss, Short}
 use Rattle.hcc_shard.specs.declared.seat.ShardSeat.{ShardSeat}
 use Rattle.hcc_shard.specs.declared.shard.Shard.{Shard}
 use Rattle.hcc_shard.specs.Callers.{SearchesAt}
-use Rattle.hcc_shard.specs.Gets.{Gets}
+use Rattle.hcc_shard.specs.Gets.{Gets, GotLasting}
 use Rattle.hcc_cache.specs.Sharding.{key_to}
 use Rattle.hcc_cache.proofs.laws.law_lookups.Goals as goal
 
@@ -32,6 +32,18 @@ module _ {T A : Type 0} (fits : T → Key → List ℕ → Type 0) (shard : Shar
     λ lacks. let none = (exactly (Some did.pin) did.held did.searches).1 lacks in cc,
   )
 
+-- What is so of its search is so of a read by a key.
+module _ {T A : Type 0} (fits : T → Key → List ℕ → Type 0) (shard : Shard T A) (key : Key)
+    (useful : Bool) (before after : List ℕ) (was is : ShardSeat T)
+    (lasts : (answer : Option Pin) (held : ShardSeat T)
+    → SearchesAt fits shard key IN_FLIGHT answer was held
+    → FindsLasting shard.table key IN_FLIGHT answer was.seat held.seat) where
+  got_there : (got : Got) (did : Gets fits shard key useful got before after was is)
+      → GotLasting fits shard key useful got before after was is did
+  got_there Miss did = lasts None is did.2
+  got_there (Hit count) did = lasts (Some did.pin) did.held did.searches
+  got_there (Short count) did = lasts (Some did.pin) did.held did.searches
+
 found_some : {A : Type 0} (o : Option A) → (IsNone o → ⊥) → IsSome o
 found_some None never = absurd (never refl)
 found_some (Some x) never = refl
@@ -42,9 +54,10 @@ returns-clause-lasting g c = λ cache key found old new h.
     h.was.effort h.is.effort h.was.seat h.is.seat h.did.2
 
 pub returns-clause-gets : goal.returns-clause-gets
-returns-clause-gets g c = λ cache key useful before after old new h.
-    c.law_lasting.ensures h.shard.table (key_to cache.seed key) IN_FLIGHT h.shard.marks None
-    h.was.effort h.is.effort h.was.seat h.is.seat h.did.2
+returns-clause-gets g c = λ cache key useful got before after old new h.
+    got_there _ h.shard (key_to cache.seed key) useful before after h.was h.is
+    (λ answer held did. c.law_lasting.ensures h.shard.table (key_to cache.seed key) IN_FLIGHT
+    h.shard.marks answer h.was.effort held.effort h.was.seat held.seat did) got h.did
 
 pub returns-clause-first : goal.returns-clause-first
 returns-clause-first g c = λ config tag cache is_of one key found old new h.
