@@ -5,6 +5,7 @@ use Rattle.hcc_core.specs.Opening.{new_client}
 use Rattle.hcc_rule.specs.declared.rule.Plan.{Plan}
 use Rattle.hcc_rule.specs.declared.table.RuleTable.{RuleTable}
 use Rattle.hcc_rule.specs.declared.view.View.{View}
+use Rattle.hcc_rule.specs.Callers.{id_of, plan_of}
 use Rattle.hcc_rule.specs.Seats.{SeatOf, IsSeatOf, view}
 use Rattle.hcc_rule.specs.Work.{Carries}
 
@@ -31,4 +32,4 @@ module _ {T A : Type 0} where
   -- a seat of this client at this table, in the same way
   abbrev pub IsReadySeatAt : RuleTable T A → (client shown : ℕ) → SeatOf T → Type 0
   IsReadySeatAt table client shown seat =
-      IsReadySeat table.table.shared.table_id table.table.shared.key.tag client shown seat
+      IsReadySeat (id_of table) (plan_of table).tag client shown seat

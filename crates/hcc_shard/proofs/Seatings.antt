@@ -4,7 +4,7 @@ use Rattle.hcc_core.specs.declared.limits.TheConstants.{MOST_CLIENTS}
 use Rattle.hcc_rule.specs.declared.image.ImageEntry.{ImageEntry}
 use Rattle.hcc_rule.specs.declared.view.Other.{Other}
 use Rattle.hcc_rule.specs.declared.view.View.{View}
-use Rattle.hcc_rule.specs.Callers.{plan_of}
+use Rattle.hcc_rule.specs.Callers.{id_of, plan_of}
 use Rattle.hcc_rule.specs.Beginnings.{AreSeatsAt, AreSeatsAtWith}
 use Rattle.hcc_rule.specs.Images.{maker_of}
 use Rattle.hcc_rule.specs.Opening.{unstarted}
@@ -91,10 +91,10 @@ module _ {T : Type 0} where
 module _ {T A : Type 0} (shard : Shard T A) where
   -- the seat of a client that did nothing but this, at rest
   begun_seat : (o : Other) (seat : SeatOf T) (named : ShardSeat T)
-      → IsStartedSeat shard.table.table.shared.table_id (plan_of shard.table).tag o seat
+      → IsStartedSeat (id_of shard.table) (plan_of shard.table).tag o seat
       → IsNumbered o.client seat named → o.client < MOST_CLIENTS → IsBegun shard o named
   begun_seat o seat named s n low =
-      let is : IsStartedSeat shard.table.table.shared.table_id (plan_of shard.table).tag o
+      let is : IsStartedSeat (id_of shard.table) (plan_of shard.table).tag o
       named.seat = rw n.seat_is s in record {
         rests = record {
           at = is.seat_of;

@@ -1,4 +1,5 @@
 use Rattle.std.proofs.Common.{◌≡◌, ◌+◌, ◌/◌, ◌∙◌, ap, arith, length, refl}
+use Rattle.hcc_rule.specs.Callers.{id_of, plan_of}
 use Rattle.hcc_rule.specs.Words.{payload_word}
 use Rattle.hcc_table.proofs.Logs.{adds_none, adds_one, adds_then}
 use Rattle.hcc_table.specs.Seeking.{is_write}
@@ -17,7 +18,7 @@ loop-k-init g c = (
 pub write_at-requires-clause-seat : goal.write_at-requires-clause-seat
 write_at-requires-clause-seat g c =
     still_seat c.args.value.now c.loop-k.k c.args.seat.now c.loop-k.seat c.loop-k.invariant.0
-    c.args.table.now.table.shared.table_id c.args.table.now.table.shared.key.tag c.requires.seat
+    (id_of c.args.table.now) (plan_of c.args.table.now).tag c.requires.seat
 
 pub write_at-requires-clause-owned : goal.write_at-requires-clause-owned
 write_at-requires-clause-owned g c =
