@@ -5,7 +5,6 @@ use Rattle.hcc_core.specs.Sums.{total}
 use Rattle.hcc_rule.specs.declared.image.ImageEntry.{ImageEntry}
 use Rattle.hcc_rule.specs.declared.key.Key.{Key}
 use Rattle.hcc_rule.specs.declared.view.Other.{Other}
-use Rattle.hcc_rule.specs.Beginnings.{OpensWith}
 use Rattle.hcc_rule.specs.Images.{entries_in, maker_of}
 use Rattle.hcc_rule.specs.Opening.{unstarted}
 use Rattle.hcc_rule.specs.Views.{Each}
@@ -19,7 +18,7 @@ use Rattle.hcc_cache.specs.declared.config.Config.{Config}
 use Rattle.hcc_cache.specs.declared.seeded.Seeded.{Seeded}
 use Rattle.hcc_cache.specs.Ended.{KnowNothing}
 use Rattle.hcc_cache.specs.Images.{Visible, visible_from}
-use Rattle.hcc_cache.specs.Keys.{IsKeyOf, fits_seeded}
+use Rattle.hcc_cache.specs.Keys.{IsKeyOf}
 use Rattle.hcc_cache.specs.Known.{Knows}
 use Rattle.hcc_cache.specs.Opened.{IsCacheOf}
 use Rattle.hcc_cache.specs.Sharding.{IsReached}
@@ -51,10 +50,9 @@ share_of (suc number) es = unstarted (suc number)
 
 -- The shard of this number has those entries that were taken and belong there. Whatever is counted
 -- of them is the same in sum: so each stands there once, and no other does. Each is in the slot of
--- a probe of its key, and each earlier probe of that key has another. Until a client makes a step
--- the shard's words are theirs.
-pub record BeginsAs {T A : Type 0} (fits : T → Key → List ℕ → Type 0) (config : Config)
-    (taken : List Visible) (s : ℕ) (shard : Shard (Seeded T) A) : Type 0 where
+-- a probe of its key, and each earlier probe of that key has another.
+pub record BeginsAs {T A : Type 0} (config : Config) (taken : List Visible) (s : ℕ)
+    (shard : Shard (Seeded T) A) : Type 0 where
   pub counts : (f : Visible → ℕ)
       → total (λ (e : ImageEntry). f (visible_from config.seed e)) (image_of shard)
       ≡ sum_in config s (λ (e : Visible). f (begun e)) taken
@@ -63,7 +61,6 @@ pub record BeginsAs {T A : Type 0} (fits : T → Key → List ℕ → Type 0) (c
   pub home : Each (IsHomeEntry config.seed config.shards s) (image_of shard)
   pub placed : (k : ℕ) (e : ImageEntry) → slice_get (image_of shard) k ≡ Some e
       → IsReached config.slots e.key (HasAt (image_of shard)) e.slot
-  pub words : OpensWith (fits_seeded fits) shard.table (image_of shard)
 
 module _ {T A : Type 0} where
   -- how many serials the client of this number used: client 0 one for each entry of a shard
@@ -104,7 +101,7 @@ module _ {T : Type 0} where
     pub cache_is : IsCacheOf config tag cache
     pub begins : (s : ℕ) (shard : Shard (Seeded T) _)
         → slice_get cache.shards.items s ≡ Some shard
-        → BeginsAs fits config (split_of config image).taken s shard
+        → BeginsAs config (split_of config image).taken s shard
     pub clients_are : length clients ≡ config.clients
     pub started : (k : ℕ) (client : Client T) → slice_get clients k ≡ Some client
         → IsStarted config cache.shards.items k client

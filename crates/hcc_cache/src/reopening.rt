@@ -1,7 +1,6 @@
 //! A cache that begins with an image.
 ghost use Rattle.std.specs.Prelude.{◌≡◌, ◌≤◌, [], List, Err, IfErr, IfOk, IsOkUnless, None, OnOk, length, map, min};
 ghost use Rattle.hcc_core.specs.declared.limits.TheConstants.{MOST_SLOTS};
-ghost use Rattle.hcc_rule.specs.Beginnings.{OpensWith};
 ghost use Rattle.hcc_shard.specs.Reopened.{AreFitting, refusal_of};
 ghost use Rattle.hcc_shard.specs.Seated.{AreBegun};
 ghost use Rattle.hcc_shard.specs.Stays.{BeganWithinLimits, KnowNoEvent};
@@ -127,8 +126,6 @@ fn reopened<T: Tag + Copy>(
         entries.now.items ≡ None }
     ensures shard { IfOk result (λ made. IsConfigured config tag made.0) }
     ensures image { IfOk result (λ made. image_of made.0 ≡ entries.now.items) }
-    ensures words { IfOk result (λ made.
-        OpensWith (fits_seeded T.fits) made.0.table entries.now.items) }
     ensures count { IfOk result (λ made. length made.1.items ≡ config.clients) }
     ensures seats { IfOk result (λ made. AreBegun made.0 entries.now.items made.1.items) }
     ensures began { IfOk result (λ made. BeganWithinLimits made.0 (fits_seeded T.fits)) }

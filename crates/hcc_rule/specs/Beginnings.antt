@@ -1,12 +1,7 @@
 -- What a table is made with.
-use Rattle.std.specs.Prelude.{◌≡◌, ℕ, List}
-use Rattle.atomic_table.specs.Table.{State}
+use Rattle.std.specs.Prelude.{ℕ, List}
 use Rattle.hcc_rule.specs.declared.image.ImageEntry.{ImageEntry}
-use Rattle.hcc_rule.specs.declared.key.Key.{Key}
 use Rattle.hcc_rule.specs.declared.table.RuleTable.{RuleTable}
-use Rattle.hcc_rule.specs.declared.view.Logged.{Logged}
-use Rattle.hcc_rule.specs.Images.{BeginsWith}
-use Rattle.hcc_rule.specs.Logs.{HoldsLogged, moves_in}
 use Rattle.hcc_rule.specs.Seats.{SeatOf}
 use Rattle.hcc_rule.specs.NewSeats.{AreNewSeats, AreSeatsWith}
 use Rattle.hcc_rule.specs.Callers.{id_of, plan_of}
@@ -21,9 +16,3 @@ module _ {T A : Type 0} where
   abbrev pub AreSeatsAtWith : RuleTable T A → List ImageEntry → List (SeatOf T) → Type 0
   AreSeatsAtWith table es seats =
       AreSeatsWith (id_of table) (plan_of table).tag es seats
-
-  -- until a seat of this table makes a step, its words are those of these entries
-  abbrev pub OpensWith : (T → Key → List ℕ → Type 0) → RuleTable T A → List ImageEntry → Type 0
-  OpensWith fits table es =
-      (s : State (Unit {0}) (Logged T)) → HoldsLogged fits (plan_of table) s → moves_in s ≡ 0
-      → BeginsWith table.geometry.slots table.geometry.room es s.words

@@ -2,7 +2,7 @@
 ghost use Rattle.std.specs.Prelude.{◌≡◌, ◌+◌, ◌≤◌, [], IfOk, length};
 ghost use Rattle.hcc_rule.specs.Acts.{past};
 ghost use Rattle.hcc_rule.specs.Callers.{plan_of, geometry_of, capacity_of, is_strict, IsSeatAt};
-ghost use Rattle.hcc_rule.specs.Beginnings.{AreSeatsAt, AreSeatsAtWith, OpensWith};
+ghost use Rattle.hcc_rule.specs.Beginnings.{AreSeatsAt, AreSeatsAtWith};
 ghost use Rattle.hcc_rule.specs.Images.{entries_in};
 ghost use Rattle.hcc_rule.specs.ImageLimits.{IsImageFor};
 ghost use Rattle.hcc_rule.specs.Opening.{opening_view};
@@ -42,7 +42,6 @@ impl<T: Tag, A: Allocator> RuleTable<T, A> {
             × (is_strict made.0 ≡ strict)) }
         ensures tag { IfOk result (λ made. (plan_of made.0).tag ≡ tag) }
         ensures image { IfOk result (λ made. entries_in (plan_of made.0).image ≡ []) }
-        ensures words { IfOk result (λ made. OpensWith T.fits made.0 []) }
         ensures count { IfOk result (λ made. length made.1.items ≡ geometry.clients) }
         ensures seats { IfOk result (λ made.
             AreSeatsAt made.0 0 made.1.items) }
@@ -89,7 +88,6 @@ impl<T: Tag, A: Allocator> RuleTable<T, A> {
         ensures tag { IfOk result (λ made. (plan_of made.0).tag ≡ tag) }
         ensures image { IfOk result (λ made.
             entries_in (plan_of made.0).image ≡ image.now.items) }
-        ensures words { IfOk result (λ made. OpensWith T.fits made.0 image.now.items) }
         ensures count { IfOk result (λ made. length made.1.items ≡ geometry.clients) }
         ensures seats { IfOk result (λ made.
             AreSeatsAtWith made.0 image.now.items made.1.items) }
@@ -121,7 +119,6 @@ impl<T: Tag, A: Allocator> RuleTable<T, A> {
         ensures size { IfOk result (λ made. geometry_of made.0 ≡ plan.geometry) }
         ensures capacity { IfOk result (λ made. (capacity_of made.0 ≡ plan.capacity)
             × (is_strict made.0 ≡ plan.strict)) }
-        ensures words { IfOk result (λ made. OpensWith T.fits made.0 (entries_in plan.image)) }
         ensures count { IfOk result (λ made. length made.1.items ≡ plan.geometry.clients) }
         ensures seats { IfOk result (λ made.
             AreSeatsAtWith made.0 (entries_in plan.image) made.1.items) }

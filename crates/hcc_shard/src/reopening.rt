@@ -4,7 +4,6 @@ ghost use Rattle.std.specs.List.{list_any};
 ghost use Rattle.hcc_core.specs.declared.limits.TheConstants.{MOST_SLOTS};
 ghost use Rattle.hcc_rule.specs.declared.layout.TheConstants.{MOST_ROOM};
 ghost use Rattle.hcc_rule.specs.Callers.{capacity_of, geometry_of, is_strict, plan_of};
-ghost use Rattle.hcc_rule.specs.Beginnings.{OpensWith};
 ghost use Rattle.hcc_rule.specs.Images.{entries_in};
 ghost use Rattle.hcc_rule.specs.ImageLimits.{charges_of};
 ghost use Rattle.hcc_rule.specs.Seats.{IsPlanned};
@@ -101,7 +100,6 @@ impl<T: Tag, A: Allocator> Shard<T, A> {
         ensures tag { IfOk result (λ made. (plan_of made.0.table).tag ≡ tag) }
         ensures image { IfOk result (λ made.
             entries_in (plan_of made.0.table).image ≡ image.now.items) }
-        ensures words { IfOk result (λ made. OpensWith T.fits made.0.table image.now.items) }
         ensures count { IfOk result (λ made. length made.1.items ≡ geometry.clients) }
         ensures seats { IfOk result (λ made. AreBegun made.0 image.now.items made.1.items) }
         ensures began { IfOk result (λ made. BeganWithinLimits made.0 T.fits) }

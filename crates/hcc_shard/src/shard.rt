@@ -2,7 +2,6 @@
 ghost use Rattle.std.specs.Prelude.{◌≡◌, ◌≤◌, [], IfOk, length};
 ghost use Rattle.hcc_core.specs.declared.limits.TheConstants.{MOST_CLIENTS};
 ghost use Rattle.hcc_rule.specs.Callers.{capacity_of, geometry_of, is_strict, plan_of};
-ghost use Rattle.hcc_rule.specs.Beginnings.{OpensWith};
 ghost use Rattle.hcc_rule.specs.Images.{entries_in};
 ghost use Rattle.hcc_rule.specs.Seats.{IsPlanned};
 ghost use Rattle.hcc_shard.specs.Seated.{AreNew, AreNumbered};
@@ -45,7 +44,6 @@ impl<T: Tag, A: Allocator> Shard<T, A> {
         ensures marks { IfOk result (λ made. made.0.marks ≡ marks) }
         ensures tag { IfOk result (λ made. (plan_of made.0.table).tag ≡ tag) }
         ensures image { IfOk result (λ made. entries_in (plan_of made.0.table).image ≡ []) }
-        ensures words { IfOk result (λ made. OpensWith T.fits made.0.table []) }
         ensures count { IfOk result (λ made. length made.1.items ≡ geometry.clients) }
         ensures seats { IfOk result (λ made. AreNew made.0 0 made.1.items) }
         ensures began { IfOk result (λ made. BeganWithinLimits made.0 T.fits) }

@@ -6,7 +6,6 @@ use Rattle.hcc_core.specs.declared.limits.TheConstants.{MOST_SLOTS, MOST_USES, O
 use Rattle.hcc_core.specs.Sums.{total}
 use Rattle.hcc_rule.specs.declared.image.ImageEntry.{ImageEntry}
 use Rattle.hcc_rule.specs.declared.key.Key.{Key}
-use Rattle.hcc_rule.specs.Beginnings.{OpensWith}
 use Rattle.hcc_rule.specs.ImageLimits.{charges_of}
 use Rattle.hcc_rule.specs.Views.{Each}
 use Rattle.hcc_rule.proofs.Seats.Splits.{each_snoc}
@@ -184,7 +183,7 @@ pub record IsReopening {T A : Type 0} (fits : T → Key → List ℕ → Type 0)
   pub configured : (s : ℕ) (shard : Shard (Seeded T) A) → slice_get shards s ≡ Some shard
       → IsConfigured c tag shard
   pub begins : (s : ℕ) (shard : Shard (Seeded T) A) → slice_get shards s ≡ Some shard
-      → BeginsAs fits c taken s shard
+      → BeginsAs c taken s shard
   pub began : (s : ℕ) (shard : Shard (Seeded T) A) → slice_get shards s ≡ Some shard
       → BeganWithinLimits shard (fits_seeded fits)
   pub sharing : AreSharing c shards clients
@@ -226,11 +225,11 @@ module _ {T A : Type 0} (fits : T → Key → List ℕ → Type 0) (c : Config) 
     pub reopening_more : (shard : Shard (Seeded T) A) (now : List (Client T))
         (seats : List (ShardSeat (Seeded T))) (es : List ImageEntry)
         → es ≡ standing d.places.items → IsConfigured c tag shard → image_of shard ≡ es
-        → OpensWith (fits_seeded fits) shard.table es → AreBegun shard es seats
+        → AreBegun shard es seats
         → BeganWithinLimits shard (fits_seeded fits) → KnowNoEvent seats
         → AreGiven 0 clients seats now
         → IsReopening fits c tag taken all (shards ++ shard ∷ []) now (max most (length es)) rest
-    reopening_more shard now seats es stand configured image words begun within none given =
+    reopening_more shard now seats es stand configured image begun within none given =
         let longer = length-append shards (shard ∷ []) in
         let count = is.count in
         let same : image_of shard ≡ standing d.places.items = image ∙ stand in
@@ -258,7 +257,6 @@ module _ {T A : Type 0} (fits : T → Key → List ℕ → Type 0) (c : Config) 
               home = rw same (draft_home c taken (length shards) d next_draft);
               placed = λ k e at. rw same (draft_placed c taken (length shards) d next_draft k e
                   (ap (λ xs. slice_get xs k) (sym same) ∙ at));
-              words = rw image words;
             })
           ];
           began = each_snoc (λ s. BeganWithinLimits s (fits_seeded fits)) shards shard within
@@ -279,7 +277,7 @@ module _ {T : Type 0} (fits : T → Key → List ℕ → Type 0) (config : Confi
   -- Once all shards are opened, and each client is started, it is a cache with what was taken.
   pub reopened_all : IsAllowed config → IsCacheOf config tag cache
       → ((s : ℕ) (shard : Shard (Seeded T) _) → slice_get cache.shards.items s ≡ Some shard
-      → BeginsAs fits config (split_of config image).taken s shard)
+      → BeginsAs config (split_of config image).taken s shard)
       → length clients ≡ config.clients
       → ((k : ℕ) (client : Client T) → slice_get clients k ≡ Some client
       → IsStarted config cache.shards.items k client)

@@ -54,7 +54,7 @@ loop-draft-preserved g c =
     rw (c.in_ok-push.ensures.items, most) (reopening_more g.T.Tag.fits config c.args.tag taken _
     c.loop-draft.shards.items c.loop-draft.clients.items c.loop-draft.most draft
     c.next.new.self.rest.items before c.in_ok-shard.shard c.deal.new.clients.items
-    c.in_ok-shard.seats.items es c.in_ok-entries.ensures made.shard made.image made.words
+    c.in_ok-shard.seats.items es c.in_ok-entries.ensures made.shard made.image
     made.seats made.began made.past c.in_ok-deal.ensures)
 
 pub returns-clause-made : goal.returns-clause-made
