@@ -1,21 +1,27 @@
 -- The reading of a key's value: the reference that it holds meanwhile.
-use Rattle.std.proofs.Common.{◌≡◌, ℕ, ◌+◌, ◌*◌, ◌≤◌, Bool, List, Option, None, Some, IfSome, IsSomeAnd, length, ap, subst, ◌∙◌, arith}
+use Rattle.std.proofs.Common.{◌≡◌, ℕ, ◌+◌, ◌*◌, ◌≤◌, Bool, true, false, List, Option, None, Some, IfSome, IsSomeAnd, length, refl, ap, subst, ◌∙◌, arith}
 use Rattle.std.proofs.lemmas.Bool.{eq-eqb}
 use Rattle.hcc_core.specs.Outcomes.{dropped}
 use Rattle.hcc_rule.specs.declared.geometry.Geometry.{Geometry}
 use Rattle.hcc_rule.specs.declared.key.Key.{Key}
+use Rattle.hcc_rule.specs.declared.table.RuleTable.{RuleTable}
 use Rattle.hcc_rule.specs.declared.view.Record.{Record}
 use Rattle.hcc_rule.specs.declared.view.View.{View}
+use Rattle.hcc_rule.specs.Events.{give_done}
 use Rattle.hcc_rule.specs.Records.{record_in}
+use Rattle.hcc_rule.specs.Seats.{SeatOf, view}
 use Rattle.hcc_rule.specs.ToldReferences.{after_give}
 use Rattle.hcc_rule.specs.Views.{is_called}
 use Rattle.hcc_rule.specs.Words.{words_for}
 use Rattle.hcc_table.specs.declared.pins.Pin.{Pin}
+use Rattle.hcc_table.specs.Freed.{IsLeftBy}
 use Rattle.hcc_table.specs.Pins.{IsPinned}
 use Rattle.hcc_table.specs.Readings.{IsReadable}
 use Rattle.hcc_table.specs.Searched.{IsFound, Sought}
+use Rattle.hcc_table.specs.Seeking.{Seeks}
 use Rattle.hcc_table.proofs.Probes.{dropped_last, found_held, given_at}
 use Rattle.hcc_table.proofs.Searches.{searched_then}
+use Rattle.hcc_table.proofs.Seeking.{seeks_one}
 use Rattle.hcc_shard.specs.declared.erasing.TheConstants.{IN_FLIGHT}
 use Rattle.hcc_shard.specs.declared.getting.Got.{Got}
 use Rattle.hcc_shard.specs.declared.getting.Got.TheVariants.{Hit, Miss, Short}
@@ -85,6 +91,13 @@ loads_within room Miss value before after copies short = absurd copies
 loads_within room (Hit count) value before after copies short =
     let exact = copies.0 in omega (arith, exact, short)
 loads_within room (Short count) value before after copies short = omega arith
+
+-- What gives a reference back, and not as a use, is what a search does.
+pub gives_seek : {T A : Type 0} (table : RuleTable T A) (used : Bool) (weight name left : ℕ)
+    (a b : SeatOf T) → used ≡ false → IsLeftBy table weight name used left a b → Seeks table a b
+gives_seek table true weight name left a b none h = cc
+gives_seek table false weight name left a b none h =
+    seeks_one table (give_done weight name h.0 (view a)) a b h.2 refl
 
 -- A reading that found an entry is one by its answer.
 pub gets_out : {T A : Type 0} (fits : T → Key → List ℕ → Type 0) (shard : Shard T A) (key : Key)

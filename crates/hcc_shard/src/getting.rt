@@ -1,5 +1,5 @@
 //! Values that are read by their keys.
-ghost use Rattle.std.specs.Prelude.{◌≡◌, ◌+◌, IfSome, IsSomeAnd};
+ghost use Rattle.std.specs.Prelude.{◌≡◌, ◌+◌, false, IfSome, IsSomeAnd};
 ghost use Rattle.hcc_rule.specs.Callers.{room_of, slots_of, IsSeatAt};
 ghost use Rattle.hcc_rule.specs.Records.{record_in};
 ghost use Rattle.hcc_rule.specs.Seats.{IsSameSeat, view};
@@ -12,7 +12,7 @@ ghost use Rattle.hcc_table.specs.Steps.{MakesAtMost, MakesFor};
 ghost use Rattle.hcc_shard.specs.Counted.{SameEvictions};
 ghost use Rattle.hcc_shard.specs.Gets.{CopiesOut, Gets, loads_of};
 ghost use Rattle.hcc_shard.specs.Seated.{Rests};
-ghost use Rattle.hcc_shard.specs.Stays.{StaysAt};
+ghost use Rattle.hcc_shard.specs.Stays.{SeeksAt, StaysAt};
 
 use crate::erasing::IN_FLIGHT;
 use crate::seat::ShardSeat;
@@ -51,6 +51,7 @@ impl<T: Tag, A: Allocator> Shard<T, A> {
         ensures gets { Gets T.fits self.now key (is_useful as_use) result buffer.old buffer.new
             seat.old seat.new }
         ensures stays { StaysAt self.now seat.old seat.new }
+        ensures unused { is_useful as_use ≡ false → SeeksAt self.now seat.old seat.new }
         ensures effort { Took 1 (slots_of self.now.table) (slots_of self.now.table)
             seat.old.effort seat.new.effort }
         ensures counts { SameEvictions seat.old seat.new }

@@ -11,9 +11,9 @@ use Rattle.hcc_table.proofs.Finds.{seat_then}
 use Rattle.hcc_table.proofs.Lasting.{searches_seek}
 use Rattle.hcc_table.proofs.Probes.{found_held}
 use Rattle.hcc_table.proofs.Releases.{gives_still}
-use Rattle.hcc_table.proofs.Seeking.{goes_then}
+use Rattle.hcc_table.proofs.Seeking.{goes_then, seeks_then}
 use Rattle.hcc_table.proofs.Still.{seeks_still}
-use Rattle.hcc_shard.proofs.Gettings.{gets_out, got_back, got_copied, got_pinned, got_readable, loads_within, none_in_flight}
+use Rattle.hcc_shard.proofs.Gettings.{gets_out, gives_seek, got_back, got_copied, got_pinned, got_readable, loads_within, none_in_flight}
 use Rattle.hcc_shard.proofs.Names.{load_is}
 use Rattle.hcc_shard.proofs.Resting.{quiet_sought, rests_again}
 use Rattle.hcc_shard.proofs.shard.Shard.get.Goals as goal
@@ -93,6 +93,9 @@ returns-in-Some g c =
     told.found.1
     (λ r. CopiesOut c.copy_out-got.result r.entry.value c.args.buffer.now
     c.copy_out-got.new.buffer) told.pin.1 c.copy_out-got.ensures.copies in
+    let searching =
+    searches_seek g.T.Tag.fits table c.args.key IN_FLIGHT c.args.self.now.marks (Some pin)
+    old.effort c.find.new.effort old.seat c.find.new.seat told.searches in
     let few =
     loads_within (room_of table) c.copy_out-got.result told.found.0.entry.value c.args.buffer.now
     c.copy_out-got.new.buffer copied told.found.1.short in
@@ -126,13 +129,17 @@ returns-in-Some g c =
           });
       stays =
           goes_then table is_still old.seat c.find.new.seat c.give_back.new.seat
-          (seeks_still table old.seat c.find.new.seat
-          (searches_seek g.T.Tag.fits table c.args.key IN_FLIGHT c.args.self.now.marks (Some pin)
-          old.effort c.find.new.effort old.seat c.find.new.seat told.searches))
+          (seeks_still table old.seat c.find.new.seat searching)
           (goes_then table is_still c.find.new.seat c.copy_out-got.new.seat c.give_back.new.seat
           (seeks_still table c.find.new.seat c.copy_out-got.new.seat c.copy_out-got.ensures.seeks)
           (gives_still table (is_useful c.args.as_use && pin.counting) 1 pin.name gives.0
           c.copy_out-got.new.seat c.give_back.new.seat gives.2));
+      unused = λ none.
+          seeks_then table old.seat c.copy_out-got.new.seat c.give_back.new.seat
+          (seeks_then table old.seat c.find.new.seat c.copy_out-got.new.seat searching
+          c.copy_out-got.ensures.seeks)
+          (gives_seek table (is_useful c.args.as_use && pin.counting) 1 pin.name gives.0
+          c.copy_out-got.new.seat c.give_back.new.seat (ap (λ b. b && pin.counting) none) gives.2);
       effort = told.effort;
       counts = (refl, refl);
       steps = record {
@@ -150,3 +157,10 @@ returns-in-None-clause-stays g c =
     seeks_still table old.seat c.find.new.seat
     (searches_seek g.T.Tag.fits table c.args.key IN_FLIGHT c.args.self.now.marks None old.effort
     c.find.new.effort old.seat c.find.new.seat c.in-None.ensures.searches)
+
+pub returns-in-None-clause-unused : goal.returns-in-None-clause-unused
+returns-in-None-clause-unused g c none =
+    let table = c.args.self.now.table in
+    let old = c.args.seat.now in
+    searches_seek g.T.Tag.fits table c.args.key IN_FLIGHT c.args.self.now.marks None old.effort
+    c.find.new.effort old.seat c.find.new.seat c.in-None.ensures.searches
