@@ -155,7 +155,8 @@ module _ {T : Type 0} where
               (eq-eqb there there refl)
 
       -- One less is left.
-      pub shorter : (new : SeatOf T) (next : Walk) → IsTakingBack slots key slot (i + 1) next seat new
+      pub shorter : (new : SeatOf T) (next : Walk)
+          → IsTakingBack slots key slot (i + 1) next seat new
           → length (view now).work.trail ≡ length (view new).work.trail + 1
       shorter new next back =
           let was = ap length first_is in

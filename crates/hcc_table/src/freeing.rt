@@ -24,7 +24,7 @@ use std::alloc::Allocator;
 /// before the slot, and empties it. It returns the entry's charge, which the client has to settle
 /// with its place.
 ///
-/// It allocates nothing. It costs three loads, a subtraction for each slot of the trail, and a store.
+/// It allocates nothing. It costs three loads, a subtraction for each slot of its trail, a store.
 pub fn free_taken<T: Tag, A: Allocator>(
     table: &RuleTable<T, A>,
     seat: &mut RuleSeat<T>,
