@@ -1,5 +1,5 @@
 -- What is left of a view once amounts and places were given back, and once a standalone entry was
--- made or let go; and by which events.
+-- made or let go; and by which steps, or events.
 use Rattle.std.specs.Prelude.{◌≡◌, ℕ, ◌+◌, ◌<◌, Bool, true, false, nat_lt, [], ◌∷◌, ◌++◌, if◌then◌else◌}
 use Rattle.hcc_core.specs.declared.client.Place.{Place}
 use Rattle.hcc_core.specs.declared.client.Place.TheVariants as places

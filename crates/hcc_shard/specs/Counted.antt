@@ -65,7 +65,7 @@ LoadsUsage shard result old new =
 
 module _ {T A : Type 0} (fits : T → Key → List ℕ → Type 0) (table : RuleTable T A) where
   -- A slot was looked at, and this charge was counted there. All that the seat did there was to
-  -- search: what it acquired it gave back, and not as a use.
+  -- search: nothing was released as a use.
   pub record CountsAt (slot charge : ℕ) (before after : Effort) (old new : SeatOf T) : Type 0 where
     pub counts : CountsHeld fits table IN_FLIGHT slot charge before after old new
     pub seeks : Seeks table old new

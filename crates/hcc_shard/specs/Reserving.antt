@@ -53,8 +53,8 @@ module _ {T A : Type 0} (shard : Shard T A) (draft : Draft) where
       (matched ≡ false) × ((view new.seat).saw ≡ (view old.seat).saw)
       × (new.effort.probes ≡ old.effort.probes)
 
-  -- What came last, event by event: what was reserved was given up; or a standalone entry
-  -- was made of the charge, which stays or is added first.
+  -- What came last, event by event: what was reserved was given up, if anything was; or a
+  -- standalone entry was made of the charge, which stays or is added first.
   abbrev pub EndsBy : (keeps : Bool) → Reservation → (old new : SeatOf T) → Type 0
   EndsBy false Reserved old new = GivesUp shard.table old new
   EndsBy false NoPlace old new = new ≡ old
@@ -63,7 +63,7 @@ module _ {T A : Type 0} (shard : Shard T A) (draft : Draft) where
       StandsBy shard.table false draft.serial draft.charge old new
 
 module _ {T A : Type 0} (fits : T → Key → List ℕ → Type 0) (shard : Shard T A) (draft : Draft) where
-  -- An insertion began with a reservation, which answered this, evicted just what it asked for,
+  -- An insertion began with a reservation, which answered this, evicted just for what it asks,
   -- counted the exchanges that its eviction lost, and ended at this seat. What came behind it
   -- evicted nothing; and where it saw fewer slots taken than there are, it only added steps.
   pub record ReservedAs (answer : Result Reservation Refused) (old new : ShardSeat T) : Type 0 where

@@ -100,7 +100,7 @@ module _ {T A : Type 0} (fits : T → Key → List ℕ → Type 0) (table : Rule
     pub loads : is_visible word ≡ true → LoadsOther table key slot mid new
 
   -- A slot was passed: it was found not visible, by the first step there or by the add that came
-  -- next, or with an entry of another key. This word was found there last.
+  -- next, or with an entry of another key. The add found this word, or else the first step.
   pub record Passes (First : (seen : ℕ) → SeatOf T → SeatOf T → Type 0) (slot weight word : ℕ)
       (before after : Effort) (old new : SeatOf T) : Type 0 where
     pub seen : ℕ

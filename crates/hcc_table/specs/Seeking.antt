@@ -40,7 +40,7 @@ is_settling (events.Slots client) = true
 is_settling (events.Settle client) = true
 is_settling other = false
 
--- whether it is an event by which a client keeps, or gives back, what it reserved and freed
+-- whether it is an event by which a client reserves, keeps or gives back what it needs or freed
 abbrev pub is_booking : Event → Bool
 is_booking (events.Charge client charge) = true
 is_booking (events.Slots client) = true
@@ -51,7 +51,7 @@ is_booking (events.Stand client charge name) = true
 is_booking other = false
 
 module _ {T A : Type 0} (table : RuleTable T A) where
-  -- The seat did these, one after the other, and nothing else.
+  -- The seat did these, one after the other, and no other event.
   abbrev pub Does : List Done → (old new : SeatOf T) → Type 0
   Does [] old new = new ≡ old
   Does (done ∷ rest) old new = (mid : SeatOf T) × IsEvent table done old mid × Does rest mid new

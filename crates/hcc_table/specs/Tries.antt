@@ -96,8 +96,8 @@ module _ {T A : Type 0} (fits : T → Key → List ℕ → Type 0) (table : Rule
 
   -- An insertion passed some slots, or none, each of which was taken and not visible with the key.
   -- At the next probe it ended: there it placed its entry, or met a visible one of the key, or the
-  -- slot was passed too, as that of the last probe. Where nothing was placed, the displacements
-  -- were taken back behind that, one step for each; else nothing came behind it.
+  -- slot was passed too, as that of the last probe. Where nothing was placed, displacements were
+  -- taken back behind that, by no more steps than slots were passed; else nothing came behind it.
   pub record Inserts (answer : Insertion) (before after : Effort) (old new : SeatOf T)
       : Type 0 where
     pub earlier : List ℕ
