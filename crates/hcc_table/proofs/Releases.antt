@@ -65,11 +65,12 @@ frees_tell w next client slot charge name is =
     )
 
 -- References were given back, as uses or not.
-pub gives_still : {T A : Type 0} (table : RuleTable T A) (used : Bool) (weight name left : ℕ)
-    (a b : SeatOf T) → IsLeftBy table weight name used left a b → GoesOnStill table a b
-gives_still table true weight name left a b h =
+pub gives_still : {T A : Type 0} (table : RuleTable T A) (used : Bool)
+    (slot weight name left : ℕ) (a b : SeatOf T) → IsLeftBy table slot weight name used left a b
+    → GoesOnStill table a b
+gives_still table true slot weight name left a b h =
     goes_event table is_still (spend_done weight name h.0 (view a)) a b h.2 refl
-gives_still table false weight name left a b h =
+gives_still table false slot weight name left a b h =
     goes_event table is_still (give_done weight name h.0 (view a)) a b h.2 refl
 
 -- A release that freed nothing.
@@ -77,7 +78,7 @@ pub unfreed_still : {T A : Type 0} (table : RuleTable T A) (slot name : ℕ) (us
     (a b : SeatOf T) → ReleasesBy table slot name used erase None a b → GoesOnStill table a b
 unfreed_still table slot name used erase a b h =
     goes_then table is_still a h.between b
-    (gives_still table used 1 name h.left a h.between h.gives)
+    (gives_still table used slot 1 name h.left a h.between h.gives)
     (by (is_due erase h.left) h.takes)
   where
     by : (due : Bool) → TakesByWhereDue table slot h.left None due None h.between b
@@ -159,7 +160,7 @@ module _ {T A : Type 0} (table : RuleTable T A) (one : clients_of table ≡ 1) w
   }
     where
       same : ShowsSame (world_at table a) (world_at table h.between)
-      same = still_shows a h.between (gives_still table used 1 name h.left a h.between h.gives)
+      same = still_shows a h.between (gives_still table used slot 1 name h.left a h.between h.gives)
 
       then : ShowsBut slot freed (world_at table h.between) (world_at table b)
       then = takes_show slot h.left None _ freed h.between b h.takes h.due

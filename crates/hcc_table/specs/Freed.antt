@@ -15,7 +15,7 @@ use Rattle.hcc_rule.specs.declared.view.Made.{Made}
 use Rattle.hcc_rule.specs.declared.view.View.{View}
 use Rattle.hcc_rule.specs.Acts.{did}
 use Rattle.hcc_rule.specs.Addresses.{address_of_meta}
-use Rattle.hcc_rule.specs.Callers.{IsEvent}
+use Rattle.hcc_rule.specs.Callers.{HasOn, IsEvent}
 use Rattle.hcc_rule.specs.Events.{give_done, look_done, spend_done}
 use Rattle.hcc_rule.specs.Probes.{trail_to}
 use Rattle.hcc_rule.specs.Seats.{SeatOf, Makes, view}
@@ -109,12 +109,14 @@ module _ {T : Type 0} where
   release_done used weight name word v =
       if used then spend_done weight name word v else give_done weight name word v
 
-  -- The same release, by its event.
-  abbrev pub IsLeftBy : {A : Type 0} → RuleTable T A → (weight name : ℕ) → (used : Bool)
+  -- The same release, by its event: the word that was found has as many references, and the client
+  -- has those of this name on this slot.
+  abbrev pub IsLeftBy : {A : Type 0} → RuleTable T A → (slot weight name : ℕ) → (used : Bool)
       → (left : ℕ) → (old new : SeatOf T) → Type 0
-  IsLeftBy table weight name used left old new =
+  IsLeftBy table slot weight name used left old new =
       (found : ℕ) × (left ≡ left_of used weight found)
       × IsEvent table (release_done used weight name found (view old)) old new
+      × (weight ≤ refs_of found) × HasOn slot name (view old)
 
   -- The reference of a pin was given back by one step, as a use where it is useful and counts.
   abbrev pub GivesOnce : {A : Type 0} → RuleTable T A → Pin → (useful : Bool)
@@ -122,7 +124,7 @@ module _ {T : Type 0} where
   GivesOnce table pin useful old new =
       (left : ℕ) × IsLeft (address_of_meta table pin.slot) pin.slot 1 pin.name
       (useful && pin.counting) left old new
-      × IsLeftBy table 1 pin.name (useful && pin.counting) left old new
+      × IsLeftBy table pin.slot 1 pin.name (useful && pin.counting) left old new
 
   -- To take the entry of the word that was left was tried where it was due: it was freed, or one
   -- exchange more lost. Where it wasn't due no step was made.

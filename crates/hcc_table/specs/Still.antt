@@ -41,7 +41,7 @@ module _ {T A : Type 0} (table : RuleTable T A) where
       (old new : SeatOf T) : Type 0 where
     pub left : ℕ
     pub between : SeatOf T
-    pub gives : IsLeftBy table 1 name used left old between
+    pub gives : IsLeftBy table slot 1 name used left old between
     pub takes : TakesByWhereDue table slot left None (is_due erase left) freed between new
     pub due : IfSome freed (λ charge. is_due erase left ≡ true)
 

@@ -63,7 +63,8 @@ pub fn release<T: Tag, A: Allocator>(
         (is_useful as_use && pin.counting) left seat.old between
         × TriedWhereDue (address_of_meta table.now pin.slot) left (is_due (erases last) left) result
         effort.old effort.new between seat.new
-        × IsLeftBy table.now 1 pin.name (is_useful as_use && pin.counting) left seat.old between
+        × IsLeftBy table.now pin.slot 1 pin.name (is_useful as_use && pin.counting) left
+        seat.old between
         × TakesByWhereDue table.now pin.slot left None (is_due (erases last) left) result
         between seat.new }
     ensures steps { MakesAtMost (freeing (slots_of table.now) + 1) seat.old seat.new }
@@ -120,7 +121,7 @@ pub(crate) fn let_go<T: Tag, A: Allocator>(
     ensures seat { IsSameSeat seat.old seat.new }
     ensures left { IsLeft (address_of_meta table.now at.slot) at.slot weight name used result
         seat.old seat.new }
-    ensures by { IsLeftBy table.now weight name used result seat.old seat.new }
+    ensures by { IsLeftBy table.now at.slot weight name used result seat.old seat.new }
     ensures steps { MakesAtMost 1 seat.old seat.new }
 {
     if used {

@@ -132,7 +132,7 @@ returns-in-Some g c =
           (seeks_still table old.seat c.find.new.seat searching)
           (goes_then table is_still c.find.new.seat c.copy_out-got.new.seat c.give_back.new.seat
           (seeks_still table c.find.new.seat c.copy_out-got.new.seat c.copy_out-got.ensures.seeks)
-          (gives_still table (is_useful c.args.as_use && pin.counting) 1 pin.name gives.0
+          (gives_still table (is_useful c.args.as_use && pin.counting) pin.slot 1 pin.name gives.0
           c.copy_out-got.new.seat c.give_back.new.seat gives.2));
       unused = λ none.
           seeks_then table old.seat c.copy_out-got.new.seat c.give_back.new.seat
