@@ -1,5 +1,6 @@
 -- What a client holds after a look-up, a reading and a release, and after an insertion.
-use Rattle.std.proofs.Common.{◌≡◌, ◌∙◌, ◌⊎◌, ◌==◌, ℕ, false, List, None, Result, Ok, Err, ap, refl, sym, inl, inr, arith}
+use Rattle.std.proofs.Common.{◌≡◌, ◌∙◌, ◌⊎◌, ◌==◌, ℕ, false, List, Option, Some, None, Result, Ok, Err, ap, refl, sym, inl, inr, arith}
+use Rattle.std.specs.Prelude.{IsSome}
 use Rattle.std.proofs.lemmas.Bool.{cases_Bool, eqb-true, eq-eqb}
 use Rattle.hcc_rule.specs.declared.key.Key.{Key}
 use Rattle.hcc_cache.specs.declared.cache.Cache.{Cache}
@@ -7,11 +8,12 @@ use Rattle.hcc_cache.specs.declared.client.Client.{Client}
 use Rattle.hcc_cache.specs.declared.errors.InsertError.{InsertError}
 use Rattle.hcc_cache.specs.declared.errors.InsertError.TheVariants.{HandlesFull, Spent, TooLarge, CapacityFull, OccupancyFull}
 use Rattle.hcc_cache.specs.declared.handle.Handle.{Handle}
+use Rattle.hcc_cache.specs.declared.holding.Hold.{Hold}
 use Rattle.hcc_cache.specs.declared.inserting.Inserted.{Inserted}
 use Rattle.hcc_cache.specs.declared.inserting.Inserted.TheVariants.{Placed, Dropped, Standalone}
 use Rattle.hcc_cache.specs.declared.priority.Priority.{Priority}
 use Rattle.hcc_cache.specs.Calls.{Gains, KeepsAll, Loses}
-use Rattle.hcc_cache.specs.Clients.{Held, held_as, held_of, hold_of}
+use Rattle.hcc_cache.specs.Clients.{Held, Holds, held_as, held_of, hold_of}
 use Rattle.hcc_cache.specs.Inserts.{Inserts}
 use Rattle.hcc_block.specs.Reads.{HoldsSame}
 
@@ -49,6 +51,16 @@ module _ {T : Type 0} (cache : Cache T) where
       → held_of cache client handle ≡ None
   stands_not client handle none =
       ap (held_as cache.seed client.seats.items client.alone) none
+
+  -- One that stands for something is held.
+  pub holds_what : (client : Client T) (handle : Handle) (held : Held)
+      → held_of cache client handle ≡ Some held → Holds client handle
+  holds_what client handle held is = by (hold_of client handle) is
+    where
+      by : (o : Option Hold)
+          → held_as cache.seed client.seats.items client.alone o ≡ Some held → IsSome o
+      by None is = cc
+      by (Some hold) is = refl
 
   -- A handle that was gained and then lost leaves what the client held.
   pub holds_same : (handle : Handle) (held : Held) (old found was new : Client T)

@@ -4,3 +4,5 @@ pub mod Held
 pub mod Handed
 pub mod Steps
 pub mod Counted
+pub mod Unerased
+pub mod Filled

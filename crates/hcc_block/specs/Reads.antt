@@ -16,7 +16,7 @@ use Rattle.hcc_cache.specs.Calls.{Releases, SearchesFor, TakesAtMost, TakesFor, 
 use Rattle.hcc_cache.specs.Clients.{held_by, held_of}
 use Rattle.hcc_cache.specs.Inserts.{Inserts, InsertsAt}
 use Rattle.hcc_cache.specs.Moments.{KnowsShown}
-use Rattle.hcc_cache.specs.Stays.{Stays}
+use Rattle.hcc_cache.specs.Stays.{ReleasesIn, Stays, StaysWhereStanding}
 use Rattle.hcc_block.specs.declared.reader.BlockReader.{BlockReader}
 use Rattle.hcc_block.specs.declared.reader.ReadError.{ReadError}
 use Rattle.hcc_block.specs.declared.reader.ReadError.TheVariants.{NoSuchBlock, SourceFault}
@@ -80,6 +80,8 @@ module _ {T : Type 0} (cache : Cache T) where
       pub takes : TakesAtMost (words_for (length finds.found.entry.value) + 1) found was
       pub releases : Releases cache handle false freed was new
       pub gives : GivesUp cache handle true false freed was new
+      pub by : ReleasesIn cache handle true false freed was new
+      pub standing : StaysWhereStanding cache handle was new
       pub counts_last : CountsBy handle was new
       pub lets_go : freed ≡ false → Stays cache was new
 

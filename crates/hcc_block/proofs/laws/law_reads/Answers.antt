@@ -1,9 +1,17 @@
-use Rattle.std.proofs.Common.{◌⊎◌, ◌∙◌, inl, inr, ap}
+use Rattle.std.proofs.Common.{◌≡◌, ◌⊎◌, ◌∙◌, inl, inr, true, ap, length, subst}
 use Rattle.std.specs.Prelude.{None}
 use Rattle.hcc_rule.specs.declared.geometry.Geometry.{Geometry}
+use Rattle.hcc_rule.specs.Callers.{clients_of}
 use Rattle.hcc_cache.specs.declared.cache.Cache.{Cache}
 use Rattle.hcc_cache.specs.declared.client.Client.{Client}
+use Rattle.hcc_cache.specs.declared.priority.Priority.TheVariants.{Low}
+use Rattle.hcc_cache.specs.Clients.{view_by}
+use Rattle.hcc_cache.specs.Moments.{KnowsShown}
+use Rattle.hcc_cache.specs.Room.{HasRoomBeside}
 use Rattle.hcc_block.specs.Reads.{GoesThrough}
+use Rattle.hcc_block.proofs.Filled.{inserts_keep}
+use Rattle.hcc_block.proofs.Held.{holds_what}
+use Rattle.hcc_block.proofs.Unerased.{knows_let_go}
 use Rattle.hcc_block.proofs.laws.law_reads.Goals as goal
 
 pub returns-clause-hits : goal.returns-clause-hits
@@ -24,10 +32,14 @@ returns-clause-placed g c = λ config tag cache is_of one key block old new h pl
     h.hands.shown (ap (λ (x : Geometry). x.clients) is_of.geometry ∙ one) placed
 
 pub returns-clause-kept : goal.returns-clause-kept
-returns-clause-kept g c = λ config tag cache is_of one key other old new h freed shown.
+returns-clause-kept g c = λ config tag cache is_of one key other old new h shown.
     let stays = c.law_kept_shown.ensures.stays config tag cache is_of one other in
-    stays h.was new (h.lets_go freed)
-    (stays h.found h.was h.copies (stays old h.found h.looks shown))
+    let before = stays h.found h.was h.copies (stays old h.found h.looks shown) in
+    let alone : clients_of before.shard.table ≡ 1 =
+    ap (λ (x : Geometry). x.clients) (is_of.shards _ before.shard before.shard_is).geometry ∙ one
+    in
+    knows_let_go cache other h.was new before alone h.handle true h.freed
+    (holds_what cache h.was h.handle h.releases.held h.releases.was) h.by h.standing
 
 pub returns-clause-missed : goal.returns-clause-missed
 returns-clause-missed g c = λ config tag cache is_of one key other old new lacks shown.
@@ -36,3 +48,16 @@ returns-clause-missed g c = λ config tag cache is_of one key other old new lack
       | inr looked ↦
           c.law_kept_shown.ensures.stays config tag cache is_of one other old new looked.4 shown
     ]
+
+pub returns-clause-filled : goal.returns-clause-filled
+returns-clause-filled g c = λ config tag cache is_of one key other block old new h room shown.
+    let charge = length h.value in
+    let before = returns-clause-missed g c config tag cache is_of one key other old h.looked h.lacks
+    shown in
+    inserts_keep cache g.T.Tag.fits key charge (λ z. KnowsShown cache other z) h.looked new before
+    (λ answer did.
+    let fits = c.law_room.ensures.fits config tag cache is_of one key charge Low answer h.looked new
+    did (subst (HasRoomBeside config charge) (ap view_by did.seat_was) room) in
+    c.law_room.ensures.kept config tag cache is_of one key charge Low answer h.looked new did fits.1
+    h.hands.others other before)
+    h.hands.answer h.hands.evicts

@@ -30,6 +30,8 @@ returns-clause-copies g c =
           c.read_value-count.ensures.steps;
       releases = c.release.ensures.released;
       gives = c.release.ensures.gives;
+      by = c.release.ensures.by;
+      standing = c.release.ensures.standing;
       counts_last = c.release.ensures.counts;
       lets_go = c.release.ensures.stays;
     }
