@@ -4,5 +4,4 @@ pub mod Held
 pub mod Handed
 pub mod Steps
 pub mod Counted
-pub mod Unerased
 pub mod Filled

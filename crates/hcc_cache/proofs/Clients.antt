@@ -5,3 +5,4 @@ pub mod DoneAtAllShards
 pub mod ChargesBounded
 pub mod FoundAtEachShard
 pub mod ShownAfterwards
+pub mod Unerased

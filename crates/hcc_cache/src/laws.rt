@@ -39,7 +39,7 @@ ghost use Rattle.hcc_cache.specs.Moments.{IsMoment, KnowsShown, plan_in};
 ghost use Rattle.hcc_cache.specs.Opened.{IsCacheOf};
 ghost use Rattle.hcc_cache.specs.Room.{HasRoom, HasRoomBeside, KeepsAs, KeepsPinnedAs, TurnsNone};
 ghost use Rattle.hcc_cache.specs.Sharding.{key_to};
-ghost use Rattle.hcc_cache.specs.Stays.{BeganEachWithin, ReleasesPin, Stays};
+ghost use Rattle.hcc_cache.specs.Stays.{BeganEachWithin, ReleasesIn, ReleasesPin, Stays, StaysWhereStanding};
 ghost use Rattle.hcc_cache.specs.Totals.{occupancy_in, usage_in, KnowsEach, LoadsEachOccupancy, LoadsEachUsage};
 
 use crate::seeded::Seeded;
@@ -282,7 +282,7 @@ pub fn law_room<T: Tag>()
 }
 
 /// In a cache of one client what is shown stays so until an insertion into its shard that evicts
-/// (`law_room`), an erasure of its key, or a release that frees it.
+/// (`law_room`), an erasure of its key, or a release that asks to erase it.
 pub fn law_kept_shown<T: Tag>()
     // A key that the client knows to be shown it knows so after each call that makes and takes no
     // entry, and shows and hides none: a look-up, a reading, one handle more, a count of what is
@@ -305,6 +305,15 @@ pub fn law_kept_shown<T: Tag>()
         (used erase freed : Bool) (key : Key) (old new : Client T)
         → ReleasesPin cache hold slot used erase freed old new → (k : KnowsShown cache key old)
         → (shard_in cache key ≡ hold.shard → k.slot ≡ slot → freed ≡ false)
+        → KnowsShown cache key new }
+
+    // One that doesn't ask to erase takes nothing away, whether or not it freed an entry: what it
+    // frees is hidden.
+    ensures unerased { (config : Config) (tag : T) (cache : Cache T)
+        → IsCacheOf config tag cache → config.clients ≡ 1 → (handle : Handle)
+        (useful freed : Bool) (key : Key) (old new : Client T) → Holds old handle
+        → ReleasesIn cache handle useful false freed old new
+        → StaysWhereStanding cache handle old new → KnowsShown cache key old
         → KnowsShown cache key new }
 {}
 

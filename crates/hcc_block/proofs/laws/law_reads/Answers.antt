@@ -1,9 +1,6 @@
-use Rattle.std.proofs.Common.{◌≡◌, ◌⊎◌, ◌∙◌, inl, inr, true, ap, length, subst}
+use Rattle.std.proofs.Common.{◌∙◌, inl, inr, true, ap, length, subst}
 use Rattle.std.specs.Prelude.{None}
 use Rattle.hcc_rule.specs.declared.geometry.Geometry.{Geometry}
-use Rattle.hcc_rule.specs.Callers.{clients_of}
-use Rattle.hcc_cache.specs.declared.cache.Cache.{Cache}
-use Rattle.hcc_cache.specs.declared.client.Client.{Client}
 use Rattle.hcc_cache.specs.declared.priority.Priority.TheVariants.{Low}
 use Rattle.hcc_cache.specs.Clients.{view_by}
 use Rattle.hcc_cache.specs.Moments.{KnowsShown}
@@ -11,7 +8,6 @@ use Rattle.hcc_cache.specs.Room.{HasRoomBeside}
 use Rattle.hcc_block.specs.Reads.{GoesThrough}
 use Rattle.hcc_block.proofs.Filled.{inserts_keep}
 use Rattle.hcc_block.proofs.Held.{holds_what}
-use Rattle.hcc_block.proofs.Unerased.{knows_let_go}
 use Rattle.hcc_block.proofs.laws.law_reads.Goals as goal
 
 pub returns-clause-hits : goal.returns-clause-hits
@@ -34,12 +30,9 @@ returns-clause-placed g c = λ config tag cache is_of one key block old new h pl
 pub returns-clause-kept : goal.returns-clause-kept
 returns-clause-kept g c = λ config tag cache is_of one key other old new h shown.
     let stays = c.law_kept_shown.ensures.stays config tag cache is_of one other in
-    let before = stays h.found h.was h.copies (stays old h.found h.looks shown) in
-    let alone : clients_of before.shard.table ≡ 1 =
-    ap (λ (x : Geometry). x.clients) (is_of.shards _ before.shard before.shard_is).geometry ∙ one
-    in
-    knows_let_go cache other h.was new before alone h.handle true h.freed
-    (holds_what cache h.was h.handle h.releases.held h.releases.was) h.by h.standing
+    c.law_kept_shown.ensures.unerased config tag cache is_of one h.handle true h.freed other h.was
+    new (holds_what cache h.was h.handle h.releases.held h.releases.was) h.by h.standing
+    (stays h.found h.was h.copies (stays old h.found h.looks shown))
 
 pub returns-clause-missed : goal.returns-clause-missed
 returns-clause-missed g c = λ config tag cache is_of one key other old new lacks shown.

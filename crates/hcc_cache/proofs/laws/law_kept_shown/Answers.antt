@@ -7,6 +7,7 @@ use Rattle.hcc_table.proofs.Seeking.{goes_event}
 use Rattle.hcc_shard.specs.Callers.{LoadsOccupancy, view_of}
 use Rattle.hcc_shard.specs.Counted.{LoadsUsage}
 use Rattle.hcc_cache.proofs.Clients.ShownAfterwards.{each_stays, knows_released, knows_still}
+use Rattle.hcc_cache.proofs.Clients.Unerased.{knows_let_go}
 use Rattle.hcc_cache.proofs.laws.law_kept_shown.Goals as goal
 
 pub returns-clause-stays : goal.returns-clause-stays
@@ -37,3 +38,11 @@ returns-clause-releases g c = λ config tag cache is_of one hold slot used erase
     let alone : clients_of k.shard.table ≡ 1 =
     ap (λ (x : Geometry). x.clients) made.geometry ∙ one in
     knows_released cache key old new k alone hold slot used erase freed h kept
+
+pub returns-clause-unerased : goal.returns-clause-unerased
+returns-clause-unerased g c = λ config tag cache is_of one handle useful freed key old new holds
+    pinned standing k.
+    let made = is_of.shards _ k.shard k.shard_is in
+    let alone : clients_of k.shard.table ≡ 1 =
+    ap (λ (x : Geometry). x.clients) made.geometry ∙ one in
+    knows_let_go cache key old new k alone handle useful freed holds pinned standing
