@@ -93,10 +93,11 @@ loads_within room (Hit count) value before after copies short =
 loads_within room (Short count) value before after copies short = omega arith
 
 -- What gives a reference back, and not as a use, is what a search does.
-pub gives_seek : {T A : Type 0} (table : RuleTable T A) (used : Bool) (weight name left : ℕ)
-    (a b : SeatOf T) → used ≡ false → IsLeftBy table weight name used left a b → Seeks table a b
-gives_seek table true weight name left a b none h = cc
-gives_seek table false weight name left a b none h =
+pub gives_seek : {T A : Type 0} (table : RuleTable T A) (used : Bool)
+    (slot weight name left : ℕ) (a b : SeatOf T) → used ≡ false
+    → IsLeftBy table slot weight name used left a b → Seeks table a b
+gives_seek table true slot weight name left a b none h = cc
+gives_seek table false slot weight name left a b none h =
     seeks_one table (give_done weight name h.0 (view a)) a b h.2 refl
 
 -- A reading that found an entry is one by its answer.

@@ -138,7 +138,7 @@ returns-in-Some g c =
           seeks_then table old.seat c.copy_out-got.new.seat c.give_back.new.seat
           (seeks_then table old.seat c.find.new.seat c.copy_out-got.new.seat searching
           c.copy_out-got.ensures.seeks)
-          (gives_seek table (is_useful c.args.as_use && pin.counting) 1 pin.name gives.0
+          (gives_seek table (is_useful c.args.as_use && pin.counting) pin.slot 1 pin.name gives.0
           c.copy_out-got.new.seat c.give_back.new.seat (ap (λ b. b && pin.counting) none) gives.2);
       effort = told.effort;
       counts = (refl, refl);
