@@ -3,8 +3,8 @@ use Rattle.hcc_rule.specs.Events.{look_done}
 use Rattle.hcc_rule.specs.Seats.{view}
 use Rattle.hcc_rule.specs.declared.layout.TheConstants.{CHARGE}
 use Rattle.hcc_rule.specs.ToldOwners.{IsDataWord}
+use Rattle.hcc_word.specs.Word.{is_shareable}
 use Rattle.hcc_table.specs.Pinned.{is_held}
-use Rattle.hcc_table.proofs.Logs.{adds_none, adds_one, adds_then}
 use Rattle.hcc_table.proofs.Pinnings.{no_entry, no_key, no_references, charge_is, charged_each, held_word}
 use Rattle.hcc_table.proofs.Probes.{looked_at, holds, holds_slot, given_back, on_entry, one_entry, told_key}
 use Rattle.hcc_table.proofs.Probings.{neither}
@@ -98,7 +98,9 @@ returns-then-not-has_entry-2-clause-counts g c = record {
     counted = λ some. neither (is_held c.reach-found.result) some
         (no_entry c.reach-found.result (sym c.if-not-has_entry-2.ensures));
     uncounted = λ _. refl;
-    adds = adds_none c.reach-found.new.seat c.reach-found.new.seat refl;
+    entry = λ some. neither (is_shareable c.reach-found.result) some
+        (sym c.if-not-has_entry-2.ensures);
+    stray = λ _. refl;
   };
 }
   where
@@ -124,10 +126,17 @@ returns-then-refs-eq0-2-clause-counts g c = record {
     counted = λ some. neither (is_held c.reach-found.result) some
         (no_references c.reach-found.result (sym c.refs-2.ensures.field ∙ c.if-refs-eq0-2.true));
     uncounted = λ _. refl;
-    adds = adds_then c.reach-found.new.seat c.read_at-charge.new.seat c.give_at.new.seat
-        (adds_one _ c.reach-found.new.seat c.read_at-charge.new.seat
-        c.read_at-charge.ensures.step.step)
-        (adds_one _ c.read_at-charge.new.seat c.give_at.new.seat c.give_at.ensures.step.step);
+    entry = λ _. record {
+      word = c.read_at-charge.result;
+      mid = c.read_at-charge.new.seat;
+      loads = c.read_at-charge.ensures.step;
+      reads = c.read_at-charge.ensures.event;
+      left = c.give_at.result;
+      subtracts = c.give_at.ensures.step;
+      gives = c.give_at.ensures.event;
+    };
+    stray = λ none. neither (is_shareable c.reach-found.result)
+        (sym c.if-not-has_entry-2.ensures) none;
   };
 }
   where
@@ -167,10 +176,17 @@ returns-clause-counts g c = record {
     uncounted = λ none. neither (is_held c.reach-found.result)
         (held_word c.reach-found.result (sym c.if-not-has_entry-2.ensures)
         (λ none. c.if-refs-eq0-2.false (c.refs-2.ensures.field ∙ none))) none;
-    adds = adds_then c.reach-found.new.seat c.read_at-charge.new.seat c.give_at.new.seat
-        (adds_one _ c.reach-found.new.seat c.read_at-charge.new.seat
-        c.read_at-charge.ensures.step.step)
-        (adds_one _ c.read_at-charge.new.seat c.give_at.new.seat c.give_at.ensures.step.step);
+    entry = λ _. record {
+      word = c.read_at-charge.result;
+      mid = c.read_at-charge.new.seat;
+      loads = c.read_at-charge.ensures.step;
+      reads = c.read_at-charge.ensures.event;
+      left = c.give_at.result;
+      subtracts = c.give_at.ensures.step;
+      gives = c.give_at.ensures.event;
+    };
+    stray = λ none. neither (is_shareable c.reach-found.result)
+        (sym c.if-not-has_entry-2.ensures) none;
   };
 }
   where
