@@ -3,8 +3,9 @@
 It has lines 'file: PATH', and pairs of lines 'old: TEXT' and 'new: TEXT', each text in its file once.
 must-fail/ has a file for each, as rt reads them, named FILE.FUNCTION.WHAT.edit. edits/ has a file for
 each file of code: a line 'file: PATH', and behind it the edits, each under a line 'edit:
-FUNCTION.WHAT'. The crate's files are in rt fmt's layout: the first line of an item and its last have
-one indent."""
+FUNCTION.WHAT'. Where the compiler has to refuse it, a line 'error: TEXT' stands there with text of its
+error. The crate's files are in rt fmt's layout: the first line of an item and its last have one
+indent."""
 import glob
 import os
 import re
@@ -18,26 +19,29 @@ GHOST = re.compile(r"\s+ghost \w+ = ")
 
 
 def read_edits(file):
-    """The edits of a file by their names, each with its changes: path, old text and new text."""
+    """The edits of a file by their names, each with its changes, path, old text and new text, and the
+    compiler's errors."""
     folder, stem = os.path.split(file.removesuffix(".edit"))
     name, first, old, found = "", "", None, {}
     if os.path.basename(folder) == "must-fail":
         name = stem
-        found[name] = []
+        found[name] = [], []
     with open(file, encoding="utf-8") as it:
         for line in it.read().split("\n"):
             if line.startswith("edit: "):
                 path, name = first, f"{os.path.basename(first).partition('.')[0]}.{line[6:].strip()}"
                 if name in found:
                     raise ValueError(f"{file}: {name} stands twice")
-                found[name] = []
+                found[name] = [], []
+            elif line.startswith("error: "):
+                found[name][1].append(line[7:].strip())
             elif line.startswith("file: "):
                 path = line[6:].strip()
                 first = first or path
             elif line.startswith("old: "):
                 old = line[5:]
             elif line.startswith("new:") and old is not None:
-                found[name].append((path, old, line[4:].removeprefix(" ")))
+                found[name][0].append((path, old, line[4:].removeprefix(" ")))
                 old = None
     return found
 
@@ -61,11 +65,12 @@ def helpers_at(text, at):
 
 
 class Edit:
-    """An edit, the functions whose bodies alone it changes (none: it changes more than bodies), and
-    what came of it."""
+    """An edit, the functions whose bodies alone it changes (none: it changes more than bodies, or the
+    compiler has to refuse it), and what came of it."""
 
-    def __init__(self, crate, name, pairs, is_of_gate):
+    def __init__(self, crate, name, pairs, errors, is_of_gate):
         self.crate, self.name, self.pairs, self.is_of_gate = crate.name, name, pairs, is_of_gate
+        self.errors = errors
         self.key = f"{crate.name}/{self.name}"
         self.symbols = []
         self.verdict, self.said, self.goals = None, "", set()
@@ -76,7 +81,7 @@ class Edit:
         if not self.pairs or applied(self.pairs, self.texts) is None:
             self.verdict, self.said = "BAD EDIT", "an old text isn't in its file once"
             return
-        self.symbols = self.found_symbols()
+        self.symbols = [] if errors else self.found_symbols()
 
     def found_symbols(self):
         """The functions whose bodies the edit changes, as rattle names them; none where it changes
@@ -111,7 +116,7 @@ def edits_of(crate):
     for folder in FOLDERS:
         for file in glob.glob(f"{crate.folder}/{folder}/*.edit"):
             edits = read_edits(file).items()
-            found += [Edit(crate, name, pairs, folder == "must-fail") for name, pairs in edits]
+            found += [Edit(crate, name, *of, folder == "must-fail") for name, of in edits]
     return sorted(found, key=lambda it: it.name)
 
 

@@ -11,6 +11,7 @@ from crates import PARTS, RATTLE
 # proof that it cites wasn't admitted.
 NAMES = re.compile(r"was not admitted|has no field|is not in scope|has no `")
 UNREAD = re.compile(r"is not in scope|has no field|is no name|operand is missing|expected the end|cannot continue")
+ERROR = re.compile(r"(?:\./)?src/\S+:\d+:\d+: error\[")  # the compiler's
 GOAL = re.compile(r"note: (?:\./)?src/\S+: it is not proved that |note: (?:\./)?src/\S+: .*\(`\S+`\)")
 CALLEE = re.compile(r"it calls|it passes|a call of|wait for a callee")
 PROOF = re.compile(r"(?:\./)?(proofs/\S+?):\d+:\d+: error")
@@ -54,7 +55,7 @@ class Room:
 
 def is_unread(line, changed):
     """Whether a line says that a text can't be read, where a wrong body reads well."""
-    if re.match(r"(?:\./)?src/\S+:\d+:\d+: error\[", line):
+    if ERROR.match(line):
         return True
     at = re.match(r"(?:\./)?(\S+?):\d+:\d+: error: (?:(`[^`]*`): )?(.*)", line)
     if not at or at[1] not in changed and not at[1].startswith(("src/", "specs/")):
@@ -124,6 +125,17 @@ def clause_of(goal):
     """What a goal's name says that it is of: a clause by its name, else the goal without its path."""
     clause = goal.rpartition("-clause-")
     return clause[2] if clause[1] else re.sub(r"-(?:then|else)-.*", "", goal)
+
+
+def judged_error(status, said, texts):
+    """What a check of the whole crate says of an edit that the compiler has to refuse, by a line of an
+    error with these texts."""
+    lines = said.rstrip("\n").split("\n")
+    errors = [it for it in lines if ERROR.match(it)]
+    told = [it for it in errors if all(text in it for text in texts)]
+    if status and told:
+        return "refused", told[0]
+    return ("BAD EDIT", (errors or lines[-1:])[0]) if status else ("NOT REFUSED", "the crate is proved with it")
 
 
 def judged_whole(status, said, changed):

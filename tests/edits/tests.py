@@ -11,7 +11,7 @@ import tempfile
 sys.dont_write_bytecode = True
 HERE = os.path.dirname(os.path.realpath(__file__))
 LEFT = "let left = (countdown - 1).min(GREATEST_CLOCKED);"
-# Name, file, old text, new text, verdict.
+# Name, file, old text, new text, verdict; the compiler's error.
 EDITS = [
     ("changes.clocked.drops_one", "changes", LEFT, "let left = countdown.min(GREATEST_CLOCKED);", "refused"),
     ("changes.corrected.is_the_same", "changes", "releases < NEAR ||", "NEAR > releases ||", "NOT REFUSED"),
@@ -19,6 +19,9 @@ EDITS = [
     ("changes.started.names_nothing", "changes", "u32::from(keep), false", "u32::from(kept), false", "BAD EDIT"),
     ("fields.hit.is_elsewhere", "fields", "word & HIT_BIT == 7", "false", "BAD EDIT"),
     ("fields.refs.calls_less", "fields", "acquires(word).wrapping_sub(", "((word & COUNTER_MASK) as u32).wrapping_sub(", "BAD EDIT"),
+    ("changes.started.is_refused", "changes", "u32::from(keep), false", "u32::from(kept), false", "refused", "value `kept`"),
+    ("changes.started.errs_otherwise", "changes", "u32::from(keep), false", "u32::from(kept), false", "BAD EDIT", "is private"),
+    ("changes.clocked.compiles", "changes", LEFT, "let left = countdown.min(GREATEST_CLOCKED);", "BAD EDIT", "is private"),
 ]
 ENSURES = "    ensures { SomeIff result (IsClockable word) (clocked_word word) }\n"
 failed = 0
@@ -32,9 +35,10 @@ def judge(name, ok, said=""):
         print(f"failed: {name}\n{said}")
 
 
-def put(name, file, old, new):
+def put(name, file, old, new, *errors):
     with open(f"crates/hcc_word/edits/{name}.edit", "w", encoding="utf-8") as it:
-        it.write(f"file: src/{file}.rt\n\nedit: {name.partition('.')[2]}\nold: {old}\nnew: {new}\n")
+        errors = "".join(f"error: {text}\n" for text in errors)
+        it.write(f"file: src/{file}.rt\n\nedit: {name.partition('.')[2]}\n{errors}old: {old}\nnew: {new}\n")
 
 
 def tried(*words):
@@ -44,11 +48,11 @@ def tried(*words):
 
 
 def verdicts():
-    for name, file, old, new, _ in EDITS:
-        put(name, file, old, new)
+    for name, file, old, new, _, *errors in EDITS:
+        put(name, file, old, new, *errors)
     status, said = tried()
     judge("a bad edit fails it", status == 1, said)
-    for name, _, _, _, verdict in EDITS:
+    for name, _, _, _, verdict, *_ in EDITS:
         found = re.search(rf"^hcc_word/{name}: (refused|BAD EDIT|NOT REFUSED)", said, re.M)
         judge(f"{name}: {verdict}", found and found[1] == verdict, said)
     judge("names alone are told", "only a proof file names what it took away" in said, said)

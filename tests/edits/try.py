@@ -5,7 +5,7 @@ usage: tests/edits/try.py [--match WORD] [--lanes N] [--log FILE] [CRATE..]
        tests/edits/try.py --gate LOG [--until SECONDS] [--lanes N] [--log FILE]
 
 It wants the libraries below as rt check, rt lib or rt ci left them in out/, and prints of each edit
-what it breaks: functions, each with a clause or what else had to hold there.
+what it breaks: functions, each with a clause or what else had to hold there; else the line that tells.
 
 With --gate it runs beside rt ci, of which LOG has the output, and 'rt ci ended' behind it: a crate's
 edits are tried once the libraries below it are proved or kept, and once rt ci has ended in as many
@@ -157,7 +157,7 @@ def main():
         Lanes(all_crates, edits, libraries, end, say, lambda text: say(text, log)).run(given.lanes)
     for it in edits:
         if it.verdict in (None, "refused"):
-            broken = " ".join(sorted(f"{of}:{goal}" for of, goal in it.goals))
+            broken = " ".join(sorted(f"{of}:{goal}" for of, goal in it.goals)) or it.said
             print(f"{it.key}: {f'refused: {broken}' if it.verdict else 'not tried'}")
     failed = [it for it in edits if it.verdict and it.verdict != "refused"]
     print("".join(f"{it.key}: {it.verdict}: {it.said[:300]}\n" for it in failed), end="")

@@ -12,7 +12,7 @@ import tempfile
 import time
 
 from edit import applied
-from room import CALLED, Room, goals_in, judged, judged_whole
+from room import CALLED, Room, goals_in, judged, judged_error, judged_whole
 
 MOST = 20  # edits in a round
 VERDICTS = ("refused", "names", "unread", "doubt", "proved")
@@ -80,7 +80,9 @@ class Trying:
                 self.alone(it)
         for it in self.wholes:
             status, said, took = self.room.check(it.made(), log=self.log)
-            it.verdict, it.said = judged_whole(status, said, it.texts)
+            it.verdict, it.said = (
+                judged_error(status, said, it.errors) if it.errors else judged_whole(status, said, it.texts)
+            )
             it.goals = goals_in(said)
             self.say(f"{it.key}: by a check of the whole crate: {it.verdict}, {took:.0f} s")
         self.control(many)
