@@ -27,6 +27,16 @@ module _ {T : Type 0} where
     pub saw : (view now).saw ≡ (view seat).saw + i
     pub dead : Buried key (IsBefore slots key i) (view seat) (view now)
 
+  -- The trail is as long as the probes that were passed, and a try makes it no longer.
+  pub probed_long : {slots : ℕ} {key : Key} {i : ℕ} {walk : Walk} {seat now : SeatOf T} {w : View T}
+      → MOST_SLOTS % slots ≡ 0 → IsTrying slots key i walk seat now → Tried (view now) w
+      → length w.work.trail ≡ i
+  probed_long {slots = slots} {key = key} {i = i} {seat = seat} {now = now} power s tried =
+      ap (λ (z : View T). length z.work.trail) tried.same
+      ∙ ap length (trail_is (trail_to slots key (probe_slot slots key i)) (view seat) (view now)
+      s.tried)
+      ∙ trail_length slots key power i s.inside
+
   module _ (slots : ℕ) (draft : Draft) (value : List ℕ) (power : MOST_SLOTS % slots ≡ 0) where
     -- It begins at the first probe.
     pub tries_first : (walk : Walk) (seat : SeatOf T) → walk.probe ≡ draft.key.w1
@@ -81,17 +91,7 @@ module _ {T : Type 0} where
           tried_all = tried_then (with_trail trail (view seat)) (view now) (view probed) s.tried
               tried
 
-          -- The trail is that to the slot, which was tried.
-          probed_trail : (view probed).work.trail ≡ trail
-          probed_trail = trail_is trail (view seat) (view probed) tried_all
-
-          pub probed_long : length (view probed).work.trail ≡ i
-          probed_long = ap length probed_trail ∙ trail_length slots draft.key power i s.inside
-
-          pub probed_room : length (view probed).work.trail < slots
-          probed_room = let short = s.inside in omega (arith, probed_long)
-
-          -- It is taken back.
+          -- The trail is taken back.
           probed_back : (new : SeatOf T) → (view seat).work.trail ≡ []
               → view new ≡ with_trail [] (view probed)
               → Tried (view seat) (view new)

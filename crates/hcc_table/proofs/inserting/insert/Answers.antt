@@ -1,8 +1,8 @@
-use Rattle.std.proofs.Common.{◌≡◌, ◌+◌, ap, length, refl, rules, sym, ◌∙◌, arith}
+use Rattle.std.proofs.Common.{◌≡◌, ◌+◌, ap, refl, rules, sym, ◌∙◌, arith}
 use Rattle.hcc_word.specs.Word.{is_counting}
 use Rattle.hcc_rule.specs.declared.view.Atomic.{Atomic}
 use Rattle.hcc_rule.specs.Addresses.{address_of_meta}
-use Rattle.hcc_rule.specs.Seats.{atomic, view}
+use Rattle.hcc_rule.specs.Seats.{atomic}
 use Rattle.hcc_rule.specs.ToldOwners.{first_word}
 use Rattle.hcc_table.specs.Efforts.{Took}
 use Rattle.hcc_table.specs.Seeking.{is_unpass}
@@ -13,7 +13,7 @@ use Rattle.hcc_table.proofs.Rises.{took_none, took_next, took_within}
 use Rattle.hcc_rule.specs.declared.view.View.{View}
 use Rattle.hcc_table.specs.declared.inserting.Insertion.TheVariants.{Placed, Matched, NoSlot}
 use Rattle.hcc_table.proofs.InsertsSteps.{inserts_here, tried_none, tried_then}
-use Rattle.hcc_table.proofs.InsertsTries.{tries_first, probed_long, probed_room, tries_placed, tries_matched, tries_last, tries_next}
+use Rattle.hcc_table.proofs.InsertsTries.{tries_first, probed_long, tries_placed, tries_matched, tries_last, tries_next}
 use Rattle.hcc_table.proofs.inserting.insert.Goals as goal
 
 pub loop-slot-init : goal.loop-slot-init
@@ -62,11 +62,11 @@ returns-then-passed-slots-clause-view g c =
 
 pub pass_at-requires-clause-room : goal.pass_at-requires-clause-room
 pass_at-requires-clause-room g c =
-    let table = c.args.table.now in
-    probed_room table.geometry.slots c.args.draft c.args.value.now table.limits.power
-    c.loop-slot.passed c.slot-slot.result c.loop-slot.walk c.args.seat.now c.loop-slot.seat
-    c.loop-slot.invariant.0 c.slot-slot.ensures c.insert_at.new.seat c.insert_at.ensures.seat
-    c.in-NoSlot.ensures.view.0
+    let inside = c.loop-slot.invariant.0.inside in
+    let long =
+    probed_long c.args.table.now.limits.power c.loop-slot.invariant.0
+    c.in-NoSlot.ensures.view.0 in
+    omega arith
 
 pub loop-slot-preserved : goal.loop-slot-preserved
 loop-slot-preserved g c =
@@ -165,10 +165,9 @@ returns-in-Matched-clause-steps g c =
     let so_far = c.loop-slot.invariant.2 in
     let tried = c.in-Matched.ensures.steps in
     let back = c.take_back.ensures.steps in
-    let long = probed_long c.args.table.now.geometry.slots c.args.draft c.args.value.now
-    c.args.table.now.limits.power c.loop-slot.passed c.slot-slot.result c.loop-slot.walk
-    c.args.seat.now c.loop-slot.seat c.loop-slot.invariant.0 c.slot-slot.ensures
-    c.insert_at.new.seat c.insert_at.ensures.seat c.in-Matched.ensures.view.0 in
+    let long =
+    probed_long c.args.table.now.limits.power c.loop-slot.invariant.0
+    c.in-Matched.ensures.view.0 in
     record {
       visited = c.loop-slot.passed + 1;
       within = omega arith;
@@ -186,10 +185,9 @@ returns-then-passed-slots-clause-steps g c =
     let so_far = c.loop-slot.invariant.2 in
     let tried = c.in-NoSlot.ensures.steps in
     let back = c.take_back-then-passed-slots.ensures.steps in
-    let long = probed_long c.args.table.now.geometry.slots c.args.draft c.args.value.now
-    c.args.table.now.limits.power c.loop-slot.passed c.slot-slot.result c.loop-slot.walk
-    c.args.seat.now c.loop-slot.seat c.loop-slot.invariant.0 c.slot-slot.ensures
-    c.insert_at.new.seat c.insert_at.ensures.seat c.in-NoSlot.ensures.view.0 in
+    let long =
+    probed_long c.args.table.now.limits.power c.loop-slot.invariant.0
+    c.in-NoSlot.ensures.view.0 in
     record {
       visited = c.loop-slot.passed + 1;
       within = omega arith;
@@ -222,14 +220,12 @@ returns-in-Matched-clause-inserts g c =
     (c.slot-slot.ensures ∙ c.loop-slot.invariant.0.walking.probe)
     (c.probes.ensures.probes, c.probes.ensures.corrections, c.probes.ensures.lost)
     c.in-Matched.ensures.tries (λ none. cc) (λ slot same. cc) c.take_back.ensures.adds
-    c.take_back.ensures.past (let back = c.take_back.ensures.steps in omega (arith, long))
-  where
-    long : length (view c.insert_at.new.seat).work.trail ≡ c.loop-slot.passed
-    long =
-        probed_long c.args.table.now.geometry.slots c.args.draft c.args.value.now
-        c.args.table.now.limits.power c.loop-slot.passed c.slot-slot.result c.loop-slot.walk
-        c.args.seat.now c.loop-slot.seat c.loop-slot.invariant.0 c.slot-slot.ensures
-        c.insert_at.new.seat c.insert_at.ensures.seat c.in-Matched.ensures.view.0
+    c.take_back.ensures.past
+    (let back = c.take_back.ensures.steps in
+    let long =
+    probed_long c.args.table.now.limits.power c.loop-slot.invariant.0
+    c.in-Matched.ensures.view.0 in
+    omega arith)
 
 pub returns-then-passed-slots-clause-inserts : goal.returns-then-passed-slots-clause-inserts
 returns-then-passed-slots-clause-inserts g c =
@@ -244,14 +240,11 @@ returns-then-passed-slots-clause-inserts g c =
     (c.probes.ensures.probes, c.probes.ensures.corrections, c.probes.ensures.lost)
     c.in-NoSlot.ensures.tries (λ none. sym least) (λ slot same. cc)
     c.take_back-then-passed-slots.ensures.adds c.take_back-then-passed-slots.ensures.past
-    (let back = c.take_back-then-passed-slots.ensures.steps in omega (arith, long))
-  where
-    long : length (view c.insert_at.new.seat).work.trail ≡ c.loop-slot.passed
-    long =
-        probed_long c.args.table.now.geometry.slots c.args.draft c.args.value.now
-        c.args.table.now.limits.power c.loop-slot.passed c.slot-slot.result c.loop-slot.walk
-        c.args.seat.now c.loop-slot.seat c.loop-slot.invariant.0 c.slot-slot.ensures
-        c.insert_at.new.seat c.insert_at.ensures.seat c.in-NoSlot.ensures.view.0
+    (let back = c.take_back-then-passed-slots.ensures.steps in
+    let long =
+    probed_long c.args.table.now.limits.power c.loop-slot.invariant.0
+    c.in-NoSlot.ensures.view.0 in
+    omega arith)
 
 pub returns-in-Placed-clause-probes : goal.returns-in-Placed-clause-probes
 returns-in-Placed-clause-probes g c = (
