@@ -5,8 +5,10 @@ use Rattle.hcc_rule.specs.declared.key.Key.{Key}
 use Rattle.hcc_rule.specs.declared.table.RuleTable.{RuleTable}
 use Rattle.hcc_rule.specs.Seats.{SeatOf}
 use Rattle.hcc_table.specs.declared.efforts.Effort.{Effort}
+use Rattle.hcc_table.specs.Pinned.{CountsHeld}
+use Rattle.hcc_shard.specs.declared.erasing.TheConstants.{IN_FLIGHT}
 use Rattle.hcc_shard.specs.declared.seat.ShardSeat.{ShardSeat}
-use Rattle.hcc_shard.specs.Counted.{CountsAt, CountsFrom}
+use Rattle.hcc_shard.specs.Counted.{CountsFrom}
 use Rattle.hcc_shard.proofs.Names.{length_more}
 
 module _ {T A : Type 0} (fits : T → Key → List ℕ → Type 0) (table : RuleTable T A) where
@@ -20,14 +22,14 @@ module _ {T A : Type 0} (fits : T → Key → List ℕ → Type 0) (table : Rule
   -- One slot more was looked at.
   counts_more : (slot charge : ℕ) (charges : List ℕ) (before between after : Effort)
       (old mid new : SeatOf T) → CountsFrom fits table slot charges before between old mid
-      → CountsAt fits table (slot + length charges) charge between after mid new
+      → CountsHeld fits table IN_FLIGHT (slot + length charges) charge between after mid new
       → CountsFrom fits table slot (charges ++ charge ∷ []) before after old new
   counts_more slot charge [] before between after old mid new counted held = (
     after,
     new,
-    subst (λ e. CountsAt fits table slot charge e after old new) counted.0
-        (subst (λ s. CountsAt fits table slot charge between after s new) counted.1
-        (subst (λ s. CountsAt fits table s charge between after mid new)
+    subst (λ e. CountsHeld fits table IN_FLIGHT slot charge e after old new) counted.0
+        (subst (λ s. CountsHeld fits table IN_FLIGHT slot charge between after s new) counted.1
+        (subst (λ s. CountsHeld fits table IN_FLIGHT s charge between after mid new)
         (omega arith) held)),
     (refl, refl),
   )
@@ -36,7 +38,7 @@ module _ {T A : Type 0} (fits : T → Key → List ℕ → Type 0) (table : Rule
     counted.1,
     counted.2,
     counts_more (slot + 1) charge more counted.0 between after counted.1 mid new counted.3
-        (subst (λ s. CountsAt fits table s charge between after mid new)
+        (subst (λ s. CountsHeld fits table IN_FLIGHT s charge between after mid new)
         (omega arith) held),
   )
 
@@ -57,7 +59,7 @@ module _ {T A : Type 0} (fits : T → Key → List ℕ → Type 0) (table : Rule
   -- and behind one more.
   pub counted_on : (slot before sum charge : ℕ) (old mid new : ShardSeat T)
       → CountedTo slot before sum old mid
-      → CountsAt fits table slot charge mid.effort new.effort mid.seat new.seat
+      → CountsHeld fits table IN_FLIGHT slot charge mid.effort new.effort mid.seat new.seat
       → CountedTo (slot + 1) before (sum + charge) old new
   counted_on slot before sum charge old mid new counted held = record {
     charges = counted.charges ++ charge ∷ [];
@@ -65,7 +67,7 @@ module _ {T A : Type 0} (fits : T → Key → List ℕ → Type 0) (table : Rule
     counts =
         counts_more 0 charge counted.charges old.effort mid.effort new.effort old.seat mid.seat
         new.seat counted.counts
-        (subst (λ s. CountsAt fits table s charge mid.effort new.effort mid.seat
+        (subst (λ s. CountsHeld fits table IN_FLIGHT s charge mid.effort new.effort mid.seat
         new.seat) (let all = counted.all in omega arith) held);
     sum_is =
         let was = counted.sum_is in

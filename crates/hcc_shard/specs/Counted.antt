@@ -11,7 +11,6 @@ use Rattle.hcc_rule.specs.Seats.{SeatOf, Makes, view}
 use Rattle.hcc_rule.specs.ToldLedgers.{after_usage}
 use Rattle.hcc_table.specs.declared.efforts.Effort.{Effort}
 use Rattle.hcc_table.specs.Pinned.{CountsHeld}
-use Rattle.hcc_table.specs.Seeking.{Seeks}
 use Rattle.hcc_shard.specs.declared.erasing.TheConstants.{IN_FLIGHT}
 use Rattle.hcc_shard.specs.declared.seat.ShardSeat.{ShardSeat}
 use Rattle.hcc_shard.specs.declared.seat.Stats.{Stats}
@@ -64,19 +63,13 @@ LoadsUsage shard result old new =
     × IsEvent shard.table (usage_done used (view old.seat)) old.seat new.seat
 
 module _ {T A : Type 0} (fits : T → Key → List ℕ → Type 0) (table : RuleTable T A) where
-  -- A slot was looked at, and this charge was counted there. All that the seat did there was to
-  -- search: nothing was released as a use.
-  pub record CountsAt (slot charge : ℕ) (before after : Effort) (old new : SeatOf T) : Type 0 where
-    pub counts : CountsHeld fits table IN_FLIGHT slot charge before after old new
-    pub seeks : Seeks table old new
-
   -- From this slot on one slot after the other was looked at, and this charge was counted there.
   abbrev pub CountsFrom : (slot : ℕ) → (charges : List ℕ) → (before after : Effort)
       → (old new : SeatOf T) → Type 0
   CountsFrom slot [] before after old new = (after ≡ before) × (new ≡ old)
   CountsFrom slot (charge ∷ more) before after old new =
       (between : Effort) × (mid : SeatOf T)
-      × CountsAt slot charge before between old mid
+      × CountsHeld fits table IN_FLIGHT slot charge before between old mid
       × CountsFrom (slot + 1) more between after mid new
 
 -- What is charged for what is held was counted: the charges that stand, which one load found, and

@@ -5,12 +5,11 @@ use Rattle.hcc_rule.specs.declared.layout.TheConstants.{CHARGE}
 use Rattle.hcc_rule.specs.ToldOwners.{IsDataWord}
 use Rattle.hcc_word.specs.Word.{is_shareable}
 use Rattle.hcc_table.specs.Pinned.{is_held}
-use Rattle.hcc_table.proofs.Pinnings.{no_entry, no_key, no_references, charge_is, charged_each, held_word}
+use Rattle.hcc_table.proofs.Pinnings.{no_entry, no_key, no_references, charge_is, charged_each, counts_seek, held_word}
 use Rattle.hcc_table.proofs.Probes.{looked_at, holds, holds_slot, given_back, on_entry, one_entry, told_key}
 use Rattle.hcc_table.proofs.Probings.{neither}
 use Rattle.hcc_table.proofs.Searches.{read_there, searched_refl}
-use Rattle.hcc_table.proofs.Seeking.{seeks_one, seeks_then}
-use Rattle.hcc_table.proofs.Still.{looks_reach, reads_give}
+use Rattle.hcc_table.proofs.Seeking.{seeks_one}
 use Rattle.hcc_table.proofs.pinning.pinned_charge.Goals as goal
 
 pub read_at-charge-requires-clause-holds : goal.read_at-charge-requires-clause-holds
@@ -196,41 +195,18 @@ returns-clause-counts g c = record {
 
 pub returns-then-not-has_entry-2-clause-seeks : goal.returns-then-not-has_entry-2-clause-seeks
 returns-then-not-has_entry-2-clause-seeks g c =
-    looks_reach c.args.table.now c.args.slot 1 c.args.name c.look_at-word.result
-    c.reach-found.result c.args.seat.now c.look_at-word.new.seat c.reach-found.new.seat
-    c.look_at-word.ensures.event c.reach-found.ensures.by
+    counts_seek g.T.Tag.fits c.args.table.now c.args.name c.args.slot _ _ _ _ _ c.requires.fresh
+    (returns-then-not-has_entry-2-clause-counts g c)
 
 pub returns-then-refs-eq0-2-clause-seeks : goal.returns-then-refs-eq0-2-clause-seeks
 returns-then-refs-eq0-2-clause-seeks g c =
-    seeks_then c.args.table.now c.args.seat.now c.reach-found.new.seat c.give_at.new.seat
-    (looks_reach c.args.table.now c.args.slot 1 c.args.name c.look_at-word.result
-    c.reach-found.result c.args.seat.now c.look_at-word.new.seat c.reach-found.new.seat
-    c.look_at-word.ensures.event c.reach-found.ensures.by)
-    (reads_give c.args.table.now c.args.slot 1 c.args.name c.give_at.result c.reach-found.new.seat
-    c.read_at-charge.new.seat c.give_at.new.seat
-    (holds_slot g.T.Tag.fits c.args.table.now.geometry.room c.args.slot 1 c.args.name
-    c.reach-found.result no_key (view c.args.seat.now) (view c.look_at-word.new.seat)
-    (view c.reach-found.new.seat)
-    (looked_at c.args.slot c.look_at-word.result _ _ c.look_at-word.ensures.view)
-    c.reach-found.ensures.view (sym c.if-not-has_entry-2.ensures) c.requires.fresh
-    (view c.reach-found.new.seat) (searched_refl (view c.reach-found.new.seat)))
-    c.read_at-charge.ensures.event c.give_at.ensures.event)
+    counts_seek g.T.Tag.fits c.args.table.now c.args.name c.args.slot _ _ _ _ _ c.requires.fresh
+    (returns-then-refs-eq0-2-clause-counts g c)
 
 pub returns-clause-seeks : goal.returns-clause-seeks
 returns-clause-seeks g c =
-    seeks_then c.args.table.now c.args.seat.now c.reach-found.new.seat c.give_at.new.seat
-    (looks_reach c.args.table.now c.args.slot 1 c.args.name c.look_at-word.result
-    c.reach-found.result c.args.seat.now c.look_at-word.new.seat c.reach-found.new.seat
-    c.look_at-word.ensures.event c.reach-found.ensures.by)
-    (reads_give c.args.table.now c.args.slot 1 c.args.name c.give_at.result c.reach-found.new.seat
-    c.read_at-charge.new.seat c.give_at.new.seat
-    (holds_slot g.T.Tag.fits c.args.table.now.geometry.room c.args.slot 1 c.args.name
-    c.reach-found.result no_key (view c.args.seat.now) (view c.look_at-word.new.seat)
-    (view c.reach-found.new.seat)
-    (looked_at c.args.slot c.look_at-word.result _ _ c.look_at-word.ensures.view)
-    c.reach-found.ensures.view (sym c.if-not-has_entry-2.ensures) c.requires.fresh
-    (view c.reach-found.new.seat) (searched_refl (view c.reach-found.new.seat)))
-    c.read_at-charge.ensures.event c.give_at.ensures.event)
+    counts_seek g.T.Tag.fits c.args.table.now c.args.name c.args.slot _ _ _ _ _ c.requires.fresh
+    (returns-clause-counts g c)
 
 pub returns-then-not-has_entry-clause-seeks : goal.returns-then-not-has_entry-clause-seeks
 returns-then-not-has_entry-clause-seeks g c =

@@ -37,7 +37,7 @@ loop-slot-preserved g c =
       counts =
           counted_on g.T.Tag.fits c.args.self.now.table c.loop-slot.slot c.standing-sum.result
           c.loop-slot.sum c.pinned_charge-sum.result _ c.loop-slot.seat _
-          c.loop-slot.invariant.counts (record { counts = told.counts; seeks = told.seeks });
+          c.loop-slot.invariant.counts told.counts;
       stays =
           goes_then c.args.self.now.table is_still c.args.seat.now.seat c.loop-slot.seat.seat
           c.pinned_charge-sum.new.seat c.loop-slot.invariant.stays
