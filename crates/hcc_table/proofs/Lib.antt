@@ -16,6 +16,7 @@ pub mod Setups
 pub mod Still
 pub mod Full
 pub mod Releases
+pub mod Unerased
 pub mod Finds
 pub mod TakesBack
 pub mod Gives

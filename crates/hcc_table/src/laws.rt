@@ -1,7 +1,7 @@
 //! What follows of what calls found.
 //!
 //! No function here does anything when it runs: its contract is the law.
-ghost use Rattle.std.specs.Prelude.{◌≡◌, ℕ, ◌<◌, ◌↔◌, Bool, Option, IsNone};
+ghost use Rattle.std.specs.Prelude.{◌≡◌, ℕ, ◌<◌, ◌↔◌, Bool, false, Option, Some, None, IsNone};
 ghost use Rattle.hcc_rule.specs.declared.key.Key.{Key};
 ghost use Rattle.hcc_rule.specs.declared.table.RuleTable.{RuleTable};
 ghost use Rattle.hcc_core.specs.World.{occupancy_of, usage_of};
@@ -112,6 +112,13 @@ pub fn law_still_alone<T: Tag, A: Allocator>()
         (freed : Option ℕ) (old new : SeatOf T) → clients_of table ≡ 1
         → ReleasesBy table slot name used erase freed old new
         → ShowsBut slot freed (world_at table old) (world_at table new) }
+
+    // One that doesn't ask to erase, and that freed an entry all the same: its slot showed nothing.
+    // So none takes away what is shown.
+    ensures unerased { (table : RuleTable T A) (slot name charge : ℕ) (used : Bool)
+        (old new : SeatOf T) → clients_of table ≡ 1
+        → ReleasesBy table slot name used false (Some charge) old new
+        → shown_at (world_at table old) slot ≡ None }
 {}
 
 /// In a shard of one client totals are those of what the shard has.

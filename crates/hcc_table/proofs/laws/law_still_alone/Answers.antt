@@ -1,5 +1,6 @@
 use Rattle.hcc_table.proofs.Lasting.{alone_shows, searches_seek}
 use Rattle.hcc_table.proofs.Releases.{releases_show, still_shows}
+use Rattle.hcc_table.proofs.Unerased.{unerased_hidden}
 use Rattle.hcc_table.proofs.laws.law_still_alone.Goals as goal
 
 pub returns-clause-still : goal.returns-clause-still
@@ -16,3 +17,7 @@ returns-clause-searches g c table key name marks answer before after old new one
 pub returns-clause-releases : goal.returns-clause-releases
 returns-clause-releases g c table slot name used erase freed old new one releases =
     releases_show table one slot name used erase freed old new releases
+
+pub returns-clause-unerased : goal.returns-clause-unerased
+returns-clause-unerased g c table slot name charge used old new one releases =
+    unerased_hidden table one slot name charge used old new releases
