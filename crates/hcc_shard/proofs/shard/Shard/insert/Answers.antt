@@ -1,4 +1,4 @@
-use Rattle.std.proofs.Common.{false, ◌≡◌, IfSome, ap, refl, sym, subst, arith}
+use Rattle.std.proofs.Common.{◌≡◌, false, IfSome, ap, refl, sym, subst, arith}
 use Rattle.std.proofs.lemmas.Result.{err_from_is_err_and}
 use Rattle.hcc_rule.specs.declared.view.View.{View}
 use Rattle.hcc_rule.specs.Callers.{capacity_of, geometry_of, is_strict, plan_of, room_of, slots_of}

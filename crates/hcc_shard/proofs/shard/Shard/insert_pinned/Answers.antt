@@ -1,4 +1,4 @@
-use Rattle.std.proofs.Common.{true, ◌≡◌, IfSome, ap, ◌∙◌, refl, sym, subst, arith}
+use Rattle.std.proofs.Common.{◌≡◌, true, IfSome, ap, ◌∙◌, refl, sym, subst, arith}
 use Rattle.std.specs.List.{list_any}
 use Rattle.std.proofs.lemmas.Result.{err_from_is_err_and}
 use Rattle.hcc_core.specs.Ledgers.{is_standing}
