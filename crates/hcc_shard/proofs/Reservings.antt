@@ -161,6 +161,26 @@ module _ {T A : Type 0} (shard : Shard T A) (draft : Draft) where
       met later why
   left_from false old mid between new met saw later last why = omega arith
 
+  -- What comes behind the tries keeps what was reserved, or gives it back.
+  pub ends_book : (keeps : Bool) (told : Reservation) (a b : SeatOf T)
+      → EndsBy shard draft keeps told a b → GoesOnBy shard.table is_booking a b
+  ends_book false Reserved a b h =
+      goes_then shard.table is_booking a h.0 b
+      (goes_event shard.table is_booking (quit_done (view a)) a h.0 h.1 refl)
+      (goes_event shard.table is_booking (waive_done (view h.0)) h.0 b h.2 refl)
+  ends_book false NoPlace a b h = goes_none shard.table is_booking a b h
+  ends_book true Reserved a b h =
+      goes_then shard.table is_booking a h.0 b
+      (goes_event shard.table is_booking (quit_done (view a)) a h.0 h.1 refl)
+      (goes_event shard.table is_booking (stand_done draft.serial draft.charge (view h.0)) h.0 b
+      h.2 refl)
+  ends_book true NoPlace a b h =
+      goes_then shard.table is_booking a h.1 b
+      (goes_event shard.table is_booking
+      (charge_done (setup_of (plan_of shard.table)) draft.charge h.0 (view a)) a h.1 h.2 refl)
+      (goes_event shard.table is_booking (stand_done draft.serial draft.charge (view h.1)) h.1 b
+      h.3 refl)
+
   module _ (fits : T → Key → List ℕ → Type 0) where
     -- A refusal by the reservation.
     pub refuses : (why : Refused) (old new : ShardSeat T)
@@ -182,38 +202,17 @@ module _ {T A : Type 0} (shard : Shard T A) (draft : Draft) where
       boosts = boosts;
     }
 
-    -- What comes behind the tries keeps what was reserved, or gives it back.
-    ends_book : (keeps : Bool) (told : Reservation) (a b : SeatOf T)
-        → EndsBy shard draft keeps told a b → GoesOnBy shard.table is_booking a b
-    ends_book false Reserved a b h =
-        goes_then shard.table is_booking a h.0 b
-        (goes_event shard.table is_booking (quit_done (view a)) a h.0 h.1 refl)
-        (goes_event shard.table is_booking (waive_done (view h.0)) h.0 b h.2 refl)
-    ends_book false NoPlace a b h = goes_none shard.table is_booking a b h
-    ends_book true Reserved a b h =
-        goes_then shard.table is_booking a h.0 b
-        (goes_event shard.table is_booking (quit_done (view a)) a h.0 h.1 refl)
-        (goes_event shard.table is_booking (stand_done draft.serial draft.charge (view h.0)) h.0 b
-        h.2 refl)
-    ends_book true NoPlace a b h =
-        goes_then shard.table is_booking a h.1 b
-        (goes_event shard.table is_booking
-        (charge_done (setup_of (plan_of shard.table)) draft.charge h.0 (view a)) a h.1 h.2 refl)
-        (goes_event shard.table is_booking (stand_done draft.serial draft.charge (view h.1)) h.1 b
-        h.3 refl)
-
     -- What was tried from where the reservation ended.
     tries_from : (answer : Insertion) (mid between new : ShardSeat T)
         → TriesEach fits shard draft answer mid between → new.effort ≡ between.effort
-        → Adds between.seat new.seat → GoesOnBy shard.table is_booking between.seat new.seat
+        → Adds between.seat new.seat
         → TriesFrom fits shard draft mid.seat mid.effort answer new
-    tries_from answer mid between new tries same behind books = record {
+    tries_from answer mid between new tries same behind = record {
       done = between.seat;
       inserts =
           subst (λ e. Inserts fits shard.table draft.key draft.serial draft.countdown answer
           mid.effort e mid.seat between.seat) (sym same) tries.inserts;
       adds = behind;
-      books = books;
     }
 
     -- The entry was put in a slot that was reserved for it.
@@ -248,8 +247,7 @@ module _ {T A : Type 0} (shard : Shard T A) (draft : Draft) where
           (ap (λ (z : View T). z.records) r.same) told.dead;
       last = last;
       tries =
-          tries_from (Placed slot) mid new new tries refl (adds_none new.seat new.seat refl)
-          (goes_none shard.table is_booking new.seat new.seat refl);
+          tries_from (Placed slot) mid new new tries refl (adds_none new.seat new.seat refl);
       ends = refl;
       probes =
           slots_from (Placed slot) old mid new new (ap (λ (z : View T). z.saw) r.same) lost.0
@@ -298,8 +296,7 @@ module _ {T A : Type 0} (shard : Shard T A) (draft : Draft) where
               left_from matched old mid between new (ap (λ (z : View T). z.met) r.same) first met
               saw why;
           tries =
-              tries_from (left_out matched) mid between new tries same behind
-              (ends_book keeps Reserved between.seat new.seat ends);
+              tries_from (left_out matched) mid between new tries same behind;
           ends = ends;
           probes =
               slots_from (left_out matched) old mid between new first lost.0 saw same
@@ -331,7 +328,7 @@ module _ {T A : Type 0} (shard : Shard T A) (draft : Draft) where
         rest = λ less. behind;
       };
       why = (refl, saw ∙ ap (λ (z : View T). z.saw) r.same, probes);
-      tries = (refl, ends_book keeps NoPlace a new.seat ends);
+      tries = refl;
       ends = ends;
       probes = (
         0,

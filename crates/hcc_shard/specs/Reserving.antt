@@ -15,7 +15,6 @@ use Rattle.hcc_table.specs.Rises.{Rose}
 use Rattle.hcc_table.specs.Inserted.{Meets, visited_by}
 use Rattle.hcc_table.specs.Searched.{Buried, IsBefore}
 use Rattle.hcc_table.specs.Steps.{Adds, Ends}
-use Rattle.hcc_table.specs.Seeking.{GoesOnBy, is_booking}
 use Rattle.hcc_table.specs.Tries.{Inserts}
 use Rattle.hcc_charge.specs.declared.reserving.Reservation.{Reservation}
 use Rattle.hcc_charge.specs.declared.reserving.Reservation.TheVariants.{Reserved, NoPlace}
@@ -82,23 +81,19 @@ module _ {T A : Type 0} (fits : T → Key → List ℕ → Type 0) (shard : Shar
         new.effort old.seat new.seat
     pub counts : CountsSlots answer old new
 
-  -- They were tried from where the reservation ended. Only steps were added behind that, by which
-  -- the client keeps what it reserved, or gives it back.
+  -- They were tried from where the reservation ended. Only steps were added behind that.
   pub record TriesFrom (reserved : SeatOf T) (counted : Effort) (answer : Insertion)
       (new : ShardSeat T) : Type 0 where
     pub done : SeatOf T
     pub inserts : Inserts fits shard.table draft.key draft.serial draft.countdown answer counted
         new.effort reserved done
     pub adds : Adds done new.seat
-    pub books : GoesOnBy shard.table is_booking done new.seat
 
-  -- What was tried where a place was reserved; else nothing was, and only such steps came behind
-  -- the reservation.
+  -- What was tried where a place was reserved; else nothing was.
   abbrev pub TriesWhere : Reservation → SeatOf T → Effort → Insertion → (new : ShardSeat T)
       → Type 0
   TriesWhere Reserved reserved counted answer new = TriesFrom reserved counted answer new
-  TriesWhere NoPlace reserved counted answer new =
-      (new.effort ≡ counted) × GoesOnBy shard.table is_booking reserved new.seat
+  TriesWhere NoPlace reserved counted answer new = new.effort ≡ counted
 
   -- the seat at which the tries ended, or the reservation where nothing was tried
   abbrev pub tried_last : (told : Reservation) (reserved : SeatOf T) (counted : Effort)

@@ -1,5 +1,5 @@
 -- What an insertion that evicts nothing leaves of what a shard of one client shows.
-use Rattle.std.proofs.Common.{◌≡◌, inl, inr, ℕ, ◌+◌, ◌-◌, ◌<◌, ◌≤◌, Bool, List, length, Some, Result, Ok, Err, IsOk, slice_get, sym, refl, ap, ◌∙◌, subst}
+use Rattle.std.proofs.Common.{◌≡◌, inl, inr, ℕ, ◌+◌, ◌-◌, ◌<◌, ◌≤◌, Bool, true, false, List, length, Some, Result, Ok, Err, IsOk, slice_get, sym, refl, ap, ◌∙◌, subst}
 use Rattle.std.specs.Prelude.{IsSomeAnd}
 use Rattle.std.proofs.lemmas.Bool.{cases_eq}
 use Rattle.std.proofs.lemmas.Option.{same_Some}
@@ -15,9 +15,11 @@ use Rattle.hcc_rule.specs.Words.{key_of}
 use Rattle.hcc_table.specs.declared.efforts.Effort.{Effort}
 use Rattle.hcc_table.specs.declared.inserting.Insertion.{Insertion}
 use Rattle.hcc_table.specs.declared.inserting.Insertion.TheVariants.{Placed, Matched, NoSlot}
+use Rattle.hcc_table.specs.Seeking.{GoesOnBy, is_booking}
 use Rattle.hcc_table.specs.Standing.{InsertsShown, ShowsKey, ShowsSame, shown_at, world_at}
 use Rattle.hcc_table.specs.Tries.{Inserts}
 use Rattle.hcc_table.proofs.Releases.{still_shows}
+use Rattle.hcc_table.proofs.Seeking.{goes_none}
 use Rattle.hcc_table.proofs.Still.{booked_still}
 use Rattle.hcc_charge.specs.declared.reserving.Refused.{Refused}
 use Rattle.hcc_charge.specs.declared.reserving.Refused.TheVariants.{TooLarge, CapacityFull, OccupancyFull}
@@ -31,7 +33,8 @@ use Rattle.hcc_shard.specs.declared.inserting.Pinned.{Pinned}
 use Rattle.hcc_shard.specs.declared.inserting.Pinned.TheVariants as pinned
 use Rattle.hcc_shard.specs.declared.seat.ShardSeat.{ShardSeat}
 use Rattle.hcc_shard.specs.declared.shard.Shard.{Shard}
-use Rattle.hcc_shard.specs.Reserving.{InsertedAs, PinnedAs, Refuses, ReservedAs, TriesFrom, TriesWhere, left_out}
+use Rattle.hcc_shard.specs.Reserving.{EndsBy, InsertedAs, PinnedAs, PutsIn, Refuses, ReservedAs, TriesFrom, TriesWhere, left_out, tried_last}
+use Rattle.hcc_shard.proofs.Reservings.{ends_book}
 use Rattle.hcc_cache.specs.declared.cache.Cache.{Cache}
 use Rattle.hcc_cache.specs.declared.client.Client.{Client}
 use Rattle.hcc_cache.specs.declared.seeded.Seeded.{Seeded}
@@ -151,9 +154,10 @@ module _ {T : Type 0} (fits : T → Key → List ℕ → Type 0) (shard : Shard 
     -- and where it turned the hand no further the probes were tried,
     shows_over : (answer : Insertion)
         (r : ReservedAs (fits_seeded fits) shard draft (Ok Reserved) old new)
-        → TriesFrom (fits_seeded fits) shard draft r.reserved r.counted answer new
+        → (t : TriesFrom (fits_seeded fits) shard draft r.reserved r.counted answer new)
+        → GoesOnBy shard.table is_booking t.done new.seat
         → ShowsOver shard draft answer old new
-    shows_over answer r t = record {
+    shows_over answer r t books = record {
       shows =
           inserts_over (slots_of shard.table) draft.key answer (world_at shard.table old.seat)
           (world_at shard.table r.reserved) (world_at shard.table t.done)
@@ -164,7 +168,7 @@ module _ {T : Type 0} (fits : T → Key → List ℕ → Type 0) (shard : Shard 
           (turns_of (Ok Reserved) r same)))
           (tells answer r.counted new.effort r.reserved t.done t.inserts)
           (still_shows shard.table one t.done new.seat
-          (booked_still shard.table t.done new.seat t.books));
+          (booked_still shard.table t.done new.seat books));
       idle =
           keeps_then (view old.seat) (view r.reserved) (view new.seat)
           (unturned (fits_seeded fits) shard.table draft.charge (Ok Reserved) old.tally new.tally
@@ -173,17 +177,25 @@ module _ {T : Type 0} (fits : T → Key → List ℕ → Type 0) (shard : Shard 
     }
 
     -- where the entry was left out, too,
-    left_over : (told : Reservation) (matched : Bool)
+    left_over : (keeps : Bool) (told : Reservation) (matched : Bool)
         (r : ReservedAs (fits_seeded fits) shard draft (Ok told) old new)
-        → TriesWhere (fits_seeded fits) shard draft told r.reserved r.counted (left_out matched)
-        new → (told ≡ Reserved) × ShowsOver shard draft (left_out matched) old new
-    left_over Reserved matched r t = (refl, shows_over (left_out matched) r t)
-    left_over NoPlace matched r t =
+        (t : TriesWhere (fits_seeded fits) shard draft told r.reserved r.counted
+        (left_out matched) new)
+        → EndsBy shard draft keeps told
+        (tried_last (fits_seeded fits) shard draft told r.reserved r.counted (left_out matched)
+        new t) new.seat
+        → (told ≡ Reserved) × ShowsOver shard draft (left_out matched) old new
+    left_over keeps Reserved matched r t ends = (
+      refl,
+      shows_over (left_out matched) r t
+          (ends_book shard draft keeps Reserved t.done new.seat ends),
+    )
+    left_over keeps NoPlace matched r t ends =
         absurd (unturned (fits_seeded fits) shard.table draft.charge (Ok NoPlace) old.tally
         new.tally old.effort r.counted old.seat r.reserved r.evicts
         (turns_of (Ok NoPlace) r same)).0
 
-    -- or it was refused at once;
+    -- or it was refused at once,
     refused_over : (why : Refused) → Refuses (fits_seeded fits) shard draft why old new
         → (why ≡ TooLarge) × (new.seat ≡ old.seat)
     refused_over TooLarge h = (refl, h.ends ∙ h.reserves.evicts.2)
@@ -196,22 +208,29 @@ module _ {T : Type 0} (fits : T → Key → List ℕ → Type 0) (shard : Shard 
         new.tally old.effort h.reserves.counted old.seat h.reserves.reserved h.reserves.evicts
         (turns_of (Err OccupancyFull) h.reserves same)).0
 
+    -- or its entry was put in a slot:
+    placed_over : (slot : ℕ) → PutsIn (fits_seeded fits) shard draft slot old new
+        → ShowsOver shard draft (Placed slot) old new
+    placed_over slot did =
+        shows_over (Placed slot) did.reserves did.tries
+        (goes_none shard.table is_booking did.tries.done new.seat did.ends)
+
     -- by its answer,
     pub keeps_as : (answer : Result Inserted Refused)
         (did : InsertedAs (fits_seeded fits) shard draft answer old new)
         → KeepsAs shard draft fits answer old new did
-    keeps_as (Ok stored.Placed) did = shows_over (Placed did.0) did.1.reserves did.1.tries
-    keeps_as (Ok stored.Dropped) did = left_over did.told did.matched did.reserves did.tries
+    keeps_as (Ok stored.Placed) did = placed_over did.0 did.1
+    keeps_as (Ok stored.Dropped) did =
+        left_over false did.told did.matched did.reserves did.tries did.ends
     keeps_as (Err why) did = refused_over why did
 
     -- and so one that keeps a reference.
     pub keeps_pinned_as : (answer : Result Pinned Refused)
         (did : PinnedAs (fits_seeded fits) shard draft answer old new)
         → KeepsPinnedAs shard draft fits answer old new did
-    keeps_pinned_as (Ok (pinned.Placed pin)) did =
-        shows_over (Placed pin.slot) did.reserves did.tries
+    keeps_pinned_as (Ok (pinned.Placed pin)) did = placed_over pin.slot did
     keeps_pinned_as (Ok pinned.Standalone) did =
-        left_over did.told did.matched did.reserves did.tries
+        left_over true did.told did.matched did.reserves did.tries did.ends
     keeps_pinned_as (Err why) did = refused_over why did
 
 module _ {T : Type 0} (fits : T → Key → List ℕ → Type 0) (shard : Shard (Seeded T) Global)
