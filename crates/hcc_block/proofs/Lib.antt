@@ -4,4 +4,3 @@ pub mod Held
 pub mod Handed
 pub mod Steps
 pub mod Counted
-pub mod Filled

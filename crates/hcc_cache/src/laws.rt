@@ -15,7 +15,7 @@ ghost use Rattle.hcc_charge.specs.declared.reserving.Refused.{Refused};
 ghost use Rattle.hcc_charge.specs.declared.reserving.Reservation.TheVariants.{Reserved};
 ghost use Rattle.hcc_shard.specs.declared.getting.Got.{Got};
 ghost use Rattle.hcc_shard.specs.declared.getting.Got.TheVariants.{Miss};
-ghost use Rattle.hcc_shard.specs.declared.inserting.Inserted.{Inserted};
+ghost use Rattle.hcc_shard.specs.declared.inserting.Inserted.{Inserted as Stored};
 ghost use Rattle.hcc_shard.specs.declared.inserting.Inserted.TheVariants as stored;
 ghost use Rattle.hcc_shard.specs.declared.inserting.Pinned.{Pinned};
 ghost use Rattle.hcc_shard.specs.declared.inserting.Pinned.TheVariants as pinned;
@@ -23,16 +23,18 @@ ghost use Rattle.hcc_table.specs.Standing.{FindsFirst, FindsLasting, HidesShown,
 ghost use Rattle.hcc_cache.specs.declared.cache.Cache.{Cache};
 ghost use Rattle.hcc_cache.specs.declared.client.Client.{Client};
 ghost use Rattle.hcc_cache.specs.declared.config.Config.{Config};
+ghost use Rattle.hcc_cache.specs.declared.errors.InsertError.{InsertError};
 ghost use Rattle.hcc_cache.specs.declared.handle.Handle.{Handle};
+ghost use Rattle.hcc_cache.specs.declared.inserting.Inserted.{Inserted};
 ghost use Rattle.hcc_cache.specs.declared.priority.Priority.{Priority};
 ghost use Rattle.hcc_cache.specs.declared.seeded.Seeded.{Seeded};
 ghost use Rattle.hcc_cache.specs.declared.holding.Hold.{Hold};
 ghost use Rattle.hcc_cache.specs.Calls.{shard_in, ErasesFor, Gains, OnlyAt, SearchesFor};
-ghost use Rattle.hcc_cache.specs.Clients.{Held, Holds};
+ghost use Rattle.hcc_cache.specs.Clients.{view_at, Held, Holds};
 ghost use Rattle.hcc_cache.specs.Configs.{shard_capacity};
 ghost use Rattle.hcc_shard.specs.Gets.{GotLasting};
 ghost use Rattle.hcc_cache.specs.Gets.{GetsAt};
-ghost use Rattle.hcc_cache.specs.Inserts.{draft_of, PinsAt, ShowsAs, ShowsPinnedAs, StoresAt};
+ghost use Rattle.hcc_cache.specs.Inserts.{draft_of, InsertsAt, PinsAt, ShowsAs, ShowsPinnedAs, StoresAt};
 ghost use Rattle.hcc_cache.specs.Keys.{fits_seeded};
 ghost use Rattle.hcc_cache.specs.Known.{Knows};
 ghost use Rattle.hcc_cache.specs.Moments.{IsMoment, KnowsShown, plan_in};
@@ -169,7 +171,7 @@ pub fn law_matches<T: Tag>()
     // that shows the key, or none does. All other slots show what they showed.
     ensures stores { (config : Config) (tag : T) (cache : Cache T)
         → IsCacheOf config tag cache → config.clients ≡ 1
-        → (key : Key) (charge : ℕ) (priority : Priority) (answer : Result Inserted Refused)
+        → (key : Key) (charge : ℕ) (priority : Priority) (answer : Result Stored Refused)
         (old new : Client T) (h : StoresAt cache T.fits key charge priority answer old new)
         → ShowsAs T.fits h.shard (draft_of cache key charge priority (λ c. None) old) answer h.was
         h.is h.did }
@@ -210,7 +212,7 @@ pub fn law_room<T: Tag>()
     // the insertion isn't refused, and turns the hand no further.
     ensures room { (config : Config) (tag : T) (cache : Cache T)
         → IsCacheOf config tag cache → config.clients ≡ 1
-        → (key : Key) (charge : ℕ) (priority : Priority) (answer : Result Inserted Refused)
+        → (key : Key) (charge : ℕ) (priority : Priority) (answer : Result Stored Refused)
         (old new : Client T) (h : StoresAt cache T.fits key charge priority answer old new)
         → HasRoom config charge (world_at h.shard.table h.was.seat)
         → IsOk answer × TurnsNone h.was h.is }
@@ -228,7 +230,7 @@ pub fn law_room<T: Tag>()
     // its standalone entries, leave room for the charge.
     ensures fits { (config : Config) (tag : T) (cache : Cache T)
         → IsCacheOf config tag cache → config.clients ≡ 1
-        → (key : Key) (charge : ℕ) (priority : Priority) (answer : Result Inserted Refused)
+        → (key : Key) (charge : ℕ) (priority : Priority) (answer : Result Stored Refused)
         (old new : Client T) (h : StoresAt cache T.fits key charge priority answer old new)
         → HasRoomBeside config charge (view h.was.seat) → IsOk answer × TurnsNone h.was h.is }
 
@@ -247,7 +249,7 @@ pub fn law_room<T: Tag>()
     // nothing was done.
     ensures stores { (config : Config) (tag : T) (cache : Cache T)
         → IsCacheOf config tag cache → config.clients ≡ 1
-        → (key : Key) (charge : ℕ) (priority : Priority) (answer : Result Inserted Refused)
+        → (key : Key) (charge : ℕ) (priority : Priority) (answer : Result Stored Refused)
         (old new : Client T) (h : StoresAt cache T.fits key charge priority answer old new)
         → TurnsNone h.was h.is
         → KeepsAs h.shard (draft_of cache key charge priority (λ c. None) old) T.fits answer h.was
@@ -265,7 +267,7 @@ pub fn law_room<T: Tag>()
     // So each key that the client knew to be shown it knows so still,
     ensures kept { (config : Config) (tag : T) (cache : Cache T)
         → IsCacheOf config tag cache → config.clients ≡ 1
-        → (key : Key) (charge : ℕ) (priority : Priority) (answer : Result Inserted Refused)
+        → (key : Key) (charge : ℕ) (priority : Priority) (answer : Result Stored Refused)
         (old new : Client T) (h : StoresAt cache T.fits key charge priority answer old new)
         → TurnsNone h.was h.is → OnlyAt (shard_in cache key) old new → (other : Key)
         → KnowsShown cache other old → KnowsShown cache other new }
@@ -276,6 +278,16 @@ pub fn law_room<T: Tag>()
         → (key : Key) (charge : ℕ) (priority : Priority) (answer : Result Pinned Refused)
         (old new : Client T) (h : PinsAt cache T.fits key charge priority answer old new)
         → TurnsNone h.was h.is → OnlyAt (shard_in cache key) old new → (other : Key)
+        → KnowsShown cache other old → KnowsShown cache other new }
+
+    // And so it is, by the call's answer, where there is room beside all that the client made at
+    // the key's shard.
+    ensures inserted { (config : Config) (tag : T) (cache : Cache T)
+        → IsCacheOf config tag cache → config.clients ≡ 1
+        → (key : Key) (charge : ℕ) (priority : Priority) (answer : Result Inserted InsertError)
+        (old new : Client T) → InsertsAt cache T.fits key charge priority answer old new
+        → HasRoomBeside config charge (view_at (shard_in cache key) old)
+        → OnlyAt (shard_in cache key) old new → (other : Key)
         → KnowsShown cache other old → KnowsShown cache other new }
 {
     law_inserted_alone::<Seeded<T>, Global>();

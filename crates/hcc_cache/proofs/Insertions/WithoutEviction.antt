@@ -37,8 +37,14 @@ use Rattle.hcc_shard.specs.Reserving.{EndsBy, InsertedAs, PinnedAs, PutsIn, Refu
 use Rattle.hcc_shard.proofs.Reservings.{ends_book}
 use Rattle.hcc_cache.specs.declared.cache.Cache.{Cache}
 use Rattle.hcc_cache.specs.declared.client.Client.{Client}
+use Rattle.hcc_cache.specs.declared.errors.InsertError.{InsertError}
+use Rattle.hcc_cache.specs.declared.errors.InsertError.TheVariants as errors
+use Rattle.hcc_cache.specs.declared.inserting.Inserted.{Inserted as Answered}
+use Rattle.hcc_cache.specs.declared.inserting.Inserted.TheVariants as answers
+use Rattle.hcc_cache.specs.declared.priority.Priority.{Priority}
 use Rattle.hcc_cache.specs.declared.seeded.Seeded.{Seeded}
 use Rattle.hcc_cache.specs.Calls.{OnlyAt, shard_in}
+use Rattle.hcc_cache.specs.Inserts.{InsertsAt, StoresAt}
 use Rattle.hcc_cache.specs.Keys.{fits_seeded}
 use Rattle.hcc_cache.specs.Moments.{KnowsShown}
 use Rattle.hcc_cache.specs.Room.{KeepsAs, KeepsPinnedAs, ShowsOver, TurnsNone}
@@ -304,3 +310,20 @@ knows_over {T = T} cache number other old new shard was is shard_is seat_was sea
         shown_at (world_at shard.table is.seat) k.slot
         ≡ shown_at (world_at shard.table q.seat) k.slot) seat
         (keeps (key_to cache.seed other) k.slot shows)))
+
+module _ {T : Type 0} (cache : Cache T) (fits : T → Key → List ℕ → Type 0) (key : Key)
+    (charge : ℕ) (priority : Priority) (P : Client T → Type 0) (old new : Client T) where
+  -- What held before an insertion, and holds after what it did at the shard, if anything.
+  pub inserts_keep : P old
+      → ((answer : Result Inserted Refused)
+      → StoresAt cache fits key charge priority answer old new → P new)
+      → (answer : Result Answered InsertError)
+      → InsertsAt cache fits key charge priority answer old new → P new
+  inserts_keep before stores (Ok answers.Placed) did = stores (Ok stored.Placed) did
+  inserts_keep before stores (Ok answers.Dropped) did = stores (Ok stored.Dropped) did
+  inserts_keep before stores (Ok answers.Standalone) did = absurd did
+  inserts_keep before stores (Err errors.HandlesFull) did = absurd did
+  inserts_keep before stores (Err errors.Spent) did = subst P (sym did) before
+  inserts_keep before stores (Err errors.TooLarge) did = subst P (sym did) before
+  inserts_keep before stores (Err errors.CapacityFull) did = stores (Err CapacityFull) did
+  inserts_keep before stores (Err errors.OccupancyFull) did = stores (Err OccupancyFull) did

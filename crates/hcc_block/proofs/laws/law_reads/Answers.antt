@@ -1,12 +1,8 @@
-use Rattle.std.proofs.Common.{◌∙◌, inl, inr, true, ap, length, subst}
+use Rattle.std.proofs.Common.{◌∙◌, inl, inr, true, ap, length}
 use Rattle.std.specs.Prelude.{None}
 use Rattle.hcc_rule.specs.declared.geometry.Geometry.{Geometry}
 use Rattle.hcc_cache.specs.declared.priority.Priority.TheVariants.{Low}
-use Rattle.hcc_cache.specs.Clients.{view_by}
-use Rattle.hcc_cache.specs.Moments.{KnowsShown}
-use Rattle.hcc_cache.specs.Room.{HasRoomBeside}
 use Rattle.hcc_block.specs.Reads.{GoesThrough}
-use Rattle.hcc_block.proofs.Filled.{inserts_keep}
 use Rattle.hcc_block.proofs.Held.{holds_what}
 use Rattle.hcc_block.proofs.laws.law_reads.Goals as goal
 
@@ -44,13 +40,6 @@ returns-clause-missed g c = λ config tag cache is_of one key other old new lack
 
 pub returns-clause-filled : goal.returns-clause-filled
 returns-clause-filled g c = λ config tag cache is_of one key other block old new h room shown.
-    let charge = length h.value in
-    let before = returns-clause-missed g c config tag cache is_of one key other old h.looked h.lacks
-    shown in
-    inserts_keep cache g.T.Tag.fits key charge (λ z. KnowsShown cache other z) h.looked new before
-    (λ answer did.
-    let fits = c.law_room.ensures.fits config tag cache is_of one key charge Low answer h.looked new
-    did (subst (HasRoomBeside config charge) (ap view_by did.seat_was) room) in
-    c.law_room.ensures.kept config tag cache is_of one key charge Low answer h.looked new did fits.1
-    h.hands.others other before)
-    h.hands.answer h.hands.evicts
+    c.law_room.ensures.inserted config tag cache is_of one key (length h.value) Low h.hands.answer
+    h.looked new h.hands.evicts room h.hands.others other
+    (returns-clause-missed g c config tag cache is_of one key other old h.looked h.lacks shown)

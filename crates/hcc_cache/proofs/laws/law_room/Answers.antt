@@ -11,10 +11,12 @@ use Rattle.hcc_shard.specs.declared.shard.Shard.{Shard}
 use Rattle.hcc_cache.specs.declared.config.Config.{Config}
 use Rattle.hcc_cache.specs.declared.seeded.Seeded.{Seeded}
 use Rattle.hcc_cache.specs.Calls.{shard_in}
+use Rattle.hcc_cache.specs.Clients.{view_by}
 use Rattle.hcc_cache.specs.Inserts.{draft_of}
+use Rattle.hcc_cache.specs.Moments.{KnowsShown}
 use Rattle.hcc_cache.specs.Opened.{IsConfigured}
 use Rattle.hcc_cache.specs.Room.{HasRoom, HasRoomBeside}
-use Rattle.hcc_cache.proofs.Insertions.WithoutEviction.{found_beside, found_idles, found_idles_pinned, found_room, keeps_as, keeps_keys, keeps_pinned_as, keeps_pinned_keys, knows_over}
+use Rattle.hcc_cache.proofs.Insertions.WithoutEviction.{found_beside, found_idles, found_idles_pinned, found_room, inserts_keep, keeps_as, keeps_keys, keeps_pinned_as, keeps_pinned_keys, knows_over}
 use Rattle.hcc_cache.proofs.laws.law_room.Goals as goal
 
 module _ {T : Type 0} (config : Config) (tag : T) (shard : Shard (Seeded T) Global)
@@ -125,3 +127,15 @@ returns-clause-kept_pinned g c = λ config tag cache is_of one key charge priori
     (draft_of cache key charge priority (λ c. Some c.used) old) h.was h.is answer h.did
     (returns-clause-pins g c config tag cache is_of one key charge priority answer old new h
     same))
+
+pub returns-clause-inserted : goal.returns-clause-inserted
+returns-clause-inserted g c = λ config tag cache is_of one key charge priority answer old new did
+    room only other before.
+    inserts_keep cache g.T.Tag.fits key charge priority (λ z. KnowsShown cache other z) old new
+    before
+    (λ told h.
+    let idle = returns-clause-fits g c config tag cache is_of one key charge priority told old new h
+    (subst (HasRoomBeside config charge) (ap view_by h.seat_was) room) in
+    returns-clause-kept g c config tag cache is_of one key charge priority told old new h idle.1
+    only other before)
+    answer did
