@@ -83,7 +83,6 @@ module _ {T : Type 0} (cache : Cache T) where
       pub by : ReleasesIn cache handle true false freed was new
       pub standing : StaysWhereStanding cache handle was new
       pub counts_last : CountsBy handle was new
-      pub lets_go : freed ≡ false → Stays cache was new
 
     -- no look-up may be made, or one found no entry of the key
     abbrev pub Lacks : (fits : T → Key → List ℕ → Type 0) → (old new : Client T) → Type 0

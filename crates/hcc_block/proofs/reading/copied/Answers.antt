@@ -33,5 +33,4 @@ returns-clause-copies g c =
       by = c.release.ensures.by;
       standing = c.release.ensures.standing;
       counts_last = c.release.ensures.counts;
-      lets_go = c.release.ensures.stays;
     }
