@@ -108,11 +108,15 @@ impl Cache {
         }
     }
 
-    /// Looks up, copies and releases in one: how many bytes the value has.
+    /// Copies the value of a key: how many bytes it has. It writes nothing where it can; else it looks
+    /// up, copies and releases.
     #[inline(always)]
     pub fn get(&self, client: &mut Client, key: Key, buffer: &mut [u8], useful: bool) -> Option<usize> {
         let (key, shard) = self.placed(key);
         let shard = self.shard(shard);
+        if let Ok(found) = shard.peek(key, buffer, useful, &mut client.stats) {
+            return found;
+        }
         let pin = shard.find(key, &mut client.stats)?;
         let length = shard.read(pin.slot, buffer);
         shard.give(pin, useful);

@@ -61,6 +61,9 @@ pub enum Refused {
     Strict,
 }
 
+/// Why a read without a reference gave nothing: one with a reference is due.
+pub struct Declined;
+
 pub struct Shard {
     words: Box<[AtomicU64]>,
     slots: u64,
@@ -86,6 +89,8 @@ impl Shard {
 
     #[inline(always)]
     fn at(&self, slot: u32, word: usize) -> &AtomicU64 {
+        #[cfg(test)]
+        crate::stress::pause();
         // Each slot is a probe of a key or a slot of the hand, so below the number of slots.
         unsafe { self.words.get_unchecked(slot as usize * self.stride + word) }
     }
@@ -163,6 +168,50 @@ impl Shard {
             }
         }
         None
+    }
+
+    /// Reads without a reference, and writes nothing: the value's length, or none where there is no
+    /// entry. It declines where the clock or the mark of a hit would still see the use, or where
+    /// the entry went meanwhile.
+    #[inline(always)]
+    pub fn peek(
+        &self,
+        key: Key,
+        buffer: &mut [u8],
+        useful: bool,
+        stats: &mut Stats,
+    ) -> Result<Option<usize>, Declined> {
+        for number in 0..self.slots {
+            let slot = self.probe(key, number);
+            stats.probes += 1;
+            let word = self.at(slot, META).load(SeqCst);
+            if state(word) == VISIBLE && self.has_key(slot, key) {
+                let is_used_up = !useful || releases(word) >= MOST_USES;
+                let is_marked = !self.marks || word & HIT != 0;
+                let read = if is_used_up && is_marked { self.read_shown(slot, key, buffer) } else { None };
+                return read.map(Some).ok_or(Declined);
+            }
+            if self.at(slot, DISPLACEMENT).load(SeqCst) == 0 {
+                return Ok(None);
+            }
+        }
+        Ok(None)
+    }
+
+    /// Reads the entry of a slot that has shown one of this key: the value's length, where it stayed.
+    ///
+    /// A stamp never returns. So where it is the same behind the value as before, and an entry was shown
+    /// behind its first load and before its last, that was one entry all along, whose words nobody
+    /// writes.
+    #[inline(always)]
+    fn read_shown(&self, slot: u32, key: Key, buffer: &mut [u8]) -> Option<usize> {
+        let is_shown = || state(self.at(slot, META).load(SeqCst)) == VISIBLE;
+        let stamp = self.at(slot, STAMP).load(SeqCst);
+        if !is_shown() || !self.has_key(slot, key) {
+            return None;
+        }
+        let length = self.read(slot, buffer);
+        (is_shown() && self.at(slot, STAMP).load(SeqCst) == stamp).then_some(length)
     }
 
     /// Inserts an entry that has its place and its charge: its slot, where it was placed.

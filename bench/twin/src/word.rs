@@ -14,6 +14,8 @@ pub const VISIBLE: u64 = 0b111;
 pub const TAKEN: u64 = OCCUPIED_BIT;
 /// From this count of releases on an acquire doesn't count, and tries one correction.
 pub const NEAR: u64 = (1 << 29) + 4;
+/// So many uses are as good as more: the clock leaves one fewer of them.
+pub const MOST_USES: u64 = 3;
 /// What a correction subtracts from both counters.
 const CORRECTION: u64 = (1 << 29) | (1 << 59);
 
@@ -55,7 +57,7 @@ pub fn clocked(word: u64) -> Option<u64> {
     if state(word) != VISIBLE || references(word) != 0 || uses == 0 {
         return None;
     }
-    let left = (uses - 1).min(2);
+    let left = uses.min(MOST_USES) - 1;
     Some((word & !((COUNTER << 30) | COUNTER)) | left | (left << 30))
 }
 
