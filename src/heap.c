@@ -1,8 +1,14 @@
 /* The three functions by which the proved library asks for memory and gives it back. What Rattle takes
  * them for: its libc's src/heap.rt. */
+#define _DEFAULT_SOURCE /* for madvise */
+#include "heap.h"
+
 #include <stdbool.h>
 #include <stddef.h>
 #include <stdlib.h>
+#ifdef __linux__
+#include <sys/mman.h>
+#endif
 
 /* Whether there is memory, and where; a pointer to `nothing` if there is none. */
 typedef struct tried {
@@ -14,10 +20,6 @@ tried rattle_alloc(size_t bytes, size_t alignment);
 tried rattle_realloc(void *at, size_t kept, size_t bytes, size_t alignment);
 void rattle_dealloc(void *at);
 
-/* Behind each block is a cache line that nobody writes, so that no two clients, which different
- * threads write, have a part on the same one. */
-enum { LINE = 64 };
-
 static char nothing;
 
 static tried tell(void *at) {
@@ -25,11 +27,26 @@ static tried tell(void *at) {
     return given;
 }
 
+/* A look-up in a large table misses the processor's list of pages on small ones. Where the system
+ * has no large ones to give, it leaves the block on these. A last page that isn't filled to half stays
+ * small. */
+static void *large(size_t bytes) {
+#ifdef MADV_HUGEPAGE
+    void *at = aligned_alloc(LARGE_PAGE, taken(bytes));
+    if (at != NULL) {
+        (void)madvise(at, (bytes + LARGE_PAGE / 2) / LARGE_PAGE * LARGE_PAGE, MADV_HUGEPAGE);
+    }
+    return at;
+#else
+    return malloc(bytes + LINE);
+#endif
+}
+
 /* The alignment divides 16, as that of malloc's blocks. There are less than 2^63 bytes, as in all that
  * Rattle asks for. */
 tried rattle_alloc(size_t bytes, size_t alignment) {
     (void)alignment;
-    return tell(malloc(bytes + LINE));
+    return tell(taken(bytes) < LARGE_BLOCK ? malloc(taken(bytes)) : large(bytes));
 }
 
 tried rattle_realloc(void *at, size_t kept, size_t bytes, size_t alignment) {

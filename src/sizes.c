@@ -1,5 +1,6 @@
 /* How much memory a configuration takes, and configurations for so much memory. */
 #include "ferretgold.h"
+#include "heap.h"
 #include "limits.h"
 
 /* The fewest slots of a shard that has others beside it. */
@@ -11,9 +12,9 @@ uint64_t ferretgold_memory(const ferretgold_config *config) {
     }
     const uint64_t shards = config->shards, clients = config->clients;
     const uint64_t slot = UINT64_C(8) * (7 + (uint64_t)config->room);
+    const uint64_t table = config->slots * slot + 32; /* with the ledgers behind the slots */
     const uint64_t client = 744 + 72 * shards + 104 * (uint64_t)config->handles;
-    return shards * (272 + config->slots * slot) + clients * client +
-           (clients + 63) / 64 * 64 + 560;
+    return shards * (176 + taken(table)) + clients * client + (clients + 63) / 64 * 64 + 560;
 }
 
 ferretgold_status ferretgold_config_for(uint64_t bytes, size_t value, uint32_t threads,

@@ -97,12 +97,15 @@ static void sizes(void) {
     }
 }
 
-/* What is allocated is what ferretgold_memory says. */
+/* What is allocated is what ferretgold_memory says; a table of 4 MiB or more is of whole pages of
+ * 2 MiB. */
 static void memory(void) {
-    static const struct { uint32_t slots, room, clients, handles, shards; } all[] = {
-        {8, 1, 1, 1, 1},   {16, 1, 1, 1, 1},  {8, 2, 1, 1, 1},       {8, 1, 2, 1, 1},
-        {8, 1, 1, 3, 1},   {8, 1, 1, 1, 8},   {8, 3, 5, 7, 64},      {32, 5, 64, 9, 2},
-        {32, 5, 65, 9, 2}, {8, 1, 999, 1, 1}, {64, 512, 3, 99, 16}};
+    static const struct { uint32_t slots, room, clients, handles, shards, large; } all[] = {
+        {8, 1, 1, 1, 1, 0},     {16, 1, 1, 1, 1, 0},    {8, 2, 1, 1, 1, 0},
+        {8, 1, 2, 1, 1, 0},     {8, 1, 1, 3, 1, 0},     {8, 1, 1, 1, 8, 0},
+        {8, 3, 5, 7, 64, 0},    {32, 5, 64, 9, 2, 0},   {32, 5, 65, 9, 2, 0},
+        {8, 1, 999, 1, 1, 0},   {64, 512, 3, 99, 16, 0}, {32768, 8, 1, 1, 1, 0},
+        {65536, 1, 1, 1, 1, 1}, {65536, 2, 2, 3, 4, 4}, {8192, 505, 1, 1, 1, 1}};
     for (size_t k = 0; k < sizeof all / sizeof *all; k++) {
         ferretgold_config sizes = SMALL;
         ferretgold_cache *cache = NULL;
@@ -111,19 +114,22 @@ static void memory(void) {
         sizes.handles = all[k].handles, sizes.shards = all[k].shards;
         EXPECT(ferretgold_open(&sizes, &cache), 0);
         EXPECT(heap_bytes - was, ferretgold_memory(&sizes));
+        EXPECT(heap_large(), all[k].large);
         EXPECT(ferretgold_close(cache, NULL), 0);
     }
     EXPECT(ferretgold_memory(NULL), 0);
 }
 
 /* Each request of an opening refused in turn: nothing remains. */
-static void no_memory(void) {
+static void no_memory(uint32_t slots) {
     const size_t was = heap_blocks;
+    ferretgold_config sizes = SMALL;
     ferretgold_cache *cache = NULL;
     size_t met = 0;
+    sizes.slots = slots;
     for (ferretgold_status status = FERRETGOLD_NULL; status != FERRETGOLD_OK; met++) {
         heap_left = met;
-        status = ferretgold_open(&SMALL, &cache);
+        status = ferretgold_open(&sizes, &cache);
         heap_left = SIZE_MAX;
         EXPECT(status, cache == NULL ? 28 : 0);
         EXPECT(heap_blocks - was > 0, cache != NULL);
@@ -569,7 +575,8 @@ void edges(void) {
     opened();
     sizes();
     memory();
-    no_memory();
+    no_memory(8);
+    no_memory(65536);
     no_copy();
     budgets();
     initialiser();

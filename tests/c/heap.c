@@ -75,6 +75,15 @@ static void uncount(void *at) {
     }
 }
 
+size_t heap_large(void) {
+    size_t count = 0;
+    for (size_t place = 0; place < PLACES; place++) {
+        count += blocks[place].at != NULL && blocks[place].size >= 1 << 22
+                 && (uintptr_t)blocks[place].at % (1 << 21) == 0;
+    }
+    return count;
+}
+
 void *__wrap_malloc(size_t size) {
     return refuses() ? NULL : counted(__real_malloc(size), size);
 }

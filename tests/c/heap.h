@@ -13,6 +13,9 @@ extern size_t heap_bytes;  /* of these */
 extern size_t heap_left;   /* how many requests are met before one is refused */
 extern int heap_once;      /* whether those behind that one are met */
 
+/* How many blocks of 4 MiB and more begin at a boundary of 2 MiB. */
+size_t heap_large(void);
+
 #ifdef __cplusplus
 }
 #endif
