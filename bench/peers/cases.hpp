@@ -20,6 +20,9 @@ namespace peers {
 enum class kind {
     hits_uniform,
     get,
+    get_one,
+    get_sixteen,
+    get_cold,
     misses,
     mix,
     evict,
@@ -40,6 +43,9 @@ struct named_case {
 constexpr named_case all_cases[] = {
     {"hits-uniform", kind::hits_uniform},
     {"get", kind::get},
+    {"get-one", kind::get_one},
+    {"get-sixteen", kind::get_sixteen},
+    {"get-cold", kind::get_cold},
     {"misses", kind::misses},
     {"mix", kind::mix},
     {"evict", kind::evict},
@@ -55,7 +61,12 @@ constexpr named_case all_cases[] = {
 // Whether a case is of a warm start: on one thread, and of this project's cache alone.
 constexpr bool is_warm(kind is) { return is == kind::save || is == kind::load; }
 
-// What came of a round: all threads' operations, and the seconds from the first to the last.
+// Whether it shows how threads meet at a few entries, so that more of them than processors are of
+// interest, too.
+constexpr bool is_of_few(kind is) { return is == kind::get_one || is == kind::get_sixteen; }
+
+// What came of a round: all threads' operations, and the seconds from the first to the last, or those
+// that a thread measured itself.
 struct outcome {
     std::uint64_t operations = 0;
     std::uint64_t hits = 0;
@@ -90,44 +101,67 @@ inline ferretgold_key block_key_of(std::uint64_t number) {
     return {index << 32 | file, file << 32 | index};
 }
 
-// The key numbers that a thread asks for, drawn beforehand. They come round.
-class draws {
-  public:
-    static constexpr std::size_t count = std::size_t{1} << 16;
+// The key numbers that a thread asks for, drawn beforehand, a power of two of them. They come round.
+using draws = std::vector<std::uint32_t>;
 
-    static draws uniform(std::uint64_t seed, std::uint32_t keys) {
-        numbers random(seed);
-        draws made;
-        for (std::uint32_t &draw : made.drawn_) {
-            draw = static_cast<std::uint32_t>(random.next() % keys);
-        }
-        return made;
+inline void draw_uniform(std::uint64_t seed, std::uint32_t keys, draws &drawn) {
+    numbers random(seed);
+    for (std::uint32_t &draw : drawn) {
+        draw = static_cast<std::uint32_t>(random.next() % keys);
     }
+}
 
-    // The k-th key with a weight of k^-0.99.
-    static draws zipf(std::uint64_t seed, std::uint32_t keys) {
-        std::vector<double> sums(keys);
-        double sum = 0;
-        for (std::uint32_t k = 0; k < keys; ++k) {
-            sum += std::pow(k + 1.0, -0.99);
-            sums[k] = sum;
-        }
-        numbers random(seed);
-        draws made;
-        for (std::uint32_t &draw : made.drawn_) {
-            auto at = std::lower_bound(sums.begin(), sums.end(), random.fraction() * sum);
-            auto rank = std::min<std::size_t>(at - sums.begin(), keys - 1);
-            draw = static_cast<std::uint32_t>(rank);
-        }
-        return made;
+// The k-th key with a weight of k^-0.99: the sums of these weights.
+inline std::vector<double> zipf_sums(std::uint32_t keys) {
+    std::vector<double> sums(keys);
+    double sum = 0;
+    for (std::uint32_t k = 0; k < keys; ++k) {
+        sum += std::pow(k + 1.0, -0.99);
+        sums[k] = sum;
     }
+    return sums;
+}
 
-    std::uint32_t operator[](std::uint64_t number) const { return drawn_[number % count]; }
+inline void draw_zipf(std::uint64_t seed, const std::vector<double> &sums, draws &drawn) {
+    numbers random(seed);
+    for (std::uint32_t &draw : drawn) {
+        auto at = std::lower_bound(sums.begin(), sums.end(), random.fraction() * sums.back());
+        auto rank = std::min<std::size_t>(at - sums.begin(), sums.size() - 1);
+        draw = static_cast<std::uint32_t>(rank);
+    }
+}
 
-  private:
-    draws() : drawn_(count) {}
-    std::vector<std::uint32_t> drawn_;
-};
+// How many entries are there to be hit: half of the capacity, so that all have a place, or a few.
+inline std::uint32_t loaded(kind is, const sizes &sizes) {
+    switch (is) {
+    case kind::get_one:
+    case kind::hot:
+        return 1;
+    case kind::get_sixteen:
+        return 16;
+    default:
+        return sizes.capacity / 2;
+    }
+}
+
+// What each thread asks for: as many draws as four times the slots, but not above some millions.
+inline std::vector<draws> drawn_for(kind is, const sizes &sizes) {
+    constexpr std::size_t fewest = std::size_t{1} << 16, most = std::size_t{1} << 22;
+    std::size_t count = std::clamp<std::size_t>(std::size_t{4} * sizes.slots, fewest, most);
+    std::vector<draws> all(is_warm(is) ? 0 : sizes.threads, draws(count));
+    std::vector<double> sums;
+    if (is == kind::mix || is == kind::hits_zipf) {
+        sums = zipf_sums(is == kind::mix ? 4 * sizes.capacity : loaded(is, sizes));
+    }
+    for (std::size_t thread = 0; thread < all.size(); ++thread) {
+        if (sums.empty()) {
+            draw_uniform(thread, loaded(is, sizes), all[thread]);
+        } else {
+            draw_zipf(thread, sums, all[thread]);
+        }
+    }
+    return all;
+}
 
 // The file numbers that keys are of: of entries that are there, of those that never are, and of new
 // ones, a file for each thread.
@@ -135,9 +169,9 @@ constexpr std::uint64_t loaded_file = 1;
 constexpr std::uint64_t absent_file = 2;
 constexpr std::uint64_t first_new_file = 3;
 
-// Keeps this thread on one of the processors that it may use.
-inline void stay_on(std::uint64_t number) {
-    cpu_set_t all, one;
+// The processors that this thread may use.
+inline std::vector<int> processors() {
+    cpu_set_t all;
     must(sched_getaffinity(0, sizeof all, &all) == 0, "asking for the processors");
     std::vector<int> usable;
     for (int processor = 0; processor < CPU_SETSIZE; ++processor) {
@@ -145,6 +179,13 @@ inline void stay_on(std::uint64_t number) {
             usable.push_back(processor);
         }
     }
+    return usable;
+}
+
+// Keeps this thread on one of them.
+inline void stay_on(std::uint64_t number) {
+    std::vector<int> usable = processors();
+    cpu_set_t one;
     CPU_ZERO(&one);
     CPU_SET(usable[number % usable.size()], &one);
     must(sched_setaffinity(0, sizeof one, &one) == 0, "keeping a processor");
@@ -153,11 +194,10 @@ inline void stay_on(std::uint64_t number) {
 // A cache under one case: filled once, and then played on for as many rounds as are asked for.
 template <class Cache> class bench {
   public:
-    bench(kind is, const sizes &sizes)
-        : is_(is), sizes_(sizes), value_(sizes.value_size, 0x5a), cache_(sizes) {
+    bench(kind is, const sizes &sizes, const std::vector<draws> &drawn)
+        : is_(is), sizes_(sizes), value_(sizes.value_size, 0x5a), drawn_(drawn), cache_(sizes) {
         for (std::uint32_t thread = 0; thread < sizes.threads; ++thread) {
             readers_.emplace_back(cache_, sizes);
-            draws_.push_back(drawn_for(thread));
         }
         next_.assign(sizes.threads, 0);
         fill();
@@ -176,6 +216,7 @@ template <class Cache> class bench {
                 std::vector<std::uint8_t> buffer(sizes_.value_size);
                 waiting.fetch_sub(1);
                 while (waiting.load() != 0) {
+                    std::this_thread::yield();
                 }
                 begun[thread] = clock::now();
                 parts[thread] = work(thread, operations, buffer.data());
@@ -190,28 +231,20 @@ template <class Cache> class bench {
             all.operations += part.operations;
             all.hits += part.hits;
             all.misses += part.misses;
+            all.seconds = std::max(all.seconds, part.seconds);
         }
-        all.seconds = std::chrono::duration<double>(*std::max_element(ended.begin(), ended.end()) -
-                                                    *std::min_element(begun.begin(), begun.end()))
-                          .count();
+        if (is_ != kind::get_cold) {
+            all.seconds = seconds_between(*std::min_element(begun.begin(), begun.end()),
+                                          *std::max_element(ended.begin(), ended.end()));
+        }
         return all;
     }
 
   private:
     using clock = std::chrono::steady_clock;
 
-    // How many entries are there to be hit: half of the capacity, so that all have a place.
-    std::uint32_t loaded() const { return is_ == kind::hot ? 1 : sizes_.capacity / 2; }
-
-    draws drawn_for(std::uint32_t thread) const {
-        switch (is_) {
-        case kind::mix:
-            return draws::zipf(thread, 4 * sizes_.capacity);
-        case kind::hits_zipf:
-            return draws::zipf(thread, loaded());
-        default:
-            return draws::uniform(thread, loaded());
-        }
+    static double seconds_between(clock::time_point begun, clock::time_point ended) {
+        return std::chrono::duration<double>(ended - begun).count();
     }
 
     // The key of an entry that is there to be hit.
@@ -224,15 +257,18 @@ template <class Cache> class bench {
         switch (is_) {
         case kind::hits_uniform:
         case kind::get:
+        case kind::get_one:
+        case kind::get_sixteen:
         case kind::misses:
         case kind::hot:
         case kind::hits_zipf:
         case kind::blocks_seeded:
         case kind::blocks_unseeded:
-            for (std::uint32_t number = 0; number < loaded(); ++number) {
+            for (std::uint32_t number = 0; number < loaded(is_, sizes_); ++number) {
                 readers_[0].insert(loaded_key(number), value_.data());
             }
             break;
+        case kind::get_cold:
         case kind::mix:
         case kind::evict:
             (void)play(2 * sizes_.slots / sizes_.threads, 0);
@@ -248,52 +284,38 @@ template <class Cache> class bench {
         }
     }
 
-    outcome work(std::uint32_t thread, std::uint64_t operations, std::uint8_t *buffer) {
+    // Inserts keys that are new, and reads each of them once: only the reads are measured.
+    outcome work_cold(std::uint32_t thread, std::uint64_t operations, std::uint8_t *buffer) {
         typename Cache::reader &reader = readers_[thread];
-        const draws &drawn = draws_[thread];
+        std::uint64_t together = std::max(1u, loaded(is_, sizes_) / sizes_.threads);
+        outcome made;
+        for (std::uint64_t left = operations; left != 0;) {
+            std::uint64_t first = next_[thread], count = std::min(left, together);
+            for (std::uint64_t number = first; number < first + count; ++number) {
+                reader.insert(key_of(first_new_file + thread, number), value_.data());
+            }
+            clock::time_point begun = clock::now();
+            for (std::uint64_t number = first; number < first + count; ++number) {
+                made.hits += reader.get(key_of(first_new_file + thread, number), buffer);
+            }
+            made.seconds += seconds_between(begun, clock::now());
+            next_[thread] += count;
+            left -= count;
+        }
+        made.operations = operations;
+        made.misses = operations - made.hits;
+        return made;
+    }
+
+    outcome work(std::uint32_t thread, std::uint64_t operations, std::uint8_t *buffer) {
+        if (is_ == kind::get_cold) {
+            return work_cold(thread, operations, buffer);
+        }
         std::uint64_t first = next_[thread];
         outcome made;
         made.operations = operations;
         for (std::uint64_t number = first; number < first + operations; ++number) {
-            switch (is_) {
-            case kind::hits_uniform:
-            case kind::hot:
-            case kind::hits_zipf:
-                made.hits += reader.read(key_of(loaded_file, drawn[number]), buffer);
-                break;
-            case kind::get:
-                made.hits += reader.get(key_of(loaded_file, drawn[number]), buffer);
-                break;
-            case kind::misses:
-                made.hits += reader.read(key_of(absent_file, drawn[number]), buffer);
-                break;
-            case kind::mix: {
-                ferretgold_key key = key_of(loaded_file, drawn[number]);
-                if (reader.get(key, buffer)) {
-                    ++made.hits;
-                } else {
-                    reader.insert(key, value_.data());
-                }
-                break;
-            }
-            case kind::blocks_seeded:
-            case kind::blocks_unseeded: {
-                ferretgold_key key = block_key_of(drawn[number]);
-                if (reader.read(key, buffer)) {
-                    ++made.hits;
-                } else {
-                    reader.insert(key, value_.data());
-                }
-                break;
-            }
-            case kind::evict:
-            case kind::pinned:
-                reader.insert(key_of(first_new_file + thread, number), value_.data());
-                break;
-            case kind::save:
-            case kind::load:
-                break;
-            }
+            made.hits += operate(thread, number, buffer);
         }
         next_[thread] = first + operations;
         bool reads = is_ != kind::evict && is_ != kind::pinned;
@@ -301,12 +323,49 @@ template <class Cache> class bench {
         return made;
     }
 
+    // One operation: whether it was a hit.
+    bool operate(std::uint32_t thread, std::uint64_t number, std::uint8_t *buffer) {
+        typename Cache::reader &reader = readers_[thread];
+        const draws &all = drawn_[thread];
+        std::uint32_t drawn = all[number & (all.size() - 1)];
+        switch (is_) {
+        case kind::hits_uniform:
+        case kind::hot:
+        case kind::hits_zipf:
+            return reader.read(key_of(loaded_file, drawn), buffer);
+        case kind::get:
+        case kind::get_one:
+        case kind::get_sixteen:
+            return reader.get(key_of(loaded_file, drawn), buffer);
+        case kind::misses:
+            return reader.read(key_of(absent_file, drawn), buffer);
+        case kind::mix: {
+            ferretgold_key key = key_of(loaded_file, drawn);
+            return reader.get(key, buffer) || (reader.insert(key, value_.data()), false);
+        }
+        case kind::blocks_seeded:
+        case kind::blocks_unseeded: {
+            ferretgold_key key = block_key_of(drawn);
+            return reader.read(key, buffer) || (reader.insert(key, value_.data()), false);
+        }
+        case kind::evict:
+        case kind::pinned:
+            reader.insert(key_of(first_new_file + thread, number), value_.data());
+            return false;
+        case kind::get_cold:
+        case kind::save:
+        case kind::load:
+            break;
+        }
+        return false;
+    }
+
     kind is_;
     sizes sizes_;
     std::vector<std::uint8_t> value_;
+    const std::vector<draws> &drawn_;
     Cache cache_;
     std::vector<typename Cache::reader> readers_;
-    std::vector<draws> draws_;
     std::vector<std::uint64_t> next_;
 };
 
@@ -314,7 +373,8 @@ template <class Cache> class bench {
 // The file is in memory, and an operation is one of its entries.
 class warm_start {
   public:
-    warm_start(kind is, const sizes &sizes) : is_(is), config_(config_of(sizes)) {
+    warm_start(kind is, const sizes &sizes, const std::vector<draws> &)
+        : is_(is), config_(config_of(sizes)) {
         ferretgold::cache cache(config_);
         {
             std::vector<std::uint8_t> value(sizes.value_size, 0x5a);

@@ -2,7 +2,7 @@
 // on RocksDB's, in turns, and prints a JSON line for each round of each.
 //
 //   peers [--case NAME]... [--cache NAME]... [--value-size N]... [--threads N]...
-//         [--shards N] [--rounds N] [--operations N]
+//         [--megabytes N]... [--shards N] [--rounds N] [--operations N]
 //
 // Where a cache's memory lies makes it faster or slower, so all are made anew for every three rounds,
 // in another order; and each round begins with the next of them. What else a processor has to do makes
@@ -11,9 +11,11 @@
 // An option that is left out stands for all there are, but for the cache ferretgold-large, which plays
 // all but `pinned` by the calls for large values: then sizes go up to 65,536 bytes, and those above
 // 4,096 leave out ferretgold and its twin. `blocks-unseeded` leaves out the caches that always spread
-// keys; `save` and `load` leave out all but ferretgold, and all numbers of threads but one. Each thread
-// makes as many operations a round as --operations says; by 0, the default, as many as take the first
-// cache 40 ms, or another 200 ms.
+// keys; `save` and `load` leave out all but ferretgold, and all numbers of threads but one. A cache has
+// 16,384 slots, or, by --megabytes, the power of two with which Ferretgold's table comes nearest to so
+// many, and so many shards that none has above 65,536; eight threads play only `get-one` and
+// `get-sixteen`, unless they are asked for. Each thread makes as many operations a round as --operations
+// says; by 0, the default, as many as take the first cache 40 ms, or another 200 ms.
 #include "cases.hpp"
 
 #include <algorithm>
@@ -29,7 +31,9 @@ namespace {
 
 using namespace peers;
 
-constexpr std::uint32_t slots = 1 << 14;
+constexpr std::uint32_t usual_slots = 1 << 14;
+constexpr std::uint32_t most_slots = 1 << 16; // of a shard
+constexpr std::uint32_t most_shards = 64;
 constexpr std::uint64_t seed = 0x5eed;
 constexpr double round_seconds = 0.04;
 // A slower cache may take so many times as long.
@@ -43,6 +47,7 @@ struct options {
     std::vector<std::string> caches;
     std::vector<std::uint64_t> value_sizes;
     std::vector<std::uint64_t> threads;
+    std::vector<std::uint64_t> megabytes;
     std::uint64_t shards = 1;
     std::uint64_t rounds = 7;
     std::uint64_t operations = 0;
@@ -101,8 +106,10 @@ options options_of(int count, char **words) {
             asked.value_sizes.push_back(value_size_of(word));
         } else if (name == "--threads") {
             asked.threads.push_back(number_of(word, 1, 64));
+        } else if (name == "--megabytes") {
+            asked.megabytes.push_back(number_of(word, 1, 10'000));
         } else if (name == "--shards") {
-            asked.shards = power_of_two(word, 64);
+            asked.shards = power_of_two(word, most_shards);
         } else if (name == "--rounds") {
             asked.rounds = number_of(word, 1, 1000);
         } else if (name == "--operations") {
@@ -129,7 +136,10 @@ struct player {
 };
 
 template <class Cache, class Bench = bench<Cache>> struct player_of : player {
-    player_of(kind is, const sizes &sizes) : bench_(is, sizes) { name = Cache::name(); }
+    player_of(kind is, const sizes &sizes, const std::vector<draws> &drawn)
+        : bench_(is, sizes, drawn) {
+        name = Cache::name();
+    }
     outcome play(std::uint64_t operations, std::uint64_t round) override {
         return bench_.play(operations, round);
     }
@@ -143,12 +153,14 @@ using players = std::vector<std::unique_ptr<player>>;
 // How a cache is made and filled, by its name.
 struct maker {
     std::string name;
-    std::unique_ptr<player> (*make)(kind, const sizes &);
+    std::unique_ptr<player> (*make)(kind, const sizes &, const std::vector<draws> &);
 };
 
 template <class Cache, class Bench = bench<Cache>> maker maker_of() {
-    return {Cache::name(), [](kind is, const sizes &sizes) -> std::unique_ptr<player> {
-                return std::make_unique<player_of<Cache, Bench>>(is, sizes);
+    return {Cache::name(),
+            [](kind is, const sizes &sizes,
+               const std::vector<draws> &drawn) -> std::unique_ptr<player> {
+                return std::make_unique<player_of<Cache, Bench>>(is, sizes, drawn);
             }};
 }
 
@@ -222,12 +234,12 @@ void print(const player &of, const char *case_name, const sizes &sizes, std::uin
            const outcome &made) {
     double operations = static_cast<double>(made.operations);
     std::printf("{\"cache\":\"%s\",\"build\":\"%s\",\"case\":\"%s\",\"value_size\":%" PRIu32
-                ",\"threads\":%" PRIu32 ",\"shards\":%" PRIu32 ",\"round\":%" PRIu64
-                ",\"operations\":%" PRIu64 ",\"seconds\":%.6f,\"operations_per_second\":%.0f,"
+                ",\"threads\":%" PRIu32 ",\"processors\":%zu,\"slots\":%" PRIu32
+                ",\"shards\":%" PRIu32 ",\"round\":%" PRIu64 ",\"operations\":%" PRIu64 ",\"seconds\":%.6f,\"operations_per_second\":%.0f,"
                 "\"nanoseconds_per_operation\":%.2f,\"hits\":%" PRIu64 ",\"misses\":%" PRIu64
                 "}\n",
-                of.name.c_str(), build_of(of.name), case_name,
-                sizes.value_size, sizes.threads, sizes.shards, round, made.operations,
+                of.name.c_str(), build_of(of.name), case_name, sizes.value_size, sizes.threads,
+                processors().size(), sizes.slots, sizes.shards, round, made.operations,
                 made.seconds, operations / made.seconds,
                 made.seconds * 1e9 * sizes.threads / operations, made.hits, made.misses);
 }
@@ -238,12 +250,13 @@ void compare(const options &asked, const named_case &of, const sizes &sizes) {
     if (makers.empty()) {
         return;
     }
+    const std::vector<draws> drawn = drawn_for(of.is, sizes);
     players all;
     for (std::uint64_t round = 0; round < asked.rounds; ++round) {
         if (round % rounds_together == 0) {
             all.clear();
             for (const maker &it : makers) {
-                all.push_back(it.make(of.is, sizes));
+                all.push_back(it.make(of.is, sizes, drawn));
             }
             std::rotate(makers.begin(), makers.begin() + 1, makers.end());
         }
@@ -258,6 +271,47 @@ void compare(const options &asked, const named_case &of, const sizes &sizes) {
     std::fflush(stdout);
 }
 
+// How many slots a cache has: by 0 megabytes the usual number.
+std::uint32_t slots_of(std::uint64_t megabytes, std::uint64_t value_size) {
+    if (megabytes == 0) {
+        return usual_slots;
+    }
+    double wanted = static_cast<double>(megabytes) * 1e6 / static_cast<double>(56 + value_size);
+    double power = std::round(std::log2(wanted));
+    return static_cast<std::uint32_t>(std::exp2(std::clamp(power, 8.0, std::log2(most_slots * most_shards))));
+}
+
+sizes sizes_of(const options &asked, kind is, std::uint64_t megabytes, std::uint64_t value_size,
+               std::uint64_t threads) {
+    sizes sizes{};
+    sizes.slots = slots_of(megabytes, value_size);
+    sizes.shards = std::max(static_cast<std::uint32_t>(asked.shards), sizes.slots / most_slots);
+    sizes.capacity = sizes.slots / sizes.shards * 7 / 10 * sizes.shards;
+    sizes.value_size = static_cast<std::uint32_t>(value_size);
+    sizes.threads = static_cast<std::uint32_t>(threads);
+    sizes.handles = usual_slots;
+    sizes.seed = is == kind::blocks_unseeded ? 0 : seed;
+    return sizes;
+}
+
+// Plays a case at all sizes and numbers of threads.
+void compare(const options &asked, const named_case &of) {
+    std::vector<std::uint64_t> all = asked.threads;
+    if (all.empty()) {
+        all = {1, 2, 4};
+        if (is_of_few(of.is)) {
+            all.push_back(8);
+        }
+    }
+    for (std::uint64_t megabytes : asked.megabytes) {
+        for (std::uint64_t value_size : asked.value_sizes) {
+            for (std::uint64_t threads : all) {
+                compare(asked, of, sizes_of(asked, of.is, megabytes, value_size, threads));
+            }
+        }
+    }
+}
+
 } // namespace
 
 int main(int count, char **words) {
@@ -265,8 +319,8 @@ int main(int count, char **words) {
     if (asked.value_sizes.empty()) {
         asked.value_sizes = {16, 256, 4096};
     }
-    if (asked.threads.empty()) {
-        asked.threads = {1, 2, 4};
+    if (asked.megabytes.empty()) {
+        asked.megabytes = {0};
     }
     bool is_known = false;
     for (const named_case &of : all_cases) {
@@ -274,19 +328,7 @@ int main(int count, char **words) {
             continue;
         }
         is_known = true;
-        for (std::uint64_t value_size : asked.value_sizes) {
-            for (std::uint64_t threads : asked.threads) {
-                sizes sizes{};
-                sizes.slots = slots;
-                sizes.shards = static_cast<std::uint32_t>(asked.shards);
-                sizes.capacity = slots * 7 / 10;
-                sizes.value_size = static_cast<std::uint32_t>(value_size);
-                sizes.threads = static_cast<std::uint32_t>(threads);
-                sizes.handles = slots;
-                sizes.seed = of.is == kind::blocks_unseeded ? 0 : seed;
-                compare(asked, of, sizes);
-            }
-        }
+        compare(asked, of);
     }
     if (!is_known) {
         stop("there is no such case");

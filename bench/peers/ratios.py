@@ -1,7 +1,8 @@
 #!/usr/bin/env python3
-"""Prints what a comparison came to: for each case, value size and number of threads the median of the
-rounds of each cache, in nanoseconds of a thread for an operation, and beside the other caches how many
-times as fast as they this project's is.
+"""Prints what a comparison came to: for each case, value size, number of threads and size of table the
+median of the rounds of each cache, in nanoseconds of a thread for an operation, and beside the other
+caches how many times as fast as they this project's is. A * says that there are more threads than
+processors. The tables of pages and the pictures are of the usual number of slots, and leave these out.
 Usage: ratios.py FILE..             with the JSON lines that peers prints
        ratios.py --medians FILE..   prints the medians, as JSON lines that can be given in their place
        ratios.py --front FILE..     prints the front page's table, of one thread and of four
@@ -13,6 +14,7 @@ import statistics
 import subprocess
 import sys
 from collections import defaultdict
+from typing import NamedTuple
 
 OURS = "ferretgold"
 SHOWN = (OURS, "rocksdb-hyperclock", "rocksdb-lru", "rocksdb-lru-sharded")
@@ -20,17 +22,38 @@ SHOWN = (OURS, "rocksdb-hyperclock", "rocksdb-lru", "rocksdb-lru-sharded")
 ALL = (OURS, "twin", "rocksdb-hyperclock", "rocksdb-lru")
 COLOURS = {OURS: "#b8860b", "twin": "#2e8b57", "rocksdb-hyperclock": "#1f5fa8", "rocksdb-lru": "#7a7a7a"}
 PANEL = 300, 260
+USUAL_SLOTS = 16_384
+# Words of 8 bytes that a slot has before its value.
+HEAD = 7
 # The cases that the front page shows, by the names that it has for them.
 FRONT = {"get": "hit", "misses": "miss", "mix": "mix", "evict": "evict"}
 
 
+class At(NamedTuple):
+    """What was measured."""
+    case: str
+    size: int
+    threads: int
+    slots: int
+    processors: int
+
+    @property
+    def is_crowded(self):
+        return self.threads > self.processors
+
+    @property
+    def megabytes(self):
+        return self.slots * (8 * HEAD + self.size) / 1e6
+
+
 def read(files):
-    """The rounds' nanoseconds, by case, value size, threads and cache; and how the others were built."""
+    """The rounds' nanoseconds, by what was measured and cache; and how the others were built."""
     rounds, builds = defaultdict(lambda: defaultdict(list)), {}
     for file in files:
         with open(file, encoding="utf-8") as lines:
             for it in map(json.loads, lines):
-                at = it["case"], it["value_size"], it["threads"]
+                slots, processors = it.get("slots", USUAL_SLOTS), it.get("processors", it["threads"])
+                at = At(it["case"], it["value_size"], it["threads"], slots, processors)
                 rounds[at][it["cache"]].append(it["nanoseconds_per_operation"])
                 builds[it["cache"]] = it["build"]
     return rounds, builds
@@ -42,9 +65,17 @@ def shown(median, ours):
 
 
 def medians_of(rounds):
-    """The median of the rounds of each cache, by case, value size and threads."""
+    """The median of the rounds of each cache, by what was measured."""
     return {
         at: {cache: statistics.median(them) for cache, them in of.items()} for at, of in rounds.items()
+    }
+
+
+def usual(medians):
+    """Those of the usual number of slots, and of no more threads than processors, by case, value size and
+    threads."""
+    return {
+        at[:3]: of for at, of in medians.items() if at.slots == USUAL_SLOTS and not at.is_crowded
     }
 
 
@@ -53,24 +84,27 @@ def print_ratios(medians, builds):
     for it in others:
         print(f"{it}: {builds[it]}")
     names = "".join(f"{it.removeprefix('rocksdb-'):>17}" for it in others)
-    print(f"{'case':13}{'bytes':>6}{'threads':>8}{OURS:>12}{names}")
+    print(f"{'case':13}{'bytes':>6}{'MB':>7}{'threads':>8} {OURS:>12}{names}")
     for at, of in medians.items():
         ours = of.get(OURS)
         row = "".join(f"  {shown(of[it], ours)}" if it in of else " " * 17 for it in others)
-        print(f"{at[0]:13}{at[1]:6}{at[2]:8}{ours or float('nan'):12.1f}{row}")
+        threads = f"{at.threads:8}{'*' if at.is_crowded else ' '}"
+        print(f"{at.case:13}{at.size:6}{at.megabytes:7.1f}{threads}{ours or float('nan'):12.1f}{row}")
 
 
 def print_medians(medians, builds):
-    for (case, size, threads), of in medians.items():
+    for at, of in medians.items():
         for cache, median in of.items():
-            line = {"cache": cache, "build": builds[cache], "case": case, "value_size": size}
-            line |= {"threads": threads, "nanoseconds_per_operation": round(median, 1)}
+            line = {"cache": cache, "build": builds[cache], "case": at.case, "value_size": at.size}
+            line |= {"threads": at.threads, "processors": at.processors, "slots": at.slots}
+            line |= {"nanoseconds_per_operation": round(median, 1)}
             print(json.dumps(line))
 
 
 def print_front(medians, _):
     """A row for each case and number of threads, a cell for each size: the four caches, the fastest of
     them bold."""
+    medians = usual(medians)
     sizes = sorted({size for _, size, threads in medians if threads == 1})
     print("|  | " + " | ".join(f"{size:,} bytes" for size in sizes) + " |")
     print("|---" * (len(sizes) + 1) + "|")
@@ -88,7 +122,7 @@ def print_all(medians, _):
     project's cache is."""
     print("| Case | Bytes | Ferretgold | twin | | HyperClockCache | | LRUCache | |")
     print("|---|---|---|---|---|---|---|---|---|")
-    for (case, size, threads), of in medians.items():
+    for (case, size, threads), of in usual(medians).items():
         if threads == 1 and all(it in of for it in ALL):
             ours, *others = (of[it] for it in ALL)
             cells = " | ".join(f"{it:,.0f} | {it / ours:.2f}" for it in others)
@@ -137,7 +171,7 @@ def plots(medians, folder):
     """The pictures of cases that were measured at several numbers of threads: a warm start isn't."""
     os.makedirs(folder, exist_ok=True)
     cases = defaultdict(dict)
-    for (case, size, threads), of in medians.items():
+    for (case, size, threads), of in usual(medians).items():
         cases[case][size, threads] = of
     for case, of in cases.items():
         if len({threads for _, threads in of}) > 1:
