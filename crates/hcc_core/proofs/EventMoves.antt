@@ -28,7 +28,7 @@ use Rattle.hcc_core.specs.References.{holds_nothing}
 use Rattle.hcc_core.specs.Uses.{clock_of, may_clock, clocked, mark_of, correct_of, may_correct}
 use Rattle.hcc_core.specs.Entries.{occupied, occupy_of, hide_of, free_of, may_free, empty_of}
 use Rattle.hcc_core.specs.Entries.{freed_by, write_of, is_building, read_of, entry_read}
-use Rattle.hcc_core.specs.Entries.{is_free_for}
+use Rattle.hcc_core.specs.Entries.{is_free_for, peek_of}
 use Rattle.hcc_core.specs.Ledgers.{enter_of, slots_of, charge_by, may_charge, settle_of, may_settle}
 use Rattle.hcc_core.specs.Ledgers.{waive_of, may_waive, quit_of, told, usage_told, occupancy_told}
 use Rattle.hcc_core.specs.Ledgers.{standing_told, stand_of, may_stand, fall_of, is_standing}
@@ -358,6 +358,12 @@ end_moves w client =
 pub count_moves : (w : State) (client slot : ℕ) → Moved w (count_of w client slot)
 unfolding count_of
 count_moves w client slot =
+    chain w (slot_at w slot) _
+    (λ seen at. chain w (live_at w client) _ (λ found live. still w w.hand))
+
+pub peek_moves : (w : State) (client slot : ℕ) → Moved w (peek_of w client slot)
+unfolding peek_of
+peek_moves w client slot =
     chain w (slot_at w slot) _
     (λ seen at. chain w (live_at w client) _ (λ found live. still w w.hand))
 

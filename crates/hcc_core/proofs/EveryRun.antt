@@ -2,7 +2,7 @@
 -- entry, and entries are what their shows gave.
 use Rattle.std.proofs.Common.{◌≡◌, ◌⊎◌, inl, inr, ℕ, ◌&&◌, Bool, true, false, cond, List, [], ◌∷◌}
 use Rattle.std.proofs.Common.{◌++◌, Option, Some, None, Ok, Err, length, replicate, slice_get, refl}
-use Rattle.std.proofs.Common.{sym, ap, ◌∙◌, arith, ◌≤◌}
+use Rattle.std.proofs.Common.{sym, ap, ◌∙◌, arith, ◌≤◌, ◌<◌}
 use Rattle.std.specs.Prelude.{option_and_then}
 use Rattle.std.specs.List.{list_any}
 use Rattle.std.proofs.lemmas.Bool.{or_parts}
@@ -11,6 +11,8 @@ use Rattle.hcc_core.specs.declared.event.Event.{Event}
 use Rattle.hcc_core.specs.declared.client.Client.{Client}
 use Rattle.hcc_core.specs.declared.slot.Entry.{Entry}
 use Rattle.hcc_core.specs.declared.setup.Setup.{Setup}
+use Rattle.hcc_core.specs.declared.slot.Slot.{Slot}
+use Rattle.hcc_core.specs.declared.slot.Slot.TheVariants as slots
 use Rattle.hcc_core.specs.declared.slot.Stamp.{Stamp}
 use Rattle.hcc_core.specs.Sums.{when}
 use Rattle.hcc_core.specs.World.{State}
@@ -20,8 +22,8 @@ use Rattle.hcc_core.specs.Opening.{opening_of, new_slot, new_client, CanOpen}
 use Rattle.hcc_core.specs.Runs.{world_after, after, after_all, entry_held, held_at, named_on}
 use Rattle.hcc_core.specs.Runs.{named_in, Stands, StandsThrough, KeepsPlaces, FindsOne, CountersFit}
 use Rattle.hcc_core.specs.Runs.{entry_of, entry_at, is_show, shows_in, shows_of, entry_given}
-use Rattle.hcc_core.specs.Runs.{AreGiven, takes_away}
-use Rattle.hcc_core.specs.Lawful.{Lawful, stamps_by}
+use Rattle.hcc_core.specs.Runs.{AreGiven, StandsBetween, takes_away}
+use Rattle.hcc_core.specs.Lawful.{Lawful, stamp_in, stamps_by}
 use Rattle.hcc_core.proofs.ListLemmas.{nothing_in, in_replicate, read_before, read_last}
 use Rattle.hcc_core.proofs.SumLemmas.{total-zero}
 use Rattle.hcc_core.proofs.Keeps.{KeepsLaw, outcome_keeps}
@@ -204,6 +206,79 @@ run_stands setup before events can client name slot entry =
     stands_all events client name slot entry (every_run setup before can)
 
 -- Entries.
+
+-- a stamp is counted, once an event has shown it
+outcome_counts : (w : State) (event : Event) (outcome : Outcome) (c : ℕ) → Added w event outcome
+    → stamps_by (slice_get w.clients c) ≤ stamps_by (slice_get (world_after w outcome).clients c)
+outcome_counts w event (Ok done) c a = let more = a.counts c in omega arith
+outcome_counts w event (Err error) c a = omega arith
+
+-- an entry whose stamp was counted before an event stood there before it
+outcome_stood : (w : State) (event : Event) (outcome : Outcome) (slot : ℕ) (entry : Entry)
+    → Added w event outcome
+    → entry.stamp.number < stamps_by (slice_get w.clients entry.stamp.client)
+    → entry_at (world_after w outcome) slot ≡ Some entry → entry_at w slot ≡ Some entry
+outcome_stood w event (Ok done) slot entry a counted there = elim (a.entries slot entry there) [
+  | inl old ↦ old
+  | inr new ↦ absurd (let next = new.next in omega arith)
+]
+outcome_stood w event (Err error) slot entry a counted there = there
+
+-- and before any events
+stood_before : (events : List Event) (w : State) (slot : ℕ) (entry : Entry)
+    → entry.stamp.number < stamps_by (slice_get w.clients entry.stamp.client)
+    → entry_at (after_all w events) slot ≡ Some entry → entry_at w slot ≡ Some entry
+stood_before [] w slot entry counted there = there
+stood_before (event ∷ events) w slot entry counted there =
+    let added = outcome_adds w event in
+    let more = outcome_counts w event (outcome_of w event) entry.stamp.client added in
+    outcome_stood w event (outcome_of w event) slot entry added counted
+    (stood_before events (after w event) slot entry (omega arith) there)
+
+-- stamps that are counted stay so
+counted_on : (events : List Event) (w : State) (c : ℕ)
+    → stamps_by (slice_get w.clients c) ≤ stamps_by (slice_get (after_all w events).clients c)
+counted_on [] w c = omega arith
+counted_on (event ∷ events) w c =
+    let more = outcome_counts w event (outcome_of w event) c (outcome_adds w event) in
+    let rest = counted_on events (after w event) c in
+    omega arith
+
+-- the world after events and more
+after_both : (front rest : List Event) (w : State)
+    → after_all w (front ++ rest) ≡ after_all (after_all w front) rest
+after_both [] rest w = refl
+after_both (event ∷ front) rest w = after_both front rest (after w event)
+
+-- the stamp of a slot's entry
+stamp_is : (o : Option Slot) (entry : Entry) → option_and_then entry_of o ≡ Some entry
+    → stamp_in o ≡ Some entry.stamp
+stamp_is None entry is = cc
+stamp_is (Some (slots.Empty strays)) entry is = cc
+stamp_is (Some (slots.Building client strays)) entry is = cc
+stamp_is (Some (slots.Shareable r)) entry is = let same : r.entry ≡ entry = cc in ap Some (ap (λ (e : Entry). e.stamp) same)
+
+-- so an entry that stands twice stands between
+pub stands_between : (w : State) (events : List Event) → Lawful w → StandsBetween w events
+stands_between w events l slot entry later here there same front rest is =
+    stood_before rest (after_all w front) slot later counted ends
+  where
+    counted : later.stamp.number
+        < stamps_by (slice_get (after_all w front).clients later.stamp.client)
+    counted =
+        let made = l.stamped.made slot later.stamp
+        (stamp_is (slice_get w.slots slot) entry here ∙ ap Some (sym same)) in
+        let more = counted_on front w later.stamp.client in
+        omega arith
+
+    ends : entry_at (after_all (after_all w front) rest) slot ≡ Some later
+    ends = ap (λ (x : State). entry_at x slot) (sym (after_both front rest w))
+        ∙ (ap (λ es. entry_at (after_all w es) slot) (sym is) ∙ there)
+
+pub run_stands_between : (setup : Setup) (before events : List Event) → CanOpen setup
+    → StandsBetween (after_all (opening_of setup) before) events
+run_stands_between setup before events can =
+    stands_between (after_all (opening_of setup) before) events (every_run setup before can)
 
 -- what the show of a stamp gave, of these shows of each client
 abbrev pub given_by : (ℕ → List Event) → Stamp → Option Entry

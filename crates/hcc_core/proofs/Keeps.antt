@@ -24,7 +24,7 @@ use Rattle.hcc_core.specs.References.{counting_in, if_counting, end_of, is_idle,
 use Rattle.hcc_core.specs.Uses.{clock_of, may_clock, clocked, mark_of, correct_of, may_correct}
 use Rattle.hcc_core.specs.Entries.{occupied, occupy_of, show_of, built_by, may_show, hide_of}
 use Rattle.hcc_core.specs.Entries.{free_of, may_free, empty_of, freed_by, write_of, is_building}
-use Rattle.hcc_core.specs.Entries.{read_of, entry_read}
+use Rattle.hcc_core.specs.Entries.{peek_of, read_of, entry_read}
 use Rattle.hcc_core.specs.Ledgers.{enter_of, slots_of, charge_by, may_charge, settle_of, may_settle}
 use Rattle.hcc_core.specs.Ledgers.{waive_of, may_waive, quit_of, told, usage_told, occupancy_told}
 use Rattle.hcc_core.specs.Ledgers.{standing_told, stand_of, may_stand, fall_of, is_standing}
@@ -300,6 +300,11 @@ unfolding count_of
 count_keeps w client slot l =
     chain (slot_at w slot) _ (λ seen at. chain (live_at w client) _ (λ found live. l))
 
+peek_keeps : (w : State) (client slot : ℕ) → Lawful w → KeepsLaw (peek_of w client slot)
+unfolding peek_of
+peek_keeps w client slot l =
+    chain (slot_at w slot) _ (λ seen at. chain (live_at w client) _ (λ found live. l))
+
 pass_keeps : (w : State) (client slot : ℕ) → Lawful w → KeepsLaw (pass_of w client slot)
 unfolding pass_of
 pass_keeps w client slot l =
@@ -348,6 +353,7 @@ rule_keeps w (events.Standing client) l = standing_keeps w client l
 rule_keeps w (events.Stand client charge name) l = stand_keeps w client charge name l
 rule_keeps w (events.Fall client name) l = fall_keeps w client name l
 rule_keeps w (events.Count client slot) l = count_keeps w client slot l
+rule_keeps w (events.Peek client slot) l = peek_keeps w client slot l
 rule_keeps w (events.Pass client slot) l = pass_keeps w client slot l
 rule_keeps w (events.Unpass client slot) l = unpass_keeps w client slot l
 rule_keeps w (events.Turn client) l = turn_keeps w client l

@@ -39,7 +39,7 @@ use Rattle.hcc_core.proofs.EventMoves.{slots_moves, settle_moves, end_moves, clo
 use Rattle.hcc_core.proofs.EventMoves.{mark_moves, correct_moves, waive_moves, quit_moves}
 use Rattle.hcc_core.proofs.EventMoves.{usage_moves, occupancy_moves, standing_moves, stand_moves}
 use Rattle.hcc_core.proofs.EventMoves.{fall_moves, count_moves, pass_moves, unpass_moves}
-use Rattle.hcc_core.proofs.EventMoves.{turn_moves, MovedBut, owned_held}
+use Rattle.hcc_core.proofs.EventMoves.{turn_moves, peek_moves, MovedBut, owned_held}
 
 -- the entry is what this event says, under the next stamp of the client that shows it
 pub record IsNew (w : State) (event : Event) (entry : Entry) : Type 0 where
@@ -252,6 +252,7 @@ rule_adds w (events.Count client slot) = quiet w _ _ (λ c. refl) (count_moves w
 rule_adds w (events.Pass client slot) = quiet w _ _ (λ c. refl) (pass_moves w client slot)
 rule_adds w (events.Unpass client slot) = quiet w _ _ (λ c. refl) (unpass_moves w client slot)
 rule_adds w (events.Turn client) = quiet w _ _ (λ c. refl) (turn_moves w client)
+rule_adds w (events.Peek client slot) = quiet w _ _ (λ c. refl) (peek_moves w client slot)
 
 if_adds : (w : State) (event : Event) (b : Bool) (outcome : Outcome) → Added w event outcome
     → Added w event (cond b outcome (Err NotAllowed))

@@ -110,6 +110,15 @@ pub record FindsOne (world : State) : Type 0 where
 
 -- Entries.
 
+-- an entry that stands in a slot in this world and in the one after the events, by its stamp, is the
+-- same in both, and stands there in all worlds between
+abbrev pub StandsBetween : State → List Event → Type 0
+StandsBetween world events =
+    (slot : ℕ) (entry later : Entry) → entry_at world slot ≡ Some entry
+    → entry_at (after_all world events) slot ≡ Some later → later.stamp ≡ entry.stamp
+    → (front rest : List Event) → events ≡ front ++ rest
+    → entry_at (after_all world front) slot ≡ Some later
+
 -- whether the event is a show of this client
 abbrev pub is_show : ℕ → Event → Bool
 is_show client (events.Show maker key0 key1 charge countdown name value) = maker == client

@@ -13,7 +13,7 @@ use Rattle.hcc_core.specs.Outcomes.{Outcome, is_made}
 use Rattle.hcc_core.specs.References.{start_of, look_of, acquire_of, give_of, use_of, end_of}
 use Rattle.hcc_core.specs.Uses.{clock_of, mark_of, correct_of}
 use Rattle.hcc_core.specs.Entries.{occupy_of, show_of, hide_of, free_of, empty_of, write_of}
-use Rattle.hcc_core.specs.Entries.{read_of}
+use Rattle.hcc_core.specs.Entries.{peek_of, read_of}
 use Rattle.hcc_core.specs.Ledgers.{enter_of, slots_of, charge_by, settle_of, waive_of, quit_of}
 use Rattle.hcc_core.specs.Ledgers.{usage_told, occupancy_told, standing_told, stand_of, fall_of}
 use Rattle.hcc_core.specs.Trails.{count_of, pass_of, unpass_of, turn_of}
@@ -63,6 +63,7 @@ in_range (events.Count client slot) = fits 32 client && fits 32 slot
 in_range (events.Pass client slot) = fits 32 client && fits 32 slot
 in_range (events.Unpass client slot) = fits 32 client && fits 32 slot
 in_range (events.Turn client) = fits 32 client
+in_range (events.Peek client slot) = fits 32 client && fits 32 slot
 
 -- The outcome of an event.
 
@@ -99,6 +100,7 @@ rule_of world (events.Count client slot) = count_of world client slot
 rule_of world (events.Pass client slot) = pass_of world client slot
 rule_of world (events.Unpass client slot) = unpass_of world client slot
 rule_of world (events.Turn client) = turn_of world client
+rule_of world (events.Peek client slot) = peek_of world client slot
 
 -- The outcome of an event: a refusal, or the reply and the world after it.
 unfoldable pub outcome_of : State → Event → Outcome

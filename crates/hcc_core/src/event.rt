@@ -3,6 +3,7 @@ ghost use Rattle.std.specs.Prelude.{◌≡◌};
 ghost use Rattle.hcc_core.specs.Texts.{text_of};
 
 use crate::listed::Listed;
+use crate::slot::Stamp;
 
 /// One action of one client.
 #[derive(Drop)]
@@ -159,6 +160,11 @@ pub enum Event {
     Turn {
         client: u32,
     },
+    /// It loads a word of a slot without a reference.
+    Peek {
+        client: u32,
+        slot: u32,
+    },
 }
 
 /// What a slot is, without what it holds.
@@ -213,6 +219,8 @@ pub enum Reply {
     /// What the uses are now.
     Uses(u64),
     Count(u64),
+    /// The entry that stands in the slot, if one does.
+    Stands(Option<Stamp>),
 }
 
 /// Why an event, or an opening, was refused. A refused event changes nothing.

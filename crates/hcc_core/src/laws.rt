@@ -5,7 +5,7 @@ ghost use Rattle.hcc_core.specs.declared.slot.Entry.{Entry};
 ghost use Rattle.hcc_core.specs.declared.event.Event.{Event};
 ghost use Rattle.hcc_core.specs.declared.setup.Setup.{Setup};
 ghost use Rattle.hcc_core.specs.Lawful.{Lawful};
-ghost use Rattle.hcc_core.specs.Runs.{AreGiven, CountersFit, FindsOne, KeepsPlaces, after_all, held_at, takes_away};
+ghost use Rattle.hcc_core.specs.Runs.{AreGiven, CountersFit, FindsOne, KeepsPlaces, StandsBetween, after_all, held_at, takes_away};
 ghost use Rattle.hcc_core.specs.Opening.{CanOpen, opening_of};
 
 /// What holds of every world on the way of every run from an opening world, whatever events come
@@ -37,6 +37,10 @@ pub fn law_every_run()
     // A client has one reference of a name at most, and steps find its slot by the name.
     ensures found { (setup : Setup) (events : List Event)
         → FindsOne (after_all (opening_of setup) events) }
+
+    // An entry that stands in a slot at two moments stands there between them: no entry returns.
+    ensures between { (setup : Setup) (before events : List Event) → CanOpen setup
+        → StandsBetween (after_all (opening_of setup) before) events }
 
     // The entry of the stamp of a client and a number is what that client's show of this number
     // gave: of its shows that were allowed, from 0.

@@ -130,6 +130,7 @@ impl Machine {
             Event::Pass { client, slot } => self.pass(client, slot),
             Event::Unpass { client, slot } => self.unpass(client, slot),
             Event::Turn { client } => self.turn(client),
+            Event::Peek { client, slot } => self.peek(client, slot),
         }
     }
 

@@ -3,7 +3,7 @@ ghost use Rattle.std.specs.Prelude.{◌≡◌, ◌<◌, ◌≤◌, IfOk, IfErr, 
 ghost use Rattle.hcc_core.specs.World.{references_of};
 ghost use Rattle.hcc_core.specs.Entries.{occupy_of, strays_if_empty, show_of, is_fresh, may_show};
 ghost use Rattle.hcc_core.specs.Entries.{AllowsShow, client_shown, first_references, first_uses};
-ghost use Rattle.hcc_core.specs.Entries.{write_of, read_of, hide_of, free_of, may_free, empty_of};
+ghost use Rattle.hcc_core.specs.Entries.{write_of, peek_of, read_of, hide_of, free_of, may_free, empty_of};
 ghost use Rattle.hcc_core.specs.Steps.{Follows};
 ghost use Rattle.hcc_core.specs.Lawful.{IsLawful};
 
@@ -93,6 +93,15 @@ impl Machine {
         live_at(&self.clients, client)?;
         let slot = holding(&self.slots, client, name)?;
         self.slots[slot].read(self.alloc)
+    }
+
+    #[tactic(auto, unfolding(crate::specs::Entries::peek_of))]
+    pub(crate) fn peek(&mut self, client: u32, slot: u32) -> Result<Reply, CoreError>
+        ensures { Follows (peek_of self.old client slot) false self.old result self.new }
+    {
+        let stamp = slot_at(&self.slots, slot)?.stamp();
+        live_at(&self.clients, client)?;
+        Ok(Reply::Stands(stamp))
     }
 
     #[tactic(auto, unfolding(crate::specs::Entries::hide_of))]
