@@ -57,6 +57,7 @@ client_by (events.Count client slot) = client
 client_by (events.Pass client slot) = client
 client_by (events.Unpass client slot) = client
 client_by (events.Turn client) = client
+client_by (events.Peek client slot) = client
 
 -- the starts and the ends of clients are no atomic steps; all other events are
 abbrev pub is_step : Event → Bool

@@ -1,6 +1,7 @@
 -- What callers say of a table, by its public value alone, and of the view of a seat at it.
 use Rattle.std.specs.Prelude.{◌≡◌, ℕ, ◌<◌, Bool, IsSomeAnd}
 use Rattle.atomic_table.specs.Seated.{TableId}
+use Rattle.hcc_core.specs.World.{State}
 use Rattle.hcc_rule.specs.declared.addresses.SlotAt.{SlotAt}
 use Rattle.hcc_rule.specs.declared.geometry.Geometry.{Geometry}
 use Rattle.hcc_rule.specs.declared.layout.TheConstants.{DATA}
@@ -8,7 +9,7 @@ use Rattle.hcc_rule.specs.declared.rule.Plan.{Plan}
 use Rattle.hcc_rule.specs.declared.table.RuleTable.{RuleTable}
 use Rattle.hcc_rule.specs.declared.view.Done.{Done}
 use Rattle.hcc_rule.specs.declared.view.View.{View}
-use Rattle.hcc_rule.specs.Acts.{IsAllowed, IsNext, past}
+use Rattle.hcc_rule.specs.Acts.{IsAllowed, IsNext, past, world_of}
 use Rattle.hcc_rule.specs.Seats.{SeatOf, IsSeatOf}
 use Rattle.hcc_rule.specs.Records.{record_in}
 use Rattle.hcc_rule.specs.Words.{field_at}
@@ -49,6 +50,10 @@ module _ {T A : Type 0} where
   IsEvent table done old new =
       IsNext (plan_of table) (clients_of table) done old.me.0 new.me.0
       × IsAllowed (plan_of table) (past new)
+
+  -- the world at the seat's own last event
+  abbrev pub world_at : RuleTable T A → SeatOf T → State
+  world_at table seat = world_of (plan_of table) (past seat)
 
   -- a slot of this table
   abbrev pub IsSlotOf : RuleTable T A → ℕ → Type 0

@@ -8,6 +8,7 @@ use Rattle.hcc_core.specs.declared.event.Reply.{Reply}
 use Rattle.hcc_core.specs.declared.event.Reply.TheVariants as replies
 use Rattle.hcc_core.specs.declared.setup.Setup.{Setup}
 use Rattle.hcc_core.specs.declared.slot.Entry.{Entry}
+use Rattle.hcc_core.specs.declared.slot.Stamp.{Stamp}
 use Rattle.hcc_core.specs.Ledgers.{grant_of}
 use Rattle.hcc_core.specs.World.{limit_of, phase_if}
 use Rattle.hcc_word.specs.Word.{is_counting, is_empty, is_shareable, is_visible, refs_of, releases_of}
@@ -103,6 +104,10 @@ module _ {T : Type 0} where
   abbrev pub read_done : (name : ℕ) → Entry → View T → Done
   read_done name entry v =
       did (events.Read v.client name) (replies.Entry entry.key0 entry.key1 entry.value)
+
+  -- a load without a reference, and the stamp of the entry that stood there
+  abbrev pub peek_done : (slot : ℕ) → Option Stamp → View T → Done
+  peek_done slot stamp v = did (events.Peek v.client slot) (replies.Stands stamp)
 
   -- Ledgers, displacement words and the hand.
 

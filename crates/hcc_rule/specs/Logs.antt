@@ -1,20 +1,25 @@
 -- A seat's view beside the list of its own atomic steps. Of the views the rule says that they show
 -- a world with the words, and of the steps what the words are before there is one.
-use Rattle.std.specs.Prelude.{◌≡◌, ℕ, ◌+◌, List, [], ◌∷◌, ◌++◌, Option, Some, None, length, map, slice_get}
+use Rattle.std.specs.Prelude.{◌≡◌, ◌≢◌, ℕ, ◌+◌, List, [], ◌∷◌, ◌++◌, Option, Some, None, length, map, slice_get}
 use Rattle.atomic_table.specs.Table as table
+use Rattle.hcc_core.specs.declared.slot.Entry.{Entry}
+use Rattle.hcc_core.specs.Runs.{entry_at}
 use Rattle.hcc_core.specs.Sums.{total}
 use Rattle.hcc_rule.specs.declared.key.Key.{Key}
+use Rattle.hcc_rule.specs.declared.layout.TheConstants.{DATA}
 use Rattle.hcc_rule.specs.declared.rule.Plan.{Plan}
 use Rattle.hcc_rule.specs.declared.view.Atomic.{Atomic}
 use Rattle.hcc_rule.specs.declared.view.Done.{Done}
 use Rattle.hcc_rule.specs.declared.view.Logged.{Logged}
 use Rattle.hcc_rule.specs.declared.view.View.{View}
-use Rattle.hcc_rule.specs.Acts.{Follows, IsAllowed, IsFront, IsKnown, IsRun, KeepsTrails}
+use Rattle.hcc_rule.specs.Acts.{Follows, IsAllowed, IsFront, IsKnown, IsRun, KeepsTrails, world_of}
 use Rattle.hcc_rule.specs.Images.{BeginsWith, entries_in}
 use Rattle.hcc_rule.specs.Opening.{begun_world, opening_view}
 use Rattle.hcc_rule.specs.Rule.{Holds}
 use Rattle.hcc_rule.specs.Seats.{atomic, moves_of}
 use Rattle.hcc_rule.specs.Told.{Held}
+use Rattle.hcc_rule.specs.ToldOwners.{IsDataWord}
+use Rattle.hcc_rule.specs.Words.{field_at}
 
 module _ {T : Type 0} where
   -- a seat's view, of what it has beside its steps
@@ -73,6 +78,21 @@ module _ {T : Type 0} where
     pub logged_is : after.0.steps
         ≡ me.0.steps ++ atomic step.word step.first step.second found ∷ []
     pub one : length after.0.steps ≡ length me.0.steps + 1
+
+  -- What a step found on a data word of a slot is a word of the entry that stands there in the
+  -- world after its event.
+  abbrev pub Sees : Plan T → (address found : ℕ) → (old new : Logged T) → Type 0
+  Sees p address found old new =
+      old.past ≢ new.past → (slot index : ℕ) (entry : Entry)
+      → address ≡ field_at p.geometry.room slot DATA + index
+      → entry_at (world_of p new.past) slot ≡ Some entry → IsDataWord entry index found
+
+  -- what a load tells
+  abbrev pub Loads : Plan T → (table.Step (Unit {0}) → Held T → ℕ → Held T → Option Done → Type 0)
+      → table.Step (Unit {0}) → table.Me (Unit {0}) (Logged T) → ℕ
+      → table.Me (Unit {0}) (Logged T) → Type 0
+  Loads p then step me found after =
+      Logs p then step me found after × Sees p step.word found me.0 after.0
 
   -- a step that tells nothing
   abbrev pub silent : table.Step (Unit {0}) → table.Me (Unit {0}) (Logged T) → ℕ

@@ -11,8 +11,8 @@ ghost use Rattle.atomic_table.specs.Table.{opening, Final, Seen};
 ghost use prog.Atomic.{either};
 ghost use Rattle.hcc_rule.specs.declared.view.Other.{Other};
 ghost use Rattle.hcc_rule.specs.Acts.{longer, past};
-ghost use Rattle.hcc_rule.specs.Callers.{IsSeatAt};
-ghost use Rattle.hcc_rule.specs.Logs.{HoldsLogged, first_logged};
+ghost use Rattle.hcc_rule.specs.Callers.{plan_of, IsSeatAt};
+ghost use Rattle.hcc_rule.specs.Logs.{HoldsLogged, Sees, first_logged};
 ghost use Rattle.hcc_rule.specs.Passing.{IsIdle, joined_view, left_view, right_view};
 ghost use Rattle.hcc_rule.specs.Said.{tells, May, Did};
 ghost use Rattle.hcc_rule.specs.Seats.{IsSameSeat, moves, steps, view};
@@ -73,7 +73,8 @@ impl<T: Tag, A: Allocator> RuleTable<T, A> {
     ) -> u64
         requires { May T.fits self.now seat.old address (λ n. n)
             (tells J.then self.now seat.old address 0 0) }
-        ensures { Did J.then self.now address 0 0 result seat.old seat.new }
+        ensures does { Did J.then self.now address 0 0 result seat.old seat.new }
+        ensures sees { Sees (plan_of self.now) address result seat.old.me.0 seat.new.me.0 }
     {
         self.words.table.shared.load::<Brand>(seat, address)
     }

@@ -8,11 +8,12 @@ use Rattle.hcc_core.specs.declared.slot.Entry.{Entry}
 use Rattle.hcc_core.specs.declared.slot.Stamp.{Stamp}
 use Rattle.hcc_core.specs.declared.client.Client.{Client}
 use Rattle.hcc_core.specs.declared.slot.Resident.{Resident}
+use Rattle.hcc_core.specs.declared.slot.Slot.{Slot}
 use Rattle.hcc_core.specs.declared.slot.Slot.TheVariants as slots
 use Rattle.hcc_core.specs.declared.event.Event.TheVariants as events
 use Rattle.hcc_core.specs.declared.event.Reply.TheVariants as replies
-use Rattle.hcc_core.specs.World.{State, slot_holding}
-use Rattle.hcc_core.specs.Entries.{read_of}
+use Rattle.hcc_core.specs.World.{State, slot_holding, stamp_of}
+use Rattle.hcc_core.specs.Entries.{peek_of, read_of}
 use Rattle.hcc_core.specs.Steps.{outcome_of}
 use Rattle.hcc_core.specs.Lawful.{Lawful, owned_slot}
 use Rattle.hcc_core.proofs.Opening.{is_lawful}
@@ -24,7 +25,7 @@ use Rattle.hcc_rule.specs.declared.view.Made.{Made}
 use Rattle.hcc_rule.specs.declared.view.Record.{Record}
 use Rattle.hcc_rule.specs.declared.view.View.{View}
 use Rattle.hcc_rule.specs.Told.{Held}
-use Rattle.hcc_rule.specs.ToldOwners.{entry_words, IsDataWord, with_met, after_read, reads, reads_own}
+use Rattle.hcc_rule.specs.ToldOwners.{entry_words, IsDataWord, with_met, after_read, peeks, reads, reads_own}
 use Rattle.hcc_rule.specs.Views.{is_seated, is_called}
 use Rattle.hcc_rule.specs.Records.{record_in}
 use Rattle.hcc_rule.specs.Words.{field_at, made_words, entry_of}
@@ -36,9 +37,9 @@ use Rattle.hcc_rule.proofs.Parts.WorldParts.{hand_kept}
 use Rattle.hcc_rule.proofs.Parts.SlotSteps.{Shard}
 use Rattle.hcc_rule.proofs.Parts.OnEntries.{OnEntry, on_some, name_held}
 use Rattle.hcc_rule.proofs.Parts.Touches.{client_is, live_is}
-use Rattle.hcc_rule.proofs.References.Looks.{client_fits}
+use Rattle.hcc_rule.proofs.References.Looks.{client_fits, slot_fits, slot_there}
 use Rattle.hcc_rule.specs.Acts.{Acts, Becomes, Goes, GoesBy, did}
-use Rattle.hcc_rule.specs.Events.{read_done}
+use Rattle.hcc_rule.specs.Events.{peek_done, read_done}
 
 -- a word written over itself
 pub word_same : (words : List ℕ) (a : ℕ) → slice_set words a (slice_index words a) ≡ words
@@ -61,6 +62,20 @@ read_allowed w c x i found k l small holds at_slot at_client live =
       live,
       holds,
       at_slot,
+    ) refl
+
+-- a peek is allowed to each client, and tells which entry stands in the slot
+peek_allowed : (w : State) (c i : ℕ) (found : Client) (seen : Slot) → Lawful w
+    → slice_get w.slots i ≡ Some seen → slice_get w.clients c ≡ Some found → found.live ≡ true
+    → outcome_of w (events.Peek c i) ≡ Ok (replies.Stands (stamp_of seen), w)
+unfolding outcome_of peek_of
+peek_allowed w c i found seen l at_slot at_client live =
+    rw (
+      client_fits w c l (within w.clients c found at_client),
+      slot_fits w i l (within w.slots i seen at_slot),
+      at_slot,
+      at_client,
+      live,
     ) refl
 
 -- the data words of an entry are its maker's, but for the serial
@@ -120,25 +135,26 @@ module _ {T : Type 0} (fits : T → Key → List ℕ → Type 0) (p : Plan T) wh
         takings = refl;
       }
 
-  -- The word that stands for an entry on record.
+  -- The word that stands for an entry.
+  pub entry_word : (s : Shard fits p) (r : Holds fits p s) (i index : ℕ) (entry : Entry)
+      → entry_in (slice_get r.world.slots i) ≡ Some entry
+      → IsDataWord entry index (slice_index s.words (field_at p.geometry.room i DATA + index))
+  entry_word s r i index entry there other low =
+      let stored : IsStored p.geometry.room s.words r.books i entry = r.stored i entry there in
+      let long : length (entry_words entry)
+      ≡ length (made_words entry.stamp.client stored.made) =
+      ap (λ (z : Entry). length (entry_words z)) stored.same in
+      stored.lies index (omega arith)
+      ∙ (words_same entry.stamp stored.made index other
+      ∙ ap (λ (z : Entry). slice_index (entry_words z) index) (sym stored.same))
+
+  -- And for one on record.
   pub data_word : (s : Shard fits p) (r : Holds fits p s) (id i index : ℕ) (v : View T) (q : Record)
       → slice_get s.views id ≡ Some v → IsRecorded r.world.slots q → q.slot ≡ i
       → IsDataWord q.entry index (slice_index s.words (field_at p.geometry.room i DATA + index))
-  data_word s r id i index v q at recorded on other low =
-      let there : entry_in (slice_get r.world.slots i) ≡ Some q.entry =
-      ap (λ j. entry_in (slice_get r.world.slots j)) (sym on) ∙ recorded.there in
-      by q.entry (r.stored i q.entry there) low
-    where
-      by : (e : Entry) → IsStored p.geometry.room s.words r.books i e
-          → index < length (entry_words e)
-          → slice_index s.words (field_at p.geometry.room i DATA + index)
-          ≡ slice_index (entry_words e) index
-      by e stored low =
-          let long : length (entry_words e) ≡ length (made_words e.stamp.client stored.made) =
-          ap (λ (z : Entry). length (entry_words z)) stored.same in
-          stored.lies index (omega arith)
-          ∙ (words_same e.stamp stored.made index other
-          ∙ ap (λ (z : Entry). slice_index (entry_words z) index) (sym stored.same))
+  data_word s r id i index v q at recorded on =
+      entry_word s r i index q.entry
+      (ap (λ j. entry_in (slice_get r.world.slots j)) (sym on) ∙ recorded.there)
 
   -- A load of a data word by a record keeps the rule, and tells the entry's word.
   pub read_step : (count id i x index a : ℕ) (me : Held T) → is_seated me.0 ≡ true → x < 2 ^ 64
@@ -209,6 +225,28 @@ module _ {T : Type 0} (fits : T → Key → List ℕ → Type 0) (p : Plan T) wh
       by (Some q) called so =
           let there = on_some fits p s r id i x me.0 q at_view seated called so in
           reads_on q there.0 there.1 called
+
+  -- A load without a reference keeps the rule.
+  pub peek_step : (count id i a : ℕ) (me : Held T) → is_seated me.0 ≡ true → i < p.geometry.slots
+      → Acts fits p count id me a (λ n. n) (peeks i (step count a 0 0 none) me)
+  unfolding met_holds
+  peek_step count id i a me seated near s r homes at low =
+      let at_view = read_at s.views id me.0 at in
+      let slot = slot_there fits p s r i near in
+      let stamp = stamp_of slot.0 in
+      let allowed = peek_allowed r.world me.0.client i me.0.work slot.0
+      (is_lawful r.world r.lawful) slot.1 (client_is fits p s r id me.0 at_view seated)
+      (live_is fits p s r id me.0 at_view seated) in (
+        me.0,
+        keeps,
+        tt,
+        Some (peek_done i stamp me.0),
+        rw (word_same s.words a) (
+          met_holds s r id me.0 me.0.met at_view seated,
+          ((refl, refl), allowed),
+        ),
+        (refl, refl, (stamp, refl)),
+      )
 
   -- A load by the owner of a slot tells the word that stands in its view.
   pub read_own_step : (count id i index a : ℕ) (me : Held T) → owned_slot me.0.work.owned ≡ Some i

@@ -15,7 +15,7 @@ use Rattle.hcc_core.specs.World.{State, is_placed, owns_nothing, is_absent, refe
 use Rattle.hcc_core.specs.Outcomes.{Outcome, ◌>>=◌, allow, slot_at, client_at, live_at, holding, has_no_member}
 use Rattle.hcc_core.specs.References.{start_of, look_of, acquire_of, may_acquire, give_of, use_of, counting_in, end_of, is_idle, holds_nothing}
 use Rattle.hcc_core.specs.Uses.{clock_of, may_clock, mark_of, correct_of, may_correct}
-use Rattle.hcc_core.specs.Entries.{occupied, occupy_of, show_of, built_by, may_show, hide_of, free_of, may_free, empty_of, freed_by, write_of, is_building, read_of, entry_read}
+use Rattle.hcc_core.specs.Entries.{occupied, occupy_of, show_of, built_by, may_show, hide_of, free_of, may_free, empty_of, freed_by, write_of, is_building, peek_of, read_of, entry_read}
 use Rattle.hcc_core.specs.Ledgers.{enter_of, slots_of, charge_by, may_charge, settle_of, may_settle, waive_of, may_waive, quit_of, told, usage_told, occupancy_told, standing_told, stand_of, may_stand, fall_of, is_standing}
 use Rattle.hcc_core.specs.Trails.{count_of, pass_of, unpass_of, is_slot, turn_of}
 use Rattle.hcc_core.specs.Steps.{in_range, rule_of, outcome_of}
@@ -271,6 +271,10 @@ module _ (w : State) (client : ℕ) where
       tested (ok_or (find (is_standing name) found.standalones) NotAllowed) _
       (λ gone. sets found _ _ live refl))
 
+  peek_allowed : (slot : ℕ) → IfAllowed w client true (peek_of w client slot)
+  unfolding peek_of
+  peek_allowed slot = second slot _ (λ seen found live. stays found _ live refl)
+
   -- Steps on trails and the hand.
 
   count_allowed : (slot : ℕ) → IfAllowed w client true (count_of w client slot)
@@ -327,6 +331,7 @@ rule_allowed w (events.Count client slot) = count_allowed w client slot
 rule_allowed w (events.Pass client slot) = pass_allowed w client slot
 rule_allowed w (events.Unpass client slot) = unpass_allowed w client slot
 rule_allowed w (events.Turn client) = turn_allowed w client
+rule_allowed w (events.Peek client slot) = peek_allowed w client slot
 
 -- any event that the machine allows
 pub leads_allowed : (w : State) (done : Done) (next : State) → Leads w done next

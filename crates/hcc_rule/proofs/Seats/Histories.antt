@@ -1,15 +1,16 @@
 -- How a history goes on, and what seats know of it then.
-use Rattle.std.proofs.Common.{◌≡◌, ℕ, ◌≤◌, ◌⊎◌, inl, inr, Bool, true, false, nat_le, List, [], ◌∷◌, ◌++◌, Option, Some, None, length, slice_get, slice_set, sym, refl, ap, ◌∙◌, subst, arith}
+use Rattle.std.proofs.Common.{◌≡◌, ◌≢◌, ℕ, ◌≤◌, ◌⊎◌, inl, inr, Bool, true, false, nat_le, List, [], ◌∷◌, ◌++◌, Option, Some, None, length, slice_get, slice_set, sym, refl, ap, ◌∙◌, subst, arith}
 use Rattle.std.proofs.lemmas.Bool.{cases_eq, leb-true, leb-false}
-use Rattle.std.proofs.lemmas.List.{append_assoc, append-nil}
+use Rattle.std.proofs.lemmas.List.{append_assoc, append-nil, length-append}
 use Rattle.std.specs.Prelude.{if◌then◌else◌}
 use Rattle.hcc_core.specs.Runs.{after, after_all, world_after}
 use Rattle.hcc_core.specs.World.{State}
 use Rattle.hcc_core.proofs.ListLemmas.{read_here, read_other}
+use Rattle.hcc_core.proofs.SumLemmas.{length-push}
 use Rattle.hcc_rule.specs.declared.rule.Plan.{Plan}
 use Rattle.hcc_rule.specs.declared.view.Done.{Done}
 use Rattle.hcc_rule.specs.declared.view.Logged.{Logged}
-use Rattle.hcc_rule.specs.Acts.{Follows, GoesBy, IsFront, IsKnown, IsNoStep, IsNoStepOf, IsRun, KeepsTrails, Leads, RecordsStand, events_of, longer, with_done, world_of}
+use Rattle.hcc_rule.specs.Acts.{Follows, GoesBy, IsFront, IsKnown, IsNext, IsNoStep, IsNoStepOf, IsRun, KeepsTrails, Leads, RecordsStand, events_of, longer, with_done, world_of}
 use Rattle.hcc_rule.specs.Opening.{begun_world}
 use Rattle.hcc_rule.specs.Rule.{AreTrailed}
 use Rattle.hcc_rule.specs.Views.{Each, is_seated, names}
@@ -287,6 +288,17 @@ module _ {T : Type 0} where
     is = sym all ∙ sym (append-nil w.past);
     still = tt;
   }
+
+  -- a seat that made an event knows more of the history
+  pub moved : (p : Plan T) (clients : ℕ) (done : Done) (act : Option Done) (old new : Logged T)
+      → act ≡ Some done → Follows p clients act old new → old.past ≢ new.past
+  moved p clients done act old new is follows same =
+      let next : IsNext p clients done old new =
+      subst (λ o. Follows p clients o old new) is follows in
+      let more = length-append old.past (next.others ++ done ∷ []) in
+      let one = length-push next.others done in
+      let long = ap length (same ∙ next.past) in
+      omega arith
 
   -- What a seat did is behind what others did since its last event.
   pub follows_is : (p : Plan T) (clients : ℕ) (history : List Done) (done : Option Done)

@@ -2,8 +2,9 @@
 -- history goes on by what it was: once there is a step, the rule says no more of the words than the
 -- views do.
 use prog.Atomic.{either}
+use lib.ListN.{get_elem?}
 use mathlib.Core.Option as maybe
-use Rattle.std.proofs.Common.{◌≡◌, ℕ, ◌+◌, ◌-◌, ◌%◌, ◌^◌, ◌==◌, bit_and, bit_or, ◌≤◌, Bool, true, false, cond, is_some, Option, Some, None, List, [], ◌∷◌, ◌++◌, length, map, slice_get, slice_index, slice_set, sym, refl, ap, ◌∙◌, subst, arith}
+use Rattle.std.proofs.Common.{◌≡◌, ◌≢◌, ℕ, ◌<◌, ◌+◌, ◌-◌, ◌%◌, ◌^◌, ◌==◌, bit_and, bit_or, ◌≤◌, Bool, true, false, cond, is_some, Option, Some, None, List, [], ◌∷◌, ◌++◌, length, map, slice_get, slice_index, slice_set, sym, refl, ap, ◌∙◌, subst, arith}
 use Rattle.std.specs.Prelude.{option_and_then}
 use Rattle.std.proofs.lemmas.List.{map-set, map-append}
 use Rattle.atomic_table.specs.Table as table
@@ -12,28 +13,32 @@ use Rattle.hcc_core.specs.Sums.{when}
 use Rattle.hcc_core.specs.declared.slot.Entry.{Entry}
 use Rattle.hcc_core.specs.declared.slot.Slot.{Slot}
 use Rattle.hcc_core.specs.declared.slot.Slot.TheVariants as slots
-use Rattle.hcc_core.specs.Runs.{FindsOne, entry_held, held_at}
+use Rattle.hcc_core.specs.Runs.{FindsOne, entry_at, entry_held, entry_of, held_at}
 use Rattle.hcc_core.specs.World.{State, has_reference, slot_holding}
 use Rattle.hcc_core.proofs.ListLemmas.{read_here, read_other}
 use Rattle.hcc_core.proofs.SumLemmas.{length-push, total-set, total-member}
 use Rattle.atomic_table.proofs.Lists.{at_map}
 use Rattle.hcc_rule.specs.declared.key.Key.{Key}
+use Rattle.hcc_rule.specs.declared.layout.TheConstants.{DATA}
 use Rattle.hcc_rule.specs.declared.rule.Plan.{Plan}
 use Rattle.hcc_rule.specs.declared.view.Done.{Done}
 use Rattle.hcc_rule.specs.declared.view.Logged.{Logged}
 use Rattle.hcc_rule.specs.declared.view.Other.{Other}
 use Rattle.hcc_rule.specs.declared.view.View.{View}
 use Rattle.hcc_rule.specs.Acts.{Acts, Becomes, IsAllowed, IsRun, KeepsTrails, RecordsStand, events_of, with_done, world_of}
-use Rattle.hcc_rule.specs.Logs.{Logs, HoldsLogged, known_of, unlogged}
+use Rattle.hcc_rule.specs.Logs.{Loads, Logs, HoldsLogged, known_of, unlogged}
 use Rattle.hcc_rule.specs.Opening.{begun_world}
 use Rattle.hcc_rule.specs.PassedLogs.{left_logged, right_logged, joined_logged, spent_logged}
 use Rattle.hcc_rule.specs.Passing.{left_view, right_view, spent_view}
 use Rattle.hcc_rule.specs.Rule.{Holds, IsRecorded, entry_by, entry_in}
 use Rattle.hcc_rule.specs.Seats.{atomic, moves_of}
 use Rattle.hcc_rule.specs.Told.{Held}
+use Rattle.hcc_rule.specs.ToldOwners.{IsDataWord}
 use Rattle.hcc_rule.specs.Views.{is_called, is_seated, named_by}
+use Rattle.hcc_rule.specs.Words.{field_at}
 use Rattle.hcc_rule.proofs.Basics.Findings.{find_each}
 use Rattle.hcc_rule.proofs.Basics.Lists.{each_set, read_at}
+use Rattle.hcc_rule.proofs.Entries.DataWords.{entry_word, word_same}
 use Rattle.hcc_rule.proofs.Parts.HeldReferences.{slot_held}
 use Rattle.hcc_rule.proofs.Seats.Fronts.{Meets, fronts_after, join_fronts, join_known, known, known_at, named_all, names_same, names_two, split_fronts, split_known}
 use Rattle.hcc_rule.proofs.Seats.Histories.{follows_is, known_after, past_after, run_front, run_more, run_on, trails_front, trails_more, trails_on}
@@ -208,14 +213,29 @@ module _ {T : Type 0} (fits : T → Key → List ℕ → Type 0) (p : Plan T) wh
   sits v None is never = absurd (let bad = never is in omega arith)
   sits v (Some tag) is never = ap is_some is
 
-  -- A step that leaves f of the word, and tells of `word` of it: the word itself, but at a store
-  -- the one that it leaves.
-  pub lifted : {then : Then} {step : table.Step (Unit {0})} {count id a : ℕ}
+  -- a seat that hears of its event knows all of the history then
+  knows_all : (history : List Done) (done : Option Done) (l : Logged T)
+      → l.past ≢ past_after history done l → past_after history done l ≡ with_done history done
+  knows_all history None l moved = absurd (moved refl)
+  knows_all history (Some done) l moved = refl
+
+  -- the rule after a step, what it tells, and what its seat knows of the history then
+  abbrev Lifted : (then : Then) (step : table.Step (Unit {0})) (id a y found : ℕ)
+      (me : table.Me (Unit {0}) (Logged T)) → table.State (Unit {0}) (Logged T) → Type 0
+  Lifted then step id a y found me s =
+      (w : Logged T) × (act : table.Act (Unit {0})) × table.Valid s.homes me.1 act
+      × (after : HoldsLogged fits p (table.stepped s a y id me.1 w act))
+      × Logs p then step me found (w, table.carried_after me.1 act)
+      × (me.0.past ≢ w.past → w.past ≡ after.history)
+
+  lifts : {then : Then} {step : table.Step (Unit {0})} {count id a : ℕ}
       {me : table.Me (Unit {0}) (Logged T)} (f word : ℕ → ℕ) → is_seated me.0.known ≡ true
       → Acts fits p count id (known_of me) a f (λ n. then step (known_of me) (word n))
-      → Allows (HoldsLogged fits p) count id me a f (λ n. Logs p then step me (word n))
+      → (s : table.State (Unit {0}) (Logged T)) → HoldsLogged fits p s → length s.homes ≡ count
+      → get_elem? s.views id ≡ maybe.some me.0 → slice_index s.words a < 2 ^ 64
+      → Lifted then step id a (f (slice_index s.words a)) (word (slice_index s.words a)) me s
   unfolding stepped_logged
-  lifted {then} {step} {count} {id} {a} {me} f word seated acts s holds homes at low =
+  lifts {then} {step} {count} {id} {a} {me} f word seated acts s holds homes at low =
       let given = acts (unlogged s) holds.rule homes (at_map known s.views id me.0 at) low in
       let here = read_at s.views id me.0 at in
       let found : ℕ = word (slice_index s.words a) in
@@ -243,6 +263,55 @@ module _ {T : Type 0} (fits : T → Key → List ℕ → Type 0) (p : Plan T) wh
           logged_is = refl;
           one = push;
         },
+        knows_all holds.history given.3 me.0,
+      )
+
+  -- A step that leaves f of the word, and tells of `word` of it: the word itself, but at a store
+  -- the one that it leaves.
+  pub lifted : {then : Then} {step : table.Step (Unit {0})} {count id a : ℕ}
+      {me : table.Me (Unit {0}) (Logged T)} (f word : ℕ → ℕ) → is_seated me.0.known ≡ true
+      → Acts fits p count id (known_of me) a f (λ n. then step (known_of me) (word n))
+      → Allows (HoldsLogged fits p) count id me a f (λ n. Logs p then step me (word n))
+  lifted f word seated acts s holds homes at low =
+      let given = lifts f word seated acts s holds homes at low in
+      (given.0, given.1, given.2, given.3, given.4)
+
+  -- an entry is the same to the rule and to the machine
+  same_entry : (o : Option Slot) → option_and_then entry_of o ≡ entry_in o
+  same_entry None = refl
+  same_entry (Some (slots.Empty strays)) = refl
+  same_entry (Some (slots.Building client strays)) = refl
+  same_entry (Some (slots.Shareable r)) = refl
+
+  -- A load tells of the entry that stands where it found a data word.
+  pub loads : {then : Then} {step : table.Step (Unit {0})} {count id a : ℕ}
+      {me : table.Me (Unit {0}) (Logged T)} → step.word ≡ a → is_seated me.0.known ≡ true
+      → Acts fits p count id (known_of me) a loaded (λ n. then step (known_of me) n)
+      → Allows (HoldsLogged fits p) count id me a loaded (λ n. Loads p then step me n)
+  loads {then} {step} {count} {id} {a} {me} word_is seated acts s holds homes at low =
+      let given = lifts loaded loaded seated acts s holds homes at low in
+      let after = given.3 in (
+        given.0,
+        given.1,
+        given.2,
+        after,
+        (
+          given.4,
+          λ moved slot index entry place there.
+              let world = world_is fits p _ after in
+              let all : world_of p given.0.past ≡ after.rule.world =
+              ap (λ h. world_of p h) (given.5 moved) ∙ sym world in
+              let stands : entry_in (slice_get after.rule.world.slots slot) ≡ Some entry =
+              sym (same_entry (slice_get after.rule.world.slots slot))
+              ∙ (ap (λ (w : State). entry_at w slot) (sym all) ∙ there) in
+              let word = entry_word fits p _ after.rule slot index entry stands in
+              let here : a ≡ field_at p.geometry.room slot DATA + index = sym word_is ∙ place in
+              let found : slice_index (slice_set s.words a (slice_index s.words a))
+              (field_at p.geometry.room slot DATA + index) ≡ slice_index s.words a =
+              ap (λ ws. slice_index ws (field_at p.geometry.room slot DATA + index))
+              (word_same s.words a) ∙ ap (slice_index s.words) (sym here) in
+              subst (IsDataWord entry index) found word,
+        ),
       )
 
   -- A seat that is split.

@@ -1,0 +1,5 @@
+use Rattle.hcc_rule.specs.ToldOwners.{peeks}
+use Rattle.hcc_rule.proofs.table.RuleTable.peek_at.Given as goal
+
+abbrev pub ghosts-load : goal.ghosts-load
+ghosts-load g a = record { then = peeks a._said }
