@@ -4,14 +4,14 @@ use Rattle.std.specs.declared.alloc.Global.{Global}
 use Rattle.hcc_rule.specs.declared.key.Key.{Key}
 use Rattle.hcc_rule.specs.declared.steps.shows.Draft.{Draft}
 use Rattle.hcc_rule.specs.declared.view.View.{View}
-use Rattle.hcc_rule.specs.Callers.{slots_of}
+use Rattle.hcc_rule.specs.Callers.{slots_of, world_at}
 use Rattle.hcc_rule.specs.Seats.{SeatOf}
 use Rattle.hcc_rule.specs.ToldOwners.{made_of, shown_entry}
 use Rattle.hcc_table.specs.declared.efforts.Effort.{Effort}
 use Rattle.hcc_table.specs.declared.inserting.Insertion.{Insertion}
 use Rattle.hcc_table.specs.declared.inserting.Insertion.TheVariants as insertions
 use Rattle.hcc_table.specs.declared.pins.Pin.{Pin}
-use Rattle.hcc_table.specs.Standing.{InsertsShown, world_at}
+use Rattle.hcc_table.specs.Standing.{InsertsShown}
 use Rattle.hcc_charge.specs.declared.reserving.Refused.{Refused}
 use Rattle.hcc_charge.specs.declared.reserving.Refused.TheVariants as refused
 use Rattle.hcc_charge.specs.declared.reserving.Reservation.{Reservation}

@@ -3,9 +3,10 @@ use Rattle.std.specs.Prelude.{◌≡◌, ℕ, ◌<◌, List, Some, slice_get}
 use Rattle.std.specs.declared.alloc.Global.{Global}
 use Rattle.hcc_rule.specs.declared.key.Key.{Key}
 use Rattle.hcc_rule.specs.declared.rule.Plan.{Plan}
+use Rattle.hcc_rule.specs.Callers.{world_at}
 use Rattle.hcc_rule.specs.Laws.{StateOf}
 use Rattle.hcc_rule.specs.Rule.{Holds}
-use Rattle.hcc_table.specs.Standing.{ShowsKey, world_at}
+use Rattle.hcc_table.specs.Standing.{ShowsKey}
 use Rattle.hcc_shard.specs.declared.seat.ShardSeat.{ShardSeat}
 use Rattle.hcc_shard.specs.declared.shard.Shard.{Shard}
 use Rattle.hcc_shard.specs.Callers.{plan_of}

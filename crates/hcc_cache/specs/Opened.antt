@@ -1,7 +1,8 @@
 -- What a new cache and its clients are.
 use Rattle.std.specs.Prelude.{◌≡◌, ℕ, ◌<◌, ◌≤◌, ◌++◌, ◌∷◌, List, [], None, Some, length, slice_get}
 use Rattle.std.specs.declared.alloc.Global.{Global}
-use Rattle.hcc_table.specs.Standing.{shown_at, world_at}
+use Rattle.hcc_rule.specs.Callers.{world_at}
+use Rattle.hcc_table.specs.Standing.{shown_at}
 use Rattle.hcc_shard.specs.declared.seat.ShardSeat.{ShardSeat}
 use Rattle.hcc_shard.specs.declared.shard.Shard.{Shard}
 use Rattle.hcc_shard.specs.Callers.{capacity_of, geometry_of, is_marking, is_strict, plan_of}

@@ -6,12 +6,12 @@ use Rattle.hcc_core.specs.World.{State, occupancy_of, standing_of, usage_of}
 use Rattle.hcc_rule.specs.declared.key.Key.{Key}
 use Rattle.hcc_rule.specs.declared.steps.shows.Draft.{Draft}
 use Rattle.hcc_rule.specs.declared.view.View.{View}
-use Rattle.hcc_rule.specs.Callers.{slots_of}
+use Rattle.hcc_rule.specs.Callers.{slots_of, world_at}
 use Rattle.hcc_rule.specs.Seats.{view}
 use Rattle.hcc_rule.specs.Views.{charge_made}
 use Rattle.hcc_table.specs.declared.inserting.Insertion.{Insertion}
 use Rattle.hcc_table.specs.declared.inserting.Insertion.TheVariants as insertions
-use Rattle.hcc_table.specs.Standing.{InsertsShown, world_at}
+use Rattle.hcc_table.specs.Standing.{InsertsShown}
 use Rattle.hcc_charge.specs.declared.reserving.Refused.{Refused}
 use Rattle.hcc_charge.specs.declared.reserving.Refused.TheVariants.{TooLarge}
 use Rattle.hcc_charge.specs.declared.reserving.Reservation.TheVariants.{Reserved}

@@ -5,10 +5,10 @@ use Rattle.hcc_core.specs.Sums.{total}
 use Rattle.hcc_core.specs.World.{State, occupancy_of, standing_of, usage_of}
 use Rattle.hcc_rule.specs.declared.key.Key.{Key}
 use Rattle.hcc_rule.specs.declared.view.View.{View}
+use Rattle.hcc_rule.specs.Callers.{world_at}
 use Rattle.hcc_rule.specs.ToldLedgers.{after_usage}
 use Rattle.hcc_rule.specs.Records.{charge_held, different}
 use Rattle.hcc_table.specs.Searched.{Sought}
-use Rattle.hcc_table.specs.Standing.{world_at}
 use Rattle.hcc_shard.specs.declared.seat.ShardSeat.{ShardSeat}
 use Rattle.hcc_shard.specs.declared.seat.Stats.{Stats}
 use Rattle.hcc_shard.specs.declared.shard.Shard.{Shard}

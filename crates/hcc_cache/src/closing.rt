@@ -2,9 +2,10 @@
 ghost use Rattle.std.specs.Prelude.{◌≡◌, ◌+◌, ◌-◌, ◌<◌, ◌≤◌, ◌∷◌, ℕ, [], Some, is_some, take, MatchResult, IfOk, IfSome, IfNone, length, slice_get};
 ghost use Rattle.std.specs.declared.alloc.Global.{Global};
 ghost use Rattle.hcc_word.specs.Word.{is_visible};
+ghost use Rattle.hcc_rule.specs.Callers.{world_at};
 ghost use Rattle.hcc_rule.specs.Closing.{meta_at, words_of};
 ghost use Rattle.hcc_rule.specs.Ending.{ShowsWorld};
-ghost use Rattle.hcc_table.specs.Standing.{shown_at, world_at};
+ghost use Rattle.hcc_table.specs.Standing.{shown_at};
 ghost use Rattle.hcc_shard.specs.declared.entries.ClosedShard.{ClosedShard};
 ghost use Rattle.hcc_shard.specs.declared.seat.ShardSeat.{ShardSeat};
 ghost use Rattle.hcc_shard.specs.declared.shard.Shard.{Shard};

@@ -9,6 +9,7 @@ ghost use Rattle.hcc_core.specs.Sums.{total};
 ghost use Rattle.hcc_rule.specs.declared.layout.TheConstants.{OCCUPANCY};
 ghost use Rattle.hcc_rule.specs.declared.key.Key.{Key};
 ghost use Rattle.hcc_rule.specs.declared.view.View.{View};
+ghost use Rattle.hcc_rule.specs.Callers.{world_at};
 ghost use Rattle.hcc_rule.specs.Laws.{StateOf, ledger_word, AreMade, AreOfMade};
 ghost use Rattle.hcc_rule.specs.Seats.{view};
 ghost use Rattle.hcc_charge.specs.declared.reserving.Refused.{Refused};
@@ -19,7 +20,7 @@ ghost use Rattle.hcc_shard.specs.declared.inserting.Inserted.{Inserted as Stored
 ghost use Rattle.hcc_shard.specs.declared.inserting.Inserted.TheVariants as stored;
 ghost use Rattle.hcc_shard.specs.declared.inserting.Pinned.{Pinned};
 ghost use Rattle.hcc_shard.specs.declared.inserting.Pinned.TheVariants as pinned;
-ghost use Rattle.hcc_table.specs.Standing.{FindsFirst, FindsLasting, HidesShown, ShowsKey, world_at};
+ghost use Rattle.hcc_table.specs.Standing.{FindsFirst, FindsLasting, HidesShown, ShowsKey};
 ghost use Rattle.hcc_cache.specs.declared.cache.Cache.{Cache};
 ghost use Rattle.hcc_cache.specs.declared.client.Client.{Client};
 ghost use Rattle.hcc_cache.specs.declared.config.Config.{Config};

@@ -17,14 +17,13 @@ use Rattle.hcc_core.proofs.SumLemmas.{total-set}
 use Rattle.hcc_rule.specs.declared.key.Key.{Key}
 use Rattle.hcc_rule.specs.declared.table.RuleTable.{RuleTable}
 use Rattle.hcc_rule.specs.Acts.{events_of, past}
-use Rattle.hcc_rule.specs.Callers.{capacity_of, clients_of, is_strict, plan_of}
+use Rattle.hcc_rule.specs.Callers.{capacity_of, clients_of, is_strict, plan_of, world_at}
 use Rattle.hcc_rule.specs.Events.{charge_done, enter_done, entered, usage_done}
 use Rattle.hcc_rule.specs.Opening.{begun_world}
 use Rattle.hcc_rule.specs.Rule.{setup_of}
 use Rattle.hcc_rule.specs.Seats.{SeatOf, view}
 use Rattle.hcc_rule.specs.Views.{charge_made}
 use Rattle.hcc_table.specs.declared.efforts.Effort.{Effort}
-use Rattle.hcc_table.specs.Standing.{world_at}
 use Rattle.hcc_table.specs.Still.{GoesOnStill, is_still}
 use Rattle.hcc_table.proofs.Alone.{event_alone, usage_tells}
 use Rattle.hcc_table.proofs.Still.{booked_still}

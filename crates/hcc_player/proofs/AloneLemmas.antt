@@ -6,9 +6,9 @@ use Rattle.hcc_core.specs.Sums.{total}
 use Rattle.hcc_core.specs.World.{State}
 use Rattle.hcc_rule.specs.declared.geometry.Geometry.{Geometry}
 use Rattle.hcc_rule.specs.declared.key.Key.{Key}
-use Rattle.hcc_rule.specs.Callers.{slots_of}
+use Rattle.hcc_rule.specs.Callers.{slots_of, world_at}
 use Rattle.hcc_table.specs.declared.pins.Pin.{Pin}
-use Rattle.hcc_table.specs.Standing.{FindsFirst, HidesShown, ShowsKey, world_at}
+use Rattle.hcc_table.specs.Standing.{FindsFirst, HidesShown, ShowsKey}
 use Rattle.hcc_cache.specs.declared.cache.Cache.{Cache}
 use Rattle.hcc_cache.specs.declared.client.Client.{Client}
 use Rattle.hcc_cache.specs.declared.config.Config.{Config}

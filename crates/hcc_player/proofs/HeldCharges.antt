@@ -16,9 +16,9 @@ use Rattle.hcc_rule.proofs.Basics.Lists.{there, within}
 use Rattle.hcc_rule.specs.declared.key.Key.{Key}
 use Rattle.hcc_rule.specs.declared.view.Record.{Record}
 use Rattle.hcc_rule.specs.declared.view.View.{View}
+use Rattle.hcc_rule.specs.Callers.{world_at}
 use Rattle.hcc_rule.specs.Records.{different, record_in}
 use Rattle.hcc_rule.specs.Views.{is_called}
-use Rattle.hcc_table.specs.Standing.{world_at}
 use Rattle.hcc_shard.specs.declared.seat.ShardSeat.{ShardSeat}
 use Rattle.hcc_shard.specs.Callers.{view_of}
 use Rattle.hcc_cache.specs.declared.cache.Cache.{Cache}

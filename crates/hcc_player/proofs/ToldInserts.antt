@@ -4,12 +4,12 @@ use Rattle.std.specs.Prelude.{IsOk}
 use Rattle.std.proofs.lemmas.Bool.{true≢false}
 use Rattle.std.specs.declared.alloc.Global.{Global}
 use Rattle.hcc_rule.specs.declared.key.Key.{Key}
-use Rattle.hcc_rule.specs.Callers.{slots_of}
+use Rattle.hcc_rule.specs.Callers.{slots_of, world_at}
 use Rattle.hcc_rule.specs.Probes.{probe_slot}
 use Rattle.hcc_rule.specs.Seats.{view}
 use Rattle.hcc_rule.proofs.Probes.ProbeLaws.{probe_inside, some_slots}
 use Rattle.hcc_table.specs.declared.pins.Pin.{Pin}
-use Rattle.hcc_table.specs.Standing.{InsertsShown, ShowsMore, ShowsSame, shown_at, world_at}
+use Rattle.hcc_table.specs.Standing.{InsertsShown, ShowsMore, ShowsSame, shown_at}
 use Rattle.hcc_shard.specs.declared.inserting.Inserted.TheVariants as stored
 use Rattle.hcc_shard.specs.declared.inserting.Pinned.TheVariants as pinned
 use Rattle.hcc_shard.specs.declared.seat.ShardSeat.{ShardSeat}

@@ -7,14 +7,14 @@ use Rattle.std.specs.declared.alloc.Global.{Global}
 use Rattle.hcc_core.specs.Runs.{held_at}
 use Rattle.hcc_rule.specs.declared.geometry.Geometry.{Geometry}
 use Rattle.hcc_rule.specs.declared.key.Key.{Key}
-use Rattle.hcc_rule.specs.Callers.{clients_of, slots_of}
+use Rattle.hcc_rule.specs.Callers.{clients_of, slots_of, world_at}
 use Rattle.hcc_rule.specs.Probes.{probe_slot}
 use Rattle.hcc_rule.specs.Records.{record_in}
 use Rattle.hcc_rule.specs.Seats.{view}
 use Rattle.hcc_rule.specs.Words.{key_of}
 use Rattle.hcc_rule.proofs.Basics.Lists.{there}
 use Rattle.hcc_rule.proofs.Probes.ProbeLaws.{probe_inside, some_slots}
-use Rattle.hcc_table.specs.Standing.{ShowsKey, shown_at, world_at}
+use Rattle.hcc_table.specs.Standing.{ShowsKey, shown_at}
 use Rattle.hcc_table.proofs.HidesAlone.{nothing_shown}
 use Rattle.hcc_table.proofs.Releases.{still_shows}
 use Rattle.hcc_shard.specs.declared.seat.ShardSeat.{ShardSeat}

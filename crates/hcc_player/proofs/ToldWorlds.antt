@@ -10,11 +10,11 @@ use Rattle.hcc_core.specs.Runs.{entry_held}
 use Rattle.hcc_core.specs.Sums.{when}
 use Rattle.hcc_core.specs.World.{State}
 use Rattle.hcc_rule.specs.declared.key.Key.{Key}
-use Rattle.hcc_rule.specs.Callers.{clients_of}
+use Rattle.hcc_rule.specs.Callers.{clients_of, world_at}
 use Rattle.hcc_rule.specs.Words.{key_of}
 use Rattle.hcc_table.specs.Searched.{is_key}
 use Rattle.hcc_table.specs.Standing.{HidesShown, InsertsShown, ShowsKey, ShowsMore, ShowsSame}
-use Rattle.hcc_table.specs.Standing.{counts_shown, entry_shown, shown_at, shown_of, world_at}
+use Rattle.hcc_table.specs.Standing.{counts_shown, entry_shown, shown_at, shown_of}
 use Rattle.hcc_table.specs.Still.{ShowsBut}
 use Rattle.hcc_table.proofs.HidesAlone.{key_equal, settled_keeps}
 use Rattle.hcc_table.proofs.Releases.{releases_show}

@@ -5,8 +5,9 @@ use Rattle.std.specs.declared.alloc.Global.{Global}
 use Rattle.hcc_core.specs.Sums.{total}
 use Rattle.hcc_core.specs.World.{State}
 use Rattle.hcc_rule.specs.declared.key.Key.{Key}
+use Rattle.hcc_rule.specs.Callers.{world_at}
 use Rattle.hcc_rule.specs.Probes.{probe_slot}
-use Rattle.hcc_table.specs.Standing.{HidesShown, NoneBefore, ShowsKey, world_at}
+use Rattle.hcc_table.specs.Standing.{HidesShown, NoneBefore, ShowsKey}
 use Rattle.hcc_shard.specs.declared.seat.ShardSeat.{ShardSeat}
 use Rattle.hcc_shard.specs.declared.shard.Shard.{Shard}
 use Rattle.hcc_cache.specs.declared.cache.Cache.{Cache}

@@ -8,14 +8,14 @@ use Rattle.hcc_rule.specs.declared.key.Key.{Key}
 use Rattle.hcc_rule.specs.declared.table.RuleTable.{RuleTable}
 use Rattle.hcc_rule.specs.Acts.{past}
 use Rattle.hcc_rule.specs.Beginnings.{AreSeatsAt, AreSeatsAtWith}
-use Rattle.hcc_rule.specs.Callers.{capacity_of, clients_of, geometry_of, is_strict, plan_of, slots_of}
+use Rattle.hcc_rule.specs.Callers.{capacity_of, clients_of, geometry_of, is_strict, plan_of, slots_of, world_at}
 use Rattle.hcc_rule.specs.ImageLimits.{IsImageFor}
 use Rattle.hcc_rule.specs.Images.{entries_in}
 use Rattle.hcc_rule.specs.Seats.{SeatOf}
 use Rattle.hcc_rule.proofs.Probes.ProbeLaws.{probe_inside, some_slots}
 use Rattle.hcc_table.specs.declared.inserting.Insertion.TheVariants.{Placed}
 use Rattle.hcc_table.specs.declared.pins.Pin.{Pin}
-use Rattle.hcc_table.specs.Standing.{shown_at, world_at}
+use Rattle.hcc_table.specs.Standing.{shown_at}
 use Rattle.hcc_table.specs.Still.{BeganWithin, ReleasesBy, is_still}
 use Rattle.hcc_table.proofs.HidesAlone.{settled_keeps}
 use Rattle.hcc_table.proofs.InsertsAlone.{inserts_shown}

@@ -3,12 +3,12 @@ use Rattle.std.specs.Prelude.{◌≡◌, ℕ, ◌<◌, Bool, List, [], Option, i
 use Rattle.hcc_word.specs.Word.{is_counting}
 use Rattle.hcc_rule.specs.declared.key.Key.{Key}
 use Rattle.hcc_rule.specs.Acts.{past}
-use Rattle.hcc_rule.specs.Callers.{slots_of, IsEvent}
+use Rattle.hcc_rule.specs.Callers.{slots_of, IsEvent, world_at}
 use Rattle.hcc_rule.specs.Events.{count_done, look_done}
 use Rattle.hcc_rule.specs.Seats.{SeatOf, view}
 use Rattle.hcc_rule.specs.Views.{Each}
 use Rattle.hcc_table.specs.Seeking.{GoesOnBy, ReachesBy, Seeks, is_settling}
-use Rattle.hcc_table.specs.Standing.{ShowsKey, world_at}
+use Rattle.hcc_table.specs.Standing.{ShowsKey}
 use Rattle.hcc_table.specs.Still.{BeganWithin, GoesOnStill, ReleasesBy}
 use Rattle.hcc_shard.specs.declared.seat.ShardSeat.{ShardSeat}
 use Rattle.hcc_shard.specs.declared.shard.Shard.{Shard}

@@ -10,11 +10,10 @@ use Rattle.hcc_core.specs.World.{State, occupancy_of, usage_of}
 use Rattle.hcc_rule.specs.declared.table.RuleTable.{RuleTable}
 use Rattle.hcc_rule.specs.declared.view.Done.{Done}
 use Rattle.hcc_rule.specs.Acts.{IsRun, Leads, events_of, past}
-use Rattle.hcc_rule.specs.Callers.{IsEvent, clients_of, plan_of}
+use Rattle.hcc_rule.specs.Callers.{IsEvent, clients_of, plan_of, world_at}
 use Rattle.hcc_rule.specs.Opening.{begun_world}
 use Rattle.hcc_rule.specs.Seats.{SeatOf}
 use Rattle.hcc_rule.proofs.Seats.Histories.{run_is}
-use Rattle.hcc_table.specs.Standing.{world_at}
 use Rattle.hcc_table.proofs.Shown.{bound, ruled, same_count, same_outcome}
 
 -- What the last event of a run led from.

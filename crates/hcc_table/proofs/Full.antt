@@ -22,7 +22,7 @@ use Rattle.hcc_core.proofs.Keeps.{found_ok, live_ok, may_ok}
 use Rattle.hcc_rule.specs.declared.key.Key.{Key}
 use Rattle.hcc_rule.specs.declared.table.RuleTable.{RuleTable}
 use Rattle.hcc_rule.specs.Acts.{events_of, past}
-use Rattle.hcc_rule.specs.Callers.{clients_of, plan_of, slots_of}
+use Rattle.hcc_rule.specs.Callers.{clients_of, plan_of, slots_of, world_at}
 use Rattle.hcc_rule.specs.Events.{occupy_done, pass_done, phase_in}
 use Rattle.hcc_rule.specs.Opening.{begun_world}
 use Rattle.hcc_rule.specs.Probes.{probe_slot}
@@ -33,7 +33,6 @@ use Rattle.hcc_rule.proofs.Seats.Runs.{run_lawful}
 use Rattle.hcc_table.specs.declared.efforts.Effort.{Effort}
 use Rattle.hcc_table.specs.declared.inserting.Insertion.TheVariants.{NoSlot}
 use Rattle.hcc_table.specs.Probed.{AtProbes, FindsTaken, Passes}
-use Rattle.hcc_table.specs.Standing.{world_at}
 use Rattle.hcc_table.specs.Still.{BeganWithin, is_still}
 use Rattle.hcc_table.specs.Tries.{Inserts, PassesTaken}
 use Rattle.hcc_table.proofs.Alone.{event_alone}

@@ -21,7 +21,7 @@ use Rattle.hcc_rule.specs.declared.view.Record.{Record}
 use Rattle.hcc_rule.specs.declared.view.View.{View}
 use Rattle.hcc_rule.specs.Addresses.{address_of_meta}
 use Rattle.hcc_rule.specs.Acts.{did, events_of, past, world_of}
-use Rattle.hcc_rule.specs.Callers.{IsEvent, clients_of, plan_of, slots_of}
+use Rattle.hcc_rule.specs.Callers.{IsEvent, clients_of, plan_of, slots_of, world_at}
 use Rattle.hcc_rule.specs.Events.{count_done, give_done, hide_done, look_done}
 use Rattle.hcc_rule.specs.Opening.{begun_world}
 use Rattle.hcc_rule.specs.Probes.{probe_slot}
@@ -40,7 +40,7 @@ use Rattle.hcc_table.specs.Hides.{HidAt, HideProbe, HidesAll, HidesHeld, PassesO
 use Rattle.hcc_table.specs.Probed.{AtProbes, Catches, Looks}
 use Rattle.hcc_table.specs.Searched.{is_key}
 use Rattle.hcc_table.specs.Seeking.{Empties, GoesOnBy, Seeks, is_settling}
-use Rattle.hcc_table.specs.Standing.{HidesShown, ShowsKey, counts_shown, entry_shown, shown_at, shown_of, world_at}
+use Rattle.hcc_table.specs.Standing.{HidesShown, ShowsKey, counts_shown, entry_shown, shown_at, shown_of}
 use Rattle.hcc_table.proofs.Alone.{event_alone}
 use Rattle.hcc_table.proofs.Lasting.{alone_shows, event_trails, lacks_alone, led_none, looks_seek, none_shown, passes_lack, passes_seek, reach_seeks, reached_seeks, some_and}
 use Rattle.hcc_table.proofs.Probings.{one_longer}

@@ -11,7 +11,7 @@ use Rattle.hcc_core.specs.World.{State}
 use Rattle.hcc_rule.specs.declared.key.Key.{Key}
 use Rattle.hcc_rule.specs.declared.table.RuleTable.{RuleTable}
 use Rattle.hcc_rule.specs.Acts.{Leads, events_of, past, world_of}
-use Rattle.hcc_rule.specs.Callers.{IsEvent, clients_of, plan_of, slots_of}
+use Rattle.hcc_rule.specs.Callers.{IsEvent, clients_of, plan_of, slots_of, world_at}
 use Rattle.hcc_rule.specs.Events.{acquire_done, give_done, occupy_done, pass_done, show_done, spend_done}
 use Rattle.hcc_rule.specs.Opening.{begun_world}
 use Rattle.hcc_rule.specs.Probes.{probe_slot}
@@ -25,7 +25,7 @@ use Rattle.hcc_table.specs.declared.inserting.Insertion.TheVariants.{Placed, Mat
 use Rattle.hcc_table.specs.Freed.{release_done}
 use Rattle.hcc_table.specs.Probed.{AtProbes, FindsTaken, Passes, PassesEntry}
 use Rattle.hcc_table.specs.Seeking.{GoesOnBy, Seeks, is_unpass}
-use Rattle.hcc_table.specs.Standing.{InsertsShown, ShowsKey, ShowsMore, ShowsSame, entry_shown, shown_at, world_at}
+use Rattle.hcc_table.specs.Standing.{InsertsShown, ShowsKey, ShowsMore, ShowsSame, entry_shown, shown_at}
 use Rattle.hcc_table.specs.Tries.{Inserts, MatchesAt, PassesTaken, ShowsBy, UsesEntry}
 use Rattle.hcc_table.proofs.Alone.{event_alone}
 use Rattle.hcc_table.proofs.Lasting.{alone_shows, entry_seeks, met_there, none_shown, reach_seeks, reached_seeks, some_and}

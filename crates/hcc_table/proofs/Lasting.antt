@@ -18,7 +18,7 @@ use Rattle.hcc_rule.specs.declared.view.Done.{Done}
 use Rattle.hcc_rule.specs.declared.view.Record.{Record}
 use Rattle.hcc_rule.specs.declared.view.View.{View}
 use Rattle.hcc_rule.specs.Acts.{IsRun, Leads, client_by, did, past, world_of}
-use Rattle.hcc_rule.specs.Callers.{IsEvent, clients_of, plan_of, slots_of}
+use Rattle.hcc_rule.specs.Callers.{IsEvent, clients_of, plan_of, slots_of, world_at}
 use Rattle.hcc_rule.specs.Events.{acquire_done, correct_done, count_done, look_done, mark_done}
 use Rattle.hcc_rule.specs.Opening.{begun_world}
 use Rattle.hcc_rule.specs.Probes.{probe_slot}
@@ -32,7 +32,7 @@ use Rattle.hcc_table.specs.declared.efforts.Effort.{Effort}
 use Rattle.hcc_table.specs.declared.pins.Pin.{Pin}
 use Rattle.hcc_table.specs.Probed.{AtProbes, Catches, Finds, Looks, Misses, Passes, PassesEntry, Probe, Probed, Searches}
 use Rattle.hcc_table.specs.Seeking.{Does, ReachesBy, Seeks, is_seeking}
-use Rattle.hcc_table.specs.Standing.{FindsFirst, FindsLasting, IsMomentOf, LacksOnce, ShowsKey, ShowsOnce, entry_shown, shown_at, world_at}
+use Rattle.hcc_table.specs.Standing.{FindsFirst, FindsLasting, IsMomentOf, LacksOnce, ShowsKey, ShowsOnce, entry_shown, shown_at}
 use Rattle.hcc_table.specs.Steps.{acquired}
 use Rattle.hcc_table.proofs.Probings.{one_longer}
 use Rattle.hcc_table.proofs.Seeking.{seeks_none, seeks_one, seeks_then}

@@ -16,7 +16,7 @@ use Rattle.hcc_core.proofs.Keeps.{found_ok, live_ok}
 use Rattle.hcc_core.proofs.ListLemmas.{read_here, read_other}
 use Rattle.hcc_rule.specs.declared.table.RuleTable.{RuleTable}
 use Rattle.hcc_rule.specs.Acts.{did, events_of, past, world_of}
-use Rattle.hcc_rule.specs.Callers.{IsEvent, clients_of, plan_of}
+use Rattle.hcc_rule.specs.Callers.{IsEvent, clients_of, plan_of, world_at}
 use Rattle.hcc_rule.specs.Events.{give_done, look_done, spend_done}
 use Rattle.hcc_rule.specs.Opening.{begun_world}
 use Rattle.hcc_rule.specs.Seats.{SeatOf, view}
@@ -24,7 +24,7 @@ use Rattle.hcc_rule.proofs.Seats.Histories.{after_more}
 use Rattle.std.proofs.Common.{option_map}
 use Rattle.hcc_table.specs.Freed.{IsLeftBy, TakesByWhereDue, free_event, is_due}
 use Rattle.hcc_table.specs.Seeking.{Empties}
-use Rattle.hcc_table.specs.Standing.{ShowsSame, entry_shown, shown_at, world_at}
+use Rattle.hcc_table.specs.Standing.{ShowsSame, entry_shown, shown_at}
 use Rattle.hcc_table.specs.Still.{GoesOnStill, ReleasesBy, ShowsBut, is_still}
 use Rattle.hcc_table.proofs.Alone.{event_alone}
 use Rattle.hcc_table.proofs.Seeking.{goes_event, goes_none, goes_then}

@@ -11,7 +11,7 @@ use Rattle.hcc_core.specs.declared.event.Event.{Event}
 use Rattle.hcc_core.specs.declared.event.Event.TheVariants as events
 use Rattle.hcc_core.specs.declared.slot.Slot.{Slot}
 use Rattle.hcc_core.specs.declared.slot.Slot.TheVariants as slots
-use Rattle.hcc_core.specs.Entries.{built_by, empty_of, entry_read, free_of, freed_by, hide_of, is_building, may_free, may_show, occupied, occupy_of, read_of, show_of, write_of}
+use Rattle.hcc_core.specs.Entries.{built_by, empty_of, entry_read, free_of, freed_by, hide_of, is_building, may_free, may_show, occupied, occupy_of, peek_of, read_of, show_of, write_of}
 use Rattle.hcc_core.specs.Ledgers.{charge_by, enter_of, fall_of, is_standing, may_charge, may_settle, may_stand, may_waive, occupancy_told, quit_of, settle_of, slots_of, stand_of, standing_told, told, usage_told, waive_of}
 use Rattle.hcc_core.specs.Opening.{new_slot}
 use Rattle.hcc_core.specs.Outcomes.{◌>>=◌, Outcome, allow, client_at, has_no_member, holding, live_at, slot_at}
@@ -25,11 +25,11 @@ use Rattle.hcc_rule.specs.declared.geometry.Geometry.{Geometry}
 use Rattle.hcc_rule.specs.declared.table.RuleTable.{RuleTable}
 use Rattle.hcc_rule.specs.Acts.{events_of, past}
 use Rattle.hcc_rule.specs.Callers as table
+use Rattle.hcc_rule.specs.Callers.{world_at}
 use Rattle.hcc_rule.specs.Images.{entries_in}
 use Rattle.hcc_rule.specs.Opening.{begun_world}
 use Rattle.hcc_rule.specs.Seats.{SeatOf}
 use Rattle.hcc_rule.proofs.Images.Fillings.{filled_length}
-use Rattle.hcc_table.specs.Standing.{world_at}
 
 -- the setup and the number of slots stay, whatever the outcome
 abbrev SameSize : State → Outcome → Type 0
@@ -129,6 +129,11 @@ unfolding read_of
 read_size w client name =
     chain w (live_at w client) _ (λ found. chain w (holding w client name) _ (λ slot.
     chain w (slot_at w slot) _ (λ seen. chain w (entry_read seen) _ (λ entry. (refl, refl)))))
+
+peek_size : (w : State) (client slot : ℕ) → SameSize w (peek_of w client slot)
+unfolding peek_of
+peek_size w client slot =
+    chain w (slot_at w slot) _ (λ seen. chain w (live_at w client) _ (λ found. (refl, refl)))
 
 enter_size : (w : State) (client : ℕ) → SameSize w (enter_of w client)
 unfolding enter_of
@@ -244,6 +249,7 @@ rule_size w (events.Hide client name) = hide_size w client name
 rule_size w (events.Free client slot name) = free_size w client slot name
 rule_size w (events.Empty client) = empty_size w client
 rule_size w (events.Write client) = write_size w client
+rule_size w (events.Peek client slot) = peek_size w client slot
 rule_size w (events.Read client name) = read_size w client name
 rule_size w (events.Enter client) = enter_size w client
 rule_size w (events.Charge client charge) = charge_size w client charge

@@ -16,7 +16,7 @@ use Rattle.hcc_core.specs.declared.slot.Entry.{Entry}
 use Rattle.hcc_core.specs.declared.slot.Reference.{Reference}
 use Rattle.hcc_core.specs.declared.slot.Slot.{Slot}
 use Rattle.hcc_core.specs.declared.slot.Slot.TheVariants as slots
-use Rattle.hcc_core.specs.Entries.{entry_read, read_of}
+use Rattle.hcc_core.specs.Entries.{entry_read, peek_of, read_of}
 use Rattle.hcc_core.specs.Outcomes.{◌>>=◌, Outcome, allow, holding, live_at, slot_at}
 use Rattle.hcc_core.specs.References.{acquire_of, acquired, give_of, look_of, may_acquire, new_reference, slot_acquired, slot_given}
 use Rattle.hcc_core.specs.Runs.{after, after_all, world_after}
@@ -98,6 +98,11 @@ read_stays w client name =
     chain w (live_at w client) _ (λ found live. chain w (holding w client name) _ (λ slot held.
     chain w (slot_at w slot) _ (λ seen at. chain w (entry_read seen) _ (λ entry is. λ s. refl))))
 
+peek_stays : (w : State) (client slot : ℕ) → Stays w (peek_of w client slot)
+unfolding peek_of
+peek_stays w client slot =
+    chain w (slot_at w slot) _ (λ seen at. chain w (live_at w client) _ (λ found live. λ s. refl))
+
 count_stays : (w : State) (client slot : ℕ) → Stays w (count_of w client slot)
 unfolding count_of
 count_stays w client slot =
@@ -133,6 +138,7 @@ correct_stays w client name =
 rule_stays : (w : State) (event : Event) → is_seeking event ≡ true → Stays w (rule_of w event)
 rule_stays w (events.Look client slot) is = look_stays w client slot
 rule_stays w (events.Acquire client slot weight name) is = acquire_stays w client slot weight name
+rule_stays w (events.Peek client slot) is = peek_stays w client slot
 rule_stays w (events.Read client name) is = read_stays w client name
 rule_stays w (events.Give client name) is = give_stays w client name
 rule_stays w (events.Count client slot) is = count_stays w client slot

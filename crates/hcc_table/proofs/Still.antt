@@ -11,7 +11,7 @@ use Rattle.hcc_core.specs.declared.limits.TheConstants.{CORRECTION}
 use Rattle.hcc_core.specs.declared.slot.Reference.{Reference}
 use Rattle.hcc_core.specs.declared.slot.Slot.{Slot}
 use Rattle.hcc_core.specs.declared.slot.Slot.TheVariants as slots
-use Rattle.hcc_core.specs.Entries.{entry_read, is_building, read_of, write_of}
+use Rattle.hcc_core.specs.Entries.{entry_read, is_building, peek_of, read_of, write_of}
 use Rattle.hcc_core.specs.Ledgers.{charge_by, enter_of, fall_of, is_standing, may_charge, may_settle, may_stand, may_waive, occupancy_told, quit_of, settle_of, slots_of, stand_of, standing_told, told, usage_told, waive_of}
 use Rattle.hcc_core.specs.Outcomes.{◌>>=◌, Outcome, allow, client_at, holding, live_at, slot_at}
 use Rattle.hcc_core.specs.References.{acquire_of, counting_in, end_of, give_of, holds_nothing, is_idle, look_of, may_acquire, new_reference, slot_acquired, slot_given, slot_used, start_of, use_of}
@@ -25,7 +25,7 @@ use Rattle.hcc_core.proofs.ListLemmas.{read_same}
 use Rattle.hcc_rule.specs.declared.table.RuleTable.{RuleTable}
 use Rattle.hcc_rule.specs.declared.view.Done.{Done}
 use Rattle.hcc_rule.specs.Acts.{events_of, past, world_of}
-use Rattle.hcc_rule.specs.Callers.{HasOn, IsEvent, clients_of, plan_of}
+use Rattle.hcc_rule.specs.Callers.{HasOn, IsEvent, clients_of, plan_of, world_at}
 use Rattle.hcc_rule.specs.Events.{give_done, look_done, read_done}
 use Rattle.hcc_rule.specs.Opening.{begun_world}
 use Rattle.hcc_rule.specs.Records.{record_in}
@@ -33,7 +33,7 @@ use Rattle.hcc_rule.specs.Seats.{SeatOf, view}
 use Rattle.hcc_rule.specs.Views.{Each}
 use Rattle.hcc_rule.proofs.Seats.Histories.{after_more}
 use Rattle.hcc_table.specs.Seeking.{Does, GoesOnBy, ReachesBy, Seeks, is_booking, is_seeking, is_settling}
-use Rattle.hcc_table.specs.Standing.{entry_shown, world_at}
+use Rattle.hcc_table.specs.Standing.{entry_shown}
 use Rattle.hcc_table.specs.Still.{GoesOnStill, is_still}
 use Rattle.hcc_table.proofs.Lasting.{reach_seeks, reached_seeks}
 use Rattle.hcc_table.proofs.Seeking.{goes_event, goes_none, goes_then, goes_wider, seeks_one, seeks_read, seeks_then}
@@ -112,6 +112,11 @@ module _ {A : Type 0} (f : Option Slot → A) (l : Leaves f) where
       chain w (live_at w client) _ (λ found live. chain w (holding w client name) _ (λ slot held.
       chain w (slot_at w slot) _ (λ seen at. chain w (entry_read seen) _
       (λ entry is. λ s. refl))))
+
+  peek_stays : (w : State) (client slot : ℕ) → Stays w (peek_of w client slot)
+  unfolding peek_of
+  peek_stays w client slot =
+      chain w (slot_at w slot) _ (λ seen at. chain w (live_at w client) _ (λ found live. λ s. refl))
 
   enter_stays : (w : State) (client : ℕ) → Stays w (enter_of w client)
   unfolding enter_of
@@ -236,6 +241,7 @@ module _ {A : Type 0} (f : Option Slot → A) (l : Leaves f) where
   rule_stays w (events.Free client slot name) is = cc
   rule_stays w (events.Empty client) is = cc
   rule_stays w (events.Write client) is = write_stays w client
+  rule_stays w (events.Peek client slot) is = peek_stays w client slot
   rule_stays w (events.Read client name) is = read_stays w client name
   rule_stays w (events.Enter client) is = enter_stays w client
   rule_stays w (events.Charge client charge) is = charge_stays w client charge
@@ -372,6 +378,7 @@ leaves_taken = record {
 seeking_still : (event : Event) → is_seeking event ≡ true → is_still event ≡ true
 seeking_still (events.Look client slot) is = refl
 seeking_still (events.Acquire client slot weight name) is = refl
+seeking_still (events.Peek client slot) is = refl
 seeking_still (events.Read client name) is = refl
 seeking_still (events.Give client name) is = refl
 seeking_still (events.Count client slot) is = refl

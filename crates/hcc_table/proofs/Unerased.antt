@@ -24,13 +24,13 @@ use Rattle.hcc_core.proofs.Keeps.{found_ok}
 use Rattle.hcc_rule.specs.declared.table.RuleTable.{RuleTable}
 use Rattle.hcc_rule.specs.declared.view.Record.{Record}
 use Rattle.hcc_rule.specs.Acts.{events_of, past}
-use Rattle.hcc_rule.specs.Callers.{IsEvent, clients_of, plan_of}
+use Rattle.hcc_rule.specs.Callers.{IsEvent, clients_of, plan_of, world_at}
 use Rattle.hcc_rule.specs.Events.{give_done, phase_in, spend_done}
 use Rattle.hcc_rule.specs.Records.{record_in}
 use Rattle.hcc_rule.specs.Seats.{SeatOf, view}
 use Rattle.hcc_rule.proofs.Seats.Runs.{run_finds}
 use Rattle.hcc_table.specs.Freed.{IsLeftBy, is_due, left_of, release_done}
-use Rattle.hcc_table.specs.Standing.{entry_shown, shown_at, world_at}
+use Rattle.hcc_table.specs.Standing.{entry_shown, shown_at}
 use Rattle.hcc_table.specs.Still.{ReleasesBy}
 use Rattle.hcc_table.proofs.Alone.{event_alone}
 use Rattle.hcc_table.proofs.Shown.{bound, ruled, same_outcome}

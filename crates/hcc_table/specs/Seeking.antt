@@ -17,6 +17,7 @@ use Rattle.hcc_table.specs.Steps.{acquired}
 abbrev pub is_seeking : Event → Bool
 is_seeking (events.Look client slot) = true
 is_seeking (events.Acquire client slot weight name) = true
+is_seeking (events.Peek client slot) = true
 is_seeking (events.Read client name) = true
 is_seeking (events.Give client name) = true
 is_seeking (events.Count client slot) = true

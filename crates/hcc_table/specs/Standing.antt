@@ -9,8 +9,8 @@ use Rattle.hcc_core.specs.World.{State}
 use Rattle.hcc_rule.specs.declared.key.Key.{Key}
 use Rattle.hcc_rule.specs.declared.table.RuleTable.{RuleTable}
 use Rattle.hcc_rule.specs.declared.view.Done.{Done}
-use Rattle.hcc_rule.specs.Acts.{client_by, past, world_of}
-use Rattle.hcc_rule.specs.Callers.{plan_of, slots_of, IsEvent}
+use Rattle.hcc_rule.specs.Acts.{client_by, past}
+use Rattle.hcc_rule.specs.Callers.{slots_of, IsEvent, world_at}
 use Rattle.hcc_rule.specs.Probes.{probe_slot}
 use Rattle.hcc_rule.specs.Records.{record_in}
 use Rattle.hcc_rule.specs.Seats.{SeatOf, view}
@@ -82,10 +82,6 @@ module _ (slots : ℕ) (key : Key) where
       ((slot : ℕ) → slot < slots → ¬ ShowsKey world key slot) × ShowsSame world next
 
 module _ {T A : Type 0} (table : RuleTable T A) where
-  -- the world to which all leads that a seat knows
-  abbrev pub world_at : SeatOf T → State
-  world_at seat = world_of (plan_of table) (past seat)
-
   -- A moment of a call that searched: right behind a step of the call's own client, made since the
   -- call began, when its seat was this. The history up to it goes on from what the seat knew when
   -- the call began, and what it knew at the end goes on from that.
@@ -106,7 +102,7 @@ module _ {T A : Type 0} (table : RuleTable T A) where
   abbrev pub ShowsOnce : (slot : ℕ) → Entry → (old new : SeatOf T) → Type 0
   ShowsOnce slot entry old new =
       (moment : SeatOf T) × IsMomentOf moment old new
-      × (shown_at (world_at moment) slot ≡ Some entry)
+      × (shown_at (world_at table moment) slot ≡ Some entry)
 
 module _ {T A : Type 0} (table : RuleTable T A) (key : Key) where
   -- at some moment of the call the shard doesn't show the key in this slot

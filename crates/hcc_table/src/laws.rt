@@ -5,7 +5,7 @@ ghost use Rattle.std.specs.Prelude.{◌≡◌, ℕ, ◌<◌, ◌↔◌, Bool, fa
 ghost use Rattle.hcc_rule.specs.declared.key.Key.{Key};
 ghost use Rattle.hcc_rule.specs.declared.table.RuleTable.{RuleTable};
 ghost use Rattle.hcc_core.specs.World.{occupancy_of, usage_of};
-ghost use Rattle.hcc_rule.specs.Callers.{clients_of, slots_of, IsEvent};
+ghost use Rattle.hcc_rule.specs.Callers.{clients_of, slots_of, IsEvent, world_at};
 ghost use Rattle.hcc_rule.specs.Events.{occupancy_done, usage_done};
 ghost use Rattle.hcc_rule.specs.Seats.{SeatOf, view};
 ghost use Rattle.hcc_table.specs.declared.efforts.Effort.{Effort};
@@ -18,7 +18,7 @@ ghost use Rattle.hcc_table.specs.Probed.{Searches};
 ghost use Rattle.hcc_table.specs.Seeking.{is_settling, GoesOnBy, Seeks};
 ghost use Rattle.hcc_table.specs.Still.{BeganWithin, GoesOnStill, ReleasesBy, ShowsBut};
 ghost use Rattle.hcc_table.specs.Tries.{Inserts};
-ghost use Rattle.hcc_table.specs.Standing.{FindsFirst, FindsLasting, HidesShown, InsertsShown, ShowsKey, ShowsSame, shown_at, world_at};
+ghost use Rattle.hcc_table.specs.Standing.{FindsFirst, FindsLasting, HidesShown, InsertsShown, ShowsKey, ShowsSame, shown_at};
 
 use hcc_rule::Tag;
 use std::alloc::Allocator;

@@ -8,10 +8,11 @@ use Rattle.hcc_core.proofs.ListLemmas.{replicate_is}
 use Rattle.hcc_rule.specs.declared.image.ImageEntry.{ImageEntry}
 use Rattle.hcc_rule.specs.declared.view.Done.{Done}
 use Rattle.hcc_rule.specs.Acts.{world_of}
+use Rattle.hcc_rule.specs.Callers.{world_at}
 use Rattle.hcc_rule.specs.Images.{slots_with}
 use Rattle.hcc_rule.proofs.Basics.Lists.{each_set}
 use Rattle.hcc_rule.proofs.Images.Fillings.{each_get}
-use Rattle.hcc_table.specs.Standing.{entry_shown, shown_at, world_at}
+use Rattle.hcc_table.specs.Standing.{entry_shown, shown_at}
 use Rattle.hcc_shard.specs.declared.seat.ShardSeat.{ShardSeat}
 use Rattle.hcc_shard.specs.declared.shard.Shard.{Shard}
 use Rattle.hcc_shard.specs.Callers.{plan_of}

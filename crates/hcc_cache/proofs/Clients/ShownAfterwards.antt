@@ -7,11 +7,11 @@ use Rattle.std.specs.declared.alloc.Global.{Global}
 use Rattle.hcc_core.proofs.ListLemmas.{read_here, read_other}
 use Rattle.hcc_rule.specs.declared.geometry.Geometry.{Geometry}
 use Rattle.hcc_rule.specs.declared.key.Key.{Key}
-use Rattle.hcc_rule.specs.Callers.{clients_of}
+use Rattle.hcc_rule.specs.Callers.{clients_of, world_at}
 use Rattle.hcc_rule.specs.Words.{key_of}
 use Rattle.hcc_charge.specs.declared.reserving.Refused.{Refused}
 use Rattle.hcc_charge.specs.declared.reserving.Refused.TheVariants as refused
-use Rattle.hcc_table.specs.Standing.{ShowsKey, shown_at, world_at}
+use Rattle.hcc_table.specs.Standing.{ShowsKey, shown_at}
 use Rattle.hcc_table.specs.Still.{is_still}
 use Rattle.hcc_table.proofs.Releases.{still_shows}
 use Rattle.hcc_table.proofs.Seeking.{goes_none, goes_then}

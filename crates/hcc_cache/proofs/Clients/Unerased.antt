@@ -5,9 +5,9 @@ use Rattle.std.specs.declared.alloc.Global.{Global}
 use Rattle.std.proofs.lemmas.Option.{same_Some}
 use Rattle.hcc_core.specs.declared.slot.Entry.{Entry}
 use Rattle.hcc_rule.specs.declared.key.Key.{Key}
-use Rattle.hcc_rule.specs.Callers.{clients_of}
+use Rattle.hcc_rule.specs.Callers.{clients_of, world_at}
 use Rattle.hcc_rule.specs.Words.{key_of}
-use Rattle.hcc_table.specs.Standing.{ShowsKey, shown_at, world_at}
+use Rattle.hcc_table.specs.Standing.{ShowsKey, shown_at}
 use Rattle.hcc_table.specs.Still.{ReleasesBy}
 use Rattle.hcc_table.proofs.Unerased.{unerased_hidden}
 use Rattle.hcc_shard.specs.declared.seat.ShardSeat.{ShardSeat}

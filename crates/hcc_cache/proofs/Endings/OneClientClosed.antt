@@ -10,10 +10,11 @@ use Rattle.hcc_rule.specs.declared.geometry.Geometry.{Geometry}
 use Rattle.hcc_rule.specs.declared.key.Key.{Key}
 use Rattle.hcc_rule.specs.declared.view.View.{View}
 use Rattle.hcc_rule.specs.Acts.{world_of}
+use Rattle.hcc_rule.specs.Callers.{world_at}
 use Rattle.hcc_rule.specs.Closing.{meta_at, words_of}
 use Rattle.hcc_rule.specs.Ending.{ShowsWorld, TellsSlot}
 use Rattle.hcc_rule.proofs.Basics.Lists.{there}
-use Rattle.hcc_table.specs.Standing.{entry_shown, shown_at, world_at}
+use Rattle.hcc_table.specs.Standing.{entry_shown, shown_at}
 use Rattle.hcc_shard.specs.declared.entries.ClosedShard.{ClosedShard}
 use Rattle.hcc_shard.specs.declared.seat.ShardSeat.{ShardSeat}
 use Rattle.hcc_shard.specs.declared.shard.Shard.{Shard}

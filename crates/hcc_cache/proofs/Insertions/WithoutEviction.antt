@@ -7,7 +7,7 @@ use Rattle.std.specs.declared.alloc.Global.{Global}
 use Rattle.hcc_core.specs.World.{State, limit_of, occupancy_of, standing_of, usage_of}
 use Rattle.hcc_rule.specs.declared.key.Key.{Key}
 use Rattle.hcc_rule.specs.declared.steps.shows.Draft.{Draft}
-use Rattle.hcc_rule.specs.Callers.{capacity_of, clients_of, plan_of, slots_of}
+use Rattle.hcc_rule.specs.Callers.{capacity_of, clients_of, plan_of, slots_of, world_at}
 use Rattle.hcc_rule.specs.Rule.{setup_of}
 use Rattle.hcc_rule.specs.Seats.{SeatOf, view}
 use Rattle.hcc_rule.specs.Views.{charge_made}
@@ -16,7 +16,7 @@ use Rattle.hcc_table.specs.declared.efforts.Effort.{Effort}
 use Rattle.hcc_table.specs.declared.inserting.Insertion.{Insertion}
 use Rattle.hcc_table.specs.declared.inserting.Insertion.TheVariants.{Placed, Matched, NoSlot}
 use Rattle.hcc_table.specs.Seeking.{GoesOnBy, is_booking}
-use Rattle.hcc_table.specs.Standing.{InsertsShown, ShowsKey, ShowsSame, shown_at, world_at}
+use Rattle.hcc_table.specs.Standing.{InsertsShown, ShowsKey, ShowsSame, shown_at}
 use Rattle.hcc_table.specs.Tries.{Inserts}
 use Rattle.hcc_table.proofs.Releases.{still_shows}
 use Rattle.hcc_table.proofs.Seeking.{goes_none}

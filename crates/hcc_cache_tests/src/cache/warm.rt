@@ -3,11 +3,12 @@ ghost use Rattle.std.specs.Prelude.{◌≡◌, ℕ, ◌<◌, ◌≤◌, ◌↔�
 ghost use Rattle.std.specs.declared.alloc.Global.{Global};
 ghost use Rattle.hcc_core.specs.Lawful.{real_in};
 ghost use Rattle.hcc_rule.specs.declared.key.Key.{Key};
+ghost use Rattle.hcc_rule.specs.Callers.{world_at};
 ghost use Rattle.hcc_rule.specs.Laws.{StateOf};
 ghost use Rattle.hcc_rule.specs.Rule.{Holds};
 ghost use Rattle.hcc_shard.specs.declared.shard.Shard.{Shard};
 ghost use Rattle.hcc_shard.specs.Callers.{plan_of};
-ghost use Rattle.hcc_table.specs.Standing.{ShowsKey, world_at};
+ghost use Rattle.hcc_table.specs.Standing.{ShowsKey};
 ghost use Rattle.hcc_cache.specs.declared.cache.Cache.{Cache};
 ghost use Rattle.hcc_cache.specs.declared.client.Client.{Client};
 ghost use Rattle.hcc_cache.specs.declared.config.Config.{Config};

@@ -1,5 +1,5 @@
+use Rattle.hcc_rule.specs.Callers.{world_at}
 use Rattle.hcc_rule.specs.Closing.{words_of}
-use Rattle.hcc_table.specs.Standing.{world_at}
 use Rattle.hcc_shard.specs.Callers.{view_of}
 use Rattle.hcc_cache.specs.Keys.{fits_seeded}
 use Rattle.hcc_cache.proofs.Endings.OneClientClosed.{closed_alone, shown_alone}

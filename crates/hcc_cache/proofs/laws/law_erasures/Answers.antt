@@ -3,9 +3,9 @@ use Rattle.std.specs.Prelude.{IsSomeAnd}
 use Rattle.hcc_core.specs.World.{State}
 use Rattle.hcc_rule.specs.declared.geometry.Geometry.{Geometry}
 use Rattle.hcc_rule.specs.declared.key.Key.{Key}
-use Rattle.hcc_rule.specs.Callers.{clients_of, slots_of}
+use Rattle.hcc_rule.specs.Callers.{clients_of, slots_of, world_at}
 use Rattle.hcc_rule.specs.Words.{key_of}
-use Rattle.hcc_table.specs.Standing.{HidesShown, shown_at, world_at}
+use Rattle.hcc_table.specs.Standing.{HidesShown, shown_at}
 use Rattle.hcc_shard.specs.declared.erasing.TheConstants.{IN_FLIGHT}
 use Rattle.hcc_cache.specs.Sharding.{key_to}
 use Rattle.hcc_cache.proofs.laws.law_erasures.Goals as goal

@@ -3,12 +3,12 @@ use Rattle.std.specs.declared.alloc.Global.{Global}
 use Rattle.hcc_rule.specs.declared.geometry.Geometry.{Geometry}
 use Rattle.hcc_rule.specs.declared.key.Key.{Key}
 use Rattle.hcc_rule.specs.declared.steps.shows.Draft.{Draft}
-use Rattle.hcc_rule.specs.Callers.{clients_of, slots_of}
+use Rattle.hcc_rule.specs.Callers.{clients_of, slots_of, world_at}
 use Rattle.hcc_rule.specs.Seats.{SeatOf}
 use Rattle.hcc_table.specs.declared.efforts.Effort.{Effort}
 use Rattle.hcc_table.specs.declared.inserting.Insertion.{Insertion}
 use Rattle.hcc_table.specs.declared.inserting.Insertion.TheVariants.{NoSlot}
-use Rattle.hcc_table.specs.Standing.{InsertsShown, world_at}
+use Rattle.hcc_table.specs.Standing.{InsertsShown}
 use Rattle.hcc_table.specs.Tries.{Inserts}
 use Rattle.hcc_charge.specs.declared.reserving.Refused.{Refused}
 use Rattle.hcc_charge.specs.declared.reserving.Reservation.{Reservation}

@@ -2,8 +2,7 @@ use Rattle.std.proofs.Common.{◌≡◌, ℕ, List, Some, slice_get, ap, ◌∙�
 use Rattle.std.specs.declared.alloc.Global.{Global}
 use Rattle.hcc_core.specs.World.{State}
 use Rattle.hcc_rule.specs.declared.geometry.Geometry.{Geometry}
-use Rattle.hcc_rule.specs.Callers.{clients_of}
-use Rattle.hcc_table.specs.Standing.{world_at}
+use Rattle.hcc_rule.specs.Callers.{clients_of, world_at}
 use Rattle.hcc_shard.specs.declared.seat.ShardSeat.{ShardSeat}
 use Rattle.hcc_shard.specs.declared.shard.Shard.{Shard}
 use Rattle.hcc_shard.specs.Callers.{LoadsOccupancy, capacity_of, is_strict}

@@ -1,4 +1,4 @@
-use Rattle.hcc_table.specs.Standing.{world_at}
+use Rattle.hcc_rule.specs.Callers.{world_at}
 use Rattle.hcc_table.proofs.Lasting.{finds_first, misses_exactly}
 use Rattle.hcc_table.proofs.laws.law_found_alone.Goals as goal
 
