@@ -244,7 +244,7 @@ def every_event(folder):
     """A script in which each event occurs, strays, a reference that is left and an entry that a trail has passed."""
     events = """start 0|start 1|start 2|enter 0|charge 0 15|pass 0 3|pass 0 1|count 1 3|unpass 0 3|occupy 0 4|write 0
 show 0 18446744073709551615 0 15 3 7 00ff|look 1 4|acquire 1 4 3 18446744073709551615|look 2 4|mark 1 18446744073709551615
-read 0 7|correct 0 7|give 0 7|hide 1 18446744073709551615|use 1 18446744073709551615|charge 1 10|usage 1|free 1 4 -
+read 0 7|peek 2 4|peek 2 0|correct 0 7|give 0 7|hide 1 18446744073709551615|use 1 18446744073709551615|charge 1 10|usage 1|free 1 4 -
 acquire 2 4 3 1|unpass 1 1|empty 1|slots 1|settle 1|waive 1|enter 1|quit 1|occupancy 1|charge 1 4|stand 1 4 9|standing 1
 fall 1 9|turn 1|turn 2|waive 1|clock 0 2|charge 0 3|enter 0|occupy 0 2|show 0 1 2 3 1 - -|clock 0 2|look 2 2|acquire 2 2 1 5
 acquire 2 2 2 6|end 0|end 1|look 7 0|look 0 9"""

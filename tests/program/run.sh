@@ -80,7 +80,7 @@ play 'start 0\nstart 1\ncharge 0 60\ncharge 1 60\n' \
 play 'start 0\ncharge 0 601\n' "ok$empty 0 0 0 0\nsplit 600 1$empty 601 0 0 0\n" core --strict
 play 'start 0\ncharge 0 601\n' "ok$empty 0 0 0 0\nsplit 7 594$empty 601 0 0 0\n" core --strict --capacity 7
 helps core '(^|   *)@ [c0-9]' start end look acquire give use occupy show hide free empty clock \
-    mark correct write read count pass unpass charge settle waive usage enter slots quit occupancy \
+    mark correct write read peek count pass unpass charge settle waive usage enter slots quit occupancy \
     stand fall standing turn
 
 # Texts at fault.

@@ -60,7 +60,8 @@ The others, for a client c, a slot s and a name x:
 
   end c   empty c   write c   slots c   settle c   waive c   quit c   turn c
   usage c   occupancy c   standing c   clock c s   count c s   pass c s   unpass c s
-  give c x   hide c x   mark c x   correct c x   fall c x   stand c CHARGE x
+  peek c s   give c x   hide c x   mark c x   correct c x   fall c x
+  stand c CHARGE x
   free c s x, and show as above: there x is - where no reference is meant
 
 Each line that is written has the answer, the slots, and then usage, occupancy,

@@ -107,6 +107,7 @@ unfoldable pub entry_event : List ℕ → List (List ℕ) → Result (Option Eve
 entry_event verb words =
     if bytes_eq verb (codes "occupy") then of_slot events.Occupy words
     else if bytes_eq verb (codes "write") then of_client events.Write words
+    else if bytes_eq verb (codes "peek") then of_slot events.Peek words
     else if bytes_eq verb (codes "read") then of_name events.Read words
     else if bytes_eq verb (codes "hide") then of_name events.Hide words
     else if bytes_eq verb (codes "free") then of_line (free_line words)

@@ -1,12 +1,14 @@
 -- The texts of replies, of slots and of worlds, and the text that a list of events gives.
 use Rattle.std.specs.Prelude.{ℕ, zero, suc, ◌+◌, ◌/◌, ◌%◌, Bool, false, ◌==◌, List, [], ◌∷◌, ◌++◌}
-use Rattle.std.specs.Prelude.{Result, Ok, Err, length, codes, decimal, if◌then◌else◌}
+use Rattle.std.specs.Prelude.{Option, Some, None, Result, Ok, Err, length, codes, decimal}
+use Rattle.std.specs.Prelude.{if◌then◌else◌}
 use Rattle.std.specs.Fmt.{digit_glyph}
 use Rattle.std.specs.List.{flat_map}
 use Rattle.hcc_core.specs.declared.slot.Slot.{Slot}
 use Rattle.hcc_core.specs.declared.slot.Slot.TheVariants as slots
 use Rattle.hcc_core.specs.declared.slot.Resident.{Resident}
 use Rattle.hcc_core.specs.declared.slot.Reference.{Reference}
+use Rattle.hcc_core.specs.declared.slot.Stamp.{Stamp}
 use Rattle.hcc_core.specs.declared.slot.Entry.{Entry}
 use Rattle.hcc_core.specs.declared.event.Phase.{Phase}
 use Rattle.hcc_core.specs.declared.event.Phase.TheVariants as phases
@@ -42,6 +44,12 @@ byte_text byte = digit_glyph false (byte / 16) ∷ digit_glyph false (byte % 16)
 unfoldable pub value_text : List ℕ → List ℕ
 value_text value = if length value == 0 then codes "-" else flat_map byte_text value
 
+-- which entry stands in a slot, if one does
+unfoldable pub stands_text : Option Stamp → List ℕ
+stands_text None = codes "stands nothing"
+stands_text (Some stamp) =
+    codes "stands " ++ decimal stamp.client ++ codes " " ++ decimal stamp.number
+
 unfoldable pub reply_text : Reply → List ℕ
 reply_text replies.Ok = codes "ok"
 reply_text (replies.Saw phase) = codes "saw " ++ phase_text phase
@@ -62,6 +70,7 @@ reply_text replies.Granted = codes "granted"
 reply_text replies.Open = codes "open"
 reply_text (replies.Uses uses) = codes "uses " ++ decimal uses
 reply_text (replies.Count count) = codes "count " ++ decimal count
+reply_text (replies.Stands stamp) = stands_text stamp
 
 unfoldable pub refusal_text : CoreError → List ℕ
 refusal_text NoSuchSlot = codes "refused NoSuchSlot"

@@ -145,6 +145,10 @@ fn entry_event(verb: &[u8], words: &[&[u8]]) -> Result<Option<Event>, TextFault>
         let client = client_in(words)?;
         return Ok(Some(Event::Write { client }));
     }
+    if verb == b"peek".as_slice() {
+        let (client, slot) = client_and_slot(words)?;
+        return Ok(Some(Event::Peek { client, slot }));
+    }
     if verb == b"read".as_slice() {
         let (client, name) = client_and_name(words)?;
         return Ok(Some(Event::Read { client, name }));

@@ -2,13 +2,14 @@
 ghost use Rattle.std.specs.Prelude.{◌≡◌, ◌++◌, ◌∷◌, OnOk, string_bytes, decimal};
 ghost use Rattle.std.specs.List.{flat_map};
 ghost use Rattle.hcc_player.specs.Text.{phase_text, shown_text, mark_text, value_text, byte_text};
-ghost use Rattle.hcc_player.specs.Text.{reply_text, refusal_text, reference_text, references_text};
+ghost use Rattle.hcc_player.specs.Text.{stands_text, reply_text, refusal_text};
+ghost use Rattle.hcc_player.specs.Text.{reference_text, references_text};
 ghost use Rattle.hcc_player.specs.Text.{entry_text, initial_text, hit_text, resident_text};
 ghost use Rattle.hcc_player.specs.Text.{slot_text, gap, slots_from, totals_text, world_text};
 ghost use Rattle.hcc_player.specs.Text.{answer_text, line_text};
 
 use hcc_core::event::{CoreError, Phase, Reply};
-use hcc_core::slot::{Entry, Reference, Resident, Slot};
+use hcc_core::slot::{Entry, Reference, Resident, Slot, Stamp};
 use hcc_core::world::World;
 use std::alloc::AllocError;
 
@@ -75,6 +76,20 @@ pub fn push_value(out: &mut String, value: &[u8]) -> Result<(), AllocError>
     push_bytes(out, value)
 }
 
+/// Writes which entry stands in a slot, if one does.
+#[tactic(auto, unfolding(crate::specs::Text::stands_text))]
+fn push_stands(out: &mut String, stamp: Option<Stamp>) -> Result<(), AllocError>
+    ensures { OnOk result
+        (string_bytes out.new ≡ string_bytes out.old ++ stands_text stamp) }
+{
+    let Some(stamp) = stamp else {
+        return out.push_str("stands nothing");
+    };
+    let client = stamp.client;
+    let number = stamp.number;
+    write!(out, "stands {client} {number}")
+}
+
 /// Writes a reply.
 #[tactic(auto, unfolding(crate::specs::Text::reply_text))]
 pub fn push_reply(out: &mut String, reply: &Reply) -> Result<(), AllocError>
@@ -110,6 +125,7 @@ pub fn push_reply(out: &mut String, reply: &Reply) -> Result<(), AllocError>
         Reply::Open => out.push_str("open"),
         Reply::Uses(uses) => write!(out, "uses {uses}"),
         Reply::Count(count) => write!(out, "count {count}"),
+        Reply::Stands(stamp) => push_stands(out, *stamp),
     }
 }
 

@@ -173,12 +173,14 @@ stray : E+0/0 B0+2/0 | 5 1 0 0\nok : E+0/0 E+0/0 | 5 1 0 0\n",
         ),
         (
             b"start 0\nstart 1\nenter 0\ncharge 0 5\noccupy 0 1\nshow 0 7 9 5 2 3 -\nread 0 3\n\
-give 0 3\n",
+peek 1 1\npeek 1 0\ngive 0 3\n",
             b"ok : E+0/0 E+0/0 | 0 0 0 0\nok : E+0/0 E+0/0 | 0 0 0 0\n\
 granted : E+0/0 E+0/0 | 0 1 0 0\n\
 split 5 0 : E+0/0 E+0/0 | 5 1 0 0\ntaken : E+0/0 B0+0/0 | 5 1 0 0\n\
 ok : E+0/0 S7.9@0.0#5,u1,r0.3x1,h0/0 | 5 1 0 0\n\
 entry 7.9 - : E+0/0 S7.9@0.0#5,u1,r0.3x1,h0/0 | 5 1 0 0\n\
+stands 0 0 : E+0/0 S7.9@0.0#5,u1,r0.3x1,h0/0 | 5 1 0 0\n\
+stands nothing : E+0/0 S7.9@0.0#5,u1,r0.3x1,h0/0 | 5 1 0 0\n\
 left 0 shown : E+0/0 S7.9@0.0#5,u1,r-,h0/0 | 5 1 0 0\n",
         ),
         (
