@@ -18,9 +18,10 @@ use Rattle.hcc_core.specs.declared.event.Reply.TheVariants as replies
 use Rattle.hcc_core.specs.declared.event.CoreError.{CoreError}
 use Rattle.hcc_core.specs.declared.event.CoreError.TheVariants.{NotAllowed}
 use Rattle.hcc_core.specs.World.{State, is_shareable, references_of, charge_of, trail_of, is_named}
-use Rattle.hcc_core.specs.World.{slot_holding, is_granted, owns_nothing, stamp_of}
+use Rattle.hcc_core.specs.World.{slot_holding, is_granted, owns_nothing}
 use Rattle.hcc_core.specs.Outcomes.{◌>>=◌, Outcome, allow, slot_at, live_at, holding, with_both}
 use Rattle.hcc_core.specs.Outcomes.{has_no_member}
+use Rattle.hcc_core.specs.Lawful.{shown_stamp}
 use Rattle.hcc_core.specs.References.{noticed, look_of, client_noticed}
 
 -- Occupy.
@@ -147,13 +148,13 @@ read_of world client name = do
   entry ← entry_read seen
   Ok (entry, world)
 
--- Peek: which entry stands in the slot, and nothing changes.
+-- Peek: which entry is shown in the slot, and nothing changes.
 
 unfoldable pub peek_of : State → ℕ → ℕ → Outcome
 peek_of world client slot = do
   seen ← slot_at world slot
   found ← live_at world client
-  Ok (replies.Stands (stamp_of seen), world)
+  Ok (replies.Shows (shown_stamp seen), world)
 
 -- Hide.
 

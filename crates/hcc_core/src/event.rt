@@ -219,8 +219,8 @@ pub enum Reply {
     /// What the uses are now.
     Uses(u64),
     Count(u64),
-    /// The entry that stands in the slot, if one does.
-    Stands(Option<Stamp>),
+    /// The entry that is shown in the slot, if one is.
+    Shows(Option<Stamp>),
 }
 
 /// Why an event, or an opening, was refused. A refused event changes nothing.

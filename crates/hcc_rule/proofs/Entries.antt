@@ -5,3 +5,4 @@ pub mod DataWords
 pub mod ShowParts
 pub mod Shows
 pub mod Frees
+pub mod Glimpses

@@ -3,6 +3,7 @@ pub mod WordParts
 pub mod ViewParts
 pub mod WorldParts
 pub mod ClientParts
+pub mod Tags
 pub mod Codes
 pub mod Clients
 pub mod SlotSteps

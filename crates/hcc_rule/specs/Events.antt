@@ -105,9 +105,9 @@ module _ {T : Type 0} where
   read_done name entry v =
       did (events.Read v.client name) (replies.Entry entry.key0 entry.key1 entry.value)
 
-  -- a load without a reference, and the stamp of the entry that stood there
+  -- a load without a reference, and the stamp of the entry that was shown there
   abbrev pub peek_done : (slot : ℕ) → Option Stamp → View T → Done
-  peek_done slot stamp v = did (events.Peek v.client slot) (replies.Stands stamp)
+  peek_done slot stamp v = did (events.Peek v.client slot) (replies.Shows stamp)
 
   -- Ledgers, displacement words and the hand.
 

@@ -20,6 +20,7 @@ pub mod ToldReferences
 pub mod ToldLedgers
 pub mod ToldTrails
 pub mod ToldOwners
+pub mod ToldGlimpses
 pub mod Closing
 pub mod Ending
 pub mod Laws

@@ -1,5 +1,5 @@
 -- The views of new seats.
-use Rattle.std.specs.Prelude.{ℕ, ◌-◌, true, Option, Some, List, [], map, replicate, slice_set}
+use Rattle.std.specs.Prelude.{ℕ, ◌-◌, true, Option, None, Some, List, [], map, replicate, slice_set}
 use Rattle.std.specs.List.{range_with_len}
 use Rattle.hcc_core.specs.declared.client.Client.{Client}
 use Rattle.hcc_core.specs.declared.slot.Stamp.{Stamp}
@@ -39,6 +39,7 @@ fresh_view tag o others = record {
   met = [];
   seen = [];
   tight = [];
+  glimpse = None;
 }
 
 -- the first seat of a shard stands for client 0, which made the entries of the image, and may start

@@ -1,6 +1,6 @@
 -- The rule: which words and views show a world. Each part speaks of some readings alone, so that a
 -- step that leaves these keeps the part.
-use Rattle.std.specs.Prelude.{◌≡◌, ℕ, ◌+◌, ◌*◌, ◌%◌, ◌^◌, ◌<◌, ◌≤◌, true, List, [], Option, Some, None, IfSome, length, slice_get, slice_index, option_and_then, nat_lt}
+use Rattle.std.specs.Prelude.{◌≡◌, ◌≢◌, ◌⊎◌, ℕ, ◌+◌, ◌*◌, ◌%◌, ◌^◌, ◌<◌, ◌≤◌, true, List, [], Option, Some, None, IfSome, length, slice_get, slice_index, option_and_then, nat_lt}
 use Rattle.std.specs.Option.{unwrap_or}
 use Rattle.atomic_table.specs.Table as table
 use Rattle.hcc_core.specs.declared.limits.TheConstants.{REFERENCES_PER_CLIENT, STAMPS_PER_CLIENT, SLOTS_PER_TURN}
@@ -9,6 +9,7 @@ use Rattle.hcc_core.specs.declared.client.Client.{Client}
 use Rattle.hcc_core.specs.declared.slot.Entry.{Entry}
 use Rattle.hcc_core.specs.declared.slot.Reference.{Reference}
 use Rattle.hcc_core.specs.declared.slot.Stamp.{Stamp}
+use Rattle.hcc_core.specs.declared.client.Owned.TheVariants as owned
 use Rattle.hcc_core.specs.declared.client.Standalone.{Standalone}
 use Rattle.hcc_core.specs.declared.slot.Slot.{Slot}
 use Rattle.hcc_core.specs.declared.slot.Slot.TheVariants as slots
@@ -17,14 +18,16 @@ use Rattle.hcc_core.specs.World.{State, references_of, taken_by_slot, usage_of, 
 use Rattle.hcc_core.specs.Opening.{new_client}
 use Rattle.hcc_core.specs.Lawful.{IsLawful, owned_slot}
 use Rattle.hcc_rule.specs.declared.key.Key.{Key}
-use Rattle.hcc_rule.specs.declared.layout.TheConstants.{META, DISPLACEMENT, DATA, PAYLOAD, USAGE, OCCUPANCY, STANDING, HAND}
+use Rattle.hcc_rule.specs.declared.layout.TheConstants.{META, DISPLACEMENT, DATA, STAMP, PAYLOAD, USAGE, OCCUPANCY, STANDING, HAND}
 use Rattle.hcc_core.specs.declared.limits.TheConstants.{MOST_HANDLES}
 use Rattle.hcc_rule.specs.declared.rule.Plan.{Plan}
 use Rattle.hcc_rule.specs.declared.view.Made.{Made}
 use Rattle.hcc_rule.specs.declared.view.Other.{Other}
 use Rattle.hcc_rule.specs.declared.view.Record.{Record}
+use Rattle.hcc_rule.specs.declared.view.Stood.{Stood}
+use Rattle.hcc_rule.specs.declared.view.Stood.TheVariants as stood
 use Rattle.hcc_rule.specs.declared.view.View.{View}
-use Rattle.hcc_rule.specs.Words.{field_at, ledger_at, word_count, Lies, code_of, made_words, entry_of, key_of}
+use Rattle.hcc_rule.specs.Words.{field_at, ledger_at, word_count, Lies, code_of, made_words, stamp_word, entry_of, key_of}
 use Rattle.hcc_rule.specs.Probes.{trail_to}
 use Rattle.hcc_rule.specs.Views.{load_of, times_called, is_seated, held, names, named_by, Each}
 
@@ -207,6 +210,73 @@ pub record Trails (slots room : ℕ) (all : List Slot) (clients : List Client)
       → slice_index words (field_at room s DISPLACEMENT) ≡ passed_by all clients s
   pub entries : AreTrailed slots all
 
+-- Stamp words.
+
+-- the address of the word that says which entry stands in a slot
+abbrev pub stamp_at : (room slot : ℕ) → ℕ
+stamp_at room slot = field_at room slot DATA + STAMP
+
+-- this is the stamp word of the entry that was shown under this stamp, and of one that was shown
+abbrev pub IsShownAs : Books → (word : ℕ) → Stamp → Type 0
+IsShownAs books word stamp =
+    (made : Made) × (made_at books stamp ≡ Some made)
+    × (word ≡ stamp_word stamp.client made.serial)
+
+abbrev pub WasShown : Books → (word : ℕ) → Type 0
+WasShown books word = (stamp : Stamp) × IsShownAs books word stamp
+
+-- the client builds an entry in the slot, and has written this stamp word
+abbrev pub IsBuildingAs : {T : Type 0} → (slot word : ℕ) → View T → Type 0
+IsBuildingAs slot word v =
+    (v.work.owned ≡ owned.ForBuilding slot) × (STAMP < length v.written)
+    × (slice_index v.written STAMP ≡ word)
+
+-- the word is that of an entry that was shown, or is being built in this slot
+abbrev pub IsTag : {T : Type 0} → Books → List (View T) → (slot word : ℕ) → Type 0
+IsTag {T} books views slot word =
+    WasShown books word
+    ⊎ ((j : ℕ) × (v : View T) × (slice_get views j ≡ Some v) × IsBuildingAs slot word v)
+
+-- what a client knows of a stamp word that it loaded, by what stood there since
+abbrev pub IsStood : {T : Type 0} → (room : ℕ) → List ℕ → Books → List (View T) → (slot word : ℕ)
+    → Stood → Type 0
+IsStood room words books views slot word stood.Unseen = IsTag books views slot word
+IsStood room words books views slot word (stood.Entry stamp) = IsShownAs books word stamp
+IsStood room words books views slot word stood.Another =
+    WasShown books word × (slice_index words (stamp_at room slot) ≢ word)
+
+-- the serial is above those of all that was shown before
+abbrev pub IsAbove : (serial : ℕ) → List Made → Type 0
+IsAbove serial = Each (λ (m : Made). m.serial < serial)
+
+-- the word is the stamp word of the next entry that a client may show
+abbrev pub IsNextStamp : {T : Type 0} → (word : ℕ) → View T → Type 0
+IsNextStamp word v =
+    (serial : ℕ) × (word ≡ stamp_word v.client serial) × (serial < STAMPS_PER_CLIENT)
+    × IsAbove serial v.made
+
+-- What holds of the stamp words that a view knows: what its client builds comes next, and a slot
+-- that it looked at, or of which it loaded the stamp word, has had an entry.
+pub record IsTagged {T : Type 0} (size room : ℕ) (words : List ℕ) (books : Books)
+    (views : List (View T)) (v : View T) : Type 0 where
+  pub next : (slot word : ℕ) → IsBuildingAs slot word v → IsNextStamp word v
+  pub looked : IfSome v.work.looked (λ slot. (slot < size)
+      × IsTag books views slot (slice_index words (stamp_at room slot)))
+  pub glimpse : IfSome v.glimpse (λ g. (g.slot < size)
+      × IsStood room words books views g.slot g.word g.stood)
+
+-- no two entries that a client showed have one serial
+abbrev pub AreApart : List Made → Type 0
+AreApart book =
+    (n m : ℕ) (a b : Made) → slice_get book n ≡ Some a → slice_get book m ≡ Some b
+    → a.serial ≡ b.serial → n ≡ m
+
+pub record Tags {T : Type 0} (size room : ℕ) (words : List ℕ) (books : Books)
+    (views : List (View T)) : Type 0 where
+  pub apart : (client : ℕ) → AreApart (book_of books client)
+  pub each : (j : ℕ) (v : View T) → slice_get views j ≡ Some v
+      → IsTagged size room words books views v
+
 -- The rule.
 
 abbrev pub setup_of : {T : Type 0} → Plan T → Setup
@@ -238,3 +308,4 @@ pub record Holds {T : Type 0} (fits : T → Key → List ℕ → Type 0) (p : Pl
   pub turned : slice_index s.words (ledger_at p.geometry.slots p.geometry.room HAND) ≡ world.hand
   -- the hand has moved by a turn's slots for each turn that a view counts
   pub turns : world.hand ≡ hand_after s.views
+  pub tags : Tags p.geometry.slots p.geometry.room s.words books s.views

@@ -29,7 +29,7 @@ use Rattle.hcc_rule.specs.Rule.{IsRight}
 use Rattle.hcc_rule.specs.Words.{key_of, entry_of, made_words}
 use Rattle.hcc_rule.specs.Told.{Held}
 use Rattle.hcc_rule.specs.Looked.{Backs, after_look, found_dead}
-use Rattle.hcc_rule.specs.Events.{show_done, empty_done, free_done, occupy_done, peek_done, read_done, write_done}
+use Rattle.hcc_rule.specs.Events.{show_done, empty_done, free_done, occupy_done, read_done, write_done}
 
 -- the data words of an entry, but for the serial in its stamp word
 abbrev pub entry_words : Entry → List ℕ
@@ -151,12 +151,6 @@ module _ {T : Type 0} where
       (after.1 ≡ me.1) × (after.0 ≡ after_read name index me.0)
       × IfSome (record_in name me.0.records) (λ r. IsDataWord r.entry index word)
       × IfSome (record_in name me.0.records) (λ r. act ≡ Some (read_done name r.entry me.0))
-
-  -- Peek: a data word of the entry that stands in a slot, if one does (`Sees`).
-  abbrev pub peeks : (slot : ℕ) → Step (Unit {0}) → Held T → ℕ → Held T → Option Done → Type 0
-  peeks slot step me word after act =
-      (after.1 ≡ me.1) × (after.0 ≡ me.0)
-      × ((stamp : Option Stamp) × (act ≡ Some (peek_done slot stamp me.0)))
 
   -- Read of the slot that the client owns: the word that stands there.
   abbrev pub reads_own : (index : ℕ) → Step (Unit {0}) → Held T → ℕ → Held T → Option Done → Type 0

@@ -3,6 +3,7 @@ mod bits;
 mod counters;
 mod does;
 mod frees;
+mod glimpses;
 mod hand;
 mod ledgers;
 mod looks;

@@ -35,6 +35,24 @@ pub struct Other {
     pub dead: LinkedList<Stamp>,
 }
 
+/// What a client that reads without a reference has seen of a slot: the word of its stamp, and what
+/// stood there at each look since.
+pub struct Glimpse {
+    pub slot: u64,
+    pub word: u64,
+    pub stood: Stood,
+}
+
+/// What stood in a slot at each look since its stamp word was loaded.
+pub enum Stood {
+    /// It was not looked at since.
+    Unseen,
+    /// This entry, and the word is its stamp word.
+    Entry(Stamp),
+    /// At least once an entry with another stamp word.
+    Another,
+}
+
 /// What a seat knows of its shard.
 pub struct View<T> {
     /// The tag of the table; none once the seat was joined to another.
@@ -69,6 +87,8 @@ pub struct View<T> {
     pub seen: LinkedList<u64>,
     /// The charges of which not all was granted at once.
     pub tight: LinkedList<u64>,
+    /// What it last saw of a stamp word that it loaded without a reference.
+    pub glimpse: Option<Glimpse>,
 }
 
 /// An atomic step that a seat made: the address of its word, its operands (0 where it has fewer),

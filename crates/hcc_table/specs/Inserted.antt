@@ -8,7 +8,7 @@ use Rattle.hcc_rule.specs.declared.rule.Plan.{Plan}
 use Rattle.hcc_rule.specs.declared.steps.shows.Draft.{Draft}
 use Rattle.hcc_rule.specs.declared.view.View.{View}
 use Rattle.hcc_rule.specs.Probes.{probe_slot}
-use Rattle.hcc_rule.specs.Rule.{IsRight}
+use Rattle.hcc_rule.specs.Rule.{IsAbove, IsRight}
 use Rattle.hcc_rule.specs.ToldOwners.{after_show, made_of}
 use Rattle.hcc_rule.specs.Views.{load_of}
 use Rattle.hcc_rule.specs.Records.{record_in}
@@ -38,6 +38,7 @@ pub record MayInsert {T : Type 0} (fits : T → Key → List ℕ → Type 0) (p 
   pub called : IfSome draft.name (λ x. x ≡ name)
   pub room : load_of v.records + MOST_COUNTDOWN ≤ REFERENCES_PER_CLIENT
   pub stamps : length v.made < STAMPS_PER_CLIENT
+  pub above : IsAbove draft.serial v.made
 
 -- how many slots an insertion visited, by how many of them it found taken
 abbrev pub visited_by : Insertion → ℕ → ℕ

@@ -7,6 +7,7 @@ ghost use Rattle.hcc_core.specs.declared.client.Owned.TheVariants.{ForBuilding};
 ghost use Rattle.hcc_rule.specs.declared.layout.TheConstants.{PAYLOAD};
 ghost use Rattle.hcc_rule.specs.Callers.{plan_of, room_of, IsSeatAt, IsSlotAt};
 ghost use Rattle.hcc_rule.specs.Addresses.{address_of_meta};
+ghost use Rattle.hcc_rule.specs.Rule.{IsAbove};
 ghost use Rattle.hcc_rule.specs.Seats.{IsSameSeat, view, atomic};
 ghost use Rattle.hcc_rule.specs.ToldOwners.{MayShow, after_show, made_of, first_word};
 ghost use Rattle.hcc_rule.specs.Words.{made_words, payload, stamp_word};
@@ -36,6 +37,8 @@ pub(crate) fn build<T: Tag, A: Allocator>(
     requires may { MayShow T.fits (plan_of table.now) at.slot draft.countdown draft.name
         (made_of draft value.now)
         (with_words (made_words client (made_of draft value.now)) (view seat.old)) }
+    requires own { client ≡ (view seat.old).client }
+    requires above { IsAbove draft.serial (view seat.old).made }
     ensures seat { IsSameSeat seat.old seat.new }
     ensures view { view seat.new
         ≡ after_show at.slot draft.name (made_of draft value.now) (view seat.old) }
@@ -64,7 +67,9 @@ fn write_head<T: Tag, A: Allocator>(
     requires owned { (view seat.old).work.owned ≡ ForBuilding at.slot }
     requires none { (view seat.old).written ≡ [] }
     requires client { client < MOST_CLIENTS }
+    requires own { client ≡ (view seat.old).client }
     requires serial { draft.serial < STAMPS_PER_CLIENT }
+    requires above { IsAbove draft.serial (view seat.old).made }
     ensures seat { IsSameSeat seat.old seat.new }
     ensures view { view seat.new ≡ with_words (draft.key.w0 ∷ draft.key.w1 ∷ draft.charge
         ∷ stamp_word client draft.serial ∷ bytes ∷ []) (view seat.old) }

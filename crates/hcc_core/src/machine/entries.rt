@@ -99,9 +99,9 @@ impl Machine {
     pub(crate) fn peek(&mut self, client: u32, slot: u32) -> Result<Reply, CoreError>
         ensures { Follows (peek_of self.old client slot) false self.old result self.new }
     {
-        let stamp = slot_at(&self.slots, slot)?.stamp();
+        let stamp = slot_at(&self.slots, slot)?.shown_stamp();
         live_at(&self.clients, client)?;
-        Ok(Reply::Stands(stamp))
+        Ok(Reply::Shows(stamp))
     }
 
     #[tactic(auto, unfolding(crate::specs::Entries::hide_of))]

@@ -8,12 +8,11 @@ use Rattle.hcc_core.specs.declared.slot.Entry.{Entry}
 use Rattle.hcc_core.specs.declared.slot.Stamp.{Stamp}
 use Rattle.hcc_core.specs.declared.client.Client.{Client}
 use Rattle.hcc_core.specs.declared.slot.Resident.{Resident}
-use Rattle.hcc_core.specs.declared.slot.Slot.{Slot}
 use Rattle.hcc_core.specs.declared.slot.Slot.TheVariants as slots
 use Rattle.hcc_core.specs.declared.event.Event.TheVariants as events
 use Rattle.hcc_core.specs.declared.event.Reply.TheVariants as replies
-use Rattle.hcc_core.specs.World.{State, slot_holding, stamp_of}
-use Rattle.hcc_core.specs.Entries.{peek_of, read_of}
+use Rattle.hcc_core.specs.World.{State, slot_holding}
+use Rattle.hcc_core.specs.Entries.{read_of}
 use Rattle.hcc_core.specs.Steps.{outcome_of}
 use Rattle.hcc_core.specs.Lawful.{Lawful, owned_slot}
 use Rattle.hcc_core.proofs.Opening.{is_lawful}
@@ -21,25 +20,27 @@ use Rattle.hcc_rule.specs.declared.key.Key.{Key}
 use Rattle.hcc_rule.specs.declared.layout.TheConstants.{DATA, KEY1, STAMP}
 use Rattle.hcc_rule.specs.declared.rule.Plan.{Plan}
 use Rattle.hcc_rule.specs.declared.view.Done.{Done}
+use Rattle.hcc_rule.specs.declared.view.Glimpse.{Glimpse}
 use Rattle.hcc_rule.specs.declared.view.Made.{Made}
 use Rattle.hcc_rule.specs.declared.view.Record.{Record}
 use Rattle.hcc_rule.specs.declared.view.View.{View}
 use Rattle.hcc_rule.specs.Told.{Held}
-use Rattle.hcc_rule.specs.ToldOwners.{entry_words, IsDataWord, with_met, after_read, peeks, reads, reads_own}
+use Rattle.hcc_rule.specs.ToldOwners.{entry_words, IsDataWord, with_met, after_read, reads, reads_own}
 use Rattle.hcc_rule.specs.Views.{is_seated, is_called}
 use Rattle.hcc_rule.specs.Records.{record_in}
 use Rattle.hcc_rule.specs.Words.{field_at, made_words, entry_of}
-use Rattle.hcc_rule.specs.Rule.{entry_in, IsRecorded, IsStored, IsDraft, Holds}
+use Rattle.hcc_rule.specs.Rule.{entry_in, IsRecorded, IsStood, IsStored, IsDraft, Holds}
 use Rattle.hcc_rule.proofs.Basics.Lists.{within, read_at, each_set}
 use Rattle.hcc_rule.proofs.Basics.Findings.{find_each}
 use Rattle.hcc_rule.proofs.Parts.ClientParts.{SameView, references_view, holding_view, seats_still, stamps_still}
+use Rattle.hcc_rule.proofs.Parts.Tags.{quiet, tags_step}
 use Rattle.hcc_rule.proofs.Parts.WorldParts.{hand_kept}
 use Rattle.hcc_rule.proofs.Parts.SlotSteps.{Shard}
 use Rattle.hcc_rule.proofs.Parts.OnEntries.{OnEntry, on_some, name_held}
 use Rattle.hcc_rule.proofs.Parts.Touches.{client_is, live_is}
-use Rattle.hcc_rule.proofs.References.Looks.{client_fits, slot_fits, slot_there}
+use Rattle.hcc_rule.proofs.References.Looks.{client_fits}
 use Rattle.hcc_rule.specs.Acts.{Acts, Becomes, Goes, GoesBy, did}
-use Rattle.hcc_rule.specs.Events.{peek_done, read_done}
+use Rattle.hcc_rule.specs.Events.{read_done}
 
 -- a word written over itself
 pub word_same : (words : List ℕ) (a : ℕ) → slice_set words a (slice_index words a) ≡ words
@@ -64,20 +65,6 @@ read_allowed w c x i found k l small holds at_slot at_client live =
       at_slot,
     ) refl
 
--- a peek is allowed to each client, and tells which entry stands in the slot
-peek_allowed : (w : State) (c i : ℕ) (found : Client) (seen : Slot) → Lawful w
-    → slice_get w.slots i ≡ Some seen → slice_get w.clients c ≡ Some found → found.live ≡ true
-    → outcome_of w (events.Peek c i) ≡ Ok (replies.Stands (stamp_of seen), w)
-unfolding outcome_of peek_of
-peek_allowed w c i found seen l at_slot at_client live =
-    rw (
-      client_fits w c l (within w.clients c found at_client),
-      slot_fits w i l (within w.slots i seen at_slot),
-      at_slot,
-      at_client,
-      live,
-    ) refl
-
 -- the data words of an entry are its maker's, but for the serial
 words_same : (stamp : Stamp) (made : Made) (index : ℕ) → index ≢ STAMP
     → slice_index (made_words stamp.client made) index
@@ -89,16 +76,18 @@ words_same stamp made (suc (suc (suc zero))) other = absurd (other refl)
 words_same stamp made (suc (suc (suc (suc k)))) other = refl
 
 module _ {T : Type 0} (fits : T → Key → List ℕ → Type 0) (p : Plan T) where
-  -- A view whose met keys alone change keeps the rule.
+  -- A view of which the met keys and the glimpse alone change keeps the rule.
   met_holds : (s : Shard fits p) (r : Holds fits p s) (id : ℕ) (v : View T) (met : List Key)
+      (glimpse : Option Glimpse)
       → slice_get s.views id ≡ Some v → is_seated v ≡ true
+      → IfSome glimpse (λ g. (g.slot < p.geometry.slots)
+      × IsStood p.geometry.room s.words r.books s.views g.slot g.word g.stood)
       → Holds fits p record {
         words = s.words;
         homes = s.homes;
-        views =
-            slice_set s.views id (record v { met = met });
+        views = slice_set s.views id (record v { met = met; glimpse = glimpse });
       }
-  met_holds s r id v met at seated = record {
+  met_holds s r id v met glimpse at seated glimpsed = record {
     world = r.world;
     books = r.books;
     setup = r.setup;
@@ -119,10 +108,16 @@ module _ {T : Type 0} (fits : T → Key → List ℕ → Type 0) (p : Plan T) wh
     trails = r.trails;
     turned = r.turned;
     turns = r.turns ∙ hand_kept s.views id v new at refl;
+    tags =
+        let old = r.tags.each id v at in
+        tags_step p.geometry.slots p.geometry.room s.words s.words r.books r.books s.views id v new
+        at (quiet p.geometry.slots p.geometry.room s.words s.words r.books r.books s.views id v new
+        old r.tags.apart refl refl refl refl refl (λ slot near. refl) old.looked glimpsed)
+        r.tags;
   }
     where
       new : View T
-      new = record v { met = met }
+      new = record v { met = met; glimpse = glimpse }
 
       same : SameView v new
       same = record {
@@ -134,6 +129,22 @@ module _ {T : Type 0} (fits : T → Key → List ℕ → Type 0) (p : Plan T) wh
             refl;
         takings = refl;
       }
+
+  -- and shows the world that it showed
+  pub met_becomes : (s : Shard fits p) (r : Holds fits p s) (id : ℕ) (v : View T) (met : List Key)
+      (glimpse : Option Glimpse)
+      → slice_get s.views id ≡ Some v → is_seated v ≡ true
+      → IfSome glimpse (λ g. (g.slot < p.geometry.slots)
+      × IsStood p.geometry.room s.words r.books s.views g.slot g.word g.stood)
+      → (done : Done) → GoesBy v.client r.world (Some done) r.world
+      → Becomes fits p v.client r.world (Some done) record {
+        words = s.words;
+        homes = s.homes;
+        views = slice_set s.views id (record v { met = met; glimpse = glimpse });
+      }
+  unfolding met_holds
+  met_becomes s r id v met glimpse at seated glimpsed done goes =
+      (met_holds s r id v met glimpse at seated glimpsed, goes)
 
   -- The word that stands for an entry.
   pub entry_word : (s : Shard fits p) (r : Holds fits p s) (i index : ℕ) (entry : Entry)
@@ -176,10 +187,11 @@ module _ {T : Type 0} (fits : T → Key → List ℕ → Type 0) (p : Plan T) wh
                 (record me.0 { met = with_met (record_in x me.0.records) me.0.met }) me.0);
           }
       kept done goes true = (
-        met_holds s r id me.0 (with_met (record_in x me.0.records) me.0.met) at_view seated,
+        met_holds s r id me.0 (with_met (record_in x me.0.records) me.0.met) me.0.glimpse at_view
+            seated (r.tags.each id me.0 at_view).glimpse,
         goes,
       )
-      kept done goes false = (met_holds s r id me.0 me.0.met at_view seated, goes)
+      kept done goes false = (met_holds s r id me.0 me.0.met me.0.glimpse at_view seated (r.tags.each id me.0 at_view).glimpse, goes)
 
       told : (o : Option Record) → record_in x me.0.records ≡ o → IsSomeAnd o (λ q. q.slot ≡ i)
           → IfSome o (λ q. IsDataWord q.entry index (slice_index s.words a))
@@ -226,28 +238,6 @@ module _ {T : Type 0} (fits : T → Key → List ℕ → Type 0) (p : Plan T) wh
           let there = on_some fits p s r id i x me.0 q at_view seated called so in
           reads_on q there.0 there.1 called
 
-  -- A load without a reference keeps the rule.
-  pub peek_step : (count id i a : ℕ) (me : Held T) → is_seated me.0 ≡ true → i < p.geometry.slots
-      → Acts fits p count id me a (λ n. n) (peeks i (step count a 0 0 none) me)
-  unfolding met_holds
-  peek_step count id i a me seated near s r homes at low =
-      let at_view = read_at s.views id me.0 at in
-      let slot = slot_there fits p s r i near in
-      let stamp = stamp_of slot.0 in
-      let allowed = peek_allowed r.world me.0.client i me.0.work slot.0
-      (is_lawful r.world r.lawful) slot.1 (client_is fits p s r id me.0 at_view seated)
-      (live_is fits p s r id me.0 at_view seated) in (
-        me.0,
-        keeps,
-        tt,
-        Some (peek_done i stamp me.0),
-        rw (word_same s.words a) (
-          met_holds s r id me.0 me.0.met at_view seated,
-          ((refl, refl), allowed),
-        ),
-        (refl, refl, (stamp, refl)),
-      )
-
   -- A load by the owner of a slot tells the word that stands in its view.
   pub read_own_step : (count id i index a : ℕ) (me : Held T) → owned_slot me.0.work.owned ≡ Some i
       → is_seated me.0 ≡ true → a ≡ field_at p.geometry.room i DATA + index
@@ -259,7 +249,7 @@ module _ {T : Type 0} (fits : T → Key → List ℕ → Type 0) (p : Plan T) wh
         keeps,
         tt,
         None,
-        rw (word_same s.words a) (met_holds s r id me.0 me.0.met at_view seated, refl),
+        rw (word_same s.words a) (met_holds s r id me.0 me.0.met me.0.glimpse at_view seated (r.tags.each id me.0 at_view).glimpse, refl),
         (
           refl,
           refl,

@@ -87,7 +87,7 @@ module _ {T : Type 0} (fits : T → Key → List ℕ → Type 0) (p : Plan T) wh
             at_view = at_view;
             at_slot = at_slot;
             seated = seated;
-            same = record { tag = refl; client = refl; others = refl; turns = refl };
+            same = record { tag = refl; client = refl; others = refl; turns = refl; glimpse = refl };
             work = refl;
             store = record { records = refl; made = refl; takings = refl; written = refl };
             allowed = empty_allowed r.world me.0.client i me.0.work (is_lawful r.world r.lawful)
@@ -95,5 +95,6 @@ module _ {T : Type 0} (fits : T → Key → List ℕ → Type 0) (p : Plan T) wh
                 (live_is fits p s r id me.0 at_view seated) owns back;
             bare = refl;
             left_bare = refl;
+            free = λ slot is. let bad = sym owns ∙ is in cc;
           })
           (refl, refl, refl)

@@ -1,5 +1,5 @@
 -- The exchange to construction: an entry with no reference but the client's last one is taken.
-use Rattle.std.proofs.Common.{◌≡◌, ℕ, ◌+◌, ◌^◌, ◌<◌, ◌≤◌, ◌≢◌, ◌==◌, Bool, true, false, cond, List, [], ◌∷◌, Option, Some, None, IfSome, IsSomeAnd, Ok, slice_get, slice_index, slice_set, sym, refl, ap, ◌∙◌, arith, ◌-◌}
+use Rattle.std.proofs.Common.{◌≡◌, ℕ, ◌+◌, ◌^◌, ◌<◌, ◌≤◌, ◌≢◌, ◌==◌, Bool, true, false, cond, List, [], ◌∷◌, Option, Some, None, IfSome, IsSomeAnd, Ok, slice_get, slice_index, slice_set, sym, refl, ap, ◌∙◌, arith, ◌-◌, inl}
 use Rattle.std.specs.List.{find}
 use Rattle.std.proofs.lemmas.Bool.{eqb-true, eq-eqb}
 use mathlib.Core.Option.{none}
@@ -57,9 +57,11 @@ use Rattle.hcc_rule.proofs.Entries.ShowParts.{names_fit}
 use Rattle.hcc_rule.proofs.Parts.ViewParts.{recorded_else, total-two}
 use Rattle.hcc_rule.proofs.Parts.WordParts.{made_short}
 use Rattle.hcc_rule.proofs.Parts.SlotSteps.{Shard, SlotStep}
-use Rattle.hcc_rule.proofs.Parts.Touches.{by_client, goes, client_is, live_is, stamps_are, was_right}
+use Rattle.hcc_rule.proofs.Parts.Touches.{by_client, goes, client_is, live_is, stamps_are, was_right, book_is}
 use Rattle.hcc_rule.specs.Acts.{Acts, Goes, did}
 use Rattle.hcc_rule.specs.declared.view.Done.{Done}
+use Rattle.hcc_rule.proofs.Parts.Tags.{not_building, stamp_kept}
+use Rattle.hcc_core.proofs.ListLemmas.{set_same}
 
 -- a list of no member is empty
 empty_is : {A : Type 0} (xs : List A) → has_no_member xs ≡ true → xs ≡ []
@@ -261,7 +263,7 @@ module _ {T : Type 0} (fits : T → Key → List ℕ → Type 0) (p : Plan T) wh
         at_view = at;
         at_slot = at_slot;
         seated = seated;
-        same = record { tag = refl; client = refl; others = refl; turns = refl };
+        same = record { tag = refl; client = refl; others = refl; turns = refl; glimpse = refl };
         live = live_is fits p s r id v at seated;
         allowed = by_client r.world event reply i v.client left
             (client_freeing v.client i (slots.Shareable k) v.work) new.work becomes
@@ -298,6 +300,18 @@ module _ {T : Type 0} (fits : T → Key → List ℕ → Type 0) (p : Plan T) wh
             let none : times j v.work.trail ≡ 0 = ap (times j) back in
             omega arith;
         trailed = tt;
+        tags =
+            let old = r.tags.each id v at in
+            let same = set_same r.books v.client v.made (book_is fits p s r id v at seated) in
+            record {
+              made = λ stamp made h. rw same h;
+              apart = λ c. rw same (r.tags.apart c);
+              kept = λ slot w builds. absurd (not_building v.work.owned slot idle builds.0);
+              next = λ slot w builds. let bad = builds.0 in cc;
+              word = λ slot low. inl (stamp_kept p.geometry.room i (code_of left) s.words slot);
+              looked = old.looked;
+              glimpse = old.glimpse;
+            };
       }
 
   -- The exchange keeps the rule, and tells whether it took the slot.

@@ -35,7 +35,8 @@ use Rattle.hcc_rule.specs.Rule.{Holds}
 use Rattle.hcc_rule.proofs.Basics.Lists.{within, read_at}
 use Rattle.hcc_rule.proofs.Parts.Codes.{few_strays, is_near, tells_entry, tells_phase}
 use Rattle.hcc_rule.proofs.Parts.Clients.{dead_told}
-use Rattle.hcc_rule.proofs.References.Looks.{slot_fits, client_fits, slot_there, backed}
+use Rattle.hcc_rule.proofs.References.Looks.{slot_fits, client_fits, slot_there, backed, looks_there}
+use Rattle.hcc_rule.proofs.Parts.Tags.{not_building}
 use Rattle.hcc_rule.proofs.Parts.Owners.{owned_step}
 use Rattle.hcc_rule.proofs.Parts.SlotSteps.{Shard}
 use Rattle.hcc_rule.proofs.Parts.Touches.{by_client, touched, goes, client_is, live_is}
@@ -138,7 +139,7 @@ module _ {T : Type 0} (fits : T → Key → List ℕ → Type 0) (p : Plan T) wh
           at_view = at;
           at_slot = at_slot;
           seated = seated;
-          same = record { tag = refl; client = refl; others = refl; turns = refl };
+          same = record { tag = refl; client = refl; others = refl; turns = refl; glimpse = refl };
           work = refl;
           store = record { written = refl; made = refl; takings = refl };
           allowed = by_client r.world event reply i me.0.client t
@@ -148,6 +149,7 @@ module _ {T : Type 0} (fits : T → Key → List ℕ → Type 0) (p : Plan T) wh
           elsewhere = λ j h other. refl;
           holding = let old = r.holding id me.0 at in record
               { recorded = old.recorded; once = old.once; few = old.few };
+          looked = looks_there r.world (is_lawful r.world r.lawful) i t word me.0 at_slot word_is;
         }) (
           refl,
           told,
@@ -197,13 +199,14 @@ module _ {T : Type 0} (fits : T → Key → List ℕ → Type 0) (p : Plan T) wh
           at_view = at;
           at_slot = at_slot;
           seated = seated;
-          same = record { tag = refl; client = refl; others = refl; turns = refl };
+          same = record { tag = refl; client = refl; others = refl; turns = refl; glimpse = refl };
           work = refl;
           store = record { records = refl; made = refl; takings = refl; written = refl };
           allowed = occupy_takes r.world me.0.client i strays me.0.work l at_slot
               (client_is fits p s r id me.0 at seated) (live_is fits p s r id me.0 at seated) free;
           bare = refl;
           left_bare = refl;
+          free = λ slot. not_building me.0.work.owned slot free;
         }) (
           refl,
           told,

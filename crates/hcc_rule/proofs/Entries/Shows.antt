@@ -1,5 +1,5 @@
 -- The store of a new entry's word: the entry whose words were written is shown.
-use Rattle.std.proofs.Common.{◌≡◌, ℕ, zero, suc, ◌-◌, ◌^◌, ◌<◌, ◌≤◌, ◌≢◌, ◌⊎◌, inl, inr, ◌==◌, true, false, List, [], ◌∷◌, ◌++◌, Option, Some, None, IfSome, is_none, is_some, length, slice_get, slice_set, sym, refl, ap, ◌∙◌, arith, ne_eqb}
+use Rattle.std.proofs.Common.{◌≡◌, ℕ, zero, suc, ◌-◌, ◌^◌, ◌<◌, ◌≤◌, ◌≢◌, ◌⊎◌, inl, inr, ◌==◌, true, false, List, [], ◌∷◌, ◌++◌, Option, Some, None, IfSome, is_none, is_some, length, slice_get, slice_set, sym, refl, ap, ◌∙◌, arith, ne_eqb, slice_index, subst}
 use Rattle.std.specs.Int.{from_bool}
 use Rattle.std.proofs.lemmas.Bool.{cases_eq}
 use mathlib.Core.Option.{none}
@@ -18,7 +18,7 @@ use Rattle.hcc_core.proofs.ListLemmas.{read_here}
 use Rattle.hcc_core.proofs.SumLemmas.{total-append, length-push}
 use Rattle.hcc_core.proofs.Opening.{is_lawful}
 use Rattle.hcc_rule.specs.declared.key.Key.{Key}
-use Rattle.hcc_rule.specs.declared.layout.TheConstants.{META}
+use Rattle.hcc_rule.specs.declared.layout.TheConstants.{META, STAMP}
 use Rattle.hcc_rule.specs.declared.rule.Plan.{Plan}
 use Rattle.hcc_rule.specs.declared.view.Made.{Made}
 use Rattle.hcc_rule.specs.declared.view.Record.{Record}
@@ -27,13 +27,13 @@ use Rattle.hcc_rule.specs.Told.{Held}
 use Rattle.hcc_rule.specs.ToldOwners.{room_for, MayShow, first_records, shown_entry, after_show, shows}
 use Rattle.hcc_rule.specs.Views.{reference_of, is_on, is_called, times_called, load_of, is_seated, Each}
 use Rattle.hcc_rule.specs.Records.{record_in}
-use Rattle.hcc_rule.specs.Words.{field_at}
-use Rattle.hcc_rule.specs.Rule.{entry_by, entry_in, IsStored, IsRecorded, IsHolding, IsRight, Holds}
+use Rattle.hcc_rule.specs.Words.{field_at, stamp_word, code_of}
+use Rattle.hcc_rule.specs.Rule.{entry_by, entry_in, IsStored, IsRecorded, IsHolding, IsRight, Holds, AreApart, IsAbove, IsTagged, book_of, made_at}
 use Rattle.hcc_rule.proofs.Basics.Lists.{read_at, each_map, each_append}
 use Rattle.hcc_rule.proofs.Parts.Codes.{when_le}
 use Rattle.hcc_rule.proofs.Basics.Findings.{none_passes}
 use Rattle.hcc_rule.proofs.Parts.HeldReferences.{fresh_name}
-use Rattle.hcc_rule.proofs.Parts.WorldParts.{book_here}
+use Rattle.hcc_rule.proofs.Parts.WorldParts.{book_here, book_else, made_grows}
 use Rattle.hcc_rule.proofs.Parts.ViewParts.{recorded_else}
 use Rattle.hcc_rule.proofs.References.Looks.{slot_there}
 use Rattle.hcc_rule.proofs.Entries.Empties.{owner_there}
@@ -42,6 +42,8 @@ use Rattle.hcc_rule.proofs.Parts.SlotSteps.{Shard, SlotStep}
 use Rattle.hcc_rule.proofs.Parts.Touches.{goes, client_is, live_is, book_is, stamps_are, was_right}
 use Rattle.hcc_rule.specs.Acts.{Acts, Goes}
 use Rattle.hcc_rule.specs.declared.view.Done.{Done}
+use Rattle.hcc_rule.proofs.Parts.Tags.{stamp_kept, below}
+use Rattle.std.specs.Option.{unwrap_or}
 
 -- a sum over what the client keeps of an entry on one slot is nothing on another
 first_else : (i j : ℕ) (name : Option ℕ) (e : Entry) (f : Record → ℕ) → j ≢ i
@@ -75,6 +77,38 @@ last_or [] y zero x h = inr (let same : x ≡ y = cc in same)
 last_or [] y (suc n) x h = cc
 last_or (z ∷ zs) y zero x h = inl h
 last_or (z ∷ zs) y (suc n) x h = last_or zs y n x h
+
+-- a list that grows by a serial above all others has none twice
+last_number : {A : Type 0} (xs : List A) (y : A) (n : ℕ) (x : A)
+    → slice_get (xs ++ y ∷ []) n ≡ Some x
+    → (slice_get xs n ≡ Some x) ⊎ ((n ≡ length xs) × (x ≡ y))
+last_number [] y zero x h = inr (refl, let same : x ≡ y = cc in same)
+last_number [] y (suc n) x h = cc
+last_number (z ∷ zs) y zero x h = inl h
+last_number (z ∷ zs) y (suc n) x h = elim (last_number zs y n x h) [
+  | inl old ↦ inl old
+  | inr last ↦ inr (ap suc last.0, last.1)
+]
+
+apart_more : (book : List Made) (made : Made) → AreApart book → IsAbove made.serial book
+    → AreApart (book ++ made ∷ [])
+apart_more book made apart above n m a b at_n at_m same =
+    elim (last_number book made n a at_n) [
+      | inl old ↦ elim (last_number book made m b at_m) [
+        | inl too ↦ apart n m a b old too same
+        | inr last ↦
+            let less = below made.serial book n a above old in
+            let is = ap (λ (z : Made). z.serial) last.1 in
+            absurd (omega arith)
+      ]
+      | inr first ↦ elim (last_number book made m b at_m) [
+        | inl too ↦
+            let less = below made.serial book m b above too in
+            let is = ap (λ (z : Made). z.serial) first.1 in
+            absurd (omega arith)
+        | inr last ↦ first.0 ∙ sym last.0
+      ]
+    ]
 
 small_name : (o : Option ℕ) (P : ℕ → Type 0) → IfSome o (λ x. (x < 2 ^ 64) × P x)
     → IfSome o (λ x. x < 2 ^ 64)
@@ -181,19 +215,41 @@ module _ {T : Type 0} (fits : T → Key → List ℕ → Type 0) (p : Plan T) wh
               omega arith;
         }
 
+    listed : made_at (slice_set r.books v.client new.made) entry.stamp ≡ Some made
+    listed = ap (λ l. slice_get l v.work.stamps)
+        (book_here r.books v.client v.made new.made book)
+        ∙ (ap (slice_get new.made) counts ∙ get_last v.made made)
+
     stored : (e : Entry) → entry_by left ≡ Some e
         → IsStored p.geometry.room s.words (slice_set r.books v.client new.made) i e
     stored e is =
         let same : e ≡ entry = cc in
         rw same record {
           made = made;
-          listed = ap (λ l. slice_get l v.work.stamps)
-              (book_here r.books v.client v.made new.made book)
-              ∙ (ap (slice_get new.made) counts ∙ get_last v.made made);
+          listed = listed;
           same = refl;
           lies = let there = (r.drafted id v at).lies i (ap owned_slot may.builds) in rw may.written
               at there;
         }
+
+    -- its serial is above those of all that the client showed
+    old_tags : IsTagged p.geometry.slots p.geometry.room s.words r.books s.views v
+    old_tags = r.tags.each id v at
+
+    stamp_written : slice_index v.written STAMP ≡ stamp_word v.client made.serial
+    stamp_written = ap (λ ws. slice_index ws STAMP) may.written
+
+    above : IsAbove made.serial v.made
+    above =
+        let long = ap length may.written in
+        let next = old_tags.next i (slice_index v.written STAMP)
+        (may.builds, (let low : STAMP < length v.written = omega arith in low), refl) in
+        let same : next.0 ≡ made.serial =
+        (let words = sym next.1 ∙ stamp_written in omega arith) in
+        subst (λ n. IsAbove n v.made) same next.3
+
+    mine_apart : AreApart v.made
+    mine_apart = subst AreApart (ap (λ o. unwrap_or o []) book) (r.tags.apart v.client)
 
     right : (n : ℕ) (m : Made) → slice_get new.made n ≡ Some m
         → IsRight fits p.tag p.geometry.room m
@@ -209,7 +265,7 @@ module _ {T : Type 0} (fits : T → Key → List ℕ → Type 0) (p : Plan T) wh
       at_view = at;
       at_slot = at_slot;
       seated = seated;
-      same = record { tag = refl; client = refl; others = refl; turns = refl };
+      same = record { tag = refl; client = refl; others = refl; turns = refl; glimpse = refl };
       live = live_is fits p s r id v at seated;
       allowed = show_allowed r.world v.client i countdown name made v.work
           (is_lawful r.world r.lawful) client (live_is fits p s r id v at seated)
@@ -249,6 +305,26 @@ module _ {T : Type 0} (fits : T → Key → List ℕ → Type 0) (p : Plan T) wh
           record { asked = omega arith; freed = old.freed; few = old.few; small = old.small };
       passed = λ j. omega arith;
       trailed = may.trail;
+      tags = record {
+        made = made_grows r.books v.client v.made new.made book
+            (λ n m there. get_front v.made (made ∷ []) n m there);
+        apart = λ c. elim (cases_eq c v.client) [
+          | inl same ↦
+              let now : book_of (slice_set r.books v.client new.made) c ≡ new.made =
+              ap (book_of (slice_set r.books v.client new.made)) same
+              ∙ book_here r.books v.client v.made new.made book in
+              rw now (apart_more v.made made mine_apart above)
+          | inr other ↦ rw (book_else r.books v.client c new.made other) (r.tags.apart c)
+        ];
+        kept = λ slot word builds. inr (
+          entry.stamp,
+          (made, listed, sym builds.2 ∙ stamp_written),
+        );
+        next = λ slot word builds. let bad = builds.0 in cc;
+        word = λ slot low. inl (stamp_kept p.geometry.room i (code_of left) s.words slot);
+        looked = old_tags.looked;
+        glimpse = old_tags.glimpse;
+      };
     }
 
   -- The store keeps the rule.

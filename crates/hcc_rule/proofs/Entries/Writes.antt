@@ -1,5 +1,5 @@
 -- A store of a data word: the slot that its client builds has one word more.
-use Rattle.std.proofs.Common.{◌≡◌, ℕ, zero, suc, ◌+◌, ◌<◌, ◌≢◌, inl, inr, Bool, true, false, List, [], ◌∷◌, ◌++◌, Option, Some, None, Ok, is_some, length, slice_get, slice_index, slice_set, sym, refl, ap, ◌∙◌, arith}
+use Rattle.std.proofs.Common.{◌≡◌, ℕ, zero, suc, ◌+◌, ◌<◌, ◌≢◌, inl, inr, Bool, true, false, List, [], ◌∷◌, ◌++◌, Option, Some, None, Ok, is_some, length, slice_get, slice_index, slice_set, sym, refl, ap, ◌∙◌, arith, ◌⊎◌, subst}
 use Rattle.std.proofs.lemmas.Bool.{cases_eq}
 use mathlib.Core.Option.{none}
 use Rattle.atomic_table.specs.Table.{step, keeps}
@@ -18,14 +18,14 @@ use Rattle.hcc_core.proofs.SumLemmas.{length-push}
 use Rattle.hcc_core.proofs.Keeps.{follows_lawful}
 use Rattle.hcc_core.proofs.Opening.{is_lawful}
 use Rattle.hcc_rule.specs.declared.key.Key.{Key}
-use Rattle.hcc_rule.specs.declared.layout.TheConstants.{META, DISPLACEMENT, DATA, PAYLOAD, HAND}
+use Rattle.hcc_rule.specs.declared.layout.TheConstants.{META, DISPLACEMENT, DATA, PAYLOAD, HAND, STAMP}
 use Rattle.hcc_rule.specs.declared.rule.Plan.{Plan}
 use Rattle.hcc_rule.specs.declared.view.View.{View}
 use Rattle.hcc_rule.specs.Told.{Held}
 use Rattle.hcc_rule.specs.ToldOwners.{after_write, writes}
 use Rattle.hcc_rule.specs.Views.{is_seated}
 use Rattle.hcc_rule.specs.Words.{field_at, ledger_at, word_count, Lies}
-use Rattle.hcc_rule.specs.Rule.{entry_by, entry_in, IsDraft, Holds}
+use Rattle.hcc_rule.specs.Rule.{entry_by, entry_in, IsDraft, Holds, IsBuildingAs, IsNextStamp, IsTagged, WasShown, book_of, stamp_at}
 use Rattle.hcc_rule.proofs.Basics.Lists.{within, read_at, word_here, word_else}
 use Rattle.hcc_rule.proofs.Parts.Addresses.{fields_apart, field_inside, ledger_apart, data_field, data_away}
 use Rattle.hcc_rule.proofs.Parts.WordParts.{AreShort, coded_else, made_short, stored_words, drafted_set}
@@ -35,8 +35,10 @@ use Rattle.hcc_rule.proofs.Parts.WorldParts.{hand_kept}
 use Rattle.hcc_rule.proofs.References.Looks.{client_fits, slot_there}
 use Rattle.hcc_rule.proofs.Entries.Empties.{owner_there}
 use Rattle.hcc_rule.proofs.Parts.SlotSteps.{Shard, size_is}
-use Rattle.hcc_rule.proofs.Parts.Touches.{client_is, live_is}
+use Rattle.hcc_rule.proofs.Parts.Touches.{client_is, live_is, book_is}
 use Rattle.hcc_rule.specs.Acts.{Acts, did}
+use Rattle.hcc_rule.proofs.Parts.Tags.{TagStep, below, tags_step, word_apart}
+use Rattle.std.specs.Option.{unwrap_or}
 
 -- the member at the end, and those before it
 last_at : (xs : List ℕ) (y : ℕ) → slice_index (xs ++ y ∷ []) (length xs) ≡ y
@@ -78,7 +80,8 @@ module _ {T : Type 0} (fits : T → Key → List ℕ → Type 0) (p : Plan T) wh
       (at : slice_get s.views id ≡ Some v) (seated : is_seated v ≡ true)
       (near : i < p.geometry.slots)
       (builds : v.work.owned ≡ owned.ForBuilding i)
-      (room_left : length v.written < PAYLOAD + p.geometry.room) where
+      (room_left : length v.written < PAYLOAD + p.geometry.room)
+      (stamp : length v.written ≡ STAMP → IsNextStamp y v) where
     abbrev room : ℕ
     room = p.geometry.room
 
@@ -197,6 +200,78 @@ module _ {T : Type 0} (fits : T → Key → List ℕ → Type 0) (p : Plan T) wh
           refl;
     }
 
+    old_tags : IsTagged p.geometry.slots p.geometry.room s.words r.books s.views v
+    old_tags = r.tags.each id v at
+
+    -- the word that is written as a stamp is the next one
+    next_word : (slot word : ℕ) → IsBuildingAs slot word new → IsNextStamp word new
+    next_word slot word builds = elim (cases_eq (length v.written) STAMP) [
+      | inl here ↦
+          let last : slice_index (v.written ++ y ∷ []) STAMP ≡ y =
+          ap (slice_index (v.written ++ y ∷ [])) (sym here) ∙ last_at v.written y in
+          subst (λ w. IsNextStamp w new) (sym last ∙ builds.2) (stamp here)
+      | inr other ↦
+          let push = length-push v.written y in
+          let low : STAMP < length v.written = let long = builds.1 in omega arith in
+          old_tags.next slot word
+          (builds.0, low, sym (front_at v.written y STAMP low) ∙ builds.2)
+    ]
+
+    -- no entry was shown under the next one
+    unshown : IsNextStamp y v → WasShown r.books y → ⊥
+    unshown next shown =
+        let made = shown.1.0 in
+        let right = r.stamps.right shown.0 made shown.1.1 in
+        let same = word_apart v.client shown.0.client next.0 made.serial next.2 right.numbered
+        (sym next.1 ∙ shown.1.2) in
+        let book : book_of r.books shown.0.client ≡ v.made =
+        ap (book_of r.books) (sym same.0)
+        ∙ ap (λ o. unwrap_or o []) (book_is fits p s r id v at seated) in
+        let less = below next.0 v.made shown.0.number made next.3
+        (ap (λ l. slice_get l shown.0.number) (sym book) ∙ shown.1.1) in
+        let is = same.1 in
+        absurd (omega arith)
+
+    stamp_word_of : (slot : ℕ)
+        → (slice_index words (stamp_at p.geometry.room slot)
+        ≡ slice_index s.words (stamp_at p.geometry.room slot))
+        ⊎ (IsBuildingAs slot (slice_index words (stamp_at p.geometry.room slot)) new
+        × (WasShown r.books (slice_index words (stamp_at p.geometry.room slot)) → ⊥))
+    stamp_word_of slot = elim (cases_eq (stamp_at p.geometry.room slot) a) [
+      | inl here ↦
+          let one = fields_apart p.geometry.room slot i (DATA + STAMP) (DATA + length v.written)
+          (omega arith) (omega arith)
+          (sym (data_field p.geometry.room slot STAMP) ∙ here ∙ field) in
+          let long : length v.written ≡ STAMP = let is = one.1 in omega arith in
+          let found : slice_index words (stamp_at p.geometry.room slot) ≡ y =
+          ap (slice_index words) here ∙ word_here s.words a y inside in
+          let push = length-push v.written y in
+          let last : slice_index (v.written ++ y ∷ []) STAMP ≡ y =
+          ap (slice_index (v.written ++ y ∷ [])) (sym long) ∙ last_at v.written y in
+          rw found (inr (
+            (builds ∙ ap owned.ForBuilding (sym one.0), (let low : STAMP < length (v.written ++ y ∷ []) = omega arith in low), last),
+            unshown (stamp long),
+          ))
+      | inr other ↦ inl (word_else s.words a (stamp_at p.geometry.room slot) y other)
+    ]
+
+    tags : TagStep p.geometry.slots p.geometry.room s.words words r.books r.books s.views id v new
+    tags = record {
+      made = λ m n h. h;
+      apart = r.tags.apart;
+      kept = λ slot word kept.
+          let push = length-push v.written y in
+          inl (
+            kept.0,
+            (let low = kept.1 in omega arith),
+            front_at v.written y STAMP kept.1 ∙ kept.2,
+          );
+      next = next_word;
+      word = λ slot low. stamp_word_of slot;
+      looked = old_tags.looked;
+      glimpse = old_tags.glimpse;
+    }
+
     pub write_holds : Holds fits p record { words = words; homes = s.homes; views = views }
     write_holds = record {
       world = r.world;
@@ -231,22 +306,25 @@ module _ {T : Type 0} (fits : T → Key → List ℕ → Type 0) (p : Plan T) wh
       };
       turned = word_else s.words a _ y (not_ledger HAND) ∙ r.turned;
       turns = r.turns ∙ hand_kept s.views id v new at refl;
+      tags = tags_step p.geometry.slots p.geometry.room s.words words r.books r.books s.views id v
+          new at tags r.tags;
     }
 
   -- The store of the next data word keeps the rule.
   pub write_step : (count id i a y : ℕ) (me : Held T) → i < p.geometry.slots → is_seated me.0 ≡ true
       → me.0.work.owned ≡ owned.ForBuilding i → length me.0.written < PAYLOAD + p.geometry.room
+      → (length me.0.written ≡ STAMP → IsNextStamp y me.0)
       → a ≡ field_at p.geometry.room i DATA + length me.0.written
       → Acts fits p count id me a (λ n. y) (λ n. writes (step count a y 0 none) me y)
   unfolding write_holds
-  write_step count id i a y me near seated builds room_left address s r homes at low = (
+  write_step count id i a y me near seated builds room_left stamp address s r homes at low = (
     after_write y me.0,
     keeps,
     tt,
     Some (did (events.Write me.0.client) replies.Ok),
     rw address (
-      write_holds s r id i y me.0 at_view seated near builds room_left,
-      ((refl, refl), allowed s r id i y me.0 at_view seated near builds room_left),
+      write_holds s r id i y me.0 at_view seated near builds room_left stamp,
+      ((refl, refl), allowed s r id i y me.0 at_view seated near builds room_left stamp),
     ),
     (refl, refl, refl),
   )

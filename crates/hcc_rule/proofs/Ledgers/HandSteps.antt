@@ -36,6 +36,7 @@ module _ {T : Type 0} (fits : T → Key → List ℕ → Type 0) (p : Plan T) wh
         seated = seated;
         same = view_kept v v.work v.open_places (v.turns + 1) v.seen v.tight;
         written = refl;
+        glimpse = refl;
         turning = inr (refl, ap (λ n. (n + SLOTS_PER_TURN) % 2 ^ 64) found);
         work = refl;
         allowed = turn_gives r.world v.client v.work (law_is fits p s r) client live word found;

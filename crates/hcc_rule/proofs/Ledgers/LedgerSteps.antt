@@ -17,7 +17,7 @@ use Rattle.hcc_core.specs.Lawful.{owner_in, owned_slot, owned_by}
 use Rattle.hcc_core.proofs.Keeps.{follows_lawful}
 use Rattle.hcc_core.proofs.Opening.{is_lawful}
 use Rattle.hcc_rule.specs.declared.key.Key.{Key}
-use Rattle.hcc_rule.specs.declared.layout.TheConstants.{META, DISPLACEMENT, USAGE, OCCUPANCY, STANDING, HAND}
+use Rattle.hcc_rule.specs.declared.layout.TheConstants.{META, DISPLACEMENT, USAGE, OCCUPANCY, STANDING, HAND, STAMP}
 use Rattle.hcc_rule.specs.declared.rule.Plan.{Plan}
 use Rattle.hcc_rule.specs.declared.view.View.{View}
 use Rattle.hcc_rule.specs.Told.{Held}
@@ -33,6 +33,7 @@ use Rattle.hcc_rule.proofs.Parts.SlotSteps.{Shard, after, size_is}
 use Rattle.hcc_rule.proofs.Parts.Touches.{client_is}
 use Rattle.hcc_rule.specs.Acts.{Goes, IsStepBy, did}
 use Rattle.hcc_rule.specs.declared.view.Done.{Done}
+use Rattle.hcc_rule.proofs.Parts.Tags.{quiet, tags_step}
 
 -- a place that is neither a meta word nor a data word
 pub record IsAside (size room a : ℕ) : Type 0 where
@@ -236,6 +237,7 @@ module _ {T : Type 0} (fits : T → Key → List ℕ → Type 0) (p : Plan T) wh
     pub seated : is_seated v ≡ true
     pub same : SameView v new
     pub written : new.written ≡ v.written
+    pub glimpse : new.glimpse ≡ v.glimpse
     pub turning : Turning v new r.world.hand k
     pub work : SameSlotWork v.work new.work
     pub allowed : outcome_of r.world event
@@ -277,6 +279,15 @@ module _ {T : Type 0} (fits : T → Key → List ℕ → Type 0) (p : Plan T) wh
         r.trails at_client m.pays;
     turned = hand_paid size room a y r.world.hand k s.words v.work new.work wide r.turned m.pays;
     turns = hand_set s.views id r.world.hand k v new r.turns m.at_view m.turning;
+    tags =
+        let old = r.tags.each id v m.at_view in
+        tags_step size room s.words (slice_set s.words a y) r.books r.books s.views id v new
+        m.at_view
+        (quiet size room s.words (slice_set s.words a y) r.books r.books s.views id v new old
+        r.tags.apart refl (ap (λ (c : Client). c.owned) m.work) m.written m.same.client m.same.made
+        (λ slot low. word_else s.words a _ y (aside.written slot low STAMP (omega arith)))
+        (rw (ap (λ (c : Client). c.looked) m.work) old.looked)
+        (rw m.glimpse old.glimpse)) r.tags;
   }
     where
       room : ℕ

@@ -89,6 +89,7 @@ module _ {T : Type 0} (fits : T → Key → List ℕ → Type 0) (p : Plan T) wh
         seated = seated;
         same = view_kept me.0 left asked me.0.turns seen tight;
         written = refl;
+        glimpse = refl;
         turning = inl (refl, refl);
         work = work;
         allowed = allowed;

@@ -1,8 +1,9 @@
 -- A step on a meta word that changes who owns a slot with no entry.
-use Rattle.std.proofs.Common.{◌≡◌, ℕ, true, List, [], Some, None, Ok, length, slice_get, slice_set, sym, refl, ap, ◌∙◌, arith}
+use Rattle.std.proofs.Common.{◌≡◌, ℕ, true, List, [], Some, None, Ok, length, slice_get, slice_set, sym, refl, ap, ◌∙◌, arith, inl}
 use Rattle.hcc_core.specs.declared.event.Event.{Event}
 use Rattle.hcc_core.specs.declared.event.Reply.{Reply}
 use Rattle.hcc_core.specs.declared.client.Client.{Client}
+use Rattle.hcc_core.specs.declared.client.Owned.TheVariants as owned
 use Rattle.hcc_core.specs.declared.slot.Reference.{Reference}
 use Rattle.hcc_core.specs.declared.slot.Slot.{Slot}
 use Rattle.hcc_core.specs.declared.slot.Slot.TheVariants as slots
@@ -19,7 +20,10 @@ use Rattle.hcc_rule.specs.Rule.{entry_by, IsRecorded, IsTrailed, Holds}
 use Rattle.hcc_rule.proofs.Basics.Lists.{each_map}
 use Rattle.hcc_rule.proofs.Parts.ViewParts.{recorded_kept}
 use Rattle.hcc_rule.proofs.Parts.SlotSteps.{Shard, SameName, SlotStep}
-use Rattle.hcc_rule.proofs.Parts.Touches.{client_is, live_is, stamps_are, was_right}
+use Rattle.hcc_rule.proofs.Parts.Tags.{stamp_kept}
+use Rattle.hcc_rule.proofs.Parts.Touches.{client_is, live_is, stamps_are, was_right, book_is}
+use Rattle.hcc_core.proofs.ListLemmas.{set_same}
+use Rattle.hcc_rule.specs.Words.{code_of}
 
 -- a slot with no entry has no references, no trail, no charge and no place
 pub record IsBare (t : Slot) : Type 0 where
@@ -64,6 +68,7 @@ module _ {T : Type 0} (fits : T → Key → List ℕ → Type 0) (p : Plan T) wh
     pub allowed : outcome_of r.world event ≡ Ok (reply, with_both r.world i left v.client new.work)
     pub bare : entry_by t ≡ None
     pub left_bare : entry_by left ≡ None
+    pub free : (slot : ℕ) → v.work.owned ≡ owned.ForBuilding slot → ⊥
 
   pub owned_step : (s : Shard fits p) (r : Holds fits p s) (id i : ℕ) (v new : View T)
       (t left : Slot) (event : Event) (reply : Reply)
@@ -130,10 +135,27 @@ module _ {T : Type 0} (fits : T → Key → List ℕ → Type 0) (p : Plan T) wh
         ap (λ (c : Client). times j c.trail) m.work in
         omega arith;
     trailed = trailed_bare p.geometry.slots i left m.left_bare;
+    tags =
+        let old = r.tags.each id v m.at_view in
+        record {
+          made = λ stamp made h. rw books_same h;
+          apart = λ c. rw books_same (r.tags.apart c);
+          kept = λ slot word builds. absurd (m.free slot builds.0);
+          next = λ slot word builds.
+              let none : length new.written ≡ 0 = ap length m.store.written in
+              absurd (let some = builds.1 in omega arith);
+          word = λ slot low. inl (stamp_kept p.geometry.room i (code_of left) s.words slot);
+          looked = rw (ap (λ (c : Client). c.looked) m.work) old.looked;
+          glimpse = rw m.same.glimpse old.glimpse;
+        };
   }
     where
       before : IsBare t
       before = is_bare t m.bare
+
+      books_same : slice_set r.books v.client new.made ≡ r.books
+      books_same = rw m.store.made
+          (set_same r.books v.client v.made (book_is fits p s r id v m.at_view m.seated))
 
       later : IsBare left
       later = is_bare left m.left_bare

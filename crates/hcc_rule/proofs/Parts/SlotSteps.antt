@@ -27,6 +27,7 @@ use Rattle.hcc_rule.specs.Acts.{Becomes, IsStepBy, did}
 use Rattle.hcc_rule.proofs.Basics.Lists.{within, word_else}
 use Rattle.hcc_rule.proofs.Parts.Addresses.{fields_apart, ledger_apart, meta_away}
 use Rattle.hcc_rule.proofs.Parts.WordParts.{AreShort, coded_meta, made_short, stored_words, stored_set, stored_books, drafted_set, draft_meta}
+use Rattle.hcc_rule.proofs.Parts.Tags.{TagStep, tags_step}
 use Rattle.hcc_rule.proofs.Parts.ViewParts.{references_set, holding_set, seats_set}
 use Rattle.hcc_rule.proofs.Parts.WorldParts.{made_grows, stamps_set, ledgers_kept, hand_kept, trails_kept}
 
@@ -40,6 +41,7 @@ module _ {T : Type 0} (fits : T → Key → List ℕ → Type 0) (p : Plan T) wh
     pub client : new.client ≡ v.client
     pub others : new.others ≡ v.others
     pub turns : new.turns ≡ v.turns
+    pub glimpse : new.glimpse ≡ v.glimpse
 
   -- What a step on the meta word of slot i owes, part by part.
   pub record SlotStep (s : Shard) (r : Holds fits p s) (id i : ℕ) (v new : View T) (t left : Slot)
@@ -73,6 +75,9 @@ module _ {T : Type 0} (fits : T → Key → List ℕ → Type 0) (p : Plan T) wh
     pub passed : (j : ℕ) → times j (trail_of left) + times j new.work.trail
         ≡ times j (trail_of t) + times j v.work.trail
     pub trailed : IsTrailed p.geometry.slots i left
+    pub tags : TagStep p.geometry.slots p.geometry.room s.words
+        (slice_set s.words (field_at p.geometry.room i META) (code_of left)) r.books
+        (slice_set r.books v.client new.made) s.views id v new
 
   -- how many slots the world has
   pub size_is : (s : Shard) (r : Holds fits p s) → length r.world.slots ≡ p.geometry.slots
@@ -126,6 +131,8 @@ module _ {T : Type 0} (fits : T → Key → List ℕ → Type 0) (p : Plan T) wh
     turned = word_else s.words a (ledger_at size room HAND) y
         (λ e. ledger_apart size room i META HAND low (omega arith) (sym e)) ∙ r.turned;
     turns = r.turns ∙ hand_kept s.views id v new m.at_view m.same.turns;
+    tags = tags_step size room s.words (slice_set s.words a y) r.books books s.views id v new
+        m.at_view m.tags r.tags;
   }
     where
       room : ℕ

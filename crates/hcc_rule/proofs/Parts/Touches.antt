@@ -1,5 +1,5 @@
 -- A step on a meta word that moves no entry and leaves what is in hand but looks and dead stamps.
-use Rattle.std.proofs.Common.{◌≡◌, ℕ, ◌+◌, ◌≢◌, true, List, [], Option, Some, None, Ok, is_some, length, slice_get, slice_index, slice_set, sym, refl, ap, ◌∙◌, arith}
+use Rattle.std.proofs.Common.{◌≡◌, ◌⊎◌, inl, inr, IfSome, ℕ, ◌+◌, ◌<◌, ◌≢◌, true, List, [], Option, Some, None, Ok, is_some, length, slice_get, slice_index, slice_set, sym, refl, ap, ◌∙◌, arith}
 use Rattle.std.specs.Option.{unwrap_or}
 use Rattle.atomic_table.specs.Table.{keeps}
 use Rattle.hcc_core.specs.declared.event.Event.{Event}
@@ -23,10 +23,11 @@ use Rattle.hcc_rule.specs.declared.view.View.{View}
 use Rattle.hcc_rule.specs.Told.{Held}
 use Rattle.hcc_rule.specs.Views.{is_seated, held}
 use Rattle.hcc_rule.specs.Words.{field_at, code_of}
-use Rattle.hcc_rule.specs.Rule.{entry_by, entry_in, IsRecorded, IsHolding, IsTrailed, Holds, IsRight}
+use Rattle.hcc_rule.specs.Rule.{entry_by, entry_in, stamp_at, IsRecorded, IsHolding, IsTag, IsTagged, IsTrailed, Holds, IsRight, WasShown}
 use Rattle.hcc_rule.proofs.Basics.Lists.{each_map}
 use Rattle.hcc_rule.proofs.Parts.ViewParts.{recorded_kept}
-use Rattle.hcc_rule.proofs.Parts.SlotSteps.{Shard, SameName, SlotStep, slot_becomes}
+use Rattle.hcc_rule.proofs.Parts.SlotSteps.{Shard, SameName, SlotStep, near, slot_becomes}
+use Rattle.hcc_rule.proofs.Parts.Tags.{entry_tag, if_map, quiet, stamp_kept}
 use Rattle.hcc_rule.specs.Acts.{Goes, IsStepBy, did}
 use Rattle.hcc_rule.specs.declared.view.Done.{Done}
 
@@ -76,6 +77,12 @@ trailed_alike size i (slots.Shareable r) (slots.Shareable q) like h =
     let same : q.entry ≡ r.entry = cc in
     rw (same, like.trail) h
 
+-- a client that looks where it looked
+pub looks_still : (i : ℕ) (t : Slot) (looked : Option ℕ)
+    → IfSome looked (λ slot. (looked ≡ Some slot) ⊎ ((slot ≡ i) × (is_some (entry_by t) ≡ true)))
+looks_still i t None = tt
+looks_still i t (Some slot) = inl refl
+
 -- of what is in hand, the look and the dead list may differ
 abbrev pub SameWork : Client → Client → Type 0
 SameWork old new = new ≡ record old { looked = new.looked; dead = new.dead }
@@ -102,6 +109,9 @@ module _ {T : Type 0} (fits : T → Key → List ℕ → Type 0) (p : Plan T) wh
         ≡ total h (references_of t) + held i h new
     pub elsewhere : (j : ℕ) (h : Reference → ℕ) → j ≢ i → held j h new ≡ held j h v
     pub holding : IsHolding r.world.slots new
+    -- it looks where it looked before, or at this slot where an entry stands there
+    pub looked : IfSome new.work.looked (λ slot. (v.work.looked ≡ Some slot)
+        ⊎ ((slot ≡ i) × (is_some (entry_by t) ≡ true)))
 
   module _ (s : Shard fits p) (r : Holds fits p s) (id : ℕ) (v : View T)
       (at : slice_get s.views id ≡ Some v) (seated : is_seated v ≡ true) where
@@ -185,6 +195,13 @@ module _ {T : Type 0} (fits : T → Key → List ℕ → Type 0) (p : Plan T) wh
         ap (λ (c : Client). times j c.trail) m.work in
         omega arith;
     trailed = trailed_alike p.geometry.slots i t left m.like (r.trails.entries i t m.at_slot);
+    tags = quiet p.geometry.slots p.geometry.room s.words _ r.books _ s.views id v new old_tags
+        r.tags.apart
+        (rw m.store.made (set_same r.books v.client v.made (book_is s r id v m.at_view m.seated)))
+        (ap (λ (c : Client). c.owned) m.work) m.store.written m.same.client m.store.made
+        (λ slot low. stamp_kept p.geometry.room i (code_of left) s.words slot)
+        (if_map new.work.looked (λ slot. looks slot) m.looked)
+        (rw m.same.glimpse old_tags.glimpse);
   }
     where
       client : slice_get r.world.clients v.client ≡ Some v.work
@@ -193,6 +210,25 @@ module _ {T : Type 0} (fits : T → Key → List ℕ → Type 0) (p : Plan T) wh
       kept : (k : Record) → IsRecorded r.world.slots k
           → IsRecorded (slice_set r.world.slots i left) k
       kept = recorded_kept r.world.slots i t left m.at_slot m.like.entry
+
+      old_tags : IsTagged p.geometry.slots p.geometry.room s.words r.books s.views v
+      old_tags = r.tags.each id v m.at_view
+
+      -- where an entry stands, its stamp word does
+      looks : (slot : ℕ)
+          → (v.work.looked ≡ Some slot) ⊎ ((slot ≡ i) × (is_some (entry_by t) ≡ true))
+          → (slot < p.geometry.slots) × IsTag r.books s.views slot
+          (slice_index s.words (stamp_at p.geometry.room slot))
+      looks slot (inl before) = rw before at old_tags.looked
+      looks slot (inr (here, some)) =
+          rw here (near fits p s r i t m.at_slot, inl (stands (entry_by t) refl some))
+        where
+          stands : (o : Option Entry) → entry_by t ≡ o → is_some o ≡ true
+              → WasShown r.books (slice_index s.words (stamp_at p.geometry.room i))
+          stands None is some = cc
+          stands (Some entry) is some =
+              entry_tag p.geometry.room s.words r.books i entry
+              (r.stored i entry (ap entry_in m.at_slot ∙ is))
 
   pub goes : (s : Shard fits p) (r : Holds fits p s) (a y id i : ℕ) (me : Held T) (new : View T)
       (t left : Slot) (event : Event) (reply : Reply) (then : ℕ → Held T → Option Done → Type 0)

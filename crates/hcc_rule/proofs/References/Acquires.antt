@@ -183,7 +183,7 @@ module _ {T : Type 0} (fits : T → Key → List ℕ → Type 0) (p : Plan T) wh
           at_view = o.at_view;
           at_slot = o.at_slot;
           seated = o.seated;
-          same = record { tag = refl; client = refl; others = refl; turns = refl };
+          same = record { tag = refl; client = refl; others = refl; turns = refl; glimpse = refl };
           work = refl;
           store = record { written = refl; made = refl; takings = refl };
           allowed = rw left_is (by_client r.world event reply i me.0.client
@@ -195,6 +195,7 @@ module _ {T : Type 0} (fits : T → Key → List ℕ → Type 0) (p : Plan T) wh
           elsewhere = λ j h other. refl;
           holding = let old = r.holding id me.0 o.at_view in record
               { recorded = old.recorded; once = old.once; few = old.few };
+          looked = tt;
         }) (
           refl,
           record {
@@ -234,7 +235,7 @@ module _ {T : Type 0} (fits : T → Key → List ℕ → Type 0) (p : Plan T) wh
         at_view = o.at_view;
         at_slot = o.at_slot;
         seated = o.seated;
-        same = record { tag = refl; client = refl; others = refl; turns = refl };
+        same = record { tag = refl; client = refl; others = refl; turns = refl; glimpse = refl };
         work = refl;
         store = record { written = refl; made = refl; takings = refl };
         allowed = by_client r.world event reply i me.0.client left
@@ -257,6 +258,7 @@ module _ {T : Type 0} (fits : T → Key → List ℕ → Type 0) (p : Plan T) wh
             omega arith;
         holding = holds_more s r id i a n x me t o q new refl refl refl record
             { there = ap entry_in o.at_slot; some = o.some };
+        looked = tt;
       }) (
         refl,
         record {

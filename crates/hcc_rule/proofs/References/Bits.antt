@@ -43,7 +43,7 @@ use Rattle.hcc_rule.proofs.Parts.Codes.{is_near, tells_shown}
 use Rattle.hcc_rule.proofs.References.Looks.{client_fits}
 use Rattle.hcc_rule.proofs.Parts.OnEntries.{OnEntry, on_some, name_held, code_there, dead_there}
 use Rattle.hcc_rule.proofs.Parts.SlotSteps.{Shard, SameName, SlotStep}
-use Rattle.hcc_rule.proofs.Parts.Touches.{by_client, SameWork, SameStore, touched, goes, client_is, live_is}
+use Rattle.hcc_rule.proofs.Parts.Touches.{by_client, SameWork, SameStore, touched, goes, client_is, live_is, looks_still}
 use Rattle.hcc_rule.specs.Acts.{Acts, Goes, did}
 use Rattle.hcc_rule.specs.declared.view.Done.{Done}
 use Rattle.hcc_rule.specs.Events.{hide_done}
@@ -84,6 +84,7 @@ module _ {T : Type 0} (fits : T → Key → List ℕ → Type 0) (p : Plan T) wh
       → slice_get s.views id ≡ Some v → slice_get r.world.slots i ≡ Some (slots.Shareable k)
       → is_seated v ≡ true
       → SameName fits p v new → SameWork v.work new.work → SameStore v new → new.records ≡ v.records
+      → new.work.looked ≡ v.work.looked
       → left.entry ≡ k.entry → left.trail ≡ k.trail → left.references ≡ k.references
       → outcome_of r.world event ≡ Ok (
         reply,
@@ -91,8 +92,8 @@ module _ {T : Type 0} (fits : T → Key → List ℕ → Type 0) (p : Plan T) wh
             new.work,
       )
       → SlotStep fits p s r id i v new (slots.Shareable k) (slots.Shareable left) event reply
-  rested s r id i v new k left event reply at at_slot seated same work store records entry trail
-      refs allowed =
+  rested s r id i v new k left event reply at at_slot seated same work store records looked entry
+      trail refs allowed =
       touched fits p s r id i v new (slots.Shareable k) (slots.Shareable left) event reply record {
         at_view = at;
         at_slot = at_slot;
@@ -109,6 +110,7 @@ module _ {T : Type 0} (fits : T → Key → List ℕ → Type 0) (p : Plan T) wh
           once = λ name. rw records (old.once name);
           few = rw records old.few;
         };
+        looked = rw looked (looks_still i (slots.Shareable k) v.work.looked);
       }
 
   -- The entry is hidden, and the client has seen it dead.
@@ -124,8 +126,8 @@ module _ {T : Type 0} (fits : T → Key → List ℕ → Type 0) (p : Plan T) wh
       (refl, refl)
       (rested s r id i me.0 new k (record k { shown = false }) event reply o.at_view o.at_slot
       o.seated
-      record { tag = refl; client = refl; others = refl; turns = refl } refl record
-      { written = refl; made = refl; takings = refl } refl refl refl refl
+      record { tag = refl; client = refl; others = refl; turns = refl; glimpse = refl } refl record
+      { written = refl; made = refl; takings = refl } refl refl refl refl refl
       (by_client r.world event reply i me.0.client left (client_noticed me.0.client left me.0.work)
       new.work becomes
       (hide_allowed r.world me.0.client x i me.0.work t l small holds o.at_slot
@@ -214,8 +216,8 @@ module _ {T : Type 0} (fits : T → Key → List ℕ → Type 0) (p : Plan T) wh
       (refl, refl)
       (rested s r id i me.0 new k (record k { hit = true }) event replies.Ok o.at_view o.at_slot
       o.seated
-      record { tag = refl; client = refl; others = refl; turns = refl } refl record
-      { written = refl; made = refl; takings = refl } refl refl refl refl
+      record { tag = refl; client = refl; others = refl; turns = refl; glimpse = refl } refl record
+      { written = refl; made = refl; takings = refl } refl refl refl refl refl
       (by_client r.world event replies.Ok i me.0.client left
       (client_noticed me.0.client t me.0.work) new.work becomes
       (mark_allowed r.world me.0.client x i me.0.work t l small

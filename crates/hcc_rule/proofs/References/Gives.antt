@@ -40,7 +40,7 @@ use Rattle.hcc_rule.proofs.Basics.Findings.{dropped_each}
 use Rattle.hcc_rule.proofs.References.Looks.{client_fits}
 use Rattle.hcc_rule.proofs.Parts.OnEntries.{OnEntry, on_some, name_held, reference_there, code_there, dead_there}
 use Rattle.hcc_rule.proofs.Parts.SlotSteps.{Shard}
-use Rattle.hcc_rule.proofs.Parts.Touches.{by_client, touched, goes, client_is, live_is}
+use Rattle.hcc_rule.proofs.Parts.Touches.{by_client, touched, goes, client_is, live_is, looks_still}
 use Rattle.hcc_rule.specs.Acts.{Acts, Goes}
 use Rattle.hcc_rule.specs.declared.view.Done.{Done}
 use Rattle.hcc_rule.specs.Events.{left_in, phase_in, give_done}
@@ -164,7 +164,7 @@ module _ {T : Type 0} (fits : T → Key → List ℕ → Type 0) (p : Plan T) wh
         at_view = o.at_view;
         at_slot = o.at_slot;
         seated = o.seated;
-        same = record { tag = refl; client = refl; others = refl; turns = refl };
+        same = record { tag = refl; client = refl; others = refl; turns = refl; glimpse = refl };
         work = refl;
         store = record { written = refl; made = refl; takings = refl };
         allowed = by_client r.world event reply i me.0.client left
@@ -178,6 +178,7 @@ module _ {T : Type 0} (fits : T → Key → List ℕ → Type 0) (p : Plan T) wh
             refl refl;
         elsewhere = loses_no_other s r id i x me.0 q k o new refl refl;
         holding = holds_less s r id i x me.0 q k o new refl;
+        looked = looks_still i (slots.Shareable k) me.0.work.looked;
       })
       (rw answered (told (rw (← weighs) (references_told s r id i x me.0 q k o word word_is))))
     where

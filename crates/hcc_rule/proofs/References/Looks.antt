@@ -1,5 +1,5 @@
 -- A load of a meta word: the client looks at the slot.
-use Rattle.std.proofs.Common.{◌≡◌, ℕ, ◌^◌, ◌<◌, ◌≤◌, true, List, Some, Ok, length, slice_get, slice_index, refl, ap, ◌∙◌, arith, Bool, false, ◌||◌, Option, None, [], ◌∷◌, sym, option_map}
+use Rattle.std.proofs.Common.{◌≡◌, ◌⊎◌, inl, inr, IfSome, cond, is_some, ℕ, ◌^◌, ◌<◌, ◌≤◌, true, List, Some, Ok, length, slice_get, slice_index, refl, ap, ◌∙◌, arith, Bool, false, ◌||◌, Option, None, [], ◌∷◌, sym, option_map}
 use Rattle.std.proofs.lemmas.Bool.{lt-ltb, eqb-true, eq-eqb}
 use mathlib.Core.Option.{none}
 use Rattle.atomic_table.specs.Table.{step}
@@ -9,7 +9,7 @@ use Rattle.hcc_core.specs.declared.event.Reply.{Reply}
 use Rattle.hcc_core.specs.declared.event.Reply.TheVariants as replies
 use Rattle.hcc_core.specs.declared.client.Client.{Client}
 use Rattle.hcc_core.specs.declared.slot.Slot.{Slot}
-use Rattle.hcc_core.specs.World.{State, phase_of, weight, references_of}
+use Rattle.hcc_core.specs.World.{State, is_shareable as is_entry, phase_of, weight, references_of}
 use Rattle.hcc_core.specs.Outcomes.{with_both}
 use Rattle.hcc_core.specs.References.{client_looked}
 use Rattle.hcc_core.specs.Steps.{outcome_of, fits as in_bits}
@@ -30,7 +30,7 @@ use Rattle.hcc_core.proofs.SumLemmas.{total-member}
 use Rattle.hcc_rule.specs.Views.{is_seated, held, Each, is_on}
 use Rattle.hcc_rule.specs.Records.{weight_on, stamp_on}
 use Rattle.hcc_rule.specs.Words.{field_at, code_of}
-use Rattle.hcc_rule.specs.Rule.{Holds, entry_in, IsRecorded, setup_of}
+use Rattle.hcc_rule.specs.Rule.{Holds, entry_by, entry_in, IsRecorded, setup_of}
 use Rattle.hcc_rule.proofs.Basics.Lists.{within, there, read_at, each_map}
 use Rattle.hcc_rule.proofs.Parts.Codes.{tells_entry, tells_phase, is_near}
 use Rattle.hcc_rule.proofs.Parts.Clients.{dead_told}
@@ -77,6 +77,24 @@ or_later : (a b : Bool) → b ≡ true → (a || b) ≡ true
 or_later true b is = refl
 or_later false b is = is
 
+-- a look that found an entry's word found an entry
+pub looks_there : {T : Type 0} (w : State) (l : Lawful w) (i : ℕ) (t : Slot) (word : ℕ)
+    (v : View T)
+    → slice_get w.slots i ≡ Some t → word ≡ code_of t
+    → IfSome (after_look i word v).work.looked (λ slot. (v.work.looked ≡ Some slot)
+    ⊎ ((slot ≡ i) × (is_some (entry_by t) ≡ true)))
+looks_there w l i t word v at_slot word_is =
+    let told = tells_entry w l i t at_slot in
+    by t (is_shareable word) (ap is_shareable word_is ∙ told)
+  where
+    by : (t : Slot) (b : Bool) → b ≡ is_entry t
+        → IfSome (cond b (Some i) None) (λ slot. (v.work.looked ≡ Some slot)
+        ⊎ ((slot ≡ i) × (is_some (entry_by t) ≡ true)))
+    by (slots.Empty strays) true is = cc
+    by (slots.Building client strays) true is = cc
+    by (slots.Shareable k) true is = inr (refl, refl)
+    by t false is = tt
+
 -- where all records of a slot are on one entry, the first that is found tells its stamp
 stamp_found : (i : ℕ) (e : Entry) (rs : List Record)
     → Each (λ q. q.slot ≡ i → Some e ≡ Some q.entry) rs
@@ -119,7 +137,7 @@ module _ {T : Type 0} (fits : T → Key → List ℕ → Type 0) (p : Plan T) wh
         at_view = at;
         at_slot = at_slot;
         seated = seated;
-        same = record { tag = refl; client = refl; others = refl; turns = refl };
+        same = record { tag = refl; client = refl; others = refl; turns = refl; glimpse = refl };
         work = refl;
         store = record { written = refl; made = refl; takings = refl };
         allowed = by_client r.world event reply i me.0.client t
@@ -131,6 +149,7 @@ module _ {T : Type 0} (fits : T → Key → List ℕ → Type 0) (p : Plan T) wh
         elsewhere = λ j h other. refl;
         holding = let old = r.holding id me.0 at in record
             { recorded = old.recorded; once = old.once; few = old.few };
+        looked = looks_there r.world l i t word me.0 at_slot word_is;
       })
       told
     where

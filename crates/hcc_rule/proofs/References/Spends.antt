@@ -39,7 +39,7 @@ use Rattle.hcc_rule.proofs.References.Looks.{client_fits}
 use Rattle.hcc_rule.proofs.Parts.OnEntries.{OnEntry, on_some, name_held, reference_there, code_there, dead_there}
 use Rattle.hcc_rule.proofs.References.Gives.{loses, loses_no_other, holds_less, weighs_less, references_told, left_told}
 use Rattle.hcc_rule.proofs.Parts.SlotSteps.{Shard}
-use Rattle.hcc_rule.proofs.Parts.Touches.{by_client, touched, goes, client_is, live_is}
+use Rattle.hcc_rule.proofs.Parts.Touches.{by_client, touched, goes, client_is, live_is, looks_still}
 use Rattle.hcc_rule.specs.Acts.{Acts, Goes}
 use Rattle.hcc_rule.specs.declared.view.Done.{Done}
 use Rattle.hcc_rule.specs.Events.{left_in, spend_done}
@@ -78,7 +78,7 @@ module _ {T : Type 0} (fits : T → Key → List ℕ → Type 0) (p : Plan T) wh
         at_view = o.at_view;
         at_slot = o.at_slot;
         seated = o.seated;
-        same = record { tag = refl; client = refl; others = refl; turns = refl };
+        same = record { tag = refl; client = refl; others = refl; turns = refl; glimpse = refl };
         work = refl;
         store = record { written = refl; made = refl; takings = refl };
         allowed = by_client r.world event reply i me.0.client left
@@ -92,6 +92,7 @@ module _ {T : Type 0} (fits : T → Key → List ℕ → Type 0) (p : Plan T) wh
             new refl refl refl;
         elsewhere = loses_no_other fits p s r id i x me.0 q k o new refl refl;
         holding = holds_less fits p s r id i x me.0 q k o new refl;
+        looked = looks_still i (slots.Shareable k) me.0.work.looked;
       })
       (rw answered
       (told (rw (← weighs) (references_told fits p s r id i x me.0 q k o word word_is))))

@@ -1,12 +1,13 @@
 -- Two seats are joined: the second one's client ends, and the first one may start it again.
-use Rattle.std.proofs.Common.{◌≡◌, ℕ, suc, ◌+◌, ◌≢◌, inl, inr, ◌==◌, ◌&&◌, not, Bool, true, false, nat_lt, List, [], ◌∷◌, ◌++◌, Some, None, Ok, is_some, length, slice_get, slice_set, sym, refl, ap, ◌∙◌, arith}
+use Rattle.std.proofs.Common.{◌≡◌, ℕ, suc, ◌+◌, ◌≢◌, inl, inr, ◌==◌, ◌&&◌, not, Bool, true, false, nat_lt, List, [], ◌∷◌, ◌++◌, Some, None, Ok, is_some, length, slice_get, slice_set, sym, refl, ap, ◌∙◌, arith, subst, ◌⊎◌}
 use Rattle.std.specs.Option.{unwrap_or}
 use Rattle.std.specs.List.{list_any}
-use Rattle.std.proofs.lemmas.Bool.{eq-eqb}
+use Rattle.std.proofs.lemmas.Bool.{eq-eqb, cases_eq}
 use Rattle.std.proofs.lemmas.List.{length-set, length-append}
 use Rattle.hcc_core.specs.declared.event.Event.TheVariants as events
 use Rattle.hcc_core.specs.declared.event.Reply.TheVariants as replies
 use Rattle.hcc_core.specs.declared.client.Client.{Client}
+use Rattle.hcc_core.specs.declared.client.Owned.TheVariants as owned
 use Rattle.hcc_core.specs.declared.slot.Slot.{Slot}
 use Rattle.hcc_core.specs.Sums.{when, total}
 use Rattle.hcc_core.specs.World.{State, charged_to, occupied_by, standing_of, times, references_of, has_client}
@@ -23,7 +24,7 @@ use Rattle.hcc_rule.specs.declared.rule.Plan.{Plan}
 use Rattle.hcc_rule.specs.declared.view.Other.{Other}
 use Rattle.hcc_rule.specs.declared.view.View.{View}
 use Rattle.hcc_rule.specs.Views.{is_seated, held, names, named_by, Each}
-use Rattle.hcc_rule.specs.Rule.{book_of, IsDraft, IsHolding, IsNamed, IsSeated, Seats, Stamps, IsModest, Ledgers, Trails, resting, Holds}
+use Rattle.hcc_rule.specs.Rule.{book_of, IsDraft, IsHolding, IsNamed, IsSeated, Seats, Stamps, IsModest, Ledgers, Trails, resting, Holds, IsBuildingAs, IsTagged}
 use Rattle.hcc_rule.specs.Acts.{did}
 use Rattle.hcc_rule.specs.Passing.{IsIdle, as_other, joined_view, spent_view}
 use Rattle.hcc_rule.proofs.Seats.Passes.{Passed, JoinsBy}
@@ -35,6 +36,7 @@ use Rattle.hcc_rule.proofs.References.Looks.{client_fits}
 use Rattle.hcc_rule.proofs.Seats.Splits.{total_started}
 use Rattle.hcc_rule.proofs.Parts.SlotSteps.{Shard}
 use Rattle.hcc_rule.proofs.Parts.Touches.{stamps_are}
+use Rattle.hcc_rule.proofs.Parts.Tags.{tagged_carried, tagged_none}
 
 -- no member passes where none of them does
 none_passes : {A : Type 0} (p : A → Bool) (xs : List A)
@@ -287,6 +289,43 @@ module _ {T : Type 0} (fits : T → Key → List ℕ → Type 0) (p : Plan T) wh
       entries = r.trails.entries;
     }
 
+    -- who builds goes on to, and the second's client builds nothing
+    carry : (j : ℕ) (u : View T) → slice_get s.views j ≡ Some u → (slot word : ℕ)
+        → IsBuildingAs slot word u
+        → (k : ℕ) × (o : View T) × (slice_get views k ≡ Some o) × IsBuildingAs slot word o
+    carry j u at_u slot word builds = elim (cases_eq j other) [
+      | inl second ↦
+          let two : Some w ≡ Some u = sym there ∙ (ap (slice_get s.views) (sym second) ∙ at_u) in
+          let is : u ≡ w = cc in
+          let owns : u.work.owned ≡ owned.Nothing =
+          ap (λ (z : View T). z.work.owned) is ∙ ap (λ (c : Client). c.owned) idle in
+          let bad : owned.Nothing ≡ owned.ForBuilding slot = sym owns ∙ builds.0 in cc
+      | inr else ↦ elim (cases_eq j id) [
+        | inl same ↦
+            let two : Some v ≡ Some u = sym at ∙ (ap (slice_get s.views) (sym same) ∙ at_u) in
+            let is : u ≡ v = cc in (
+              id,
+              both,
+              read_other (slice_set s.views id both) other id spent (λ e. apart (sym e))
+                  ∙ read_here s.views id v both at,
+              subst (IsBuildingAs slot word) is builds,
+            )
+        | inr away ↦ (
+          j,
+          u,
+          read_other (slice_set s.views id both) other j spent else
+              ∙ (read_other s.views id j both away ∙ at_u),
+          builds,
+        )
+      ]
+    ]
+
+    still_tagged : (u o : View T) → o.work ≡ u.work → o.written ≡ u.written → o.client ≡ u.client
+        → o.made ≡ u.made → o.glimpse ≡ u.glimpse
+        → IsTagged p.geometry.slots p.geometry.room s.words r.books s.views u
+        → IsTagged p.geometry.slots p.geometry.room s.words r.books views o
+    still_tagged = tagged_carried p.geometry.slots p.geometry.room s.words r.books s.views views carry
+
     pub join_holds : Holds fits p record { words = s.words; homes = s.homes; views = views }
     join_holds = record {
       world = after;
@@ -317,6 +356,13 @@ module _ {T : Type 0} (fits : T → Key → List ℕ → Type 0) (p : Plan T) wh
       turns = r.turns ∙ hand_same s.views views
           (total_joined (λ (u : View T). u.turns) s.views id other v w both spent at still_there
           (omega arith));
+      tags = record {
+        apart = r.tags.apart;
+        each = each_joined (IsTagged p.geometry.slots p.geometry.room s.words r.books views)
+            (still_tagged v both refl refl refl refl refl (r.tags.each id v at))
+            (tagged_none p.geometry.slots p.geometry.room s.words r.books views spent refl refl refl)
+            (λ j u away at_u. still_tagged u u refl refl refl refl refl (r.tags.each j u at_u));
+      };
     }
 
     pub join_passes : Passed fits p r.world (did (events.End w.client) replies.Ok)

@@ -31,7 +31,7 @@ use Rattle.hcc_rule.specs.Images.{entries_in, made_of_entry, made_from, resident
 use Rattle.hcc_rule.specs.ImageLimits.{charges_of, IsImageEntry, IsImageFor}
 use Rattle.hcc_rule.specs.Probes.{probe_slot, probe_slots, before, trail_to}
 use Rattle.hcc_rule.specs.Views.{Each}
-use Rattle.hcc_rule.specs.Rule.{Books, book_of, made_at, entry_by, entry_in, setup_of, IsStored, IsDraft, IsHolding, IsNamed, IsRight, IsSeated, Seats, Stamps, Ledgers, Trails, IsTrailed, IsModest, Holds}
+use Rattle.hcc_rule.specs.Rule.{Books, book_of, made_at, entry_by, entry_in, setup_of, IsStored, IsDraft, IsHolding, IsNamed, IsRight, IsSeated, Seats, Stamps, Ledgers, Trails, IsTrailed, IsModest, Holds, AreApart, IsTagged}
 use Rattle.hcc_rule.specs.Words.{entry_of}
 use Rattle.hcc_rule.specs.Acts.{IsFront}
 use Rattle.hcc_rule.specs.Logs.{HoldsLogged, first_logged}
@@ -42,6 +42,7 @@ use Rattle.hcc_rule.proofs.Basics.Lists.{each_set, within}
 use Rattle.hcc_rule.proofs.Parts.ViewParts.{when_is}
 use Rattle.hcc_rule.proofs.Seats.Histories.{front_all, trails_none}
 use Rattle.hcc_rule.proofs.Images.Fillings.{each_get, made_length, made_get, made_only, filled_length, filled_each, filled_total, read_with}
+use Rattle.hcc_rule.proofs.Parts.Tags.{tagged_none}
 
 -- a list of one member over and over has it at each place
 pub replicate_at : {A : Type 0} (n i : ℕ) (x : A) → i < n → slice_get (replicate n x) i ≡ Some x
@@ -416,6 +417,20 @@ module _ {T : Type 0} (fits : T → Key → List ℕ → Type 0) (p : Plan T) (c
         ap (λ b. slice_get b stamp.number) (sym (book_is stamp.client other)) ∙ listed in cc
   ]
 
+  -- and has its number as its serial
+  first_apart : (c : ℕ) → AreApart (book_of first_books c)
+  first_apart c n m a b at_n at_m same = elim (cases_eq c 0) [
+    | inl mine ↦
+        let book = ap (book_of first_books) mine ∙ book_first in
+        let one = made_only 0 entries n a (ap (λ l. slice_get l n) (sym book) ∙ at_n) in
+        let two = made_only 0 entries m b (ap (λ l. slice_get l m) (sym book) ∙ at_m) in
+        let first = ap (λ (z : Made). z.serial) one.same in
+        let second = ap (λ (z : Made). z.serial) two.same in
+        omega arith
+    | inr other ↦
+        let bad : None ≡ Some a = ap (λ l. slice_get l n) (sym (book_is c other)) ∙ at_n in cc
+  ]
+
   first_stamps : Stamps fits p.tag p.geometry.room first_slots first_clients first_books
       (opening_view p ∷ [])
   first_stamps = record {
@@ -508,6 +523,13 @@ module _ {T : Type 0} (fits : T → Key → List ℕ → Type 0) (p : Plan T) (c
       trails = first_trails;
       turned = begins.hand;
       turns = refl;
+      tags = record {
+        apart = first_apart;
+        each = only (IsTagged Size p.geometry.room words first_books (opening_view p ∷ []))
+            (opening_view p)
+            (tagged_none Size p.geometry.room words first_books (opening_view p ∷ [])
+            (opening_view p) refl refl refl);
+      };
     }
 
     -- So a shard may begin with them: no step was made.

@@ -1,7 +1,7 @@
 -- A seat is split: the new one stands for a client that was named beside the first one's.
-use Rattle.std.proofs.Common.{◌≡◌, ℕ, zero, suc, ◌+◌, ◌≢◌, ◌==◌, ◌&&◌, true, nat_lt, List, [], ◌∷◌, ◌++◌, Some, None, Ok, is_some, length, slice_get, slice_set, sym, refl, ap, ◌∙◌, arith}
+use Rattle.std.proofs.Common.{◌≡◌, ℕ, zero, suc, ◌+◌, ◌≢◌, ◌==◌, ◌&&◌, true, nat_lt, List, [], ◌∷◌, ◌++◌, Some, None, Ok, is_some, length, slice_get, slice_set, sym, refl, ap, ◌∙◌, arith, subst, inl, inr, ◌⊎◌}
 use Rattle.std.specs.Option.{unwrap_or}
-use Rattle.std.proofs.lemmas.Bool.{eq-eqb}
+use Rattle.std.proofs.lemmas.Bool.{eq-eqb, cases_eq}
 use Rattle.std.proofs.lemmas.List.{length-set}
 use Rattle.hcc_core.specs.declared.event.Event.TheVariants as events
 use Rattle.hcc_core.specs.declared.event.Reply.TheVariants as replies
@@ -19,7 +19,7 @@ use Rattle.hcc_rule.specs.declared.rule.Plan.{Plan}
 use Rattle.hcc_rule.specs.declared.view.Other.{Other}
 use Rattle.hcc_rule.specs.declared.view.View.{View}
 use Rattle.hcc_rule.specs.Views.{is_seated, held, names, named_by, Each}
-use Rattle.hcc_rule.specs.Rule.{book_of, IsDraft, IsHolding, IsNamed, IsSeated, Seats, Stamps, IsModest, Ledgers, Trails, resting, Holds}
+use Rattle.hcc_rule.specs.Rule.{book_of, IsDraft, IsHolding, IsNamed, IsSeated, Seats, Stamps, IsModest, Ledgers, Trails, resting, Holds, IsBuildingAs, IsTagged}
 use Rattle.hcc_rule.specs.Opening.{started, fresh_view}
 use Rattle.hcc_rule.specs.Acts.{did}
 use Rattle.hcc_rule.proofs.Seats.Passes.{Passed, SplitsBy}
@@ -28,6 +28,8 @@ use Rattle.hcc_rule.proofs.Parts.ViewParts.{total-two, when_few, when_is, seated
 use Rattle.hcc_rule.proofs.Parts.WorldParts.{hand_same}
 use Rattle.hcc_rule.proofs.References.Looks.{client_fits}
 use Rattle.hcc_rule.proofs.Parts.SlotSteps.{Shard}
+use Rattle.hcc_rule.proofs.Parts.Tags.{tagged_carried, tagged_none}
+use Rattle.hcc_rule.proofs.Entries.ShowParts.{get_front}
 
 -- what holds of each member, and of one more
 pub each_snoc : {A : Type 0} (P : A → Type 0) (xs : List A) (y : A) → P y
@@ -252,6 +254,35 @@ module _ {T : Type 0} (fits : T → Key → List ℕ → Type 0) (p : Plan T) wh
       entries = r.trails.entries;
     }
 
+    -- who builds goes on to
+    carry : (j : ℕ) (u : View T) → slice_get s.views j ≡ Some u → (slot word : ℕ)
+        → IsBuildingAs slot word u
+        → (k : ℕ) × (w : View T) × (slice_get views k ≡ Some w) × IsBuildingAs slot word w
+    carry j u there slot word builds = elim (cases_eq j id) [
+      | inl same ↦
+          let both : Some v ≡ Some u = sym at ∙ (ap (slice_get s.views) (sym same) ∙ there) in
+          let is : u ≡ v = cc in (
+            id,
+            left,
+            get_front (slice_set s.views id left) (right ∷ []) id left
+                (read_here s.views id v left at),
+            subst (IsBuildingAs slot word) is builds,
+          )
+      | inr other ↦ (
+        j,
+        u,
+        get_front (slice_set s.views id left) (right ∷ []) j u
+            (read_other s.views id j left other ∙ there),
+        builds,
+      )
+    ]
+
+    still_tagged : (u w : View T) → w.work ≡ u.work → w.written ≡ u.written → w.client ≡ u.client
+        → w.made ≡ u.made → w.glimpse ≡ u.glimpse
+        → IsTagged p.geometry.slots p.geometry.room s.words r.books s.views u
+        → IsTagged p.geometry.slots p.geometry.room s.words r.books views w
+    still_tagged = tagged_carried p.geometry.slots p.geometry.room s.words r.books s.views views carry
+
     pub split_holds : Holds fits p record { words = s.words; homes = s.homes; views = views }
     split_holds = record {
       world = after;
@@ -281,6 +312,16 @@ module _ {T : Type 0} (fits : T → Key → List ℕ → Type 0) (p : Plan T) wh
       turned = r.turned;
       turns = r.turns ∙ hand_same s.views views
           (total_split (λ (u : View T). u.turns) s.views id v left right at (omega arith));
+      tags = record {
+        apart = r.tags.apart;
+        each = each_snoc (IsTagged p.geometry.slots p.geometry.room s.words r.books views)
+            (slice_set s.views id left) right
+            (tagged_none p.geometry.slots p.geometry.room s.words r.books views right refl refl
+            refl)
+            (each_set (λ j u. IsTagged p.geometry.slots p.geometry.room s.words r.books views u)
+            s.views id left (still_tagged v left refl refl refl refl refl (r.tags.each id v at))
+            (λ j u other there. still_tagged u u refl refl refl refl refl (r.tags.each j u there)));
+      };
     }
 
     pub split_passes : Passed fits p r.world (did (events.Start o.client) replies.Ok)

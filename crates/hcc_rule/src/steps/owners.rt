@@ -3,10 +3,11 @@ ghost use Rattle.std.specs.Prelude.{◌≡◌, ◌+◌, ◌<◌, [], true, lengt
 ghost use Rattle.hcc_word.specs.declared.layout.TheConstants.{EMPTY_WORD, OCCUPIED_BIT};
 ghost use Rattle.hcc_core.specs.declared.client.Owned.TheVariants.{ForBuilding, ForFreeing};
 ghost use Rattle.hcc_core.specs.World.{owns_nothing};
-ghost use Rattle.hcc_rule.specs.declared.layout.TheConstants.{PAYLOAD};
+ghost use Rattle.hcc_rule.specs.declared.layout.TheConstants.{PAYLOAD, STAMP};
 ghost use Rattle.hcc_rule.specs.Callers.{IsEvent, IsSeatAt, IsSlotAt};
 ghost use Rattle.hcc_rule.specs.Addresses.{address_of_data, address_of_meta};
 ghost use Rattle.hcc_rule.specs.Events.{empty_done, occupy_done, write_done};
+ghost use Rattle.hcc_rule.specs.Rule.{IsNextStamp};
 ghost use Rattle.hcc_rule.specs.Seats.{IsSameSeat, Makes, view};
 ghost use Rattle.hcc_rule.specs.Looked.{Backs};
 ghost use Rattle.hcc_rule.specs.ToldOwners.{after_occupy, after_empty, after_write};
@@ -65,13 +66,15 @@ impl<T: Tag, A: Allocator> RuleTable<T, A> {
     /// wrote.
     ///
     /// `index` is how many it wrote, below the five words before the payload and the payload words
-    /// of a slot. It allocates nothing. It costs one atomic store.
+    /// of a slot. The stamp word has a serial above those of all entries that the client showed: so
+    /// no slot has a stamp word twice. It allocates nothing. It costs one atomic store.
     pub fn write_at(&self, seat: &mut RuleSeat<T>, at: SlotAt, index: usize, word: u64)
         requires seat { IsSeatAt self.now seat.old }
         requires at { IsSlotAt self.now at }
         requires owned { (view seat.old).work.owned ≡ ForBuilding at.slot }
         requires next { (index ≡ length (view seat.old).written)
             × (index < PAYLOAD + self.now.geometry.room) }
+        requires stamp { index ≡ STAMP → IsNextStamp word (view seat.old) }
         ensures seat { IsSameSeat seat.old seat.new }
         ensures view { view seat.new ≡ after_write word (view seat.old) }
         ensures step { Makes (address_of_data self.now at.slot index) word 0 word

@@ -1,12 +1,10 @@
 //! Loads of data words.
-ghost use Rattle.std.specs.Prelude.{◌≡◌, ◌+◌, ◌<◌, Option, Some, IfSome, IsSomeAnd, length, slice_index};
-ghost use Rattle.hcc_core.specs.declared.slot.Stamp.{Stamp};
+ghost use Rattle.std.specs.Prelude.{◌≡◌, ◌+◌, ◌<◌, Some, IfSome, IsSomeAnd, length, slice_index};
 ghost use Rattle.hcc_core.specs.Lawful.{owned_slot};
-ghost use Rattle.hcc_core.specs.Runs.{entry_at};
 ghost use Rattle.hcc_rule.specs.declared.layout.TheConstants.{PAYLOAD};
-ghost use Rattle.hcc_rule.specs.Callers.{HasOn, IsEvent, IsNoEvent, IsSeatAt, IsSlotAt, world_at};
+ghost use Rattle.hcc_rule.specs.Callers.{HasOn, IsEvent, IsNoEvent, IsSeatAt, IsSlotAt};
 ghost use Rattle.hcc_rule.specs.Addresses.{address_of_data};
-ghost use Rattle.hcc_rule.specs.Events.{peek_done, read_done};
+ghost use Rattle.hcc_rule.specs.Events.{read_done};
 ghost use Rattle.hcc_rule.specs.Seats.{IsSameSeat, Makes, view};
 ghost use Rattle.hcc_rule.specs.ToldOwners.{IsDataWord, after_read};
 ghost use Rattle.hcc_rule.specs.Records.{record_in};
@@ -37,26 +35,6 @@ impl<T: Tag, A: Allocator> RuleTable<T, A> {
             (λ r. IsEvent self.now (read_done name r.entry (view seat.old)) seat.old seat.new) }
     {
         self.load::<Brand, _>(seat, self.data_address(at, index), (name, index))
-    }
-
-    /// Loads a data word of a slot on which the client may hold no reference. Where an entry stands
-    /// in the slot at that moment, it is that entry's: of the key, the charge, the length and the
-    /// value. Of the word that has the maker's serial nothing is said.
-    ///
-    /// It allocates nothing. It costs one load.
-    pub fn peek_at(&self, seat: &mut RuleSeat<T>, at: SlotAt, index: usize) -> u64
-        requires seat { IsSeatAt self.now seat.old }
-        requires at { IsSlotAt self.now at }
-        requires within { index < PAYLOAD + self.now.geometry.room }
-        ensures seat { IsSameSeat seat.old seat.new }
-        ensures view { view seat.new ≡ view seat.old }
-        ensures word { IfSome (entry_at (world_at self.now seat.new) at.slot)
-            (λ entry. IsDataWord entry index result) }
-        ensures step { Makes (address_of_data self.now at.slot index) 0 0 result seat.old seat.new }
-        ensures event { (stamp : Option Stamp)
-            × IsEvent self.now (peek_done at.slot stamp (view seat.old)) seat.old seat.new }
-    {
-        self.load::<Brand, _>(seat, self.data_address(at, index), at.slot)
     }
 
     /// Loads a data word of the slot that the client owns: one that it wrote, or one of the entry

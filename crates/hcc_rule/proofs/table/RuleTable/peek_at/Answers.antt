@@ -3,7 +3,7 @@ use Rattle.hcc_core.specs.Runs.{entry_at}
 use Rattle.hcc_core.specs.declared.slot.Entry.{Entry}
 use Rattle.hcc_rule.specs.Callers.{plan_of, world_at}
 use Rattle.hcc_rule.specs.ToldOwners.{IsDataWord}
-use Rattle.hcc_rule.proofs.Entries.DataWords.{peek_step}
+use Rattle.hcc_rule.proofs.Entries.Glimpses.{peek_step}
 use Rattle.hcc_rule.proofs.Parts.Addresses.{data_field}
 use Rattle.hcc_rule.proofs.Seats.Histories.{moved}
 use Rattle.hcc_rule.proofs.table.RuleTable.peek_at.Goals as goal

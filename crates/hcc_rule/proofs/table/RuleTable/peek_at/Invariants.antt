@@ -1,4 +1,4 @@
-use Rattle.hcc_rule.specs.ToldOwners.{peeks}
+use Rattle.hcc_rule.specs.ToldGlimpses.{peeks}
 use Rattle.hcc_rule.proofs.table.RuleTable.peek_at.Given as goal
 
 abbrev pub ghosts-load : goal.ghosts-load

@@ -13,7 +13,7 @@ store-requires g c =
       c.data_address.ensures.inside,
       write_step g.T.Tag.fits (plan_of c.args.self.now) _ _ c.args.at.slot _ _ _
           (rw planned.0 c.requires.at.0) (ap is_some seat.tagged) c.requires.owned
-          (rw (planned.0, ← next.0) next.1)
+          (rw (planned.0, ← next.0) next.1) (λ is. c.requires.stamp (next.0 ∙ is))
           (rw (planned.0, ← next.0) (c.data_address.ensures.value
           ∙ sym (data_field _ c.args.at.slot c.args.index))),
     )
