@@ -1,7 +1,7 @@
 -- The exchange to construction: an entry with no reference but the client's last one is taken.
 use Rattle.std.proofs.Common.{◌≡◌, ℕ, ◌+◌, ◌^◌, ◌<◌, ◌≤◌, ◌≢◌, ◌==◌, Bool, true, false, cond, List, [], ◌∷◌, Option, Some, None, IfSome, IsSomeAnd, Ok, slice_get, slice_index, slice_set, sym, refl, ap, ◌∙◌, arith, ◌-◌, inl}
 use Rattle.std.specs.List.{find}
-use Rattle.std.proofs.lemmas.Bool.{eqb-true, eq-eqb}
+use Rattle.std.proofs.lemmas.Bool.{eqb-true, eq-eqb, false≢true}
 use mathlib.Core.Option.{none}
 use prog.Atomic.{either}
 use Rattle.atomic_table.specs.Table.{step}
@@ -314,6 +314,152 @@ module _ {T : Type 0} (fits : T → Key → List ℕ → Type 0) (p : Plan T) wh
             };
       }
 
+  -- The exchange took the slot, or it was a look.
+  module _ (s : Shard fits p) (r : Holds fits p s) (count id i a old : ℕ) (name : Option ℕ)
+      (me : Held T) (at_view : slice_get s.views id ≡ Some me.0) (seated : is_seated me.0 ≡ true)
+      (address : a ≡ field_at p.geometry.room i META) (entry : is_shareable old ≡ true)
+      (last : IsLast i old name me.0) (idle : owns_nothing me.0.work.owned ≡ true)
+      (back : me.0.work.trail ≡ []) (space : me.0.work.freed + 2 ^ 32 ≤ 2 ^ 49) where
+    abbrev word : ℕ
+    word = slice_index s.words a
+
+    abbrev then : ℕ → Held T → Option Done → Type 0
+    then = frees fits p.geometry.slots p.geometry.room i name
+        (step count a old CONSTRUCTION_WORD none) me
+
+    word_is : (t : Slot) → slice_get r.world.slots i ≡ Some t → word ≡ code_of t
+    word_is t at_slot = ap (slice_index s.words) address ∙ r.coded.meta i t at_slot
+
+    named : (o : Option ℕ) → IsLast i old o me.0 → IfSome o (λ x. x < 2 ^ 64)
+    named None h = tt
+    named (Some x) h = h.0
+
+    -- what the slot's references leave, by the name that is given
+    leaving : (k : Resident) → slice_get r.world.slots i ≡ Some (slots.Shareable k)
+        → refs_of old ≡ weight k.references
+        → (o : Option ℕ) → IsLast i old o me.0
+        → Leaves s r i o me.0 k (records_left o me.0.records)
+    leaving k at_slot refs None h = leaves_none s r id i name me.0 k at_view seated at_slot
+        (sym refs ∙ h)
+    leaving k at_slot refs (Some x) h = of_record (record_in x me.0.records) refl h.2
+      where
+        of_record : (o : Option Record) → record_in x me.0.records ≡ o
+            → IsSomeAnd o (λ q. (q.slot ≡ i) × (q.weight ≡ 1))
+            → Leaves s r i (Some x) me.0 k (dropped (is_called x) me.0.records)
+        of_record None called so = absurd so
+        of_record (Some q) called so =
+            let found = on_some fits p s r id i x me.0 q at_view seated called so.0 in
+            let both : Some (slots.Shareable found.0) ≡ Some (slots.Shareable k) =
+            sym found.1.at_slot ∙ at_slot in
+            let one : found.0 ≡ k = cc in
+            leaves_one s r id i (Some x) me.0 k at_view seated at_slot x q
+            (record {
+              at_view = at_view;
+              at_slot = at_slot;
+              seated = seated;
+              called = called;
+              on =
+                  so.0;
+              entry = ap (λ (z : Resident). z.entry) (sym one) ∙ found.1.entry;
+            })
+            so.1 (sym refs ∙ h.1)
+
+    -- the entry on record is the one that is taken
+    same_entry : (k : Resident) → slice_get r.world.slots i ≡ Some (slots.Shareable k)
+        → (e : Entry) → k.entry ≡ e
+        → (o : Option ℕ) → IsLast i old o me.0
+        → IfSome o (λ x. IfSome (record_in x me.0.records) (λ q. q.entry ≡ e))
+    same_entry k at_slot e is None h = tt
+    same_entry k at_slot e is (Some x) h = of_record (record_in x me.0.records) refl h.2
+      where
+        of_record : (o : Option Record) → record_in x me.0.records ≡ o
+            → IsSomeAnd o (λ q. (q.slot ≡ i) × (q.weight ≡ 1))
+            → IfSome o (λ q. q.entry ≡ e)
+        of_record None called so = tt
+        of_record (Some q) called so =
+            let recorded = find_each (is_called x) (IsRecorded r.world.slots) me.0.records q
+            (r.holding id me.0 at_view).recorded called in
+            let here : entry_in (slice_get r.world.slots q.slot) ≡ Some k.entry =
+            ap (λ j. entry_in (slice_get r.world.slots j)) so.0 ∙ ap entry_in at_slot in
+            let both : Some q.entry ≡ Some k.entry = sym recorded.there ∙ here in
+            let one : q.entry ≡ k.entry = cc in
+            one ∙ is
+
+    rightly : (made : Made) → IsRight fits p.tag p.geometry.room made → (o : Option T)
+        → IfSome o (λ t. t ≡ p.tag)
+        → IfSome o (λ t. IsRight fits t p.geometry.room made)
+    rightly made right None h = tt
+    rightly made right (Some t) h = rw h right
+
+    takes_entry : (k : Resident) → slice_get r.world.slots i ≡ Some (slots.Shareable k)
+        → code_of (slots.Shareable k) ≡ old → (word == old) ≡ true
+        → Goes fits p s r a CONSTRUCTION_WORD id me then
+    takes_entry k at_slot same is =
+        goes fits p s r a CONSTRUCTION_WORD id i me
+        (after_free p.geometry.slots i word name k.entry.stamp stored.made me.0)
+        (slots.Shareable k) (slots.Building me.0.client 0)
+        (events.Free me.0.client i name) (replies.Freed k.entry.charge) then address
+        exchange_to_construction (refl, refl)
+        (freed_step s r id i name me.0 k at_view seated at_slot word
+        (leaving k at_slot refs name last) (word_is (slots.Shareable k) at_slot) idle back
+        (named name last) space) (
+          refl,
+          record {
+            won = λ yes. (
+              k.entry.stamp,
+              stored.made,
+              record {
+                right = rightly stored.made (r.stamps.right k.entry.stamp stored.made
+                    stored.listed) me.0.tag (r.seats.each id me.0 at_view).tagged;
+                same = same_entry k at_slot (entry_of k.entry.stamp stored.made) stored.same name
+                    last;
+              },
+              refl,
+            );
+            lost = λ no. let bad : true ≡ false = sym is ∙ no in cc;
+          },
+          ap Some (rw is (ap (λ n. did (events.Free me.0.client i name) (replies.Freed n))
+              charge)),
+        )
+      where
+        stored : IsStored p.geometry.room s.words r.books i k.entry
+        stored = kept s r id i name me.0 k at_view seated at_slot
+
+        refs : refs_of old ≡ weight k.references
+        refs = ap refs_of (sym same) ∙ refs_of-shareable k.hit k.shown
+            (is_near r.world (is_lawful r.world r.lawful) i k at_slot)
+
+        -- what the client has freed more is the entry's charge
+        charge : k.entry.charge ≡ me.0.work.freed + stored.made.charge - me.0.work.freed
+        charge =
+            let is : k.entry.charge ≡ stored.made.charge =
+            ap (λ (e : Entry). e.charge) stored.same in
+            omega arith
+
+    takes : (t : Slot) → slice_get r.world.slots i ≡ Some t → code_of t ≡ old
+        → (word == old) ≡ true → Goes fits p s r a CONSTRUCTION_WORD id me then
+    takes (slots.Empty strays) at_slot same is =
+        absurd (false≢true (sym (tells_entry r.world (is_lawful r.world r.lawful) i
+        (slots.Empty strays) at_slot) ∙ (ap is_shareable same ∙ entry)))
+    takes (slots.Building d strays) at_slot same is =
+        absurd (false≢true (sym (tells_entry r.world (is_lawful r.world r.lawful) i
+        (slots.Building d strays) at_slot) ∙ (ap is_shareable same ∙ entry)))
+    takes (slots.Shareable k) at_slot same is = takes_entry k at_slot same is
+
+    ends : (t : Slot) → slice_get r.world.slots i ≡ Some t → (b : Bool) → (word == old) ≡ b
+        → Goes fits p s r a (either b CONSTRUCTION_WORD word) id me then
+    ends t at_slot true is = takes t at_slot (sym (word_is t at_slot) ∙ eqb-true word old is) is
+    ends t at_slot false is =
+        looks_on fits p s r id i a me t then at_slot seated address at_view (
+          refl,
+          record {
+            won = λ yes. let bad : true ≡ false = sym yes ∙ is in cc;
+            lost =
+                λ no. refl;
+          },
+          ap Some (rw is (look_told fits p s r i a me.0 t at_slot address)),
+        )
+
   -- The exchange keeps the rule, and tells whether it took the slot.
   pub free_step : (count id i a old : ℕ) (name : Option ℕ) (me : Held T) → i < p.geometry.slots
       → is_seated me.0 ≡ true → a ≡ field_at p.geometry.room i META → is_shareable old ≡ true
@@ -325,144 +471,5 @@ module _ {T : Type 0} (fits : T → Key → List ℕ → Type 0) (p : Plan T) wh
   free_step count id i a old name me near seated address entry last idle back space s r homes at
       low =
       let slot = slot_there fits p s r i near in
-      by slot.0 slot.1 (slice_index s.words a == old) refl
-    where
-      word : ℕ
-      word = slice_index s.words a
-
-      then : ℕ → Held T → Option Done → Type 0
-      then = frees fits p.geometry.slots p.geometry.room i name
-          (step count a old CONSTRUCTION_WORD none) me
-
-      at_view : slice_get s.views id ≡ Some me.0
-      at_view = read_at s.views id me.0 at
-
-      word_is : (t : Slot) → slice_get r.world.slots i ≡ Some t → word ≡ code_of t
-      word_is t at_slot = ap (slice_index s.words) address ∙ r.coded.meta i t at_slot
-
-      named : (o : Option ℕ) → IsLast i old o me.0 → IfSome o (λ x. x < 2 ^ 64)
-      named None h = tt
-      named (Some x) h = h.0
-
-      -- what the slot's references leave, by the name that is given
-      leaving : (k : Resident) → slice_get r.world.slots i ≡ Some (slots.Shareable k)
-          → refs_of old ≡ weight k.references
-          → (o : Option ℕ) → IsLast i old o me.0
-          → Leaves s r i o me.0 k (records_left o me.0.records)
-      leaving k at_slot refs None h = leaves_none s r id i name me.0 k at_view seated at_slot
-          (sym refs ∙ h)
-      leaving k at_slot refs (Some x) h = of_record (record_in x me.0.records) refl h.2
-        where
-          of_record : (o : Option Record) → record_in x me.0.records ≡ o
-              → IsSomeAnd o (λ q. (q.slot ≡ i) × (q.weight ≡ 1))
-              → Leaves s r i (Some x) me.0 k (dropped (is_called x) me.0.records)
-          of_record None called so = absurd so
-          of_record (Some q) called so =
-              let found = on_some fits p s r id i x me.0 q at_view seated called so.0 in
-              let both : Some (slots.Shareable found.0) ≡ Some (slots.Shareable k) =
-              sym found.1.at_slot ∙ at_slot in
-              let one : found.0 ≡ k = cc in
-              leaves_one s r id i (Some x) me.0 k at_view seated at_slot x q
-              (record {
-                at_view = at_view;
-                at_slot = at_slot;
-                seated = seated;
-                called = called;
-                on =
-                    so.0;
-                entry = ap (λ (z : Resident). z.entry) (sym one) ∙ found.1.entry;
-              })
-              so.1 (sym refs ∙ h.1)
-
-      -- the entry on record is the one that is taken
-      same_entry : (k : Resident) → slice_get r.world.slots i ≡ Some (slots.Shareable k)
-          → (e : Entry) → k.entry ≡ e
-          → (o : Option ℕ) → IsLast i old o me.0
-          → IfSome o (λ x. IfSome (record_in x me.0.records) (λ q. q.entry ≡ e))
-      same_entry k at_slot e is None h = tt
-      same_entry k at_slot e is (Some x) h = of_record (record_in x me.0.records) refl h.2
-        where
-          of_record : (o : Option Record) → record_in x me.0.records ≡ o
-              → IsSomeAnd o (λ q. (q.slot ≡ i) × (q.weight ≡ 1))
-              → IfSome o (λ q. q.entry ≡ e)
-          of_record None called so = tt
-          of_record (Some q) called so =
-              let recorded = find_each (is_called x) (IsRecorded r.world.slots) me.0.records q
-              (r.holding id me.0 at_view).recorded called in
-              let here : entry_in (slice_get r.world.slots q.slot) ≡ Some k.entry =
-              ap (λ j. entry_in (slice_get r.world.slots j)) so.0 ∙ ap entry_in at_slot in
-              let both : Some q.entry ≡ Some k.entry = sym recorded.there ∙ here in
-              let one : q.entry ≡ k.entry = cc in
-              one ∙ is
-
-      rightly : (made : Made) → IsRight fits p.tag p.geometry.room made → (o : Option T)
-          → IfSome o (λ t. t ≡ p.tag)
-          → IfSome o (λ t. IsRight fits t p.geometry.room made)
-      rightly made right None h = tt
-      rightly made right (Some t) h = rw h right
-
-      takes : (t : Slot) → slice_get r.world.slots i ≡ Some t → code_of t ≡ old
-          → (word == old) ≡ true → Goes fits p s r a CONSTRUCTION_WORD id me then
-      takes (slots.Empty strays) at_slot same is =
-          let bad : false ≡ true = sym (tells_entry r.world (is_lawful r.world r.lawful) i
-          (slots.Empty strays) at_slot) ∙ (ap is_shareable same ∙ entry) in
-          cc
-      takes (slots.Building d strays) at_slot same is =
-          let bad : false ≡ true = sym (tells_entry r.world (is_lawful r.world r.lawful) i
-          (slots.Building d strays) at_slot) ∙ (ap is_shareable same ∙ entry) in
-          cc
-      takes (slots.Shareable k) at_slot same is =
-          goes fits p s r a CONSTRUCTION_WORD id i me
-          (after_free p.geometry.slots i word name k.entry.stamp stored.made me.0)
-          (slots.Shareable k) (slots.Building me.0.client 0)
-          (events.Free me.0.client i name) (replies.Freed k.entry.charge) then address
-          exchange_to_construction (refl, refl)
-          (freed_step s r id i name me.0 k at_view seated at_slot word
-          (leaving k at_slot refs name last) (word_is (slots.Shareable k) at_slot) idle back
-          (named name last) space) (
-            refl,
-            record {
-              won = λ yes. (
-                k.entry.stamp,
-                stored.made,
-                record {
-                  right = rightly stored.made (r.stamps.right k.entry.stamp stored.made
-                      stored.listed) me.0.tag (r.seats.each id me.0 at_view).tagged;
-                  same = same_entry k at_slot (entry_of k.entry.stamp stored.made) stored.same name
-                      last;
-                },
-                refl,
-              );
-              lost = λ no. let bad : true ≡ false = sym is ∙ no in cc;
-            },
-            ap Some (rw is (ap (λ n. did (events.Free me.0.client i name) (replies.Freed n))
-                charge)),
-          )
-        where
-          stored : IsStored p.geometry.room s.words r.books i k.entry
-          stored = kept s r id i name me.0 k at_view seated at_slot
-
-          refs : refs_of old ≡ weight k.references
-          refs = ap refs_of (sym same) ∙ refs_of-shareable k.hit k.shown
-              (is_near r.world (is_lawful r.world r.lawful) i k at_slot)
-
-          -- what the client has freed more is the entry's charge
-          charge : k.entry.charge ≡ me.0.work.freed + stored.made.charge - me.0.work.freed
-          charge =
-              let is : k.entry.charge ≡ stored.made.charge =
-              ap (λ (e : Entry). e.charge) stored.same in
-              omega arith
-
-      by : (t : Slot) → slice_get r.world.slots i ≡ Some t → (b : Bool) → (word == old) ≡ b
-          → Goes fits p s r a (either b CONSTRUCTION_WORD word) id me then
-      by t at_slot true is = takes t at_slot (sym (word_is t at_slot) ∙ eqb-true word old is) is
-      by t at_slot false is =
-          looks_on fits p s r id i a me t then at_slot seated address at_view (
-            refl,
-            record {
-              won = λ yes. let bad : true ≡ false = sym yes ∙ is in cc;
-              lost =
-                  λ no. refl;
-            },
-            ap Some (rw is (look_told fits p s r i a me.0 t at_slot address)),
-          )
+      ends s r count id i a old name me (read_at s.views id me.0 at) seated address entry last idle
+      back space slot.0 slot.1 (slice_index s.words a == old) refl

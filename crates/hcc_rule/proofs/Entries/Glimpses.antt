@@ -1,6 +1,6 @@
 -- Loads of a client that reads without a reference: of data words, and of a stamp word and the meta
 -- word, by which it sees that one entry stood there all along.
-use Rattle.std.proofs.Common.{◌≡◌, ◌≢◌, ◌⊎◌, inl, inr, ℕ, ◌+◌, ◌<◌, true, false, cond, Bool, List, [], ◌∷◌, Option, Some, None, Ok, IfSome, length, slice_get, slice_index, slice_set, sym, refl, ap, ◌∙◌, subst, arith, is_some, IsSomeAnd}
+use Rattle.std.proofs.Common.{◌≡◌, ◌≢◌, inl, inr, ℕ, ◌+◌, ◌<◌, true, false, Bool, List, Option, Some, None, Ok, IfSome, slice_get, slice_index, sym, refl, ap, ◌∙◌, subst, arith, is_some, IsSomeAnd}
 use Rattle.std.proofs.lemmas.Bool.{cases_eq}
 use mathlib.Core.Option.{none}
 use Rattle.atomic_table.specs.Table.{step, keeps}
@@ -23,15 +23,14 @@ use Rattle.hcc_rule.specs.declared.layout.TheConstants.{DATA, META, STAMP}
 use Rattle.hcc_rule.specs.declared.rule.Plan.{Plan}
 use Rattle.hcc_rule.specs.declared.view.Done.{Done}
 use Rattle.hcc_rule.specs.declared.view.Glimpse.{Glimpse}
-use Rattle.hcc_rule.specs.declared.view.Made.{Made}
 use Rattle.hcc_rule.specs.declared.view.Stood.{Stood}
 use Rattle.hcc_rule.specs.declared.view.Stood.TheVariants as stood
 use Rattle.hcc_rule.specs.declared.view.View.{View}
-use Rattle.hcc_rule.specs.Acts.{Acts, Becomes, Goes}
+use Rattle.hcc_rule.specs.Acts.{Acts, Goes}
 use Rattle.hcc_rule.specs.Events.{peek_done}
-use Rattle.hcc_rule.specs.Rule.{Holds, IsShownAs, IsStood, IsTagged, WasShown, entry_in, stamp_at, IsTag, IsStored, book_of}
+use Rattle.hcc_rule.specs.Rule.{Holds, IsShownAs, IsStood, WasShown, entry_in, stamp_at, IsTag, IsStored, book_of}
 use Rattle.hcc_rule.specs.Told.{Held}
-use Rattle.hcc_rule.specs.ToldGlimpses.{GoesOn, Glanced, after_glimpse, glances, glimpses, peeks, rechecks}
+use Rattle.hcc_rule.specs.ToldGlimpses.{GoesOn, Glanced, glances, glimpses, peeks, rechecks}
 use Rattle.hcc_rule.specs.Views.{is_seated}
 use Rattle.hcc_rule.specs.Words.{code_of, field_at, stamp_word}
 use Rattle.hcc_rule.proofs.Basics.Lists.{read_at, within}
@@ -212,13 +211,20 @@ module _ {T : Type 0} (fits : T → Key → List ℕ → Type 0) (p : Plan T) wh
         let before = old s r id me.0 g k here glimpse there in
         let now = goes_on s r id me.0 g k here glimpse there g.stood before.1 in
         peeks_on s r id i a me (Some (record g { stood = now.0 })) (slots.Shareable k)
-        (Some k.entry.stamp) then here seated at_slot (rw is refl) (before.0, now.2)         (refl, (Some k.entry.stamp, of_some me.0.glimpse g
-        (λ z. Glanced (slice_index s.words a) (Some k.entry.stamp) z me.0
-        (record me.0 { glimpse = Some (record g { stood = now.0 }) })) glimpse (
-          ap is_visible (word_is (slots.Shareable k) at_slot)
-              ∙ (tells_shown r.world (is_lawful r.world r.lawful) i k at_slot ∙ is),
-          (now.0, now.1, refl),
-        ), refl))
+        (Some k.entry.stamp) then here seated at_slot (rw is refl) (before.0, now.2) (
+          refl,
+          (
+            Some k.entry.stamp,
+            of_some me.0.glimpse g
+                (λ z. Glanced (slice_index s.words a) (Some k.entry.stamp) z me.0
+                (record me.0 { glimpse = Some (record g { stood = now.0 }) })) glimpse (
+                  ap is_visible (word_is (slots.Shareable k) at_slot)
+                      ∙ (tells_shown r.world (is_lawful r.world r.lawful) i k at_slot ∙ is),
+                  (now.0, now.1, refl),
+                ),
+            refl,
+          ),
+        )
 
     finds : (t : Slot) → slice_get r.world.slots i ≡ Some t
         → Goes fits p s r a (slice_index s.words a) id me then

@@ -1,6 +1,5 @@
 -- What keeps the part of the rule that speaks of stamp words.
-use Rattle.std.proofs.Common.{◌≡◌, ◌≢◌, ℕ, zero, suc, true, ◌+◌, ◌≤◌, ◌*◌, ◌<◌, ◌⊎◌, inl, inr, List, [], ◌∷◌, ◌++◌, Option, Some, None, IfSome, length, slice_get, slice_index, slice_set, sym, refl, ap, ◌∙◌, subst, arith}
-use Rattle.std.specs.Option.{unwrap_or}
+use Rattle.std.proofs.Common.{◌≡◌, ℕ, zero, suc, true, ◌<◌, ◌⊎◌, inl, inr, List, [], ◌∷◌, Option, Some, None, IfSome, slice_get, slice_index, slice_set, sym, ap, ◌∙◌, subst, arith}
 use Rattle.std.proofs.lemmas.Bool.{cases_eq}
 use Rattle.hcc_core.specs.declared.limits.TheConstants.{STAMPS_PER_CLIENT}
 use Rattle.hcc_core.specs.declared.client.Owned.{Owned}
@@ -14,8 +13,7 @@ use Rattle.hcc_rule.specs.declared.view.Made.{Made}
 use Rattle.hcc_rule.specs.declared.view.Stood.{Stood}
 use Rattle.hcc_rule.specs.declared.view.Stood.TheVariants as stood
 use Rattle.hcc_rule.specs.declared.view.View.{View}
-use Rattle.hcc_rule.specs.Rule.{AreApart, Books, IsAbove, IsBuildingAs, IsNextStamp, IsShownAs, IsStood, IsStored, IsTag, IsTagged, Tags, WasShown, book_of, made_at, stamp_at}
-use Rattle.hcc_rule.specs.Views.{Each}
+use Rattle.hcc_rule.specs.Rule.{AreApart, Books, IsAbove, IsBuildingAs, IsNextStamp, IsStood, IsStored, IsTag, IsTagged, Tags, WasShown, book_of, made_at, stamp_at}
 use Rattle.hcc_rule.specs.Words.{field_at, stamp_word}
 use Rattle.hcc_rule.proofs.Basics.Lists.{each_set, word_else}
 use Rattle.hcc_rule.proofs.Parts.Addresses.{meta_away}

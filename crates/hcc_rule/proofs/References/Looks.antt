@@ -1,5 +1,5 @@
 -- A load of a meta word: the client looks at the slot.
-use Rattle.std.proofs.Common.{◌≡◌, ◌⊎◌, inl, inr, IfSome, cond, is_some, ℕ, ◌^◌, ◌<◌, ◌≤◌, true, List, Some, Ok, length, slice_get, slice_index, refl, ap, ◌∙◌, arith, Bool, false, ◌||◌, Option, None, [], ◌∷◌, sym, option_map}
+use Rattle.std.proofs.Common.{◌≡◌, ◌⊎◌, inr, IfSome, cond, is_some, ℕ, ◌^◌, ◌<◌, ◌≤◌, true, List, Some, Ok, length, slice_get, slice_index, refl, ap, ◌∙◌, arith, Bool, false, ◌||◌, Option, None, [], ◌∷◌, sym, option_map}
 use Rattle.std.proofs.lemmas.Bool.{lt-ltb, eqb-true, eq-eqb}
 use mathlib.Core.Option.{none}
 use Rattle.atomic_table.specs.Table.{step}

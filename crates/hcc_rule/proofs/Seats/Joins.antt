@@ -1,5 +1,5 @@
 -- Two seats are joined: the second one's client ends, and the first one may start it again.
-use Rattle.std.proofs.Common.{◌≡◌, ℕ, suc, ◌+◌, ◌≢◌, inl, inr, ◌==◌, ◌&&◌, not, Bool, true, false, nat_lt, List, [], ◌∷◌, ◌++◌, Some, None, Ok, is_some, length, slice_get, slice_set, sym, refl, ap, ◌∙◌, arith, subst, ◌⊎◌}
+use Rattle.std.proofs.Common.{◌≡◌, ℕ, suc, ◌+◌, ◌≢◌, inl, inr, ◌==◌, ◌&&◌, not, Bool, true, false, nat_lt, List, [], ◌∷◌, ◌++◌, Some, None, Ok, is_some, length, slice_get, slice_set, sym, refl, ap, ◌∙◌, arith, subst}
 use Rattle.std.specs.Option.{unwrap_or}
 use Rattle.std.specs.List.{list_any}
 use Rattle.std.proofs.lemmas.Bool.{eq-eqb, cases_eq}

@@ -1,5 +1,5 @@
 -- A seat is split: the new one stands for a client that was named beside the first one's.
-use Rattle.std.proofs.Common.{◌≡◌, ℕ, zero, suc, ◌+◌, ◌≢◌, ◌==◌, ◌&&◌, true, nat_lt, List, [], ◌∷◌, ◌++◌, Some, None, Ok, is_some, length, slice_get, slice_set, sym, refl, ap, ◌∙◌, arith, subst, inl, inr, ◌⊎◌}
+use Rattle.std.proofs.Common.{◌≡◌, ℕ, zero, suc, ◌+◌, ◌≢◌, ◌==◌, ◌&&◌, true, nat_lt, List, [], ◌∷◌, ◌++◌, Some, None, Ok, is_some, length, slice_get, slice_set, sym, refl, ap, ◌∙◌, arith, subst, inl, inr}
 use Rattle.std.specs.Option.{unwrap_or}
 use Rattle.std.proofs.lemmas.Bool.{eq-eqb, cases_eq}
 use Rattle.std.proofs.lemmas.List.{length-set}
