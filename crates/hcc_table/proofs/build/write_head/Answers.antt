@@ -17,3 +17,8 @@ returns-clause-by g c =
     (goes_then t is_write d e h (goes_event t is_write _ d e c.write_at-3.ensures.event refl)
     (goes_then t is_write e f h (goes_event t is_write _ e f c.write_at-4.ensures.event refl)
     (goes_event t is_write _ f h c.write_at-5.ensures.event refl))))
+
+pub write_at-requires-4-clause-stamp : goal.write_at-requires-4-clause-stamp
+write_at-requires-4-clause-stamp g c = λ is.
+    rw (c.write_at-3.ensures.view, c.write_at-2.ensures.view, c.write_at.ensures.view)
+    (c.args.draft.serial, rw (← c.requires.own) refl, c.requires.serial, c.requires.above)
