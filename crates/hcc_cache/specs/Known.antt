@@ -8,6 +8,7 @@ use Rattle.hcc_core.specs.Sums.{total, when}
 use Rattle.hcc_rule.specs.declared.view.Made.{Made}
 use Rattle.hcc_rule.specs.declared.view.Record.{Record}
 use Rattle.hcc_rule.specs.declared.view.View.{View}
+use Rattle.hcc_rule.specs.Rule.{IsAbove}
 use Rattle.hcc_rule.specs.Views.{Each}
 use Rattle.hcc_rule.specs.Records.{record_in}
 use Rattle.hcc_rule.specs.Words.{key_of}
@@ -38,7 +39,8 @@ pub record AreCharged {T : Type 0} (v : View T) : Type 0 where
 
 module _ {T A : Type 0} where
   -- A seat of this shard between two calls of its client, which has this number and used so many
-  -- serials: each name that it has, and as many serials as it made entries, are among them.
+  -- serials: each name that it has, the serial of each entry that it made, and as many serials as
+  -- it made entries, are among them.
   pub record IsSeated (shard : Shard T A) (number used : ℕ) (seat : ShardSeat T) : Type 0 where
     pub rests : Rests shard seat
     pub number_is : number_of seat ≡ number
@@ -46,6 +48,7 @@ module _ {T A : Type 0} where
     pub records : Each (λ (r : Record). r.name < used) (view_of seat).records
     pub standalones : Each (λ (s : Standalone). s.name < used) (view_of seat).work.standalones
     pub made : length (view_of seat).made ≤ used
+    pub above : IsAbove used (view_of seat).made
     pub charged : AreCharged (view_of seat)
 
   -- a seat at each shard

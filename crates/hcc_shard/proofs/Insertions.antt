@@ -439,4 +439,5 @@ module _ {T : Type 0} where
           let made = may.next.made in
           let low = may.next.low in
           omega arith;
+      above = rw (ap (λ (z : View T). z.made) r.same) may.next.above;
     }

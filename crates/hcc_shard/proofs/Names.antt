@@ -1,4 +1,5 @@
--- The references that a client keeps: their names, their number and their weight.
+-- The references that a client keeps: their names, their number and their weight. The serials of
+-- the entries that it made.
 use Rattle.std.proofs.Common.{◌≡◌, ℕ, ◌+◌, ◌<◌, ◌≤◌, ◌++◌, ◌||◌, cond, Bool, true, false, List, [], ◌∷◌, Option, Some, None, IfSome, IsSomeAnd, length, refl, ap, ◌∙◌, arith}
 use Rattle.std.specs.List.{find, list_any}
 use Rattle.std.proofs.lemmas.Bool.{ne_eqb}
@@ -7,7 +8,11 @@ use Rattle.hcc_core.specs.declared.limits.TheConstants.{STAMPS_PER_CLIENT}
 use Rattle.hcc_core.specs.Ledgers.{is_standing}
 use Rattle.hcc_core.specs.Outcomes.{dropped}
 use Rattle.hcc_rule.specs.declared.geometry.Geometry.{Geometry}
+use Rattle.hcc_rule.specs.declared.image.ImageEntry.{ImageEntry}
+use Rattle.hcc_rule.specs.declared.view.Made.{Made}
 use Rattle.hcc_rule.specs.declared.view.Record.{Record}
+use Rattle.hcc_rule.specs.Images.{made_from}
+use Rattle.hcc_rule.specs.Rule.{IsAbove}
 use Rattle.hcc_rule.specs.Views.{Each, is_called, load_of}
 use Rattle.hcc_rule.specs.Records.{record_in}
 use Rattle.hcc_table.specs.Readings.{IsReadable}
@@ -57,6 +62,27 @@ each_left P p (x ∷ xs) h = by (p x) (each_left P p xs h.1)
     by : (b : Bool) → Each P (dropped p xs) → Each P (cond b xs (x ∷ dropped p xs))
     by true rest = h.1
     by false rest = (h.0, rest)
+
+-- A serial above those of all entries stays so where it grows,
+pub above_later : (serial more : ℕ) (book : List Made) → serial ≤ more → IsAbove serial book
+    → IsAbove more book
+above_later serial more book le =
+    each_as (λ (m : Made). m.serial < serial) (λ (m : Made). m.serial < more) (λ m h. omega arith)
+    book
+
+-- the next one does once an entry was made under it,
+pub above_more : (serial : ℕ) (book : List Made) (made : Made) → made.serial ≡ serial
+    → IsAbove serial book → IsAbove (serial + 1) (book ++ made ∷ [])
+above_more serial book made under above =
+    each_more (λ (m : Made). m.serial < serial + 1) book made
+    (above_later serial (serial + 1) book (omega arith) above) (omega arith)
+
+-- and that behind those of an image's entries is above these.
+pub above_made : (first serial : ℕ) (es : List ImageEntry) → first + length es ≤ serial
+    → IsAbove serial (made_from first es)
+above_made first serial [] few = tt
+above_made first serial (e ∷ es) few =
+    (omega arith, above_made (first + 1) serial es (omega arith))
 
 -- What holds of each holds of the one that is found.
 pub found_if : {A : Type 0} (P Q : A → Type 0) → ((a : A) → P a → Q a) → (p : A → Bool)

@@ -11,6 +11,7 @@ use Rattle.hcc_rule.specs.Callers.{IsSeatAt, geometry_of, plan_of}
 use Rattle.hcc_rule.specs.Between.{IsBetweenCalls}
 use Rattle.hcc_rule.specs.Images.{maker_of}
 use Rattle.hcc_rule.specs.Opening.{fresh_view, unstarted}
+use Rattle.hcc_rule.specs.Rule.{IsAbove}
 use Rattle.hcc_rule.specs.Seats.{SeatOf, moves, steps, view}
 use Rattle.hcc_rule.specs.Views.{Each}
 use Rattle.hcc_table.specs.Readings.{IsReadable}
@@ -34,11 +35,13 @@ module _ {T : Type 0} where
     pub few : length v.records ≤ MOST_HANDLES
 
   -- A serial that a call may be handed: above the names of all references and standalone entries of
-  -- the client, and as high as the number of entries that it made in this shard.
+  -- the client, above the serials of all entries that it made in this shard, and as high as their
+  -- number.
   pub record IsNext (serial : ℕ) (v : View T) : Type 0 where
     pub records : Each (λ (r : Record). r.name < serial) v.records
     pub standalones : Each (λ (s : Standalone). s.name < serial) v.work.standalones
     pub made : length v.made ≤ serial
+    pub above : IsAbove serial v.made
     pub low : serial < STAMPS_PER_CLIENT
 
 module _ {T A : Type 0} where

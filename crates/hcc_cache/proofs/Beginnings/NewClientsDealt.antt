@@ -86,6 +86,7 @@ module _ {T A : Type 0} where
     made =
         let none : length (view_of seat).made ≡ 0 = ap (λ (v : View T). length v.made) new.fresh in
         omega arith;
+    above = rw (ap (λ (v : View T). v.made) new.fresh) tt;
     charged = record {
       records = rw (new_records shard k seat new) tt;
       standalones = rw (new_standalones shard k seat new) tt;

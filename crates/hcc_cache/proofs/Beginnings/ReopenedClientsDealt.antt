@@ -10,6 +10,7 @@ use Rattle.hcc_rule.specs.declared.image.ImageEntry.{ImageEntry}
 use Rattle.hcc_rule.specs.declared.view.Other.{Other}
 use Rattle.hcc_rule.specs.declared.view.View.{View}
 use Rattle.hcc_rule.specs.Images.{made_from}
+use Rattle.hcc_rule.specs.Rule.{IsAbove}
 use Rattle.hcc_rule.specs.Views.{Each}
 use Rattle.hcc_rule.proofs.Basics.Lists.{there, within}
 use Rattle.hcc_rule.proofs.Images.Fillings.{made_length}
@@ -17,6 +18,7 @@ use Rattle.hcc_shard.specs.declared.seat.ShardSeat.{ShardSeat}
 use Rattle.hcc_shard.specs.declared.shard.Shard.{Shard}
 use Rattle.hcc_shard.specs.Callers.{view_of}
 use Rattle.hcc_shard.specs.Seated.{AreBegun, IsBegun}
+use Rattle.hcc_shard.proofs.Names.{above_made}
 use Rattle.hcc_cache.specs.declared.cache.Cache.{Cache}
 use Rattle.hcc_cache.specs.declared.client.Client.{Client}
 use Rattle.hcc_cache.specs.declared.config.Config.{Config}
@@ -47,6 +49,14 @@ share_home : (seed shards number k : ℕ) (es : List ImageEntry)
 share_home seed shards number zero es all = from_home seed shards number 0 es all
 share_home seed shards number (suc k) es all = tt
 
+-- As many serials as there are entries in a client's share are above those of all in it.
+share_above : (k used : ℕ) (es : List ImageEntry) → length (share_of k es).made ≤ used
+    → IsAbove used (share_of k es).made
+share_above zero used es few =
+    let long = made_length 0 es in
+    above_made 0 used es (omega arith)
+share_above (suc k) used es few = tt
+
 module _ {T A : Type 0} where
   -- Each of the seats of a shard that begins with entries is that of its client.
   pub begun_at : (shard : Shard T A) (es : List ImageEntry) (seats : List (ShardSeat T)) (k : ℕ)
@@ -70,10 +80,12 @@ module _ {T A : Type 0} where
       → IsBegun shard o seat → (view_of seat).work.standalones ≡ []
   begun_standalones shard o seat begun = ap (λ (v : View T). v.work.standalones) begun.fresh
 
-  -- It is known as its client's, where that used as many serials as it made entries.
+  -- It is known as its client's, where that used as many serials as it made entries, and all of
+  -- theirs.
   pub begun_seated : (shard : Shard T A) (k used : ℕ) (o : Other) (seat : ShardSeat T)
-      → IsBegun shard o seat → o.client ≡ k → length o.made ≤ used → IsSeated shard k used seat
-  begun_seated shard k used o seat begun own few = record {
+      → IsBegun shard o seat → o.client ≡ k → length o.made ≤ used → IsAbove used o.made
+      → IsSeated shard k used seat
+  begun_seated shard k used o seat begun own few above = record {
     rests = begun.rests;
     number_is = begun.number ∙ own;
     single = ap (λ (v : View T). v.others) begun.fresh;
@@ -83,6 +95,7 @@ module _ {T A : Type 0} where
         let made : length (view_of seat).made ≡ length o.made =
         ap (λ (v : View T). length v.made) begun.fresh in
         omega arith;
+    above = rw (ap (λ (v : View T). v.made) begun.fresh) above;
     charged = record {
       records = rw (begun_records shard o seat begun) tt;
       standalones = rw (begun_standalones shard o seat begun) tt;
@@ -254,7 +267,8 @@ module _ {T : Type 0} (config : Config) (cache : Cache T) (k : ℕ) (client : Cl
               let listed = share_listed cache.shards.items k s shard hd in
               rw is.number_is
               (begun_seated shard k client.used (share_of k (image_of shard)) seat
-              (is.seats s shard seat hd hs) (share_own k (image_of shard)) (omega arith));
+              (is.seats s shard seat hd hs) (share_own k (image_of shard)) (omega arith)
+              (share_above k client.used (image_of shard) (omega arith)));
         };
         homes = λ s seat at.
             let one = seat_of s seat at in

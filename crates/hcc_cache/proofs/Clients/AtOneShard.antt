@@ -75,6 +75,7 @@ module _ {T : Type 0} where
           records = seated_at.records;
           standalones = seated_at.standalones;
           made = seated_at.made;
+          above = seated_at.above;
           low = omega arith;
         }
 

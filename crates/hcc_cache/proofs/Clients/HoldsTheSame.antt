@@ -43,7 +43,7 @@ module _ {T : Type 0} (cache : Cache T) (old new : Client T) (i : ℕ) (shard : 
       let s = seated_at cache old new i shard was is at in
       seated_by shard old.number old.used old.used was is s rests same.client same.others
       (rw (same.records) s.records) (rw (same.standalones) s.standalones)
-      (rw (same.made) s.made)
+      (rw (same.made) s.made) (rw (same.made) s.above)
       (record {
         records = rw (same.records) s.charged.records;
         standalones = rw (same.standalones) s.charged.standalones;

@@ -6,12 +6,14 @@ use Rattle.hcc_core.proofs.ListLemmas.{read_here, read_other, read_same}
 use Rattle.hcc_core.proofs.SumLemmas.{total-set}
 use Rattle.hcc_rule.specs.declared.view.Record.{Record}
 use Rattle.hcc_rule.specs.declared.view.View.{View}
+use Rattle.hcc_rule.specs.Rule.{IsAbove}
 use Rattle.hcc_rule.specs.Views.{Each}
 use Rattle.hcc_rule.proofs.Basics.Lists.{each_set}
 use Rattle.hcc_shard.specs.declared.seat.ShardSeat.{ShardSeat}
 use Rattle.hcc_shard.specs.declared.shard.Shard.{Shard}
 use Rattle.hcc_shard.specs.Callers.{steps_of, view_of}
 use Rattle.hcc_shard.specs.Seated.{Rests}
+use Rattle.hcc_shard.proofs.Names.{above_later}
 use Rattle.hcc_cache.specs.Clients.{view_by, view_in}
 use Rattle.hcc_cache.specs.Known.{AreCharged, AreHome, AreSeated, IsHome, IsSeated}
 use Rattle.hcc_cache.proofs.Basics.FoundByName.{names_later, standings_later}
@@ -46,16 +48,17 @@ module _ {T : Type 0} where
 -- Of seats.
 
 module _ {T A : Type 0} where
-  -- A seat is one of its client still, where its view names the same clients, and its names are
-  -- among the serials that are used now.
+  -- A seat is one of its client still, where its view names the same clients, and its names and the
+  -- serials of its entries are among the serials that are used now.
   pub seated_by : (shard : Shard T A) (number used more : ℕ) (was is : ShardSeat T)
       → IsSeated shard number used was → Rests shard is
       → (view_of is).client ≡ (view_of was).client → (view_of is).others ≡ (view_of was).others
       → Each (λ (r : Record). r.name < more) (view_of is).records
       → Each (λ (s : Standalone). s.name < more) (view_of is).work.standalones
-      → length (view_of is).made ≤ more → AreCharged (view_of is) → IsSeated shard number more is
+      → length (view_of is).made ≤ more → IsAbove more (view_of is).made
+      → AreCharged (view_of is) → IsSeated shard number more is
   seated_by shard number used more was is seated rests client others records standalones made
-      charged =
+      above charged =
       record {
         rests = rests;
         number_is = sym rests.own ∙ (client ∙ (seated.rests.own ∙ seated.number_is));
@@ -63,6 +66,7 @@ module _ {T A : Type 0} where
         records = records;
         standalones = standalones;
         made = made;
+        above = above;
         charged = charged;
       }
 
@@ -78,6 +82,7 @@ module _ {T A : Type 0} where
         records = names_later used more (view_of seat).records le h.records;
         standalones = standings_later used more (view_of seat).work.standalones le h.standalones;
         made = omega arith;
+        above = above_later used more (view_of seat).made le h.above;
         charged = h.charged;
       }
 

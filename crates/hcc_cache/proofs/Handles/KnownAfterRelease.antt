@@ -51,7 +51,7 @@ module _ {T A : Type 0} (shard : Shard T A) (number used : ℕ) (was is : ShardS
       (dropped_each (is_called name) (λ (r : Record). r.name < used) (view_of was).records
       seated.records))
       (rw (ap (λ (v : View T). v.work.standalones) same) seated.standalones)
-      (omega arith)
+      (omega arith) (rw (ap (λ (v : View T). v.made) same) seated.above)
       (record {
         records =
             rw (ap (λ (v : View T). v.records) same)
@@ -73,7 +73,7 @@ module _ {T A : Type 0} (shard : Shard T A) (number used : ℕ) (was is : ShardS
       (rw (ap (λ (v : View T). v.work.standalones) fell)
       (dropped_each (is_standing name) (λ (s : Standalone). s.name < used)
       (view_of was).work.standalones seated.standalones))
-      (omega arith)
+      (omega arith) (rw (ap (λ (v : View T). v.made) fell) seated.above)
       (record {
         records = rw (ap (λ (v : View T). v.records) fell) seated.charged.records;
         standalones =

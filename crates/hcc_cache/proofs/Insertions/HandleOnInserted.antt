@@ -103,7 +103,7 @@ module _ {T : Type 0} (cache : Cache T) (old new : Client T) (i : ℕ) (shard : 
       (few : old.held < old.most) where
     -- The client is known still, where its seat is one of it, and it keeps what it holds.
     knows_given : i ≡ shard_in cache key
-        → IsTried (key_to cache.seed key) (view_of was) (view_of is)
+        → IsTried (key_to cache.seed key) old.used (view_of was) (view_of is)
         → Each (λ (r : Record). r.name < old.used + 1) (view_of is).records
         → Each (λ (s : Standalone). s.name < old.used + 1) (view_of is).work.standalones
         → AreCharged (view_of is)
@@ -121,7 +121,7 @@ module _ {T : Type 0} (cache : Cache T) (old new : Client T) (i : ℕ) (shard : 
         (rw used
         (seated_tried shard old.number old.used was is seated rests (key_to cache.seed key) tried
         records standalones charged))
-        (made_home cache.seed (length old.seats.items) i key (view_of was).made
+        (made_home cache.seed (length old.seats.items) i key old.used (view_of was).made
         (view_of is).made (at.knows.homes i was at.seat_is) (rw (at.knows.seated.count) (sym here))
         tried.made)
         (rw used holds) (omega arith) (omega arith) (omega arith)
@@ -129,7 +129,7 @@ module _ {T : Type 0} (cache : Cache T) (old new : Client T) (i : ℕ) (shard : 
     -- Of an entry of the table.
     module _ (slot : ℕ) (counting : Bool) (r : Record) (alone : new.alone ≡ old.alone)
         (kept_is : kept ≡ Pinned slot counting)
-        (left : Leaves (key_to cache.seed key) ((view_of was).records ++ r ∷ [])
+        (left : Leaves (key_to cache.seed key) old.used ((view_of was).records ++ r ∷ [])
         (view_of was).work.standalones (view_of was) (view_of is))
         (called : r.name ≡ old.used)
         (of : (r.slot ≡ slot) × (r.weight ≡ 1) × (r.counting ≡ counting))
@@ -177,7 +177,7 @@ module _ {T : Type 0} (cache : Cache T) (old new : Client T) (i : ℕ) (shard : 
 
     -- Of a standalone entry.
     module _ (index : ℕ) (a : Alone) (kept_is : kept ≡ Standing index)
-        (tried : IsTried (key_to cache.seed key) (view_of was) (view_of is))
+        (tried : IsTried (key_to cache.seed key) old.used (view_of was) (view_of is))
         (joined : IsJoined old.used was is old.alone new.alone index a) where
       pub knows_alone : i ≡ shard_in cache key → a.charge < 2 ^ 32 → Knows cache new
       knows_alone here small =
@@ -230,8 +230,9 @@ module _ {T : Type 0} (cache : Cache T) (old new : Client T) (i : ℕ) (shard : 
               (shown_entry (view_of was)
               (made_of (pinned_draft cache key charge priority value old) value))
 
-          left_placed : Leaves (key_to cache.seed key) ((view_of was).records ++ handled ∷ [])
-              (view_of was).work.standalones (view_of was) (view_of is)
+          left_placed : Leaves (key_to cache.seed key) old.used
+              ((view_of was).records ++ handled ∷ []) (view_of was).work.standalones (view_of was)
+              (view_of is)
           left_placed =
               leaves_pinned cache.geometry.slots cache.capacity cache.strict
               (pinned_draft cache key charge priority value old) value (view_of was) (view_of is)
@@ -264,7 +265,8 @@ module _ {T : Type 0} (cache : Cache T) (old new : Client T) (i : ℕ) (shard : 
 
         -- or it stands alone.
         pub stands_at : (index : ℕ) (a : Alone) → kept ≡ Standing index → a.charge ≡ charge
-            → a.value.items ≡ value → IsTried (key_to cache.seed key) (view_of was) (view_of is)
+            → a.value.items ≡ value
+            → IsTried (key_to cache.seed key) old.used (view_of was) (view_of is)
             → IsJoined old.used was is old.alone new.alone index a
             → PinnedBy cache.geometry.slots cache.capacity cache.strict
             (pinned_draft cache key charge priority value old) value (Ok pinned.Standalone)

@@ -9,6 +9,7 @@ use Rattle.hcc_rule.specs.declared.steps.shows.Draft.{Draft}
 use Rattle.hcc_rule.specs.declared.view.Made.{Made}
 use Rattle.hcc_rule.specs.declared.view.Record.{Record}
 use Rattle.hcc_rule.specs.declared.view.View.{View}
+use Rattle.hcc_rule.specs.Rule.{IsAbove}
 use Rattle.hcc_rule.specs.ToldOwners.{first_records, made_of, shown_entry}
 use Rattle.hcc_rule.specs.Views.{Each}
 use Rattle.hcc_table.specs.Steps.{MakesFor}
@@ -23,7 +24,7 @@ use Rattle.hcc_shard.specs.Callers.{capacity_of, geometry_of, is_strict, plan_of
 use Rattle.hcc_shard.specs.Inserted.{InsertedBy, IsInsertable, IsUnshown, MakesNoEntry, RefusedBy, Shows, inserting, inserting_between}
 use Rattle.hcc_shard.specs.Reserving.{InsertedAs, PinnedAs}
 use Rattle.hcc_shard.specs.Seated.{Rests}
-use Rattle.hcc_shard.proofs.Names.{each_more, length_more}
+use Rattle.hcc_shard.proofs.Names.{above_later, above_more, each_more, length_more}
 use Rattle.hcc_cache.specs.declared.cache.Cache.{Cache}
 use Rattle.hcc_cache.specs.declared.client.Client.{Client}
 use Rattle.hcc_cache.specs.declared.priority.Priority.{Priority}
@@ -42,27 +43,37 @@ use Rattle.hcc_cache.proofs.Clients.Seats.{seated_by}
 
 -- Of what was made.
 
--- one entry of this key more, or none
-abbrev pub MadeBy : Key → (old new : List Made) → Type 0
-MadeBy key old new =
-    (new ≡ old) ⊎ ((made : Made) × (made.key ≡ key) × (new ≡ old ++ made ∷ []))
+-- one entry of this key more, under this serial, or none
+abbrev pub MadeBy : Key → (serial : ℕ) → (old new : List Made) → Type 0
+MadeBy key serial old new =
+    (new ≡ old)
+    ⊎ ((made : Made) × (made.key ≡ key) × (made.serial ≡ serial) × (new ≡ old ++ made ∷ []))
 
 -- They are one more at most,
-made_few : (key : Key) (old new : List Made) → MadeBy key old new → length new ≤ length old + 1
-made_few key old new (inl same) = let long = ap length same in omega arith
-made_few key old new (inr more) =
-    let long = ap length more.2 in
+made_few : (key : Key) (serial : ℕ) (old new : List Made) → MadeBy key serial old new
+    → length new ≤ length old + 1
+made_few key serial old new (inl same) = let long = ap length same in omega arith
+made_few key serial old new (inr more) =
+    let long = ap length more.3 in
     let one = length_more old more.0 in
     omega arith
 
+-- their serials below the next,
+made_above : (key : Key) (serial : ℕ) (old new : List Made) → MadeBy key serial old new
+    → IsAbove serial old → IsAbove (serial + 1) new
+made_above key serial old new (inl same) above =
+    rw same (above_later serial (serial + 1) old (omega arith) above)
+made_above key serial old new (inr more) above =
+    rw (more.3) (above_more serial old more.0 more.2 above)
+
 -- and all of this shard still, where the key is.
-pub made_home : (seed shards number : ℕ) (key : Key) (old new : List Made)
+pub made_home : (seed shards number : ℕ) (key : Key) (serial : ℕ) (old new : List Made)
     → Each (IsHome seed shards number) old → shard_of (key_to seed key) shards ≡ number
-    → MadeBy (key_to seed key) old new → Each (IsHome seed shards number) new
-made_home seed shards number key old new home here (inl same) = rw same home
-made_home seed shards number key old new home here (inr more) =
+    → MadeBy (key_to seed key) serial old new → Each (IsHome seed shards number) new
+made_home seed shards number key serial old new home here (inl same) = rw same home
+made_home seed shards number key serial old new home here (inr more) =
     let back = ap (λ k. key_to seed (key_from seed k)) more.1 ∙ seeded_back seed key in
-    rw (more.2) (each_more (IsHome seed shards number) old more.0 home
+    rw (more.3) (each_more (IsHome seed shards number) old more.0 home
     (back ∙ sym more.1, ap (λ k. shard_of k shards) more.1 ∙ here))
 
 -- Of a view.
@@ -80,23 +91,24 @@ first_record slot name entry = record {
 
 module _ {T : Type 0} where
   -- An insertion was tried: whom the view stands for stays, and one entry of this key was made at
-  -- most.
-  pub record IsTried (key : Key) (v w : View T) : Type 0 where
+  -- most, under this serial.
+  pub record IsTried (key : Key) (serial : ℕ) (v w : View T) : Type 0 where
     pub client : w.client ≡ v.client
     pub others : w.others ≡ v.others
-    pub made : MadeBy key v.made w.made
+    pub made : MadeBy key serial v.made w.made
 
   -- An insertion was tried, and these are the references and the standalone entries after it.
-  pub record Leaves (key : Key) (records : List Record) (standalones : List Standalone)
-      (v w : View T) : Type 0 where
-    pub tried : IsTried key v w
+  pub record Leaves (key : Key) (serial : ℕ) (records : List Record)
+      (standalones : List Standalone) (v w : View T) : Type 0 where
+    pub tried : IsTried key serial v w
     pub records_are : w.records ≡ records
     pub standalones_are : w.work.standalones ≡ standalones
 
   -- as this view has them
   leaves_by : (v w x : View T) → w ≡ x → x.client ≡ v.client → x.others ≡ v.others
-      → (key : Key) → MadeBy key v.made x.made → Leaves key x.records x.work.standalones v w
-  leaves_by v w x same client others key made =
+      → (key : Key) (serial : ℕ) → MadeBy key serial v.made x.made
+      → Leaves key serial x.records x.work.standalones v w
+  leaves_by v w x same client others key serial made =
       record {
         tried = record {
           client = ap (λ (z : View T). z.client) same ∙ client;
@@ -112,36 +124,37 @@ module _ {T : Type 0} where
       -- no entry was made
       leaves_none : (standalones : List Standalone)
           → MakesNoEntry slots capacity strict draft standalones v w
-          → Leaves draft.key v.records standalones v w
+          → Leaves draft.key draft.serial v.records standalones v w
       leaves_none standalones tries =
-          leaves_by v w _ (tries.same) refl refl draft.key (inl refl)
+          leaves_by v w _ (tries.same) refl refl draft.key draft.serial (inl refl)
 
       -- an entry was shown
       leaves_shown : (slot : ℕ) → Shows slots capacity strict draft value slot v w
-          → Leaves draft.key
+          → Leaves draft.key draft.serial
           (v.records ++ first_records slot draft.name (shown_entry v (made_of draft value)))
           v.work.standalones v w
       leaves_shown slot shows =
-          leaves_by v w _ (shows.tries.same) refl refl draft.key
-          (inr (made_of draft value, refl, refl))
+          leaves_by v w _ (shows.tries.same) refl refl draft.key draft.serial
+          (inr (made_of draft value, refl, refl, refl))
 
       -- one was kept out of the table
       pub leaves_unshown : (standalones : List Standalone)
           → IsUnshown slots capacity strict draft standalones v w
-          → Leaves draft.key v.records standalones v w
+          → Leaves draft.key draft.serial v.records standalones v w
       leaves_unshown standalones unshown = leaves_none standalones (unshown.tries)
 
       -- the shard refused it
       pub leaves_refused : (why : Refused) → RefusedBy slots capacity strict draft why v w
-          → Leaves draft.key v.records v.work.standalones v w
-      leaves_refused TooLarge told = leaves_by v w v (told.2) refl refl draft.key (inl refl)
+          → Leaves draft.key draft.serial v.records v.work.standalones v w
+      leaves_refused TooLarge told =
+          leaves_by v w v (told.2) refl refl draft.key draft.serial (inl refl)
       leaves_refused CapacityFull told = leaves_none v.work.standalones (told.0)
       leaves_refused OccupancyFull told = leaves_none v.work.standalones (told.0)
 
       -- An insertion that keeps no reference leaves those that there were.
       pub leaves_stored : (answer : Result Inserted Refused) → draft.name ≡ None
           → InsertedBy slots capacity strict draft value answer v w
-          → Leaves draft.key v.records v.work.standalones v w
+          → Leaves draft.key draft.serial v.records v.work.standalones v w
       leaves_stored (Ok Placed) unnamed told =
           let shown = leaves_shown (told.0) (told.1) in
           record {
@@ -159,7 +172,7 @@ module _ {T : Type 0} where
       -- One that keeps a reference joins it.
       pub leaves_pinned : (slot name : ℕ) → draft.name ≡ Some name
           → Shows slots capacity strict draft value slot v w
-          → Leaves draft.key
+          → Leaves draft.key draft.serial
           (v.records ++ first_record slot name (shown_entry v (made_of draft value)) ∷ [])
           v.work.standalones v w
       leaves_pinned slot name named shows =
@@ -178,15 +191,16 @@ module _ {T : Type 0} where
 -- The seat is one of its client still, once a serial was used.
 pub seated_tried : {T A : Type 0} (shard : Shard T A) (number used : ℕ) (was is : ShardSeat T)
     → IsSeated shard number used was → Rests shard is → (key : Key)
-    → IsTried key (view_of was) (view_of is)
+    → IsTried key used (view_of was) (view_of is)
     → Each (λ (r : Record). r.name < used + 1) (view_of is).records
     → Each (λ (s : Standalone). s.name < used + 1) (view_of is).work.standalones
     → AreCharged (view_of is) → IsSeated shard number (used + 1) is
 seated_tried shard number used was is seated rests key tried records standalones charged =
     let before = seated.made in
-    let more = made_few key (view_of was).made (view_of is).made tried.made in
+    let more = made_few key used (view_of was).made (view_of is).made tried.made in
     seated_by shard number used (used + 1) was is seated rests tried.client tried.others records
-    standalones (omega arith) charged
+    standalones (omega arith)
+    (made_above key used (view_of was).made (view_of is).made tried.made seated.above) charged
 
 -- Of a client.
 
@@ -303,8 +317,8 @@ module _ {T : Type 0} where
 
       -- Where the client gained nothing, it is known still,
       module _ (rests : Rests shard is) {sought : Key}
-          (left : Leaves sought (view_of was).records (view_of was).work.standalones (view_of was)
-          (view_of is)) (asked : IsAsked old new) where
+          (left : Leaves sought old.used (view_of was).records (view_of was).work.standalones
+          (view_of was) (view_of is)) (asked : IsAsked old new) where
         pub knows_asked : (key : Key) → sought ≡ key_to cache.seed key → i ≡ shard_in cache key
             → Knows cache new
         knows_asked key for here =
@@ -324,10 +338,11 @@ module _ {T : Type 0} where
               records = rw (left.records_are) seated.charged.records;
               standalones = rw (left.standalones_are) seated.charged.standalones;
             })))
-            (made_home cache.seed (length old.seats.items) i key (view_of was).made
+            (made_home cache.seed (length old.seats.items) i key old.used (view_of was).made
             (view_of is).made (at.knows.homes i was at.seat_is)
             (rw (at.knows.seated.count) (sym here))
-            (subst (λ k. MadeBy k (view_of was).made (view_of is).made) for left.tried.made))
+            (subst (λ k. MadeBy k old.used (view_of was).made (view_of is).made) for
+            left.tried.made))
             (rw (change.seats, asked.handles, asked.alone, used)
             (held_rest cache.seed old.used old.seats.items old.handles old.alone at.knows.holds i
             was is at.seat_is left.records_are left.standalones_are (old.used + 1) (omega arith)))

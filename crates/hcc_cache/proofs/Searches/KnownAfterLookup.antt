@@ -16,6 +16,7 @@ use Rattle.hcc_shard.specs.declared.seat.ShardSeat.{ShardSeat}
 use Rattle.hcc_shard.specs.declared.shard.Shard.{Shard}
 use Rattle.hcc_shard.specs.Callers.{geometry_of, view_of, SearchesAt}
 use Rattle.hcc_shard.specs.Seated.{Rests}
+use Rattle.hcc_shard.proofs.Names.{above_later}
 use Rattle.hcc_cache.specs.declared.cache.Cache.{Cache}
 use Rattle.hcc_cache.specs.declared.client.Client.{Client}
 use Rattle.hcc_cache.specs.declared.handle.Handle.{Handle}
@@ -56,6 +57,8 @@ module _ {T A : Type 0} (shard : Shard T A) (number used : ℕ) (was is : ShardS
       (rw (ap (λ (v : View T). v.work.standalones) searched.same)
       (standings_later used more (view_of was).work.standalones le seated.standalones))
       (omega arith)
+      (rw (ap (λ (v : View T). v.made) searched.same)
+      (above_later used more (view_of was).made le seated.above))
       (record {
         records = charged;
         standalones =

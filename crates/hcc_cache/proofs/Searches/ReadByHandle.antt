@@ -36,7 +36,7 @@ seated_read shard number used was is seated rests same =
     (ap (λ (v : View _). v.others) same)
     (rw (ap (λ (v : View _). v.records) same) seated.records)
     (rw (ap (λ (v : View _). v.work.standalones) same) seated.standalones)
-    (omega arith) (rw same seated.charged)
+    (omega arith) (rw (ap (λ (v : View _). v.made) same) seated.above) (rw same seated.charged)
 
 module _ {T : Type 0} (cache : Cache T) (old new : Client T) (i : ℕ) (shard : Shard (Seeded T) _)
     (was is : ShardSeat (Seeded T)) (at : IsAt cache old i shard was)
