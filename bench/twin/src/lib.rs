@@ -11,6 +11,7 @@ mod shard;
 #[cfg(test)]
 mod stress;
 mod word;
+mod words;
 
 use cache::{Cache, Client};
 use shard::{Key, Shard};

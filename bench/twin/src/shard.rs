@@ -2,6 +2,7 @@
 //! sequentially consistent, and they are those of the proved crates, in the same order.
 
 use crate::word::*;
+use crate::words::Words;
 use std::sync::atomic::AtomicU64;
 use std::sync::atomic::Ordering::SeqCst;
 
@@ -65,7 +66,7 @@ pub enum Refused {
 pub struct Declined;
 
 pub struct Shard {
-    words: Box<[AtomicU64]>,
+    words: Words,
     slots: u64,
     stride: usize,
     capacity: u64,
@@ -77,14 +78,7 @@ impl Shard {
     pub fn new(slots: u32, room: u32, capacity: u64, strict: bool, marks: bool) -> Shard {
         let stride = PAYLOAD + room as usize;
         let count = slots as usize * stride + 4;
-        Shard {
-            words: (0..count).map(|_| AtomicU64::new(0)).collect(),
-            slots: slots as u64,
-            stride,
-            capacity,
-            strict,
-            marks,
-        }
+        Shard { words: Words::new(count), slots: slots as u64, stride, capacity, strict, marks }
     }
 
     #[inline(always)]
