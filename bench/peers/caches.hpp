@@ -25,7 +25,7 @@ namespace peers {
 struct sizes {
     std::uint32_t slots;      // in all shards
     std::uint32_t shards;
-    std::uint32_t capacity; // in charges: seven tenths of a shard's slots, as RocksDB fills its table
+    std::uint32_t capacity;   // in charges: seven tenths of all slots, as RocksDB fills its table
     std::uint32_t value_size; // in bytes, a multiple of 8
     std::uint32_t threads;
     std::uint32_t handles; // that a thread holds at once, at most

@@ -13,9 +13,10 @@
 // 4,096 leave out ferretgold and its twin. `blocks-unseeded` leaves out the caches that always spread
 // keys; `save` and `load` leave out all but ferretgold, and all numbers of threads but one. A cache has
 // 16,384 slots, or, by --megabytes, the power of two with which Ferretgold's table comes nearest to so
-// many, and so many shards that none has above 65,536; eight threads play only `get-one` and
-// `get-sixteen`, unless they are asked for. Each thread makes as many operations a round as --operations
-// says; by 0, the default, as many as take the first cache 40 ms, or another 200 ms.
+// many, and so many shards that none has above 65,536 (`pinned` leaves out those of which the threads
+// can't hold all entries). Eight threads play `get-one` and `get-sixteen` alone, unless they are asked
+// for. Each thread makes as many operations a round as --operations says; by 0, the default, as many as
+// take the first cache 40 ms, or another 200 ms.
 #include "cases.hpp"
 
 #include <algorithm>
@@ -168,6 +169,9 @@ template <class Cache, class Bench = bench<Cache>> maker maker_of() {
 std::vector<maker> makers_of(kind is, const sizes &sizes) {
     bool is_single = sizes.value_size <= most_bytes;
     std::vector<maker> all;
+    if (is == kind::pinned && sizes.capacity > sizes.handles * sizes.threads) {
+        return all; // not all can be held
+    }
     if (is_warm(is)) {
         if (is_single && sizes.threads == 1) {
             all.push_back(maker_of<ferret, warm_start>());
@@ -235,7 +239,8 @@ void print(const player &of, const char *case_name, const sizes &sizes, std::uin
     double operations = static_cast<double>(made.operations);
     std::printf("{\"cache\":\"%s\",\"build\":\"%s\",\"case\":\"%s\",\"value_size\":%" PRIu32
                 ",\"threads\":%" PRIu32 ",\"processors\":%zu,\"slots\":%" PRIu32
-                ",\"shards\":%" PRIu32 ",\"round\":%" PRIu64 ",\"operations\":%" PRIu64 ",\"seconds\":%.6f,\"operations_per_second\":%.0f,"
+                ",\"shards\":%" PRIu32 ",\"round\":%" PRIu64 ",\"operations\":%" PRIu64
+                ",\"seconds\":%.6f,\"operations_per_second\":%.0f,"
                 "\"nanoseconds_per_operation\":%.2f,\"hits\":%" PRIu64 ",\"misses\":%" PRIu64
                 "}\n",
                 of.name.c_str(), build_of(of.name), case_name, sizes.value_size, sizes.threads,
@@ -277,8 +282,8 @@ std::uint32_t slots_of(std::uint64_t megabytes, std::uint64_t value_size) {
         return usual_slots;
     }
     double wanted = static_cast<double>(megabytes) * 1e6 / static_cast<double>(56 + value_size);
-    double power = std::round(std::log2(wanted));
-    return static_cast<std::uint32_t>(std::exp2(std::clamp(power, 8.0, std::log2(most_slots * most_shards))));
+    double power = std::clamp(std::round(std::log2(wanted)), 8.0, std::log2(most_slots * most_shards));
+    return static_cast<std::uint32_t>(std::exp2(power));
 }
 
 sizes sizes_of(const options &asked, kind is, std::uint64_t megabytes, std::uint64_t value_size,
