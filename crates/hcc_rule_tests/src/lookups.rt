@@ -64,6 +64,24 @@ impl Worker<'_> {
         [key0, key1, charge, stamp, length, payload0, payload1]
     }
 
+    /// Data words of the entry that stands in a slot, on which the client holds no reference.
+    pub(super) fn peek(&mut self, slot: u32) -> [u64; 4]
+        requires ready { IsReady (view self.old.seat) }
+        requires slot { slot < 8 }
+        ensures same { (self.new.table ≡ self.old.table) × (self.new.client ≡ self.old.client)
+            × (self.new.shown ≡ self.old.shown)
+            × ((view self.new.seat).others ≡ (view self.old.seat).others) }
+        ensures ready { IsReady (view self.new.seat) }
+    {
+        let data = self.table.data_of(slot);
+        let at = SlotAt { slot, data };
+        let key = self.table.peek_at(&mut self.seat, at, KEY1);
+        let length = self.table.peek_at(&mut self.seat, at, LENGTH);
+        let payload0 = self.table.peek_at(&mut self.seat, at, PAYLOAD);
+        let payload1 = self.table.peek_at(&mut self.seat, at, PAYLOAD + 1);
+        [key, length, payload0, payload1]
+    }
+
     /// A look-up that is a use, and that marks the entry. The words are those that the look, the
     /// acquire, the mark and the release found, and the word after them; and the data words.
     pub(super) fn hit(&mut self, rt: &impl Abort, slot: u32) -> ([u64; 5], [u64; 7])

@@ -58,6 +58,16 @@ const NOT_ALLOWED: Result<Reply, CoreError> = Err(CoreError::NotAllowed);
 
 const SAW_SHOWN: Result<Reply, CoreError> = Ok(Reply::Saw(Phase::Shown));
 
+/// The first entry of client 0.
+const FIRST: Stamp = Stamp {
+    client: 0,
+    number: 0,
+};
+
+const FIRST_STANDS: Result<Reply, CoreError> = Ok(Reply::Stands(Some(FIRST)));
+
+const NOTHING_STANDS: Result<Reply, CoreError> = Ok(Reply::Stands(None));
+
 const LOOK: Event = Event::Look { client: 1, slot: 1 };
 
 const FREE: Event = Event::Free {
@@ -80,6 +90,10 @@ fn left(phase: Phase) -> Result<Reply, CoreError> {
         references: 0,
         phase,
     })
+}
+
+fn peek(client: u32, slot: u32) -> Event {
+    Event::Peek { client, slot }
 }
 
 /// Client 1 acquires in slot 1.
@@ -173,11 +187,7 @@ fn look_at(world: &World, slot: u32) -> Option<Seen> {
 }
 
 fn is_first(entry: &Entry) -> bool {
-    let stamp = Stamp {
-        client: 0,
-        number: 0,
-    };
-    entry.stamp == stamp && entry.key0 == 7 && entry.key1 == 9 && entry.charge == 5
+    entry.stamp == FIRST && entry.key0 == 7 && entry.key1 == 9 && entry.charge == 5
 }
 
 /// All that a line shows of a world of two slots.
@@ -209,6 +219,8 @@ fn told(answer: &Result<Reply, CoreError>) -> (&str, u64, u64, &[u8]) {
         Ok(Reply::Open) => ("open", 0, 0, &[]),
         Ok(Reply::Uses(uses)) => ("uses", *uses, 0, &[]),
         Ok(Reply::Count(count)) => ("count", *count, 0, &[]),
+        Ok(Reply::Stands(None)) => ("stands nothing", 0, 0, &[]),
+        Ok(Reply::Stands(Some(stamp))) => ("stands", stamp.client as u64, stamp.number, &[]),
         Err(error) => ("refused", *error as u64, 0, &[]),
     }
 }
@@ -429,6 +441,31 @@ fn passes_and_stands(rt: HostRuntime) -> Result<(), AllocError> {
         Row(stand, DONE, EMPTY, [5, 0, 5, 4]),
         Row(fall, DONE, EMPTY, [5, 0, 0, 4]),
         Row(Event::Waive { client: 0 }, DONE, EMPTY, [0, 0, 0, 4]),
+    ];
+    play(&rt, rt.alloc(), &mut world, rows)
+}
+
+/// A load without a reference tells which entry stands in a slot, shown or hidden.
+#[test]
+fn peeks_at_what_stands(rt: HostRuntime) -> Result<(), AllocError> {
+    let mut world = building(&rt, rt.alloc())?;
+    let show = show(rt.alloc(), 2, Some(3), &[])?;
+    let hide = Event::Hide { client: 0, name: 3 };
+    let there = shown(1, held(0, 3));
+    let gone = hidden(1, held(0, 3));
+    let no_client = Err(CoreError::NoSuchClient);
+    let no_slot = Err(CoreError::NoSuchSlot);
+    let rows = [
+        Row(peek(1, 0), NOTHING_STANDS, BUILDING, [5, 1, 0, 0]),
+        Row(peek(1, 1), NOTHING_STANDS, BUILDING, [5, 1, 0, 0]),
+        Row(show, DONE, there, [5, 1, 0, 0]),
+        Row(peek(1, 1), FIRST_STANDS, there, [5, 1, 0, 0]),
+        Row(hide, Ok(Reply::Hid), gone, [5, 1, 0, 0]),
+        Row(peek(1, 1), FIRST_STANDS, gone, [5, 1, 0, 0]),
+        Row(peek(5, 5), no_slot, gone, [5, 1, 0, 0]),
+        Row(peek(5, 1), no_client, gone, [5, 1, 0, 0]),
+        Row(Event::End { client: 1 }, DONE, gone, [5, 1, 0, 0]),
+        Row(peek(1, 1), NOT_ALLOWED, gone, [5, 1, 0, 0]),
     ];
     play(&rt, rt.alloc(), &mut world, rows)
 }

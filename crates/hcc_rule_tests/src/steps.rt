@@ -110,6 +110,21 @@ fn an_entry_is_found_hidden_and_freed(rt: HostRuntime) -> Result<(), AllocError>
     Ok(())
 }
 
+/// Words of an entry are found without a reference, while it is shown and once it is hidden.
+#[test]
+fn words_are_found_without_a_reference(rt: HostRuntime) -> Result<(), AllocError> {
+    let (table, mut seats) = bench(rt.alloc(), 1)?;
+    let mut me = hired(&rt, &table, &mut seats);
+    let shown = me.draft(FIRST, 200, 2, None);
+    assert_eq!(rt; me.insert(&rt, 1, shown, None), [0, 0, 0]);
+    assert_eq!(rt; me.peek(1), [1, 16, PAYLOAD_WORDS[0], PAYLOAD_WORDS[1]]);
+    let hidden = me.draft(SECOND, 60, 2, Some(7));
+    me.pin_hidden(&rt, 2, hidden, None);
+    assert_eq!(rt; me.peek(2), [2, 16, PAYLOAD_WORDS[0], PAYLOAD_WORDS[1]]);
+    assert_eq!(rt; me.peek(1), [1, 16, PAYLOAD_WORDS[0], PAYLOAD_WORDS[1]]);
+    Ok(())
+}
+
 /// An insertion is given up, an entry stands alone, and the hand is turned.
 #[test]
 fn amounts_come_and_go(rt: HostRuntime) -> Result<(), AllocError> {
