@@ -256,7 +256,8 @@ stamp_is : (o : Option Slot) (entry : Entry) → option_and_then entry_of o ≡ 
 stamp_is None entry is = cc
 stamp_is (Some (slots.Empty strays)) entry is = cc
 stamp_is (Some (slots.Building client strays)) entry is = cc
-stamp_is (Some (slots.Shareable r)) entry is = let same : r.entry ≡ entry = cc in ap Some (ap (λ (e : Entry). e.stamp) same)
+stamp_is (Some (slots.Shareable r)) entry is =
+    let same : r.entry ≡ entry = cc in ap Some (ap (λ (e : Entry). e.stamp) same)
 
 -- so an entry that stands twice stands between
 pub stands_between : (w : State) (events : List Event) → Lawful w → StandsBetween w events

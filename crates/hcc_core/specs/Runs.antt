@@ -110,8 +110,8 @@ pub record FindsOne (world : State) : Type 0 where
 
 -- Entries.
 
--- an entry that stands in a slot in this world and in the one after the events, by its stamp, is the
--- same in both, and stands there in all worlds between
+-- an entry that stands in a slot in this world and in the one after the events, by its stamp, is
+-- the same in both, and stands there in all worlds between
 abbrev pub StandsBetween : State → List Event → Type 0
 StandsBetween world events =
     (slot : ℕ) (entry later : Entry) → entry_at world slot ≡ Some entry

@@ -44,11 +44,11 @@ byte_text byte = digit_glyph false (byte / 16) ∷ digit_glyph false (byte % 16)
 unfoldable pub value_text : List ℕ → List ℕ
 value_text value = if length value == 0 then codes "-" else flat_map byte_text value
 
--- which entry stands in a slot, if one does
-unfoldable pub stands_text : Option Stamp → List ℕ
-stands_text None = codes "stands nothing"
-stands_text (Some stamp) =
-    codes "stands " ++ decimal stamp.client ++ codes " " ++ decimal stamp.number
+-- which entry is shown in a slot, if one is
+unfoldable pub shows_text : Option Stamp → List ℕ
+shows_text None = codes "shows nothing"
+shows_text (Some stamp) =
+    codes "shows " ++ decimal stamp.client ++ codes " " ++ decimal stamp.number
 
 unfoldable pub reply_text : Reply → List ℕ
 reply_text replies.Ok = codes "ok"
@@ -70,7 +70,7 @@ reply_text replies.Granted = codes "granted"
 reply_text replies.Open = codes "open"
 reply_text (replies.Uses uses) = codes "uses " ++ decimal uses
 reply_text (replies.Count count) = codes "count " ++ decimal count
-reply_text (replies.Stands stamp) = stands_text stamp
+reply_text (replies.Shows stamp) = shows_text stamp
 
 unfoldable pub refusal_text : CoreError → List ℕ
 refusal_text NoSuchSlot = codes "refused NoSuchSlot"

@@ -2,7 +2,7 @@
 ghost use Rattle.std.specs.Prelude.{◌≡◌, ◌++◌, ◌∷◌, OnOk, string_bytes, decimal};
 ghost use Rattle.std.specs.List.{flat_map};
 ghost use Rattle.hcc_player.specs.Text.{phase_text, shown_text, mark_text, value_text, byte_text};
-ghost use Rattle.hcc_player.specs.Text.{stands_text, reply_text, refusal_text};
+ghost use Rattle.hcc_player.specs.Text.{shows_text, reply_text, refusal_text};
 ghost use Rattle.hcc_player.specs.Text.{reference_text, references_text};
 ghost use Rattle.hcc_player.specs.Text.{entry_text, initial_text, hit_text, resident_text};
 ghost use Rattle.hcc_player.specs.Text.{slot_text, gap, slots_from, totals_text, world_text};
@@ -76,18 +76,18 @@ pub fn push_value(out: &mut String, value: &[u8]) -> Result<(), AllocError>
     push_bytes(out, value)
 }
 
-/// Writes which entry stands in a slot, if one does.
-#[tactic(auto, unfolding(crate::specs::Text::stands_text))]
-fn push_stands(out: &mut String, stamp: Option<Stamp>) -> Result<(), AllocError>
+/// Writes which entry is shown in a slot, if one is.
+#[tactic(auto, unfolding(crate::specs::Text::shows_text))]
+fn push_shows(out: &mut String, stamp: Option<Stamp>) -> Result<(), AllocError>
     ensures { OnOk result
-        (string_bytes out.new ≡ string_bytes out.old ++ stands_text stamp) }
+        (string_bytes out.new ≡ string_bytes out.old ++ shows_text stamp) }
 {
     let Some(stamp) = stamp else {
-        return out.push_str("stands nothing");
+        return out.push_str("shows nothing");
     };
     let client = stamp.client;
     let number = stamp.number;
-    write!(out, "stands {client} {number}")
+    write!(out, "shows {client} {number}")
 }
 
 /// Writes a reply.
@@ -125,7 +125,7 @@ pub fn push_reply(out: &mut String, reply: &Reply) -> Result<(), AllocError>
         Reply::Open => out.push_str("open"),
         Reply::Uses(uses) => write!(out, "uses {uses}"),
         Reply::Count(count) => write!(out, "count {count}"),
-        Reply::Stands(stamp) => push_stands(out, *stamp),
+        Reply::Shows(stamp) => push_shows(out, *stamp),
     }
 }
 

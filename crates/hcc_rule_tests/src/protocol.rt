@@ -64,9 +64,9 @@ const FIRST: Stamp = Stamp {
     number: 0,
 };
 
-const FIRST_STANDS: Result<Reply, CoreError> = Ok(Reply::Stands(Some(FIRST)));
+const FIRST_SHOWN: Result<Reply, CoreError> = Ok(Reply::Shows(Some(FIRST)));
 
-const NOTHING_STANDS: Result<Reply, CoreError> = Ok(Reply::Stands(None));
+const NOTHING_SHOWN: Result<Reply, CoreError> = Ok(Reply::Shows(None));
 
 const LOOK: Event = Event::Look { client: 1, slot: 1 };
 
@@ -219,8 +219,8 @@ fn told(answer: &Result<Reply, CoreError>) -> (&str, u64, u64, &[u8]) {
         Ok(Reply::Open) => ("open", 0, 0, &[]),
         Ok(Reply::Uses(uses)) => ("uses", *uses, 0, &[]),
         Ok(Reply::Count(count)) => ("count", *count, 0, &[]),
-        Ok(Reply::Stands(None)) => ("stands nothing", 0, 0, &[]),
-        Ok(Reply::Stands(Some(stamp))) => ("stands", stamp.client as u64, stamp.number, &[]),
+        Ok(Reply::Shows(None)) => ("shows nothing", 0, 0, &[]),
+        Ok(Reply::Shows(Some(stamp))) => ("shows", stamp.client as u64, stamp.number, &[]),
         Err(error) => ("refused", *error as u64, 0, &[]),
     }
 }
@@ -445,9 +445,9 @@ fn passes_and_stands(rt: HostRuntime) -> Result<(), AllocError> {
     play(&rt, rt.alloc(), &mut world, rows)
 }
 
-/// A load without a reference tells which entry stands in a slot, shown or hidden.
+/// A load without a reference tells which entry is shown in a slot.
 #[test]
-fn peeks_at_what_stands(rt: HostRuntime) -> Result<(), AllocError> {
+fn peeks_at_what_is_shown(rt: HostRuntime) -> Result<(), AllocError> {
     let mut world = building(&rt, rt.alloc())?;
     let show = show(rt.alloc(), 2, Some(3), &[])?;
     let hide = Event::Hide { client: 0, name: 3 };
@@ -456,12 +456,12 @@ fn peeks_at_what_stands(rt: HostRuntime) -> Result<(), AllocError> {
     let no_client = Err(CoreError::NoSuchClient);
     let no_slot = Err(CoreError::NoSuchSlot);
     let rows = [
-        Row(peek(1, 0), NOTHING_STANDS, BUILDING, [5, 1, 0, 0]),
-        Row(peek(1, 1), NOTHING_STANDS, BUILDING, [5, 1, 0, 0]),
+        Row(peek(1, 0), NOTHING_SHOWN, BUILDING, [5, 1, 0, 0]),
+        Row(peek(1, 1), NOTHING_SHOWN, BUILDING, [5, 1, 0, 0]),
         Row(show, DONE, there, [5, 1, 0, 0]),
-        Row(peek(1, 1), FIRST_STANDS, there, [5, 1, 0, 0]),
+        Row(peek(1, 1), FIRST_SHOWN, there, [5, 1, 0, 0]),
         Row(hide, Ok(Reply::Hid), gone, [5, 1, 0, 0]),
-        Row(peek(1, 1), FIRST_STANDS, gone, [5, 1, 0, 0]),
+        Row(peek(1, 1), NOTHING_SHOWN, gone, [5, 1, 0, 0]),
         Row(peek(5, 5), no_slot, gone, [5, 1, 0, 0]),
         Row(peek(5, 1), no_client, gone, [5, 1, 0, 0]),
         Row(Event::End { client: 1 }, DONE, gone, [5, 1, 0, 0]),

@@ -191,7 +191,11 @@ module _ {T : Type 0} (fits : T → Key → List ℕ → Type 0) (p : Plan T) wh
             seated (r.tags.each id me.0 at_view).glimpse,
         goes,
       )
-      kept done goes false = (met_holds s r id me.0 me.0.met me.0.glimpse at_view seated (r.tags.each id me.0 at_view).glimpse, goes)
+      kept done goes false = (
+        met_holds s r id me.0 me.0.met me.0.glimpse at_view seated
+            (r.tags.each id me.0 at_view).glimpse,
+        goes,
+      )
 
       told : (o : Option Record) → record_in x me.0.records ≡ o → IsSomeAnd o (λ q. q.slot ≡ i)
           → IfSome o (λ q. IsDataWord q.entry index (slice_index s.words a))
@@ -249,7 +253,11 @@ module _ {T : Type 0} (fits : T → Key → List ℕ → Type 0) (p : Plan T) wh
         keeps,
         tt,
         None,
-        rw (word_same s.words a) (met_holds s r id me.0 me.0.met me.0.glimpse at_view seated (r.tags.each id me.0 at_view).glimpse, refl),
+        rw (word_same s.words a) (
+          met_holds s r id me.0 me.0.met me.0.glimpse at_view seated
+              (r.tags.each id me.0 at_view).glimpse,
+          refl,
+        ),
         (
           refl,
           refl,

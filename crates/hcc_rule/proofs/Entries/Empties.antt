@@ -87,7 +87,8 @@ module _ {T : Type 0} (fits : T → Key → List ℕ → Type 0) (p : Plan T) wh
             at_view = at_view;
             at_slot = at_slot;
             seated = seated;
-            same = record { tag = refl; client = refl; others = refl; turns = refl; glimpse = refl };
+            same =
+                record { tag = refl; client = refl; others = refl; turns = refl; glimpse = refl };
             work = refl;
             store = record { records = refl; made = refl; takings = refl; written = refl };
             allowed = empty_allowed r.world me.0.client i me.0.work (is_lawful r.world r.lawful)

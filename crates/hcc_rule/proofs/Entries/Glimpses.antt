@@ -161,7 +161,8 @@ module _ {T : Type 0} (fits : T → Key → List ℕ → Type 0) (p : Plan T) wh
         stamp_same k.entry.stamp first one.0 number
 
     -- what stood there, with it
-    goes_on : (before : Stood) → IsStood p.geometry.room s.words r.books s.views g.slot g.word before
+    goes_on : (before : Stood)
+        → IsStood p.geometry.room s.words r.books s.views g.slot g.word before
         → (now : Stood) × GoesOn k.entry.stamp before now
         × IsStood p.geometry.room s.words r.books s.views g.slot g.word now
     goes_on stood.Unseen tag = elim (cases_eq stamped g.word) [

@@ -246,10 +246,11 @@ module _ {T : Type 0} (fits : T → Key → List ℕ → Type 0) (p : Plan T) wh
           let found : slice_index words (stamp_at p.geometry.room slot) ≡ y =
           ap (slice_index words) here ∙ word_here s.words a y inside in
           let push = length-push v.written y in
+          let more : STAMP < length (v.written ++ y ∷ []) = omega arith in
           let last : slice_index (v.written ++ y ∷ []) STAMP ≡ y =
           ap (slice_index (v.written ++ y ∷ [])) (sym long) ∙ last_at v.written y in
           rw found (inr (
-            (builds ∙ ap owned.ForBuilding (sym one.0), (let low : STAMP < length (v.written ++ y ∷ []) = omega arith in low), last),
+            (builds ∙ ap owned.ForBuilding (sym one.0), more, last),
             unshown (stamp long),
           ))
       | inr other ↦ inl (word_else s.words a (stamp_at p.geometry.room slot) y other)

@@ -129,7 +129,8 @@ module _ {T : Type 0} (size room : ℕ) (words after : List ℕ) (books grown : 
       λ same. elim (step.word slot near) [
         | inl still ↦ gone.1 (sym still ∙ same)
         | inr written ↦
-            written.1 (subst (WasShown grown) (sym same) (shown_on books grown word step.made gone.0))
+            written.1 (subst (WasShown grown) (sym same)
+            (shown_on books grown word step.made gone.0))
       ],
     )
 
@@ -154,8 +155,8 @@ module _ {T : Type 0} (size room : ℕ) (words after : List ℕ) (books grown : 
           let old = tags.each j u there in tagged_on u old.next old.looked old.glimpse);
     }
 
-  -- What is owed where the seat's client goes on to own what it owned, and to write and to have made
-  -- what it did.
+  -- What is owed where the seat's client goes on to own what it owned, and to have written and made
+  -- what it had.
   pub quiet : IsTagged size room words books views v → ((c : ℕ) → AreApart (book_of books c))
       → grown ≡ books → new.work.owned ≡ v.work.owned → new.written ≡ v.written
       → new.client ≡ v.client → new.made ≡ v.made

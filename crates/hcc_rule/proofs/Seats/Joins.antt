@@ -324,7 +324,8 @@ module _ {T : Type 0} (fits : T → Key → List ℕ → Type 0) (p : Plan T) wh
         → o.made ≡ u.made → o.glimpse ≡ u.glimpse
         → IsTagged p.geometry.slots p.geometry.room s.words r.books s.views u
         → IsTagged p.geometry.slots p.geometry.room s.words r.books views o
-    still_tagged = tagged_carried p.geometry.slots p.geometry.room s.words r.books s.views views carry
+    still_tagged =
+        tagged_carried p.geometry.slots p.geometry.room s.words r.books s.views views carry
 
     pub join_holds : Holds fits p record { words = s.words; homes = s.homes; views = views }
     join_holds = record {
@@ -360,7 +361,8 @@ module _ {T : Type 0} (fits : T → Key → List ℕ → Type 0) (p : Plan T) wh
         apart = r.tags.apart;
         each = each_joined (IsTagged p.geometry.slots p.geometry.room s.words r.books views)
             (still_tagged v both refl refl refl refl refl (r.tags.each id v at))
-            (tagged_none p.geometry.slots p.geometry.room s.words r.books views spent refl refl refl)
+            (tagged_none p.geometry.slots p.geometry.room s.words r.books views spent refl refl
+            refl)
             (λ j u away at_u. still_tagged u u refl refl refl refl refl (r.tags.each j u at_u));
       };
     }

@@ -281,7 +281,8 @@ module _ {T : Type 0} (fits : T → Key → List ℕ → Type 0) (p : Plan T) wh
         → w.made ≡ u.made → w.glimpse ≡ u.glimpse
         → IsTagged p.geometry.slots p.geometry.room s.words r.books s.views u
         → IsTagged p.geometry.slots p.geometry.room s.words r.books views w
-    still_tagged = tagged_carried p.geometry.slots p.geometry.room s.words r.books s.views views carry
+    still_tagged =
+        tagged_carried p.geometry.slots p.geometry.room s.words r.books s.views views carry
 
     pub split_holds : Holds fits p record { words = s.words; homes = s.homes; views = views }
     split_holds = record {

@@ -1,10 +1,10 @@
 //! Loads of a client that reads an entry without a reference on it: it may be freed meanwhile, and
 //! the client sees that.
 //!
-//! A stamp word never stands in a slot twice. So if the client looked at the slot and found an entry,
-//! and then finds the slot's stamp word (`glimpse_at`), twice a visible meta word (`glance_at`), and
-//! the same stamp word again (`recheck_at`), one entry stood there from the first glance to the last,
-//! and what it loaded between them (`peek_at`) are this entry's words.
+//! A stamp word never stands in a slot twice. So if the client looked at the slot and found an
+//! entry, and then finds the slot's stamp word (`glimpse_at`), twice a visible meta word
+//! (`glance_at`), and the same stamp word again (`recheck_at`), one entry stood there from the
+//! first glance to the last, and what it loaded between them (`peek_at`) are this entry's words.
 ghost use Rattle.std.specs.Prelude.{◌≡◌, ◌≢◌, ◌+◌, ◌<◌, Option, Some, IfSome, IsSomeAnd};
 ghost use Rattle.hcc_core.specs.declared.slot.Stamp.{Stamp};
 ghost use Rattle.hcc_core.specs.Runs.{entry_at};
@@ -38,12 +38,13 @@ impl<T: Tag, A: Allocator> RuleTable<T, A> {
         ensures event { (stamp : Option Stamp)
             × IsEvent self.now (peek_done at.slot stamp (view seat.old)) seat.old seat.new }
     {
-        self.load::<Brand, _>(seat, self.data_address(at, STAMP), at.slot)
+        let address = self.data_address(at, STAMP);
+        self.load::<Brand, _>(seat, address, at.slot)
     }
 
-    /// Loads the meta word of the slot whose stamp word the client loaded last. Where it is visible,
-    /// an entry is shown there; the view tells whether each entry that was found so is this one, and
-    /// has that stamp word.
+    /// Loads the meta word of the slot whose stamp word the client loaded last. Where it is
+    /// visible, an entry is shown there; the view tells whether each entry that was found so is
+    /// this one, and has that stamp word.
     ///
     /// It allocates nothing. It costs one load.
     pub fn glance_at(&self, seat: &mut RuleSeat<T>, at: SlotAt) -> u64

@@ -10,9 +10,9 @@ load-requires g c =
     let planned = c.args.self.now.planned in
     let seat = c.requires.seat in (
       seat,
-      c.data_address.ensures.inside,
+      c.data_address-address.ensures.inside,
       glimpse_step g.T.Tag.fits (plan_of c.args.self.now) _ _ c.args.at.slot _ _
           (ap is_some seat.tagged) (rw planned.0 c.requires.at.0) c.requires.looked
-          (rw planned.0 (c.data_address.ensures.value
+          (rw planned.0 (c.data_address-address.ensures.value
           ∙ sym (data_field _ c.args.at.slot STAMP))),
     )
