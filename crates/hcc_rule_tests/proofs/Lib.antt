@@ -1,2 +1,3 @@
 pub mod NewSeats
 pub mod Hands
+pub mod Serials

@@ -71,6 +71,7 @@ module _ {T : Type 0} (id : TableId) (tag : T) where
         seat_of = new.seat_of;
         client_is = ap (λ (v : View T). v.client) view_is;
         made = ap (λ (v : View T). length v.made) view_is;
+        above = rw (ap (λ (v : View T). v.made) view_is) tt;
         ready = record {
           in_hand = rw view_is refl;
           records_are = ap (λ (v : View T). v.records) view_is;

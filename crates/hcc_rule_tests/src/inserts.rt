@@ -1,5 +1,6 @@
 //! How a worker shows an entry.
-ghost use Rattle.std.specs.Prelude.{◌≡◌, ◌+◌, ◌^◌, ◌<◌, ◌≤◌, [], Some, None, IfSome, length, option_to_list};
+ghost use Rattle.std.specs.Prelude.{◌≡◌, ◌+◌, ◌^◌, ◌<◌, ◌≤◌, [], Some, None, IfSome, length};
+ghost use Rattle.std.specs.Prelude.{option_to_list, slice_index};
 ghost use Rattle.hcc_core.specs.declared.limits.TheConstants.{STAMPS_PER_CLIENT};
 ghost use Rattle.hcc_core.specs.declared.slot.Entry.{Entry};
 ghost use Rattle.hcc_core.specs.declared.client.Owned.TheVariants.{ForBuilding};
@@ -7,7 +8,9 @@ ghost use Rattle.hcc_core.specs.declared.client.Place.TheVariants.{Granted};
 ghost use Rattle.hcc_core.specs.Opening.{new_client};
 ghost use Rattle.hcc_rule.specs.Work.{Carries};
 ghost use Rattle.hcc_rule_tests.specs.Benches.{IsReady};
+ghost use Rattle.hcc_rule.specs.declared.layout.TheConstants.{STAMP};
 ghost use Rattle.hcc_rule.specs.Probes.{trail_to};
+ghost use Rattle.hcc_rule.specs.Rule.{IsNextStamp};
 ghost use Rattle.hcc_rule.specs.Seats.{view};
 ghost use Rattle.hcc_rule.specs.ToldOwners.{after_write, first_records, made_of};
 ghost use Rattle.hcc_rule.specs.Words.{made_words};
@@ -108,6 +111,7 @@ impl Worker<'_> {
         requires slot { slot < 8 }
         requires owned { (view self.old.seat).work.owned ≡ ForBuilding slot }
         requires none { (view self.old.seat).written ≡ [] }
+        requires stamp { IsNextStamp (slice_index words STAMP) (view self.old.seat) }
         ensures same { (self.new.table ≡ self.old.table) × (self.new.client ≡ self.old.client)
             × (self.new.shown ≡ self.old.shown)
             × ((view self.new.seat).others ≡ (view self.old.seat).others) }
@@ -128,6 +132,7 @@ impl Worker<'_> {
         requires slot { slot < 8 }
         requires owned { (view self.old.seat).work.owned ≡ ForBuilding slot }
         requires next { (index ≡ length (view self.old.seat).written) × (index < 7) }
+        requires stamp { index ≡ STAMP → IsNextStamp word (view self.old.seat) }
         ensures same { (self.new.table ≡ self.old.table) × (self.new.client ≡ self.old.client)
             × (self.new.shown ≡ self.old.shown)
             × ((view self.new.seat).others ≡ (view self.old.seat).others) }

@@ -2,8 +2,9 @@
 //! reference. Each call makes a few single steps and answers the words that they found.
 ghost use Rattle.std.specs.Prelude.{◌≡◌, ◌<◌, ◌∷◌, ◌++◌, length};
 ghost use Rattle.hcc_rule.specs.Callers.{plan_of, IsSeatAt};
-ghost use Rattle.hcc_rule_tests.specs.Benches.{IsBench, IsReady};
+ghost use Rattle.hcc_rule_tests.specs.Benches.{IsBench, IsReady, above_prop};
 ghost use Rattle.hcc_rule.specs.Passing.{as_other};
+ghost use Rattle.hcc_rule.specs.Rule.{IsAbove};
 ghost use Rattle.hcc_rule.specs.Seats.{view};
 
 use crate::any::AnyBytes;
@@ -30,12 +31,13 @@ pub(super) struct Worker<'a> {
     pub(super) table: &'a Bench,
     pub(super) seat: RuleSeat<AnyBytes>,
     pub(super) client: u32,
-    /// How many entries the client showed.
+    /// How many entries the client showed. It is above their serials.
     pub(super) shown: u64,
     ghost bench: { IsBench (plan_of table.now) },
     ghost seated: { IsSeatAt table.now seat },
     ghost numbered: { (view seat).client ≡ client },
     ghost counted: { length (view seat).made ≡ shown },
+    ghost above: { IsAbove shown (view seat).made } by { above_prop shown (view seat).made },
 }
 
 impl Worker<'_> {

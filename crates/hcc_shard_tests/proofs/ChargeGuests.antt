@@ -10,13 +10,14 @@ use Rattle.hcc_rule.specs.declared.rule.Plan.{Plan}
 use Rattle.hcc_rule.specs.declared.steps.shows.Draft.{Draft}
 use Rattle.hcc_rule.specs.declared.view.Record.{Record}
 use Rattle.hcc_rule.specs.declared.view.View.{View}
-use Rattle.hcc_rule.specs.Rule.{IsRight}
+use Rattle.hcc_rule.specs.Rule.{IsAbove, IsRight}
 use Rattle.hcc_rule.specs.ToldOwners.{first_records, made_of, shown_entry}
 use Rattle.hcc_rule.specs.Views.{Each, load_of}
 use Rattle.hcc_rule.specs.Records.{record_in}
 use Rattle.hcc_table.specs.Inserted.{IsPlaced, MayInsert}
 use Rattle.hcc_shard_tests.specs.ChargeGuests.{IsDrafted, IsGuest}
 use Rattle.hcc_charge.proofs.Visitings.{one_longer}
+use Rattle.hcc_shard.proofs.Names.{above_more}
 
 -- a name that no reference has
 pub unnamed : (x : ℕ) (rs : List Record) → Each (λ (r : Record). r.name < x) rs
@@ -68,6 +69,7 @@ module _ {T : Type 0} where
     called = d.name;
     room = let load = g.load in omega arith;
     stamps = let made = g.made in omega arith;
+    above = rw d.serial g.above;
   }
 
   -- and has nothing in hand once its entry was put in.
@@ -96,6 +98,9 @@ module _ {T : Type 0} where
             (let longer = one_longer v.made (made_of draft value) in
             let made = g.made in
             omega arith);
+        above =
+            subst (IsAbove (shown + 1)) (sym (ap (λ (z : View T). z.made) same))
+            (above_more shown v.made (made_of draft value) d.serial g.above);
         names =
             subst (Each (λ (q : Record). q.name < shown + 1))
             (sym (ap (λ (z : View T). z.records) same))

@@ -17,6 +17,7 @@ use Rattle.hcc_rule.specs.declared.view.View.{View}
 use Rattle.hcc_rule.specs.Callers.{clients_of}
 use Rattle.hcc_rule.specs.Images.{made_from, maker_of}
 use Rattle.hcc_rule.specs.Opening.{unstarted}
+use Rattle.hcc_rule.specs.Rule.{IsAbove}
 use Rattle.hcc_rule.specs.Seats.{view}
 use Rattle.hcc_rule.specs.Views.{Each, is_called, named_by}
 use Rattle.hcc_rule.specs.Records.{record_in}
@@ -37,7 +38,7 @@ use Rattle.hcc_shard.specs.Referred.{IsReleased}
 use Rattle.hcc_shard.specs.Seated.{AreBegun, AreNew, IsBegun, IsKept, IsNew, Rests}
 use Rattle.hcc_shard.specs.declared.inserting.Inserted.{Inserted}
 use Rattle.hcc_shard.specs.declared.inserting.Inserted.TheVariants as inserted
-use Rattle.hcc_shard.proofs.Names.{each_as, each_left, each_more, found_if, length_more}
+use Rattle.hcc_shard.proofs.Names.{above_later, above_made, above_more, each_as, each_left, each_more, found_if, length_more}
 use Rattle.hcc_shard_tests.proofs.Bytes.{each_from}
 
 -- The pin of a name is that of the record of this name.
@@ -114,6 +115,7 @@ counted_up n m v up c = record {
   records = records_up n m up v.records c.records;
   standalones = standing_up n m up v.work.standalones c.standalones;
   made = let made = c.made in omega arith;
+  above = above_later n m v.made up c.above;
 }
 
 -- what tests look at stays
@@ -165,15 +167,17 @@ module _ {T A : Type 0} (shard : Shard T A) (old : ShardSeat T) (pins : List Pin
             rw same.standalones
             (standing_up next m up v.work.standalones g.counted.standalones);
         made = let made = g.counted.made in rw same.made (omega arith);
+        above = rw same.made (above_later next m v.made up g.counted.above);
       };
     }
 
     -- one reference came
     pub guest_more : (r : Record) (pin : Pin) → w.others ≡ v.others
         → w.work.standalones ≡ v.work.standalones → length w.made ≤ next + 1
-        → w.records ≡ v.records ++ r ∷ [] → r.name ≡ next → pin ≡ pin_of r
+        → IsAbove (next + 1) w.made → w.records ≡ v.records ++ r ∷ [] → r.name ≡ next
+        → pin ≡ pin_of r
         → IsGuest shard new (pins ++ pin ∷ []) standing (next + 1)
-    guest_more r pin others standalones made more called is = record {
+    guest_more r pin others standalones made above more called is = record {
       rests = rests;
       single = others ∙ g.single;
       holds = rw is (ap (λ ps. ps ++ pin_of r ∷ []) g.holds ∙ (more_pins v.records r
@@ -188,6 +192,7 @@ module _ {T A : Type 0} (shard : Shard T A) (old : ShardSeat T) (pins : List Pin
             rw standalones
             (standing_up next (next + 1) (omega arith) v.work.standalones g.counted.standalones);
         made = made;
+        above = above;
       };
     }
 
@@ -208,6 +213,7 @@ module _ {T A : Type 0} (shard : Shard T A) (old : ShardSeat T) (pins : List Pin
             g.counted.records);
         standalones = rw standalones g.counted.standalones;
         made = rw made g.counted.made;
+        above = rw made g.counted.above;
       };
     }
 
@@ -229,6 +235,7 @@ module _ {T A : Type 0} (shard : Shard T A) (old : ShardSeat T) (pins : List Pin
             (standing_up next (next + 1) (omega arith) v.work.standalones
             g.counted.standalones) (omega arith));
         made = let before = g.counted.made in rw made (omega arith);
+        above = rw made (above_later next (next + 1) v.made (omega arith) g.counted.above);
       };
     }
 
@@ -252,6 +259,7 @@ module _ {T A : Type 0} (shard : Shard T A) (old : ShardSeat T) (pins : List Pin
                 (each_left (λ (q : Standalone). q.name < next) (is_standing name)
                 v.work.standalones g.counted.standalones);
             made = rw made g.counted.made;
+            above = rw made g.counted.above;
           };
         }
 
@@ -274,6 +282,8 @@ module _ {T A : Type 0} (shard : Shard T A) (old : ShardSeat T) (pins : List Pin
         (let before = g.counted.made in
         let made : w.made ≡ v.made = ap (λ (z : View T). z.made) s.same in
         rw made (omega arith))
+        (rw (ap (λ (z : View T). z.made) s.same)
+        (above_later next (next + 1) v.made (omega arith) g.counted.above))
         more called
         (λ k. record {
           name = (named ∙ sym called) k;
@@ -338,11 +348,18 @@ module _ {T A : Type 0} (shard : Shard T A) (old : ShardSeat T) (pins : List Pin
       refused_guest CapacityFull h = guest_same (next + 1) (omega arith) (unmade h.0 refl)
       refused_guest OccupancyFull h = guest_same (next + 1) (omega arith) (unmade h.0 refl)
 
+      -- an entry was shown under the next serial
+      shown_above : (value : List ℕ) (slot : ℕ) → draft.serial ≡ next
+          → Shows slots capacity strict draft value slot v w → IsAbove (next + 1) w.made
+      shown_above value slot serial h =
+          rw (ap (λ (z : View T). z.made) h.tries.same)
+          (above_more next v.made (made_of draft value) serial g.counted.above)
+
       -- an entry was shown, and no reference on it is kept
-      shown_guest : (value : List ℕ) (slot : ℕ) → draft.name ≡ None
+      shown_guest : (value : List ℕ) (slot : ℕ) → draft.name ≡ None → draft.serial ≡ next
           → Shows slots capacity strict draft value slot v w
           → IsGuest shard new pins standing (next + 1)
-      shown_guest value slot none h = record {
+      shown_guest value slot none serial h = record {
         rests = rests;
         single = ap (λ (z : View T). z.others) h.tries.same ∙ g.single;
         holds = g.holds ∙ ap (map pin_of) (sym records);
@@ -358,6 +375,7 @@ module _ {T A : Type 0} (shard : Shard T A) (old : ShardSeat T) (pins : List Pin
               let before = g.counted.made in
               let longer = length_more v.made (made_of draft value) in
               rw (ap (λ (z : View T). z.made) h.tries.same) (omega arith);
+          above = shown_above value slot serial h;
         };
       }
         where
@@ -368,12 +386,13 @@ module _ {T A : Type 0} (shard : Shard T A) (old : ShardSeat T) (pins : List Pin
               ∙ append-nil v.records)
 
       pub inserted_guest : (value : List ℕ) (answer : Result Inserted Refused) → draft.name ≡ None
-          → InsertedBy slots capacity strict draft value answer v w
+          → draft.serial ≡ next → InsertedBy slots capacity strict draft value answer v w
           → IsGuest shard new pins standing (next + 1)
-      inserted_guest value (Ok inserted.Placed) none h = shown_guest value h.0 none h.1
-      inserted_guest value (Ok inserted.Dropped) none h =
+      inserted_guest value (Ok inserted.Placed) none serial h =
+          shown_guest value h.0 none serial h.1
+      inserted_guest value (Ok inserted.Dropped) none serial h =
           guest_same (next + 1) (omega arith) (unmade h.tries refl)
-      inserted_guest value (Err why) none h = refused_guest why h
+      inserted_guest value (Err why) none serial h = refused_guest why h
 
       -- one that keeps a reference
       pub pinned_guest : (value : List ℕ) (pin : Pin) → draft.name ≡ Some draft.serial
@@ -394,6 +413,7 @@ module _ {T A : Type 0} (shard : Shard T A) (old : ShardSeat T) (pins : List Pin
           (let before = g.counted.made in
           let longer = length_more v.made (made_of draft value) in
           rw (ap (λ (z : View T). z.made) h.tries.same) (omega arith))
+          (shown_above value pin.slot serial h)
           (ap (λ (z : View T). z.records) h.tries.same
           ∙ ap (λ n. v.records
           ++ first_records pin.slot n (shown_entry v (made_of draft value))) named)
@@ -452,19 +472,20 @@ last_new shard first (x ∷ xs) seat h =
 
 -- The seat of a client that only made something is a guest's that holds nothing.
 pub guest_begun : {T A : Type 0} (shard : Shard T A) (o : Other) (next : ℕ) (seat : ShardSeat T)
-    → IsBegun shard o seat → length o.made ≤ next → IsGuest shard seat [] [] next
-guest_begun shard o next seat n past = record {
+    → IsBegun shard o seat → length o.made ≤ next → IsAbove next o.made
+    → IsGuest shard seat [] [] next
+guest_begun shard o next seat n past above = record {
   rests = n.rests;
   single = ap (λ (z : View _). z.others) n.fresh;
   holds = sym (ap (λ (z : View _). map pin_of z.records) n.fresh);
   stands = sym (ap (λ (z : View _). z.work.standalones) n.fresh);
-  counted = rw n.fresh (record { records = tt; standalones = tt; made = past });
+  counted = rw n.fresh (record { records = tt; standalones = tt; made = past; above = above });
 }
 
 -- A new seat is.
 pub guest_new : {T A : Type 0} (shard : Shard T A) (client : ℕ) (seat : ShardSeat T)
     → IsNew shard client seat → IsGuest shard seat [] [] 0
-guest_new shard client seat n = guest_begun shard (unstarted client) 0 seat n (omega arith)
+guest_new shard client seat n = guest_begun shard (unstarted client) 0 seat n (omega arith) tt
 
 -- So is that of the client that made the entries of an image.
 pub guest_maker : {T A : Type 0} (shard : Shard T A) (es : List ImageEntry)
@@ -475,7 +496,9 @@ guest_maker shard es (x ∷ xs) seat all some is =
     let few : length (made_from 0 es) ≤ length es =
     let same = made_length 0 es in omega arith in
     let same : seat ≡ x = is in
-    rw same (guest_begun shard (maker_of es) (length es) x all.0 few)
+    rw same
+    (guest_begun shard (maker_of es) (length es) x all.0 few
+    (above_made 0 (length es) es (omega arith)))
 
 -- any value is right for the tag of the tests
 pub all_fit : (es : List ImageEntry) → Each (λ (e : ImageEntry). Unit {0}) es

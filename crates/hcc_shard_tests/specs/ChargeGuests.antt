@@ -4,14 +4,15 @@ use Rattle.hcc_core.specs.declared.client.Place.{Place}
 use Rattle.hcc_rule.specs.declared.steps.shows.Draft.{Draft}
 use Rattle.hcc_rule.specs.declared.view.Record.{Record}
 use Rattle.hcc_rule.specs.declared.view.View.{View}
+use Rattle.hcc_rule.specs.Rule.{IsAbove}
 use Rattle.hcc_rule.specs.Views.{Each, load_of}
 use Rattle.hcc_table.specs.Erased.{IsAtRest}
 use Rattle.hcc_charge.specs.Settled.{HasFreedNothing}
 
 module _ {T : Type 0} where
   -- A client that has this place and this much granted, and nothing else in hand but standalone
-  -- entries and references. It made at most so many entries, and the name of each reference is how
-  -- many it made before.
+  -- entries and references. It made at most so many entries, and the serial of each and the name of
+  -- each reference is how many it made before.
   pub record IsGuest (place : Place) (granted client shown : ℕ) (v : View T) : Type 0 where
     pub live : v.work.live ≡ true
     pub rest : IsAtRest v
@@ -20,6 +21,7 @@ module _ {T : Type 0} where
     pub settled : HasFreedNothing v
     pub own : v.client ≡ client
     pub made : length v.made ≤ shown
+    pub above : IsAbove shown v.made
     pub names : Each (λ (r : Record). r.name < shown) v.records
     pub load : load_of v.records ≤ shown
 

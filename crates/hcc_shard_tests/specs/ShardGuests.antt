@@ -5,6 +5,7 @@ use Rattle.hcc_rule.specs.declared.key.Key.{Key}
 use Rattle.hcc_rule.specs.declared.steps.shows.Draft.{Draft}
 use Rattle.hcc_rule.specs.declared.view.Record.{Record}
 use Rattle.hcc_rule.specs.declared.view.View.{View}
+use Rattle.hcc_rule.specs.Rule.{IsAbove}
 use Rattle.hcc_rule.specs.Seats.{view}
 use Rattle.hcc_rule.specs.Views.{Each, named_by}
 use Rattle.hcc_table.specs.declared.pins.Pin.{Pin}
@@ -24,11 +25,12 @@ pin_of r = record { name = r.name; slot = r.slot; counting = r.counting }
 abbrev pub is_pin : ℕ → Pin → Bool
 is_pin name pin = pin.name == name
 
--- All names are below this number, and no more entries were made.
+-- All names and the serials of all entries are below this number, and no more entries were made.
 pub record IsCounted {T : Type 0} (next : ℕ) (v : View T) : Type 0 where
   pub records : Each (λ (r : Record). r.name < next) v.records
   pub standalones : Each (λ (s : Standalone). s.name < next) v.work.standalones
   pub made : length v.made ≤ next
+  pub above : IsAbove next v.made
 
 -- A seat at rest that names one client. These are its pins and its standalone entries.
 pub record IsGuest {T A : Type 0} (shard : Shard T A) (seat : ShardSeat T) (pins : List Pin)

@@ -1,20 +1,22 @@
 //! A client at work at a shard, and how it shows an entry.
 ghost use Rattle.std.specs.Prelude.{◌≡◌, ◌^◌, ◌<◌, ◌≤◌, [], ◌∷◌, Some, true, IfOk, IfSome, OnOk};
-ghost use Rattle.std.specs.Prelude.{length, option_to_list};
+ghost use Rattle.std.specs.Prelude.{length, option_to_list, slice_index};
 ghost use Rattle.hcc_core.specs.declared.limits.TheConstants.{MOST_WEIGHT, STAMPS_PER_CLIENT};
 ghost use Rattle.hcc_core.specs.declared.slot.Entry.{Entry};
 ghost use Rattle.hcc_core.specs.declared.client.Owned.TheVariants.{ForBuilding};
 ghost use Rattle.hcc_core.specs.declared.client.Place.TheVariants.{Granted};
 ghost use Rattle.hcc_core.specs.Opening.{new_client};
 ghost use Rattle.hcc_rule.specs.Callers.{plan_of, IsSeatAt};
+ghost use Rattle.hcc_rule.specs.declared.layout.TheConstants.{STAMP};
 ghost use Rattle.hcc_rule.specs.Probes.{trail_to};
+ghost use Rattle.hcc_rule.specs.Rule.{IsAbove, IsNextStamp};
 ghost use Rattle.hcc_rule.specs.Seats.{view};
 ghost use Rattle.hcc_rule.specs.ToldOwners.{after_write, first_records, made_of};
 ghost use Rattle.hcc_rule.specs.ToldReferences.{record_of};
 ghost use Rattle.hcc_rule.specs.Work.{Carries};
 ghost use Rattle.hcc_rule.specs.Words.{made_words};
 ghost use Rattle.hcc_word.specs.Word.{is_counting};
-ghost use Rattle.hcc_rule_tests.specs.Benches.{IsBench, IsReady};
+ghost use Rattle.hcc_rule_tests.specs.Benches.{IsBench, IsReady, above_prop};
 
 use super::tape::Tape;
 use hcc_core::limits::STAMPS_PER_CLIENT;
@@ -58,7 +60,7 @@ const PAYLOAD_WORDS: [u64; 2] = [0x0706_0504_0302_0100, 0x0f0e_0d0c_0b0a_0908];
 /// The value as a script has it.
 const VALUE_TEXT: &str = "000102030405060708090a0b0c0d0e0f";
 
-/// The seat of a client, and how many entries the client showed.
+/// The seat of a client, and how many entries the client showed, which is above their serials.
 #[derive(Drop)]
 pub(super) struct Worker<'a> {
     pub(super) table: &'a Bench,
@@ -69,6 +71,7 @@ pub(super) struct Worker<'a> {
     ghost seated: { IsSeatAt table.now seat },
     ghost numbered: { (view seat).client ≡ client },
     ghost counted: { length (view seat).made ≡ shown },
+    ghost above: { IsAbove shown (view seat).made } by { above_prop shown (view seat).made },
 }
 
 impl Worker<'_> {
@@ -266,6 +269,7 @@ impl Worker<'_> {
         requires slot { slot < 8 }
         requires owned { (view self.old.seat).work.owned ≡ ForBuilding slot }
         requires none { (view self.old.seat).written ≡ [] }
+        requires stamp { IsNextStamp (slice_index words STAMP) (view self.old.seat) }
         ensures same { (self.new.table ≡ self.old.table) × (self.new.client ≡ self.old.client)
             × (self.new.shown ≡ self.old.shown) }
         ensures view { OnOk result
@@ -292,6 +296,7 @@ impl Worker<'_> {
         requires slot { slot < 8 }
         requires owned { (view self.old.seat).work.owned ≡ ForBuilding slot }
         requires next { (index ≡ length (view self.old.seat).written) × (index < 7) }
+        requires stamp { index ≡ STAMP → IsNextStamp word (view self.old.seat) }
         ensures same { (self.new.table ≡ self.old.table) × (self.new.client ≡ self.old.client)
             × (self.new.shown ≡ self.old.shown) }
         ensures view { OnOk result (view self.new.seat ≡ after_write word (view self.old.seat)) }

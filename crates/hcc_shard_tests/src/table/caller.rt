@@ -6,9 +6,9 @@ ghost use Rattle.hcc_core.specs.declared.limits.TheConstants.{MOST_CLIENTS};
 ghost use Rattle.hcc_core.specs.Opening.{new_client};
 ghost use Rattle.hcc_core.specs.World.{limit_of};
 ghost use Rattle.hcc_rule.specs.Callers.{plan_of, slots_of, IsSeatAt};
-ghost use Rattle.hcc_rule.specs.Rule.{setup_of};
+ghost use Rattle.hcc_rule.specs.Rule.{IsAbove, setup_of};
 ghost use Rattle.hcc_rule.specs.Work.{Carries};
-ghost use Rattle.hcc_rule_tests.specs.Benches.{IsReady};
+ghost use Rattle.hcc_rule_tests.specs.Benches.{IsReady, above_prop};
 ghost use Rattle.hcc_rule.specs.Seats.{view};
 ghost use Rattle.hcc_shard_tests.specs.Handles.{HoldsOne, IsPin, IsSmall};
 
@@ -35,7 +35,7 @@ pub(super) struct Caller<'a> {
     pub(super) client: u32,
     /// How many places the table grants.
     pub(super) limit: u64,
-    /// How many entries the client showed.
+    /// How many entries the client showed. It is above their serials.
     pub(super) shown: u64,
     /// What its calls took.
     pub(super) effort: Effort,
@@ -44,6 +44,7 @@ pub(super) struct Caller<'a> {
     ghost numbered: { ((view seat).client ≡ client) × (client < MOST_CLIENTS) },
     ghost limited: { limit ≡ limit_of (setup_of (plan_of table.now)) },
     ghost counted: { length (view seat).made ≡ shown },
+    ghost above: { IsAbove shown (view seat).made } by { above_prop shown (view seat).made },
 }
 
 impl Caller<'_> {

@@ -19,6 +19,7 @@ invariant_of-result g c =
       seated = ready.seat_of;
       numbered = ready.client_is ∙ number;
       counted = ready.made;
+      above = ready.above;
     }
 
 pub returns-clause-ready : goal.returns-clause-ready

@@ -11,7 +11,7 @@ returns-clause-keeps g c =
     let table = me.shard.now.table in
     inserted_guest me.shard.now me.seat me.pins.items me.standing.items me.next c.requires.keeps
     c.insert-answer.new.seat told.seat (slots_of table) (capacity_of table) (is_strict table) _
-    c.args.value.now c.insert-answer.result refl told.view
+    c.args.value.now c.insert-answer.result refl c.draft-draft.ensures.serial told.view
 
 pub insert-answer-requires-clause-may : goal.insert-answer-requires-clause-may
 insert-answer-requires-clause-may g c =
