@@ -1,3 +1,4 @@
 pub mod Bytes
 pub mod ChargeGuests
+pub mod Placings
 pub mod ShardGuests
