@@ -7,7 +7,6 @@ ghost use Rattle.hcc_core.specs.World.{phase_of, phase_if, is_shareable, strays_
 ghost use Rattle.hcc_core.specs.World.{uses_of, charge_of, stamp_of, hidden_stamp, trail_of};
 ghost use Rattle.hcc_core.specs.World.{weight_of, counts_in, is_named, reference_in, has_reference};
 ghost use Rattle.hcc_core.specs.World.{has_client, slot_holding};
-ghost use Rattle.hcc_core.specs.Lawful.{shown_stamp};
 ghost use Rattle.hcc_core.specs.Outcomes.{dropped};
 ghost use Rattle.hcc_core.specs.References.{acquired, slot_acquired, slot_given, slot_used};
 ghost use Rattle.hcc_core.specs.References.{left_on, dead_to, counting_in};
@@ -224,23 +223,6 @@ impl Slot {
             Slot::Empty { .. } => None,
             Slot::Building { .. } => None,
             Slot::Shareable(resident) => Some(resident.entry.stamp),
-        }
-    }
-
-    /// The stamp of its entry, if that is shown.
-    pub(crate) fn shown_stamp(&self) -> Option<Stamp>
-        ensures { result ≡ shown_stamp self.now }
-    {
-        match self {
-            Slot::Empty { .. } => None,
-            Slot::Building { .. } => None,
-            Slot::Shareable(resident) => {
-                if resident.shown {
-                    Some(resident.entry.stamp)
-                } else {
-                    None
-                }
-            }
         }
     }
 

@@ -2,9 +2,11 @@
 -- a world with the words, and of the steps what the words are before there is one.
 use Rattle.std.specs.Prelude.{◌≡◌, ◌≢◌, ℕ, ◌+◌, List, [], ◌∷◌, ◌++◌, Option, Some, None, length, map, slice_get}
 use Rattle.atomic_table.specs.Table as table
+use Rattle.hcc_core.specs.declared.event.Event.{Event}
 use Rattle.hcc_core.specs.declared.slot.Entry.{Entry}
-use Rattle.hcc_core.specs.Runs.{entry_at}
+use Rattle.hcc_core.specs.Runs.{StandsBetween, entry_at}
 use Rattle.hcc_core.specs.Sums.{total}
+use Rattle.hcc_core.specs.World.{State}
 use Rattle.hcc_rule.specs.declared.key.Key.{Key}
 use Rattle.hcc_rule.specs.declared.layout.TheConstants.{DATA}
 use Rattle.hcc_rule.specs.declared.rule.Plan.{Plan}
@@ -18,6 +20,7 @@ use Rattle.hcc_rule.specs.Opening.{begun_world, opening_view}
 use Rattle.hcc_rule.specs.Rule.{Holds}
 use Rattle.hcc_rule.specs.Seats.{atomic, moves_of}
 use Rattle.hcc_rule.specs.Told.{Held}
+use Rattle.hcc_rule.specs.ToldGlimpses.{IsRightEntry}
 use Rattle.hcc_rule.specs.ToldOwners.{IsDataWord}
 use Rattle.hcc_rule.specs.Words.{field_at}
 
@@ -79,20 +82,31 @@ module _ {T : Type 0} where
         ≡ me.0.steps ++ atomic step.word step.first step.second found ∷ []
     pub one : length after.0.steps ≡ length me.0.steps + 1
 
-  -- What a step found on a data word of a slot is a word of the entry that stands there in the
-  -- world after its event.
-  abbrev pub Sees : Plan T → (address found : ℕ) → (old new : Logged T) → Type 0
-  Sees p address found old new =
-      old.past ≢ new.past → (slot index : ℕ) (entry : Entry)
-      → address ≡ field_at p.geometry.room slot DATA + index
-      → entry_at (world_of p new.past) slot ≡ Some entry → IsDataWord entry index found
+  -- The entries of a world, in which a load found this: on a data word of a slot it found a word of
+  -- the entry that stands there. Each entry is as an insertion made it, and one that stands in a
+  -- later world, too, stands in all between.
+  pub record Shows (fits : T → Key → List ℕ → Type 0) (p : Plan T) (address found : ℕ)
+      (world : State) : Type 0 where
+    pub word : (slot index : ℕ) (entry : Entry)
+        → address ≡ field_at p.geometry.room slot DATA + index
+        → entry_at world slot ≡ Some entry → IsDataWord entry index found
+    pub right : (slot : ℕ) (entry : Entry) → entry_at world slot ≡ Some entry
+        → IsRightEntry fits p.tag p.geometry.room entry
+    pub between : (events : List Event) → StandsBetween world events
+
+  -- what a load that is an event tells of the world after it
+  abbrev pub Sees : (T → Key → List ℕ → Type 0) → Plan T → (address found : ℕ)
+      → (old new : Logged T) → Type 0
+  Sees fits p address found old new =
+      old.past ≢ new.past → Shows fits p address found (world_of p new.past)
 
   -- what a load tells
-  abbrev pub Loads : Plan T → (table.Step (Unit {0}) → Held T → ℕ → Held T → Option Done → Type 0)
+  abbrev pub Loads : (T → Key → List ℕ → Type 0) → Plan T
+      → (table.Step (Unit {0}) → Held T → ℕ → Held T → Option Done → Type 0)
       → table.Step (Unit {0}) → table.Me (Unit {0}) (Logged T) → ℕ
       → table.Me (Unit {0}) (Logged T) → Type 0
-  Loads p then step me found after =
-      Logs p then step me found after × Sees p step.word found me.0 after.0
+  Loads fits p then step me found after =
+      Logs p then step me found after × Sees fits p step.word found me.0 after.0
 
   -- a step that tells nothing
   abbrev pub silent : table.Step (Unit {0}) → table.Me (Unit {0}) (Logged T) → ℕ

@@ -1,8 +1,11 @@
 -- What the loads of a client that reads without a reference tell its seat.
-use Rattle.std.specs.Prelude.{◌≡◌, ◌≢◌, ◌⊎◌, ℕ, true, false, Option, Some, None, IfSome}
+use Rattle.std.specs.Prelude.{◌≡◌, ◌≢◌, ◌⊎◌, ℕ, ◌*◌, ◌<◌, ◌≤◌, ◌^◌, true, false, List, Option, Some, None, IfSome, length}
 use Rattle.atomic_table.specs.Table.{Step}
 use Rattle.hcc_word.specs.Word.{is_visible}
+use Rattle.hcc_core.specs.declared.slot.Entry.{Entry}
 use Rattle.hcc_core.specs.declared.slot.Stamp.{Stamp}
+use Rattle.hcc_core.specs.Lawful.{is_in}
+use Rattle.hcc_rule.specs.declared.key.Key.{Key}
 use Rattle.hcc_rule.specs.declared.view.Done.{Done}
 use Rattle.hcc_rule.specs.declared.view.Glimpse.{Glimpse}
 use Rattle.hcc_rule.specs.declared.view.Stood.{Stood}
@@ -10,6 +13,17 @@ use Rattle.hcc_rule.specs.declared.view.Stood.TheVariants as stood
 use Rattle.hcc_rule.specs.declared.view.View.{View}
 use Rattle.hcc_rule.specs.Events.{peek_done}
 use Rattle.hcc_rule.specs.Told.{Held}
+use Rattle.hcc_rule.specs.Views.{Each}
+use Rattle.hcc_rule.specs.Words.{key_of}
+
+-- An entry as each insertion makes it: its value is right for its key, is of bytes and fits its
+-- slot.
+pub record IsRightEntry {T : Type 0} (fits : T → Key → List ℕ → Type 0) (tag : T) (room : ℕ)
+    (entry : Entry) : Type 0 where
+  pub right : fits tag (key_of entry) entry.value
+  pub short : length entry.value ≤ 8 * room
+  pub bytes : Each (λ b. b < 256) entry.value
+  pub small : entry.charge < 2 ^ 32
 
 -- what stood in a slot at each look, once this entry was found shown there: it, if nothing else did
 -- and the stamp word is its own
@@ -37,11 +51,12 @@ module _ {T : Type 0} where
       (after.1 ≡ me.1) × (after.0 ≡ after_glimpse slot word me.0)
       × ((stamp : Option Stamp) × (act ≡ Some (peek_done slot stamp me.0)))
 
-  -- what a look of that client tells: none is shown, or this entry is, and what stood there then
+  -- what a look of that client tells: none is shown, or this entry is, which the client didn't see
+  -- dead, and what stood there then
   abbrev pub Glanced : (word : ℕ) → Option Stamp → Glimpse → (v new : View T) → Type 0
   Glanced word None g v new = (is_visible word ≡ false) × (new ≡ v)
   Glanced word (Some stamp) g v new =
-      (is_visible word ≡ true)
+      (is_visible word ≡ true) × (is_in stamp v.work.dead ≡ false)
       × ((now : Stood) × GoesOn stamp g.stood now
       × (new ≡ record v { glimpse = Some (record g { stood = now }) }))
 

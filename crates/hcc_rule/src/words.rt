@@ -74,7 +74,7 @@ impl<T: Tag, A: Allocator> RuleTable<T, A> {
         requires { May T.fits self.now seat.old address (λ n. n)
             (tells J.then self.now seat.old address 0 0) }
         ensures does { Did J.then self.now address 0 0 result seat.old seat.new }
-        ensures sees { Sees (plan_of self.now) address result seat.old.me.0 seat.new.me.0 }
+        ensures sees { Sees T.fits (plan_of self.now) address result seat.old.me.0 seat.new.me.0 }
     {
         self.words.table.shared.load::<Brand>(seat, address)
     }

@@ -99,7 +99,8 @@ impl Machine {
     pub(crate) fn peek(&mut self, client: u32, slot: u32) -> Result<Reply, CoreError>
         ensures { Follows (peek_of self.old client slot) false self.old result self.new }
     {
-        let stamp = slot_at(&self.slots, slot)?.shown_stamp();
+        let there = slot_at(&self.slots, slot)?;
+        let stamp = if there.is_shown() { there.stamp() } else { None };
         live_at(&self.clients, client)?;
         Ok(Reply::Shows(stamp))
     }

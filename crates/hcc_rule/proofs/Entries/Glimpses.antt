@@ -41,6 +41,7 @@ use Rattle.hcc_rule.proofs.Parts.SlotSteps.{Shard}
 use Rattle.hcc_rule.proofs.Parts.Tags.{entry_tag, word_apart}
 use Rattle.hcc_rule.proofs.Parts.Touches.{client_is, live_is}
 use Rattle.hcc_rule.proofs.References.Looks.{client_fits, slot_fits, slot_there}
+use Rattle.hcc_rule.proofs.References.Reaches.{is_met}
 
 -- a peek is allowed to each client, and tells which entry is shown in the slot
 peek_allowed : (w : State) (c i : ℕ) (found : Client) (seen : Slot) → Lawful w
@@ -211,6 +212,9 @@ module _ {T : Type 0} (fits : T → Key → List ℕ → Type 0) (p : Plan T) wh
         let there : slice_get r.world.slots g.slot ≡ Some (slots.Shareable k) = rw on at_slot in
         let before = old s r id me.0 g k here glimpse there in
         let now = goes_on s r id me.0 g k here glimpse there g.stood before.1 in
+        let visible : is_visible (slice_index s.words a) ≡ true =
+        ap is_visible (word_is (slots.Shareable k) at_slot)
+        ∙ (tells_shown r.world (is_lawful r.world r.lawful) i k at_slot ∙ is) in
         peeks_on s r id i a me (Some (record g { stood = now.0 })) (slots.Shareable k)
         (Some k.entry.stamp) then here seated at_slot (rw is refl) (before.0, now.2) (
           refl,
@@ -219,8 +223,9 @@ module _ {T : Type 0} (fits : T → Key → List ℕ → Type 0) (p : Plan T) wh
             of_some me.0.glimpse g
                 (λ z. Glanced (slice_index s.words a) (Some k.entry.stamp) z me.0
                 (record me.0 { glimpse = Some (record g { stood = now.0 }) })) glimpse (
-                  ap is_visible (word_is (slots.Shareable k) at_slot)
-                      ∙ (tells_shown r.world (is_lawful r.world r.lawful) i k at_slot ∙ is),
+                  visible,
+                  (is_met fits p s r id i me.0 here seated (slice_index s.words a) k at_slot
+                      (word_is (slots.Shareable k) at_slot)).alive visible,
                   (now.0, now.1, refl),
                 ),
             refl,

@@ -62,7 +62,7 @@ held_few i u = total-le (λ q. when (is_on i q) q.weight) (λ (q : Record). q.we
     (λ j q at. when_le (is_on i q) q.weight)
 
 -- what is right for its maker's list is right for the entry
-entry_right : {T : Type 0} (fits : T → Key → List ℕ → Type 0) (tag : T) (room : ℕ) (made : Made)
+pub entry_right : {T : Type 0} (fits : T → Key → List ℕ → Type 0) (tag : T) (room : ℕ) (made : Made)
     (stamp : Stamp) (e : Entry)
     → e ≡ entry_of stamp made → IsRight fits tag room made
     → fits tag (key_of e) e.value × (length e.value ≤ 8 * room) × (e.charge < 2 ^ 32)

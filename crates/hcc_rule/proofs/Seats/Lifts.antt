@@ -15,6 +15,7 @@ use Rattle.hcc_core.specs.declared.slot.Slot.{Slot}
 use Rattle.hcc_core.specs.declared.slot.Slot.TheVariants as slots
 use Rattle.hcc_core.specs.Runs.{FindsOne, entry_at, entry_held, entry_of, held_at}
 use Rattle.hcc_core.specs.World.{State, has_reference, slot_holding}
+use Rattle.hcc_core.proofs.EveryRun.{stands_between}
 use Rattle.hcc_core.proofs.ListLemmas.{read_here, read_other}
 use Rattle.hcc_core.proofs.SumLemmas.{length-push, total-set, total-member}
 use Rattle.atomic_table.proofs.Lists.{at_map}
@@ -26,20 +27,23 @@ use Rattle.hcc_rule.specs.declared.view.Logged.{Logged}
 use Rattle.hcc_rule.specs.declared.view.Other.{Other}
 use Rattle.hcc_rule.specs.declared.view.View.{View}
 use Rattle.hcc_rule.specs.Acts.{Acts, Becomes, IsAllowed, IsRun, KeepsTrails, RecordsStand, events_of, with_done, world_of}
-use Rattle.hcc_rule.specs.Logs.{Loads, Logs, HoldsLogged, known_of, unlogged}
+use Rattle.hcc_rule.specs.Logs.{Loads, Logs, HoldsLogged, Shows, known_of, unlogged}
 use Rattle.hcc_rule.specs.Opening.{begun_world}
 use Rattle.hcc_rule.specs.PassedLogs.{left_logged, right_logged, joined_logged, spent_logged}
 use Rattle.hcc_rule.specs.Passing.{left_view, right_view, spent_view}
 use Rattle.hcc_rule.specs.Rule.{Holds, IsRecorded, entry_by, entry_in}
 use Rattle.hcc_rule.specs.Seats.{atomic, moves_of}
 use Rattle.hcc_rule.specs.Told.{Held}
+use Rattle.hcc_rule.specs.ToldGlimpses.{IsRightEntry}
 use Rattle.hcc_rule.specs.ToldOwners.{IsDataWord}
 use Rattle.hcc_rule.specs.Views.{is_called, is_seated, named_by}
 use Rattle.hcc_rule.specs.Words.{field_at}
 use Rattle.hcc_rule.proofs.Basics.Findings.{find_each}
 use Rattle.hcc_rule.proofs.Basics.Lists.{each_set, read_at}
 use Rattle.hcc_rule.proofs.Entries.DataWords.{entry_word, word_same}
+use Rattle.hcc_rule.proofs.Parts.Asides.{law_is}
 use Rattle.hcc_rule.proofs.Parts.HeldReferences.{slot_held}
+use Rattle.hcc_rule.proofs.References.Reaches.{entry_right}
 use Rattle.hcc_rule.proofs.Seats.Fronts.{Meets, fronts_after, join_fronts, join_known, known, known_at, named_all, names_same, names_two, split_fronts, split_known}
 use Rattle.hcc_rule.proofs.Seats.Histories.{follows_is, known_after, past_after, run_front, run_more, run_on, trails_front, trails_more, trails_on}
 use Rattle.hcc_rule.proofs.Seats.Joins.{total_joined}
@@ -283,11 +287,21 @@ module _ {T : Type 0} (fits : T → Key → List ℕ → Type 0) (p : Plan T) wh
   same_entry (Some (slots.Building client strays)) = refl
   same_entry (Some (slots.Shareable r)) = refl
 
-  -- A load tells of the entry that stands where it found a data word.
+  -- an entry of the world is as an insertion made it
+  right_entry : {s : table.State (Unit {0}) (View T)} (r : Holds fits p s) (slot : ℕ)
+      (entry : Entry) → entry_in (slice_get r.world.slots slot) ≡ Some entry
+      → IsRightEntry fits p.tag p.geometry.room entry
+  right_entry r slot entry there =
+      let stored = r.stored slot entry there in
+      let right = entry_right fits p.tag p.geometry.room stored.made entry.stamp entry stored.same
+      (r.stamps.right entry.stamp stored.made stored.listed) in
+      record { right = right.0; short = right.1; bytes = right.3; small = right.2 }
+
+  -- A load tells of the entries that stand there.
   pub loads : {then : Then} {step : table.Step (Unit {0})} {count id a : ℕ}
       {me : table.Me (Unit {0}) (Logged T)} → step.word ≡ a → is_seated me.0.known ≡ true
       → Acts fits p count id (known_of me) a loaded (λ n. then step (known_of me) n)
-      → Allows (HoldsLogged fits p) count id me a loaded (λ n. Loads p then step me n)
+      → Allows (HoldsLogged fits p) count id me a loaded (λ n. Loads fits p then step me n)
   loads {then} {step} {count} {id} {a} {me} word_is seated acts s holds homes at low =
       let given = lifts loaded loaded seated acts s holds homes at low in
       let after = given.3 in (
@@ -297,22 +311,34 @@ module _ {T : Type 0} (fits : T → Key → List ℕ → Type 0) (p : Plan T) wh
         after,
         (
           given.4,
-          λ moved slot index entry place there.
-              let world = world_is fits p _ after in
-              let all : world_of p given.0.past ≡ after.rule.world =
-              ap (λ h. world_of p h) (given.5 moved) ∙ sym world in
-              let stands : entry_in (slice_get after.rule.world.slots slot) ≡ Some entry =
-              sym (same_entry (slice_get after.rule.world.slots slot))
-              ∙ (ap (λ (w : State). entry_at w slot) (sym all) ∙ there) in
-              let word = entry_word fits p _ after.rule slot index entry stands in
-              let here : a ≡ field_at p.geometry.room slot DATA + index = sym word_is ∙ place in
-              let found : slice_index (slice_set s.words a (slice_index s.words a))
-              (field_at p.geometry.room slot DATA + index) ≡ slice_index s.words a =
-              ap (λ ws. slice_index ws (field_at p.geometry.room slot DATA + index))
-              (word_same s.words a) ∙ ap (slice_index s.words) (sym here) in
-              subst (IsDataWord entry index) found word,
+          λ moved.
+              subst (Shows fits p step.word (slice_index s.words a))
+              (world_is fits p _ after ∙ ap (λ h. world_of p h) (sym (given.5 moved)))
+              (shows given.0 given.1 after),
         ),
       )
+    where
+      -- a load leaves the words
+      shows : (l : Logged T) (act : table.Act (Unit {0})) (after : HoldsLogged fits p
+          (table.stepped s a (slice_index s.words a) id me.1 l act))
+          → Shows fits p step.word (slice_index s.words a) after.rule.world
+      shows l act after = record {
+        word = λ slot index entry place there.
+            let word = entry_word fits p _ after.rule slot index entry (stands slot entry there) in
+            let here : a ≡ field_at p.geometry.room slot DATA + index = sym word_is ∙ place in
+            let found : slice_index (slice_set s.words a (slice_index s.words a))
+            (field_at p.geometry.room slot DATA + index) ≡ slice_index s.words a =
+            ap (λ ws. slice_index ws (field_at p.geometry.room slot DATA + index))
+            (word_same s.words a) ∙ ap (slice_index s.words) (sym here) in
+            subst (IsDataWord entry index) found word;
+        right = λ slot entry there. right_entry after.rule slot entry (stands slot entry there);
+        between = λ events. stands_between after.rule.world events (law_is fits p _ after.rule);
+      }
+        where
+          stands : (slot : ℕ) (entry : Entry) → entry_at after.rule.world slot ≡ Some entry
+              → entry_in (slice_get after.rule.world.slots slot) ≡ Some entry
+          stands slot entry there =
+              sym (same_entry (slice_get after.rule.world.slots slot)) ∙ there
 
   -- A seat that is split.
   pub splits_logged : (id : ℕ) (l : Logged T) (o : Other) (os : List Other) (done : Done)

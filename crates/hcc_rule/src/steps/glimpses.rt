@@ -5,16 +5,17 @@
 //! entry, and then finds the slot's stamp word (`glimpse_at`), twice a visible meta word
 //! (`glance_at`), and the same stamp word again (`recheck_at`), one entry stood there from the
 //! first glance to the last, and what it loaded between them (`peek_at`) are this entry's words.
-ghost use Rattle.std.specs.Prelude.{◌≡◌, ◌≢◌, ◌+◌, ◌<◌, Option, Some, IfSome, IsSomeAnd};
+ghost use Rattle.std.specs.Prelude.{◌≡◌, ◌≢◌, ◌+◌, ◌<◌, List, Option, Some, IfSome, IsSomeAnd};
+ghost use Rattle.hcc_core.specs.declared.event.Event.{Event};
 ghost use Rattle.hcc_core.specs.declared.slot.Stamp.{Stamp};
-ghost use Rattle.hcc_core.specs.Runs.{entry_at};
+ghost use Rattle.hcc_core.specs.Runs.{StandsBetween, entry_at};
 ghost use Rattle.hcc_rule.specs.declared.layout.TheConstants.{PAYLOAD, STAMP};
 ghost use Rattle.hcc_rule.specs.declared.view.Stood.TheVariants.{Another};
-ghost use Rattle.hcc_rule.specs.Callers.{IsEvent, IsSeatAt, IsSlotAt, world_at};
+ghost use Rattle.hcc_rule.specs.Callers.{IsEvent, IsSeatAt, IsSlotAt, plan_of, world_at};
 ghost use Rattle.hcc_rule.specs.Addresses.{address_of_data, address_of_meta};
 ghost use Rattle.hcc_rule.specs.Events.{peek_done};
 ghost use Rattle.hcc_rule.specs.Seats.{IsSameSeat, Makes, view};
-ghost use Rattle.hcc_rule.specs.ToldGlimpses.{Glanced, after_glimpse};
+ghost use Rattle.hcc_rule.specs.ToldGlimpses.{Glanced, IsRightEntry, after_glimpse};
 ghost use Rattle.hcc_rule.specs.ToldOwners.{IsDataWord};
 
 use crate::addresses::SlotAt;
@@ -43,8 +44,9 @@ impl<T: Tag, A: Allocator> RuleTable<T, A> {
     }
 
     /// Loads the meta word of the slot whose stamp word the client loaded last. Where it is
-    /// visible, an entry is shown there; the view tells whether each entry that was found so is
-    /// this one, and has that stamp word.
+    /// visible, an entry is shown there, which the client didn't see dead; the view tells whether
+    /// each entry that was found so is this one, and has that stamp word. An entry that stands there
+    /// is as an insertion made it, and if it stands there later, it does so all along.
     ///
     /// It allocates nothing. It costs one load.
     pub fn glance_at(&self, seat: &mut RuleSeat<T>, at: SlotAt) -> u64
@@ -57,6 +59,10 @@ impl<T: Tag, A: Allocator> RuleTable<T, A> {
             × IfSome (view seat.old).glimpse
             (λ g. Glanced result stamp g (view seat.old) (view seat.new))
             × IsEvent self.now (peek_done at.slot stamp (view seat.old)) seat.old seat.new }
+        ensures right { IfSome (entry_at (world_at self.now seat.new) at.slot)
+            (IsRightEntry T.fits (plan_of self.now).tag self.now.geometry.room) }
+        ensures between { (events : List Event)
+            → StandsBetween (world_at self.now seat.new) events }
     {
         self.load::<Brand, _>(seat, self.head_address(at, META), at.slot)
     }

@@ -27,6 +27,6 @@ returns-clause-word g c =
     by None there = tt
     by (Some entry) there =
         let did = c.load.ensures.does in
-        c.load.ensures.sees (moved _ _ _ did.3 _ _ did.4.2.1 did.5) c.args.at.slot c.args.index
-        entry (rw c.args.self.now.planned.0 (c.data_address.ensures.value
+        (c.load.ensures.sees (moved _ _ _ did.3 _ _ did.4.2.1 did.5)).word c.args.at.slot
+        c.args.index entry (rw c.args.self.now.planned.0 (c.data_address.ensures.value
         ∙ sym (data_field _ c.args.at.slot c.args.index))) there
