@@ -80,13 +80,15 @@ module _ {T : Type 0} where
       }))
       (λ stamp h. rw same (grows_joined v.work.dead (found_dead slot word v) stamp h))
 
-  pub sweeps_lost : (v w : View T) → IsAtRest v → Sought v w → w.met ≡ v.met → Sweeps 0 0 0 v w
-  sweeps_lost v w rest s unmet =
+  pub sweeps_lost : (v w : View T) → IsAtRest v → Sought v w → w.met ≡ v.met
+      → w.glimpse ≡ v.glimpse → Sweeps 0 0 0 v w
+  sweeps_lost v w rest s unmet unseen =
       sweeps_seen v w rest
       (s.searched.same ∙ (λ k. record v {
         work = record v.work { looked = w.work.looked; dead = w.work.dead };
         records = s.records k;
         met = unmet k;
+        glimpse = unseen k;
       }))
       s.searched.dead
 
@@ -130,7 +132,7 @@ module _ {T : Type 0} where
   sweeps_visited fits slots room address slot visits.Counted a b rest h =
       sweeps_looked slot h.0 (view a) (view b) rest h.4
   sweeps_visited fits slots room address slot visits.Lost a b rest h =
-      sweeps_lost (view a) (view b) rest h.5 h.6
+      sweeps_lost (view a) (view b) rest h.5 h.6 h.7
   sweeps_visited fits slots room address slot (visits.Freed charge hit) a b rest h =
       sweeps_freed fits room h.0 charge (view a) (view b) h.4 h.7 h.3
 

@@ -164,6 +164,7 @@ module _ {T : Type 0} where
               dead = w.work.dead;
             };
             met = w.met;
+            glimpse = w.glimpse;
             saw = w.saw;
           }) r.same ∙ (λ k. record v {
             work = record v.work {
@@ -246,6 +247,7 @@ module _ {T : Type 0} where
           ∙ (ap (λ (z : View T). without_place granted (record z {
             work = record z.work { looked = b.work.looked; dead = b.work.dead };
             met = b.met;
+            glimpse = b.glimpse;
             saw = b.saw;
           })) r.same ∙ (λ k. record v {
             work = record v.work {
@@ -284,6 +286,7 @@ module _ {T : Type 0} where
     tries_dropped key b w u left = record {
       shortage = r.shortage;
       met = u.met;
+      glimpse = u.glimpse;
       tries = u.tries;
       same = left_over key b w 0 u left;
       dead = dead_more key b w 0 u left;
@@ -297,6 +300,7 @@ module _ {T : Type 0} where
     tries_stood key name b w u stands = record {
       shortage = r.shortage;
       met = u.met;
+      glimpse = u.glimpse;
       tries = u.tries;
       same =
           stands ∙ (ap (stood name charge) (left_over key b (without_place charge b) charge u refl)

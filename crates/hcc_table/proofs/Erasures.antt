@@ -48,6 +48,7 @@ module _ {T : Type 0} where
       hidden = no_more v.hidden k;
       takings = no_added v.takings k;
       met = w.met;
+      glimpse = w.glimpse;
     });
     dead = s.dead;
     met = s.met;
@@ -79,6 +80,7 @@ module _ {T : Type 0} where
           hidden = z.hidden ++ more;
           takings = z.takings + other;
           met = w.met;
+          glimpse = w.glimpse;
         }) a.same ∙ (λ k. record u {
           work = record u.work {
             looked = w.work.looked;
@@ -93,6 +95,7 @@ module _ {T : Type 0} where
           hidden = append_assoc u.hidden keys more k;
           takings = sums u.takings slots other k;
           met = w.met;
+          glimpse = w.glimpse;
         }));
     dead = λ stamp h. b.dead stamp (a.dead stamp h);
     met = (
@@ -124,6 +127,7 @@ module _ {T : Type 0} where
       hidden = z.hidden ++ keys;
       takings = z.takings + slots;
       met = w.met;
+      glimpse = w.glimpse;
     }) a.same;
     dead = λ stamp h. b.dead stamp (a.dead stamp h);
     met = (
@@ -142,6 +146,7 @@ module _ {T : Type 0} where
           work = record z.work { looked = w.work.looked; dead = w.work.dead };
           records = w.records;
           met = w.met;
+          glimpse = w.glimpse;
         }) a.same ∙ (λ k. record u {
           work = record u.work {
             looked = w.work.looked;
@@ -156,6 +161,7 @@ module _ {T : Type 0} where
           hidden = u.hidden ++ keys;
           takings = u.takings + slots;
           met = w.met;
+          glimpse = w.glimpse;
         }));
     dead = λ stamp h. b.dead stamp (a.dead stamp h);
     met = (
@@ -185,6 +191,7 @@ module _ {T : Type 0} where
       takings = v.takings + 1;
       warm = unwarmed k;
       met = sym (ap (λ (z : View T). z.met) f.same) k;
+      glimpse = sym (ap (λ (z : View T). z.glimpse) f.same) k;
     });
     dead = f.dead;
     met = ([], ap (λ (z : View T). z.met) f.same ∙ no_more v.met);
@@ -223,6 +230,7 @@ module _ {T : Type 0} where
         hidden = keys (is_visible word) k;
         takings = no_added v.takings k;
         met = sym (ap (λ (z : View T). z.met) same) k;
+        glimpse = sym (ap (λ (z : View T). z.glimpse) same) k;
       });
       dead = λ stamp h. rw same
           (grows_joined v.work.dead

@@ -137,7 +137,7 @@ unseen_due true false e true h kept = cc
 unseen_due true true e true h kept = cc
 
 module _ {T : Type 0} (fits : T → Key → List ℕ → Type 0) (room : ℕ) (v b w : View T)
-    (before : Searched v b) (met : b.met ≡ v.met) where
+    (before : Searched v b) (met : b.met ≡ v.met) (glimpse : b.glimpse ≡ v.glimpse) where
   -- An entry that is freed after a look, or after a reference was given back, is freed of the view
   -- before.
   pub freed_after : (word charge : ℕ) → IsFreed fits room word None charge b w
@@ -152,7 +152,10 @@ module _ {T : Type 0} (fits : T → Key → List ℕ → Type 0) (room : ℕ) (v
     };
     charged = h.charged;
     dead = λ stamp there. h.dead stamp (before.dead stamp there);
-    same = h.same ∙ ap freed_of before.same ∙ ap (λ keys. record (freed_of v) { met = keys }) met;
+    same = h.same ∙ ap freed_of before.same ∙ (λ k. record (freed_of v) {
+      met = met k;
+      glimpse = glimpse k;
+    });
   }
     where
       freed_of : View T → View T

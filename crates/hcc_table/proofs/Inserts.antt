@@ -29,6 +29,7 @@ module _ {T : Type 0} where
         record z {
           work = record z.work { looked = w.work.looked; dead = w.work.dead };
           met = w.met;
+          glimpse = w.glimpse;
           saw = w.saw;
         }) a.same;
     dead = λ stamp h. b.dead stamp (a.dead stamp h);
@@ -43,7 +44,13 @@ module _ {T : Type 0} where
   -- a search is one that tries no slot
   pub tried_sought : (v w : View T) → Sought v w → Tried v w
   tried_sought v w h = record {
-    same = h.searched.same ∙ rw (h.records, ← saw) refl;
+    same = h.searched.same ∙ (λ k. record v {
+      work = record v.work { looked = w.work.looked; dead = w.work.dead };
+      records = h.records k;
+      met = w.met;
+      glimpse = w.glimpse;
+      saw = sym saw k;
+    });
     dead = h.searched.dead;
     met = h.searched.met;
     saw = omega (arith, saw);
@@ -137,6 +144,7 @@ module _ {T : Type 0} where
       same = ap (with_trail []) h.same ∙ ap (λ (z : List ℕ). record v {
         work = record v.work { looked = w.work.looked; dead = w.work.dead; trail = z };
         met = w.met;
+        glimpse = w.glimpse;
         saw = w.saw;
       }) (sym none);
       dead = h.dead;

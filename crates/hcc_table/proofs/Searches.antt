@@ -47,13 +47,16 @@ module _ {T : Type 0} where
       }
       → Searched v w
   searched_by v w o same = record {
-    same = same ∙ rw (met, dead) refl;
+    same = same ∙ rw (met, dead, glimpse) refl;
     dead = λ stamp h. rw dead (grows_joined v.work.dead o stamp h);
     met = ([], met ∙ no_more v.met);
   }
     where
       met : w.met ≡ v.met
       met = ap (λ (z : View T). z.met) same
+
+      glimpse : w.glimpse ≡ v.glimpse
+      glimpse = ap (λ (z : View T). z.glimpse) same
 
       dead : w.work.dead ≡ joined v.work.dead o
       dead = ap (λ (z : View T). z.work.dead) same
@@ -76,6 +79,7 @@ module _ {T : Type 0} where
           work = record z.work { looked = w.work.looked; dead = w.work.dead };
           records = w.records;
           met = w.met;
+          glimpse = w.glimpse;
         }) a.same;
     dead = λ stamp h. b.dead stamp (a.dead stamp h);
     met = (

@@ -28,6 +28,7 @@ module _ {T : Type 0} where
       hidden = v.hidden ++ keys;
       takings = v.takings + slots;
       met = w.met;
+      glimpse = w.glimpse;
     }
     pub dead : Grows v.work.dead w.work.dead
     pub met : (more : List Key) × (w.met ≡ v.met ++ more)

@@ -67,6 +67,7 @@ module _ {T : Type 0} where
     pub same : w ≡ record v {
       work = record v.work { looked = w.work.looked; dead = w.work.dead };
       met = w.met;
+      glimpse = w.glimpse;
       saw = w.saw;
     }
     pub dead : Grows v.work.dead w.work.dead

@@ -15,3 +15,4 @@ pub mod Hides
 pub mod Tries
 pub mod Pinned
 pub mod Still
+pub mod Optimistic

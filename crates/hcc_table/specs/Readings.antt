@@ -1,7 +1,10 @@
 -- What a record tells of the value that is read by it, and a buffer that it's copied to.
-use Rattle.std.specs.Prelude.{ℕ, ◌+◌, ◌*◌, ◌<◌, ◌≤◌, List, ◌++◌, length, take, drop}
+use Rattle.std.specs.Prelude.{◌≡◌, ℕ, ◌+◌, ◌*◌, ◌<◌, ◌≤◌, List, ◌++◌, length, take, drop}
 use Rattle.hcc_rule.specs.declared.view.Record.{Record}
 use Rattle.hcc_rule.specs.Views.{Each}
+use Rattle.hcc_rule.specs.Words.{words_for}
+use Rattle.hcc_table.specs.declared.optimistic.Got.{Got}
+use Rattle.hcc_table.specs.declared.optimistic.Got.TheVariants.{Hit, Miss, Short}
 
 -- The value of a record's entry can be read as bytes: it fits its slot, and it is of bytes.
 pub record IsReadable (room : ℕ) (r : Record) : Type 0 where
@@ -18,3 +21,18 @@ abbrev pub put_turn : (at : ℕ) → (value buffer : List ℕ) → List ℕ
 put_turn at value buffer =
     put_in (8 * (at + 24)) 8 value (put_in (8 * (at + 16)) 8 value
     (put_in (8 * (at + 8)) 8 value (put_in (8 * at) 8 value buffer)))
+
+-- what is in a buffer once a value was read into it, or was too long for it
+abbrev pub CopiesOut : Got → (value before after : List ℕ) → Type 0
+CopiesOut Miss value before after = ⊥
+CopiesOut (Hit count) value before after =
+    (count ≡ length value) × (count ≤ length before) × (after ≡ value ++ drop count before)
+CopiesOut (Short count) value before after =
+    (count ≡ length value) × (length before < count) × (after ≡ before)
+
+-- how many loads read a value, by what came of it: one for its length, and where it is copied one
+-- for each of its words
+abbrev pub loads_of : Got → ℕ
+loads_of Miss = 0
+loads_of (Hit count) = words_for count + 1
+loads_of (Short count) = 1

@@ -41,6 +41,7 @@ module _ {T : Type 0} (fits : T → Key → List ℕ → Type 0) (slots room add
       (word : ℕ) × (next : ℕ) × (found : ℕ) × ¬ (found ≡ word)
       × MakesTwo (atomic address 0 0 word) (atomic address word next found) a b
       × Sought (view a) (view b) × ((view b).met ≡ (view a).met)
+      × ((view b).glimpse ≡ (view a).glimpse)
   Visited (visits.Freed charge hit) a b =
       (word : ℕ) × BeginsWithTwo (atomic address 0 0 word)
       (atomic address word CONSTRUCTION_WORD word) a b
@@ -54,6 +55,7 @@ module _ {T : Type 0} (fits : T → Key → List ℕ → Type 0) (slots room add
   Swept word visits.Lost a b =
       LosesExchange address word CONSTRUCTION_WORD a b
       × Sought (view a) (view b) × ((view b).met ≡ (view a).met)
+      × ((view b).glimpse ≡ (view a).glimpse)
   Swept word (visits.Freed charge hit) a b =
       Begins (atomic address word CONSTRUCTION_WORD word) a b
       × (hit ≡ hit_of word) × IsFreed fits room word None charge (view a) (view b)
@@ -69,4 +71,5 @@ CountedDown address word visits.Counted a b =
 CountedDown address word visits.Lost a b =
     LosesExchange address word (clocked_word word) a b
     × Sought (view a) (view b) × ((view b).met ≡ (view a).met)
+    × ((view b).glimpse ≡ (view a).glimpse)
 CountedDown address word visit a b = ⊥

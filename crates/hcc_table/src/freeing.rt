@@ -116,6 +116,7 @@ pub(crate) fn try_free<T: Tag, A: Allocator>(
     ensures seat { IsSameSeat seat.old seat.new }
     ensures lost { IfNone result (Sought (view seat.old) (view seat.new)
         × ((view seat.new).met ≡ (view seat.old).met) × Lost 1 1 effort.old effort.new) }
+    ensures still { IfNone result ((view seat.new).glimpse ≡ (view seat.old).glimpse) }
     ensures won { IfSome result (λ _. effort.new ≡ effort.old) }
     ensures taken { IfSome result (λ charge. TakenAt T.fits (slots_of table.now) (room_of table.now)
         at.slot word name charge (view seat.old) (view seat.new)) }

@@ -52,7 +52,7 @@ returns-then-is_free_to_go-clause-freed g c =
     (view c.let_go-left.new.seat) left.view in
     freed_where_due g.T.Tag.fits (room_of c.args.table.now) (view c.args.seat.now)
     (view c.let_go-left.new.seat) (view c.try_free.new.seat) given
-    (rw left.view refl)
+    (rw left.view refl) (rw left.view refl)
     (address_of_meta c.args.table.now c.args.pin.slot) c.args.seat.now c.let_go-left.new.seat
     c.try_free.new.seat (erases c.args.last) c.let_go-left.result _ c.try_free.result due
     (rw left.view refl)

@@ -53,6 +53,7 @@ returns-in-None-clause-visit g c = by c.sweep.result c.sweep.ensures.visit
           sought_then (view c.args.seat.now) (view c.look_at-word.new.seat) (view c.sweep.new.seat)
               looked swept.1,
           search rules,
+          search rules,
         )
     by (visits.Freed charge hit) swept = (
       word,
@@ -61,7 +62,7 @@ returns-in-None-clause-visit g c = by c.sweep.result c.sweep.ensures.visit
           swept.0,
       swept.1,
       freed_after g.T.Tag.fits room (view c.args.seat.now) (view c.look_at-word.new.seat)
-          (view c.sweep.new.seat) looked.searched (cc) word charge swept.2,
+          (view c.sweep.new.seat) looked.searched (cc) (cc) word charge swept.2,
       search rules,
       search rules,
       search rules,
