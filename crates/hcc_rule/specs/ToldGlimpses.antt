@@ -8,11 +8,13 @@ use Rattle.hcc_core.specs.Lawful.{is_in}
 use Rattle.hcc_rule.specs.declared.key.Key.{Key}
 use Rattle.hcc_rule.specs.declared.view.Done.{Done}
 use Rattle.hcc_rule.specs.declared.view.Glimpse.{Glimpse}
+use Rattle.hcc_rule.specs.declared.view.Record.{Record}
 use Rattle.hcc_rule.specs.declared.view.Stood.{Stood}
 use Rattle.hcc_rule.specs.declared.view.Stood.TheVariants as stood
 use Rattle.hcc_rule.specs.declared.view.View.{View}
 use Rattle.hcc_rule.specs.Events.{peek_done}
 use Rattle.hcc_rule.specs.Told.{Held}
+use Rattle.hcc_rule.specs.ToldOwners.{IsDataWord}
 use Rattle.hcc_rule.specs.Views.{Each}
 use Rattle.hcc_rule.specs.Words.{key_of}
 
@@ -34,10 +36,11 @@ GoesOn stamp (stood.Entry first) after =
 GoesOn stamp stood.Another after = after ≡ stood.Another
 
 module _ {T : Type 0} where
-  -- a load of a slot's data word
-  abbrev pub peeks : (slot : ℕ) → Step (Unit {0}) → Held T → ℕ → Held T → Option Done → Type 0
-  peeks slot step me word after act =
+  -- A load of a slot's data word. Where the client holds references there, it is their entry's.
+  abbrev pub peeks : (slot index : ℕ) → Step (Unit {0}) → Held T → ℕ → Held T → Option Done → Type 0
+  peeks slot index step me word after act =
       (after.1 ≡ me.1) × (after.0 ≡ me.0)
+      × Each (λ (r : Record). r.slot ≡ slot → IsDataWord r.entry index word) me.0.records
       × ((stamp : Option Stamp) × (act ≡ Some (peek_done slot stamp me.0)))
 
   -- the first load of its stamp word

@@ -28,13 +28,14 @@ use Rattle.hcc_rule.specs.declared.view.Stood.TheVariants as stood
 use Rattle.hcc_rule.specs.declared.view.View.{View}
 use Rattle.hcc_rule.specs.Acts.{Acts, Goes}
 use Rattle.hcc_rule.specs.Events.{peek_done}
-use Rattle.hcc_rule.specs.Rule.{Holds, IsShownAs, IsStood, WasShown, entry_in, stamp_at, IsTag, IsStored, book_of}
+use Rattle.hcc_rule.specs.Rule.{Holds, IsRecorded, IsShownAs, IsStood, WasShown, entry_in, stamp_at, IsTag, IsStored, book_of}
 use Rattle.hcc_rule.specs.Told.{Held}
+use Rattle.hcc_rule.specs.ToldOwners.{IsDataWord}
 use Rattle.hcc_rule.specs.ToldGlimpses.{GoesOn, Glanced, glances, glimpses, peeks, rechecks}
 use Rattle.hcc_rule.specs.Views.{is_seated}
 use Rattle.hcc_rule.specs.Words.{code_of, field_at, stamp_word}
-use Rattle.hcc_rule.proofs.Basics.Lists.{read_at, within}
-use Rattle.hcc_rule.proofs.Entries.DataWords.{met_becomes, word_same}
+use Rattle.hcc_rule.proofs.Basics.Lists.{each_map, read_at, within}
+use Rattle.hcc_rule.proofs.Entries.DataWords.{entry_word, met_becomes, word_same}
 use Rattle.hcc_rule.proofs.Entries.Empties.{owner_there}
 use Rattle.hcc_rule.proofs.Parts.Codes.{few_strays, tells_shown}
 use Rattle.hcc_rule.proofs.Parts.SlotSteps.{Shard}
@@ -89,15 +90,28 @@ module _ {T : Type 0} (fits : T → Key → List ℕ → Type 0) (p : Plan T) wh
         told,
       )
 
-  -- The load of a data word keeps the rule.
-  pub peek_step : (count id i a : ℕ) (me : Held T) → is_seated me.0 ≡ true → i < p.geometry.slots
-      → Acts fits p count id me a (λ n. n) (peeks i (step count a 0 0 none) me)
-  peek_step count id i a me seated near s r homes at low =
+  -- The load of a data word keeps the rule, and finds that of the entry that is held there.
+  pub peek_step : (count id i a index : ℕ) (me : Held T) → is_seated me.0 ≡ true
+      → i < p.geometry.slots → a ≡ field_at p.geometry.room i DATA + index
+      → Acts fits p count id me a (λ n. n) (peeks i index (step count a 0 0 none) me)
+  peek_step count id i a index me seated near address s r homes at low =
       let here = read_at s.views id me.0 at in
       let slot = slot_there fits p s r i near in
+      let word = ap (slice_index s.words) address in
       peeks_on s r id i a me me.0.glimpse slot.0 (shown_stamp slot.0)
-      (peeks i (step count a 0 0 none) me) here seated slot.1 refl
-      (r.tags.each id me.0 here).glimpse (refl, refl, (shown_stamp slot.0, refl))
+      (peeks i index (step count a 0 0 none) me) here seated slot.1 refl
+      (r.tags.each id me.0 here).glimpse (
+        refl,
+        refl,
+        each_map (IsRecorded r.world.slots)
+            (λ q. q.slot ≡ i → IsDataWord q.entry index (slice_index s.words a))
+            (λ q recorded on.
+            subst (IsDataWord q.entry index) (sym word)
+            (entry_word fits p s r i index q.entry
+            (ap (λ j. entry_in (slice_get r.world.slots j)) (sym on) ∙ recorded.there)))
+            me.0.records (r.holding id me.0 here).recorded,
+        (shown_stamp slot.0, refl),
+      )
 
   -- So does the first load of the stamp word of a slot that the client looked at.
   pub glimpse_step : (count id i a : ℕ) (me : Held T) → is_seated me.0 ≡ true

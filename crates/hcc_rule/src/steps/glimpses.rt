@@ -10,6 +10,7 @@ ghost use Rattle.hcc_core.specs.declared.event.Event.{Event};
 ghost use Rattle.hcc_core.specs.declared.slot.Stamp.{Stamp};
 ghost use Rattle.hcc_core.specs.Runs.{StandsBetween, entry_at};
 ghost use Rattle.hcc_rule.specs.declared.layout.TheConstants.{PAYLOAD, STAMP};
+ghost use Rattle.hcc_rule.specs.declared.view.Record.{Record};
 ghost use Rattle.hcc_rule.specs.declared.view.Stood.TheVariants.{Another};
 ghost use Rattle.hcc_rule.specs.Callers.{IsEvent, IsSeatAt, IsSlotAt, plan_of, world_at};
 ghost use Rattle.hcc_rule.specs.Addresses.{address_of_data, address_of_meta};
@@ -17,6 +18,7 @@ ghost use Rattle.hcc_rule.specs.Events.{peek_done};
 ghost use Rattle.hcc_rule.specs.Seats.{IsSameSeat, Makes, view};
 ghost use Rattle.hcc_rule.specs.ToldGlimpses.{Glanced, IsRightEntry, after_glimpse};
 ghost use Rattle.hcc_rule.specs.ToldOwners.{IsDataWord};
+ghost use Rattle.hcc_rule.specs.Views.{Each};
 
 use crate::addresses::SlotAt;
 use crate::key::Tag;
@@ -87,7 +89,8 @@ impl<T: Tag, A: Allocator> RuleTable<T, A> {
 
     /// Loads a data word of a slot on which the client may hold no reference. Where an entry stands
     /// in the slot at that moment, it is that entry's: of the key, the charge, the length and the
-    /// value. Of the word that has the maker's serial nothing is said.
+    /// value; so it is of the entry that the client holds there, if it holds one. Of the word that
+    /// has the maker's serial nothing is said.
     ///
     /// It allocates nothing. It costs one load.
     pub fn peek_at(&self, seat: &mut RuleSeat<T>, at: SlotAt, index: usize) -> u64
@@ -98,10 +101,12 @@ impl<T: Tag, A: Allocator> RuleTable<T, A> {
         ensures view { view seat.new ≡ view seat.old }
         ensures word { IfSome (entry_at (world_at self.now seat.new) at.slot)
             (λ entry. IsDataWord entry index result) }
+        ensures held { Each (λ (r : Record). r.slot ≡ at.slot → IsDataWord r.entry index result)
+            (view seat.old).records }
         ensures step { Makes (address_of_data self.now at.slot index) 0 0 result seat.old seat.new }
         ensures event { (stamp : Option Stamp)
             × IsEvent self.now (peek_done at.slot stamp (view seat.old)) seat.old seat.new }
     {
-        self.load::<Brand, _>(seat, self.data_address(at, index), at.slot)
+        self.load::<Brand, _>(seat, self.data_address(at, index), (at.slot, index))
     }
 }

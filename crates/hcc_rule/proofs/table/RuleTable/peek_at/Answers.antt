@@ -14,8 +14,10 @@ load-requires g c =
     let seat = c.requires.seat in (
       seat,
       c.data_address.ensures.inside,
-      peek_step g.T.Tag.fits (plan_of c.args.self.now) _ _ c.args.at.slot _ _
-          (ap is_some seat.tagged) (rw planned.0 c.requires.at.0),
+      peek_step g.T.Tag.fits (plan_of c.args.self.now) _ _ c.args.at.slot _ c.args.index _
+          (ap is_some seat.tagged) (rw planned.0 c.requires.at.0)
+          (rw planned.0 (c.data_address.ensures.value
+          ∙ sym (data_field _ c.args.at.slot c.args.index))),
     )
 
 pub returns-clause-word : goal.returns-clause-word
@@ -27,6 +29,6 @@ returns-clause-word g c =
     by None there = tt
     by (Some entry) there =
         let did = c.load.ensures.does in
-        (c.load.ensures.sees (moved _ _ _ did.3 _ _ did.4.2.1 did.5)).word c.args.at.slot
+        (c.load.ensures.sees (moved _ _ _ did.3 _ _ did.4.3.1 did.5)).word c.args.at.slot
         c.args.index entry (rw c.args.self.now.planned.0 (c.data_address.ensures.value
         ∙ sym (data_field _ c.args.at.slot c.args.index))) there
