@@ -78,7 +78,7 @@ run_last (d ∷ ds) done world last is = run_last ds done is.0 last is.2
 
 module _ {T A : Type 0} (table : RuleTable T A) where
   -- What a seat's own event led to.
-  event_leads : (done : Done) (a b : SeatOf T) → IsEvent table done a b
+  pub event_leads : (done : Done) (a b : SeatOf T) → IsEvent table done a b
       → (w : State) × Leads w done (world_at table b)
   event_leads done a b event =
       let known : past b ≡ past a ++ event.0.others ++ done ∷ [] =
@@ -99,7 +99,7 @@ module _ {T A : Type 0} (table : RuleTable T A) where
 
   -- What a search adds to what its seat knows.
 
-  does_more : (ds : List Done) (a b : SeatOf T) → Does table ds a b
+  pub does_more : (ds : List Done) (a b : SeatOf T) → Does table ds a b
       → (more : List Done) × (past b ≡ past a ++ more)
   does_more [] a b same = ([], ap past same ∙ sym (append-nil (past a)))
   does_more (d ∷ ds) a b does =
@@ -137,12 +137,12 @@ module _ {T A : Type 0} (table : RuleTable T A) where
   pub led_none : (a : SeatOf T) → Led a a
   led_none a = record { seeks = seeks_none table a; same = refl }
 
-  led_then : (a b c : SeatOf T) → Led a b → Led b c → Led a c
+  pub led_then : (a b c : SeatOf T) → Led a b → Led b c → Led a c
   led_then a b c h g =
       record { seeks = seeks_then table a b c h.seeks g.seeks; same = g.same ∙ h.same }
 
   -- right behind an own event of a search
-  moment_of : (done : Done) (old before moment new : SeatOf T) → Led old before
+  pub moment_of : (done : Done) (old before moment new : SeatOf T) → Led old before
       → IsEvent table done before moment → is_seeking done.event ≡ true
       → client_by done.event ≡ (view before).client → Seeks table moment new
       → IsMomentOf table moment old new
@@ -183,7 +183,7 @@ module _ {T A : Type 0} (table : RuleTable T A) where
         h.2 (subst (λ o. IsSomeAnd o (λ e. key_of e ≡ key))
         (sym (moment_shows one old h.0 new h.1 slot)) shows)
 
-    shows_alone : clients_of table ≡ 1 → (e : Entry) → key_of e ≡ key
+    pub shows_alone : clients_of table ≡ 1 → (e : Entry) → key_of e ≡ key
         → ShowsOnce table slot e old new → ShowsKey (world_at table old) key slot
     shows_alone one e asked h =
         subst (λ o. IsSomeAnd o (λ x. key_of x ≡ key))

@@ -7,6 +7,8 @@ pub mod Probes
 pub mod Probings
 pub mod Shown
 pub mod Lasting
+pub mod Loads
+pub mod Peeks
 pub mod Alone
 pub mod Unshown
 pub mod HidesAlone
@@ -26,6 +28,7 @@ pub mod Hidings
 pub mod HideSteps
 pub mod Bytes
 pub mod Values
+pub mod Unpackings
 pub mod Turns
 pub mod InsertsWords
 pub mod Inserts

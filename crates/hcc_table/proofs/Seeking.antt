@@ -99,7 +99,7 @@ module _ {T A : Type 0} (table : RuleTable T A) where
   seeks_one done a b event seeking =
       record { own = done ∷ []; does = (b, event, refl); only = (seeking, tt) }
 
-  does_then : (xs ys : List Done) (a b c : SeatOf T) → Does table xs a b → Does table ys b c
+  pub does_then : (xs ys : List Done) (a b c : SeatOf T) → Does table xs a b → Does table ys b c
       → Does table (xs ++ ys) a c
   does_then [] ys a b c same more = subst (λ z. Does table ys z c) same more
   does_then (x ∷ xs) ys a b c does more =

@@ -1,11 +1,12 @@
 -- What an optimistic reading found and copied: one that holds no reference on the entry meanwhile.
-use Rattle.std.specs.Prelude.{◌≡◌, ℕ, ◌+◌, ◌*◌, ◌<◌, Bool, true, false, List, Some}
+use Rattle.std.specs.Prelude.{◌≡◌, ℕ, ◌+◌, ◌*◌, ◌<◌, Bool, true, false, List, Some, IfSome, length}
 use Rattle.hcc_word.specs.declared.layout.TheConstants.{GREATEST_CLOCKED}
 use Rattle.hcc_word.specs.Word.{hit_of, is_visible, releases_of}
 use Rattle.hcc_core.specs.declared.event.Event.{Event}
 use Rattle.hcc_core.specs.declared.event.Event.TheVariants as events
 use Rattle.hcc_core.specs.declared.slot.Entry.{Entry}
 use Rattle.hcc_core.specs.Lawful.{is_in}
+use Rattle.hcc_core.specs.Runs.{entry_at}
 use Rattle.hcc_rule.specs.declared.key.Key.{Key}
 use Rattle.hcc_rule.specs.declared.table.RuleTable.{RuleTable}
 use Rattle.hcc_rule.specs.declared.view.Done.{Done}
@@ -15,11 +16,13 @@ use Rattle.hcc_rule.specs.Probes.{probe_slot}
 use Rattle.hcc_rule.specs.Seats.{SeatOf, Makes, view}
 use Rattle.hcc_rule.specs.ToldGlimpses.{IsRightEntry}
 use Rattle.hcc_rule.specs.Views.{Each}
-use Rattle.hcc_rule.specs.Words.{key_of}
+use Rattle.hcc_rule.specs.Words.{key_of, words_for}
 use Rattle.hcc_table.specs.declared.optimistic.Got.{Got}
 use Rattle.hcc_table.specs.declared.optimistic.Got.TheVariants.{Hit, Miss, Short}
-use Rattle.hcc_table.specs.Readings.{CopiesOut, loads_of}
-use Rattle.hcc_table.specs.Searched.{IsMissed}
+use Rattle.hcc_table.specs.declared.optimistic.Tried.{Tried}
+use Rattle.hcc_table.specs.declared.optimistic.Tried.TheVariants.{Other, Read, Declined}
+use Rattle.hcc_table.specs.Readings.{CopiesOut}
+use Rattle.hcc_table.specs.Searched.{Buried, IsMissed}
 use Rattle.hcc_table.specs.Seeking.{Does}
 use Rattle.hcc_table.specs.Standing.{IsMomentOf, LacksOnce, shown_at}
 use Rattle.hcc_table.specs.Steps.{MakesAtMost}
@@ -52,29 +55,56 @@ module _ {T A : Type 0} (table : RuleTable T A) where
     pub visible : is_visible word ≡ true
     pub shows : shown_at (world_at table moment) slot ≡ Some entry
 
+  -- At some moment of a call this held of the entry in a slot, if one stood there.
+  abbrev pub PeeksOnce : (slot : ℕ) → (Entry → Type 0) → (old new : SeatOf T) → Type 0
+  PeeksOnce slot P old new =
+      (moment : SeatOf T) × IsMomentOf table moment old new
+      × IfSome (entry_at (world_at table moment) slot) P
+
+  -- at some moment each half of its key was that of this key
+  pub record PeeksKey (key : Key) (slot : ℕ) (old new : SeatOf T) : Type 0 where
+    pub first : PeeksOnce slot (λ e. e.key0 ≡ key.w0) old new
+    pub second : PeeksOnce slot (λ e. e.key1 ≡ key.w1) old new
+
   -- each slot lacks the key at some moment of the call
   abbrev pub LacksAll : Key → (old new : SeatOf T) → Type 0
   LacksAll key old new = (slot : ℕ) → slot < slots_of table → LacksOnce table key slot old new
 
 module _ {T A : Type 0} (fits : T → Key → List ℕ → Type 0) (table : RuleTable T A) (key : Key)
     (useful marks : Bool) where
-  -- The value of an entry of the key was read, at this probe: an entry as an insertion made it,
-  -- which the client hadn't seen dead. When the client looked at it, it was shown, and one more use
-  -- of it was spare. The slots of earlier probes lacked the key once.
-  pub record ReadsShown (got : Got) (before after : List ℕ) (old new : SeatOf T) : Type 0 where
-    pub probe : ℕ
-    pub inside : probe < slots_of table
+  -- The value of an entry of the key was read in a slot: an entry as an insertion made it, which
+  -- the client hadn't seen dead. When the client looked at it, it was shown, and one more use of it
+  -- was spare.
+  pub record ReadsThere (slot : ℕ) (got : Got) (before after : List ℕ) (old new : SeatOf T)
+      : Type 0 where
     pub entry : Entry
     pub asked : key_of entry ≡ key
     pub right : IsRightEntry fits (plan_of table).tag (room_of table) entry
     pub alive : is_in entry.stamp (view old).work.dead ≡ false
     pub word : ℕ
-    pub glances : Glances table (probe_slot (slots_of table) key probe) word entry old new
+    pub glances : Glances table slot word entry old new
     pub spare : IsSpare useful marks word
     pub copies : CopiesOut got entry.value before after
+
+  -- So it was at this probe. The slots of earlier ones lacked the key once.
+  pub record ReadsShown (got : Got) (before after : List ℕ) (old new : SeatOf T) : Type 0 where
+    pub probe : ℕ
+    pub inside : probe < slots_of table
+    pub there : ReadsThere (probe_slot (slots_of table) key probe) got before after old new
     pub earlier : (j : ℕ) → j < probe
         → LacksOnce table key (probe_slot (slots_of table) key j) old new
-    pub few : MakesAtMost (4 * probe + 9 + loads_of got) old new
+    pub few : MakesAtMost (4 * probe + 10 + words_for (length there.entry.value)) old new
+
+  -- what a probe found: no entry of the key, or one that was read, or one that has to be held
+  abbrev pub TriesAt : (slot : ℕ) → Tried → (before after : List ℕ) → (old new : SeatOf T) → Type 0
+  TriesAt slot Other before after old new =
+      (after ≡ before) × Buried key (λ s. s ≡ slot) (view old) (view new)
+      × LacksOnce table key slot old new × MakesAtMost 3 old new
+  TriesAt slot (Read got) before after old new =
+      (there : ReadsThere slot got before after old new)
+      × MakesAtMost (10 + words_for (length there.entry.value)) old new
+  TriesAt slot Declined before after old new =
+      (after ≡ before) × MakesAtMost (10 + room_of table) old new
 
   -- what an optimistic reading did, by its answer
   abbrev pub ReadsOptimistic : Got → (before after : List ℕ) → (old new : SeatOf T) → Type 0

@@ -1,8 +1,8 @@
 -- What a record tells of the value that is read by it, and a buffer that it's copied to.
-use Rattle.std.specs.Prelude.{◌≡◌, ℕ, ◌+◌, ◌*◌, ◌<◌, ◌≤◌, List, ◌++◌, length, take, drop}
+use Rattle.std.specs.Prelude.{◌≡◌, ℕ, ◌+◌, ◌*◌, ◌<◌, ◌≤◌, List, ◌++◌, length, take, drop, slice_index}
 use Rattle.hcc_rule.specs.declared.view.Record.{Record}
 use Rattle.hcc_rule.specs.Views.{Each}
-use Rattle.hcc_rule.specs.Words.{words_for}
+use Rattle.hcc_rule.specs.Words.{payload_word, words_for}
 use Rattle.hcc_table.specs.declared.optimistic.Got.{Got}
 use Rattle.hcc_table.specs.declared.optimistic.Got.TheVariants.{Hit, Miss, Short}
 
@@ -21,6 +21,11 @@ abbrev pub put_turn : (at : ℕ) → (value buffer : List ℕ) → List ℕ
 put_turn at value buffer =
     put_in (8 * (at + 24)) 8 value (put_in (8 * (at + 16)) 8 value
     (put_in (8 * (at + 8)) 8 value (put_in (8 * at) 8 value buffer)))
+
+-- these words begin with those of a value
+abbrev pub HasWords : (words value : List ℕ) → Type 0
+HasWords words value =
+    (j : ℕ) → 8 * j < length value → slice_index words j ≡ payload_word value j
 
 -- what is in a buffer once a value was read into it, or was too long for it
 abbrev pub CopiesOut : Got → (value before after : List ℕ) → Type 0

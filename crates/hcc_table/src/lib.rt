@@ -72,6 +72,7 @@ mod pins;
 mod readings;
 mod releasing;
 mod search;
+mod unpacking;
 mod visiting;
 mod walk;
 mod words;

@@ -1,18 +1,32 @@
 //! Values that are read without a reference: by loads alone, so that threads that read don't take
 //! each other's cache lines.
-ghost use Rattle.std.specs.Prelude.{◌≡◌, ◌+◌, ◌*◌, IfSome, IfNone};
-ghost use Rattle.hcc_rule.specs.Callers.{room_of, slots_of, IsSeatAt};
+ghost use Rattle.std.specs.Prelude.{◌≡◌, ◌+◌, ◌*◌, ◌<◌, ◌≤◌, true, false, ℕ, IfSome, IfNone, IsSome, length, slice_index};
+ghost use Rattle.hcc_rule.specs.declared.view.Record.{Record};
+ghost use Rattle.hcc_rule.specs.Callers.{room_of, slots_of, IsSeatAt, IsSlotAt};
 ghost use Rattle.hcc_rule.specs.Seats.{IsSameSeat, view};
+ghost use Rattle.hcc_rule.specs.Views.{Each};
+ghost use Rattle.hcc_rule.specs.Words.{key_of, payload_word, words_for};
 ghost use Rattle.hcc_table.specs.Efforts.{Took};
-ghost use Rattle.hcc_table.specs.Optimistic.{OnlyLoads, ReadsOptimistic};
+ghost use Rattle.hcc_table.specs.Optimistic.{IsSpare, OnlyLoads, PeeksKey, PeeksOnce, ReadsOptimistic, ReadsThere, TriesAt};
 ghost use Rattle.hcc_table.specs.Pins.{is_useful};
 ghost use Rattle.hcc_table.specs.Searched.{Sought};
+ghost use Rattle.hcc_table.specs.Standing.{LacksOnce};
 ghost use Rattle.hcc_table.specs.Steps.{MakesAtMost, MakesFor};
 
 use crate::efforts::Effort;
 use crate::pins::Use;
-use hcc_rule::{Key, RuleSeat, RuleTable, Tag};
+use crate::unpacking::unpack;
+use crate::walk::Walk;
+use crate::words::is_shown;
+use hcc_rule::layout::{KEY0, KEY1, LENGTH, PAYLOAD};
+use hcc_rule::{Key, RuleSeat, RuleTable, SlotAt, Tag};
+use hcc_word::layout::GREATEST_CLOCKED;
+use hcc_word::{hit, releases};
 use std::alloc::Allocator;
+
+/// The most words of a value that is read so: they wait in an array until it is known that they are
+/// of one entry.
+pub const MOST_WAITING: usize = 32;
 
 /// What came of reading the value of a key.
 #[derive(Clone, Copy, Debug, PartialEq, Eq)]
@@ -23,6 +37,17 @@ pub enum Got {
     Hit(usize),
     /// The value has so many bytes, and the buffer has fewer.
     Short(usize),
+}
+
+/// What came of trying to read the value of a slot's entry.
+#[derive(Clone, Copy, Debug, PartialEq, Eq)]
+pub(crate) enum Tried {
+    /// The slot showed no entry of the key.
+    Other,
+    /// The value was read.
+    Read(Got),
+    /// The entry has to be held for it.
+    Declined,
 }
 
 /// Copies the value of a visible entry of the key to the front of a buffer, as a reading by a
@@ -36,6 +61,7 @@ pub enum Got {
 /// It refuses nothing and allocates nothing. Each probe costs a load and one of the displacement
 /// word, and where the slot is visible a load of each half of the key that is compared; a hit costs
 /// seven loads more, and one for each eight bytes.
+#[inline(always)]
 pub fn read_optimistic<T: Tag, A: Allocator>(
     table: &RuleTable<T, A>,
     seat: &mut RuleSeat<T>,
@@ -58,5 +84,164 @@ pub fn read_optimistic<T: Tag, A: Allocator>(
     ensures few { MakesAtMost (4 * slots_of table.now + (room_of table.now + 6))
         seat.old seat.new }
 {
-    None
+    let slots = table.geometry().slots;
+    let mut walk = Walk::begin(key, slots);
+    for probe in 0..slots {
+        let slot = walk.slot();
+        let data = table.data_of(slot);
+        let at = SlotAt { slot, data };
+        match try_read(table, seat, at, key, as_use, marks, buffer) {
+            Tried::Other => {}
+            Tried::Read(got) => {
+                effort.probes(probe as u64 + 1);
+                return Some(got);
+            }
+            Tried::Declined => return None,
+        }
+        if table.count_at(seat, at) == 0 {
+            effort.probes(probe as u64 + 1);
+            return Some(Got::Miss);
+        }
+        walk = walk.next();
+    }
+    effort.probes(slots as u64);
+    Some(Got::Miss)
+}
+
+/// Reads the value of the slot's entry, where it is one of this key, and needn't be held for it.
+///
+/// The look and the first loads of the key are hints: most slots are passed by them.
+#[inline(always)]
+fn try_read<T: Tag, A: Allocator>(
+    table: &RuleTable<T, A>,
+    seat: &mut RuleSeat<T>,
+    at: SlotAt,
+    key: Key,
+    as_use: Use,
+    marks: bool,
+    buffer: &mut [u8],
+) -> Tried
+    requires seat { IsSeatAt table.now seat.old }
+    requires at { IsSlotAt table.now at }
+    ensures seat { IsSameSeat seat.old seat.new }
+    ensures view { Sought (view seat.old) (view seat.new) }
+    ensures loads { OnlyLoads table.now seat.old seat.new }
+    ensures tries { TriesAt T.fits table.now key (is_useful as_use) marks at.slot result
+        buffer.old buffer.new seat.old seat.new }
+{
+    if !is_shown(table.look_at(seat, at)) || !shows_key(table, seat, at, key) {
+        return Tried::Other;
+    }
+    match read_there(table, seat, at, key, as_use, marks, buffer) {
+        Some(got) => Tried::Read(got),
+        None => Tried::Declined,
+    }
+}
+
+/// Reads the value of the entry in a slot at which the client looked, where one entry stands there
+/// from its first glance to its last.
+#[inline(always)]
+fn read_there<T: Tag, A: Allocator>(
+    table: &RuleTable<T, A>,
+    seat: &mut RuleSeat<T>,
+    at: SlotAt,
+    key: Key,
+    as_use: Use,
+    marks: bool,
+    buffer: &mut [u8],
+) -> Option<Got>
+    requires seat { IsSeatAt table.now seat.old }
+    requires at { IsSlotAt table.now at }
+    requires looked { (view seat.old).work.looked ≡ Some at.slot }
+    ensures seat { IsSameSeat seat.old seat.new }
+    ensures view { Sought (view seat.old) (view seat.new) }
+    ensures loads { OnlyLoads table.now seat.old seat.new }
+    ensures reads { IfSome result (λ got.
+        (there : ReadsThere T.fits table.now key (is_useful as_use) marks at.slot got
+        buffer.old buffer.new seat.old seat.new)
+        × MakesAtMost (7 + words_for (length there.entry.value)) seat.old seat.new) }
+    ensures unread { IfNone result (buffer.new ≡ buffer.old) }
+    ensures steps { MakesAtMost (7 + room_of table.now) seat.old seat.new }
+{
+    let stamp = table.glimpse_at(seat, at);
+    let word = table.glance_at(seat, at);
+    if !is_shown(word) || !is_spare(word, as_use, marks) || !shows_key(table, seat, at, key) {
+        return None;
+    }
+    let mut words = [0; MOST_WAITING];
+    let count = load_value(table, seat, at, &mut words)?;
+    if !is_shown(table.glance_at(seat, at)) || table.recheck_at(seat, at) != stamp {
+        return None;
+    }
+    Some(unpack(&words, count, buffer))
+}
+
+/// Whether one more use of an entry with this meta word, and one more hit, leave what they find.
+fn is_spare(word: u64, as_use: Use, marks: bool) -> bool
+    ensures { result ≡ true → IsSpare (is_useful as_use) marks word }
+{
+    let unseen = match as_use {
+        Use::Useful => releases(word) > GREATEST_CLOCKED,
+        Use::NotUseful => true,
+    };
+    unseen && (!marks || hit(word))
+}
+
+/// Whether the slot's entry has this key, half by half, as far as loads without a reference show.
+#[inline(always)]
+fn shows_key<T: Tag, A: Allocator>(
+    table: &RuleTable<T, A>,
+    seat: &mut RuleSeat<T>,
+    at: SlotAt,
+    key: Key,
+) -> bool
+    requires seat { IsSeatAt table.now seat.old }
+    requires at { IsSlotAt table.now at }
+    ensures seat { IsSameSeat seat.old seat.new }
+    ensures view { view seat.new ≡ view seat.old }
+    ensures loads { OnlyLoads table.now seat.old seat.new }
+    ensures equal { result ≡ true → PeeksKey table.now key at.slot seat.old seat.new }
+    ensures other { result ≡ false → LacksOnce table.now key at.slot seat.old seat.new
+        × Each (λ (r : Record). r.slot ≡ at.slot → ¬ (key_of r.entry ≡ key))
+        (view seat.old).records }
+    ensures steps { MakesAtMost 2 seat.old seat.new }
+{
+    table.peek_at(seat, at, KEY0) == key.w0 && table.peek_at(seat, at, KEY1) == key.w1
+}
+
+/// Loads the length of the value of the slot's entry, and where the words have room for it, its
+/// words. It returns how many bytes it has.
+#[inline(always)]
+fn load_value<T: Tag, A: Allocator>(
+    table: &RuleTable<T, A>,
+    seat: &mut RuleSeat<T>,
+    at: SlotAt,
+    words: &mut [u64],
+) -> Option<usize>
+    requires seat { IsSeatAt table.now seat.old }
+    requires at { IsSlotAt table.now at }
+    ensures seat { IsSameSeat seat.old seat.new }
+    ensures view { view seat.new ≡ view seat.old }
+    ensures loads { OnlyLoads table.now seat.old seat.new }
+    ensures length { IfSome result (λ count.
+        PeeksOnce table.now at.slot (λ e. count ≡ length e.value) seat.old seat.new) }
+    ensures words { IfSome result (λ count. (j : ℕ) → j < words_for count
+        → PeeksOnce table.now at.slot
+        (λ e. 8 * j < length e.value → slice_index words.new j ≡ payload_word e.value j)
+        seat.old seat.new) }
+    ensures fits { IfSome result (λ count. (count ≤ 8 * length words.new)
+        × (words_for count ≤ room_of table.now)
+        × MakesAtMost (1 + words_for count) seat.old seat.new) }
+    ensures short { IfNone result (MakesAtMost 1 seat.old seat.new) }
+{
+    let count = table.peek_at(seat, at, LENGTH);
+    let most = words.len().min(table.geometry().room as usize);
+    if count > 8 * most as u64 {
+        return None;
+    }
+    let count = count as usize;
+    for index in 0..count.div_ceil(8) {
+        words[index] = table.peek_at(seat, at, PAYLOAD + index);
+    }
+    Some(count)
 }

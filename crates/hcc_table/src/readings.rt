@@ -342,7 +342,7 @@ fn read_word<T: Tag, A: Allocator>(
 }
 
 /// Puts the first bytes of a word into a buffer, the lowest first.
-fn put(buffer: &mut [u8], at: usize, count: usize, word: u64)
+pub(crate) fn put(buffer: &mut [u8], at: usize, count: usize, word: u64)
     requires few { count ≤ 8 }
     requires space { at + count ≤ length buffer.old }
     ensures { buffer.new ≡ take at buffer.old
