@@ -9,6 +9,8 @@ pub mod Shown
 pub mod Lasting
 pub mod Loads
 pub mod Peeks
+pub mod Glances
+pub mod ReadProbes
 pub mod Alone
 pub mod Unshown
 pub mod HidesAlone

@@ -2,6 +2,7 @@
 use Rattle.std.proofs.Common.{◌≡◌, ℕ, ◌-◌, ◌%◌, ◌<◌, ◌≤◌, Bool, true, false, List, [], ◌∷◌, Option, Some, None, Result, Ok, Err, length, slice_get, slice_set, sym, refl, ap, ◌∙◌, arith}
 use Rattle.std.specs.Prelude.{option_and_then, if◌then◌else◌}
 use Rattle.std.proofs.lemmas.Bool.{lt-ltb}
+use Rattle.std.proofs.lemmas.Option.{same_Some}
 use Rattle.hcc_word.specs.Word.{is_empty, is_shareable, is_visible}
 use Rattle.hcc_core.specs.declared.event.CoreError.{CoreError}
 use Rattle.hcc_core.specs.declared.event.CoreError.TheVariants.{NotAllowed}
@@ -16,7 +17,9 @@ use Rattle.hcc_core.specs.declared.slot.Entry.{Entry}
 use Rattle.hcc_core.specs.declared.slot.Reference.{Reference}
 use Rattle.hcc_core.specs.declared.slot.Slot.{Slot}
 use Rattle.hcc_core.specs.declared.slot.Slot.TheVariants as slots
+use Rattle.hcc_core.specs.declared.slot.Stamp.{Stamp}
 use Rattle.hcc_core.specs.Entries.{entry_read, peek_of, read_of}
+use Rattle.hcc_core.specs.Lawful.{shown_stamp}
 use Rattle.hcc_core.specs.Outcomes.{◌>>=◌, Outcome, allow, holding, live_at, slot_at}
 use Rattle.hcc_core.specs.References.{acquire_of, acquired, give_of, look_of, may_acquire, new_reference, slot_acquired, slot_given}
 use Rattle.hcc_core.specs.Runs.{after, after_all, world_after}
@@ -313,6 +316,39 @@ module _ (w w' : State) (client slot : ℕ) where
         by (slots.Shareable r) same =
             let shown = got_shown _ _ _ _ _ same in
             (r.entry, ap (λ b. if b then Some r.entry else None) (shown ∙ on))
+
+  -- A peek that found an entry shown: it is shown there.
+  pub peek_shows : (stamp : Stamp)
+      → outcome_of w (events.Peek client slot) ≡ Ok (replies.Shows (Some stamp), w')
+      → (entry : Entry) × (shown_at w' slot ≡ Some entry) × (entry.stamp ≡ stamp)
+  unfolding peek_of
+  peek_shows stamp is =
+      let first = bound (slot_at w slot) _ _ (ruled w (events.Peek client slot) _ is) in
+      let second = bound (live_at w client) _ _ first.2 in
+      let reply = same_shows (shown_stamp first.0) (Some stamp)
+      (ap (λ z. z.0) (same_outcome _ _ second.2)) in
+      let there = by first.0 reply in (
+        there.0,
+        leads_stays w w' (events.Peek client slot) _ refl is slot
+            ∙ ap (option_and_then entry_shown) (found_ok _ _ first.0 first.1)
+            ∙ there.1,
+        there.2,
+      )
+    where
+      same_shows : (a b : Option Stamp) → replies.Shows a ≡ replies.Shows b → a ≡ b
+      same_shows a b h = cc
+
+      by : (seen : Slot) → shown_stamp seen ≡ Some stamp
+          → (entry : Entry) × (entry_shown seen ≡ Some entry) × (entry.stamp ≡ stamp)
+      by (slots.Empty strays) is = cc
+      by (slots.Building other strays) is = cc
+      by (slots.Shareable r) is = one r.shown refl is
+        where
+          one : (b : Bool) → r.shown ≡ b → (if b then Some r.entry.stamp else None) ≡ Some stamp
+              → (entry : Entry) × ((if b then Some r.entry else None) ≡ Some entry)
+              × (entry.stamp ≡ stamp)
+          one true shown is = (r.entry, refl, same_Some _ _ is)
+          one false shown is = cc
 
   -- A count: how often the slot stands in trails.
   pub count_tells : (n : ℕ) → outcome_of w (events.Count client slot) ≡ Ok (replies.Count n, w')

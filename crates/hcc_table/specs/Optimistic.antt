@@ -22,7 +22,7 @@ use Rattle.hcc_table.specs.declared.optimistic.Got.TheVariants.{Hit, Miss, Short
 use Rattle.hcc_table.specs.declared.optimistic.Tried.{Tried}
 use Rattle.hcc_table.specs.declared.optimistic.Tried.TheVariants.{Other, Read, Declined}
 use Rattle.hcc_table.specs.Readings.{CopiesOut}
-use Rattle.hcc_table.specs.Searched.{Buried, IsMissed}
+use Rattle.hcc_table.specs.Searched.{Buried, IsMissed, Sought}
 use Rattle.hcc_table.specs.Seeking.{Does}
 use Rattle.hcc_table.specs.Standing.{IsMomentOf, LacksOnce, shown_at}
 use Rattle.hcc_table.specs.Steps.{MakesAtMost}
@@ -47,11 +47,17 @@ module _ {T A : Type 0} (table : RuleTable T A) where
     pub does : Does table own old new
     pub only : Each (λ (done : Done). is_load done.event ≡ true) own
 
+  -- so it was, and what the client has stays as a search leaves it
+  pub record Reads (old new : SeatOf T) : Type 0 where
+    pub loads : OnlyLoads old new
+    pub sought : Sought (view old) (view new)
+
   -- At this moment of a call its client loaded the meta word of a slot, which showed the entry then.
   pub record Glances (slot word : ℕ) (entry : Entry) (old new : SeatOf T) : Type 0 where
+    pub before : SeatOf T
     pub moment : SeatOf T
     pub is_moment : IsMomentOf table moment old new
-    pub loads : Makes (address_of_meta table slot) 0 0 word is_moment.before moment
+    pub loads : Makes (address_of_meta table slot) 0 0 word before moment
     pub visible : is_visible word ≡ true
     pub shows : shown_at (world_at table moment) slot ≡ Some entry
 

@@ -7,7 +7,7 @@ ghost use Rattle.hcc_rule.specs.Seats.{IsSameSeat, view};
 ghost use Rattle.hcc_rule.specs.Views.{Each};
 ghost use Rattle.hcc_rule.specs.Words.{key_of, payload_word, words_for};
 ghost use Rattle.hcc_table.specs.Efforts.{Took};
-ghost use Rattle.hcc_table.specs.Optimistic.{IsSpare, OnlyLoads, PeeksKey, PeeksOnce, ReadsOptimistic, ReadsThere, TriesAt};
+ghost use Rattle.hcc_table.specs.Optimistic.{IsSpare, OnlyLoads, PeeksKey, PeeksOnce, Reads, ReadsOptimistic, ReadsThere, TriesAt};
 ghost use Rattle.hcc_table.specs.Pins.{is_useful};
 ghost use Rattle.hcc_table.specs.Searched.{Sought};
 ghost use Rattle.hcc_table.specs.Standing.{LacksOnce};
@@ -124,12 +124,15 @@ fn try_read<T: Tag, A: Allocator>(
     requires seat { IsSeatAt table.now seat.old }
     requires at { IsSlotAt table.now at }
     ensures seat { IsSameSeat seat.old seat.new }
-    ensures view { Sought (view seat.old) (view seat.new) }
-    ensures loads { OnlyLoads table.now seat.old seat.new }
+    ensures by { Reads table.now seat.old seat.new }
     ensures tries { TriesAt T.fits table.now key (is_useful as_use) marks at.slot result
         buffer.old buffer.new seat.old seat.new }
 {
-    if !is_shown(table.look_at(seat, at)) || !shows_key(table, seat, at, key) {
+    let seen = table.look_at(seat, at);
+    if !is_shown(seen) {
+        return Tried::Other;
+    }
+    if !shows_key(table, seat, at, key) {
         return Tried::Other;
     }
     match read_there(table, seat, at, key, as_use, marks, buffer) {
@@ -154,8 +157,7 @@ fn read_there<T: Tag, A: Allocator>(
     requires at { IsSlotAt table.now at }
     requires looked { (view seat.old).work.looked ≡ Some at.slot }
     ensures seat { IsSameSeat seat.old seat.new }
-    ensures view { Sought (view seat.old) (view seat.new) }
-    ensures loads { OnlyLoads table.now seat.old seat.new }
+    ensures by { Reads table.now seat.old seat.new }
     ensures reads { IfSome result (λ got.
         (there : ReadsThere T.fits table.now key (is_useful as_use) marks at.slot got
         buffer.old buffer.new seat.old seat.new)
@@ -165,12 +167,16 @@ fn read_there<T: Tag, A: Allocator>(
 {
     let stamp = table.glimpse_at(seat, at);
     let word = table.glance_at(seat, at);
-    if !is_shown(word) || !is_spare(word, as_use, marks) || !shows_key(table, seat, at, key) {
+    if !is_shown(word) || !is_spare(word, as_use, marks) {
+        return None;
+    }
+    if !shows_key(table, seat, at, key) {
         return None;
     }
     let mut words = [0; MOST_WAITING];
     let count = load_value(table, seat, at, &mut words)?;
-    if !is_shown(table.glance_at(seat, at)) || table.recheck_at(seat, at) != stamp {
+    let last = table.glance_at(seat, at);
+    if table.recheck_at(seat, at) != stamp || !is_shown(last) {
         return None;
     }
     Some(unpack(&words, count, buffer))
