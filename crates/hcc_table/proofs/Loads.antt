@@ -1,12 +1,11 @@
 -- What a seat does while it only loads words of slots.
-use Rattle.std.proofs.Common.{◌≡◌, true, List, [], ◌∷◌, ◌++◌, refl}
+use Rattle.std.proofs.Common.{◌≡◌, true, [], ◌∷◌, ◌++◌, refl}
 use Rattle.hcc_core.specs.declared.event.Event.{Event}
 use Rattle.hcc_core.specs.declared.event.Event.TheVariants as events
 use Rattle.hcc_rule.specs.declared.table.RuleTable.{RuleTable}
 use Rattle.hcc_rule.specs.declared.view.Done.{Done}
 use Rattle.hcc_rule.specs.Callers.{IsEvent}
 use Rattle.hcc_rule.specs.Seats.{SeatOf}
-use Rattle.hcc_rule.specs.Views.{Each}
 use Rattle.hcc_rule.proofs.Basics.Lists.{each_append, each_map}
 use Rattle.hcc_table.specs.Optimistic.{OnlyLoads, is_load}
 use Rattle.hcc_table.specs.Seeking.{Seeks, is_seeking}

@@ -1,6 +1,6 @@
 -- What loads without a reference tell of the entry that stood in the slot when they were made.
 use Rattle.std.proofs.Common.{◌≡◌, inl, inr, ℕ, ◌+◌, ◌*◌, ◌<◌, ◌≤◌, Bool, true, false, Option, Some, None, IfSome, List, length, slice_get, slice_index, slice_set, refl, sym, ap, subst, ◌∙◌, eq-or-lt_of_le, arith}
-use Rattle.std.specs.Prelude.{IsSomeAnd, option_and_then, if◌then◌else◌}
+use Rattle.std.specs.Prelude.{option_and_then, if◌then◌else◌}
 use Rattle.hcc_core.specs.declared.slot.Entry.{Entry}
 use Rattle.hcc_core.specs.declared.slot.Slot.{Slot}
 use Rattle.hcc_core.specs.declared.slot.Slot.TheVariants as slots

@@ -1,5 +1,5 @@
 -- The probes of an optimistic reading: what one tells, and one after the other.
-use Rattle.std.proofs.Common.{◌≡◌, inl, inr, ℕ, ◌+◌, ◌*◌, ◌<◌, ◌≤◌, Bool, true, false, List, [], ◌∷◌, ◌++◌, Option, Some, None, length, refl, sym, ap, subst, ◌∙◌, eq-or-lt_of_le, arith}
+use Rattle.std.proofs.Common.{◌≡◌, inl, inr, ℕ, ◌+◌, ◌*◌, ◌<◌, ◌≤◌, Bool, true, false, List, [], ◌∷◌, ◌++◌, length, refl, sym, ap, subst, ◌∙◌, eq-or-lt_of_le, arith}
 use Rattle.std.proofs.lemmas.Bool.{cases_lt}
 use Rattle.std.proofs.lemmas.List.{append_assoc}
 use Rattle.hcc_word.specs.Word.{is_visible}
@@ -15,18 +15,20 @@ use Rattle.hcc_rule.specs.Callers.{IsEvent, slots_of, world_at}
 use Rattle.hcc_rule.specs.Events.{count_done, look_done}
 use Rattle.hcc_rule.specs.Looked.{after_look}
 use Rattle.hcc_rule.specs.Probes.{probe_slot}
-use Rattle.hcc_rule.specs.Seats.{SeatOf, made, view}
+use Rattle.hcc_rule.specs.Seats.{SeatOf, view}
 use Rattle.hcc_rule.specs.Views.{Each}
-use Rattle.hcc_rule.specs.Words.{key_of}
+use Rattle.hcc_rule.specs.Words.{key_of, words_for}
 use Rattle.hcc_rule.proofs.Basics.Lists.{each_map}
 use Rattle.hcc_rule.proofs.Probes.ProbeLaws.{probe_of_slot}
 use Rattle.hcc_table.specs.declared.optimistic.Got.{Got}
-use Rattle.hcc_table.specs.Optimistic.{LacksAll, OnlyLoads, Reads, ReadsThere}
+use Rattle.hcc_table.specs.declared.optimistic.Got.TheVariants.{Hit, Miss, Short}
+use Rattle.hcc_table.specs.Optimistic.{LacksAll, OnlyLoads, Reads, ReadsOptimistic, ReadsShown, ReadsThere}
 use Rattle.hcc_table.specs.Searched.{Buried, Sought}
 use Rattle.hcc_table.specs.Seeking.{Seeks}
-use Rattle.hcc_table.specs.Standing.{IsMomentOf, LacksOnce, ShowsKey, shown_at}
+use Rattle.hcc_table.specs.Standing.{IsMomentOf, LacksOnce, shown_at}
+use Rattle.hcc_table.specs.Steps.{MakesAtMost}
 use Rattle.hcc_table.proofs.Lasting.{Led, does_more, event_leads, event_trails, led_none, moment_of, none_shown, some_and}
-use Rattle.hcc_table.proofs.Loads.{loads_one, loads_seek, loads_then}
+use Rattle.hcc_table.proofs.Loads.{loads_one, loads_seek}
 use Rattle.hcc_table.proofs.Peeks.{moment_later}
 use Rattle.hcc_table.proofs.Probes.{looked_at}
 use Rattle.hcc_table.proofs.Seeking.{seeks_none, seeks_then}
@@ -113,26 +115,30 @@ module _ {T A : Type 0} (table : RuleTable T A) where
     -- what was read after a look was read in the call
     pub there_earlier : {fits : T → Key → List ℕ → Type 0} {useful marks : Bool} {slot : ℕ}
         {got : Got} {before after : List ℕ} (old a b : SeatOf T) → Reads table old a
-        → ReadsThere fits table key useful marks slot got before after a b
-        → ReadsThere fits table key useful marks slot got before after old b
-    there_earlier old a b led h = record {
-      entry = h.entry;
-      asked = h.asked;
-      right = h.right;
-      alive = not_before (view old) (view a) led.sought h.entry.stamp h.alive;
-      word = h.word;
-      glances = record {
-        before = h.glances.before;
-        moment = h.glances.moment;
-        is_moment = moment_earlier h.glances.moment old a b (reads_led old a led)
-            h.glances.is_moment;
-        loads = h.glances.loads;
-        visible = h.glances.visible;
-        shows = h.glances.shows;
-      };
-      spare = h.spare;
-      copies = h.copies;
-    }
+        → (h : ReadsThere fits table key useful marks slot got before after a b)
+        → (there : ReadsThere fits table key useful marks slot got before after old b)
+        × (there.entry ≡ h.entry)
+    there_earlier old a b led h = (
+      record {
+        entry = h.entry;
+        asked = h.asked;
+        right = h.right;
+        alive = not_before (view old) (view a) led.sought h.entry.stamp h.alive;
+        word = h.word;
+        glances = record {
+          before = h.glances.before;
+          moment = h.glances.moment;
+          is_moment = moment_earlier h.glances.moment old a b (reads_led old a led)
+              h.glances.is_moment;
+          loads = h.glances.loads;
+          visible = h.glances.visible;
+          shows = h.glances.shows;
+        };
+        spare = h.spare;
+        copies = h.copies;
+      },
+      refl,
+    )
 
     -- the first so many probes lacked the key once
     abbrev pub LackedUpTo : (i : ℕ) → (old now : SeatOf T) → Type 0
@@ -195,3 +201,33 @@ module _ {T A : Type 0} (table : RuleTable T A) where
         let place = probe_of_slot (slots_of table) key table.limits.power s near in
         subst (λ z. LacksOnce table key z old new) place.2
         (before place.0 (let low = place.1 in omega arith))
+
+-- An entry that was read is an answer of the reading.
+pub reads_answered : {T A : Type 0} {fits : T → Key → List ℕ → Type 0} {table : RuleTable T A}
+    {key : Key} {useful marks : Bool} (got : Got) (before after : List ℕ) (old new : SeatOf T)
+    → ReadsShown fits table key useful marks got before after old new
+    → ReadsOptimistic fits table key useful marks got before after old new
+reads_answered Miss before after old new h = absurd h.there.copies
+reads_answered (Hit count) before after old new h = h
+reads_answered (Short count) before after old new h = h
+
+-- What was read in the slot of a probe is read at that probe.
+pub shown_there : {T A : Type 0} {fits : T → Key → List ℕ → Type 0} (table : RuleTable T A)
+    (key : Key) {useful marks : Bool} {got : Got} {before after : List ℕ} (i slot : ℕ)
+    (old new : SeatOf T) → slot ≡ probe_slot (slots_of table) key i → i < slots_of table
+    → LackedUpTo table key i old new
+    → (t : ReadsThere fits table key useful marks slot got before after old new)
+    → MakesAtMost (4 * i + 10 + words_for (length t.entry.value)) old new
+    → ReadsShown fits table key useful marks got before after old new
+shown_there {fits = fits} table key {useful} {marks} {got} {before} {after} i slot old new at inside
+    earlier =
+    subst (λ s. (t : ReadsThere fits table key useful marks s got before after old new)
+    → MakesAtMost (4 * i + 10 + words_for (length t.entry.value)) old new
+    → ReadsShown fits table key useful marks got before after old new) (sym at)
+    (λ t few. record {
+      probe = i;
+      inside = inside;
+      there = t;
+      earlier = earlier;
+      few = few;
+    })

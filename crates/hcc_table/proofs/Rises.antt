@@ -1,5 +1,5 @@
 -- Rises of counts, one after the other.
-use Rattle.std.proofs.Common.{◌≡◌, ℕ, ◌+◌, ◌≤◌, arith}
+use Rattle.std.proofs.Common.{◌≡◌, ℕ, ◌+◌, ◌≤◌, sym, ap, subst, ◌∙◌, arith}
 use Rattle.hcc_table.specs.declared.efforts.Effort.{Effort}
 use Rattle.hcc_table.specs.Efforts.{Took}
 use Rattle.hcc_table.specs.Rises.{Rose}
@@ -81,3 +81,22 @@ took_probes visited tries slots old was now h probes corrections lost some few s
       h.1),
   rw lost (rose_within 0 tries 0 slots old.lost was.lost (omega arith) short h.2),
 )
+
+-- So it is where no exchange was tried.
+pub took_visited : (visited slots : ℕ) (old was now : Effort) → was ≡ old
+    → Rose visited visited was.probes now.probes → now.corrections ≡ was.corrections
+    → now.lost ≡ was.lost → 1 ≤ visited → visited ≤ slots
+    → Took 1 slots 0 old now × Rose visited visited old.probes now.probes
+took_visited visited slots old was now same probes corrections lost some few =
+    let counted = counted_probes visited 0 old was now
+    (subst (Took 0 0 0 old) (sym same) (took_none old)) probes in
+    let first : now.corrections ≡ old.corrections =
+    corrections ∙ ap (λ (e : Effort). e.corrections) same in
+    let second : now.lost ≡ old.lost = lost ∙ ap (λ (e : Effort). e.lost) same in (
+      (
+        rose_within visited visited 1 slots old.probes now.probes some few counted,
+        (omega arith, λ low. omega arith, omega arith),
+        (omega arith, λ low. omega arith, omega arith),
+      ),
+      counted,
+    )

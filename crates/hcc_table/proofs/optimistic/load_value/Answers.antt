@@ -1,5 +1,4 @@
-use Rattle.std.proofs.Common.{◌≡◌, ◌+◌, ◌*◌, ◌<◌, ◌≤◌, length, arith}
-use Rattle.hcc_table.proofs.Loads.{loads_none}
+use Rattle.std.proofs.Common.{arith}
 use Rattle.hcc_table.proofs.Peeks.{loaded_length, loaded_more, peek_loads}
 use Rattle.hcc_table.proofs.optimistic.load_value.Goals as goal
 

@@ -1,20 +1,18 @@
-use Rattle.std.proofs.Common.{◌≡◌, ℕ, ◌*◌, ◌+◌, ◌<◌, ◌≤◌, true, false, Some, IfSome, length, refl, sym, ap, subst, ◌∙◌, arith}
-use Rattle.std.proofs.lemmas.Bool.{eqb-true}
+use Rattle.std.proofs.Common.{◌≡◌, ◌+◌, ◌≤◌, true, false, Some, IfSome, length, refl, sym, ap, subst, ◌∙◌, arith}
 use Rattle.hcc_word.specs.Word.{is_visible}
 use Rattle.hcc_core.specs.declared.slot.Entry.{Entry}
 use Rattle.hcc_core.specs.Lawful.{is_in}
 use Rattle.hcc_core.specs.Runs.{entry_at}
-use Rattle.hcc_rule.specs.declared.key.Key.{Key}
 use Rattle.hcc_rule.specs.declared.view.View.{View}
 use Rattle.hcc_rule.specs.Callers.{plan_of, room_of, world_at}
 use Rattle.hcc_rule.specs.Events.{peek_done}
 use Rattle.hcc_rule.specs.Seats.{SeatOf, made, view}
 use Rattle.hcc_rule.specs.ToldGlimpses.{IsRightEntry}
-use Rattle.hcc_rule.specs.Words.{key_of, words_for}
-use Rattle.hcc_table.specs.Optimistic.{OnlyLoads, PeeksKey, PeeksOnce, Reads}
+use Rattle.hcc_rule.specs.Words.{words_for}
+use Rattle.hcc_table.specs.Optimistic.{PeeksKey, PeeksOnce}
 use Rattle.hcc_table.specs.Readings.{HasWords}
 use Rattle.hcc_table.specs.Seeking.{Seeks}
-use Rattle.hcc_table.proofs.Glances.{FirstGlance, HasGlimpse, ShowsStamp, first_glance, first_reads, all_reads, last_glance, reads_kept, reads_then, same_key, stood_between}
+use Rattle.hcc_table.proofs.Glances.{FirstGlance, ShowsStamp, first_glance, first_reads, all_reads, last_glance, reads_kept, reads_then, same_key, stood_between}
 use Rattle.hcc_table.proofs.Lasting.{moment_of}
 use Rattle.hcc_table.proofs.Loads.{loads_seek, loads_then}
 use Rattle.hcc_table.proofs.Peeks.{IsWord, peek_led, peek_loads, shown_stands}

@@ -1,4 +1,4 @@
-use Rattle.std.proofs.Common.{◌≡◌, Some, None, subst, sym}
+use Rattle.std.proofs.Common.{◌≡◌, subst}
 use Rattle.std.proofs.lemmas.Bool.{eqb-true, eqb-false}
 use Rattle.hcc_rule.specs.declared.layout.TheConstants.{KEY1}
 use Rattle.hcc_rule.specs.declared.view.Record.{Record}

@@ -1,10 +1,9 @@
-use Rattle.std.proofs.Common.{◌≡◌, ◌+◌, ◌≤◌, length, refl, sym, ◌∙◌, arith}
+use Rattle.std.proofs.Common.{length, refl, sym, ap, ◌∙◌, arith}
+use Rattle.hcc_core.specs.declared.slot.Entry.{Entry}
 use Rattle.hcc_rule.specs.Seats.{view}
 use Rattle.hcc_rule.specs.Words.{words_for}
-use Rattle.hcc_table.specs.Optimistic.{Reads}
 use Rattle.hcc_table.proofs.Glances.{reads_kept, reads_then}
-use Rattle.hcc_table.proofs.Lasting.{Led}
-use Rattle.hcc_table.proofs.Probes.{buried_by_look, looked_at}
+use Rattle.hcc_table.proofs.Probes.{buried_by_look}
 use Rattle.hcc_table.proofs.ReadProbes.{buried_other, lacks_within, look_lacks, look_reads, reads_led, there_earlier}
 use Rattle.hcc_table.proofs.Seeking.{seeks_none}
 use Rattle.hcc_table.proofs.optimistic.try_read.Goals as goal
@@ -68,17 +67,16 @@ returns-in-Some-clause-tries g c =
     let one = c.look_at-seen.ensures.step.one in
     let two = c.shows_key.ensures.steps in
     let rest = c.in-Some.ensures.reads in
-    let more = rest.1 in (
-      there_earlier c.args.table.now c.args.key c.args.seat.now c.shows_key.new.seat
-          c.read_there.new.seat
-          (reads_then c.args.table.now c.args.seat.now c.look_at-seen.new.seat
-          c.shows_key.new.seat
-          (look_reads c.args.table.now c.args.at.slot c.look_at-seen.result c.args.seat.now
-          c.look_at-seen.new.seat c.look_at-seen.ensures.view c.look_at-seen.ensures.event)
-          (reads_kept c.args.table.now c.look_at-seen.new.seat c.shows_key.new.seat
-          c.shows_key.ensures.view c.shows_key.ensures.loads)) rest.0,
-      omega (arith, one, two, more),
-    )
+    let more = rest.1 in
+    let there = there_earlier c.args.table.now c.args.key c.args.seat.now c.shows_key.new.seat
+    c.read_there.new.seat
+    (reads_then c.args.table.now c.args.seat.now c.look_at-seen.new.seat c.shows_key.new.seat
+    (look_reads c.args.table.now c.args.at.slot c.look_at-seen.result c.args.seat.now
+    c.look_at-seen.new.seat c.look_at-seen.ensures.view c.look_at-seen.ensures.event)
+    (reads_kept c.args.table.now c.look_at-seen.new.seat c.shows_key.new.seat
+    c.shows_key.ensures.view c.shows_key.ensures.loads)) rest.0 in
+    let same = ap (λ (e : Entry). words_for (length e.value)) there.1 in
+    (there.0, omega (arith, one, two, more, same))
 
 pub returns-in-None-clause-by : goal.returns-in-None-clause-by
 returns-in-None-clause-by g c =
