@@ -20,3 +20,4 @@ pub mod Moves
 pub mod EventMoves
 pub mod Shows
 pub mod EveryRun
+pub mod SpareUses

@@ -1,9 +1,18 @@
-//! What holds of every run.
-ghost use Rattle.std.specs.Prelude.{◌≡◌, ℕ, false, List, Some};
+//! What holds of every run, and what the clock can't see.
+ghost use Rattle.std.specs.Prelude.{◌≡◌, ℕ, ◌+◌, ◌<◌, true, false, List, Some, slice_get};
 ghost use Rattle.std.specs.List.{list_any};
 ghost use Rattle.hcc_core.specs.declared.slot.Entry.{Entry};
+ghost use Rattle.hcc_core.specs.declared.slot.Reference.{Reference};
+ghost use Rattle.hcc_core.specs.declared.slot.Slot.{Slot};
 ghost use Rattle.hcc_core.specs.declared.event.Event.{Event};
+ghost use Rattle.hcc_core.specs.declared.event.Event.TheVariants.{Clock};
+ghost use Rattle.hcc_core.specs.declared.limits.TheConstants.{MOST_CLOCKED};
 ghost use Rattle.hcc_core.specs.declared.setup.Setup.{Setup};
+ghost use Rattle.hcc_core.specs.World.{State, has_reference, is_shareable, uses_of};
+ghost use Rattle.hcc_core.specs.Outcomes.{with_slot};
+ghost use Rattle.hcc_core.specs.References.{slot_acquired, slot_used};
+ghost use Rattle.hcc_core.specs.Uses.{slot_with_uses};
+ghost use Rattle.hcc_core.specs.Steps.{outcome_of};
 ghost use Rattle.hcc_core.specs.Lawful.{Lawful};
 ghost use Rattle.hcc_core.specs.Runs.{AreGiven, CountersFit, FindsOne, KeepsPlaces, StandsBetween, after_all, held_at, takes_away};
 ghost use Rattle.hcc_core.specs.Opening.{CanOpen, opening_of};
@@ -46,4 +55,25 @@ pub fn law_every_run()
     // gave: of its shows that were allowed, from 0.
     ensures entries { (setup : Setup) (events : List Event)
         → AreGiven (opening_of setup) events }
+{}
+
+/// Which uses the clock can't see. A visit leaves [`MOST_CLOCKED`](crate::limits::MOST_CLOCKED)
+/// uses of an entry at most: so where it has more, one more is spare.
+///
+/// It does nothing when it runs: its contract is the law.
+pub fn law_spare_uses()
+    // Where an entry has more uses than a visit leaves, any number of uses on top of these changes
+    // neither what a visit answers nor the world that it leaves.
+    ensures clock { (world : State) (client slot : ℕ) (seen : Slot) (more : ℕ)
+        → slice_get world.slots slot ≡ Some seen → MOST_CLOCKED < uses_of seen
+        → outcome_of (with_slot world slot (slot_with_uses (uses_of seen + more) seen))
+        (Clock client slot)
+        ≡ outcome_of world (Clock client slot) }
+
+    // Acquiring a reference by a name that the client doesn't hold there, and then using it, leaves
+    // the slot with so many uses more as it weighs, and nothing else.
+    ensures used { (k : Reference) (seen : Slot) → is_shareable seen ≡ true
+        → has_reference k.client k.name seen ≡ false
+        → slot_used k.client k.name k (slot_acquired seen k)
+        ≡ slot_with_uses (uses_of seen + k.weight) seen }
 {}
