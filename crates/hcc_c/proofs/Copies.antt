@@ -1,7 +1,7 @@
 -- What is copied of a slot of a closed cache, by what the cache tells of its entry.
 use Rattle.std.proofs.Common.{◌≡◌, ℕ, ◌<◌, ◌≤◌, ◌++◌, List, None, Some, drop, length, refl, sym, arith}
 use Rattle.hcc_shard.specs.declared.entries.ClosedEntry.{ClosedEntry}
-use Rattle.hcc_shard.specs.declared.getting.Got.TheVariants.{Hit, Miss, Short}
+use Rattle.hcc_table.specs.declared.optimistic.Got.TheVariants.{Hit, Miss, Short}
 use Rattle.hcc_cache.specs.declared.closed.Closed.{Closed}
 use Rattle.hcc_cache.specs.Left.{HasRoomFor, InShard, TellsEntry, length_of, value_of}
 use Rattle.hcc_c.specs.Left.{CopiesLeft}

@@ -2,8 +2,8 @@
 use Rattle.std.specs.Prelude.{ℕ, Option, Some, None, Result, Ok, Err, Box}
 use Rattle.std.specs.Global.{Global}
 use Rattle.hcc_rule.specs.declared.key.Key.{Key as CacheKey}
-use Rattle.hcc_shard.specs.declared.getting.Got.{Got}
-use Rattle.hcc_shard.specs.declared.getting.Got.TheVariants.{Hit, Miss, Short}
+use Rattle.hcc_table.specs.declared.optimistic.Got.{Got}
+use Rattle.hcc_table.specs.declared.optimistic.Got.TheVariants.{Hit, Miss, Short}
 use Rattle.hcc_cache.specs.declared.errors.InsertError.{InsertError}
 use Rattle.hcc_cache.specs.declared.errors.LookupError.{LookupError}
 use Rattle.hcc_cache.specs.declared.errors.NewError.{NewError}

@@ -7,7 +7,7 @@ use Rattle.hcc_rule.specs.Looked.{Backs, after_look}
 use Rattle.hcc_rule.specs.ToldTrails.{passed_held}
 use Rattle.hcc_rule.specs.Words.{words_for}
 use Rattle.hcc_table.specs.Steps.{freeing}
-use Rattle.hcc_shard.specs.declared.getting.Got.{Got}
+use Rattle.hcc_table.specs.declared.optimistic.Got.{Got}
 use Rattle.hcc_shard.specs.Callers.{LoadsDisplacement, LoadsWord}
 use Rattle.hcc_shard.specs.Inserted.{inserting, inserting_between}
 use Rattle.hcc_cache.specs.declared.errors.InsertError.{InsertError}

@@ -1,7 +1,7 @@
 -- What a client's look-ups and insertions came to, in counts that saturate.
 use Rattle.std.specs.Prelude.{Option, Some, None, Result, Ok, Err}
-use Rattle.hcc_shard.specs.declared.getting.Got.{Got}
-use Rattle.hcc_shard.specs.declared.getting.Got.TheVariants.{Hit, Miss, Short}
+use Rattle.hcc_table.specs.declared.optimistic.Got.{Got}
+use Rattle.hcc_table.specs.declared.optimistic.Got.TheVariants.{Hit, Miss, Short}
 use Rattle.hcc_cache.specs.declared.errors.InsertError.{InsertError}
 use Rattle.hcc_cache.specs.declared.errors.LookupError.{LookupError}
 use Rattle.hcc_cache.specs.declared.inserting.Inserted.{Inserted}

@@ -5,8 +5,8 @@ use Rattle.hcc_rule.specs.declared.layout.TheConstants.{HAND}
 use Rattle.hcc_rule.specs.Closing.{has_entry, words_of}
 use Rattle.hcc_shard.specs.declared.entries.ClosedEntry.{ClosedEntry}
 use Rattle.hcc_shard.specs.declared.entries.ClosedShard.{ClosedShard}
-use Rattle.hcc_shard.specs.declared.getting.Got.{Got}
-use Rattle.hcc_shard.specs.declared.getting.Got.TheVariants.{Hit, Miss, Short}
+use Rattle.hcc_table.specs.declared.optimistic.Got.{Got}
+use Rattle.hcc_table.specs.declared.optimistic.Got.TheVariants.{Hit, Miss, Short}
 use Rattle.hcc_shard.specs.Left.{charges_left, slots_left}
 use Rattle.hcc_cache.specs.declared.closed.Closed.{Closed}
 use Rattle.hcc_cache.specs.Left.{InShard, TellsEntry, at_shard, field_of, ledger_of, length_of, over_shards, slots_at, value_of}

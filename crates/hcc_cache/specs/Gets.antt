@@ -5,8 +5,8 @@ use Rattle.hcc_core.specs.Lawful.{is_in}
 use Rattle.hcc_rule.specs.declared.key.Key.{Key}
 use Rattle.hcc_rule.specs.Words.{key_of}
 use Rattle.hcc_table.specs.Searched.{Sought}
-use Rattle.hcc_shard.specs.declared.getting.Got.{Got}
-use Rattle.hcc_shard.specs.declared.getting.Got.TheVariants.{Hit, Miss, Short}
+use Rattle.hcc_table.specs.declared.optimistic.Got.{Got}
+use Rattle.hcc_table.specs.declared.optimistic.Got.TheVariants.{Hit, Miss, Short}
 use Rattle.hcc_shard.specs.Gets.{CopiesOut, Gets}
 use Rattle.hcc_cache.specs.declared.cache.Cache.{Cache}
 use Rattle.hcc_cache.specs.declared.client.Client.{Client}

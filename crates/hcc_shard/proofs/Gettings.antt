@@ -23,8 +23,8 @@ use Rattle.hcc_table.proofs.Probes.{dropped_last, found_held, given_at}
 use Rattle.hcc_table.proofs.Searches.{searched_then}
 use Rattle.hcc_table.proofs.Seeking.{seeks_one}
 use Rattle.hcc_shard.specs.declared.erasing.TheConstants.{IN_FLIGHT}
-use Rattle.hcc_shard.specs.declared.getting.Got.{Got}
-use Rattle.hcc_shard.specs.declared.getting.Got.TheVariants.{Hit, Miss, Short}
+use Rattle.hcc_table.specs.declared.optimistic.Got.{Got}
+use Rattle.hcc_table.specs.declared.optimistic.Got.TheVariants.{Hit, Miss, Short}
 use Rattle.hcc_shard.specs.declared.seat.ShardSeat.{ShardSeat}
 use Rattle.hcc_shard.specs.declared.shard.Shard.{Shard}
 use Rattle.hcc_shard.specs.Gets.{CopiesOut, Gets, ReadsOut, loads_of}

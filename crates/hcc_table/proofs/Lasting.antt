@@ -167,6 +167,39 @@ module _ {T A : Type 0} (table : RuleTable T A) where
         goes_on = later.1;
       }
 
+  -- one of what came behind a search is one of both
+  pub moment_since : (old began moment new : SeatOf T) → Led old began
+      → IsMomentOf table moment began new → IsMomentOf table moment old new
+  moment_since old began moment new led m =
+      let first = does_more led.seeks.own old began led.seeks.does in
+      let behind = m.since ++ m.done ∷ [] in
+      record {
+        before = m.before;
+        done = m.done;
+        began = seeks_then table old began m.before led.seeks m.began;
+        step = m.step;
+        seeking = m.seeking;
+        own = m.own ∙ led.same;
+        rest = m.rest;
+        since = first.0 ++ m.since;
+        begins =
+            m.begins ∙ ap (λ h. h ++ behind) first.1 ∙ append_assoc (past old) first.0 behind
+            ∙ ap (λ h. past old ++ h) (sym (append_assoc first.0 m.since (m.done ∷ [])));
+        later = m.later;
+        goes_on = m.goes_on;
+      }
+
+  -- So what was shown once in that, and lacked once, was in both.
+
+  pub shows_since : (slot : ℕ) (e : Entry) (old began new : SeatOf T) → Led old began
+      → ShowsOnce table slot e began new → ShowsOnce table slot e old new
+  shows_since slot e old began new led h = (h.0, moment_since old began h.0 new led h.1, h.2)
+
+  pub lacks_since : (key : Key) (slot : ℕ) (old began new : SeatOf T) → Led old began
+      → LacksOnce table key slot began new → LacksOnce table key slot old new
+  lacks_since key slot old began new led h =
+      (h.0, moment_since old began h.0 new led h.1, h.2)
+
   -- in a shard of one client what is shown at one is shown when the call began
   moment_shows : clients_of table ≡ 1 → (old moment new : SeatOf T)
       → IsMomentOf table moment old new → (s : ℕ)

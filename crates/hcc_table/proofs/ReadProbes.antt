@@ -27,7 +27,7 @@ use Rattle.hcc_table.specs.Searched.{Buried, Sought}
 use Rattle.hcc_table.specs.Seeking.{Seeks}
 use Rattle.hcc_table.specs.Standing.{IsMomentOf, LacksOnce, shown_at}
 use Rattle.hcc_table.specs.Steps.{MakesAtMost}
-use Rattle.hcc_table.proofs.Lasting.{Led, does_more, event_leads, event_trails, led_none, moment_of, none_shown, some_and}
+use Rattle.hcc_table.proofs.Lasting.{Led, does_more, event_leads, event_trails, led_none, moment_of, moment_since, none_shown, some_and}
 use Rattle.hcc_table.proofs.Loads.{loads_one, loads_seek}
 use Rattle.hcc_table.proofs.Peeks.{moment_later}
 use Rattle.hcc_table.proofs.Probes.{looked_at}
@@ -71,33 +71,12 @@ module _ {T A : Type 0} (table : RuleTable T A) where
       → IsEvent table (count_done slot n (view a)) a b → OnlyLoads table a b
   count_loads slot n a b event = loads_one table (count_done slot n (view a)) a b event refl
 
-  -- a moment of a call is one of a call that began before
-  pub moment_earlier : (moment old a b : SeatOf T) → Led table old a → IsMomentOf table moment a b
-      → IsMomentOf table moment old b
-  moment_earlier moment old a b led m =
-      let first = does_more table led.seeks.own old a led.seeks.does in record {
-        before = m.before;
-        done = m.done;
-        began = seeks_then table old a m.before led.seeks m.began;
-        step = m.step;
-        seeking = m.seeking;
-        own = m.own ∙ led.same;
-        rest = m.rest;
-        since = first.0 ++ m.since;
-        begins =
-            m.begins ∙ (ap (λ h. h ++ (m.since ++ m.done ∷ [])) first.1
-            ∙ (append_assoc (past old) first.0 (m.since ++ m.done ∷ [])
-            ∙ ap (λ h. past old ++ h) (sym (append_assoc first.0 m.since (m.done ∷ [])))));
-        later = m.later;
-        goes_on = m.goes_on;
-      }
-
   module _ (key : Key) where
     -- a slot that lacked the key in a part of a call did so in the call
     pub lacks_within : (slot : ℕ) (old a b new : SeatOf T) → Led table old a
         → LacksOnce table key slot a b → Seeks table b new → LacksOnce table key slot old new
     lacks_within slot old a b new led h more =
-        (h.0, moment_later table h.0 old b new (moment_earlier h.0 old a b led h.1) more, h.2)
+        (h.0, moment_later table h.0 old b new (moment_since table old a h.0 b led h.1) more, h.2)
 
     -- a slot that isn't visible lacks the key
     pub look_lacks : (slot word : ℕ) (a b : SeatOf T)
@@ -128,7 +107,7 @@ module _ {T A : Type 0} (table : RuleTable T A) where
         glances = record {
           before = h.glances.before;
           moment = h.glances.moment;
-          is_moment = moment_earlier h.glances.moment old a b (reads_led old a led)
+          is_moment = moment_since table old a h.glances.moment b (reads_led old a led)
               h.glances.is_moment;
           loads = h.glances.loads;
           visible = h.glances.visible;
