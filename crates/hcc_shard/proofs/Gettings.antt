@@ -1,5 +1,5 @@
--- The reading of a key's value: the reference that it holds meanwhile.
-use Rattle.std.proofs.Common.{◌≡◌, ℕ, ◌+◌, ◌*◌, ◌≤◌, Bool, true, false, List, Option, None, Some, IfSome, IsSomeAnd, length, refl, ap, subst, ◌∙◌, arith}
+-- The reading of a key's value: by loads alone, or by a reference that it holds meanwhile.
+use Rattle.std.proofs.Common.{◌≡◌, inl, inr, ℕ, ◌+◌, ◌*◌, ◌<◌, ◌≤◌, ◌&&◌, Bool, true, false, List, Option, None, Some, IfSome, IsSomeAnd, length, refl, ap, subst, ◌∙◌, arith}
 use Rattle.std.proofs.lemmas.Bool.{eq-eqb}
 use Rattle.hcc_core.specs.Outcomes.{dropped}
 use Rattle.hcc_rule.specs.declared.geometry.Geometry.{Geometry}
@@ -7,27 +7,36 @@ use Rattle.hcc_rule.specs.declared.key.Key.{Key}
 use Rattle.hcc_rule.specs.declared.table.RuleTable.{RuleTable}
 use Rattle.hcc_rule.specs.declared.view.Record.{Record}
 use Rattle.hcc_rule.specs.declared.view.View.{View}
+use Rattle.hcc_rule.specs.Callers.{room_of, slots_of}
 use Rattle.hcc_rule.specs.Events.{give_done}
+use Rattle.hcc_rule.specs.Probes.{probe_slot}
 use Rattle.hcc_rule.specs.Records.{record_in}
 use Rattle.hcc_rule.specs.Seats.{SeatOf, view}
 use Rattle.hcc_rule.specs.ToldReferences.{after_give}
 use Rattle.hcc_rule.specs.Views.{is_called}
-use Rattle.hcc_rule.specs.Words.{words_for}
+use Rattle.hcc_rule.specs.Words.{key_of, words_for}
 use Rattle.hcc_table.specs.declared.pins.Pin.{Pin}
 use Rattle.hcc_table.specs.Freed.{IsLeftBy}
 use Rattle.hcc_table.specs.Pins.{IsPinned}
-use Rattle.hcc_table.specs.Readings.{IsReadable}
-use Rattle.hcc_table.specs.Searched.{IsFound, Sought}
+use Rattle.hcc_table.specs.Optimistic.{LacksAll, ReadsShown}
+use Rattle.hcc_table.specs.Readings.{CopiesOut, IsReadable, loads_of}
+use Rattle.hcc_table.specs.Searched.{IsFound, IsMissed, Sought}
 use Rattle.hcc_table.specs.Seeking.{Seeks}
-use Rattle.hcc_table.proofs.Probes.{dropped_last, found_held, given_at}
-use Rattle.hcc_table.proofs.Searches.{searched_then}
-use Rattle.hcc_table.proofs.Seeking.{seeks_one}
+use Rattle.hcc_table.specs.Standing.{ShowsOnce}
+use Rattle.hcc_table.specs.Still.{is_still}
+use Rattle.hcc_table.proofs.Lasting.{Led, finds_lasting, lacks_since, shows_since, some_and}
+use Rattle.hcc_table.proofs.Loads.{loads_none, loads_seek, loads_then}
+use Rattle.hcc_table.proofs.Probes.{dropped_last, found_held, found_then, given_at}
+use Rattle.hcc_table.proofs.Releases.{gives_still}
+use Rattle.hcc_table.proofs.Searches.{searched_refl, searched_then, sought_then}
+use Rattle.hcc_table.proofs.Seeking.{goes_none, goes_then, seeks_one}
+use Rattle.hcc_table.proofs.Still.{seeks_still}
 use Rattle.hcc_shard.specs.declared.erasing.TheConstants.{IN_FLIGHT}
 use Rattle.hcc_table.specs.declared.optimistic.Got.{Got}
 use Rattle.hcc_table.specs.declared.optimistic.Got.TheVariants.{Hit, Miss, Short}
 use Rattle.hcc_shard.specs.declared.seat.ShardSeat.{ShardSeat}
 use Rattle.hcc_shard.specs.declared.shard.Shard.{Shard}
-use Rattle.hcc_shard.specs.Gets.{CopiesOut, Gets, ReadsOut, loads_of}
+use Rattle.hcc_shard.specs.Gets.{Gets, GetsHeld, GivesUp, GotLasting, GotShown, MissesOut, ReadsOut}
 use Rattle.hcc_shard.specs.Seated.{IsQuiet}
 use Rattle.hcc_shard.proofs.Names.{not_kept}
 
@@ -100,11 +109,159 @@ gives_seek table true slot weight name left a b none h = cc
 gives_seek table false slot weight name left a b none h =
     seeks_one table (give_done weight name h.0 (view a)) a b h.2 refl
 
--- A reading that found an entry is one by its answer.
-pub gets_out : {T A : Type 0} (fits : T → Key → List ℕ → Type 0) (shard : Shard T A) (key : Key)
-    (useful : Bool) (got : Got) (before after : List ℕ) (old new : ShardSeat T)
-    → ReadsOut fits shard key useful got before after old new
-    → Gets fits shard key useful got before after old new
-gets_out fits shard key useful Miss before after old new reads = absurd reads.copies
-gets_out fits shard key useful (Hit count) before after old new reads = reads
-gets_out fits shard key useful (Short count) before after old new reads = reads
+-- What misses behind another search misses behind both.
+missed_since : {T : Type 0} (key : Key) (u v w : View T) → Sought u v → IsMissed key v w
+    → IsMissed key u w
+missed_since key u v w first h = record {
+  sought = sought_then u v w first h.sought;
+  dead = rw (← first.records) h.dead;
+}
+
+module _ {T A : Type 0} (shard : Shard T A) where
+  -- Nothing was tried without a reference.
+  pub gives_none : (a : ShardSeat T) → GivesUp shard a a
+  gives_none a = record {
+    loads = loads_none shard.table a.seat;
+    sought = searched_refl (view a.seat);
+    counted = refl;
+  }
+
+  -- one after another
+  gives_then : (a b c : ShardSeat T) → GivesUp shard a b → GivesUp shard b c → GivesUp shard a c
+  gives_then a b c h g = record {
+    loads = loads_then shard.table a.seat b.seat c.seat h.loads g.loads;
+    sought = sought_then (view a.seat) (view b.seat) (view c.seat) h.sought g.sought;
+    counted = g.counted ∙ h.counted;
+  }
+
+  given_led : (a b : ShardSeat T) → GivesUp shard a b → Led shard.table a.seat b.seat
+  given_led a b h = record {
+    seeks = loads_seek shard.table a.seat b.seat h.loads;
+    same = ap (λ (v : View T). v.client) h.sought.searched.same;
+  }
+
+module _ {T A : Type 0} (fits : T → Key → List ℕ → Type 0) (shard : Shard T A) (key : Key)
+    (useful : Bool) where
+  -- A reading that found an entry is one by its answer.
+  pub gets_out : (got : Got) (before after : List ℕ) (old new : ShardSeat T)
+      → ReadsOut fits shard key useful got before after old new
+      → GetsHeld fits shard key useful got before after old new
+  gets_out Miss before after old new reads = absurd reads.copies
+  gets_out (Hit count) before after old new reads = reads
+  gets_out (Short count) before after old new reads = reads
+
+  -- What was read by a reference, once it was given up without one.
+
+  out_since : (got : Got) (before after : List ℕ) (old began new : ShardSeat T)
+      → GivesUp shard old began → ReadsOut fits shard key useful got before after began new
+      → ReadsOut fits shard key useful got before after old new
+  out_since got before after old began new up r = record {
+    began = r.began;
+    given_up = gives_then shard old began r.began up r.given_up;
+    pin = r.pin;
+    held = r.held;
+    searches = r.searches;
+    found = r.found;
+    finds = found_then fits (room_of shard.table) r.pin.slot IN_FLIGHT key (view old.seat)
+        (view began.seat) (view r.held.seat) (view r.held.seat) r.found up.sought r.finds
+        (searched_refl (view r.held.seat));
+    holds = r.holds;
+    of = r.of;
+    copies = r.copies;
+    read = r.read;
+    kept = r.kept;
+    reads = r.reads;
+    loads = r.loads;
+    gives = r.gives;
+    counted = r.counted;
+  }
+
+  pub held_since : (got : Got) (before after : List ℕ) (old began new : ShardSeat T)
+      → GivesUp shard old began → GetsHeld fits shard key useful got before after began new
+      → GetsHeld fits shard key useful got before after old new
+  held_since Miss before after old began new up m = record {
+    same = m.same;
+    missed =
+        missed_since key (view old.seat) (view began.seat) (view new.seat) up.sought m.missed;
+    began = m.began;
+    given_up = gives_then shard old began m.began up m.given_up;
+    searches = m.searches;
+  }
+  held_since (Hit count) before after old began new up r =
+      out_since (Hit count) before after old began new up r
+  held_since (Short count) before after old began new up r =
+      out_since (Short count) before after old began new up r
+
+  -- What was so once in a reading.
+
+  -- an entry that was read without a reference was shown,
+  shown_at_once : (got : Got) (before after : List ℕ) (old new : ShardSeat T)
+      → ReadsShown fits shard.table key useful shard.marks got before after old.seat new.seat
+      → GotShown shard key got before after old new
+  shown_at_once got before after old new r = record {
+    last = new.seat;
+    goes_on = goes_none shard.table is_still new.seat new.seat refl;
+    probe = r.probe;
+    entry = r.entry;
+    asked = r.asked;
+    shown = (r.glances.moment, r.glances.is_moment, r.glances.shows);
+    earlier = r.earlier;
+    copies = r.copies;
+  }
+
+  -- and so was one that was read by a reference.
+  shown_held : (got : Got) (before after : List ℕ) (old new : ShardSeat T)
+      → ReadsOut fits shard key useful got before after old new
+      → GotShown shard key got before after old new
+  shown_held got before after old new r =
+      let led = given_led shard old r.began r.given_up in
+      let lasts =
+      finds_lasting fits shard.table key IN_FLIGHT shard.marks (Some r.pin) r.began.effort
+      r.held.effort r.began.seat r.held.seat r.searches in
+      let there =
+      subst (λ o. IsSomeAnd o (λ q. (key_of q.entry ≡ key)
+      × ShowsOnce shard.table r.pin.slot q.entry r.began.seat r.held.seat)) r.holds lasts.2 in
+      record {
+        last = r.held.seat;
+        goes_on =
+            goes_then shard.table is_still r.held.seat r.read new.seat
+            (seeks_still shard.table r.held.seat r.read r.reads)
+            (gives_still shard.table (useful && r.pin.counting) r.pin.slot 1 r.pin.name r.gives.0
+            r.read new.seat r.gives.2);
+        probe = lasts.0;
+        entry = r.found.entry;
+        asked = there.0;
+        shown =
+            subst (λ s. ShowsOnce shard.table s r.found.entry old.seat r.held.seat) lasts.1
+            (shows_since shard.table r.pin.slot r.found.entry old.seat r.began.seat r.held.seat
+            led there.1);
+        earlier = λ j first.
+            lacks_since shard.table key (probe_slot (slots_of shard.table) key j) old.seat
+            r.began.seat r.held.seat led (lasts.3 j first);
+        copies = r.copies;
+      }
+
+  missed_held : (before after : List ℕ) (old new : ShardSeat T)
+      → MissesOut fits shard key useful before after old new
+      → LacksAll shard.table key old.seat new.seat
+  missed_held before after old new m slot near =
+      lacks_since shard.table key slot old.seat m.began.seat new.seat
+      (given_led shard old m.began m.given_up)
+      (finds_lasting fits shard.table key IN_FLIGHT shard.marks None m.began.effort new.effort
+      m.began.seat new.seat m.searches slot near)
+
+  pub gets_lasting : (got : Got) (before after : List ℕ) (old new : ShardSeat T)
+      → Gets fits shard key useful got before after old new
+      → GotLasting shard key got before after old new
+  gets_lasting Miss before after old new h = elim h [
+    | inl once ↦ once.reads.2
+    | inr held ↦ missed_held before after old new held
+  ]
+  gets_lasting (Hit count) before after old new h = elim h [
+    | inl once ↦ shown_at_once (Hit count) before after old new once.reads
+    | inr held ↦ shown_held (Hit count) before after old new held
+  ]
+  gets_lasting (Short count) before after old new h = elim h [
+    | inl once ↦ shown_at_once (Short count) before after old new once.reads
+    | inr held ↦ shown_held (Short count) before after old new held
+  ]

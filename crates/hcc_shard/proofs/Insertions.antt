@@ -105,6 +105,7 @@ module _ {T : Type 0} where
       met = none_more v.met k;
       seen = v.seen ++ loaded strict r.shortage.used;
       tight = v.tight ++ short_of (needed_by strict capacity r.shortage.used charge) charge;
+      glimpse = sym (ap (λ (z : View T). z.glimpse) r.same) k;
     });
     dead = r.dead;
   }
@@ -139,6 +140,9 @@ module _ {T : Type 0} where
       met = none_more v.met k;
       seen = v.seen ++ loaded strict r.shortage.used;
       tight = v.tight ++ short_of (needed_by strict capacity r.shortage.used charge) charge;
+      glimpse =
+          (sym (ap (λ (z : View T). z.glimpse) r.same)
+          ∙ sym (ap (λ (z : View T). z.glimpse) stands)) k;
     }));
     dead = λ stamp h. subst (λ d. is_in stamp d ≡ true)
         (sym (ap (λ (z : View T). z.work.dead) stands)) (r.dead stamp h);
@@ -190,6 +194,7 @@ module _ {T : Type 0} where
             met = met_is k;
             seen = v.seen ++ loaded strict r.shortage.used;
             tight = v.tight ++ short_of (needed_by strict capacity r.shortage.used charge) charge;
+            glimpse = w.glimpse;
           }));
       dead = λ stamp h. t.dead stamp (r.dead stamp h);
     }
@@ -241,6 +246,7 @@ module _ {T : Type 0} where
         met = v.met ++ u.met;
         seen = v.seen ++ loaded strict r.shortage.used;
         tight = v.tight ++ short_of (needed_by strict capacity r.shortage.used charge) charge;
+        glimpse = w.glimpse;
       }
       left_over =
           left ∙ (ap (without_place granted) u.tried.same
@@ -271,6 +277,7 @@ module _ {T : Type 0} where
             met = (sym (ap (λ (z : View T). z.met) left) ∙ met_more) k;
             seen = v.seen ++ loaded strict r.shortage.used;
             tight = v.tight ++ short_of (needed_by strict capacity r.shortage.used charge) charge;
+            glimpse = sym (ap (λ (z : View T). z.glimpse) left) k;
           })))
 
       pub dead_more : (stamp : Stamp) → is_in stamp v.work.dead ≡ true
@@ -286,7 +293,6 @@ module _ {T : Type 0} where
     tries_dropped key b w u left = record {
       shortage = r.shortage;
       met = u.met;
-      glimpse = u.glimpse;
       tries = u.tries;
       same = left_over key b w 0 u left;
       dead = dead_more key b w 0 u left;
@@ -300,7 +306,6 @@ module _ {T : Type 0} where
     tries_stood key name b w u stands = record {
       shortage = r.shortage;
       met = u.met;
-      glimpse = u.glimpse;
       tries = u.tries;
       same =
           stands ∙ (ap (stood name charge) (left_over key b (without_place charge b) charge u refl)
@@ -325,6 +330,7 @@ module _ {T : Type 0} where
             met = v.met ++ u.met;
             seen = v.seen ++ loaded strict r.shortage.used;
             tight = v.tight ++ short_of (needed_by strict capacity r.shortage.used charge) charge;
+            glimpse = sym (ap (λ (z : View T). z.glimpse) stands) k;
           }));
       dead = λ stamp h. subst (λ d. is_in stamp d ≡ true)
           (sym (ap (λ (z : View T). z.work.dead) stands))

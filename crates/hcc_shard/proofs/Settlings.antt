@@ -95,6 +95,9 @@ module _ {T : Type 0} where
           records = left k;
           takings = v.takings + 1;
           warm = v.warm + when (is_warm word) 1;
+          glimpse =
+              (sym (ap (λ (z : View T). z.glimpse) f.same)
+              ∙ sym (ap (λ (z : View T). z.glimpse) settles)) k;
         }));
     dead = λ stamp h. subst (λ d. is_in stamp d ≡ true)
         (sym (ap (λ (z : View T). z.work.dead) settles)) (f.dead stamp h);
@@ -119,6 +122,7 @@ module _ {T : Type 0} where
       takings = no_added v.takings k;
       warm = no_added v.warm k;
       met = met k;
+      glimpse = w.glimpse;
     });
     dead = s.dead;
     few = omega arith;
@@ -142,6 +146,7 @@ module _ {T : Type 0} where
           hidden = v.hidden ++ replicate hidden key;
           takings = v.takings + slots;
           met = e.met.1 k;
+          glimpse = sym (ap (λ (z : View T). z.glimpse) settles) k;
         }));
     dead = λ stamp h. subst (λ d. is_in stamp d ≡ true)
         (sym (ap (λ (z : View T). z.work.dead) settles)) (e.erases.dead stamp h);

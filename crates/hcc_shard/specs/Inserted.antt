@@ -104,6 +104,7 @@ module _ {T : Type 0} where
       met = v.met ++ met;
       seen = v.seen ++ loaded strict shortage.used;
       tight = v.tight ++ short_of (needed_by strict capacity shortage.used charge) charge;
+      glimpse = w.glimpse;
     }
     pub dead : Grows v.work.dead w.work.dead
 

@@ -29,8 +29,8 @@ lost_of due freed = when (due && not freed) 1
 
 module _ {T : Type 0} where
   -- The record of this name is gone and no other, and an entry was freed or not: one that was Shown
-  -- with uses left only where that was asked for. The client may have looked at a slot, seen an
-  -- entry dead, and have other words in a slot of its own. All else stays.
+  -- with uses left only where that was asked for. The client may have looked at a slot, had glimpses
+  -- of it, seen an entry dead, and have other words in a slot of its own. All else stays.
   pub record IsReleased (name : ℕ) (erase freed : Bool) (v w : View T) : Type 0 where
     pub warm : ℕ
     pub same : w ≡ record v {
@@ -39,6 +39,7 @@ module _ {T : Type 0} where
       written = w.written;
       takings = v.takings + when freed 1;
       warm = v.warm + warm;
+      glimpse = w.glimpse;
     }
     pub dead : Grows v.work.dead w.work.dead
     pub few : warm ≤ when freed 1
@@ -55,6 +56,7 @@ module _ {T : Type 0} where
       hidden = v.hidden ++ replicate hidden key;
       takings = v.takings + freed;
       met = v.met ++ met;
+      glimpse = w.glimpse;
     }
     pub dead : Grows v.work.dead w.work.dead
     pub few : freed ≤ times_met key met

@@ -17,7 +17,7 @@ mod shard;
 mod totals;
 
 pub use entries::{ClosedEntry, ClosedShard};
-pub use getting::Got;
+pub use hcc_table::Got;
 pub use inserting::{Inserted, Pinned};
 pub use reopening::ReopenError;
 pub use seat::{ShardSeat, Stats};
