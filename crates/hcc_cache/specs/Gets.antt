@@ -4,10 +4,11 @@ use Rattle.hcc_core.specs.declared.slot.Entry.{Entry}
 use Rattle.hcc_core.specs.Lawful.{is_in}
 use Rattle.hcc_rule.specs.declared.key.Key.{Key}
 use Rattle.hcc_rule.specs.Words.{key_of}
-use Rattle.hcc_table.specs.Searched.{Sought}
 use Rattle.hcc_table.specs.declared.optimistic.Got.{Got}
 use Rattle.hcc_table.specs.declared.optimistic.Got.TheVariants.{Hit, Miss, Short}
-use Rattle.hcc_shard.specs.Gets.{CopiesOut, Gets}
+use Rattle.hcc_table.specs.Readings.{CopiesOut}
+use Rattle.hcc_table.specs.Searched.{Sought}
+use Rattle.hcc_shard.specs.Gets.{Gets}
 use Rattle.hcc_cache.specs.declared.cache.Cache.{Cache}
 use Rattle.hcc_cache.specs.declared.client.Client.{Client}
 use Rattle.hcc_cache.specs.Calls.{AllHeldDead, AtShard, Works, shard_in}
@@ -37,8 +38,8 @@ module _ {T : Type 0} (cache : Cache T) (fits : T → Key → List ℕ → Type 
   GetsFor (Hit count) before after old new = ReadsOne (Hit count) before after old
   GetsFor (Short count) before after old new = ReadsOne (Short count) before after old
 
-  -- what the key's shard did: what was found at each probe, what was read, and how the reference
-  -- was given back
+  -- what the key's shard did: what loads alone read there, or, where they were given up, what was
+  -- found at each probe, what was read, and how the reference was given back
   abbrev pub GetsAt : (useful : Bool) → Got → (before after : List ℕ) → (old new : Client T)
       → Type 0
   GetsAt useful got before after old new =

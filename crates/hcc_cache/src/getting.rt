@@ -1,5 +1,5 @@
 //! Values that are read by their keys, with no handle.
-ghost use Rattle.std.specs.Prelude.{◌≡◌, ◌+◌, ◌<◌, length};
+ghost use Rattle.std.specs.Prelude.{◌≡◌, ◌+◌, ◌*◌, ◌<◌, length};
 ghost use Rattle.hcc_cache.specs.Calls.{CountsAt, KeepsAll, TakesFor, shard_in};
 ghost use Rattle.hcc_cache.specs.Gets.{GetsAt, GetsFor, SeeksAt};
 ghost use Rattle.hcc_cache.specs.Keys.{key_from};
@@ -21,13 +21,23 @@ impl<T: Tag> Cache<T> {
     /// nothing is copied.
     ///
     /// It finds what a look-up would: an entry that the client hadn't seen erased, with a value
-    /// that fits the key. Its reference is given back, as a use where that is useful. It uses no
-    /// serial, and needs no handle to be free. The client's handles stand for what they stood for.
-    /// It frees nothing: an entry that was erased meanwhile, and that nobody holds then, stays
-    /// until the clock comes by.
+    /// that fits the key. First it reads by loads alone, and changes no word of the shard, so that
+    /// threads that read one key don't take each other's cache lines. It does so where the entry's
+    /// uses are 3 and more (one more is one that the clock can't see, since a visit leaves at most
+    /// 2) or the caller says that the read is no use, where the cache doesn't mark or the hit bit
+    /// is set, and where the value has at most 256 bytes. Else, and where the entry goes meanwhile,
+    /// it begins anew: it holds the entry for the time of the call, and gives the reference back,
+    /// as a use where that is useful.
     ///
-    /// It refuses nothing and allocates nothing. It costs a look-up, a load for the length, one for
-    /// each eight bytes that are copied, and an add or a subtraction.
+    /// It uses no serial, and needs no handle to be free. The client's handles stand for what they
+    /// stood for. It frees nothing: an entry that was erased meanwhile, and that nobody holds then,
+    /// stays until the clock comes by.
+    ///
+    /// It refuses nothing and allocates nothing. By loads alone it costs two at each probe, two
+    /// more for the key of each visible entry that it compares, seven of a hit, and one for each
+    /// eight bytes that are copied. By a reference it costs a look-up, a load for the length, one
+    /// for each eight bytes, and an add or a subtraction. In all it makes at most 11·L + 2·W + 8
+    /// steps, for L slots of a shard and values of W words.
     #[inline]
     pub fn get(&self, client: &mut Client<T>, key: Key, buffer: &mut [u8], useful: bool) -> Got
         requires { Knows self.now client.old }
@@ -40,7 +50,8 @@ impl<T: Tag> Cache<T> {
             client.old client.new }
         ensures stays { Stays self.now client.old client.new }
         ensures counts { CountsAt (shard_in self.now key) client.old client.new }
-        ensures steps { TakesFor self.now 7 (λ v w. self.now.geometry.room + 2)
+        ensures steps { TakesFor self.now 7
+            (λ v w. 4 * self.now.geometry.slots + (2 * self.now.geometry.room + 8))
             (shard_in self.now key) client.old client.new }
     {
         let seeded = self.key_to(client, key);
@@ -77,7 +88,8 @@ impl<T: Tag> Cache<T> {
             client.old client.new }
         ensures stays { Stays self.now client.old client.new }
         ensures counts { CountsAt (shard_in self.now key) client.old client.new }
-        ensures steps { TakesFor self.now 7 (λ v w. self.now.geometry.room + 2)
+        ensures steps { TakesFor self.now 7
+            (λ v w. 4 * self.now.geometry.slots + (2 * self.now.geometry.room + 8))
             (shard_in self.now key) client.old client.new }
     {
         let seat = &mut client.seats[shard];

@@ -106,12 +106,12 @@ pub fn law_lookups<T: Tag>()
         → FindsLasting h.shard.table (key_to cache.seed key) old.used h.did.0 h.was.seat
         h.is.seat }
 
-    // So it is of a read by a key, of the entry whose value it read.
+    // So it is of a read by a key, of the entry whose value it read: whether it held a reference
+    // meanwhile or not.
     ensures gets { (cache : Cache T) (key : Key) (useful : Bool) (got : Got)
         (before after : List ℕ) (old new : Client T)
         (h : GetsAt cache T.fits key useful got before after old new)
-        → GotLasting (fits_seeded T.fits) h.shard (key_to cache.seed key) useful got before after
-        h.was h.is h.did }
+        → GotLasting h.shard (key_to cache.seed key) got before after h.was h.is }
 
     // In a cache of one client a look-up misses where the world that the client knows of the shard
     // when the call begins shows the key in no slot, else it finds the slot of the earliest probe

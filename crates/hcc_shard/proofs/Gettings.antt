@@ -1,5 +1,5 @@
 -- The reading of a key's value: by loads alone, or by a reference that it holds meanwhile.
-use Rattle.std.proofs.Common.{◌≡◌, inl, inr, ℕ, ◌+◌, ◌*◌, ◌<◌, ◌≤◌, ◌&&◌, Bool, true, false, List, Option, None, Some, IfSome, IsSomeAnd, length, refl, ap, subst, ◌∙◌, arith}
+use Rattle.std.proofs.Common.{◌≡◌, inl, inr, ℕ, ◌+◌, ◌*◌, ◌≤◌, ◌&&◌, Bool, true, false, List, Option, None, Some, IfSome, IsSomeAnd, length, refl, ap, subst, ◌∙◌, arith}
 use Rattle.std.proofs.lemmas.Bool.{eq-eqb}
 use Rattle.hcc_core.specs.Outcomes.{dropped}
 use Rattle.hcc_rule.specs.declared.geometry.Geometry.{Geometry}
@@ -24,7 +24,7 @@ use Rattle.hcc_table.specs.Searched.{IsFound, IsMissed, Sought}
 use Rattle.hcc_table.specs.Seeking.{Seeks}
 use Rattle.hcc_table.specs.Standing.{ShowsOnce}
 use Rattle.hcc_table.specs.Still.{is_still}
-use Rattle.hcc_table.proofs.Lasting.{Led, finds_lasting, lacks_since, shows_since, some_and}
+use Rattle.hcc_table.proofs.Lasting.{Led, finds_lasting, lacks_since, shows_since}
 use Rattle.hcc_table.proofs.Loads.{loads_none, loads_seek, loads_then}
 use Rattle.hcc_table.proofs.Probes.{dropped_last, found_held, found_then, given_at}
 use Rattle.hcc_table.proofs.Releases.{gives_still}

@@ -1,5 +1,5 @@
--- What the reading of a key's value found and copied: by loads alone, or by a reference that it gave
--- back.
+-- What the reading of a key's value found and copied: by loads alone, or by a reference that it
+-- gave back.
 use Rattle.std.specs.Prelude.{◌≡◌, ◌⊎◌, ℕ, ◌<◌, Bool, List, None, Some}
 use Rattle.hcc_core.specs.declared.slot.Entry.{Entry}
 use Rattle.hcc_rule.specs.declared.key.Key.{Key}
@@ -27,8 +27,8 @@ use Rattle.hcc_shard.specs.declared.shard.Shard.{Shard}
 use Rattle.hcc_shard.specs.Callers.{SearchesAt, view_of}
 
 module _ {T A : Type 0} (shard : Shard T A) where
-  -- A reading without a reference was given up: all that the seat did was to load words, and none of
-  -- its probes is counted.
+  -- A reading without a reference was given up: all that the seat did was to load words, and none
+  -- of its probes is counted.
   pub record GivesUp (old began : ShardSeat T) : Type 0 where
     pub loads : OnlyLoads shard.table old.seat began.seat
     pub sought : Sought (view_of old) (view_of began)

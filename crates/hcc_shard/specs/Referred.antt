@@ -29,8 +29,8 @@ lost_of due freed = when (due && not freed) 1
 
 module _ {T : Type 0} where
   -- The record of this name is gone and no other, and an entry was freed or not: one that was Shown
-  -- with uses left only where that was asked for. The client may have looked at a slot, had glimpses
-  -- of it, seen an entry dead, and have other words in a slot of its own. All else stays.
+  -- with uses left only where that was asked for. The client may have looked at slots, had glimpses
+  -- of them, seen an entry dead, and have other words in a slot of its own. All else stays.
   pub record IsReleased (name : ℕ) (erase freed : Bool) (v w : View T) : Type 0 where
     pub warm : ℕ
     pub same : w ≡ record v {

@@ -1,9 +1,11 @@
 -- A client that read the value of a key.
-use Rattle.std.proofs.Common.{◌≡◌, ℕ, Bool, List, Some, refl, ap, ◌∙◌}
+use Rattle.std.proofs.Common.{◌≡◌, inl, inr, ℕ, Bool, List, Some, refl, ap, ◌∙◌}
 use Rattle.hcc_rule.specs.declared.key.Key.{Key}
-use Rattle.hcc_table.specs.Searched.{Sought}
+use Rattle.hcc_rule.specs.Words.{key_of}
 use Rattle.hcc_table.specs.declared.optimistic.Got.{Got}
 use Rattle.hcc_table.specs.declared.optimistic.Got.TheVariants.{Hit, Miss, Short}
+use Rattle.hcc_table.specs.Optimistic.{ReadsShown}
+use Rattle.hcc_table.specs.Searched.{IsMissed, Sought}
 use Rattle.hcc_shard.specs.declared.seat.ShardSeat.{ShardSeat}
 use Rattle.hcc_shard.specs.declared.shard.Shard.{Shard}
 use Rattle.hcc_shard.specs.Callers.{view_of}
@@ -39,11 +41,30 @@ module _ {T : Type 0} (cache : Cache T) (old new : Client T) (i : ℕ) (shard : 
     sought = rw (works.before, works.after) sought;
   }
 
-  -- what a reading in the shard found is an entry of the caller's key
-  reads_one : (got : Got)
+  -- What a reading in the shard found is an entry of the caller's key: by loads alone,
+  reads_once : (got : Got)
+      → ReadsShown (fits_seeded fits) shard.table (key_to cache.seed key) useful shard.marks got
+      before after was.seat is.seat
+      → ReadsOne cache fits key got before after old
+  reads_once got r =
+      let alike = at.knows.alike.plans i shard at.shard_is in
+      let asked : key_from cache.seed (key_of r.entry) ≡ key =
+      ap (key_from cache.seed) r.asked ∙ undone in
+      let right : fits cache.tag (key_from cache.seed (key_of r.entry)) r.entry.value =
+      rw alike.3 at r.right.right in
+      record {
+        entry = r.entry;
+        asked = asked;
+        right = rw asked at right;
+        alive = rw works.before r.alive;
+        copies = r.copies;
+      }
+
+  -- and by a reference.
+  reads_held : (got : Got)
       → ReadsOut (fits_seeded fits) shard (key_to cache.seed key) useful got before after was is
       → ReadsOne cache fits key got before after old
-  reads_one got r =
+  reads_held got r =
       let alike = at.knows.alike.plans i shard at.shard_is in
       let tag : (view_of was).tag ≡ Some (record { tag = cache.tag; seed = cache.seed }) =
       (seated_at cache old old i shard was was at).rests.at.tagged ∙ ap Some alike.3 in
@@ -57,13 +78,25 @@ module _ {T : Type 0} (cache : Cache T) (old new : Client T) (i : ℕ) (shard : 
         copies = r.copies;
       }
 
+  -- After a miss each entry of the key that the client holds is dead to it.
+  missed : after ≡ before → IsMissed (key_to cache.seed key) (view_of was) (view_of is)
+      → GetsFor cache fits key Miss before after old new
+  missed same m =
+      (same, all_held_dead cache old new key (view_of was) (view_of is) at.knows works m.dead)
+
   -- So it is by its answer.
   pub gets_for : (got : Got)
       → Gets (fits_seeded fits) shard (key_to cache.seed key) useful got before after was is
       → GetsFor cache fits key got before after old new
-  gets_for Miss g = (
-    g.0,
-    all_held_dead cache old new key (view_of was) (view_of is) at.knows works g.1.dead,
-  )
-  gets_for (Hit count) g = reads_one (Hit count) g
-  gets_for (Short count) g = reads_one (Short count) g
+  gets_for Miss g = elim g [
+    | inl once ↦ missed once.reads.0 once.reads.1
+    | inr held ↦ missed held.same held.missed
+  ]
+  gets_for (Hit count) g = elim g [
+    | inl once ↦ reads_once (Hit count) once.reads
+    | inr held ↦ reads_held (Hit count) held
+  ]
+  gets_for (Short count) g = elim g [
+    | inl once ↦ reads_once (Short count) once.reads
+    | inr held ↦ reads_held (Short count) held
+  ]

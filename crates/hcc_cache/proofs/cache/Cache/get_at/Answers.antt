@@ -1,4 +1,4 @@
-use Rattle.std.proofs.Common.{◌+◌, refl, ap, arith}
+use Rattle.std.proofs.Common.{◌+◌, ◌*◌, refl, ap, arith}
 use Rattle.std.specs.Vec.{with_item}
 use Rattle.hcc_shard.specs.Counted.{SameEvictions}
 use Rattle.hcc_shard.specs.Gets.{Gets}
@@ -124,6 +124,7 @@ returns g c =
             seed = refl;
             capacities = refl;
           }) 7
-          (cache.geometry.room + 2) (λ v w. cache.geometry.room + 2)
+          (4 * cache.geometry.slots + (2 * cache.geometry.room + 8))
+          (λ v w. 4 * cache.geometry.slots + (2 * cache.geometry.room + 8))
           (shard_in cache c.args.key) there (rw (← alike.0) c.get.ensures.steps) (omega arith);
     }
