@@ -486,8 +486,14 @@ FERRETGOLD_INLINE ferretgold_status ferretgold_read_value(ferretgold_client *cli
  * `buffer` may be null if `capacity` is 0, and `length` may be null. With `useful` the reading is a
  * use of the entry. It uses no serial, and frees nothing.
  *
- * Costs a look-up, a load for the length, one for each eight bytes, and an add or a subtraction.
- * Bound: 7 * L + W + 2.
+ * First it reads by loads alone, and changes no word of the cache: where the entry's uses are 3 and
+ * more (one more is one that the clock can't see) or the reading is no use, where the cache doesn't
+ * mark or the entry is marked, and where the value has at most 256 bytes. Else, and where the entry
+ * goes meanwhile, it begins anew, and holds a reference for the time of the call.
+ *
+ * By loads alone it costs two at each slot that it visits, two for the key, seven, and one for each
+ * eight bytes; by a reference a look-up, a load for the length, one for each eight bytes, and an
+ * add or a subtraction. Bound: 11 * L + 2 * W + 8.
  *
  * MISS: nothing of the key was found. Refuses TOO_SHORT: there is an entry, `length` gets how many
  * bytes its value has, and the buffer stays; with `useful` it was a use.

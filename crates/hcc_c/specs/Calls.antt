@@ -229,7 +229,9 @@ pub record GetsValue (key : Key) (useful : Bool) (answer : Got) (before after : 
   pub seeks : SeeksAt (shard_in (arc_value old.cache) key) old.client new.client
   pub counts : CountsAt (shard_in (arc_value old.cache) key) old.client new.client
   pub rest : KeepsCounting (counted_get answer old.counts) old new
-  pub steps : TakesFor (arc_value old.cache) 7 (λ v w. (arc_value old.cache).geometry.room + 2)
+  pub steps : TakesFor (arc_value old.cache) 7
+      (λ v w. 4 * (arc_value old.cache).geometry.slots
+      + (2 * (arc_value old.cache).geometry.room + 8))
       (shard_in (arc_value old.cache) key) old.client new.client
 
 -- What is charged in all shards.

@@ -33,11 +33,12 @@ impl<T: Tag> Cache<T> {
     /// stood for. It frees nothing: an entry that was erased meanwhile, and that nobody holds then,
     /// stays until the clock comes by.
     ///
-    /// It refuses nothing and allocates nothing. By loads alone it costs two at each probe, two
-    /// more for the key of each visible entry that it compares, seven of a hit, and one for each
-    /// eight bytes that are copied. By a reference it costs a look-up, a load for the length, one
-    /// for each eight bytes, and an add or a subtraction. In all it makes at most 11·L + 2·W + 8
-    /// steps, for L slots of a shard and values of W words.
+    /// It refuses nothing and allocates nothing. By loads alone each probe costs one and one of the
+    /// displacement word, and where the slot is visible one of each half of the key that is
+    /// compared; a hit costs seven more, and one for each eight bytes. By a reference it costs a
+    /// look-up, a load for the length, one for each eight bytes, and an add or a subtraction. Both
+    /// ways together make at most 11·L + 2·W + 8 steps, for L slots of a shard and values of W
+    /// words. Where the loads alone were given up their probes aren't counted.
     #[inline]
     pub fn get(&self, client: &mut Client<T>, key: Key, buffer: &mut [u8], useful: bool) -> Got
         requires { Knows self.now client.old }

@@ -35,12 +35,12 @@ impl<T: Tag, A: Allocator> Shard<T, A> {
     ///
     /// It keeps no reference, uses no serial, and frees nothing: an entry that was erased
     /// meanwhile, and that nobody holds then, stays until the clock comes by. What the client holds
-    /// stays. It refuses nothing and allocates nothing. By loads alone it costs one at each probe
-    /// and one of the displacement word, seven of a hit, and one for each eight bytes that are
-    /// copied. By a reference it costs a look-up, a load for the length, one for each eight bytes,
-    /// and an add or a subtraction. Both ways make at most 11·L + 2·W + 8 steps, in a shard of L
-    /// slots with room for values of W words; of those by loads alone no probe is counted where
-    /// they were given up.
+    /// stays. It refuses nothing and allocates nothing. By loads alone each probe costs one and one
+    /// of the displacement word, and where the slot is visible one of each half of the key that is
+    /// compared; a hit costs seven more, and one for each eight bytes. By a reference it costs a
+    /// look-up, a load for the length, one for each eight bytes, and an add or a subtraction. Both
+    /// ways together make at most 11·L + 2·W + 8 steps, in a shard of L slots with room for values
+    /// of W words. Where the loads alone were given up their probes aren't counted.
     #[inline(always)]
     pub fn get(&self, seat: &mut ShardSeat<T>, key: Key, buffer: &mut [u8], as_use: Use) -> Got
         requires seat { Rests self.now seat.old }
@@ -74,13 +74,7 @@ impl<T: Tag, A: Allocator> Shard<T, A> {
 
     /// The same by a reference, which it holds while it reads.
     #[inline(always)]
-    fn get_held(
-        &self,
-        seat: &mut ShardSeat<T>,
-        key: Key,
-        buffer: &mut [u8],
-        as_use: Use,
-    ) -> Got
+    fn get_held(&self, seat: &mut ShardSeat<T>, key: Key, buffer: &mut [u8], as_use: Use) -> Got
         requires seat { Rests self.now seat.old }
         ensures seat { Rests self.now seat.new }
         ensures view { Sought (view seat.old.seat) (view seat.new.seat) }
