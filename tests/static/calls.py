@@ -48,8 +48,6 @@ CALLED_BY_NOBODY = {
     "hcc_block::FailingSource::new hcc_block::key_of",
     "a part of a layer's promises that tests call by itself": "hcc_word::acquired hcc_word::acquires"
     " hcc_rule::Key::from_bytes hcc_table::free_taken hcc_charge::evict",
-    "the loads of a read without a reference, which no call makes yet": "hcc_rule::RuleTable::glimpse_at"
-    " hcc_rule::RuleTable::glance_at hcc_rule::RuleTable::recheck_at hcc_rule::RuleTable::peek_at",
 }
 
 # The file of hcc_rule that alone reaches a shard's words; what each of its functions calls, and nothing else.

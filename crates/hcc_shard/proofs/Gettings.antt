@@ -202,11 +202,11 @@ module _ {T A : Type 0} (fits : T → Key → List ℕ → Type 0) (shard : Shar
     last = new.seat;
     goes_on = goes_none shard.table is_still new.seat new.seat refl;
     probe = r.probe;
-    entry = r.entry;
-    asked = r.asked;
-    shown = (r.glances.moment, r.glances.is_moment, r.glances.shows);
+    entry = r.there.entry;
+    asked = r.there.asked;
+    shown = (r.there.glances.moment, r.there.glances.is_moment, r.there.glances.shows);
     earlier = r.earlier;
-    copies = r.copies;
+    copies = r.there.copies;
   }
 
   -- and so was one that was read by a reference.

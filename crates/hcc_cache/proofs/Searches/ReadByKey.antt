@@ -48,16 +48,17 @@ module _ {T : Type 0} (cache : Cache T) (old new : Client T) (i : ℕ) (shard : 
       → ReadsOne cache fits key got before after old
   reads_once got r =
       let alike = at.knows.alike.plans i shard at.shard_is in
-      let asked : key_from cache.seed (key_of r.entry) ≡ key =
-      ap (key_from cache.seed) r.asked ∙ undone in
-      let right : fits cache.tag (key_from cache.seed (key_of r.entry)) r.entry.value =
-      rw alike.3 at r.right.right in
+      let there = r.there in
+      let asked : key_from cache.seed (key_of there.entry) ≡ key =
+      ap (key_from cache.seed) there.asked ∙ undone in
+      let right : fits cache.tag (key_from cache.seed (key_of there.entry)) there.entry.value =
+      rw alike.3 at there.right.right in
       record {
-        entry = r.entry;
+        entry = there.entry;
         asked = asked;
         right = rw asked at right;
-        alive = rw works.before r.alive;
-        copies = r.copies;
+        alive = rw works.before there.alive;
+        copies = there.copies;
       }
 
   -- and by a reference.
