@@ -1,11 +1,11 @@
 #!/usr/bin/env bash
 # Builds the library and the examples for C, C++ and Rust, and runs them: the misuses that the
 # header names among them, C with each request for memory refused; plays traces of calls through the
-# headers; lets threads borrow clients; and C and C++ again with the C file under AddressSanitizer
-# and UndefinedBehaviorSanitizer, the threads under ThreadSanitizer. It wants
-# crates/hcc_c/out/libhcc_c.a, as `rt lib` in crates/hcc_c makes it, and fails where a compiler is
-# missing.
-# Usage: tests/c/run.sh
+# headers; lets threads borrow clients, and read values that others replace; and C and C++ again with
+# the C file under AddressSanitizer and UndefinedBehaviorSanitizer, the threads under
+# ThreadSanitizer. It wants crates/hcc_c/out/libhcc_c.a, as `rt lib` in crates/hcc_c makes it, and
+# fails where a compiler is missing.
+# Usage: tests/c/run.sh [READS]     of values that others replace: 4,000,000 by default
 set -u
 cd "$(dirname "$0")/../.." || exit 2
 . tests/shared.sh
@@ -34,6 +34,11 @@ plays() {
 # Has threads borrow clients: lends CLIENTS TIMES LIBRARY WORD..
 lends() {
     builds cc -std=c11 "${@:4}" tests/c/pool.c "$3" && "$folder/built" "$1" "$2"
+}
+
+# Has threads read values that others replace: reads TIMES LIBRARY WORD..
+reads() {
+    builds cc -std=c11 "${@:3}" tests/c/readers.c "$2" && "$folder/built" "$1"
 }
 
 # Builds a program and runs it: runs WORD..
@@ -124,6 +129,7 @@ if command -v cc > /dev/null; then
     for clients in 3 70; do
         tries "threads borrow $clients clients" lends $clients 10000000 "$library" -O2
     done
+    tries "threads read what others replace" reads "${1:-4000000}" "$library" -O2
     tries "two threads in one client, checked" meets
     tries "each function of the header is a symbol of the library" exports
     tries "C with memory refused" bears_refusals
