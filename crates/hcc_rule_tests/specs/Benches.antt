@@ -1,5 +1,5 @@
 -- A small table, and seats of clients with nothing in hand.
-use Rattle.std.specs.Prelude.{◌≡◌, ℕ, false, List, [], ◌∷◌, length}
+use Rattle.std.specs.Prelude.{◌≡◌, ◌≤◌, ℕ, false, List, [], ◌∷◌, Some, IsSomeAnd, length}
 use Rattle.atomic_table.specs.Seated.{TableId}
 use denote.Struct.Props.{props}
 use Rattle.hcc_core.specs.Opening.{new_client}
@@ -21,6 +21,12 @@ module _ {T : Type 0} where
   -- nothing in hand, and no reference
   abbrev pub IsReady : View T → Type 0
   IsReady v = Carries new_client [] v
+
+  -- A read of slot 1 without a reference, of which so many loads were made: the slot was looked at
+  -- and had an entry, then its stamp word was loaded.
+  pub record IsReading (loads : ℕ) (v : View T) : Type 0 where
+    pub looked : 1 ≤ loads → v.work.looked ≡ Some 1
+    pub glimpse : 2 ≤ loads → IsSomeAnd v.glimpse (λ g. g.slot ≡ 1)
 
   -- A seat of this client, which has nothing in hand, after it showed so many entries. Their
   -- serials are below their number.

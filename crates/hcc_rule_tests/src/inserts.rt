@@ -67,7 +67,7 @@ impl Worker<'_> {
 
     /// Asks for a place and a charge, and takes an empty slot. The words are the occupancy, the
     /// usage and the slot's word as they were before.
-    fn reserve(&mut self, rt: &impl Abort, slot: u32, charge: u32) -> [u64; 3]
+    pub(super) fn reserve(&mut self, rt: &impl Abort, slot: u32, charge: u32) -> [u64; 3]
         requires ready { IsReady (view self.old.seat) }
         requires slot { slot < 8 }
         ensures same { (self.new.table ≡ self.old.table) × (self.new.client ≡ self.old.client)
@@ -107,7 +107,7 @@ impl Worker<'_> {
     }
 
     /// Writes all words of an entry into the slot that the client builds.
-    fn write_all(&mut self, slot: u32, words: [u64; 7])
+    pub(super) fn write_all(&mut self, slot: u32, words: [u64; 7])
         requires slot { slot < 8 }
         requires owned { (view self.old.seat).work.owned ≡ ForBuilding slot }
         requires none { (view self.old.seat).written ≡ [] }
@@ -128,7 +128,7 @@ impl Worker<'_> {
     }
 
     /// Writes the next word.
-    fn write_next(&mut self, slot: u32, index: usize, word: u64)
+    pub(super) fn write_next(&mut self, slot: u32, index: usize, word: u64)
         requires slot { slot < 8 }
         requires owned { (view self.old.seat).work.owned ≡ ForBuilding slot }
         requires next { (index ≡ length (view self.old.seat).written) × (index < 7) }

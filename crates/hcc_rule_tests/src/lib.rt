@@ -14,6 +14,8 @@ mod corrections;
 #[cfg(test)]
 mod frees;
 #[cfg(test)]
+mod glimpses;
+#[cfg(test)]
 mod hired;
 #[cfg(test)]
 mod images;
