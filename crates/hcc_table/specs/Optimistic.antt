@@ -52,7 +52,7 @@ module _ {T A : Type 0} (table : RuleTable T A) where
     pub loads : OnlyLoads old new
     pub sought : Sought (view old) (view new)
 
-  -- At this moment of a call its client loaded the meta word of a slot, which showed the entry then.
+  -- At this moment of a call its client loaded the meta word of a slot, which showed the entry.
   pub record Glances (slot word : ℕ) (entry : Entry) (old new : SeatOf T) : Type 0 where
     pub before : SeatOf T
     pub moment : SeatOf T

@@ -32,8 +32,8 @@ IsBefore slots key i slot = (j : ℕ) × (j < i) × (probe_slot slots key j ≡ 
 
 module _ {T : Type 0} where
   -- Looks, acquires, loads of data words and gives leave this: the client may have looked at slots,
-  -- had glimpses of them, seen entries dead, met keys, and holds other records than before. All else
-  -- stays.
+  -- had glimpses of them, seen entries dead, met keys, and holds other records than before. The
+  -- rest stays.
   pub record Searched (v w : View T) : Type 0 where
     pub same : w ≡ record v {
       work = record v.work { looked = w.work.looked; dead = w.work.dead };

@@ -47,8 +47,8 @@ impl<T: Tag, A: Allocator> RuleTable<T, A> {
 
     /// Loads the meta word of the slot whose stamp word the client loaded last. Where it is
     /// visible, an entry is shown there, which the client didn't see dead; the view tells whether
-    /// each entry that was found so is this one, and has that stamp word. An entry that stands there
-    /// is as an insertion made it, and if it stands there later, it does so all along.
+    /// each entry that was found so is this one, and has that stamp word. An entry that stands
+    /// there is as an insertion made it, and if it stands there later, it does so all along.
     ///
     /// It allocates nothing. It costs one load.
     pub fn glance_at(&self, seat: &mut RuleSeat<T>, at: SlotAt) -> u64
