@@ -1,5 +1,5 @@
-//! An entry that is read without a reference, load by load, while another client frees it and builds
-//! another one in its slot: the read ends without an answer, or with one entry's bytes.
+//! An entry that is read without a reference, load by load, while another client frees it and
+//! builds another one in its slot: the read ends without an answer, or with one entry's bytes.
 ghost use Rattle.std.specs.Prelude.{◌≡◌, ◌+◌, ◌<◌, ◌≤◌, [], true};
 ghost use Rattle.hcc_core.specs.declared.limits.TheConstants.{STAMPS_PER_CLIENT};
 ghost use Rattle.hcc_word.specs.Word.{is_shareable};

@@ -183,6 +183,7 @@ fn read_there<T: Tag, A: Allocator>(
 }
 
 /// Whether one more use of an entry with this meta word, and one more hit, leave what they find.
+#[inline(always)]
 fn is_spare(word: u64, as_use: Use, marks: bool) -> bool
     ensures { result ≡ true → IsSpare (is_useful as_use) marks word }
 {

@@ -12,6 +12,7 @@ use crate::readings::put;
 /// The value has `count` bytes, eight in each word, the lowest first; words behind it aren't read.
 /// Words that aren't those of one value give bytes that nothing is told of. It refuses nothing and
 /// allocates nothing. It costs a store for each word of the value.
+#[inline(always)]
 pub(crate) fn unpack(words: &[u64], count: usize, buffer: &mut [u8]) -> Got
     requires long { count ≤ 8 * length words.now }
     ensures copies { (value : List ℕ) → count ≡ length value → Each (λ b. b < 256) value
