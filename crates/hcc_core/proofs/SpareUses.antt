@@ -72,9 +72,13 @@ clock_same : (w : State) (client slot : ℕ) (seen : Slot) (more : ℕ)
 clock_same w client slot seen more at above =
     clock_at (with_slot w slot full) client slot full
     (read_here w.slots slot seen full at)
-    ∙ (rw (may_same seen more above, uses_written seen (uses_of seen + more) above,
-    clocked_same (uses_of seen) more above, written_again seen (uses_of seen + more) left,
-    set_again w.slots slot full (slot_with_uses left seen)) refl
+    ∙ (rw (
+      may_same seen more above,
+      uses_written seen (uses_of seen + more) above,
+      clocked_same (uses_of seen) more above,
+      written_again seen (uses_of seen + more) left,
+      set_again w.slots slot full (slot_with_uses left seen),
+    ) refl
     ∙ sym (clock_at w client slot seen at))
   where
     full : Slot

@@ -235,9 +235,12 @@ module _ {T A : Type 0} (table : RuleTable T A) where
             let kept_word : slice_index (slice_set words index word) j ≡ slice_index words j =
             word_else words index j word (λ same. omega arith) in
             let earlier = h.each j before in
-            peeks_later (IsWord (slice_set words index word) j) old now new
-            (earlier.0, earlier.1, some_map (IsWord words j) (IsWord (slice_set words index word) j)
-            (λ e is within. kept_word ∙ is within) _ earlier.2) more
+            peeks_later (IsWord (slice_set words index word) j) old now new (
+              earlier.0,
+              earlier.1,
+              some_map (IsWord words j) (IsWord (slice_set words index word) j)
+                  (λ e is within. kept_word ∙ is within) _ earlier.2,
+            ) more
       ];
     }
       where

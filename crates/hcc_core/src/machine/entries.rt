@@ -100,7 +100,11 @@ impl Machine {
         ensures { Follows (peek_of self.old client slot) false self.old result self.new }
     {
         let there = slot_at(&self.slots, slot)?;
-        let stamp = if there.is_shown() { there.stamp() } else { None };
+        let stamp = if there.is_shown() {
+            there.stamp()
+        } else {
+            None
+        };
         live_at(&self.clients, client)?;
         Ok(Reply::Shows(stamp))
     }

@@ -244,8 +244,7 @@ returns-clause-reads g c =
     let slots = table.geometry.slots in
     let some : 0 < slots = some_slots slots table.limits.power in
     let past : slots ≤ c.loop-probe.probe = rw (← size) c.loop-probe-test.false in
-    let most : c.loop-probe.probe ≤ slots = rw (← size) c.loop-probe.auto.probe-end in
-    (
+    let most : c.loop-probe.probe ≤ slots = rw (← size) c.loop-probe.auto.probe-end in (
       c.loop-probe.invariant.4,
       ends_all slots c.args.key table.limits.power c.loop-probe.probe c.loop-probe.walk
           c.args.seat.now c.loop-probe.seat some past most c.loop-probe.invariant.0,

@@ -6,14 +6,14 @@ pub loop-index-preserved : goal.loop-index-preserved
 loop-index-preserved c =
     let low : c.loop-index.index < c.args.count / 8 = c.loop-index-test.true in
     unpacks c.args.words.now c.args.count c.loop-index.index 8 (8 * (c.loop-index.index + 1))
-        c.args.buffer.now c.loop-index.buffer c.put.new.buffer (omega arith) (omega arith)
-        (omega arith) (omega arith) c.loop-index.invariant c.put.ensures
+    c.args.buffer.now c.loop-index.buffer c.put.new.buffer (omega arith) (omega arith)
+    (omega arith) (omega arith) c.loop-index.invariant c.put.ensures
 
 pub returns-then-rest-gt0 : goal.returns-then-rest-gt0
 returns-then-rest-gt0 c = record {
   copies = λ value long small has.
       let at : c.loop-index.index ≡ c.args.count / 8
-              = omega (arith, c.loop-index-test.false, c.loop-index.auto.index-end) in (
+      = omega (arith, c.loop-index-test.false, c.loop-index.auto.index-end) in (
         long,
         c.if-buffer-count.false,
         all_unpacked c.args.words.now c.args.count c.args.count c.args.buffer.now
@@ -29,8 +29,12 @@ pub returns-else-rest-gt0 : goal.returns-else-rest-gt0
 returns-else-rest-gt0 c = record {
   copies = λ value long small has.
       let at : 8 * c.loop-index.index ≡ c.args.count
-              = omega (arith, c.loop-index-test.false, c.loop-index.auto.index-end,
-              c.if-rest-gt0.false) in (
+      = omega (
+        arith,
+        c.loop-index-test.false,
+        c.loop-index.auto.index-end,
+        c.if-rest-gt0.false,
+      ) in (
         long,
         c.if-buffer-count.false,
         all_unpacked c.args.words.now c.args.count (8 * c.loop-index.index) c.args.buffer.now
