@@ -88,7 +88,8 @@ static ferretgold_config config_of(uint32_t shards, uint32_t slots, uint32_t roo
                                .serials = FERRETGOLD_MOST_SERIALS, .seed = seed};
 }
 
-/* Its countdown when it is saved: by its priority, and every fifth was used twice. */
+/* Its countdown when it is saved: by its priority, and every fifth was used twice, by a handle, which
+ * counts a use beyond three, too. */
 static uint32_t uses_of(uint64_t number) {
     return (uint32_t)(3 - number % 3 + (number % 5 == 4 ? 2 : 0));
 }
@@ -100,7 +101,9 @@ static void insert(ferretgold_client *client, uint64_t number) {
     EXPECT(ferretgold_insert(client, &key, value, length_of(number), (uint32_t)number + 1,
                              (ferretgold_priority)(number % 3), NULL), FERRETGOLD_OK);
     for (int use = 0; use < 2 && number % 5 == 4; use++) {
-        EXPECT(ferretgold_get(client, &key, value, sizeof value, true, NULL), FERRETGOLD_OK);
+        ferretgold_handle used;
+        EXPECT(ferretgold_lookup(client, &key, &used), FERRETGOLD_OK);
+        EXPECT(ferretgold_release(client, used, true, false, NULL), FERRETGOLD_OK);
     }
 }
 
