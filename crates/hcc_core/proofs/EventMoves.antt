@@ -6,6 +6,7 @@ use Rattle.std.specs.Prelude.{option_and_then}
 use Rattle.std.specs.List.{find, list_any}
 use Rattle.std.specs.Option.{ok_or}
 use Rattle.std.proofs.lemmas.Bool.{and_parts, false≢true}
+use Rattle.std.proofs.lemmas.List.{length-set}
 use Rattle.hcc_core.specs.declared.limits.TheConstants.{CORRECTION}
 use Rattle.hcc_core.specs.declared.client.Client.{Client}
 use Rattle.hcc_core.specs.declared.client.Owned.{Owned}
@@ -34,47 +35,51 @@ use Rattle.hcc_core.specs.Ledgers.{waive_of, may_waive, quit_of, told, usage_tol
 use Rattle.hcc_core.specs.Ledgers.{standing_told, stand_of, may_stand, fall_of, is_standing}
 use Rattle.hcc_core.specs.Trails.{count_of, pass_of, unpass_of, is_slot, turn_of}
 use Rattle.hcc_core.specs.Lawful.{Lawful, stamps_by, owner_in, owned_by, owned_slot}
-use Rattle.hcc_core.specs.Runs.{entry_held, is_by_name}
+use Rattle.hcc_core.specs.Runs.{entry_of, entry_at, entry_held, is_by_name, slot_weighs}
 use Rattle.hcc_core.proofs.ListLemmas.{read_same}
 use Rattle.hcc_core.proofs.Keeps.{found_ok, live_ok, may_ok}
 use Rattle.hcc_core.proofs.HeldNames.{unheld}
+use Rattle.hcc_core.proofs.SumLemmas.{sum_at}
 use Rattle.hcc_core.proofs.Moves.{Moves, Turns, called, one_name, still, client_moves, slot_moves}
 use Rattle.hcc_core.proofs.Moves.{emptied, taken, given, used, hid, marked, recounted, got}
 
--- what the world after moved, where the step is made, and where these may go
-abbrev pub MovedBut : (ℕ → ℕ → Bool) → State → Outcome → Type 0
-MovedBut gone w (Ok done) = Moves gone w done.1
-MovedBut gone w (Err error) = Unit {0}
+-- what the world after moved, where the step is made, and where these names may go and this entry is
+-- lost
+abbrev pub MovedBut : (ℕ → ℕ → Bool) → Option Entry → State → Outcome → Type 0
+MovedBut gone lost w (Ok done) = Moves gone lost w done.1
+MovedBut gone lost w (Err error) = Unit {0}
 
 -- where nothing goes
 abbrev pub Moved : State → Outcome → Type 0
-Moved w outcome = MovedBut (λ c n. false) w outcome
+Moved w outcome = MovedBut (λ c n. false) None w outcome
 
 -- a reading on the way, and what it found
-chain_but : (gone : ℕ → ℕ → Bool) (w : State) {A : Type 0} (r : Result A CoreError)
-    (f : A → Outcome) → ((x : A) → r ≡ Ok x → MovedBut gone w (f x)) → MovedBut gone w (r >>= f)
-chain_but gone w (Ok x) f h = h x refl
-chain_but gone w (Err e) f h = tt
+chain_but : (gone : ℕ → ℕ → Bool) (lost : Option Entry) (w : State) {A : Type 0}
+    (r : Result A CoreError) (f : A → Outcome)
+    → ((x : A) → r ≡ Ok x → MovedBut gone lost w (f x)) → MovedBut gone lost w (r >>= f)
+chain_but gone lost w (Ok x) f h = h x refl
+chain_but gone lost w (Err e) f h = tt
 
 chain : (w : State) {A : Type 0} (r : Result A CoreError) (f : A → Outcome)
     → ((x : A) → r ≡ Ok x → Moved w (f x)) → Moved w (r >>= f)
-chain w r f h = chain_but (λ c n. false) w r f h
+chain w r f h = chain_but (λ c n. false) None w r f h
 
 -- a step of a live client that changes nothing but that client
 live_moves : {gone : ℕ → ℕ → Bool} (w : State) (client : ℕ) (found new : Client)
     → live_at w client ≡ Ok found → new.stamps ≡ found.stamps
-    → Moves gone w (record w { clients = slice_set w.clients client new })
+    → Moves gone None w (record w { clients = slice_set w.clients client new })
 live_moves w client found new live stamps =
     client_moves w client found new (live_ok w client found live) stamps
 
 -- a step of a live client that changes a slot too
-both_move : {gone : ℕ → ℕ → Bool} (w : State) (slot client : ℕ) (seen left : Slot)
-    (found new : Client) → slot_at w slot ≡ Ok seen → live_at w client ≡ Ok found
-    → Turns gone w (Some seen) left → new.stamps ≡ found.stamps
-    → Moves gone w (with_both w slot left client new)
+both_move : {gone : ℕ → ℕ → Bool} {lost : Option Entry} (w : State) (slot client : ℕ)
+    (seen left : Slot) (found new : Client) → slot_at w slot ≡ Ok seen → live_at w client ≡ Ok found
+    → Turns gone lost w (Some seen) left → new.stamps ≡ found.stamps
+    → Moves gone lost w (with_both w slot left client new)
 both_move w slot client seen left found new at live turns stamps =
     slot_moves w slot left _ (rw (found_ok _ _ seen at) turns)
     (λ c. read_same stamps_by w.clients client c found new (live_ok w client found live) stamps)
+    (length-set w.clients client new)
 
 -- Slots that nobody else holds.
 
@@ -115,6 +120,12 @@ freed client found (slots.Shareable r) name may c n e other h =
         absurd (false≢true (sym other ∙ free_named client name c n r.references a.1 is))
     by false is h = h
 
+-- a slot weighs what its entry does
+weighs_entry : (h : Entry → ℕ) (seen : Slot) → sum_at h (entry_of seen) ≡ slot_weighs h seen
+weighs_entry h (slots.Empty strays) = refl
+weighs_entry h (slots.Building client strays) = refl
+weighs_entry h (slots.Shareable r) = refl
+
 -- nothing is held on a slot that has an owner
 none_held : (c n : ℕ) (e : Entry) (o : Option Slot) (owner : ℕ) → owner_in o ≡ Some owner
     → option_and_then (entry_held c n) o ≡ Some e → None ≡ Some e
@@ -123,14 +134,35 @@ none_held c n e (Some (slots.Empty strays)) owner is h = cc
 none_held c n e (Some (slots.Building client strays)) owner is h = cc
 none_held c n e (Some (slots.Shareable r)) owner is h = cc
 
--- so nothing is on the slot that a client owns in a lawful world
+-- the slot that a client owns in a lawful world has that owner
+pub owner_there : {w : State} (client slot : ℕ) (found : Client) (l : Lawful w)
+    → live_at w client ≡ Ok found → owned_slot found.owned ≡ Some slot
+    → owner_in (slice_get w.slots slot) ≡ Some client
+owner_there {w} client slot found l live owns =
+    let at : owned_by (slice_get w.clients client) ≡ Some slot =
+    rw (live_ok w client found live) owns in
+    l.owners.owned slot client at
+
+-- so nothing is held on it
 pub owned_held : {w : State} (client slot : ℕ) (found : Client) (l : Lawful w)
     → live_at w client ≡ Ok found → owned_slot found.owned ≡ Some slot → (c n : ℕ) (e : Entry)
     → option_and_then (entry_held c n) (slice_get w.slots slot) ≡ Some e → None ≡ Some e
 owned_held {w} client slot found l live owns c n e h =
-    let at : owned_by (slice_get w.clients client) ≡ Some slot =
-    rw (live_ok w client found live) owns in
-    none_held c n e (slice_get w.slots slot) client (l.owners.owned slot client at) h
+    none_held c n e (slice_get w.slots slot) client (owner_there client slot found l live owns) h
+
+-- nor does an entry stand there
+none_stands : (h : Entry → ℕ) (o : Option Slot) (owner : ℕ) → owner_in o ≡ Some owner
+    → 0 ≡ sum_at (slot_weighs h) o
+none_stands h None owner is = refl
+none_stands h (Some (slots.Empty strays)) owner is = refl
+none_stands h (Some (slots.Building client strays)) owner is = refl
+none_stands h (Some (slots.Shareable r)) owner is = cc
+
+owned_stands : {w : State} (client slot : ℕ) (found : Client) (l : Lawful w)
+    → live_at w client ≡ Ok found → owned_slot found.owned ≡ Some slot → (h : Entry → ℕ)
+    → 0 ≡ sum_at (slot_weighs h) (slice_get w.slots slot)
+owned_stands {w} client slot found l live owns h =
+    none_stands h (slice_get w.slots slot) client (owner_there client slot found l live owns)
 
 -- the slot that a client owns for freeing is one that it owns
 frees_owned : (o : Owned) (slot : ℕ) → freed_by o ≡ Some slot → owned_slot o ≡ Some slot
@@ -174,22 +206,22 @@ acquire_moves w client slot weight name =
     refl)))
 
 pub give_moves : (w : State) (client name : ℕ)
-    → MovedBut (called client name) w (give_of w client name)
+    → MovedBut (called client name) None w (give_of w client name)
 unfolding give_of
 give_moves w client name =
-    chain_but _ w (live_at w client) _ (λ found live.
-    chain_but _ w (holding w client name) _ (λ slot held.
-    chain_but _ w (slot_at w slot) _ (λ seen at.
+    chain_but _ _ w (live_at w client) _ (λ found live.
+    chain_but _ _ w (holding w client name) _ (λ slot held.
+    chain_but _ _ w (slot_at w slot) _ (λ seen at.
     both_move w slot client seen _ found _ at live (given w client name seen) refl)))
 
 pub use_moves : (w : State) (client name : ℕ)
-    → MovedBut (called client name) w (use_of w client name)
+    → MovedBut (called client name) None w (use_of w client name)
 unfolding use_of
 use_moves w client name =
-    chain_but _ w (live_at w client) _ (λ found live.
-    chain_but _ w (holding w client name) _ (λ slot held.
-    chain_but _ w (slot_at w slot) _ (λ seen at.
-    chain_but _ w (ok_or (counting_in client name (references_of seen)) NotAllowed) _ (λ k there.
+    chain_but _ _ w (live_at w client) _ (λ found live.
+    chain_but _ _ w (holding w client name) _ (λ slot held.
+    chain_but _ _ w (slot_at w slot) _ (λ seen at.
+    chain_but _ _ w (ok_or (counting_in client name (references_of seen)) NotAllowed) _ (λ k there.
     both_move w slot client seen _ found _ at live (used w client name k seen) refl))))
 
 pub hide_moves : (w : State) (client name : ℕ) → Moved w (hide_of w client name)
@@ -214,7 +246,7 @@ clock_moves w client slot =
     chain w (slot_at w slot) _ (λ seen at. chain w (live_at w client) _ (λ found live.
     chain w (allow (may_clock seen)) _ (λ u may.
     slot_moves w slot _ w.clients
-    (rw (found_ok _ _ seen at) (recounted w (clocked (uses_of seen)) seen)) (λ c. refl))))
+    (rw (found_ok _ _ seen at) (recounted w (clocked (uses_of seen)) seen)) (λ c. refl) refl)))
 
 pub mark_moves : (w : State) (client name : ℕ) → Moved w (mark_of w client name)
 unfolding mark_of
@@ -239,7 +271,7 @@ occupied_moves : (w : State) (client slot : ℕ) (found : Client) (seen : Slot)
     → Moved w (occupied w client found slot seen)
 occupied_moves w client slot found (slots.Empty strays) at live =
     both_move w slot client (slots.Empty strays) _ found _ at live (taken w _ client strays
-    (λ l c n e other h. h)) refl
+    (λ l c n e other h. h) (λ l h. refl)) refl
 occupied_moves w client slot found (slots.Building other strays) at live = look_moves w client slot
 occupied_moves w client slot found (slots.Shareable r) at live = look_moves w client slot
 
@@ -256,13 +288,14 @@ write_moves w client =
     still w w.hand))
 
 pub free_moves : (w : State) (client slot : ℕ) (name : Option ℕ)
-    → MovedBut (λ c n. is_by_name c n client name) w (free_of w client slot name)
+    → MovedBut (λ c n. is_by_name c n client name) (entry_at w slot) w (free_of w client slot name)
 unfolding free_of
 free_moves w client slot name =
-    chain_but _ w (slot_at w slot) _ (λ seen at. chain_but _ w (live_at w client) _ (λ found live.
-    chain_but _ w (allow (may_free client found seen name)) _ (λ u may.
+    chain_but _ _ w (slot_at w slot) _ (λ seen at. chain_but _ _ w (live_at w client) _ (λ found live.
+    chain_but _ _ w (allow (may_free client found seen name)) _ (λ u may.
     both_move w slot client seen _ found _ at live
-    (taken w _ client 0 (λ l. freed client found seen name (may_ok _ u may))) refl)))
+    (taken w _ client 0 (λ l. freed client found seen name (may_ok _ u may))
+    (λ l h. rw (found_ok _ _ seen at) (weighs_entry h seen))) refl)))
 
 pub empty_moves : (w : State) (client : ℕ) → Moved w (empty_of w client)
 unfolding empty_of
@@ -272,8 +305,11 @@ empty_moves w client =
     chain w (allow (has_no_member found.trail)) _ (λ u back.
     slot_moves w slot _ _ (emptied w _ 0 (λ l c n e other.
     owned_held client slot found l live
-    (frees_owned found.owned slot (found_ok _ _ slot frees)) c n e))
-    (λ c. read_same stamps_by w.clients client c found _ (live_ok w client found live) refl))))
+    (frees_owned found.owned slot (found_ok _ _ slot frees)) c n e)
+    (λ l. owned_stands client slot found l live
+    (frees_owned found.owned slot (found_ok _ _ slot frees))))
+    (λ c. read_same stamps_by w.clients client c found _ (live_ok w client found live) refl)
+    (length-set w.clients client _))))
 
 -- The events on ledgers and standalone entries.
 

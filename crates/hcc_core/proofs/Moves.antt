@@ -2,10 +2,11 @@
 -- entries stay what they are. Only `show` adds an entry, of which `Shows` speaks.
 use Rattle.std.proofs.Common.{◌≡◌, ◌⊎◌, inl, inr, ℕ, Bool, true, false, cond, List, [], ◌∷◌, Option}
 use Rattle.std.proofs.Common.{Some, None, slice_set, slice_get, refl, sym, ap, ◌∙◌, ◌≤◌, ◌+◌, arith}
-use Rattle.std.proofs.Common.{zero, suc, ◌++◌, ◌==◌, ◌&&◌, ◌||◌}
+use Rattle.std.proofs.Common.{zero, suc, ◌++◌, ◌==◌, ◌&&◌, ◌||◌, length}
 use Rattle.std.specs.Prelude.{option_and_then}
 use Rattle.std.specs.List.{list_any}
 use Rattle.std.proofs.lemmas.Bool.{and_parts, eqb-true, eq-eqb, false≢true}
+use Rattle.std.proofs.lemmas.List.{length-set}
 use Rattle.hcc_core.specs.declared.client.Client.{Client}
 use Rattle.hcc_core.specs.declared.slot.Entry.{Entry}
 use Rattle.hcc_core.specs.declared.slot.Reference.{Reference}
@@ -20,8 +21,9 @@ use Rattle.hcc_core.specs.Uses.{slot_marked, slot_with_uses}
 use Rattle.hcc_core.specs.Entries.{slot_hidden}
 use Rattle.hcc_core.specs.Lawful.{Lawful, stamps_by}
 use Rattle.hcc_core.specs.Runs.{entry_held, held_at, named_on, named_in, entry_of, entry_at}
+use Rattle.hcc_core.specs.Runs.{slot_weighs, slots_weigh}
 use Rattle.hcc_core.proofs.ListLemmas.{read_same, read_at_set}
-use Rattle.hcc_core.proofs.SumLemmas.{sum_at, total-set-le, total-append}
+use Rattle.hcc_core.proofs.SumLemmas.{sum_at, total-set-at, total-set-le, total-append}
 use Rattle.hcc_core.proofs.DroppedLemmas.{dropped-le}
 use Rattle.hcc_core.proofs.HeldNames.{Unheld, named_free, any_counts, counts_any, unheld_none}
 
@@ -39,13 +41,15 @@ StaysHeld gone w w' =
     Lawful w → (client name slot : ℕ) (entry : Entry) → gone client name ≡ false
     → held_at w client name slot ≡ Some entry → held_at w' client name slot ≡ Some entry
 
--- a step that shows nothing
-pub record Moves (gone : ℕ → ℕ → Bool) (w w' : State) : Type 0 where
+-- a step that shows nothing, and loses this entry at most
+pub record Moves (gone : ℕ → ℕ → Bool) (lost : Option Entry) (w w' : State) : Type 0 where
   pub holds : Holds w w'
   pub stands : StaysHeld gone w w'
   pub entries : (slot : ℕ) (entry : Entry) → entry_at w' slot ≡ Some entry
       → entry_at w slot ≡ Some entry
   pub counts : (c : ℕ) → stamps_by (slice_get w'.clients c) ≡ stamps_by (slice_get w.clients c)
+  pub weighs : Lawful w → (h : Entry → ℕ) → slots_weigh h w' + sum_at h lost ≡ slots_weigh h w
+  pub many : length w'.clients ≡ length w.clients
 
 -- Steps that leave the slots alone.
 
@@ -60,23 +64,28 @@ holds_still w w' same = record {
 }
 
 -- no step, or a turn of the hand
-pub still : {gone : ℕ → ℕ → Bool} (w : State) (hand : ℕ) → Moves gone w (record w { hand = hand })
+pub still : {gone : ℕ → ℕ → Bool} (w : State) (hand : ℕ)
+    → Moves gone None w (record w { hand = hand })
 still w hand = record {
   holds = holds_still w _ refl;
   stands = λ l c n s e other h. h;
   entries = λ s e h. h;
   counts = λ c. refl;
+  weighs = λ l h. omega arith;
+  many = refl;
 }
 
 -- a change of one client
 pub client_moves : {gone : ℕ → ℕ → Bool} (w : State) (client : ℕ) (old new : Client)
     → slice_get w.clients client ≡ Some old → new.stamps ≡ old.stamps
-    → Moves gone w (with_client w client new)
+    → Moves gone None w (with_client w client new)
 client_moves w client old new at_client stamps = record {
   holds = holds_still w _ refl;
   stands = λ l c n s e other h. h;
   entries = λ s e h. h;
   counts = λ c. read_same stamps_by w.clients client c old new at_client stamps;
+  weighs = λ l h. omega arith;
+  many = length-set w.clients client new;
 }
 
 -- Steps that change one slot.
@@ -140,20 +149,24 @@ holds_slot w slot left clients keeps = record {
   ];
 }
 
--- and it has no other entry
-pub record Turns (gone : ℕ → ℕ → Bool) (w : State) (seen : Option Slot) (left : Slot) : Type 0 where
+-- and it has no other entry, nor lost any but this one
+pub record Turns (gone : ℕ → ℕ → Bool) (lost : Option Entry) (w : State) (seen : Option Slot)
+    (left : Slot) : Type 0 where
   pub keeps : KeepsHeld w seen left
   pub stands : Lawful w → (client name : ℕ) (entry : Entry) → gone client name ≡ false
       → option_and_then (entry_held client name) seen ≡ Some entry
       → entry_held client name left ≡ Some entry
   pub entry : (e : Entry) → entry_of left ≡ Some e → option_and_then entry_of seen ≡ Some e
+  pub weighs : Lawful w → (h : Entry → ℕ)
+      → slot_weighs h left + sum_at h lost ≡ sum_at (slot_weighs h) seen
 
 -- a change of one slot, beside which no count of stamps changes
-pub slot_moves : {gone : ℕ → ℕ → Bool} (w : State) (slot : ℕ) (left : Slot) (clients : List Client)
-    → Turns gone w (slice_get w.slots slot) left
+pub slot_moves : {gone : ℕ → ℕ → Bool} {lost : Option Entry} (w : State) (slot : ℕ) (left : Slot)
+    (clients : List Client) → Turns gone lost w (slice_get w.slots slot) left
     → ((c : ℕ) → stamps_by (slice_get clients c) ≡ stamps_by (slice_get w.clients c))
-    → Moves gone w (record w { slots = slice_set w.slots slot left; clients = clients })
-slot_moves w slot left clients turns counts = record {
+    → length clients ≡ length w.clients
+    → Moves gone lost w (record w { slots = slice_set w.slots slot left; clients = clients })
+slot_moves {lost = lost} w slot left clients turns counts many = record {
   holds = holds_slot w slot left clients turns.keeps;
   stands = λ l c n t e other h.
       read_kept (entry_held c n) w.slots slot t left e (turns.stands l c n e other) h;
@@ -162,37 +175,49 @@ slot_moves w slot left clients turns counts = record {
     | inr e ↦ e
   ];
   counts = counts;
+  weighs = λ l h.
+      let change = total-set-at (slot_weighs h) w.slots slot left (sum_at h lost)
+      (turns.weighs l h) in
+      omega arith;
+  many = many;
 }
 
 -- What becomes of the slot.
 
 -- a slot without an entry holds nothing
-pub emptied : {gone : ℕ → ℕ → Bool} (w : State) (seen : Option Slot) (strays : ℕ)
+pub emptied : {gone : ℕ → ℕ → Bool} {lost : Option Entry} (w : State) (seen : Option Slot)
+    (strays : ℕ)
     → (Lawful w → (c n : ℕ) (e : Entry) → gone c n ≡ false
     → option_and_then (entry_held c n) seen ≡ Some e → None ≡ Some e)
-    → Turns gone w seen (slots.Empty strays)
-emptied w seen strays none = record {
+    → (Lawful w → (h : Entry → ℕ) → sum_at h lost ≡ sum_at (slot_weighs h) seen)
+    → Turns gone lost w seen (slots.Empty strays)
+emptied w seen strays none goes = record {
   keeps = record { held = λ c n e h. cc; times = λ c n. inl (omega arith) };
   stands = none;
   entry = λ e h. cc;
+  weighs = goes;
 }
 
-pub taken : {gone : ℕ → ℕ → Bool} (w : State) (seen : Option Slot) (client strays : ℕ)
+pub taken : {gone : ℕ → ℕ → Bool} {lost : Option Entry} (w : State) (seen : Option Slot)
+    (client strays : ℕ)
     → (Lawful w → (c n : ℕ) (e : Entry) → gone c n ≡ false
     → option_and_then (entry_held c n) seen ≡ Some e → None ≡ Some e)
-    → Turns gone w seen (slots.Building client strays)
-taken w seen client strays none = record {
+    → (Lawful w → (h : Entry → ℕ) → sum_at h lost ≡ sum_at (slot_weighs h) seen)
+    → Turns gone lost w seen (slots.Building client strays)
+taken w seen client strays none goes = record {
   keeps = record { held = λ c n e h. cc; times = λ c n. inl (omega arith) };
   stands = none;
   entry = λ e h. cc;
+  weighs = goes;
 }
 
 -- a slot that is left as it was
-same : {gone : ℕ → ℕ → Bool} (w : State) (seen : Slot) → Turns gone w (Some seen) seen
+same : {gone : ℕ → ℕ → Bool} (w : State) (seen : Slot) → Turns gone None w (Some seen) seen
 same w seen = record {
   keeps = record { held = λ c n e h. inl h; times = λ c n. inl (omega arith) };
   stands = λ l c n e other h. h;
   entry = λ e h. h;
+  weighs = λ l h. omega arith;
 }
 
 -- the entry stays, and each reference was there or is new to the world
@@ -201,7 +226,7 @@ stays : {gone : ℕ → ℕ → Bool} (w : State) (r left : Resident) → left.e
     → FewOrNew w c n (named_on c n (slots.Shareable left)) (named_on c n (slots.Shareable r)))
     → ((c n : ℕ) → gone c n ≡ false → list_any (is_named c n) r.references ≡ true
     → list_any (is_named c n) left.references ≡ true)
-    → Turns gone w (Some (slots.Shareable r)) (slots.Shareable left)
+    → Turns gone None w (Some (slots.Shareable r)) (slots.Shareable left)
 stays {gone = gone} w r left same times names = record {
   keeps = record {
     held = λ c n e h. by c n e (list_any (is_named c n) left.references) refl h;
@@ -210,6 +235,7 @@ stays {gone = gone} w r left same times names = record {
   stands = λ l c n e other h.
       still_named c n e (list_any (is_named c n) r.references) other refl h;
   entry = λ e h. ap Some (sym same) ∙ h;
+  weighs = λ l h. let as_much = ap h same in omega arith;
 }
   where
     by : (c n : ℕ) (e : Entry) (b : Bool) → list_any (is_named c n) left.references ≡ b
@@ -265,7 +291,7 @@ called client name c n = (client == c) && (name == n)
 
 -- the references that are left by one that goes
 pub given : (w : State) (client name : ℕ) (seen : Slot)
-    → Turns (called client name) w (Some seen) (slot_given client name seen)
+    → Turns (called client name) None w (Some seen) (slot_given client name seen)
 given w client name (slots.Empty strays) = same w _
 given w client name (slots.Building other strays) = same w _
 given w client name (slots.Shareable r) =
@@ -273,7 +299,7 @@ given w client name (slots.Shareable r) =
     (λ c n. left_named client name c n r.references)
 
 pub used : (w : State) (client name : ℕ) (k : Reference) (seen : Slot)
-    → Turns (called client name) w (Some seen) (slot_used client name k seen)
+    → Turns (called client name) None w (Some seen) (slot_used client name k seen)
 used w client name k (slots.Empty strays) = same w _
 used w client name k (slots.Building other strays) = same w _
 used w client name k (slots.Shareable r) =
@@ -282,19 +308,19 @@ used w client name k (slots.Shareable r) =
 
 -- neither the entry nor its references change
 pub hid : {gone : ℕ → ℕ → Bool} (w : State) (seen : Slot)
-    → Turns gone w (Some seen) (slot_hidden seen)
+    → Turns gone None w (Some seen) (slot_hidden seen)
 hid w (slots.Empty strays) = same w _
 hid w (slots.Building other strays) = same w _
 hid w (slots.Shareable r) = stays w r _ refl (λ c n. inl (omega arith)) (λ c n other h. h)
 
 pub marked : {gone : ℕ → ℕ → Bool} (w : State) (seen : Slot)
-    → Turns gone w (Some seen) (slot_marked seen)
+    → Turns gone None w (Some seen) (slot_marked seen)
 marked w (slots.Empty strays) = same w _
 marked w (slots.Building other strays) = same w _
 marked w (slots.Shareable r) = stays w r _ refl (λ c n. inl (omega arith)) (λ c n other h. h)
 
 pub recounted : {gone : ℕ → ℕ → Bool} (w : State) (uses : ℕ) (seen : Slot)
-    → Turns gone w (Some seen) (slot_with_uses uses seen)
+    → Turns gone None w (Some seen) (slot_with_uses uses seen)
 recounted w uses (slots.Empty strays) = same w _
 recounted w uses (slots.Building other strays) = same w _
 recounted w uses (slots.Shareable r) =
@@ -303,9 +329,11 @@ recounted w uses (slots.Shareable r) =
 -- the references of an entry that was acquired: those that were there and the new one
 pub got : {gone : ℕ → ℕ → Bool} (w : State) (client name weight : ℕ) (seen : Slot)
     → Unheld w client name
-    → Turns gone w (Some seen) (slot_acquired seen (new_reference client name weight seen))
-got w client name weight (slots.Empty strays) free = emptied w _ _ (λ l c n e other h. h)
-got w client name weight (slots.Building other strays) free = taken w _ _ _ (λ l c n e other h. h)
+    → Turns gone None w (Some seen) (slot_acquired seen (new_reference client name weight seen))
+got w client name weight (slots.Empty strays) free =
+    emptied w _ _ (λ l c n e other h. h) (λ l h. refl)
+got w client name weight (slots.Building other strays) free =
+    taken w _ _ _ (λ l c n e other h. h) (λ l h. refl)
 got w client name weight (slots.Shareable r) free =
     stays w r _ refl (λ c n. by c n (is_named c n k) refl)
     (λ c n other h. any_before (is_named c n) r.references (k ∷ []) h)

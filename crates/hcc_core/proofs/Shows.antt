@@ -2,10 +2,12 @@
 -- its client.
 use Rattle.std.proofs.Common.{◌≡◌, ◌⊎◌, inl, inr, ℕ, ◌+◌, ◌==◌, nat_lt, Bool, true, false, cond}
 use Rattle.std.proofs.Common.{List, Option, Some, None, Result, Ok, Err, slice_get, refl, sym, ap}
-use Rattle.std.proofs.Common.{arith, ◌&&◌, ◌||◌}
+use Rattle.std.proofs.Common.{arith, ◌&&◌, ◌||◌, ◌<◌, ◌∙◌, length}
 use Rattle.std.specs.Prelude.{option_and_then}
 use Rattle.std.specs.Option.{ok_or}
 use Rattle.std.proofs.lemmas.Bool.{and_parts, eq-eqb, ne_eqb, cases_eq}
+use Rattle.std.proofs.lemmas.List.{length-set}
+use Rattle.std.proofs.lemmas.Option.{slice_get_within}
 use Rattle.hcc_core.specs.declared.limits.TheConstants.{STAMPS_PER_CLIENT}
 use Rattle.hcc_core.specs.declared.client.Client.{Client}
 use Rattle.hcc_core.specs.declared.client.Owned.{Owned}
@@ -18,18 +20,18 @@ use Rattle.hcc_core.specs.declared.event.CoreError.{CoreError}
 use Rattle.hcc_core.specs.declared.event.CoreError.TheVariants.{NotAllowed}
 use Rattle.hcc_core.specs.declared.event.Event.{Event}
 use Rattle.hcc_core.specs.declared.event.Event.TheVariants as events
-use Rattle.hcc_core.specs.Sums.{when}
+use Rattle.hcc_core.specs.Sums.{when, total_below}
 use Rattle.hcc_core.specs.World.{State}
-use Rattle.hcc_core.specs.Outcomes.{Outcome, ◌>>=◌, allow, live_at, with_both}
+use Rattle.hcc_core.specs.Outcomes.{Outcome, ◌>>=◌, is_made, allow, slot_at, live_at, with_both}
 use Rattle.hcc_core.specs.Entries.{built_by, is_fresh, may_show, first_references, resident_new}
-use Rattle.hcc_core.specs.Entries.{client_shown, show_of}
+use Rattle.hcc_core.specs.Entries.{client_shown, show_of, free_of}
 use Rattle.hcc_core.specs.Steps.{in_range, rule_of, outcome_of}
-use Rattle.hcc_core.specs.Lawful.{Lawful, stamps_by, owned_slot}
+use Rattle.hcc_core.specs.Lawful.{Lawful, stamps_by, owner_in, owned_slot}
 use Rattle.hcc_core.specs.Runs.{entry_held, named_on, entry_of, entry_at, is_show, entry_given}
-use Rattle.hcc_core.specs.Runs.{takes_away}
+use Rattle.hcc_core.specs.Runs.{takes_away, entry_freed, slot_weighs, slots_weigh}
 use Rattle.hcc_core.proofs.ListLemmas.{read_at_set, read_here, read_other}
 use Rattle.hcc_core.proofs.Keeps.{found_ok, live_ok, may_ok}
-use Rattle.hcc_core.proofs.SumLemmas.{sum_at}
+use Rattle.hcc_core.proofs.SumLemmas.{sum_at, total-set, total_below-none, total_below-one}
 use Rattle.hcc_core.proofs.HeldNames.{Unheld, unheld, named_free}
 use Rattle.hcc_core.proofs.Moves.{Holds, StaysHeld, read_kept, FewOrNew, KeepsHeld, holds_slot}
 use Rattle.hcc_core.proofs.EventMoves.{Moved, start_moves, look_moves, acquire_moves, give_moves}
@@ -39,13 +41,25 @@ use Rattle.hcc_core.proofs.EventMoves.{slots_moves, settle_moves, end_moves, clo
 use Rattle.hcc_core.proofs.EventMoves.{mark_moves, correct_moves, waive_moves, quit_moves}
 use Rattle.hcc_core.proofs.EventMoves.{usage_moves, occupancy_moves, standing_moves, stand_moves}
 use Rattle.hcc_core.proofs.EventMoves.{fall_moves, count_moves, pass_moves, unpass_moves}
-use Rattle.hcc_core.proofs.EventMoves.{turn_moves, peek_moves, MovedBut, owned_held}
+use Rattle.hcc_core.proofs.EventMoves.{turn_moves, peek_moves, MovedBut, owner_there, owned_held}
 
 -- the entry is what this event says, under the next stamp of the client that shows it
 pub record IsNew (w : State) (event : Event) (entry : Entry) : Type 0 where
   pub shown : is_show entry.stamp.client event ≡ true
   pub next : entry.stamp.number ≡ stamps_by (slice_get w.clients entry.stamp.client)
   pub given : entry_given entry.stamp event ≡ Some entry
+
+-- the entry that an event shows, if it is a show of this client
+abbrev pub entry_shown : ℕ → State → Event → Option Entry
+entry_shown c w event = cond (is_show c event)
+    (entry_given (record { client = c; number = stamps_by (slice_get w.clients c) }) event) None
+
+-- what an event shows and frees, of whichever client it is
+abbrev pub shown_weighs : (Entry → ℕ) → State → Event → ℕ
+shown_weighs h w event = total_below (λ c. sum_at h (entry_shown c w event)) (length w.clients)
+
+abbrev pub freed_weighs : (Entry → ℕ) → State → Event → ℕ
+freed_weighs h w event = total_below (λ c. sum_at h (entry_freed c w event)) (length w.clients)
 
 -- what a step of this event moves and shows
 pub record Adds (w : State) (event : Event) (w' : State) : Type 0 where
@@ -55,16 +69,30 @@ pub record Adds (w : State) (event : Event) (w' : State) : Type 0 where
       → (entry_at w slot ≡ Some entry) ⊎ IsNew w event entry
   pub counts : (c : ℕ) → stamps_by (slice_get w'.clients c)
       ≡ stamps_by (slice_get w.clients c) + when (is_show c event) 1
+  pub weighs : Lawful w → (h : Entry → ℕ)
+      → slots_weigh h w' + freed_weighs h w event ≡ slots_weigh h w + shown_weighs h w event
+  pub many : length w'.clients ≡ length w.clients
 
 -- the same of an outcome, if the step is made
 abbrev pub Added : State → Event → Outcome → Type 0
 Added w event (Ok done) = Adds w event done.1
 Added w event (Err error) = Unit {0}
 
--- an event that is no show adds nothing, and takes away what it names at most
-removes : (w : State) (event : Event) (outcome : Outcome) → ((c : ℕ) → is_show c event ≡ false)
-    → MovedBut (λ c n. takes_away c n event) w outcome → Added w event outcome
-removes w event (Ok done) none m = record {
+-- where this client alone frees, and it is there, all freed what it did
+freed_one : (w : State) (client : ℕ) (event : Event) (lost : Option Entry) → client < length w.clients
+    → ((c : ℕ) → entry_freed c w event ≡ cond (client == c) lost None) → (h : Entry → ℕ)
+    → freed_weighs h w event ≡ sum_at h lost
+freed_one w client event lost there is h =
+    total_below-one (λ c. sum_at h (entry_freed c w event)) (length w.clients) client there
+    (λ c other. ap (sum_at h) (is c) ∙ rw (ne_eqb client c (λ same. other (sym same))) refl)
+    ∙ (ap (sum_at h) (is client) ∙ rw (eq-eqb client client refl) refl)
+
+-- an event that is no show adds nothing, takes away what it names at most, and frees what is lost
+removes : (w : State) (event : Event) (outcome : Outcome) (lost : Option Entry)
+    → ((c : ℕ) → is_show c event ≡ false)
+    → (is_made outcome ≡ true → (h : Entry → ℕ) → freed_weighs h w event ≡ sum_at h lost)
+    → MovedBut (λ c n. takes_away c n event) lost w outcome → Added w event outcome
+removes w event (Ok done) lost none frees m = record {
   holds = m.holds;
   stands = m.stands;
   entries = λ s e h. inl (m.entries s e h);
@@ -72,19 +100,40 @@ removes w event (Ok done) none m = record {
       let same = m.counts c in
       let no_more : when (is_show c event) 1 ≡ 0 = rw (none c) refl in
       omega arith;
+  weighs = λ l h.
+      let left = m.weighs l h in
+      let goes = frees refl h in
+      let comes = total_below-none (λ c. sum_at h (entry_shown c w event)) (length w.clients)
+      (λ c there. rw (none c) refl) in
+      omega arith;
+  many = m.many;
 }
-removes w event (Err error) none m = tt
+removes w event (Err error) lost none frees m = tt
 
--- one that takes nothing away either
-quiet : (w : State) (event : Event) (outcome : Outcome) → ((c : ℕ) → is_show c event ≡ false)
+-- an event that neither shows nor frees
+abbrev IsAside : State → Event → Type 0
+IsAside w event = (c : ℕ) → (is_show c event ≡ false) × (entry_freed c w event ≡ None)
+
+-- it takes away what it names at most
+ends : (w : State) (event : Event) (outcome : Outcome) → IsAside w event
+    → MovedBut (λ c n. takes_away c n event) None w outcome → Added w event outcome
+ends w event outcome aside m =
+    removes w event outcome None (λ c. (aside c).0)
+    (λ made h. total_below-none (λ c. sum_at h (entry_freed c w event)) (length w.clients)
+    (λ c there. ap (sum_at h) (aside c).1)) m
+
+-- and may take nothing away either
+quiet : (w : State) (event : Event) (outcome : Outcome) → IsAside w event
     → Moved w outcome → Added w event outcome
-quiet w event (Ok done) none m = removes w event (Ok done) none (record {
+quiet w event (Ok done) aside m = ends w event (Ok done) aside (record {
   holds = m.holds;
   stands = λ l c n s e other. m.stands l c n s e refl;
   entries = m.entries;
   counts = m.counts;
+  weighs = m.weighs;
+  many = m.many;
 })
-quiet w event (Err error) none m = tt
+quiet w event (Err error) aside m = tt
 
 -- Show.
 
@@ -124,6 +173,20 @@ shown_keeps w client (Some name) seen r fresh first = record {
         → FewOrNew w c n (when ((client == c) && (name == n)) 1 + 0) (sum_at (named_on c n) seen)
     times c n true is = inr (free c n is, rw is (omega arith))
     times c n false is = inl (rw is (omega arith))
+
+-- the slot is there, and has no entry
+abbrev IsBare : State → ℕ → Type 0
+IsBare w slot = (seen : Slot) × (slice_get w.slots slot ≡ Some seen)
+    × ((h : Entry → ℕ) → slot_weighs h seen ≡ 0)
+
+-- a slot that has an owner is so
+owned_bare : (w : State) (slot owner : ℕ) (o : Option Slot) → slice_get w.slots slot ≡ o
+    → owner_in o ≡ Some owner → IsBare w slot
+owned_bare w slot owner None at is = cc
+owned_bare w slot owner (Some (slots.Empty strays)) at is = cc
+owned_bare w slot owner (Some (slots.Building client strays)) at is =
+    (slots.Building client strays, at, λ h. refl)
+owned_bare w slot owner (Some (slots.Shareable r)) at is = cc
 
 -- no entry is one
 none_some : (e : Entry) → None ≡ Some e → ⊥
@@ -174,11 +237,20 @@ module _ (w : State) (client slot key0 key1 charge countdown : ℕ) (name : Opti
         omega arith
   ]
 
+  -- of all clients only this one shows
+  shown_weighs_it : (h : Entry → ℕ) → shown_weighs h w said ≡ h resident.entry
+  shown_weighs_it h =
+      total_below-one (λ c. sum_at h (entry_shown c w said)) (length w.clients) client
+      (slice_get_within w.clients client found at_client)
+      (λ c other. rw (ne_eqb client c (λ same. other (sym same))) refl)
+      ∙ rw (eq-eqb client client refl, at_client) refl
+
   shown_adds : is_fresh w.slots client name ≡ true
       → (Lawful w → (c n : ℕ) (e : Entry)
       → option_and_then (entry_held c n) (slice_get w.slots slot) ≡ Some e → None ≡ Some e)
+      → (Lawful w → IsBare w slot)
       → Adds w said world
-  shown_adds fresh none = record {
+  shown_adds fresh none bare = record {
     holds = holds_slot w slot _ _
         (shown_keeps w client name (slice_get w.slots slot) resident fresh refl);
     stands = λ l c n s e other.
@@ -186,6 +258,16 @@ module _ (w : State) (client slot key0 key1 charge countdown : ℕ) (name : Opti
         (λ held. absurd (none_some e (none l c n e held)));
     entries = shown_entries;
     counts = shown_counts;
+    weighs = λ l h.
+        let there = bare l in
+        let change = total-set (slot_weighs h) w.slots slot there.0 (slots.Shareable resident)
+        there.1 in
+        let none = there.2 h in
+        let comes = shown_weighs_it h in
+        let goes = total_below-none (λ c. sum_at h (entry_freed c w said)) (length w.clients)
+        (λ c within. refl) in
+        omega arith;
+    many = length-set w.clients client (client_shown charge found);
   }
 
 -- the slot that a client builds in is one that it owns
@@ -212,47 +294,72 @@ show_adds w client key0 key1 charge countdown name value =
     value found (live_ok w client found live)
     (fresh_to_show w.slots client found charge countdown name (may_ok _ u may))
     (λ l. owned_held client slot found l live
-    (builds_owned found.owned slot (found_ok _ _ slot builds))))))
+    (builds_owned found.owned slot (found_ok _ _ slot builds)))
+    (λ l. owned_bare w slot client _ refl (owner_there client slot found l live
+    (builds_owned found.owned slot (found_ok _ _ slot builds)))))))
+
+-- Free.
+
+-- a client that freed is there
+freer_there : (w : State) (client slot : ℕ) (name : Option ℕ)
+    → is_made (free_of w client slot name) ≡ true → client < length w.clients
+unfolding free_of
+freer_there w client slot name made =
+    made_after (slot_at w slot) _ made (λ seen at made.
+    made_after (live_at w client) _ made (λ found live made.
+    slice_get_within w.clients client found (live_ok w client found live)))
+  where
+    made_after : {A B : Type 0} (r : Result A CoreError) (f : A → Outcome)
+        → is_made (r >>= f) ≡ true → ((x : A) → r ≡ Ok x → is_made (f x) ≡ true → B) → B
+    made_after (Ok x) f made h = h x refl made
+    made_after (Err e) f made h = cc
+
+free_adds : (w : State) (client slot : ℕ) (name : Option ℕ)
+    → Added w (events.Free client slot name) (free_of w client slot name)
+free_adds w client slot name =
+    removes w _ _ (entry_at w slot) (λ c. refl)
+    (λ made. freed_one w client (events.Free client slot name) (entry_at w slot)
+    (freer_there w client slot name made) (λ c. refl)) (free_moves w client slot name)
 
 -- Any event.
 
 rule_adds : (w : State) (event : Event) → Added w event (rule_of w event)
-rule_adds w (events.Start client) = quiet w _ _ (λ c. refl) (start_moves w client)
-rule_adds w (events.Look client slot) = quiet w _ _ (λ c. refl) (look_moves w client slot)
+rule_adds w (events.Start client) = quiet w _ _ (λ c. (refl, refl)) (start_moves w client)
+rule_adds w (events.Look client slot) = quiet w _ _ (λ c. (refl, refl)) (look_moves w client slot)
 rule_adds w (events.Acquire client slot weight name) =
-    quiet w _ _ (λ c. refl) (acquire_moves w client slot weight name)
-rule_adds w (events.Give client name) = removes w _ _ (λ c. refl) (give_moves w client name)
-rule_adds w (events.Use client name) = removes w _ _ (λ c. refl) (use_moves w client name)
-rule_adds w (events.Occupy client slot) = quiet w _ _ (λ c. refl) (occupy_moves w client slot)
+    quiet w _ _ (λ c. (refl, refl)) (acquire_moves w client slot weight name)
+rule_adds w (events.Give client name) = ends w _ _ (λ c. (refl, refl)) (give_moves w client name)
+rule_adds w (events.Use client name) = ends w _ _ (λ c. (refl, refl)) (use_moves w client name)
+rule_adds w (events.Occupy client slot) = quiet w _ _ (λ c. (refl, refl)) (occupy_moves w client slot)
 rule_adds w (events.Show client key0 key1 charge countdown name value) =
     show_adds w client key0 key1 charge countdown name value
-rule_adds w (events.Hide client name) = quiet w _ _ (λ c. refl) (hide_moves w client name)
+rule_adds w (events.Hide client name) = quiet w _ _ (λ c. (refl, refl)) (hide_moves w client name)
 rule_adds w (events.Free client slot name) =
-    removes w _ _ (λ c. refl) (free_moves w client slot name)
-rule_adds w (events.Empty client) = quiet w _ _ (λ c. refl) (empty_moves w client)
-rule_adds w (events.Write client) = quiet w _ _ (λ c. refl) (write_moves w client)
-rule_adds w (events.Read client name) = quiet w _ _ (λ c. refl) (read_moves w client name)
-rule_adds w (events.Enter client) = quiet w _ _ (λ c. refl) (enter_moves w client)
-rule_adds w (events.Charge client charge) = quiet w _ _ (λ c. refl) (charge_moves w client charge)
-rule_adds w (events.Slots client) = quiet w _ _ (λ c. refl) (slots_moves w client)
-rule_adds w (events.Settle client) = quiet w _ _ (λ c. refl) (settle_moves w client)
-rule_adds w (events.End client) = quiet w _ _ (λ c. refl) (end_moves w client)
-rule_adds w (events.Clock client slot) = quiet w _ _ (λ c. refl) (clock_moves w client slot)
-rule_adds w (events.Mark client name) = quiet w _ _ (λ c. refl) (mark_moves w client name)
-rule_adds w (events.Correct client name) = quiet w _ _ (λ c. refl) (correct_moves w client name)
-rule_adds w (events.Waive client) = quiet w _ _ (λ c. refl) (waive_moves w client)
-rule_adds w (events.Quit client) = quiet w _ _ (λ c. refl) (quit_moves w client)
-rule_adds w (events.Usage client) = quiet w _ _ (λ c. refl) (usage_moves w client)
-rule_adds w (events.Occupancy client) = quiet w _ _ (λ c. refl) (occupancy_moves w client)
-rule_adds w (events.Standing client) = quiet w _ _ (λ c. refl) (standing_moves w client)
+    free_adds w client slot name
+rule_adds w (events.Empty client) = quiet w _ _ (λ c. (refl, refl)) (empty_moves w client)
+rule_adds w (events.Write client) = quiet w _ _ (λ c. (refl, refl)) (write_moves w client)
+rule_adds w (events.Read client name) = quiet w _ _ (λ c. (refl, refl)) (read_moves w client name)
+rule_adds w (events.Enter client) = quiet w _ _ (λ c. (refl, refl)) (enter_moves w client)
+rule_adds w (events.Charge client charge) = quiet w _ _ (λ c. (refl, refl)) (charge_moves w client charge)
+rule_adds w (events.Slots client) = quiet w _ _ (λ c. (refl, refl)) (slots_moves w client)
+rule_adds w (events.Settle client) = quiet w _ _ (λ c. (refl, refl)) (settle_moves w client)
+rule_adds w (events.End client) = quiet w _ _ (λ c. (refl, refl)) (end_moves w client)
+rule_adds w (events.Clock client slot) = quiet w _ _ (λ c. (refl, refl)) (clock_moves w client slot)
+rule_adds w (events.Mark client name) = quiet w _ _ (λ c. (refl, refl)) (mark_moves w client name)
+rule_adds w (events.Correct client name) = quiet w _ _ (λ c. (refl, refl)) (correct_moves w client name)
+rule_adds w (events.Waive client) = quiet w _ _ (λ c. (refl, refl)) (waive_moves w client)
+rule_adds w (events.Quit client) = quiet w _ _ (λ c. (refl, refl)) (quit_moves w client)
+rule_adds w (events.Usage client) = quiet w _ _ (λ c. (refl, refl)) (usage_moves w client)
+rule_adds w (events.Occupancy client) = quiet w _ _ (λ c. (refl, refl)) (occupancy_moves w client)
+rule_adds w (events.Standing client) = quiet w _ _ (λ c. (refl, refl)) (standing_moves w client)
 rule_adds w (events.Stand client charge name) =
-    quiet w _ _ (λ c. refl) (stand_moves w client charge name)
-rule_adds w (events.Fall client name) = quiet w _ _ (λ c. refl) (fall_moves w client name)
-rule_adds w (events.Count client slot) = quiet w _ _ (λ c. refl) (count_moves w client slot)
-rule_adds w (events.Pass client slot) = quiet w _ _ (λ c. refl) (pass_moves w client slot)
-rule_adds w (events.Unpass client slot) = quiet w _ _ (λ c. refl) (unpass_moves w client slot)
-rule_adds w (events.Turn client) = quiet w _ _ (λ c. refl) (turn_moves w client)
-rule_adds w (events.Peek client slot) = quiet w _ _ (λ c. refl) (peek_moves w client slot)
+    quiet w _ _ (λ c. (refl, refl)) (stand_moves w client charge name)
+rule_adds w (events.Fall client name) = quiet w _ _ (λ c. (refl, refl)) (fall_moves w client name)
+rule_adds w (events.Count client slot) = quiet w _ _ (λ c. (refl, refl)) (count_moves w client slot)
+rule_adds w (events.Pass client slot) = quiet w _ _ (λ c. (refl, refl)) (pass_moves w client slot)
+rule_adds w (events.Unpass client slot) = quiet w _ _ (λ c. (refl, refl)) (unpass_moves w client slot)
+rule_adds w (events.Turn client) = quiet w _ _ (λ c. (refl, refl)) (turn_moves w client)
+rule_adds w (events.Peek client slot) = quiet w _ _ (λ c. (refl, refl)) (peek_moves w client slot)
 
 if_adds : (w : State) (event : Event) (b : Bool) (outcome : Outcome) → Added w event outcome
     → Added w event (cond b outcome (Err NotAllowed))

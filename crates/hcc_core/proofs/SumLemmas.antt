@@ -1,9 +1,10 @@
 -- Laws of sums over lists.
-use Rattle.std.proofs.Common.{◌≡◌, ℕ, zero, suc, ◌+◌, ◌<◌, ◌≤◌, drop, length, get_or, add-one, List}
+use Rattle.std.proofs.Common.{◌≡◌, ◌⊎◌, inl, inr, ℕ, zero, suc, ◌+◌, ◌<◌, ◌≤◌, drop, length, get_or, add-one, List}
 use Rattle.std.proofs.Common.{[], ◌∷◌, ◌++◌, Option, None, Some, slice_get, slice_set, sum_by}
 use Rattle.std.proofs.Common.{replicate, refl, ◌∙◌, ap, arith}
 use Rattle.std.proofs.lemmas.List.Sums.{sum_by-cons}
-use Rattle.hcc_core.specs.Sums.{total}
+use Rattle.std.proofs.lemmas.Bool.{cases_eq}
+use Rattle.hcc_core.specs.Sums.{total, total_below}
 
 -- std's sum of a chain is the total
 pub sum_by_total : {X : Type 0} (f : X → ℕ) (xs : List X) → sum_by f xs ≡ total f xs
@@ -30,6 +31,13 @@ total-set-le f [] i new more h = omega arith
 total-set-le f (x ∷ xs) zero new more h = omega arith
 total-set-le f (x ∷ xs) (suc i) new more h = let rest = total-set-le f xs i new more h in
     omega arith
+
+-- and by exactly so much less, even where there is none
+pub total-set-at : {X : Type 0} (f : X → ℕ) (xs : List X) (i : ℕ) (new : X) (less : ℕ)
+    → f new + less ≡ sum_at f (slice_get xs i) → total f (slice_set xs i new) + less ≡ total f xs
+total-set-at f [] i new less h = omega arith
+total-set-at f (x ∷ xs) zero new less h = omega arith
+total-set-at f (x ∷ xs) (suc i) new less h = let rest = total-set-at f xs i new less h in omega arith
 
 pub total-append : {X : Type 0} (f : X → ℕ) (xs ys : List X)
     → total f (xs ++ ys) ≡ total f xs + total f ys
@@ -77,3 +85,41 @@ total-none f (y ∷ ys) (suc i) h = total-none f ys i (omega arith)
 pub length-push : {X : Type 0} (xs : List X) (x : X) → length (xs ++ x ∷ []) ≡ length xs + 1
 length-push [] x = refl
 length-push (y ∷ ys) x = let rest = length-push ys x in omega arith
+
+-- Sums over the numbers below a bound.
+
+-- of two functions that are the same
+pub total_below-same : (f g : ℕ → ℕ) (n : ℕ) → ((k : ℕ) → f k ≡ g k)
+    → total_below f n ≡ total_below g n
+total_below-same f g zero h = refl
+total_below-same f g (suc n) h =
+    let rest = total_below-same f g n h in let last = h n in omega arith
+
+-- of nothing but zeros
+pub total_below-none : (f : ℕ → ℕ) (n : ℕ) → ((k : ℕ) → k < n → f k ≡ 0) → total_below f n ≡ 0
+total_below-none f zero h = refl
+total_below-none f (suc n) h =
+    let rest = total_below-none f n (λ k less. h k (omega arith)) in
+    let last = h n (omega arith) in
+    omega arith
+
+-- of what is none but at one number
+pub total_below-one : (f : ℕ → ℕ) (n k : ℕ) → k < n → ((j : ℕ) → (j ≡ k → ⊥) → f j ≡ 0)
+    → total_below f n ≡ f k
+total_below-one f zero k less h = absurd (omega arith)
+total_below-one f (suc n) k less h = elim (cases_eq n k) [
+  | inl e ↦
+      let none = total_below-none f n (λ j low. h j (λ same. omega arith)) in
+      let last = ap f e in
+      omega arith
+  | inr other ↦
+      let rest = total_below-one f n k (omega arith) h in
+      let last = h n other in
+      omega arith
+]
+
+-- of two functions together
+pub total_below-both : (f g : ℕ → ℕ) (n : ℕ)
+    → total_below (λ k. f k + g k) n ≡ total_below f n + total_below g n
+total_below-both f g zero = refl
+total_below-both f g (suc n) = let rest = total_below-both f g n in omega arith

@@ -1,19 +1,22 @@
 -- What is said of runs. A run tries events one after the other from a world; what is refused
 -- changes nothing. The worlds on the way are the worlds after the fronts of the run.
 use Rattle.std.specs.Prelude.{◌≡◌, ℕ, ◌+◌, ◌^◌, ◌<◌, ◌≤◌, Bool, false, ◌&&◌, ◌==◌, List, [], ◌∷◌}
-use Rattle.std.specs.Prelude.{◌++◌, Option, Some, None, Ok, Err, slice_get, option_and_then}
-use Rattle.std.specs.Prelude.{if◌then◌else◌}
+use Rattle.std.specs.Prelude.{◌++◌, Option, Some, None, Ok, Err, slice_get, option_and_then, length}
+use Rattle.std.specs.Prelude.{if◌then◌else◌, option_to_list, true}
+use Rattle.std.specs.List.{list_any}
 use Rattle.hcc_core.specs.declared.slot.Stamp.{Stamp}
 use Rattle.hcc_core.specs.declared.slot.Entry.{Entry}
 use Rattle.hcc_core.specs.declared.slot.Slot.{Slot}
 use Rattle.hcc_core.specs.declared.slot.Slot.TheVariants as slots
 use Rattle.hcc_core.specs.declared.event.Event.{Event}
 use Rattle.hcc_core.specs.declared.event.Event.TheVariants as events
-use Rattle.hcc_core.specs.Sums.{when, total}
+use Rattle.hcc_core.specs.Sums.{when, total, total_below}
 use Rattle.hcc_core.specs.World.{State, references_of, uses_of, weight_of, strays_of, is_named}
 use Rattle.hcc_core.specs.World.{has_reference, slot_holding}
 use Rattle.hcc_core.specs.Outcomes.{Outcome, is_made}
+use Rattle.hcc_core.specs.References.{is_stamp}
 use Rattle.hcc_core.specs.Steps.{outcome_of}
+use Rattle.hcc_core.specs.Lawful.{stamps_by}
 
 -- The worlds on the way.
 
@@ -152,3 +155,91 @@ abbrev pub AreGiven : State → List Event → Type 0
 AreGiven world events =
     (slot : ℕ) (entry : Entry) → entry_at (after_all world events) slot ≡ Some entry
     → given_as entry.stamp world events ≡ Some entry
+
+-- Insertions: what was shown, and what was taken to free its slot.
+
+-- the entries that shows gave, under the stamps of their client from this number on
+abbrev pub numbered : (client number : ℕ) → List Event → List Entry
+numbered client number [] = []
+numbered client number (event ∷ events) =
+    option_to_list (entry_given (record { client = client; number = number }) event)
+    ++ numbered client (number + 1) events
+
+-- the entries that this client's shows gave that are allowed in a run, the first one first
+abbrev pub entries_shown : ℕ → State → List Event → List Entry
+entries_shown client world events =
+    numbered client (stamps_by (slice_get world.clients client)) (shows_of client world events)
+
+-- the entry that stands in the slot that the event frees, if it is a free of this client
+abbrev pub entry_freed : ℕ → State → Event → Option Entry
+entry_freed client world (events.Free taker slot name) =
+    if taker == client then entry_at world slot else None
+entry_freed client world other = None
+
+-- the entry that the event takes, where it is a free of this client that is allowed
+abbrev pub frees_in : ℕ → State → Event → List Entry
+frees_in client world event =
+    if is_made (outcome_of world event) then option_to_list (entry_freed client world event) else []
+
+-- the entries that this client's frees took that are allowed in a run, the first one first
+abbrev pub frees_of : ℕ → State → List Event → List Entry
+frees_of client world [] = []
+frees_of client world (event ∷ events) =
+    frees_in client world event ++ frees_of client (after world event) events
+
+-- What a weighing of entries finds in a slot, in a world, and in what all clients of a world showed
+-- or freed in a run.
+
+abbrev pub slot_weighs : (Entry → ℕ) → Slot → ℕ
+slot_weighs h (slots.Empty strays) = 0
+slot_weighs h (slots.Building client strays) = 0
+slot_weighs h (slots.Shareable r) = h r.entry
+
+abbrev pub slots_weigh : (Entry → ℕ) → State → ℕ
+slots_weigh h world = total (slot_weighs h) world.slots
+
+abbrev pub shows_weigh : (Entry → ℕ) → State → List Event → ℕ
+shows_weigh h world events =
+    total_below (λ client. total h (entries_shown client world events)) (length world.clients)
+
+abbrev pub frees_weigh : (Entry → ℕ) → State → List Event → ℕ
+frees_weigh h world events =
+    total_below (λ client. total h (frees_of client world events)) (length world.clients)
+
+-- however entries are weighed, those after the events and those that were freed weigh what those
+-- before the events and those that were shown do
+abbrev pub AreBalanced : State → List Event → Type 0
+AreBalanced world events =
+    (h : Entry → ℕ)
+    → slots_weigh h (after_all world events) + frees_weigh h world events
+    ≡ slots_weigh h world + shows_weigh h world events
+
+-- the weighing that counts the entries of one stamp
+abbrev pub is_of : Stamp → Entry → Bool
+is_of stamp entry = is_stamp stamp entry.stamp
+
+abbrev pub counts_of : Stamp → Entry → ℕ
+counts_of stamp entry = when (is_of stamp entry) 1
+
+-- each entry that was shown stands in one slot after the events or was freed by one of them, once
+abbrev pub AreOnce : State → List Event → Type 0
+AreOnce world events =
+    (client : ℕ) (stamp : Stamp)
+    → list_any (is_of stamp) (entries_shown client world events) ≡ true
+    → slots_weigh (counts_of stamp) (after_all world events)
+    + frees_weigh (counts_of stamp) world events
+    ≡ 1
+
+-- no slot has the entry of this stamp, and nobody holds a reference on it
+pub record IsGone (world : State) (stamp : Stamp) : Type 0 where
+  pub unplaced : (slot : ℕ) (entry : Entry) → entry_at world slot ≡ Some entry
+      → is_of stamp entry ≡ false
+  pub unheld : (client name slot : ℕ) (entry : Entry) → held_at world client name slot ≡ Some entry
+      → is_of stamp entry ≡ false
+
+-- each entry that was freed is gone after the events
+abbrev pub AreGone : State → List Event → Type 0
+AreGone world events =
+    (client : ℕ) (stamp : Stamp)
+    → list_any (is_of stamp) (frees_of client world events) ≡ true
+    → IsGone (after_all world events) stamp
