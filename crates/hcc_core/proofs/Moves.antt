@@ -195,7 +195,7 @@ emptied w seen strays none goes = record {
   keeps = record { held = λ c n e h. cc; times = λ c n. inl (omega arith) };
   stands = none;
   entry = λ e h. cc;
-  weighs = goes;
+  weighs = λ l h. let less = goes l h in omega arith;
 }
 
 pub taken : {gone : ℕ → ℕ → Bool} {lost : Option Entry} (w : State) (seen : Option Slot)
@@ -208,7 +208,7 @@ taken w seen client strays none goes = record {
   keeps = record { held = λ c n e h. cc; times = λ c n. inl (omega arith) };
   stands = none;
   entry = λ e h. cc;
-  weighs = goes;
+  weighs = λ l h. let less = goes l h in omega arith;
 }
 
 -- a slot that is left as it was

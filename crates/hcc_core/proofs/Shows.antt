@@ -2,7 +2,7 @@
 -- its client.
 use Rattle.std.proofs.Common.{◌≡◌, ◌⊎◌, inl, inr, ℕ, ◌+◌, ◌==◌, nat_lt, Bool, true, false, cond}
 use Rattle.std.proofs.Common.{List, Option, Some, None, Result, Ok, Err, slice_get, refl, sym, ap}
-use Rattle.std.proofs.Common.{arith, ◌&&◌, ◌||◌, ◌<◌, ◌∙◌, length}
+use Rattle.std.proofs.Common.{arith, ◌&&◌, ◌||◌, ◌<◌, ◌∙◌, length, ◌≤◌}
 use Rattle.std.specs.Prelude.{option_and_then}
 use Rattle.std.specs.Option.{ok_or}
 use Rattle.std.proofs.lemmas.Bool.{and_parts, eq-eqb, ne_eqb, cases_eq}
@@ -72,25 +72,44 @@ pub record Adds (w : State) (event : Event) (w' : State) : Type 0 where
   pub weighs : Lawful w → (h : Entry → ℕ)
       → slots_weigh h w' + freed_weighs h w event ≡ slots_weigh h w + shown_weighs h w event
   pub many : length w'.clients ≡ length w.clients
+  pub there : (c : ℕ) → length w.clients ≤ c → entry_freed c w event ≡ None
 
 -- the same of an outcome, if the step is made
 abbrev pub Added : State → Event → Outcome → Type 0
 Added w event (Ok done) = Adds w event done.1
 Added w event (Err error) = Unit {0}
 
--- where this client alone frees, and it is there, all freed what it did
-freed_one : (w : State) (client : ℕ) (event : Event) (lost : Option Entry) → client < length w.clients
-    → ((c : ℕ) → entry_freed c w event ≡ cond (client == c) lost None) → (h : Entry → ℕ)
-    → freed_weighs h w event ≡ sum_at h lost
-freed_one w client event lost there is h =
-    total_below-one (λ c. sum_at h (entry_freed c w event)) (length w.clients) client there
-    (λ c other. ap (sum_at h) (is c) ∙ rw (ne_eqb client c (λ same. other (sym same))) refl)
-    ∙ (ap (sum_at h) (is client) ∙ rw (eq-eqb client client refl) refl)
+-- the clients of a world freed what is lost, and no other did
+pub record FreesLost (w : State) (event : Event) (lost : Option Entry) : Type 0 where
+  pub weighs : (h : Entry → ℕ) → freed_weighs h w event ≡ sum_at h lost
+  pub there : (c : ℕ) → length w.clients ≤ c → entry_freed c w event ≡ None
+
+-- so it is where nobody frees
+frees_none : (w : State) (event : Event) → ((c : ℕ) → entry_freed c w event ≡ None)
+    → FreesLost w event None
+frees_none w event none = record {
+  weighs = λ h.
+      total_below-none (λ c. sum_at h (entry_freed c w event)) (length w.clients)
+      (λ c within. ap (sum_at h) (none c));
+  there = λ c past. none c;
+}
+
+-- and where one client does
+frees_one : (w : State) (client slot : ℕ) (name : Option ℕ) → client < length w.clients
+    → FreesLost w (events.Free client slot name) (entry_at w slot)
+frees_one w client slot name within = record {
+  weighs = λ h.
+      total_below-one (λ c. sum_at h (entry_freed c w (events.Free client slot name)))
+      (length w.clients) client within
+      (λ c other. rw (ne_eqb client c (λ same. other (sym same))) refl)
+      ∙ rw (eq-eqb client client refl) refl;
+  there = λ c past. rw (ne_eqb client c (λ same. omega arith)) refl;
+}
 
 -- an event that is no show adds nothing, takes away what it names at most, and frees what is lost
 removes : (w : State) (event : Event) (outcome : Outcome) (lost : Option Entry)
     → ((c : ℕ) → is_show c event ≡ false)
-    → (is_made outcome ≡ true → (h : Entry → ℕ) → freed_weighs h w event ≡ sum_at h lost)
+    → (is_made outcome ≡ true → FreesLost w event lost)
     → MovedBut (λ c n. takes_away c n event) lost w outcome → Added w event outcome
 removes w event (Ok done) lost none frees m = record {
   holds = m.holds;
@@ -102,11 +121,12 @@ removes w event (Ok done) lost none frees m = record {
       omega arith;
   weighs = λ l h.
       let left = m.weighs l h in
-      let goes = frees refl h in
+      let goes = (frees refl).weighs h in
       let comes = total_below-none (λ c. sum_at h (entry_shown c w event)) (length w.clients)
       (λ c there. rw (none c) refl) in
       omega arith;
   many = m.many;
+  there = (frees refl).there;
 }
 removes w event (Err error) lost none frees m = tt
 
@@ -119,8 +139,7 @@ ends : (w : State) (event : Event) (outcome : Outcome) → IsAside w event
     → MovedBut (λ c n. takes_away c n event) None w outcome → Added w event outcome
 ends w event outcome aside m =
     removes w event outcome None (λ c. (aside c).0)
-    (λ made h. total_below-none (λ c. sum_at h (entry_freed c w event)) (length w.clients)
-    (λ c there. ap (sum_at h) (aside c).1)) m
+    (λ made. frees_none w event (λ c. (aside c).1)) m
 
 -- and may take nothing away either
 quiet : (w : State) (event : Event) (outcome : Outcome) → IsAside w event
@@ -268,6 +287,7 @@ module _ (w : State) (client slot key0 key1 charge countdown : ℕ) (name : Opti
         (λ c within. refl) in
         omega arith;
     many = length-set w.clients client (client_shown charge found);
+    there = λ c past. refl;
   }
 
 -- the slot that a client builds in is one that it owns
@@ -318,8 +338,8 @@ free_adds : (w : State) (client slot : ℕ) (name : Option ℕ)
     → Added w (events.Free client slot name) (free_of w client slot name)
 free_adds w client slot name =
     removes w _ _ (entry_at w slot) (λ c. refl)
-    (λ made. freed_one w client (events.Free client slot name) (entry_at w slot)
-    (freer_there w client slot name made) (λ c. refl)) (free_moves w client slot name)
+    (λ made. frees_one w client slot name (freer_there w client slot name made))
+    (free_moves w client slot name)
 
 -- Any event.
 
